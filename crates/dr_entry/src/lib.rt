@@ -1,4 +1,5 @@
-//! The plain data of a group: messages and items, entries and histories, and how an age ended.
+//! The plain data of a group: messages and items, entries and histories, records and their bytes,
+//! and how an age ended.
 //!
 //! Contracts see [`Seq`] as the list of its elements, [`Text`] as the list of its bytes and
 //! [`Message`] as the list of its bytes. No call of this crate takes memory.
@@ -6,15 +7,23 @@
 
 mod end;
 mod entry;
+mod laws;
 mod message;
+mod reading;
+mod record;
 mod seq;
 mod text;
+mod writing;
 
 pub use end::{AgeEnd, End, MemberEnd, SentItem, ViewSent};
 pub use entry::{Entry, Item};
+pub use laws::one_spelling;
 pub use message::{MAX_MESSAGE, Message};
+pub use reading::{DecodeFault, decode};
+pub use record::{MAX_MEMBERS, Record, Value, Vote};
 pub use seq::Seq;
 pub use text::Text;
+pub use writing::{MAX_RECORD, RECORD_ROOM, encode};
 
 #[cfg(test)]
 mod tests;

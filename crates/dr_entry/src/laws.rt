@@ -1,0 +1,9 @@
+ghost use Rattle.std.specs.Prelude.{◌≡◌, List, ℕ, [], ◌++◌};
+ghost use Rattle.dr_entry.specs.declared.record.Record.{Record};
+ghost use Rattle.dr_entry.specs.Spelling.{IsValid, Fits, spelling};
+
+/// A law: no spelling of a valid record begins that of another.
+pub fn one_spelling()
+    ensures same_record { (a b : Record) → IsValid a → Fits a → IsValid b → Fits b → spelling a ≡ spelling b → a ≡ b }
+    ensures no_prefix { (a b : Record) (rest : List ℕ) → IsValid a → Fits a → IsValid b → Fits b → spelling a ≡ spelling b ++ rest → rest ≡ [] }
+{}
