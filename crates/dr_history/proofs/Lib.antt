@@ -1,0 +1,9 @@
+mod AgreementLemmas
+pub mod FrontLemmas
+mod ListLemmas
+mod MemberLemmas
+pub mod NumberedLemmas
+mod OrderLemmas
+pub mod PlaceLemmas
+pub mod SentLemmas
+pub mod ViewLemmas

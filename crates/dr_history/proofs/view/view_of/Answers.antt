@@ -1,0 +1,16 @@
+use Rattle.std.proofs.Common.{ap, sym, ◌∙◌}
+use Rattle.dr_history.proofs.ListLemmas.{take_read}
+use Rattle.dr_history.proofs.ViewLemmas.{view_of-nil, view_of-View, view_of-Msg}
+use Rattle.dr_history.proofs.view.view_of.Goals as goal
+use Rattle.dr_history.proofs.view.view_of.Goals.{in-View, in_default}
+
+pub loop-entry-init : goal.loop-entry-init
+loop-entry-init c = sym view_of-nil
+
+pub loop-entry-preserved : goal.loop-entry-preserved
+loop-entry-preserved c =
+    rw (take_read c.args.history.now c.loop-entry.entry-index c.entry-item.result c.loop-entry-test.true c.entry-item.is)
+    (elim c.match-entry.branch [
+      | in-View w ↦ rw (w.in-View.is, view_of-View) (cc)
+      | in_default w ↦ rw (w.in_default.is, view_of-Msg) (cc)
+    ])

@@ -1,0 +1,5 @@
+pub mod Members
+pub mod Places
+pub mod History
+pub mod Order
+pub mod Agreement

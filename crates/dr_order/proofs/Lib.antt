@@ -1,0 +1,2 @@
+mod LeastLemmas
+mod MergeLemmas

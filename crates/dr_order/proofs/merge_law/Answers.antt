@@ -1,0 +1,5 @@
+use Rattle.dr_order.proofs.MergeLemmas.{AreTaken-held_places, IsStrictlyIncreasing-held_places}
+use Rattle.dr_order.proofs.merge_law.Goals as goal
+
+pub returns : goal.returns
+returns c = record { held = AreTaken-held_places; once = IsStrictlyIncreasing-held_places }

@@ -1,0 +1,12 @@
+pub mod Fronts
+pub mod Roster
+pub mod Items
+pub mod Keeps
+pub mod Steps
+pub mod Places
+pub mod Numbered
+pub mod InOrderLemmas
+pub mod AgreedLemmas
+pub mod TurnLemmas
+pub mod Progress
+pub mod RoundLemmas

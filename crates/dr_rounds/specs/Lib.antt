@@ -1,0 +1,4 @@
+pub mod Standing
+pub mod Turn
+pub mod Rounds
+pub mod Sound

@@ -1,0 +1,4 @@
+pub mod Grids
+mod FlatRows
+mod WordsLemmas
+mod InsideLemmas

@@ -1,0 +1,64 @@
+-- Each change of the words keeps their form, and they grow.
+use Rattle.std.proofs.Common.{◌≡◌, ℕ, ◌<◌, ◌≤◌, [], false, get_or, replicate, inl, inr, ap, ◌∙◌, arith}
+use Rattle.std.proofs.lemmas.Bool.{cases_lt}
+use Rattle.std.proofs.lemmas.Bool.Decides.{nat_tests}
+use Rattle.std.proofs.lemmas.List.{get_or-replicate, get_or_past, length-replicate}
+use Rattle.dr_rows.specs.Words.{Words, IsWords, begun, looked, pushed, own, word_at, zeros}
+use Rattle.dr_rows.specs.Growth.{IsFresh}
+use Rattle.dr_rows.proofs.Grids.{IsGrid-with_word, IsGrid-zeros}
+
+pub IsWords-begun : (n k me : ℕ) → n ≤ 16 → k ≤ 1024 → me < n → IsWords (begun n k me)
+IsWords-begun n k me few narrow present = record {
+  few = few;
+  narrow = narrow;
+  present = present;
+  rows = IsGrid-zeros n k;
+  pushes = IsGrid-zeros n k;
+  marks = length-replicate n false;
+  alive = get_or-replicate n me false false present;
+}
+
+pub IsWords-looked : (w : Words) (i c v : ℕ) → IsWords w → i < w.members → IsWords (looked w i c v)
+IsWords-looked w i c v form within = record {
+  few = form.few;
+  narrow = form.narrow;
+  present = form.present;
+  rows = IsGrid-with_word w.members w.columns w.words i c v form.rows within;
+  pushes = form.pushes;
+  marks = form.marks;
+  alive = form.alive;
+}
+
+pub IsWords-pushed : (w : Words) (j c : ℕ) → IsWords w → j < w.members → IsWords (pushed w j c)
+IsWords-pushed w j c form within = record {
+  few = form.few;
+  narrow = form.narrow;
+  present = form.present;
+  rows = form.rows;
+  pushes = IsGrid-with_word w.members w.columns w.sent j c (own w c) form.pushes within;
+  marks = form.marks;
+  alive = form.alive;
+}
+
+-- a copy stands at each place of a list of copies, and past its end where it is the default
+copy_at : {X : Type 0} (n : ℕ) (x : X) (i : ℕ) → get_or (replicate n x) i x ≡ x
+copy_at n x i =
+    elim (cases_lt i n) [
+      | inl within ↦ get_or-replicate n i x x within
+      | inr past ↦ get_or_past (replicate n x) i x (omega (arith, length-replicate n x))
+    ]
+
+-- all words of rows of zeros are 0
+word_at-zeros : (n k i c : ℕ) → word_at (zeros n k) i c ≡ 0
+word_at-zeros n k i c =
+    elim (cases_lt i n) [
+      | inl within ↦ ap (λ row. get_or row c 0) (get_or-replicate n i (replicate k 0) [] within) ∙ copy_at k 0 c
+      | inr past ↦ ap (λ row. get_or row c 0) (get_or_past (zeros n k) i [] (omega (arith, length-replicate n (replicate {A = ℕ} k 0))))
+    ]
+
+pub IsFresh-begun : (n k me : ℕ) → IsFresh (begun n k me)
+IsFresh-begun n k me = record {
+  zero = word_at-zeros n k;
+  unfrozen = copy_at n false;
+  unchanged = λ j c. let here = word_at-zeros n k me c in let there = word_at-zeros n k j c in grind (arith, nat_tests);
+}

@@ -1,0 +1,6 @@
+use Rattle.dr_rows.proofs.InsideLemmas.{seen_read}
+use Rattle.dr_rows.proofs.rows.Rows.seen.Goals as goal
+
+pub returns : goal.returns
+returns c = seen_read c.self.inside c.args.self.now c.args.row c.args.column c.place.result _
+    c.self.view_is c.self.invariant c.requires.row c.requires.column c.place.ensures.place c.index.ensures

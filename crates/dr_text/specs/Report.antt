@@ -1,0 +1,75 @@
+-- The text of a report. Every line ends with one line feed, and numbers are decimal without leading zeros.
+use Rattle.std.specs.Prelude.{ℕ, ◌/◌, ◌%◌, false, List, [], ◌∷◌, ◌++◌, length, drop, codes}
+use Rattle.std.specs.Fmt.{decimal, digit_glyph}
+use Rattle.std.specs.List.{concat, enumerate_from, flat_map, join_by}
+use Rattle.dr_entry.specs.declared.entry.Entry.{Entry}
+use Rattle.dr_entry.specs.declared.entry.Entry.TheVariants.{View, Msg}
+use Rattle.dr_entry.specs.declared.end.End.{End}
+use Rattle.dr_entry.specs.declared.end.End.TheVariants.{Done, Crashed, Suspected, Excluded, NoMajority, DiskFault, LogFull, Spent}
+use Rattle.dr_entry.specs.declared.end.MemberEnd.{MemberEnd}
+use Rattle.dr_entry.specs.declared.end.AgeEnd.{AgeEnd}
+use Rattle.dr_history.specs.Members.{members_of}
+use Rattle.dr_text.specs.declared.last.Last.{Last}
+use Rattle.dr_text.specs.declared.last.Last.TheVariants.{Done as AllDone, Usage, NotBuilt, SourceFault, Unfinished}
+
+-- the members of a mask, ascending, with commas between them
+abbrev pub mask_text : ℕ → List ℕ
+mask_text mask = join_by decimal (codes ",") (members_of mask)
+
+-- a byte in lower-case hexadecimal, two digits
+abbrev pub hex_text : ℕ → List ℕ
+hex_text byte = digit_glyph false (byte / 16) ∷ digit_glyph false (byte % 16) ∷ []
+
+-- the bytes of a message in hexadecimal, or a dash where there are none
+abbrev pub message_text : List ℕ → List ℕ
+message_text [] = codes "-"
+message_text (byte ∷ bytes) = flat_map hex_text (byte ∷ bytes)
+
+-- the line of an entry of a history
+abbrev pub entry_text : Entry → List ℕ
+entry_text (View age number members) =
+    concat (codes "  view " ∷ decimal age ∷ codes " " ∷ decimal number ∷ codes " " ∷ mask_text members ∷ codes "\n" ∷ [])
+entry_text (Msg sender index bytes) =
+    concat (codes "  msg " ∷ decimal sender ∷ codes " " ∷ decimal index ∷ codes " " ∷ message_text bytes ∷ codes "\n" ∷ [])
+
+-- how a member ended, in its line
+abbrev pub end_text : End → List ℕ
+end_text Done = codes "done"
+end_text Crashed = codes "crashed"
+end_text (Suspected by) = codes "suspected " ++ decimal by
+end_text (Excluded view) = codes "excluded " ++ decimal view
+end_text (NoMajority mask) = codes "nomajority " ++ mask_text mask
+end_text DiskFault = codes "diskfault"
+end_text (LogFull len) = codes "logfull " ++ decimal len
+end_text (Spent turns) = codes "spent " ++ decimal turns
+
+-- a member with this number: its line, and the entries of its history after the age's first `start` ones
+abbrev pub member_text : ℕ → ℕ → MemberEnd → List ℕ
+member_text start number m =
+    concat
+    (codes "member " ∷ decimal number ∷ codes " " ∷ end_text m.end ∷ codes " history " ∷ decimal (length m.history)
+    ∷ codes " logged " ∷ decimal m.logged ∷ codes " durable " ∷ decimal m.durable ∷ codes "\n"
+    ∷ flat_map entry_text (drop start m.history) ∷ [])
+
+-- the members of an age that started with so many entries, numbered from 0
+abbrev pub members_text : ℕ → List MemberEnd → List ℕ
+members_text start ms = flat_map (λ t. member_text start t.0 t.1) (enumerate_from 0 ms)
+
+-- an age: its line, the entries that it started with, and its members
+abbrev pub age_text : AgeEnd → List ℕ
+age_text a =
+    concat
+    (codes "age " ∷ decimal a.age ∷ codes " start " ∷ decimal (length a.start) ∷ codes "\n"
+    ∷ flat_map entry_text a.start ∷ members_text (length a.start) a.members ∷ [])
+
+-- the last line
+abbrev pub last_text : Last → List ℕ
+last_text AllDone = codes "ok\n"
+last_text Usage = codes "usage: derecho (sim|run) [--logs FOLDER]\n"
+last_text NotBuilt = codes "refused: not built\n"
+last_text SourceFault = codes "fault: source\n"
+last_text Unfinished = codes "unfinished\n"
+
+-- the whole text: the ages, and one last line
+abbrev pub report_text : List AgeEnd → Last → List ℕ
+report_text ages last = flat_map age_text ages ++ last_text last

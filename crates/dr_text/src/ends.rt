@@ -1,0 +1,32 @@
+ghost use Rattle.std.specs.Prelude.{◌≡◌, ◌++◌, OnOk, string_bytes};
+ghost use Rattle.dr_entry.specs.declared.end.End.{End};
+ghost use Rattle.dr_text.specs.Report.{end_text};
+
+use crate::entries::push_mask;
+use dr_entry::End;
+use std::alloc::AllocError;
+use std::fmt::Write;
+
+/// Appends how a member ended.
+pub(crate) fn push_end(out: &mut String, end: End) -> Result<(), AllocError>
+    ensures { OnOk result (string_bytes out.new ≡ string_bytes out.old ++ end_text end) }
+{
+    match end {
+        End::Done => out.push_str("done"),
+        End::Crashed => out.push_str("crashed"),
+        End::Suspected { by } => write!(out, "suspected {by}"),
+        End::Excluded { view } => write!(out, "excluded {view}"),
+        End::NoMajority { mask } => push_no_majority(out, mask),
+        End::DiskFault => out.push_str("diskfault"),
+        End::LogFull { len } => write!(out, "logfull {len}"),
+        End::Spent { turns } => write!(out, "spent {turns}"),
+    }
+}
+
+fn push_no_majority(out: &mut String, mask: u16) -> Result<(), AllocError>
+    ensures { OnOk result
+        (string_bytes out.new ≡ string_bytes out.old ++ end_text (End.NoMajority mask)) }
+{
+    out.push_str("nomajority ")?;
+    push_mask(out, mask)
+}

@@ -1,0 +1,15 @@
+//! The text that a run prints: its ages with their members' ends and histories, and one last line.
+//!
+//! The definitions in `specs/` give the text line by line.
+#![tactic(auto)]
+
+mod ends;
+mod entries;
+mod last;
+mod text;
+
+pub use last::Last;
+pub use text::report;
+
+#[cfg(test)]
+mod tests;

@@ -1,0 +1,9 @@
+use Rattle.std.proofs.lemmas.Nat.{le_or_l}
+use Rattle.dr_words.proofs.Bits.{has_with}
+use Rattle.dr_words.proofs.mask.Mask.with.Goals as goal
+
+pub returns-clause-members : goal.returns-clause-members
+returns-clause-members c i = rw c.self.view_is (has_with c.args.self.now c.args.n c.requires i)
+
+pub returns-clause-grows : goal.returns-clause-grows
+returns-clause-grows c = rw c.self.view_is (le_or_l c.args.self.now _)
