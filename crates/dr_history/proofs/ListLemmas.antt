@@ -1,5 +1,5 @@
 -- Ranges and filters of lists.
-use Rattle.std.proofs.Common.{◌≡◌, ◌⊎◌, inl, inr, ℕ, ◌+◌, Bool, true, false, cond, ◌==◌, Contains, Decides, List, [], ◌∷◌, ◌++◌, filter, map, length, take, slice_index_or, ◌<◌, nat_lt, arith, sym, ap, ◌∙◌, refl, Option, None, Some, filter_map, option_to_list}
+use Rattle.std.proofs.Common.{◌≡◌, ◌⊎◌, inl, inr, ℕ, ◌+◌, Bool, true, false, cond, ◌==◌, Contains, Decides, List, [], ◌∷◌, ◌++◌, filter, length, take, slice_index_or, ◌<◌, nat_lt, arith, sym, ap, ◌∙◌, refl, Option, None, Some, filter_map, option_to_list}
 use Rattle.std.specs.List.{range_with_len, IsAnyAnswer, position, position_or_len}
 use Rattle.std.proofs.lemmas.Bool.{cond-true, cond-false, lt-ltb, le-ltb}
 use Rattle.std.proofs.lemmas.List.Sums.{position_or_len_is}

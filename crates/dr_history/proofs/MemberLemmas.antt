@@ -1,5 +1,5 @@
 -- The members of a mask with a number below a bound, and one number more.
-use Rattle.std.proofs.Common.{◌≡◌, ℕ, zero, suc, ◌+◌, ◌≤◌, Bool, true, false, cond, [], ◌∷◌, ◌++◌, length, arith, add-one, length-append, refl, if◌then◌else◌}
+use Rattle.std.proofs.Common.{◌≡◌, ℕ, zero, suc, ◌+◌, ◌≤◌, Bool, true, false, [], ◌∷◌, ◌++◌, length, arith, add-one, length-append, refl, if◌then◌else◌}
 use Rattle.dr_history.specs.Members.{has, members_below}
 
 pub members_below_more : (mask n : ℕ) → members_below mask (n + 1) ≡ members_below mask n ++ (if has mask n then n ∷ [] else [])

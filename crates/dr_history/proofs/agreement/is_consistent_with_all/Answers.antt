@@ -1,4 +1,4 @@
-use Rattle.std.proofs.Common.{◌≡◌, ℕ, ◌⊎◌, List, slice_get, Some, refl, sym, subst, ◌∙◌, below_more, arith}
+use Rattle.std.proofs.Common.{◌⊎◌, List, refl, sym, subst, ◌∙◌, below_more, arith}
 use Rattle.std.proofs.lemmas.Option.{same_Some, slice_get_read}
 use Rattle.dr_entry.specs.declared.entry.Entry.{Entry}
 use Rattle.dr_history.specs.History.{IsPrefixOf}

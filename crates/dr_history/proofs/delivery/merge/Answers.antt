@@ -1,4 +1,4 @@
-use Rattle.std.proofs.Common.{ℕ, Some, None, append-nil, get_or, arith, ap, sym, ◌∙◌}
+use Rattle.std.proofs.Common.{ℕ, Some, None, append-nil, get_or, ap, sym, ◌∙◌}
 use Rattle.std.proofs.lemmas.List.{get_or_default}
 use Rattle.dr_history.proofs.ListLemmas.{filter_map_more}
 use Rattle.dr_history.proofs.delivery.merge.Goals as goal

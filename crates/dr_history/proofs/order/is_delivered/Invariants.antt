@@ -1,4 +1,4 @@
-use Rattle.std.proofs.Common.{◌≡◌, ◌≢◌, ℕ, ◌<◌, List, slice_get, Some}
+use Rattle.std.proofs.Common.{◌≢◌, ℕ, ◌<◌, List, slice_get, Some}
 use Rattle.dr_entry.specs.declared.entry.Entry.TheVariants.{Msg}
 use Rattle.dr_history.proofs.order.is_delivered.Given as goal
 

@@ -1,4 +1,4 @@
-use Rattle.std.proofs.Common.{◌≡◌, take, slice_get, None, Some, sym, ap, ◌∙◌, arith}
+use Rattle.std.proofs.Common.{◌≡◌, take, slice_get, None, Some, arith}
 use Rattle.std.proofs.lemmas.Grind.{common_steps}
 use Rattle.std.proofs.lemmas.Option.{gets}
 use Rattle.dr_entry.specs.declared.entry.Entry.TheVariants.{View}

@@ -1,4 +1,4 @@
-use Rattle.std.proofs.Common.{◌≡◌, ℕ, List, length, All, Contains, IsTrue, arith, get_or, take, refl, subst}
+use Rattle.std.proofs.Common.{ℕ, List, All, Contains, get_or, refl, subst}
 use Rattle.std.proofs.lemmas.List.{take_all}
 use Rattle.std.proofs.lemmas.List.Elements.{All-more, All-get_or}
 use Rattle.dr_history.proofs.ListLemmas.{contains_is, refuted}

@@ -1,4 +1,4 @@
-use Rattle.std.proofs.Common.{ap, sym, ◌∙◌}
+use Rattle.std.proofs.Common.{sym}
 use Rattle.dr_history.proofs.ListLemmas.{take_read}
 use Rattle.dr_history.proofs.ViewLemmas.{view_of-nil, view_of-View, view_of-Msg}
 use Rattle.dr_history.proofs.view.view_of.Goals as goal
