@@ -1,0 +1,77 @@
+ghost use Rattle.std.specs.Prelude.{◌≡◌, ℕ, ◌^◌, ◌<◌, ◌≤◌, ◌↔◌, true, false, map, All, Any, IfSome, IfNone, IsTrue};
+ghost use Rattle.dr_history.specs.Members.{has, members_of};
+ghost use Rattle.dr_words.specs.Masks.{IsInRoster};
+ghost use Rattle.dr_words.specs.Packing.{is_final, accept_promise};
+ghost use Rattle.dr_rows.specs.Words.{seen};
+
+use arrayvec::ArrayVec;
+use dr_lane::least;
+use dr_rows::Rows;
+use dr_words::{Mask, unpack_accept, unpack_recv};
+
+/// The words that the rows of these members have in a column, ascending by member.
+#[tactic(auto, using(crate::proofs::Gathered::room, crate::proofs::Gathered::none_yet, crate::proofs::Gathered::one_more, crate::proofs::Gathered::no_more), unfolding(dr_history::specs::Members::members_of))]
+pub(crate) fn words_of(rows: &Rows, members: Mask, column: usize) -> ArrayVec<u64, 16>
+    requires roster { IsInRoster rows.now.members members }
+    requires column { column < rows.now.columns }
+    ensures { result.items ≡ map (λ i. seen rows.now i column) (members_of members) }
+{
+    let mut words = ArrayVec::new();
+    for member in 0..16 {
+        if members.has(member) {
+            words.push(rows.seen(member, column));
+        }
+    }
+    words
+}
+
+/// The least of the words that the rows of these members have in a column; `None` where there are no
+/// members.
+pub(crate) fn least_word(rows: &Rows, members: Mask, column: usize) -> Option<u64>
+    requires most { rows.now.members ≤ 16 }
+    requires roster { IsInRoster rows.now.members members }
+    requires column { column < rows.now.columns }
+    ensures below { IfSome result (λ least. (i : ℕ) → has members i ≡ true
+        → least ≤ seen rows.now i column) }
+    ensures among { IfSome result (λ least. (i : ℕ) × (has members i ≡ true)
+        × (least ≡ seen rows.now i column)) }
+    ensures none { IfNone result ((i : ℕ) → has members i ≡ false) }
+{
+    let words = words_of(rows, members, column);
+    if words.is_empty() {
+        None
+    } else {
+        Some(least(words.as_slice()))
+    }
+}
+
+// Whether all counts of these recv words are final.
+pub(crate) fn all_final(words: &[u64]) -> bool
+    requires { All (λ word. word < 2 ^ 33) words.now }
+    ensures { IsTrue result ↔ All (λ word. is_final word ≡ true) words.now }
+{
+    words.iter().all(|word| unpack_recv(*word).1)
+}
+
+// Whether all of these accept words have at least this promise.
+pub(crate) fn all_promise(words: &[u64], promise: u8) -> bool
+    ensures { IsTrue result ↔ All (λ word. promise ≤ accept_promise word) words.now }
+{
+    words.iter().all(|word| unpack_accept(*word).0 >= promise)
+}
+
+// Whether some of these suspected words names the member.
+pub(crate) fn any_suspects(words: &[u64], name: u8) -> bool
+    requires name { name < 16 }
+    requires masks { All (λ word. word < 2 ^ 16) words.now }
+    ensures { IsTrue result ↔ Any (λ word. has word name ≡ true) words.now }
+{
+    words.iter().any(|word| Mask::of(*word as u16).has(name))
+}
+
+// Whether all of these done words are 1.
+pub(crate) fn all_done(words: &[u64]) -> bool
+    ensures { IsTrue result ↔ All (λ word. word ≡ 1) words.now }
+{
+    words.iter().all(|word| *word == 1)
+}

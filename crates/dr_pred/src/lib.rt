@@ -1,0 +1,16 @@
+//! Watches over the rows that a member holds: what holds once goes on to hold, since rows only grow.
+//!
+//! No call of this crate takes memory.
+#![tactic(auto)]
+
+mod column;
+mod once;
+mod watch;
+mod watches;
+
+pub use once::Once;
+pub use watch::Watch;
+pub use watches::{AllDone, AllFinal, LoggedFront, PromisedAt, ReceivedFront, SomeSuspect};
+
+#[cfg(test)]
+mod tests;

@@ -1,0 +1,197 @@
+ghost use Rattle.std.specs.Prelude.{◌≡◌, ℕ, ◌<◌, ◌↔◌, true, IsTrue};
+ghost use Rattle.dr_history.specs.Members.{has};
+ghost use Rattle.dr_words.specs.Columns.{recv_column};
+ghost use Rattle.dr_words.specs.Masks.{IsInRoster};
+ghost use Rattle.dr_words.specs.Packing.{is_final};
+ghost use Rattle.dr_rows.specs.Words.{seen};
+
+use crate::Watch;
+use crate::column::{all_done, all_final, all_promise, any_suspects, least_word, words_of};
+use dr_rows::Rows;
+use dr_words::{DONE_COLUMN, LOGGED_COLUMN, Mask, RECEIVED_COLUMN, SUSPECTED_COLUMN, Shape};
+
+/// Every received word of the members is above `at`.
+#[derive(Clone, Copy, Debug, PartialEq, Eq)]
+pub struct ReceivedFront {
+    pub members: Mask,
+    pub at: u64,
+}
+
+impl Watch for ReceivedFront {
+    ghost use Rattle.dr_pred.specs.Group.{IsOfGroup};
+    ghost use Rattle.dr_pred.specs.Watches.{AllReceivedAbove};
+    ghost use Rattle.dr_pred.specs.Lasting.{received_lasts};
+
+    ghost fits = { λ w rows. IsOfGroup rows × IsInRoster rows.members w.members };
+
+    ghost waits_for = { λ w rows. AllReceivedAbove w.members w.at rows };
+
+    ghost lasts = { λ w old new f g grown. received_lasts w.members w.at old new grown };
+
+    fn holds(&self, rows: &Rows) -> bool {
+        least_word(rows, self.members, RECEIVED_COLUMN).is_none_or(|least| least > self.at)
+    }
+}
+
+/// Every logged word of the members is at least `at`.
+#[derive(Clone, Copy, Debug, PartialEq, Eq)]
+pub struct LoggedFront {
+    pub members: Mask,
+    pub at: u64,
+}
+
+impl Watch for LoggedFront {
+    ghost use Rattle.dr_pred.specs.Group.{IsOfGroup};
+    ghost use Rattle.dr_pred.specs.Watches.{AllLogged};
+    ghost use Rattle.dr_pred.specs.Lasting.{logged_lasts};
+
+    ghost fits = { λ w rows. IsOfGroup rows × IsInRoster rows.members w.members };
+
+    ghost waits_for = { λ w rows. AllLogged w.members w.at rows };
+
+    ghost lasts = { λ w old new f g grown. logged_lasts w.members w.at old new grown };
+
+    fn holds(&self, rows: &Rows) -> bool {
+        least_word(rows, self.members, LOGGED_COLUMN).is_none_or(|least| least >= self.at)
+    }
+}
+
+/// In the rows of the members of `of`, every count of the `senders` is final.
+#[derive(Clone, Copy, Debug, PartialEq, Eq)]
+pub struct AllFinal {
+    pub shape: Shape,
+    pub of: Mask,
+    pub senders: Mask,
+}
+
+impl AllFinal {
+    ghost use Rattle.dr_pred.specs.Group.{HasShape};
+
+    // Whether the counts of a sender are final.
+    fn is_final(&self, rows: &Rows, sender: u8) -> bool
+        requires shape { HasShape self.now.shape rows.now }
+        requires of { IsInRoster rows.now.members self.now.of }
+        requires sender { sender < rows.now.members }
+        ensures { IsTrue result ↔ ((i : ℕ) → has self.now.of i ≡ true
+            → is_final (seen rows.now i (recv_column sender)) ≡ true) }
+    {
+        let words = words_of(rows, self.of, self.shape.recv_column(sender));
+        all_final(words.as_slice())
+    }
+}
+
+impl Watch for AllFinal {
+    ghost use Rattle.dr_pred.specs.Group.{HasShape};
+    ghost use Rattle.dr_pred.specs.Watches.{AllCountsFinal};
+    ghost use Rattle.dr_pred.specs.Lasting.{final_lasts};
+
+    ghost fits = { λ w rows. HasShape w.shape rows × IsInRoster rows.members w.of × IsInRoster rows.members w.senders };
+
+    ghost waits_for = { λ w rows. AllCountsFinal w.of w.senders rows };
+
+    ghost lasts = { λ w old new f g grown. final_lasts w.of w.senders old new f.2 grown };
+
+    fn holds(&self, rows: &Rows) -> bool {
+        for sender in 0..16 {
+            if self.senders.has(sender) && !self.is_final(rows, sender) {
+                return false;
+            }
+        }
+        true
+    }
+}
+
+/// In the rows of the members of `of`, the accept word of the leavers and those of the trims of the
+/// `senders` have a promise of at least `promise`.
+#[derive(Clone, Copy, Debug, PartialEq, Eq)]
+pub struct PromisedAt {
+    pub shape: Shape,
+    pub of: Mask,
+    pub senders: Mask,
+    pub promise: u8,
+}
+
+impl PromisedAt {
+    ghost use Rattle.dr_pred.specs.Group.{HasShape};
+    ghost use Rattle.dr_pred.specs.Watches.{Promises};
+
+    // Whether the accept words of a column have the promise.
+    fn is_promised(&self, rows: &Rows, column: usize) -> bool
+        requires shape { HasShape self.now.shape rows.now }
+        requires of { IsInRoster rows.now.members self.now.of }
+        requires column { column < rows.now.columns }
+        ensures { IsTrue result ↔ ((i : ℕ) → has self.now.of i ≡ true
+            → Promises rows.now self.now.promise i column) }
+    {
+        let words = words_of(rows, self.of, column);
+        all_promise(words.as_slice(), self.promise)
+    }
+}
+
+impl Watch for PromisedAt {
+    ghost use Rattle.dr_pred.specs.Group.{HasShape};
+    ghost use Rattle.dr_pred.specs.Watches.{AllPromised};
+    ghost use Rattle.dr_pred.specs.Lasting.{promised_lasts};
+
+    ghost fits = { λ w rows. HasShape w.shape rows × IsInRoster rows.members w.of × IsInRoster rows.members w.senders };
+
+    ghost waits_for = { λ w rows. AllPromised w.of w.senders w.promise rows };
+
+    ghost lasts = { λ w old new f g grown. promised_lasts w.of w.senders w.promise old new grown };
+
+    fn holds(&self, rows: &Rows) -> bool {
+        for sender in 0..16 {
+            if self.senders.has(sender) && !self.is_promised(rows, self.shape.trim_column(sender)) {
+                return false;
+            }
+        }
+        self.is_promised(rows, self.shape.leavers_column())
+    }
+}
+
+/// Some of the members suspects member `name`.
+#[derive(Clone, Copy, Debug, PartialEq, Eq)]
+pub struct SomeSuspect {
+    pub members: Mask,
+    pub name: u8,
+}
+
+impl Watch for SomeSuspect {
+    ghost use Rattle.dr_pred.specs.Group.{IsOfGroup};
+    ghost use Rattle.dr_pred.specs.Watches.{IsSuspected};
+    ghost use Rattle.dr_pred.specs.Lasting.{suspected_lasts};
+
+    ghost fits = { λ w rows. IsOfGroup rows × IsInRoster rows.members w.members × (w.name < rows.members) };
+
+    ghost waits_for = { λ w rows. IsSuspected w.members w.name rows };
+
+    ghost lasts = { λ w old new f g grown. suspected_lasts w.members w.name old new grown };
+
+    fn holds(&self, rows: &Rows) -> bool {
+        let words = words_of(rows, self.members, SUSPECTED_COLUMN);
+        any_suspects(words.as_slice(), self.name)
+    }
+}
+
+/// Every done word of the members is 1.
+#[derive(Clone, Copy, Debug, PartialEq, Eq)]
+pub struct AllDone {
+    pub members: Mask,
+}
+
+impl Watch for AllDone {
+    ghost use Rattle.dr_pred.specs.Group.{IsOfGroup};
+    ghost use Rattle.dr_pred.specs.Watches.{AllAreDone};
+    ghost use Rattle.dr_pred.specs.Lasting.{done_lasts};
+
+    ghost fits = { λ w rows. IsOfGroup rows × IsInRoster rows.members w.members };
+
+    ghost waits_for = { λ w rows. AllAreDone w.members rows };
+
+    ghost lasts = { λ w old new f g grown. done_lasts w.members old new g.0.form grown };
+
+    fn holds(&self, rows: &Rows) -> bool {
+        let words = words_of(rows, self.members, DONE_COLUMN);
+        all_done(words.as_slice())
+    }
+}
