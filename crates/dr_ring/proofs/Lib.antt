@@ -1,0 +1,9 @@
+pub mod Freedom
+pub mod Bodies
+pub mod Readiness
+pub mod Writes
+pub mod Growing
+pub mod Items
+pub mod Arrivals
+pub mod Looks
+pub mod Putting

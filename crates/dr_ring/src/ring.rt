@@ -1,0 +1,144 @@
+ghost use Rattle.std.specs.Prelude.{◌≡◌, ℕ, ◌+◌, ◌-◌, ◌*◌, ◌%◌, ◌^◌, ◌<◌, ◌≤◌, ◌↔◌, true, false, IsTrue, IsSome, MatchOption, map, take};
+ghost use Rattle.std.specs.List.{list_all, range_with_len};
+ghost use Rattle.dr_words.specs.Form.{AllInForm};
+ghost use Rattle.dr_words.specs.Grown.{Grown};
+ghost use Rattle.dr_words.specs.Masks.{IsInRoster};
+ghost use Rattle.dr_words.specs.Packing.{ring_tag, ring_low};
+ghost use Rattle.dr_rows.specs.Words.{IsWords, seen};
+ghost use Rattle.dr_ring.specs.Pieces.{body_piece, bytes_of};
+ghost use Rattle.dr_ring.specs.Slots.{HasShape, IsFree, is_free, IsReady, is_of, item_in, slot_of, with_item};
+ghost use Rattle.dr_ring.specs.Arrival.{Arrives};
+
+use dr_entry::{Item, MAX_MESSAGE, Message};
+use dr_rows::Rows;
+use dr_words::{Mask, Shape, pack_ring, unpack_recv, unpack_ring};
+
+/// The piece of the head of a null. That of a message is its length.
+const NULL_MARK: u32 = u32::MAX;
+
+/// Whether the slot of the own item `k` can be written: `k` is among the first items, or each other
+/// of the `members` has received the item that stood there before.
+pub fn free(rows: &Rows, shape: &Shape, members: Mask, k: u32) -> bool
+    requires shape { HasShape shape.now rows.now }
+    requires form { AllInForm rows.now.members rows.now.words }
+    requires roster { IsInRoster rows.now.members members }
+    ensures free { IsTrue result ↔ IsFree shape.now.window rows.now members k }
+    ensures value { result ≡ is_free shape.now.window rows.now members k }
+{
+    let window = u32::from(shape.window);
+    if k < window {
+        return true;
+    }
+    let me = rows.me();
+    let column = shape.recv_column(me);
+    for other in 0..shape.members {
+        if other != me && members.has(other) {
+            let (received, _) = unpack_recv(rows.seen(other, column));
+            if received <= k - window {
+                return false;
+            }
+        }
+    }
+    true
+}
+
+/// Sets the own words that item `k` needs: its head, and as many words of its slot's body as hold
+/// its bytes. The other words of the slot stay.
+pub fn put(rows: &mut Rows, shape: &Shape, members: Mask, k: u32, item: &Item)
+    requires shape { HasShape shape.now rows.old }
+    requires form { AllInForm rows.old.members rows.old.words }
+    requires roster { IsInRoster rows.old.members members }
+    requires free { IsFree shape.now.window rows.old members k }
+    requires number { k < 2 ^ 32 - 1 }
+    requires earlier { (part : ℕ) → part < 17
+        → ring_tag (slot_of shape.now.window rows.old rows.old.me k part) ≤ k }
+    ensures after { rows.new ≡ with_item shape.now.window rows.old k item.now }
+    ensures arrives { Arrives shape.now.window rows.new k item.now }
+    ensures grown { Grown rows.old.members rows.old.words rows.new.words rows.old.frozen rows.new.frozen }
+    ensures in_form { AllInForm rows.new.members rows.new.words }
+    ensures form { IsWords rows.new }
+{
+    let slot = slot_at(shape, k);
+    match item {
+        Item::Null => rows.set_own(shape.head_column(slot), pack_ring(k, NULL_MARK)),
+        Item::Text(message) => {
+            let bytes = message.bytes();
+            rows.set_own(shape.head_column(slot), pack_ring(k, bytes.len() as u32));
+            for part in 0..bytes.len().div_ceil(4) {
+                let piece = piece_of(bytes, part);
+                rows.set_own(shape.body_column(slot, part as u8), pack_ring(k, piece));
+            }
+        }
+    }
+}
+
+/// Item `k` of the member of this row, where all words that it needs were seen: the head, whose low
+/// half is a length or the mark of a null, and the words of the body that hold the bytes.
+pub fn ready(rows: &Rows, shape: &Shape, row: u8, k: u32) -> Option<Item>
+    requires shape { HasShape shape.now rows.now }
+    requires row { row < rows.now.members }
+    ensures ready { IsSome result ↔ IsReady k (slot_of shape.now.window rows.now row k) }
+    ensures item { result ≡ item_in k (slot_of shape.now.window rows.now row k) }
+{
+    let slot = slot_at(shape, k);
+    let head = piece_at(rows, row, shape.head_column(slot), k)?;
+    if head == NULL_MARK {
+        return Some(Item::Null);
+    }
+    let len = head as usize;
+    if len > MAX_MESSAGE {
+        return None;
+    }
+    let bytes = body_at(rows, shape, row, k, len.div_ceil(4))?;
+    Message::of(&bytes[..len]).map(Item::Text)
+}
+
+fn slot_at(shape: &Shape, k: u32) -> u8
+    ensures value { result ≡ k % shape.now.window }
+    ensures within { result < shape.now.window }
+{
+    (k % u32::from(shape.window)) as u8
+}
+
+// The piece of item `k` in a word, where it is of that item.
+fn piece_at(rows: &Rows, row: u8, column: usize, k: u32) -> Option<u32>
+    requires row { row < rows.now.members }
+    requires column { column < rows.now.columns }
+    ensures { let word = seen rows.now row column in
+        MatchOption result (is_of k word ≡ false) (λ piece. (is_of k word ≡ true) × (piece ≡ ring_low word)) }
+{
+    let (tag, piece) = unpack_ring(rows.seen(row, column));
+    if tag.checked_sub(1) == Some(k) {
+        Some(piece)
+    } else {
+        None
+    }
+}
+
+// The bytes in the first words of the body, so many, where all of these are of item `k`.
+fn body_at(rows: &Rows, shape: &Shape, row: u8, k: u32, words: usize) -> Option<[u8; MAX_MESSAGE]>
+    requires shape { HasShape shape.now rows.now }
+    requires row { row < rows.now.members }
+    requires words { words ≤ 16 }
+    ensures { let body = map (slot_of shape.now.window rows.now row k) (range_with_len 1 words) in
+        MatchOption result
+        (list_all (is_of k) body ≡ false)
+        (λ bytes. (list_all (is_of k) body ≡ true) × (take (4 * words) bytes ≡ bytes_of (map ring_low body))) }
+{
+    let slot = slot_at(shape, k);
+    let mut bytes = [0; MAX_MESSAGE];
+    for part in 0..words {
+        let piece = piece_at(rows, row, shape.body_column(slot, part as u8), k)?;
+        bytes[4 * part..4 * part + 4].copy_from_slice(&piece.to_be_bytes());
+    }
+    Some(bytes)
+}
+
+// The bytes from `4 * part` on as a number; behind the end they are 0.
+fn piece_of(bytes: &[u8], part: usize) -> u32
+    requires { part < 16 }
+    ensures { result ≡ body_piece bytes.now part }
+{
+    let byte = |i: usize| bytes.get(4 * part + i).copied().unwrap_or(0);
+    u32::from_be_bytes([byte(0), byte(1), byte(2), byte(3)])
+}
