@@ -1,0 +1,43 @@
+-- The clauses say in each case what the last line that was due and what was written of it say.
+use Rattle.std.proofs.Common.{All}
+use Rattle.dr_history.specs.Agreement.{EndsAgreed}
+use Rattle.dr_rounds.specs.Rounds.{opening_of, HasEnded}
+use Rattle.derecho.proofs.Course.{Course, course_of, written_of, all_ages, at_most_one, statuses_with_ages, known_status, usage_of, refused_of, read_fault_of, unfinished_of, read_of}
+use Rattle.derecho.proofs.top.derecho.Goals as goal
+
+course : (g : Rattle.derecho.proofs.top.derecho.Given.Over) (c : goal.After-finish g)
+    → Course c.args.words.now (g.S.Source.left c.args.source.now) (g.S.Source.left c.outcome_of.new.source) (g.S.Source.faults c.args.source.now) (g.S.Source.faults c.outcome_of.new.source) c.finish.result.status c.finish.result.ages
+course g c = course_of c.args.words.now (g.S.Source.left c.args.source.now) (g.S.Source.left c.outcome_of.new.source) (g.K.Sink.held c.args.sink.now) (g.K.Sink.held c.finish.new.sink) (g.S.Source.faults c.args.source.now) (g.S.Source.faults c.outcome_of.new.source) (g.K.Sink.faults c.args.sink.now) (g.K.Sink.faults c.finish.new.sink) c.finish.result.status c.in-Ok.outcome.ages c.finish.result.ages c.in-Ok.outcome.last c.in-Ok.ensures.due c.finish.ensures
+
+pub returns-in-Ok-clause-written : goal.returns-in-Ok-clause-written
+returns-in-Ok-clause-written g c = written_of c.args.words.now (g.S.Source.left c.args.source.now) (g.S.Source.left c.outcome_of.new.source) (g.K.Sink.held c.args.sink.now) (g.K.Sink.held c.finish.new.sink) (g.S.Source.faults c.args.source.now) (g.S.Source.faults c.outcome_of.new.source) (g.K.Sink.faults c.args.sink.now) (g.K.Sink.faults c.finish.new.sink) c.finish.result.status c.in-Ok.outcome.ages c.finish.result.ages c.in-Ok.outcome.last c.in-Ok.ensures.due c.finish.ensures
+
+pub returns-in-Ok-clause-agreed : goal.returns-in-Ok-clause-agreed
+returns-in-Ok-clause-agreed g c = all_ages (λ s a. EndsAgreed (opening_of s) a.members) (course g c) (λ s a run. run.agreed)
+
+pub returns-in-Ok-clause-ended : goal.returns-in-Ok-clause-ended
+returns-in-Ok-clause-ended g c = all_ages (λ s a. All (HasEnded (opening_of s) s.turns a.members) a.members) (course g c) (λ s a run. run.ended)
+
+pub returns-in-Ok-clause-read : goal.returns-in-Ok-clause-read
+returns-in-Ok-clause-read g c = read_of (course g c)
+
+pub returns-in-Ok-clause-one_age : goal.returns-in-Ok-clause-one_age
+returns-in-Ok-clause-one_age g c = at_most_one (course g c)
+
+pub returns-in-Ok-clause-ran : goal.returns-in-Ok-clause-ran
+returns-in-Ok-clause-ran g c = statuses_with_ages (course g c)
+
+pub returns-in-Ok-clause-statuses : goal.returns-in-Ok-clause-statuses
+returns-in-Ok-clause-statuses g c = known_status (course g c)
+
+pub returns-in-Ok-clause-usage : goal.returns-in-Ok-clause-usage
+returns-in-Ok-clause-usage g c = usage_of (course g c)
+
+pub returns-in-Ok-clause-refused : goal.returns-in-Ok-clause-refused
+returns-in-Ok-clause-refused g c = refused_of (course g c)
+
+pub returns-in-Ok-clause-read_fault : goal.returns-in-Ok-clause-read_fault
+returns-in-Ok-clause-read_fault g c = read_fault_of (course g c)
+
+pub returns-in-Ok-clause-unfinished : goal.returns-in-Ok-clause-unfinished
+returns-in-Ok-clause-unfinished g c = unfinished_of (course g c)

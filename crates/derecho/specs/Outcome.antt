@@ -1,0 +1,74 @@
+-- What comes of a call: its ages, its last line and its status.
+use Rattle.std.specs.Prelude.{◌≡◌, ◌≢◌, ◌⊎◌, ℕ, if◌then◌else◌, List, [], ◌∷◌, Option, MatchOption, String}
+use Rattle.std.specs.declared.alloc.Global.{Global}
+use Rattle.dr_entry.specs.declared.end.AgeEnd.{AgeEnd}
+use Rattle.dr_io.specs.Faults.{Rose}
+use Rattle.dr_io.specs.Source.{Loses}
+use Rattle.dr_io.specs.Sink.{Gains}
+use Rattle.dr_rounds.specs.Rounds.{age_of, opening_of}
+use Rattle.dr_script.specs.Plain.{plain_script_of}
+use Rattle.dr_text.specs.declared.last.Last.{Last}
+use Rattle.dr_text.specs.declared.last.Last.TheVariants.{Done, Usage, NotBuilt, SourceFault, Unfinished}
+use Rattle.dr_text.specs.Report.{report_text}
+use Rattle.derecho.specs.declared.status.TheConstants.{DONE, USAGE, SCRIPT_REFUSED, READ_FAULT, WRITE_FAULT, UNFINISHED, OUT_OF_MEMORY}
+use Rattle.derecho.specs.Words.{IsCommand}
+use Rattle.derecho.specs.Reading.{WasRead}
+use Rattle.derecho.specs.Writing.{WroteFront}
+use Rattle.derecho.specs.Ages.{some_spent, RanAlone}
+
+-- the last line behind the ages of a run
+abbrev pub last_of_run : List AgeEnd → Last
+last_of_run ages = if some_spent ages then Unfinished else Done
+
+-- what the bytes ask for: no age and a refusal where they are no plain script, and else the run of that script
+abbrev pub IsRunOver : List ℕ → List AgeEnd → Last → Type 0
+IsRunOver bytes ages last =
+    MatchOption
+    (plain_script_of bytes)
+    ((last ≡ NotBuilt) × (ages ≡ []))
+    (λ s. (last ≡ last_of_run ages) × RanAlone s ages)
+
+-- the last line that is due, with its ages: the usage where the words are no command, a fault where the source failed, and else what the bytes that were read ask for
+abbrev pub IsDue : List (String Global) → Option (List ℕ) → Option (List ℕ) → ℕ → ℕ → List AgeEnd → Last → Type 0
+IsDue words old new before after ages last =
+    ((¬ IsCommand words) × (last ≡ Usage) × (ages ≡ []) × Loses old new [])
+    ⊎ (IsCommand words × (last ≡ SourceFault) × (ages ≡ []) × Rose before after)
+    ⊎ (IsCommand words × ((bytes : List ℕ) × WasRead old new bytes × IsRunOver bytes ages last))
+
+-- the status of a last line
+abbrev pub status_of : Last → ℕ
+status_of Done = DONE
+status_of Usage = USAGE
+status_of NotBuilt = SCRIPT_REFUSED
+status_of SourceFault = READ_FAULT
+status_of Unfinished = UNFINISHED
+
+-- the whole text was written, with the status of its last line, or a front part of it, where the sink failed
+abbrev pub Wrote : Option (List ℕ) → Option (List ℕ) → ℕ → ℕ → ℕ → List AgeEnd → Last → Type 0
+Wrote old new before after status ages last =
+    ((status ≡ status_of last) × Gains old new (report_text ages last))
+    ⊎ ((status ≡ WRITE_FAULT) × Rose before after × WroteFront old new (report_text ages last))
+
+-- memory was wanting: there is no age, and nothing was written
+abbrev pub GaveUp : Option (List ℕ) → Option (List ℕ) → ℕ → List AgeEnd → Type 0
+GaveUp old new status ages = (status ≡ OUT_OF_MEMORY) × (ages ≡ []) × Gains old new []
+
+-- the status comes exactly where the fact holds, but that a write fault and want of memory come before it
+pub record Exactly (status due : ℕ) (P : Type 0) : Type 0 where
+  pub only : status ≡ due → P
+  pub unless : P → (status ≡ due) ⊎ (status ≡ WRITE_FAULT) ⊎ (status ≡ OUT_OF_MEMORY)
+
+-- the source may have been left before its end: it failed, or memory was wanting
+abbrev pub MayBeUnread : ℕ → ℕ → ℕ → Type 0
+MayBeUnread before after status =
+    (status ≡ READ_FAULT) ⊎ (status ≡ OUT_OF_MEMORY) ⊎ ((status ≡ WRITE_FAULT) × Rose before after)
+
+-- the source was read to its end or to the limit, and what was read decides: it is no plain script, is refused and has no age, or the ages are the one run of that script
+abbrev pub RanRead : Option (List ℕ) → Option (List ℕ) → ℕ → List AgeEnd → Type 0
+RanRead old new status ages =
+    (bytes : List ℕ)
+    × WasRead old new bytes
+    × MatchOption
+    (plain_script_of bytes)
+    ((ages ≡ []) × ((status ≡ SCRIPT_REFUSED) ⊎ (status ≡ WRITE_FAULT)))
+    (λ s. (ages ≡ age_of (opening_of s) s.turns ∷ []) × (status ≢ SCRIPT_REFUSED))

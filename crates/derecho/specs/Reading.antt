@@ -1,0 +1,20 @@
+-- What is read of a source.
+use Rattle.std.specs.Prelude.{◌≡◌, ℕ, ◌<◌, ◌≤◌, List, length, Option, Some, None}
+use Rattle.dr_io.specs.Source.{Loses, IsUsedUp}
+use Rattle.dr_script.specs.declared.script.Script.{Script}
+use Rattle.dr_script.specs.Plain.{plain_script_of}
+use Rattle.derecho.specs.declared.reading.TheConstants.{READ_LIMIT}
+
+-- these bytes were read from the front of what was left: all of it, or as many as the limit
+pub record WasRead (old new : Option (List ℕ)) (bytes : List ℕ) : Type 0 where
+  pub lost : Loses old new bytes
+  pub end : length bytes < READ_LIMIT → IsUsedUp new
+  pub limit : length bytes ≤ READ_LIMIT
+
+-- what was read is this plain script
+abbrev pub IsScript : Option (List ℕ) → Option (List ℕ) → Script → Type 0
+IsScript old new s = (bytes : List ℕ) × WasRead old new bytes × (plain_script_of bytes ≡ Some s)
+
+-- what was read is no plain script
+abbrev pub IsNoScript : Option (List ℕ) → Option (List ℕ) → Type 0
+IsNoScript old new = (bytes : List ℕ) × WasRead old new bytes × (plain_script_of bytes ≡ None)

@@ -1,0 +1,103 @@
+ghost use Rattle.std.specs.Prelude.{◌≡◌, if◌then◌else◌, IfOk, []};
+ghost use Rattle.std.specs.List.{list_any};
+ghost use Rattle.dr_script.specs.Plain.{IsPlain};
+ghost use Rattle.derecho.specs.Ages.{is_spent, RanAlone};
+ghost use Rattle.derecho.specs.Outcome.{IsDue, IsRunOver, last_of_run};
+
+use crate::reading::{ReadFault, read_all};
+use crate::words::is_command;
+use dr_entry::{AgeEnd, End, MemberEnd, Seq};
+use dr_io::Source;
+use dr_rounds::run;
+use dr_script::{Script, ScriptFault, plain_script};
+use dr_text::Last;
+use std::alloc::{AllocError, Global};
+
+/// What there is to tell of a run before it is written: its ages, and what the last line says.
+#[derive(Debug, Drop)]
+pub(crate) struct Outcome {
+    pub ages: Seq<AgeEnd>,
+    pub last: Last,
+}
+
+/// Does all that the words ask for, but for the writing.
+pub(crate) fn outcome_of<S: Source>(
+    alloc: Global,
+    words: &[String],
+    source: &mut S,
+) -> Result<Outcome, AllocError>
+    ensures due { IfOk result (λ o. IsDue words.now (S.left source.old) (S.left source.new)
+        (S.faults source.old) (S.faults source.new) o.ages o.last) }
+{
+    if !is_command(words) {
+        return Ok(without_ages(alloc, Last::Usage));
+    }
+    match read_all(alloc, source) {
+        Ok(bytes) => judge(alloc, &bytes),
+        Err(ReadFault::Failed) => Ok(without_ages(alloc, Last::SourceFault)),
+        Err(ReadFault::OutOfMemory) => Err(AllocError),
+    }
+}
+
+/// Runs what was read, where it is a plain script.
+fn judge(alloc: Global, bytes: &[u8]) -> Result<Outcome, AllocError>
+    ensures { IfOk result (λ o. IsRunOver bytes.now o.ages o.last) }
+{
+    match plain_script(alloc, bytes) {
+        Ok(script) => simulate(alloc, script),
+        Err(ScriptFault::NotPlain) => Ok(without_ages(alloc, Last::NotBuilt)),
+        Err(ScriptFault::OutOfMemory) => Err(AllocError),
+    }
+}
+
+/// Runs a plain script.
+fn simulate(alloc: Global, script: Script) -> Result<Outcome, AllocError>
+    requires { IsPlain script }
+    ensures ran { IfOk result (λ o. RanAlone script o.ages) }
+    ensures last { IfOk result (λ o. o.last ≡ last_of_run o.ages) }
+{
+    let age = run(alloc, script)?;
+    let last = last_of(age.members.as_slice());
+    let mut ages = Vec::new(alloc);
+    ages.push(age)?;
+    Ok(Outcome {
+        ages: Seq::of(ages),
+        last,
+    })
+}
+
+/// What the last line says behind an age with these members.
+fn last_of(members: &[MemberEnd]) -> Last
+    ensures { result ≡ (if list_any (λ m. is_spent m.end) members.now then Last.Unfinished else Last.Done) }
+{
+    if some_spent(members) {
+        Last::Unfinished
+    } else {
+        Last::Done
+    }
+}
+
+/// Whether some member had spent all its turns.
+fn some_spent(members: &[MemberEnd]) -> bool
+    ensures { result ≡ list_any (λ m. is_spent m.end) members.now }
+{
+    members.iter().any(|member| is_spent(member.end))
+}
+
+/// Whether this is the end of a member that had spent all its turns.
+fn is_spent(end: End) -> bool
+    ensures { result ≡ is_spent end }
+{
+    matches!(end, End::Spent { .. })
+}
+
+/// What there is to tell where no age was run.
+fn without_ages(alloc: Global, last: Last) -> Outcome
+    ensures ages { result.ages ≡ [] }
+    ensures last { result.last ≡ last }
+{
+    Outcome {
+        ages: Seq::of(Vec::new(alloc)),
+        last,
+    }
+}

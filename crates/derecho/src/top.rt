@@ -1,0 +1,125 @@
+ghost use Rattle.std.specs.Prelude.{◌≡◌, ◌≢◌, ◌⊎◌, ◌≤◌, [], ◌∷◌, length, All, Contains, IsTrue};
+ghost use Rattle.dr_entry.specs.declared.end.AgeEnd.{AgeEnd};
+ghost use Rattle.dr_script.specs.declared.script.Script.{Script};
+ghost use Rattle.dr_text.specs.declared.last.Last.{Last};
+ghost use Rattle.dr_history.specs.Agreement.{EndsAgreed};
+ghost use Rattle.dr_io.specs.Faults.{Rose};
+ghost use Rattle.dr_io.specs.Sink.{Gains};
+ghost use Rattle.dr_rounds.specs.Rounds.{age_of, opening_of, HasEnded};
+ghost use Rattle.derecho.specs.Words.{IsCommand};
+ghost use Rattle.derecho.specs.Reading.{IsNoScript, IsScript};
+ghost use Rattle.derecho.specs.Ages.{some_spent};
+ghost use Rattle.derecho.specs.Outcome.{Exactly, GaveUp, IsDue, MayBeUnread, RanRead, Wrote, status_of};
+
+use crate::outcome::{Outcome, outcome_of};
+use crate::status::{
+    DONE, OUT_OF_MEMORY, READ_FAULT, SCRIPT_REFUSED, UNFINISHED, USAGE, WRITE_FAULT,
+};
+use crate::writing::write_all;
+use dr_entry::{AgeEnd, Seq};
+use dr_io::{Sink, Source};
+use dr_text::{Last, report};
+use std::alloc::Global;
+use std::thread::Threads;
+
+/// How a call ended: its status, and the ages that ran to their end.
+#[derive(Debug, PartialEq, Eq, Drop)]
+pub struct Ended {
+    pub status: u8,
+    pub ages: Seq<AgeEnd>,
+}
+
+/// Does what the words ask for, and answers how it ended.
+///
+/// The one command so far is `sim`: a script is read from the source, its group runs, and the
+/// report of the run is written to the sink. The status says how that went: see the constants of
+/// this crate. Where several apply, [`OUT_OF_MEMORY`] comes before all others, and [`WRITE_FAULT`]
+/// before the rest.
+pub fn derecho<R: Threads + Sync, S: Source, K: Sink>(
+    _rt: &R,
+    alloc: Global,
+    words: &[String],
+    source: &mut S,
+    sink: &mut K,
+) -> Ended
+    // The ages: of the script that was read, with histories that agree.
+    ensures read { IsCommand words.now
+        → MayBeUnread (S.faults source.old) (S.faults source.new) result.status
+        ⊎ RanRead (S.left source.old) (S.left source.new) result.status result.ages }
+    ensures agreed { All (λ a. (s : Script) × IsScript (S.left source.old) (S.left source.new) s
+        × (a ≡ age_of (opening_of s) s.turns) × EndsAgreed (opening_of s) a.members) result.ages }
+    ensures ended { All (λ a. (s : Script) × IsScript (S.left source.old) (S.left source.new) s
+        × (a ≡ age_of (opening_of s) s.turns)
+        × All (HasEnded (opening_of s) s.turns a.members) a.members) result.ages }
+    ensures one_age { length result.ages ≤ 1 }
+
+    // The text: the report of these ages, with the last line that is due.
+    ensures written { result.status ≢ OUT_OF_MEMORY → (last : Last)
+        × IsDue words.now (S.left source.old) (S.left source.new)
+        (S.faults source.old) (S.faults source.new) result.ages last
+        × Wrote (K.held sink.old) (K.held sink.new)
+        (K.faults sink.old) (K.faults sink.new) result.status result.ages last }
+    ensures given_up { result.status ≡ OUT_OF_MEMORY
+        → (result.ages ≡ []) × Gains (K.held sink.old) (K.held sink.new) [] }
+
+    // Where each status comes. DONE is left where none of these does.
+    ensures statuses { Contains (DONE ∷ USAGE ∷ SCRIPT_REFUSED ∷ READ_FAULT ∷ WRITE_FAULT
+        ∷ UNFINISHED ∷ OUT_OF_MEMORY ∷ []) result.status }
+    ensures usage { Exactly result.status USAGE (¬ IsCommand words.now) }
+    ensures refused { result.status ≡ SCRIPT_REFUSED
+        → IsNoScript (S.left source.old) (S.left source.new) }
+    ensures read_fault { result.status ≡ READ_FAULT
+        → Rose (S.faults source.old) (S.faults source.new) }
+    ensures write_fault { result.status ≡ WRITE_FAULT
+        → Rose (K.faults sink.old) (K.faults sink.new) }
+    ensures unfinished { Exactly result.status UNFINISHED (IsTrue (some_spent result.ages)) }
+    ensures ran { result.ages ≢ [] → (result.status ≡ DONE) ⊎ (result.status ≡ UNFINISHED)
+        ⊎ (result.status ≡ WRITE_FAULT) }
+{
+    match outcome_of(alloc, words, source) {
+        Ok(outcome) => finish(alloc, outcome, sink),
+        Err(_) => given_up(alloc),
+    }
+}
+
+/// Writes the report of an outcome.
+fn finish<K: Sink>(alloc: Global, outcome: Outcome, sink: &mut K) -> Ended
+    ensures { GaveUp (K.held sink.old) (K.held sink.new) result.status result.ages
+        ⊎ ((result.ages ≡ outcome.ages) × Wrote (K.held sink.old) (K.held sink.new)
+        (K.faults sink.old) (K.faults sink.new) result.status outcome.ages outcome.last) }
+{
+    let Ok(text) = report(alloc, outcome.ages.as_slice(), &outcome.last) else {
+        return given_up(alloc);
+    };
+    let status = match write_all(sink, text.as_bytes()) {
+        Ok(()) => status_of(outcome.last),
+        Err(_) => WRITE_FAULT,
+    };
+    Ended {
+        status,
+        ages: outcome.ages,
+    }
+}
+
+/// The end of a call that memory was wanting for.
+fn given_up(alloc: Global) -> Ended
+    ensures status { result.status ≡ OUT_OF_MEMORY }
+    ensures ages { result.ages ≡ [] }
+{
+    Ended {
+        status: OUT_OF_MEMORY,
+        ages: Seq::of(Vec::new(alloc)),
+    }
+}
+
+fn status_of(last: Last) -> u8
+    ensures { result ≡ status_of last }
+{
+    match last {
+        Last::Done => DONE,
+        Last::Usage => USAGE,
+        Last::NotBuilt => SCRIPT_REFUSED,
+        Last::SourceFault => READ_FAULT,
+        Last::Unfinished => UNFINISHED,
+    }
+}
