@@ -1,6 +1,7 @@
 mod AgreementLemmas
 pub mod FrontLemmas
-mod ListLemmas
+pub mod Fronts
+pub mod ListLemmas
 mod MemberLemmas
 pub mod NumberedLemmas
 mod OrderLemmas

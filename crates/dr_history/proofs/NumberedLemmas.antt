@@ -14,7 +14,7 @@ use Rattle.dr_history.specs.History.{IsPrefixOf, messages_of}
 use Rattle.dr_history.specs.Order.{messages_from, numbered_messages}
 use Rattle.dr_history.proofs.ListLemmas.{take_read}
 
-messages_from-append : (s : ℕ) (g h : List Entry) → messages_from s (g ++ h) ≡ messages_from s g ++ messages_from s h
+pub messages_from-append : (s : ℕ) (g h : List Entry) → messages_from s (g ++ h) ≡ messages_from s g ++ messages_from s h
 messages_from-append s g h = filter-append _ g h
 
 -- a View adds none
@@ -51,7 +51,7 @@ has_message_or_not s (Msg sender j c ∷ h) = by (sender == s) refl (has_message
     by false apart (inl none) = inl (rw apart none)
     by false apart (inr at) = inr (suc at.0, at.1, at.2, at.3)
 
-length-numbered_messages : (o : Opening) (s : ℕ) → length (numbered_messages o s) ≡ length (messages_of o s)
+pub length-numbered_messages : (o : Opening) (s : ℕ) → length (numbered_messages o s) ≡ length (messages_of o s)
 length-numbered_messages o s = length-map (enumerate_from 0 (messages_of o s)) _ ∙ length-enumerate_from 0 (messages_of o s)
 
 -- the script's message of this number as an entry

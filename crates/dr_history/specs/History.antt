@@ -1,5 +1,5 @@
 -- Histories: the entries that a member has delivered, from the first age on.
-use Rattle.std.specs.Prelude.{◌≡◌, ℕ, ◌/◌, ◌%◌, ◌==◌, Bool, false, List, [], ◌∷◌, ◌++◌, length, filter_map, take, slice_get, slice_index_or, position, Option, None, Some, option_map, if◌then◌else◌}
+use Rattle.std.specs.Prelude.{◌≡◌, ℕ, ◌/◌, ◌%◌, ◌==◌, Bool, true, false, List, [], ◌∷◌, ◌++◌, length, filter, filter_map, take, slice_get, slice_index_or, position, Option, None, Some, option_map, if◌then◌else◌}
 use Rattle.std.specs.Prelude.{option_and_then}
 use Rattle.dr_entry.specs.declared.entry.Entry.{Entry}
 use Rattle.dr_entry.specs.declared.entry.Entry.TheVariants.{View, Msg}
@@ -56,6 +56,14 @@ messages_of o s = slice_index_or o.messages s []
 abbrev pub entry_of : Opening → ℕ → SentItem → Option Entry
 entry_of o s Null = None
 entry_of o s (Index i) = option_map (λ b. Msg s i b) (slice_get (messages_of o s) i)
+
+-- how many of the items are messages
+abbrev pub messages_in : List SentItem → ℕ
+messages_in items = length (filter is_message items)
+  where
+    is_message : SentItem → Bool
+    is_message Null = false
+    is_message (Index i) = true
 
 -- the member and the item at a place of a view, where an item was sent there
 abbrev pub item_at : Sent → GroupView → ℕ → Option (ℕ × SentItem)

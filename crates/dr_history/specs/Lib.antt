@@ -3,3 +3,4 @@ pub mod Places
 pub mod History
 pub mod Order
 pub mod Agreement
+pub mod Soundness

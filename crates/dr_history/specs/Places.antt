@@ -1,6 +1,6 @@
 -- The round robin of a view: item 0 of each member by ascending rank, then item 1 of each, and so on.
 -- A rank is a member's position among the members of the view, and counts are listed by rank.
-use Rattle.std.specs.Prelude.{ℕ, ◌+◌, ◌*◌, ◌/◌, ◌%◌, ◌<◌, ◌≤◌, Bool, nat_lt, max, List, length, slice_index, filter, fold}
+use Rattle.std.specs.Prelude.{cond, ℕ, zero, suc, ◌+◌, ◌*◌, ◌/◌, ◌%◌, ◌<◌, ◌≤◌, Bool, not, nat_lt, max, List, length, slice_index, filter, fold}
 use Rattle.std.specs.List.{range_with_len}
 
 -- the place of item k of the member of this rank, where the view has so many ranks
@@ -24,3 +24,12 @@ is_held counts p = nat_lt (p / length counts) (slice_index counts (p % length co
 -- the places that hold an item, ascending
 unfoldable pub held_places : List ℕ → List ℕ
 held_places counts = filter (is_held counts) (range_with_len 0 (length counts * fold max 0 counts))
+
+-- the least of the k numbers from n on that passes the test, and n + k where none does
+unfoldable pub first : (ℕ → Bool) → ℕ → ℕ → ℕ
+first p n zero = n
+first p n (suc k) = cond (p n) n (first p (suc n) k)
+
+-- the front of the counts as a number: the first place that holds no item
+unfoldable pub front_of : List ℕ → ℕ
+front_of counts = first (λ p. not (is_held counts p)) 0 (length counts * fold max 0 counts)

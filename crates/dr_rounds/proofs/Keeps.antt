@@ -3,7 +3,8 @@ use Rattle.std.proofs.Common.{◌≡◌, ◌≢◌, ℕ, ◌<◌, ◌≤◌, tru
 use Rattle.std.proofs.lemmas.List.{get_or-set_same, get_or-set_other, length-set}
 use Rattle.dr_history.specs.declared.opening.Opening.{Opening}
 use Rattle.dr_history.specs.History.{messages_of}
-use Rattle.dr_rounds.specs.Standing.{Standing, at_opening, member, front_of}
+use Rattle.dr_rounds.specs.Standing.{Standing, at_opening, member}
+use Rattle.dr_history.specs.Places.{front_of}
 use Rattle.dr_rounds.specs.Turn.{is_whole}
 use Rattle.dr_rounds.specs.Sound.{first_items, history_to, StandsWell, Sound}
 

@@ -1,4 +1,3 @@
-pub mod Fronts
 pub mod Roster
 pub mod Items
 pub mod Keeps

@@ -14,7 +14,8 @@ use Rattle.dr_script.specs.Plain.{IsPlain}
 use Rattle.dr_history.specs.declared.opening.Opening.{Opening}
 use Rattle.dr_history.specs.Order.{first_entries}
 use Rattle.dr_history.specs.Agreement.{EndsAgreed}
-use Rattle.dr_rounds.specs.Standing.{Standing, at_opening, member, first, front_of}
+use Rattle.dr_rounds.specs.Standing.{Standing, at_opening, member}
+use Rattle.dr_history.specs.Places.{first, front_of}
 use Rattle.dr_rounds.specs.Rounds.{turn_if_running, round, rounds, end_of, opening_of, HasEnded}
 use Rattle.dr_rounds.specs.Sound.{IsPlainOpening, Sound}
 use Rattle.dr_rounds.proofs.AgreedLemmas.{fold_max_same, sound_agree, whole_merge}

@@ -12,10 +12,11 @@ use Rattle.dr_history.specs.declared.opening.Opening.{Opening}
 use Rattle.dr_history.specs.Places.{is_held}
 use Rattle.dr_history.specs.History.{messages_of, item_at}
 use Rattle.dr_history.specs.Order.{first_entries}
-use Rattle.dr_rounds.specs.Standing.{Standing, at_opening, member, sent_by, first_view, front_of}
+use Rattle.dr_rounds.specs.Standing.{Standing, at_opening, member, sent_by, first_view}
+use Rattle.dr_history.specs.Places.{front_of}
 use Rattle.dr_rounds.specs.Turn.{changed, beat, shown, receive, send_one, entry_at, deliver_one, persist, report, is_whole, mark, finish, begins, receives, persists, reports, marks, finishes}
 use Rattle.dr_rounds.specs.Sound.{IsPlainOpening, first_items, planned, history_to, StandsWell, Sound}
-use Rattle.dr_rounds.proofs.Fronts.{front_held, front_more}
+use Rattle.dr_history.proofs.Fronts.{front_held, front_more}
 use Rattle.dr_rounds.proofs.Roster.{roster}
 use Rattle.dr_rounds.proofs.Items.{made_at, item_found}
 use Rattle.dr_rounds.proofs.Keeps.{eq_or_not, steps_sound}

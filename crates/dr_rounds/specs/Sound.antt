@@ -8,7 +8,8 @@ use Rattle.dr_entry.specs.declared.end.SentItem.TheVariants.{Index}
 use Rattle.dr_history.specs.declared.opening.Opening.{Opening}
 use Rattle.dr_history.specs.History.{messages_of}
 use Rattle.dr_history.specs.Order.{first_entries}
-use Rattle.dr_rounds.specs.Standing.{Standing, member, front_of}
+use Rattle.dr_rounds.specs.Standing.{Standing, member}
+use Rattle.dr_history.specs.Places.{front_of}
 use Rattle.dr_rounds.specs.Turn.{is_whole}
 
 -- the opening of a plain script: 1 to 16 members, all of them in View 0, with as many messages each, and nothing to start with

@@ -1,11 +1,10 @@
 -- Where a member stands in its age.
-use Rattle.std.specs.Prelude.{cond, ℕ, zero, suc, ◌*◌, Bool, false, not, max, List, [], length, fold, replicate, slice_index_or, Option, None}
+use Rattle.std.specs.Prelude.{ℕ, Bool, false, List, [], length, replicate, slice_index_or, Option, None}
 use Rattle.dr_entry.specs.declared.entry.Entry.{Entry}
 use Rattle.dr_entry.specs.declared.end.End.{End}
 use Rattle.dr_entry.specs.declared.end.SentItem.{SentItem}
 use Rattle.dr_history.specs.declared.opening.Opening.{Opening}
 use Rattle.dr_history.specs.Members.{members_of}
-use Rattle.dr_history.specs.Places.{is_held}
 use Rattle.dr_history.specs.History.{GroupView, Sent}
 use Rattle.dr_history.specs.Order.{first_entries}
 
@@ -50,12 +49,3 @@ sent_by o ms s v = (member o ms s).items
 -- View 0 of the age
 abbrev pub first_view : Opening → GroupView
 first_view o = record { age = o.age; number = 0; members = members_of o.members }
-
--- the least of the k numbers from n on that passes the test, and n + k where none does
-unfoldable pub first : (ℕ → Bool) → ℕ → ℕ → ℕ
-first p n zero = n
-first p n (suc k) = cond (p n) n (first p (suc n) k)
-
--- the front of the counts: the first place that holds no item
-unfoldable pub front_of : List ℕ → ℕ
-front_of counts = first (λ p. not (is_held counts p)) 0 (length counts * fold max 0 counts)

@@ -7,7 +7,8 @@ use Rattle.dr_entry.specs.declared.end.End.TheVariants.{Done, Spent}
 use Rattle.dr_entry.specs.declared.end.SentItem.TheVariants.{Index}
 use Rattle.dr_history.specs.declared.opening.Opening.{Opening}
 use Rattle.dr_history.specs.History.{item_at, entry_of, messages_of}
-use Rattle.dr_rounds.specs.Standing.{Standing, member, sent_by, first_view, front_of}
+use Rattle.dr_rounds.specs.Standing.{Standing, member, sent_by, first_view}
+use Rattle.dr_history.specs.Places.{front_of}
 
 -- the members after member `me` has changed
 abbrev pub changed : Opening → (Standing → Standing) → List Standing → ℕ → List Standing

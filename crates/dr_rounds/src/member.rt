@@ -1,6 +1,6 @@
 ghost use Rattle.std.specs.Prelude.{◌≡◌, ◌≤◌, ◌<◌, ◌+◌, ◌^◌, ◌==◌, ◌&&◌, ◌||◌, length, IfOk, replicate, slice_get, slice_index, is_some};
 ghost use Rattle.dr_history.specs.Order.{first_entries};
-ghost use Rattle.dr_rounds.specs.Standing.{front_of};
+ghost use Rattle.dr_history.specs.Places.{front_of};
 
 use arrayvec::ArrayVec;
 use dr_entry::{End, Entry, MemberEnd, SentItem, Seq, ViewSent};

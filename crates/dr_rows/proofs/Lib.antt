@@ -1,4 +1,4 @@
 pub mod Grids
 mod FlatRows
-mod WordsLemmas
+pub mod WordsLemmas
 mod InsideLemmas

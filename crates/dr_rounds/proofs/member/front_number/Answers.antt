@@ -1,6 +1,6 @@
 use Rattle.std.proofs.Common.{◌≡◌, subst}
-use Rattle.dr_rounds.specs.Standing.{front_of}
-use Rattle.dr_rounds.proofs.Fronts.{front_only}
+use Rattle.dr_history.specs.Places.{front_of}
+use Rattle.dr_history.proofs.Fronts.{front_only}
 use Rattle.dr_rounds.proofs.member.front_number.Goals as goal
 
 pub returns : goal.returns

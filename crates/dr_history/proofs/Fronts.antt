@@ -1,16 +1,15 @@
 -- The front of counts as the first place that holds no item.
 use Rattle.std.proofs.Common.{◌≡◌, ℕ, zero, suc, ◌+◌, ◌*◌, ◌/◌, ◌%◌, ◌<◌, ◌≤◌, Bool, true, false, not, max, cond, ◌==◌, List, [], ◌∷◌, length, fold, slice_index, nat_lt, refl, sym, ap, subst, arith, le_refl, mod-lt}
 use Rattle.std.proofs.Math.Nat.{mul-div_cancel_left}
-use Rattle.dr_history.specs.Places.{is_held, IsFront}
+use Rattle.dr_history.specs.Places.{is_held, IsFront, first, front_of}
 use Rattle.dr_history.proofs.FrontLemmas.{IsFront-least, IsFront-monotone, IsFront-only}
-use Rattle.dr_rounds.specs.Standing.{first, front_of}
 
 -- what passes is found at once; what does not is passed over
-first_at : (p : ℕ → Bool) (n k : ℕ) (b : Bool) → p n ≡ b → first p n (suc k) ≡ cond b n (first p (suc n) k)
+pub first_at : (p : ℕ → Bool) (n k : ℕ) (b : Bool) → p n ≡ b → first p n (suc k) ≡ cond b n (first p (suc n) k)
 unfolding first
 first_at p n k b e = ap (λ (x : Bool). cond x n (first p (suc n) k)) e
 
-first_within : (p : ℕ → Bool) (n k : ℕ) → first p n k ≤ n + k
+pub first_within : (p : ℕ → Bool) (n k : ℕ) → first p n k ≤ n + k
 unfolding first
 first_within p n zero = omega arith
 first_within p n (suc k) = by (p n) refl (first_within p (suc n) k)
@@ -20,7 +19,7 @@ first_within p n (suc k) = by (p n) refl (first_within p (suc n) k)
     by false e h = rw e (omega (arith, h))
 
 -- nothing before the first passes
-first_before : (p : ℕ → Bool) (n k i : ℕ) → n ≤ i → i < first p n k → p i ≡ false
+pub first_before : (p : ℕ → Bool) (n k i : ℕ) → n ≤ i → i < first p n k → p i ≡ false
 unfolding first
 first_before p n zero i l h = absurd (omega arith)
 first_before p n (suc k) i l h = by (p n) refl h (first_before p (suc n) k i)
@@ -34,7 +33,7 @@ first_before p n (suc k) i l h = by (p n) refl h (first_before p (suc n) k i)
         here false q g r = r (grind (arith, q, l)) g
 
 -- the first passes, where one of the numbers does
-first_found : (p : ℕ → Bool) (n k : ℕ) → first p n k < n + k → p (first p n k) ≡ true
+pub first_found : (p : ℕ → Bool) (n k : ℕ) → first p n k < n + k → p (first p n k) ≡ true
 unfolding first
 first_found p n zero h = absurd (omega arith)
 first_found p n (suc k) h = by (p n) refl h (first_found p (suc n) k)
@@ -43,12 +42,12 @@ first_found p n (suc k) h = by (p n) refl h (first_found p (suc n) k)
     by true e g r = rw e e
     by false e g r = let g' = rw e at g in rw e (r (omega (arith, g')))
 
-fold_max : (xs : List ℕ) (a : ℕ) → a ≤ fold max a xs
+pub fold_max : (xs : List ℕ) (a : ℕ) → a ≤ fold max a xs
 fold_max [] a = le_refl a
 fold_max (x ∷ xs) a = let h : max a x ≤ fold max (max a x) xs = fold_max xs (max a x) in omega arith
 
 -- a count is at most the greatest
-count_max : (xs : List ℕ) (a i : ℕ) → i < length xs → slice_index xs i ≤ fold max a xs
+pub count_max : (xs : List ℕ) (a i : ℕ) → i < length xs → slice_index xs i ≤ fold max a xs
 count_max [] a i l = absurd (omega arith)
 count_max (x ∷ xs) a zero l = let h : max a x ≤ fold max (max a x) xs = fold_max xs (max a x) in omega arith
 count_max (x ∷ xs) a (suc i) l = count_max xs (max a x) i (omega arith)

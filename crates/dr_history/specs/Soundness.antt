@@ -1,0 +1,41 @@
+-- What an age may start with.
+use Rattle.std.specs.Prelude.{◌≡◌, ℕ, ◌-◌, ◌^◌, ◌<◌, ◌⊎◌, List, length, take, Contains, slice_get, Option, Some, IsSomeAnd}
+use Rattle.dr_entry.specs.declared.entry.Entry.{Entry}
+use Rattle.dr_entry.specs.declared.entry.Entry.TheVariants.{View, Msg}
+use Rattle.dr_history.specs.declared.opening.Opening.{Opening}
+use Rattle.dr_history.specs.History.{GroupView, view_of, messages_of}
+use Rattle.dr_history.specs.Order.{MayFollow, messages_from}
+
+-- the mask of all members of the roster
+abbrev pub whole_roster : Opening → ℕ
+whole_roster o = 2 ^ length o.messages - 1
+
+-- an age is above that of the last view, if there is one
+abbrev pub IsLaterAge : Option GroupView → ℕ → Type 0
+IsLaterAge last age = (v : GroupView) → last ≡ Some v → v.age < age
+
+-- a View that opens an age: number 0 of a later age, with the whole roster
+pub record Opens (o : Opening) (last : Option GroupView) (age number members : ℕ) : Type 0 where
+  pub later : IsLaterAge last age
+  pub first : number ≡ 0
+  pub whole : members ≡ whole_roster o
+
+-- an entry may stand behind these entries: a View opens an age or follows the last view, and a message is the next of its
+-- sender, a member of the last view, with the script's bytes
+abbrev pub MayStand : Opening → List Entry → Entry → Type 0
+MayStand o before (View age number members) =
+    Opens o (view_of before) age number members
+    ⊎ IsSomeAnd (view_of before) (λ v. MayFollow v age number members)
+MayStand o before (Msg s index bytes) =
+    IsSomeAnd (view_of before) (λ v. Contains v.members s)
+    × (index ≡ length (messages_from s before))
+    × (slice_get (messages_of o s) index ≡ Some bytes)
+
+-- what the logs of earlier ages gave is a sound start of this age
+pub record Sound (o : Opening) : Type 0 where
+  -- each entry may stand behind those before it
+  pub entries : (i : ℕ) (e : Entry) → slice_get o.start i ≡ Some e → MayStand o (take i o.start) e
+  -- the age is later than every age of the start
+  pub later : IsLaterAge (view_of o.start) o.age
+  -- its first view has the whole roster
+  pub whole : o.members ≡ whole_roster o
