@@ -8,7 +8,6 @@ use super::*;
 use dr_rows::Rows;
 use dr_words::{
     DONE_COLUMN, LOGGED_COLUMN, Mask, RECEIVED_COLUMN, SUSPECTED_COLUMN, Shape, pack_accept,
-    pack_recv,
 };
 use std::alloc::{AllocError, Global};
 use std::process::Abort;
@@ -58,18 +57,41 @@ fn show(rt: &impl Abort, rows: &mut Rows, row: u8, column: usize, word: u64)
     rows.look(row, column, word);
 }
 
+// Member 0 sees a 1 there: one item, entry or member, the final count of none, or the mask of member 0.
+fn show_one(rt: &impl Abort, rows: &mut Rows, row: u8, column: usize)
+    requires group { IsOfGroup rows.old }
+    requires grid { IsWords rows.old }
+    requires members { rows.old.members ≡ 3 }
+    requires columns { rows.old.columns ≡ 29 }
+    requires row { row < 3 }
+    requires column { column < 29 }
+    ensures group { IsOfGroup rows.new }
+    ensures grid { IsWords rows.new }
+    ensures members { rows.new.members ≡ 3 }
+    ensures columns { rows.new.columns ≡ 29 }
+{
+    show(rt, rows, row, column, 1);
+}
+
 #[test]
 fn fronts_wait_for_the_least_word(rt: HostRuntime) -> Result<(), Fail> {
     let mut rows = begun(rt.alloc())?;
-    show(&rt, &mut rows, 1, RECEIVED_COLUMN, 3);
-    show(&rt, &mut rows, 2, RECEIVED_COLUMN, 5);
-    show(&rt, &mut rows, 1, LOGGED_COLUMN, 3);
-    show(&rt, &mut rows, 2, LOGGED_COLUMN, 5);
     let members = others();
-    assert!(rt; ReceivedFront { members, at: 2 }.holds(&rows));
-    assert!(rt; !ReceivedFront { members, at: 3 }.holds(&rows));
-    assert!(rt; LoggedFront { members, at: 3 }.holds(&rows));
-    assert!(rt; !LoggedFront { members, at: 4 }.holds(&rows));
+    show_one(&rt, &mut rows, 1, RECEIVED_COLUMN);
+    assert!(rt; !ReceivedFront { members, at: 0 }.holds(&rows));
+    show_one(&rt, &mut rows, 2, RECEIVED_COLUMN);
+    assert!(rt; ReceivedFront { members, at: 0 }.holds(&rows));
+    assert!(rt; !ReceivedFront { members, at: 1 }.holds(&rows));
+    Ok(())
+}
+
+#[test]
+fn a_logged_front_is_a_number_of_entries(rt: HostRuntime) -> Result<(), Fail> {
+    let mut rows = begun(rt.alloc())?;
+    let members = last();
+    show_one(&rt, &mut rows, 2, LOGGED_COLUMN);
+    assert!(rt; LoggedFront { members, at: 1 }.holds(&rows));
+    assert!(rt; !LoggedFront { members, at: 2 }.holds(&rows));
     Ok(())
 }
 
@@ -83,15 +105,12 @@ fn final_counts_are_asked_of_each_sender(rt: HostRuntime) -> Result<(), Fail> {
     let mut rows = begun(rt.alloc())?;
     let watch = AllFinal {
         shape,
-        of: others(),
+        of: last(),
         senders: others(),
     };
-    show(&rt, &mut rows, 1, shape.recv_column(1), pack_recv(4, true));
-    show(&rt, &mut rows, 1, shape.recv_column(2), pack_recv(0, true));
-    show(&rt, &mut rows, 2, shape.recv_column(1), pack_recv(3, true));
-    show(&rt, &mut rows, 2, shape.recv_column(2), pack_recv(5, false));
+    show_one(&rt, &mut rows, 2, shape.recv_column(1));
     assert!(rt; !watch.holds(&rows));
-    show(&rt, &mut rows, 2, shape.recv_column(2), pack_recv(5, true));
+    show_one(&rt, &mut rows, 2, shape.recv_column(2));
     assert!(rt; watch.holds(&rows));
     Ok(())
 }
@@ -123,7 +142,7 @@ fn promises_are_asked_of_each_accept_word(rt: HostRuntime) -> Result<(), Fail> {
         &mut rows,
         2,
         shape.leavers_column(),
-        pack_accept(2, 0, 0),
+        pack_accept(1, 0, 0),
     );
     assert!(rt; watch.holds(&rows));
     Ok(())
@@ -134,7 +153,7 @@ fn one_suspicion_is_enough(rt: HostRuntime) -> Result<(), Fail> {
     let mut rows = begun(rt.alloc())?;
     let members = others();
     assert!(rt; !SomeSuspect { members, name: 0 }.holds(&rows));
-    show(&rt, &mut rows, 2, SUSPECTED_COLUMN, 0b001);
+    show_one(&rt, &mut rows, 2, SUSPECTED_COLUMN);
     assert!(rt; SomeSuspect { members, name: 0 }.holds(&rows));
     assert!(rt; !SomeSuspect { members, name: 1 }.holds(&rows));
     Ok(())
@@ -144,9 +163,9 @@ fn one_suspicion_is_enough(rt: HostRuntime) -> Result<(), Fail> {
 fn a_poll_answers_once_when_all_are_done(rt: HostRuntime) -> Result<(), Fail> {
     let mut rows = begun(rt.alloc())?;
     let mut once = Once::new(AllDone { members: others() });
-    show(&rt, &mut rows, 1, DONE_COLUMN, 1);
+    show_one(&rt, &mut rows, 1, DONE_COLUMN);
     assert!(rt; !once.poll(&rows));
-    show(&rt, &mut rows, 2, DONE_COLUMN, 1);
+    show_one(&rt, &mut rows, 2, DONE_COLUMN);
     assert!(rt; once.poll(&rows));
     assert!(rt; !once.poll(&rows));
     Ok(())

@@ -1,7 +1,7 @@
 use Rattle.std.proofs.Common.{◌≡◌, ℕ, Ok, Err, Result, ap, lit<, lit≤, arith}
 use Rattle.std.specs.Prelude.{IfOk}
 use Rattle.dr_words.specs.Form.{IsInForm}
-use Rattle.dr_rows.specs.Words.{Words, seen, begun}
+use Rattle.dr_rows.specs.Words.{Words, begun}
 use Rattle.dr_rows.specs.Growth.{IsFresh}
 use Rattle.dr_pred.specs.Group.{IsOfGroup}
 use Rattle.dr_pred.proofs.tests.begun.Goals as goal
