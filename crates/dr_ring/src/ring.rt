@@ -1,5 +1,6 @@
 ghost use Rattle.std.specs.Prelude.{◌≡◌, ℕ, ◌+◌, ◌-◌, ◌*◌, ◌%◌, ◌^◌, ◌<◌, ◌≤◌, ◌↔◌, true, false, IsTrue, IsSome, MatchOption, map, take};
 ghost use Rattle.std.specs.List.{list_all, range_with_len};
+ghost use Rattle.std.specs.Int.{div_ceil};
 ghost use Rattle.dr_words.specs.Form.{AllInForm};
 ghost use Rattle.dr_words.specs.Grown.{Grown};
 ghost use Rattle.dr_words.specs.Masks.{IsInRoster};
@@ -89,8 +90,7 @@ pub fn ready(rows: &Rows, shape: &Shape, row: u8, k: u32) -> Option<Item>
     if len > MAX_MESSAGE {
         return None;
     }
-    let bytes = body_at(rows, shape, row, k, len.div_ceil(4))?;
-    Message::of(&bytes[..len]).map(Item::Text)
+    body_at(rows, shape, row, k, len).map(Item::Text)
 }
 
 fn slot_at(shape: &Shape, k: u32) -> u8
@@ -108,34 +108,54 @@ fn piece_at(rows: &Rows, row: u8, column: usize, k: u32) -> Option<u32>
         MatchOption result (is_of k word ≡ false) (λ piece. (is_of k word ≡ true) × (piece ≡ ring_low word)) }
 {
     let (tag, piece) = unpack_ring(rows.seen(row, column));
-    if tag.checked_sub(1) == Some(k) {
+    if u64::from(tag) == u64::from(k) + 1 {
         Some(piece)
     } else {
         None
     }
 }
 
-// The bytes in the first words of the body, so many, where all of these are of item `k`.
-fn body_at(rows: &Rows, shape: &Shape, row: u8, k: u32, words: usize) -> Option<[u8; MAX_MESSAGE]>
+// The message of so many bytes in the body, where all words that it needs are of item `k`.
+fn body_at(rows: &Rows, shape: &Shape, row: u8, k: u32, len: usize) -> Option<Message>
     requires shape { HasShape shape.now rows.now }
     requires row { row < rows.now.members }
-    requires words { words ≤ 16 }
-    ensures { let body = map (slot_of shape.now.window rows.now row k) (range_with_len 1 words) in
+    requires len { len ≤ MAX_MESSAGE }
+    ensures { let body = map (slot_of shape.now.window rows.now row k) (range_with_len 1 (div_ceil len 4)) in
         MatchOption result
         (list_all (is_of k) body ≡ false)
-        (λ bytes. (list_all (is_of k) body ≡ true) × (take (4 * words) bytes ≡ bytes_of (map ring_low body))) }
+        (λ message. (list_all (is_of k) body ≡ true) × (message ≡ take len (bytes_of (map ring_low body)))) }
 {
     let slot = slot_at(shape, k);
     let mut bytes = [0; MAX_MESSAGE];
-    for part in 0..words {
+    for part in 0..len.div_ceil(4) {
         let piece = piece_at(rows, row, shape.body_column(slot, part as u8), k)?;
         bytes[4 * part..4 * part + 4].copy_from_slice(&piece.to_be_bytes());
     }
-    Some(bytes)
+    Message::of(&bytes[..len])
 }
 
 // The bytes from `4 * part` on as a number; behind the end they are 0.
+#[inline]
 fn piece_of(bytes: &[u8], part: usize) -> u32
+    requires { part < 16 }
+    ensures { result ≡ body_piece bytes.now part }
+{
+    let from = 4 * part;
+    if from + 4 <= bytes.len() {
+        u32::from_be_bytes([
+            bytes[from],
+            bytes[from + 1],
+            bytes[from + 2],
+            bytes[from + 3],
+        ])
+    } else {
+        last_piece_of(bytes, part)
+    }
+}
+
+// The same where fewer than four bytes are left.
+#[cold]
+fn last_piece_of(bytes: &[u8], part: usize) -> u32
     requires { part < 16 }
     ensures { result ≡ body_piece bytes.now part }
 {
