@@ -1,0 +1,142 @@
+//! A group that runs over the words of one table.
+
+use crate::member::{Deed, Entry, Member, Record};
+use crate::rows::{Message, Shape};
+
+/// The members over the words of one table, with the last record of each one's log.
+pub struct Group {
+    pub members: Vec<Member>,
+    table: Vec<u64>,
+    logs: Vec<Option<Record>>,
+    pub deeds: u64,
+}
+
+impl Group {
+    /// Each member has so many messages, each of so many bytes, and takes at most so many turns.
+    pub fn begin(shape: Shape, messages: usize, bytes: u8, turns: u32) -> Group {
+        let begin = |me| {
+            let messages = (0..messages).map(|index| Message::numbered(me, index, bytes));
+            Member::begin(shape, me, messages.collect(), turns)
+        };
+        Group {
+            members: (0..shape.members).map(begin).collect(),
+            table: vec![0; shape.words()],
+            logs: (0..shape.members).map(|_| None).collect(),
+            deeds: 0,
+        }
+    }
+
+    /// Member `m` takes one whole turn.
+    fn turn(&mut self, m: usize) {
+        let member = &mut self.members[m];
+        loop {
+            step(member, &mut self.table, &mut self.logs[m]);
+            self.deeds += 1;
+            if member.is_between_turns() {
+                return;
+            }
+        }
+    }
+
+    /// The members that haven't ended, ascending.
+    fn living(&self) -> Vec<usize> {
+        (0..self.members.len())
+            .filter(|m| self.members[*m].end.is_none())
+            .collect()
+    }
+
+    /// In each round each member without an end takes one whole turn, ascending.
+    pub fn run_lockstep(&mut self) {
+        let mut living = self.living();
+        while !living.is_empty() {
+            for m in &living {
+                self.turn(*m);
+            }
+            living.retain(|m| self.members[*m].end.is_none());
+        }
+    }
+
+    /// Before each deed a number that goes on from the seed chooses one of the members without an
+    /// end, ascending.
+    pub fn run_seeded(&mut self, seed: u64) {
+        let mut living = self.living();
+        let mut state = seed;
+        while !living.is_empty() {
+            state = state
+                .wrapping_mul(6_364_136_223_846_793_005)
+                .wrapping_add(1_442_695_040_888_963_407);
+            let chosen = ((state >> 33) as u32 % living.len() as u32) as usize;
+            let m = living[chosen];
+            step(&mut self.members[m], &mut self.table, &mut self.logs[m]);
+            self.deeds += 1;
+            if self.members[m].end.is_some() {
+                living.remove(chosen);
+            }
+        }
+    }
+
+    /// The most turns that a member took: in lockstep, the rounds.
+    pub fn rounds(&self) -> u32 {
+        self.members
+            .iter()
+            .map(|member| member.turns)
+            .max()
+            .unwrap_or(0)
+    }
+
+    /// A number made of the words of the table, and of each member's end, history and last record.
+    pub fn checksum(&self) -> u64 {
+        let mut sum = self.table.iter().fold(0, |sum, word| mixed(sum, *word));
+        for (member, log) in self.members.iter().zip(&self.logs) {
+            let lengths = [member.history.len(), member.logged, member.durable];
+            sum = lengths.iter().fold(sum, |sum, len| mixed(sum, *len as u64));
+            sum = mixed(sum, u64::from(member.turns));
+            sum = member.history.iter().fold(sum, mixed_entry);
+            if let Some(Record::Entry(entry)) = log {
+                sum = mixed_entry(sum, entry);
+            }
+        }
+        sum
+    }
+}
+
+/// A member takes its next deed.
+#[inline(always)]
+fn step(member: &mut Member, table: &mut [u64], log: &mut Option<Record>) {
+    match member.next() {
+        Deed::Look(index) => member.looked(table[index]),
+        Deed::Push(index, word) => {
+            table[index] = word;
+            member.pushed();
+        }
+        Deed::Act(index, word) => {
+            table[index] = word;
+            member.acted();
+        }
+        Deed::Append(record) => {
+            *log = Some(record);
+            member.appended();
+        }
+        Deed::Rest => {}
+    }
+}
+
+fn mixed(sum: u64, word: u64) -> u64 {
+    sum.wrapping_mul(31).wrapping_add(word)
+}
+
+/// A View counts by its members, a message by its sender, its index and the sum of its bytes.
+fn mixed_entry(sum: u64, entry: &Entry) -> u64 {
+    match entry {
+        Entry::View { members, .. } => mixed(sum, u64::from(*members)),
+        Entry::Msg {
+            sender,
+            index,
+            bytes,
+        } => {
+            let total: u16 = bytes.bytes().iter().map(|byte| u16::from(*byte)).sum();
+            let parts = [u64::from(*sender), u64::from(*index), u64::from(total)];
+            parts.into_iter().fold(sum, mixed)
+        }
+    }
+}

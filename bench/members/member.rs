@@ -1,0 +1,450 @@
+//! A member of a group, with its place in its turn.
+
+use crate::rows::{BEAT, DONE, Item, LOGGED, Message, RECEIVED, Rows, Shape};
+
+#[derive(Clone)]
+pub enum Entry {
+    View {
+        age: u16,
+        number: u8,
+        members: u16,
+    },
+    Msg {
+        sender: u8,
+        index: u32,
+        bytes: Message,
+    },
+}
+
+/// What goes on a log. (Votes come with suspicions.)
+pub enum Record {
+    Entry(Entry),
+}
+
+#[derive(Clone, Copy)]
+pub enum End {
+    Done,
+    Spent { turns: u32 },
+}
+
+/// What a member does next, with indices of the table.
+pub enum Deed {
+    Look(usize),
+    Push(usize, u64),
+    Act(usize, u64),
+    Append(Record),
+    Rest,
+}
+
+/// Where a member stands in its turn.
+#[derive(Clone, Copy)]
+enum Place {
+    Beat,
+    Look { row: usize, column: usize },
+    Receive { sender: usize },
+    Send,
+    Deliver,
+    Append,
+    Publish,
+    Report,
+    Mark,
+    Push { to: usize, column: usize },
+    Done,
+    Spent,
+    Rest,
+}
+
+/// A spot of the round robin over the members of a view, by their ranks.
+#[derive(Clone, Copy)]
+struct Spot {
+    number: usize,
+    rank: usize,
+    round: u32,
+}
+
+impl Spot {
+    const FIRST: Spot = Spot {
+        number: 0,
+        rank: 0,
+        round: 0,
+    };
+
+    fn step(&mut self, members: usize) {
+        self.number += 1;
+        self.rank += 1;
+        if self.rank == members {
+            self.rank = 0;
+            self.round += 1;
+        }
+    }
+}
+
+/// A member, which always stands at a place of its turn at which there is something to do.
+pub struct Member {
+    shape: Shape,
+    me: usize,
+    /// The number of words of a copy, and the index in the table of the first one of the own copy.
+    copy_words: usize,
+    own_copy: usize,
+    messages: Vec<Message>,
+    totals: Vec<u32>,
+    most: u32,
+    rows: Rows,
+    /// The members of the view, a bit for each, and ascending.
+    members: u16,
+    view: Vec<usize>,
+    counts: Vec<u32>,
+    /// Item `k` of member `s` at `k` times the number of members plus `s`.
+    items: Vec<Item>,
+    /// The first spot whose item isn't there.
+    front: Spot,
+    /// The indices of the messages that it has put.
+    sent: Vec<u32>,
+    /// The next spot that it delivers.
+    next: Spot,
+    pub history: Vec<Entry>,
+    /// How many messages of each member the history has.
+    delivered: Vec<u32>,
+    room: usize,
+    pub logged: usize,
+    pub durable: usize,
+    pub turns: u32,
+    limit: u32,
+    acts: u64,
+    place: Place,
+    pub end: Option<End>,
+}
+
+impl Member {
+    /// A member of View 0, which has everyone, before its first turn. All members have as many
+    /// messages. No later call takes memory.
+    pub fn begin(shape: Shape, me: usize, messages: Vec<Message>, limit: u32) -> Member {
+        let roster = shape.members;
+        let members = u16::MAX >> (16 - roster);
+        let columns = shape.columns();
+        let most = messages.len() as u32;
+        let spots = messages.len() * roster;
+        let room = spots + roster;
+        let mut history = Vec::with_capacity(room);
+        history.push(Entry::View {
+            age: 0,
+            number: 0,
+            members,
+        });
+        let mut rows = Rows::new(roster, columns, me);
+        rows.set_own(LOGGED, 1);
+        Member {
+            shape,
+            me,
+            copy_words: roster * columns,
+            own_copy: me * roster * columns,
+            sent: Vec::with_capacity(messages.len()),
+            messages,
+            totals: vec![most; roster],
+            most,
+            rows,
+            members,
+            view: (0..roster).collect(),
+            counts: vec![0; roster],
+            items: vec![Item::Null; spots],
+            front: Spot::FIRST,
+            next: Spot::FIRST,
+            history,
+            delivered: vec![0; roster],
+            room,
+            logged: 1,
+            durable: 1,
+            turns: 0,
+            limit,
+            acts: 0,
+            place: Place::Beat,
+            end: None,
+        }
+    }
+
+    /// The deed that is due.
+    #[inline]
+    pub fn next(&self) -> Deed {
+        match self.place {
+            Place::Look { row, column } => {
+                Deed::Look(self.own_copy + row * self.rows.columns + column)
+            }
+            Place::Push { to, column } => {
+                let index = to * self.copy_words + self.rows.own_row + column;
+                Deed::Push(index, self.rows.own(column))
+            }
+            Place::Append => Deed::Append(Record::Entry(self.history[self.logged].clone())),
+            _ if self.end.is_some() => Deed::Rest,
+            _ => Deed::Act(
+                self.own_copy + self.rows.own_row + BEAT,
+                self.acts.saturating_add(1),
+            ),
+        }
+    }
+
+    /// Goes on after a look that saw this word.
+    #[inline]
+    pub fn looked(&mut self, word: u64) {
+        if let Place::Look { row, column } = self.place {
+            self.place = Place::Look {
+                row,
+                column: column + 1,
+            };
+            self.rows.look(row, column, word);
+            if column + 1 == self.rows.columns {
+                self.place = self.seek_look(row + 1);
+            }
+        }
+    }
+
+    /// Goes on after a push.
+    #[inline]
+    pub fn pushed(&mut self) {
+        if let Place::Push { to, column } = self.place {
+            self.rows.pushed(to, column);
+            self.place = match self.rows.next_changed(to, column + 1) {
+                Some(column) => Place::Push { to, column },
+                None => self.seek_push(to + 1),
+            };
+        }
+    }
+
+    // Appends and acts are seldom. Out of line, they leave looks and pushes a small loop.
+
+    /// Goes on after an append.
+    #[inline(never)]
+    pub fn appended(&mut self) {
+        self.logged += 1;
+        self.place = self.seek_publish();
+    }
+
+    /// Goes on after an act.
+    #[inline(never)]
+    pub fn acted(&mut self) {
+        self.acts = self.acts.saturating_add(1);
+        self.rows.set_own(BEAT, self.acts);
+        self.place = match self.place {
+            Place::Beat => {
+                self.turns = self.turns.saturating_add(1);
+                self.seek_look(0)
+            }
+            Place::Receive { sender } => {
+                self.receive(sender);
+                self.seek_receive(sender)
+            }
+            Place::Send => {
+                self.send();
+                self.seek_send()
+            }
+            Place::Deliver => {
+                self.deliver();
+                self.seek_deliver()
+            }
+            Place::Publish => {
+                self.rows.set_own(LOGGED, self.logged as u64);
+                self.seek_append()
+            }
+            Place::Report => {
+                self.durable = self.least_seen(LOGGED) as usize;
+                self.seek_report()
+            }
+            Place::Mark => {
+                self.rows.set_own(DONE, 1);
+                self.seek_mark()
+            }
+            Place::Done => self.halt(End::Done),
+            Place::Spent => self.halt(End::Spent { turns: self.turns }),
+            place => place,
+        };
+    }
+
+    // Each of these gives the first place, from one on in the order of a turn, at which there is
+    // something to do.
+
+    fn seek_look(&self, row: usize) -> Place {
+        match self.other_from(row) {
+            Some(row) => Place::Look { row, column: 0 },
+            None => self.seek_receive(0),
+        }
+    }
+
+    fn seek_receive(&self, sender: usize) -> Place {
+        let is_due = |sender: &usize| self.is_other(*sender) && self.may_receive(*sender);
+        match (sender..self.shape.members).find(is_due) {
+            Some(sender) => Place::Receive { sender },
+            None => self.seek_send(),
+        }
+    }
+
+    fn seek_send(&self) -> Place {
+        if self.may_send() {
+            Place::Send
+        } else {
+            self.seek_deliver()
+        }
+    }
+
+    fn seek_deliver(&self) -> Place {
+        if self.may_deliver() {
+            Place::Deliver
+        } else {
+            self.seek_append()
+        }
+    }
+
+    fn seek_append(&self) -> Place {
+        if self.logged < self.history.len() {
+            Place::Append
+        } else {
+            self.seek_publish()
+        }
+    }
+
+    fn seek_publish(&self) -> Place {
+        if self.rows.own(LOGGED) < self.logged as u64 {
+            Place::Publish
+        } else {
+            self.seek_report()
+        }
+    }
+
+    fn seek_report(&self) -> Place {
+        if self.least_seen(LOGGED) > self.durable as u64 {
+            Place::Report
+        } else {
+            self.seek_mark()
+        }
+    }
+
+    fn seek_mark(&self) -> Place {
+        if self.may_mark() {
+            Place::Mark
+        } else {
+            self.seek_push(0)
+        }
+    }
+
+    fn seek_push(&self, to: usize) -> Place {
+        let mut others = (to..self.shape.members).filter(|to| self.is_other(*to));
+        match others.find_map(|to| Some((to, self.rows.next_changed(to, 0)?))) {
+            Some((to, column)) => Place::Push { to, column },
+            None => self.seek_done(),
+        }
+    }
+
+    fn seek_done(&self) -> Place {
+        if self.is_all_done() {
+            Place::Done
+        } else if self.turns == self.limit {
+            Place::Spent
+        } else {
+            Place::Beat
+        }
+    }
+
+    fn other_from(&self, from: usize) -> Option<usize> {
+        (from..self.shape.members).find(|other| self.is_other(*other))
+    }
+
+    fn is_other(&self, member: usize) -> bool {
+        member != self.me && (self.members >> member) & 1 == 1
+    }
+
+    /// The least word of a column over the rows of the view.
+    fn least_seen(&self, column: usize) -> u64 {
+        self.view.iter().fold(u64::MAX, |least, row| {
+            least.min(self.rows.seen(*row, column))
+        })
+    }
+
+    fn may_receive(&self, sender: usize) -> bool {
+        let k = self.counts[sender];
+        k < self.most && self.rows.is_ready(sender, self.shape.head_column(k), k)
+    }
+
+    fn may_send(&self) -> bool {
+        self.sent.len() < self.messages.len() && self.is_free(self.counts[self.me])
+    }
+
+    /// Whether each other member has received what stood in the slot of item `k` before.
+    fn is_free(&self, k: u32) -> bool {
+        let Some(before) = k.checked_sub(self.shape.window as u32) else {
+            return true;
+        };
+        let column = self.shape.recv_column(self.me);
+        self.view
+            .iter()
+            .all(|row| *row == self.me || self.rows.seen(*row, column) >> 1 > u64::from(before))
+    }
+
+    fn may_deliver(&self) -> bool {
+        (self.next.number as u64) < self.least_seen(RECEIVED) && self.history.len() < self.room
+    }
+
+    fn may_mark(&self) -> bool {
+        let holds_all = |member: &usize| self.delivered[*member] == self.totals[*member];
+        self.rows.own(DONE) == 0
+            && self.durable == self.history.len()
+            && self.view.iter().all(holds_all)
+    }
+
+    fn is_all_done(&self) -> bool {
+        self.view.iter().all(|row| self.rows.seen(*row, DONE) == 1)
+    }
+
+    fn receive(&mut self, sender: usize) {
+        let head = self.shape.head_column(self.counts[sender]);
+        let item = self.rows.item(sender, head);
+        self.gain(sender, item);
+    }
+
+    fn send(&mut self) {
+        let k = self.counts[self.me];
+        let index = self.sent.len();
+        let message = &self.messages[index];
+        self.rows.put(self.shape.head_column(k), k, message);
+        let item = Item::Text(message.clone());
+        self.sent.push(index as u32);
+        self.gain(self.me, item);
+    }
+
+    /// Keeps one item more of this member: its recv word and the received word follow.
+    fn gain(&mut self, sender: usize, item: Item) {
+        let k = self.counts[sender];
+        self.counts[sender] = k + 1;
+        self.items[k as usize * self.shape.members + sender] = item;
+        while self.front.round < self.counts[self.view[self.front.rank]] {
+            self.front.step(self.view.len());
+        }
+        self.rows
+            .set_own(self.shape.recv_column(sender), (u64::from(k) + 1) << 1);
+        self.rows.set_own(RECEIVED, self.front.number as u64);
+    }
+
+    fn deliver(&mut self) {
+        let sender = self.view[self.next.rank];
+        if let Item::Text(message) =
+            &self.items[self.next.round as usize * self.shape.members + sender]
+        {
+            let index = self.delivered[sender];
+            self.delivered[sender] = index + 1;
+            self.history.push(Entry::Msg {
+                sender: sender as u8,
+                index,
+                bytes: message.clone(),
+            });
+        }
+        self.next.step(self.view.len());
+    }
+
+    fn halt(&mut self, end: End) -> Place {
+        self.end = Some(end);
+        Place::Rest
+    }
+
+    /// Whether it has ended or stands before a turn.
+    #[inline]
+    pub fn is_between_turns(&self) -> bool {
+        matches!(self.place, Place::Beat | Place::Rest)
+    }
+}

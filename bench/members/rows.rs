@@ -1,0 +1,175 @@
+//! The words that a member has and sees, and the messages in its ring.
+
+pub const BEAT: usize = 0;
+pub const RECEIVED: usize = 2;
+pub const LOGGED: usize = 3;
+pub const DONE: usize = 4;
+pub const MAX_MESSAGE: usize = 64;
+/// The head of a null; that of a message is its length.
+const NULL_MARK: u32 = u32::MAX;
+/// A head word and the words of the body.
+const SLOT_WORDS: usize = 17;
+
+/// How many members a group has, and how many slots a ring.
+#[derive(Clone, Copy)]
+pub struct Shape {
+    pub members: usize,
+    pub window: usize,
+}
+
+impl Shape {
+    pub fn columns(&self) -> usize {
+        6 + 2 * self.members + SLOT_WORDS * self.window
+    }
+
+    /// The number of words of the table, which has a bank for each member.
+    pub fn words(&self) -> usize {
+        self.members * self.members * self.members * self.columns()
+    }
+
+    pub fn recv_column(&self, sender: usize) -> usize {
+        5 + sender
+    }
+
+    /// The column of the head word of the slot of item `k`.
+    pub fn head_column(&self, k: u32) -> usize {
+        6 + 2 * self.members + SLOT_WORDS * (k % self.window as u32) as usize
+    }
+}
+
+/// At most 64 bytes; what is behind them is 0.
+#[derive(Clone)]
+pub struct Message {
+    bytes: [u8; MAX_MESSAGE],
+    len: u8,
+}
+
+impl Message {
+    /// Message `index` of a member: bytes that count on, each below 128.
+    pub fn numbered(sender: usize, index: usize, len: u8) -> Message {
+        let mut bytes = [0; MAX_MESSAGE];
+        for (place, byte) in bytes[..usize::from(len)].iter_mut().enumerate() {
+            *byte = ((31 * sender + 7 * index + place) % 128) as u8;
+        }
+        Message { bytes, len }
+    }
+
+    pub fn bytes(&self) -> &[u8] {
+        &self.bytes[..usize::from(self.len)]
+    }
+}
+
+#[derive(Clone)]
+pub enum Item {
+    Null,
+    Text(Message),
+}
+
+fn ring_word(k: u32, piece: u32) -> u64 {
+    ((u64::from(k) + 1) << 32) | u64::from(piece)
+}
+
+/// The piece in a word of item `k`.
+fn piece_of(word: u64, k: u32) -> Option<u32> {
+    (word >> 32 == u64::from(k) + 1).then_some(word as u32)
+}
+
+fn body_words(len: u32) -> usize {
+    len.div_ceil(4) as usize
+}
+
+/// The words of a member: its own, those seen of others, and those last pushed to each. Row by row,
+/// in flat vectors.
+pub struct Rows {
+    pub columns: usize,
+    /// Where the own row begins.
+    pub own_row: usize,
+    words: Vec<u64>,
+    sent: Vec<u64>,
+}
+
+impl Rows {
+    pub fn new(members: usize, columns: usize, me: usize) -> Rows {
+        Rows {
+            columns,
+            own_row: me * columns,
+            words: vec![0; members * columns],
+            sent: vec![0; members * columns],
+        }
+    }
+
+    pub fn own(&self, column: usize) -> u64 {
+        self.words[self.own_row + column]
+    }
+
+    pub fn set_own(&mut self, column: usize, word: u64) {
+        self.words[self.own_row + column] = word;
+    }
+
+    pub fn seen(&self, row: usize, column: usize) -> u64 {
+        self.words[row * self.columns + column]
+    }
+
+    pub fn look(&mut self, row: usize, column: usize, word: u64) {
+        self.words[row * self.columns + column] = word;
+    }
+
+    pub fn pushed(&mut self, to: usize, column: usize) {
+        self.sent[to * self.columns + column] = self.own(column);
+    }
+
+    /// The first column, from `from` on, whose own word isn't the one last pushed to `to`.
+    pub fn next_changed(&self, to: usize, from: usize) -> Option<usize> {
+        let own = &self.words[self.own_row + from..self.own_row + self.columns];
+        let sent = &self.sent[to * self.columns + from..(to + 1) * self.columns];
+        let distance = own.iter().zip(sent).position(|(own, sent)| own != sent)?;
+        Some(from + distance)
+    }
+
+    /// The words of a slot, by the column of its head.
+    fn slot(&self, row: usize, head: usize) -> &[u64] {
+        &self.words[row * self.columns + head..][..SLOT_WORDS]
+    }
+
+    /// Whether a slot has all words that item `k` needs.
+    pub fn is_ready(&self, row: usize, head: usize, k: u32) -> bool {
+        let slot = self.slot(row, head);
+        match piece_of(slot[0], k) {
+            None => false,
+            Some(NULL_MARK) => true,
+            Some(len) if len as usize > MAX_MESSAGE => false,
+            Some(len) => {
+                let mut body = slot[1..1 + body_words(len)].iter();
+                body.all(|word| piece_of(*word, k).is_some())
+            }
+        }
+    }
+
+    /// The item in a slot that is ready.
+    pub fn item(&self, row: usize, head: usize) -> Item {
+        let slot = self.slot(row, head);
+        let len = slot[0] as u32;
+        if len == NULL_MARK {
+            return Item::Null;
+        }
+        let body = &slot[1..1 + body_words(len)];
+        let mut bytes = [0; MAX_MESSAGE];
+        for (chunk, word) in bytes.chunks_exact_mut(4).zip(body) {
+            chunk.copy_from_slice(&(*word as u32).to_be_bytes());
+        }
+        let len = len as u8;
+        Item::Text(Message { bytes, len })
+    }
+
+    /// Writes the words of item `k` into its own slot.
+    pub fn put(&mut self, head: usize, k: u32, message: &Message) {
+        let len = u32::from(message.len);
+        let slot = &mut self.words[self.own_row + head..][..SLOT_WORDS];
+        slot[0] = ring_word(k, len);
+        let body = slot[1..1 + body_words(len)].iter_mut();
+        for (word, chunk) in body.zip(message.bytes.chunks_exact(4)) {
+            let piece = [chunk[0], chunk[1], chunk[2], chunk[3]];
+            *word = ring_word(k, u32::from_be_bytes(piece));
+        }
+    }
+}
