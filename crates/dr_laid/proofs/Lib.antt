@@ -1,0 +1,16 @@
+pub mod Counting
+pub mod Cutting
+pub mod Following
+pub mod Indices
+pub mod LaidLemmas
+pub mod Lists
+pub mod LooseOrder
+pub mod Members
+pub mod Merging
+pub mod Openings
+pub mod Ordered
+pub mod Places
+pub mod Pushing
+pub mod SendingLemmas
+pub mod Steady
+pub mod Views
