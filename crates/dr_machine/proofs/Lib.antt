@@ -1,0 +1,5 @@
+pub mod Runs
+pub mod Holdings
+pub mod OwnWords
+pub mod Opening
+pub mod OpeningForm

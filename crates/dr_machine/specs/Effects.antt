@@ -1,0 +1,148 @@
+-- What each event makes of the world.
+use Rattle.std.specs.Prelude.{ℕ, ◌%◌, ◌+◌, ◌-◌, ◌^◌, ◌&&◌, nat_le, nat_lt, min, false, if◌then◌else◌, List, [], ◌∷◌, ◌++◌, length, map, fold, take, drop, slice_index, slice_index_or, unwrap_or, Some}
+use Rattle.dr_entry.specs.declared.entry.Entry.{Entry}
+use Rattle.dr_entry.specs.declared.entry.Entry.TheVariants.{Msg}
+use Rattle.dr_entry.specs.declared.entry.Item.{Item}
+use Rattle.dr_entry.specs.declared.entry.Item.TheVariants.{Null, Text}
+use Rattle.dr_entry.specs.declared.end.End.{End}
+use Rattle.dr_entry.specs.declared.end.SentItem.{SentItem}
+use Rattle.dr_entry.specs.declared.end.SentItem.TheVariants.{Index}
+use Rattle.dr_history.specs.Places.{front_of}
+use Rattle.dr_history.specs.History.{messages_of}
+use Rattle.dr_history.specs.Order.{messages_from}
+use Rattle.dr_ring.specs.Pieces.{pieces}
+use Rattle.dr_ring.specs.Slots.{slot_column, item_in}
+use Rattle.dr_words.specs.declared.column.TheConstants.{BEAT_COLUMN, RECEIVED_COLUMN, LOGGED_COLUMN, DONE_COLUMN}
+use Rattle.dr_words.specs.Columns.{recv_column}
+use Rattle.dr_words.specs.Packing.{ring_word, recv_word}
+use Rattle.dr_machine.specs.declared.event.Event.{Event}
+use Rattle.dr_machine.specs.declared.event.Event.TheVariants.{Beat, Look, Push, Send, Receive, Deliver, Append, Publish, Report, Mark, Halt, Crash}
+use Rattle.dr_machine.specs.Writes.{at, at₂, at₃, at₄}
+use Rattle.dr_machine.specs.Group.{Group, roster}
+use Rattle.dr_machine.specs.World.{World, own_word, count_of, shown, view_members, item_at_place}
+use Rattle.dr_machine.specs.Guards.{next_index, seen_slot}
+
+-- one more, and at most the greatest number of so many bits
+abbrev pub one_more : ℕ → ℕ → ℕ
+one_more bits n = min (n + 1) (2 ^ bits - 1)
+
+-- an own word of m
+abbrev pub with_own : World → ℕ → ℕ → ℕ → World
+with_own w m c v = record w { past = record w.past { own = at₃ w.past.own m (w.past.view m) c v } }
+
+-- an act of m: the number of acts rises by one, and the own beat word takes it and is stored in m's own copy
+abbrev pub stamped : World → ℕ → World
+stamped w m =
+    let acts = one_more 64 (w.past.acts m) in record w {
+      past = record w.past {
+        acts = at w.past.acts m acts;
+        own = at₃ w.past.own m (w.past.view m) BEAT_COLUMN acts;
+      };
+      table = at₄ w.table (w.past.view m) m m BEAT_COLUMN acts;
+    }
+
+abbrev pub beats : World → ℕ → World
+beats w m = record w { turns = at w.turns m (one_more 32 (w.turns m)) }
+
+abbrev pub looks : World → ℕ → ℕ → ℕ → World
+looks w m i c = record w { seen = at₃ w.seen m i c (w.table (w.past.view m) m i c) }
+
+abbrev pub pushes : World → ℕ → ℕ → ℕ → World
+pushes w m j c = record w { table = at₄ w.table (w.past.view m) j m c (own_word w m c) }
+
+-- m has one item more of s: the recv word of s and the received word follow
+abbrev pub gains : World → ℕ → ℕ → Item → World
+gains w m s item =
+    let v = w.past.view m in
+    let k = count_of w m s in
+    let counts = at (w.past.count m v) s (k + 1) in record w {
+      past = record w.past {
+        count = at₂ w.past.count m v counts;
+        item = at₄ w.past.item m v s k item;
+        own = at₂ w.past.own m v (at (at (w.past.own m v) (recv_column s) (recv_word (k + 1) false)) RECEIVED_COLUMN (front_of (map counts (view_members w m))));
+      };
+    }
+
+-- a row with these pieces of item k from a column on
+abbrev pub row_with : (ℕ → ℕ) → ℕ → ℕ → List ℕ → ℕ → ℕ
+row_with row from k list c =
+    if nat_le from c && nat_lt c (from + length list) then ring_word k (slice_index list (c - from)) else row c
+
+-- m puts an item: its pieces stand in the slot, with the item's number
+abbrev pub puts : Group → World → ℕ → SentItem → Item → World
+puts g w m name item =
+    let v = w.past.view m in
+    let k = count_of w m m in
+    gains (record w {
+      past = record w.past {
+        own = at₂ w.past.own m v (row_with (w.past.own m v) (slot_column (roster g) g.window k) k (pieces item));
+        sent = at₂ w.past.sent m v (w.past.sent m v ++ name ∷ []);
+      };
+    }) m m item
+
+abbrev pub sends : Group → World → ℕ → World
+sends g w m =
+    let index = next_index w m in
+    puts g w m (Index index) (Text (slice_index_or (messages_of g.opening m) index []))
+
+-- the next item of s, as m has seen it
+abbrev pub next_item : Group → World → ℕ → ℕ → Item
+next_item g w m s = let k = count_of w m s in unwrap_or (item_in k (seen_slot g w m s k)) Null
+
+abbrev pub receives : Group → World → ℕ → ℕ → World
+receives g w m s = gains w m s (next_item g w m s)
+
+-- what an item of s adds to a history: a null nothing, and a message its entry, with the next index of s
+abbrev pub entries_of : List Entry → ℕ → Item → List Entry
+entries_of history s Null = []
+entries_of history s (Text bytes) = Msg s (length (messages_from s history)) bytes ∷ []
+
+-- the sender of a place of m's view
+abbrev pub sender_at : World → ℕ → ℕ → ℕ
+sender_at w m p = let ms = view_members w m in slice_index ms (p % length ms)
+
+abbrev pub delivers : World → ℕ → World
+delivers w m =
+    let history = w.past.history m in record w {
+      past = record w.past {
+        history = at w.past.history m (history ++ entries_of history (sender_at w m (w.next m)) (item_at_place w m (w.next m)));
+      };
+      next = at w.next m (w.next m + 1);
+    }
+
+-- the next entry of the history goes on the log
+abbrev pub appends : World → ℕ → World
+appends w m =
+    let log = w.past.log m in
+    record w { past = record w.past { log = at w.past.log m (log ++ take 1 (drop (length log) (w.past.history m))) } }
+
+abbrev pub publishes : World → ℕ → World
+publishes w m = with_own w m LOGGED_COLUMN (length (w.past.log m))
+
+-- the least word of a column over the rows of m's view
+abbrev pub least_shown : World → ℕ → ℕ → ℕ
+least_shown w m c = fold min (2 ^ 64 - 1) (map (λ i. shown w m i c) (view_members w m))
+
+abbrev pub reports : World → ℕ → World
+reports w m = record w { past = record w.past { durable = at w.past.durable m (least_shown w m LOGGED_COLUMN) } }
+
+abbrev pub marks : World → ℕ → World
+marks w m = with_own w m DONE_COLUMN 1
+
+abbrev pub ends : World → ℕ → End → World
+ends w m end = record w { end = at w.end m (Some end) }
+
+-- what the event makes of the world
+abbrev pub effect : Group → World → Event → World
+effect g w (Beat m) = stamped (beats w m) m
+effect g w (Look m i c) = looks w m i c
+effect g w (Push m j c) = pushes w m j c
+effect g w (Send m) = stamped (sends g w m) m
+effect g w (Receive m s) = stamped (receives g w m s) m
+effect g w (Deliver m) = stamped (delivers w m) m
+effect g w (Append m) = appends w m
+effect g w (Publish m) = stamped (publishes w m) m
+effect g w (Report m) = stamped (reports w m) m
+effect g w (Mark m) = stamped (marks w m) m
+effect g w (Halt m end) = stamped (ends w m end) m
+effect g w (Crash m end) = stamped (ends w m end) m

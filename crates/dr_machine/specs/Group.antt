@@ -1,0 +1,31 @@
+-- A group in one age: how the age opens, and the window of its rings.
+use Rattle.std.specs.Prelude.{◌≡◌, ℕ, ◌^◌, ◌<◌, ◌≤◌, List, length, slice_get, slice_index, Some}
+use Rattle.dr_history.specs.declared.opening.Opening.{Opening}
+use Rattle.dr_history.specs.History.{messages_of}
+use Rattle.dr_history.specs.Soundness.{Sound}
+use Rattle.dr_words.specs.Columns.{columns_of}
+
+-- what is fixed for an age: its opening, with the script's messages by member of the roster, and the slots of a ring
+pub record Group : Type 0 where
+  pub opening : Opening
+  pub window : ℕ
+
+-- the number of members of the roster
+abbrev pub roster : Group → ℕ
+roster g = length g.opening.messages
+
+-- the number of columns of a row
+abbrev pub columns : Group → ℕ
+columns g = columns_of (roster g) g.window
+
+-- the ranges that a group keeps, and the soundness of its start
+pub record IsGroup (g : Group) : Type 0 where
+  pub some_member : 1 ≤ roster g
+  pub most_members : roster g ≤ 16
+  pub some_slot : 1 ≤ g.window
+  pub most_slots : g.window ≤ 8
+  pub messages : (s : ℕ) → length (messages_of g.opening s) ≤ 4096
+  pub short : (s i : ℕ) (bytes : List ℕ) → slice_get (messages_of g.opening s) i ≡ Some bytes → length bytes ≤ 64
+  pub bytes : (s i : ℕ) (bytes : List ℕ) → slice_get (messages_of g.opening s) i ≡ Some bytes → (k : ℕ) → slice_index bytes k < 256
+  pub start : length g.opening.start < 2 ^ 31
+  pub sound : Sound g.opening

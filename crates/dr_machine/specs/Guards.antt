@@ -1,0 +1,146 @@
+-- When each event may come.
+use Rattle.std.specs.Prelude.{◌≡◌, ◌≢◌, ⊤, ℕ, ◌+◌, ◌-◌, ◌<◌, ◌⊎◌, true, false, length, None}
+use Rattle.dr_entry.specs.declared.end.End.{End}
+use Rattle.dr_entry.specs.declared.end.End.TheVariants.{Done, Crashed, Suspected, Excluded, NoMajority, DiskFault, LogFull, Spent}
+use Rattle.dr_history.specs.Members.{has}
+use Rattle.dr_history.specs.History.{messages_of, messages_in}
+use Rattle.dr_history.specs.Order.{messages_from}
+use Rattle.dr_ring.specs.Slots.{slot_column, IsReady}
+use Rattle.dr_words.specs.declared.column.TheConstants.{RECEIVED_COLUMN, LOGGED_COLUMN, DONE_COLUMN}
+use Rattle.dr_words.specs.Columns.{recv_column}
+use Rattle.dr_words.specs.Packing.{recv_count}
+use Rattle.dr_machine.specs.declared.event.Event.{Event}
+use Rattle.dr_machine.specs.declared.event.Event.TheVariants.{Beat, Look, Push, Send, Receive, Deliver, Append, Publish, Report, Mark, Halt, Crash}
+use Rattle.dr_machine.specs.Group.{Group, roster, columns}
+use Rattle.dr_machine.specs.World.{World, own_word, count_of, shown}
+
+-- m is a member of the roster without an end
+pub record IsRunning (g : Group) (w : World) (m : ℕ) : Type 0 where
+  pub member : m < roster g
+  pub running : w.end m ≡ None
+
+-- it may take an event of its own choice: no vote waits to be acted on
+pub record MayChoose (g : Group) (w : World) (m : ℕ) : Type 0 where
+  pub alive : IsRunning g w m
+  pub idle : w.pending m ≡ None
+
+-- i is another member of m's view
+pub record IsOther (w : World) (m i : ℕ) : Type 0 where
+  pub member : has (w.members m) i ≡ true
+  pub other : i ≢ m
+
+-- m suspects nobody; who suspects somebody is wedged
+abbrev pub IsUnwedged : World → ℕ → Type 0
+IsUnwedged w m = w.suspects m ≡ 0
+
+-- beginning a turn needs nothing more
+abbrev pub CanBeat : Group → World → ℕ → Type 0
+CanBeat g w m = MayChoose g w m
+
+pub record CanLook (g : Group) (w : World) (m i c : ℕ) : Type 0 where
+  pub may : MayChoose g w m
+  pub row : IsOther w m i
+  pub unsuspected : has (w.suspects m) i ≡ false
+  pub column : c < columns g
+
+pub record CanPush (g : Group) (w : World) (m j c : ℕ) : Type 0 where
+  pub may : MayChoose g w m
+  pub copy : IsOther w m j
+  pub column : c < columns g
+
+-- the index of the next message that m puts
+abbrev pub next_index : World → ℕ → ℕ
+next_index w m = w.base m + messages_in (w.past.sent m (w.past.view m))
+
+-- the slot of m's item k is free: k is among the first items, or each other member of the view is seen to have received
+-- the item that stood there before
+abbrev pub HasRoom : Group → World → ℕ → ℕ → Type 0
+HasRoom g w m k =
+    (k < g.window)
+    ⊎ ((i : ℕ) → IsOther w m i → k - g.window < recv_count (w.seen m i (recv_column m)))
+
+pub record CanSend (g : Group) (w : World) (m : ℕ) : Type 0 where
+  pub may : MayChoose g w m
+  pub unwedged : IsUnwedged w m
+  -- a message is left
+  pub left : next_index w m < length (messages_of g.opening m)
+  pub room : HasRoom g w m (count_of w m m)
+
+-- the words that m has seen of the slot of item k in the row of s
+abbrev pub seen_slot : Group → World → ℕ → ℕ → ℕ → ℕ → ℕ
+seen_slot g w m s k part = w.seen m s (slot_column (roster g) g.window k + part)
+
+pub record CanReceive (g : Group) (w : World) (m s : ℕ) : Type 0 where
+  pub may : MayChoose g w m
+  pub unwedged : IsUnwedged w m
+  pub sender : IsOther w m s
+  -- all words that the next item of s needs are seen
+  pub ready : IsReady (count_of w m s) (seen_slot g w m s (count_of w m s))
+
+pub record CanDeliver (g : Group) (w : World) (m : ℕ) : Type 0 where
+  pub may : MayChoose g w m
+  pub unwedged : IsUnwedged w m
+  -- every member of the view is seen to have received the next place
+  pub received : (i : ℕ) → has (w.members m) i ≡ true → w.next m < shown w m i RECEIVED_COLUMN
+
+pub record CanAppend (g : Group) (w : World) (m : ℕ) : Type 0 where
+  pub may : MayChoose g w m
+  pub behind : length (w.past.log m) < length (w.past.history m)
+
+pub record CanPublish (g : Group) (w : World) (m : ℕ) : Type 0 where
+  pub may : MayChoose g w m
+  pub behind : own_word w m LOGGED_COLUMN < length (w.past.log m)
+
+pub record CanReport (g : Group) (w : World) (m : ℕ) : Type 0 where
+  pub may : MayChoose g w m
+  -- every member of the view is seen to have logged more than is known to be durable
+  pub logged : (i : ℕ) → has (w.members m) i ≡ true → w.past.durable m < shown w m i LOGGED_COLUMN
+
+-- the history of m has as many messages of each member of its view as the script
+abbrev pub HoldsAll : Group → World → ℕ → Type 0
+HoldsAll g w m = (s : ℕ) → has (w.members m) s ≡ true
+    → length (messages_from s (w.past.history m)) ≡ length (messages_of g.opening s)
+
+pub record CanMark (g : Group) (w : World) (m : ℕ) : Type 0 where
+  pub may : MayChoose g w m
+  pub unwedged : IsUnwedged w m
+  pub unmarked : own_word w m DONE_COLUMN ≡ 0
+  pub whole : HoldsAll g w m
+  pub durable : w.past.durable m ≡ length (w.past.history m)
+
+-- the end Done comes where every row of the view shows done
+pub record CanHalt (g : Group) (w : World) (m : ℕ) (end : End) : Type 0 where
+  pub may : MayChoose g w m
+  pub done : end ≡ Done
+  pub unwedged : IsUnwedged w m
+  pub all : (i : ℕ) → has (w.members m) i ≡ true → shown w m i DONE_COLUMN ≡ 1
+
+-- the ends that come over a member at any time
+abbrev pub IsFault : End → Type 0
+IsFault Done = ⊥
+IsFault Crashed = ⊤
+IsFault (Suspected by) = ⊥
+IsFault (Excluded view) = ⊥
+IsFault (NoMajority mask) = ⊥
+IsFault DiskFault = ⊤
+IsFault (LogFull len) = ⊤
+IsFault (Spent turns) = ⊤
+
+pub record CanCrash (g : Group) (w : World) (m : ℕ) (end : End) : Type 0 where
+  pub alive : IsRunning g w m
+  pub fault : IsFault end
+
+-- the event may come
+abbrev pub Guard : Group → World → Event → Type 0
+Guard g w (Beat m) = CanBeat g w m
+Guard g w (Look m i c) = CanLook g w m i c
+Guard g w (Push m j c) = CanPush g w m j c
+Guard g w (Send m) = CanSend g w m
+Guard g w (Receive m s) = CanReceive g w m s
+Guard g w (Deliver m) = CanDeliver g w m
+Guard g w (Append m) = CanAppend g w m
+Guard g w (Publish m) = CanPublish g w m
+Guard g w (Report m) = CanReport g w m
+Guard g w (Mark m) = CanMark g w m
+Guard g w (Halt m end) = CanHalt g w m end
+Guard g w (Crash m end) = CanCrash g w m end

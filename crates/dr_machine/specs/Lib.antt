@@ -1,0 +1,11 @@
+pub mod Writes
+pub mod Group
+pub mod World
+pub mod Guards
+pub mod Effects
+pub mod Run
+pub mod Replica
+pub mod Running
+pub mod Program
+pub mod Reading
+pub mod Form

@@ -1,0 +1,43 @@
+-- Runs: what comes of a list of events.
+use Rattle.std.specs.Prelude.{◌≡◌, ◌⊎◌, ℕ, ◌+◌, ◌<◌, ◌≤◌, List, [], ◌∷◌, map}
+use Rattle.std.specs.List.{range_with_len}
+use Rattle.dr_history.specs.Agreement.{Agreed}
+use Rattle.dr_ring.specs.Slots.{slot_column}
+use Rattle.dr_words.specs.Grown.{HasGrown}
+use Rattle.dr_words.specs.Packing.{ring_tag}
+use Rattle.dr_machine.specs.declared.event.Event.{Event}
+use Rattle.dr_machine.specs.Group.{Group, roster}
+use Rattle.dr_machine.specs.World.{World, opening_world, count_of}
+use Rattle.dr_machine.specs.Guards.{Guard, IsOther}
+use Rattle.dr_machine.specs.Effects.{effect}
+
+-- what happens at an event: its effect where it may come, and else nothing
+abbrev pub Happens : Group → World → Event → World → Type 0
+Happens g w e after = (Guard g w e × (after ≡ effect g w e)) ⊎ ((¬ Guard g w e) × (after ≡ w))
+
+-- the world after these events, one after the other
+abbrev pub Run : Group → World → List Event → World → Type 0
+Run g w [] after = after ≡ w
+Run g w (e ∷ es) after = (mid : World) × Happens g w e mid × Run g mid es after
+
+-- the world comes of some events from the opening on
+abbrev pub IsReached : Group → World → Type 0
+IsReached g w = (es : List Event) × Run g (opening_world g) es w
+
+-- the histories of the roster agree
+abbrev pub WorldAgreed : Group → World → Type 0
+WorldAgreed g w = Agreed g.opening w.past.sent (map w.past.history (range_with_len 0 (roster g)))
+
+-- no later item stands in the slot of the item of s that m waits for, neither in m's copy nor in what it has seen
+abbrev pub NoLaterItem : Group → World → Type 0
+NoLaterItem g w = (m s part : ℕ) → m < roster g → IsOther w m s → part < 17
+    → (let column = slot_column (roster g) g.window (count_of w m s) + part in
+    (ring_tag (w.table (w.past.view m) m s column) ≤ count_of w m s + 1)
+    × (ring_tag (w.seen m s column) ≤ count_of w m s + 1))
+
+-- each word is as before or has grown, in the sense of its column, while its member stays in its view
+pub record WordsGrew (g : Group) (old new : World) : Type 0 where
+  pub own : (m v c : ℕ) → HasGrown (roster g) c (old.past.own m v c) (new.past.own m v c)
+  pub table : (v j i c : ℕ) → HasGrown (roster g) c (old.table v j i c) (new.table v j i c)
+  pub seen : (m i c : ℕ) → new.past.view m ≡ old.past.view m
+      → HasGrown (roster g) c (old.seen m i c) (new.seen m i c)

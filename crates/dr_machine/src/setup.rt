@@ -1,0 +1,23 @@
+use dr_entry::{Entry, Message, Seq};
+use dr_words::{Mask, Shape};
+
+/// What a member of a group is told as its age opens.
+#[derive(Debug, Drop)]
+pub struct Setup {
+    /// The shape of the group's table.
+    pub shape: Shape,
+    /// The member's own number.
+    pub me: u8,
+    /// The number of the age.
+    pub age: u16,
+    /// The members of View 0.
+    pub members: Mask,
+    /// After how many turns a member ends, at least 1.
+    pub turns: u32,
+    /// The entries that the age starts with, without View 0.
+    pub start: Seq<Entry>,
+    /// The script's messages of this member.
+    pub messages: Seq<Message>,
+    /// The number of the script's messages of each member, and 0 for whoever is none.
+    pub totals: [u32; 16],
+}
