@@ -1,0 +1,36 @@
+ghost use Rattle.std.specs.Prelude.{◌≡◌};
+ghost use Rattle.dr_machine.specs.Group.{IsGroup};
+ghost use Rattle.dr_restart.specs.Groups.{HasGroupRanges, first_start_of, first_group_of};
+
+use dr_entry::{Entry, Seq};
+use dr_script::Script;
+use dr_words::Mask;
+use std::alloc::Global;
+
+/// What an age starts with: what came out of the logs, and who takes part.
+#[derive(Debug, PartialEq, Eq, Drop)]
+pub struct Start {
+    /// The number of the age.
+    pub age: u16,
+    /// The members of View 0, as a mask.
+    pub members: u16,
+    /// The members that take part in the age, as a mask.
+    pub present: u16,
+    /// The entries that every history begins with, before View 0.
+    pub entries: Seq<Entry>,
+}
+
+/// The start of a new group: age 0, the whole roster, and no entries.
+pub fn first_start(alloc: Global, script: &Script) -> Start
+    requires { HasGroupRanges script.now }
+    ensures start { result ≡ first_start_of script.now }
+    ensures group { IsGroup (first_group_of script.now) }
+{
+    let roster = Mask::all(script.members).bits();
+    Start {
+        age: 0,
+        members: roster,
+        present: roster,
+        entries: Seq::of(Vec::new(alloc)),
+    }
+}
