@@ -1,0 +1,11 @@
+pub mod Tables
+pub mod Members
+pub mod Views
+pub mod Acts
+pub mod Guards
+pub mod Looks
+pub mod Gains
+pub mod Puts
+pub mod Deeds
+pub mod Steps
+pub mod Tests
