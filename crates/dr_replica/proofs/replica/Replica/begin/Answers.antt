@@ -1,0 +1,71 @@
+use Rattle.std.proofs.Common.{ℕ, List, length, None, refl, rules, sym, ap, subst, ◌∙◌, arith}
+use Rattle.dr_entry.specs.declared.entry.Entry.{Entry}
+use Rattle.dr_rows.specs.Words.{begun, with_own}
+use Rattle.dr_machine.specs.Form.{HasForm}
+use Rattle.dr_machine.proofs.OpeningForm.{begun_in_form}
+use Rattle.dr_replica.specs.declared.replica.Replica.TheInside.{Inside}
+use Rattle.dr_replica.proofs.Openings.{AreBegun, few_messages_each, small_room, someone, begun_view, begun_inside}
+use Rattle.dr_replica.proofs.replica.Replica.begin.Goals as goal
+
+pub begin-requires-clause-small : goal.begin-requires-clause-small
+begin-requires-clause-small c =
+    let small = small_room c.args.setup c.greatest-most.result c.requires c.greatest-most.ensures in
+    rw (c.as_slice.ensures, c.from-2.ensures, c.from.ensures) small
+
+pub begin-requires-2-clause-some : goal.begin-requires-2-clause-some
+begin-requires-2-clause-some c = someone c.args.setup c.requires
+
+pub begin-requires-2-clause-most : goal.begin-requires-2-clause-most
+begin-requires-2-clause-most c = omega (arith, c.greatest-most.ensures, few_messages_each c.args.setup c.requires)
+
+-- the fields, as they are made
+abbrev fields : goal.In_ok-with_capacity-2 → Inside
+fields c = record {
+  shape = c.args.setup.shape;
+  messages = c.into_vec-messages.result;
+  totals = c.args.setup.totals;
+  rows = c.set_own.new.self;
+  view = 0;
+  members = c.args.setup.members;
+  items = c.in_ok-begin.field-0;
+  base = c.messages_from.result;
+  sent = c.in_ok-with_capacity.field-0;
+  past = c.in_ok-with_capacity-2.field-0;
+  next = 0;
+  history = c.in_ok-history.history;
+  logged = length c.entries-logged.result.now;
+  durable = length c.entries-logged.result.now;
+  turns = 0;
+  acts = 0;
+  end = None;
+}
+
+made : (c : goal.In_ok-with_capacity-2) → AreBegun (fields c) c.args.setup c.in_ok-rows.rows c.greatest-most.result
+made c = record {
+  shape = refl;
+  messages = c.into_vec-messages.ensures;
+  totals = refl;
+  most = c.greatest-most.ensures;
+  first = c.in_ok-rows.ensures.begun ∙ ap (λ (k : ℕ). begun c.args.setup.shape.members k c.args.setup.me) c.columns.ensures;
+  rows = c.set_own.ensures.after ∙ ap (λ (es : List Entry). with_own c.in_ok-rows.rows 3 (length es)) c.entries-logged.ensures.entries;
+  view = refl;
+  members = refl;
+  items = c.in_ok-begin.ensures.begun;
+  base = c.messages_from.ensures;
+  sent = c.in_ok-with_capacity.ensures.items;
+  next = refl;
+  history = cc (c.in_ok-history.ensures.begun, c.as_slice.ensures, c.from.ensures, c.from-2.ensures, c.bits.ensures);
+  logged = ap length c.entries-logged.ensures.entries;
+  durable = ap length c.entries-logged.ensures.entries;
+  turns = refl;
+  acts = refl;
+  end = refl;
+}
+
+pub invariant_of-result : goal.invariant_of-result
+invariant_of-result c =
+    begun_inside (fields c) c.args.setup c.in_ok-rows.rows c.greatest-most.result c.requires (made c)
+    (search rules) c.in_ok-with_capacity-2.ensures.items c.in_ok-with_capacity-2.ensures.capacity
+
+pub returns-clause-form : goal.returns-clause-form
+returns-clause-form c = subst HasForm (sym (begun_view (fields c) c.args.setup c.in_ok-rows.rows c.greatest-most.result (made c))) (begun_in_form c.args.setup c.requires)

@@ -1,0 +1,64 @@
+-- How the fields hold what contracts see of them.
+use Rattle.std.specs.Prelude.{◌≡◌, ℕ, ◌<◌, ◌≤◌, [], length, slice_index, vec_capacity}
+use Rattle.dr_history.specs.Order.{messages_from}
+use Rattle.dr_history.specs.Members.{members_of}
+use Rattle.dr_machine.specs.Replica.{Replica, greatest}
+use Rattle.dr_machine.specs.Form.{HasForm}
+use Rattle.dr_replica.specs.Items.{Held, IsHeld, front}
+use Rattle.dr_replica.specs.History.{Kept, IsKept}
+use Rattle.dr_replica.specs.declared.items.Items.TheInside as items
+use Rattle.dr_replica.specs.declared.history.History.TheInside as history
+use Rattle.dr_replica.specs.declared.replica.Replica.TheInside as replica
+
+abbrev pub held_of : items.Inside → Held
+held_of a = record { members = a.members.items; roster = a.roster; most = a.most; counts = a.counts.items; items = a.items.items }
+
+-- the front is kept beside the counts
+pub record AreItems (a : items.Inside) : Type 0 where
+  pub form : IsHeld (held_of a)
+  pub front : a.front ≡ front (held_of a)
+
+abbrev pub kept_of : history.Inside → Kept
+kept_of a = record { roster = length a.messages.items; entries = a.entries.items; room = a.room }
+
+-- the numbers of messages are kept beside the entries
+pub record IsHistory (a : history.Inside) : Type 0 where
+  pub form : IsKept (kept_of a)
+  pub room : a.room ≤ vec_capacity a.entries
+  pub messages : (s : ℕ) → s < length a.messages.items → slice_index a.messages.items s ≡ length (messages_from s a.entries.items)
+
+abbrev pub view_of : replica.Inside → Replica
+view_of a = record {
+  roster = a.shape.members;
+  window = a.shape.window;
+  banks = a.shape.banks;
+  messages = a.messages.items;
+  totals = a.totals;
+  rows = a.rows;
+  view = a.view;
+  members = a.members;
+  counts = a.items.counts;
+  items = a.items.items;
+  base = a.base;
+  sent = a.sent.items;
+  next = a.next;
+  history = a.history.entries;
+  room = a.history.room;
+  logged = a.logged;
+  durable = a.durable;
+  turns = a.turns;
+  acts = a.acts;
+  end = a.end;
+}
+
+pub record IsInside (a : replica.Inside) : Type 0 where
+  pub form : HasForm (view_of a)
+  -- the items and the history are of this view and this roster
+  pub members : a.items.members ≡ members_of a.members
+  pub roster : a.items.roster ≡ a.shape.members
+  pub most : a.items.most ≡ greatest a.totals
+  pub messages : a.history.roster ≡ a.shape.members
+  -- there is room for what it has yet to put, and to tell how it ended
+  pub sent : length a.messages.items ≤ vec_capacity a.sent
+  pub past : a.past.items ≡ []
+  pub end : 1 ≤ vec_capacity a.past

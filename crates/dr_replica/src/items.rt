@@ -1,0 +1,169 @@
+ghost use Rattle.std.specs.Prelude.{◌≡◌, ℕ, ◌<◌, ◌≤◌, IfOk, length, map, nat_lt, replicate, slice_index};
+ghost use Rattle.dr_history.specs.Members.{has, members_of};
+ghost use Rattle.dr_history.specs.Places.{AllHeldBelow, front_of, is_held};
+ghost use Rattle.dr_words.specs.Masks.{IsInRoster};
+
+use dr_entry::Item;
+use dr_history::members_of;
+use dr_words::Mask;
+use std::alloc::{AllocError, Global};
+use std::marker::Model;
+
+/// The items that a member has in its view, with the front of their numbers.
+#[derive(Drop)]
+pub(crate) struct Items {
+    members: Vec<u8>,
+    roster: u8,
+    most: u32,
+    counts: Vec<u32>,
+    items: Vec<Item>,
+    front: u64,
+}
+
+impl Model for Items {
+    ghost use Rattle.dr_replica.specs.Items.{Held};
+
+    ghost Value = { Held };
+
+    ghost use Rattle.dr_replica.specs.Inside.{AreItems, held_of};
+
+    ghost view = { held_of };
+
+    ghost invariant = { AreItems };
+}
+
+impl Items {
+    ghost use Rattle.dr_replica.specs.Items.{IsHeld, front, item_at, none_held, sender_at, taken};
+
+    /// No items of the members of a view, of each of whom there will be up to `most`. No later call
+    /// takes memory.
+    pub(crate) fn begin(
+        alloc: Global,
+        view: Mask,
+        roster: u8,
+        most: u32,
+    ) -> Result<Items, AllocError>
+        requires roster { roster ≤ 16 }
+        requires members { IsInRoster roster view }
+        requires some { 0 < length (members_of view) }
+        requires most { most ≤ 4096 }
+        ensures begun { IfOk result (λ held. held ≡ none_held view roster most) }
+    {
+        let places = most as usize * usize::from(roster);
+        let mut members = Vec::new(alloc);
+        members.extend_from_slice(members_of(view.bits()).as_slice())?;
+        Ok(Items {
+            members,
+            roster,
+            most,
+            counts: vec![in alloc; 0; usize::from(roster)]?,
+            items: nulls(alloc, places)?,
+            front: 0,
+        })
+    }
+
+    /// The members of the view, ascending.
+    pub(crate) fn members(&self) -> &[u8]
+        ensures members { result.now ≡ self.now.members }
+        ensures form { IsHeld self.now }
+    {
+        self.members.as_slice()
+    }
+
+    /// How many items of a member there are.
+    #[inline]
+    pub(crate) fn count(&self, member: u8) -> u32
+        requires { member < self.now.roster }
+        ensures count { result ≡ slice_index self.now.counts member }
+        ensures bounded { result ≤ 4096 }
+    {
+        self.counts[usize::from(member)]
+    }
+
+    /// Whether there is room for one item more of a member.
+    #[inline]
+    pub(crate) fn has_room(&self, member: u8) -> bool
+        requires { member < self.now.roster }
+        ensures { result ≡ nat_lt (slice_index self.now.counts member) self.now.most }
+    {
+        self.count(member) < self.most
+    }
+
+    /// The front of the numbers of items: the first place whose item isn't there.
+    #[inline]
+    pub(crate) fn front(&self) -> u64
+        ensures { result ≡ front self.now }
+    {
+        self.front
+    }
+
+    /// Takes the next item of a member.
+    pub(crate) fn take(&mut self, member: u8, item: Item)
+        requires member { member < self.old.roster }
+        requires room { slice_index self.old.counts member < self.old.most }
+        ensures { self.new ≡ taken self.old member item }
+    {
+        let count = self.counts[usize::from(member)];
+        let place = count as usize * usize::from(self.roster) + usize::from(member);
+        self.items[place] = item;
+        self.counts[usize::from(member)] = count + 1;
+        self.front = front_from(self.members.as_slice(), self.counts.as_slice(), self.front);
+    }
+
+    /// The member whose item stands at a place.
+    pub(crate) fn sender_at(&self, place: u64) -> u8
+        ensures sender { result ≡ sender_at self.now place }
+        ensures member { result < self.now.roster }
+    {
+        self.members[(place % self.members.len() as u64) as usize]
+    }
+
+    /// The item at a place before the front.
+    pub(crate) fn item_at(&self, place: u64) -> &Item
+        requires { place < front self.now }
+        ensures { result.now ≡ item_at self.now place }
+    {
+        let round = (place / self.members.len() as u64) as usize;
+        let sender = self.sender_at(place);
+        &self.items[round * usize::from(self.roster) + usize::from(sender)]
+    }
+}
+
+/// So many nulls.
+fn nulls(alloc: Global, count: usize) -> Result<Vec<Item>, AllocError>
+    ensures { IfOk result (λ items. items.items ≡ replicate count Item.Null) }
+{
+    let mut items = Vec::with_capacity(alloc, count)?;
+    for _ in 0..count {
+        items.push(Item::Null).unwrap();
+    }
+    Ok(items)
+}
+
+/// The front of the members' counts, by their ranks, where all places before `from` hold an item.
+fn front_from(members: &[u8], counts: &[u32], from: u64) -> u64
+    requires some { 0 < length members.now }
+    requires few { length members.now ≤ 16 }
+    requires members { (i : ℕ) → i < length members.now
+        → slice_index members.now i < length counts.now }
+    requires held { AllHeldBelow (map (slice_index counts.now) members.now) from }
+    ensures { result ≡ front_of (map (slice_index counts.now) members.now) }
+{
+    let mut place = from;
+    while is_held(members, counts, place) {
+        place += 1;
+    }
+    place
+}
+
+/// Whether a place holds an item, by the members' counts.
+fn is_held(members: &[u8], counts: &[u32], place: u64) -> bool
+    requires some { 0 < length members.now }
+    requires members { (i : ℕ) → i < length members.now
+        → slice_index members.now i < length counts.now }
+    ensures { result ≡ is_held (map (slice_index counts.now) members.now) place }
+{
+    let ranks = members.len() as u64;
+    let member = members[(place % ranks) as usize];
+    place / ranks < u64::from(counts[usize::from(member)])
+}

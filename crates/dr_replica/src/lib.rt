@@ -1,0 +1,15 @@
+//! A replica: the state of one member of a group, what it may do, and its acts.
+//!
+//! Contracts see a [`Replica`] as the record of that name in the machine's definitions, and each act
+//! is the one of the definitions, together with its stamp. All memory is taken in
+//! [`Replica::begin`].
+#![tactic(auto)]
+
+mod history;
+mod items;
+mod replica;
+
+pub use replica::Replica;
+
+#[cfg(test)]
+mod tests;

@@ -1,0 +1,50 @@
+mod acts;
+mod guards;
+mod opening;
+mod state;
+
+use crate::history::History;
+use crate::items::Items;
+use dr_entry::{End, Message, SentItem, ViewSent};
+use dr_rows::Rows;
+use dr_words::{Mask, Shape};
+use std::marker::Model;
+
+/// The state of one member of a group in one age: what it has, what it has seen of the others, and
+/// how far it has come.
+///
+/// A method that tells what a member may do is named after the act. The acts count themselves: each
+/// raises the number of acts, and the member's own beat word takes it.
+#[derive(Drop)]
+pub struct Replica {
+    shape: Shape,
+    messages: Vec<Message>,
+    totals: [u32; 16],
+    rows: Rows,
+    view: u8,
+    members: Mask,
+    items: Items,
+    base: u32,
+    sent: Vec<SentItem>,
+    /// What it put in earlier views, with room for this one.
+    past: Vec<ViewSent>,
+    next: u64,
+    history: History,
+    logged: usize,
+    durable: u64,
+    turns: u32,
+    acts: u64,
+    end: Option<End>,
+}
+
+impl Model for Replica {
+    ghost use Rattle.dr_machine.specs.Replica as machine;
+
+    ghost Value = { machine.Replica };
+
+    ghost use Rattle.dr_replica.specs.Inside.{IsInside, view_of};
+
+    ghost view = { view_of };
+
+    ghost invariant = { IsInside };
+}

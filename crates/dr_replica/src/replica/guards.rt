@@ -1,0 +1,133 @@
+//! What a replica may do.
+ghost use Rattle.std.specs.Prelude.{◌≡◌, ◌<◌};
+ghost use Rattle.dr_machine.specs.Replica.{all_done, holds_all, is_other, least_seen, may_append, may_deliver, may_mark, may_publish, may_receive, may_report, may_send, next_index};
+ghost use Rattle.dr_rows.specs.Words.{changed};
+
+use super::Replica;
+use dr_ring::{free, ready};
+use dr_words::{DONE_COLUMN, LOGGED_COLUMN, RECEIVED_COLUMN};
+
+impl Replica {
+    /// Whether this is another member of its view.
+    #[inline]
+    pub fn is_other(&self, member: u8) -> bool
+        requires { member < self.now.roster }
+        ensures { result ≡ is_other self.now member }
+    {
+        self.members.has(member) && member != self.rows.me()
+    }
+
+    /// Whether an item of the sender is there to be taken.
+    pub fn may_receive(&self, sender: u8) -> bool
+        requires { sender < self.now.roster }
+        ensures { result ≡ may_receive self.now sender }
+    {
+        let count = self.items.count(sender);
+        self.is_other(sender)
+            && ready(&self.rows, &self.shape, sender, count).is_some()
+            && self.items.has_room(sender)
+    }
+
+    /// Whether it has a message left, and the slot of its next item is free.
+    pub fn may_send(&self) -> bool
+        ensures { result ≡ may_send self.now }
+    {
+        let count = self.items.count(self.rows.me());
+        self.next_index() < self.messages.len()
+            && free(&self.rows, &self.shape, self.members, count)
+    }
+
+    /// Whether every member of the view is seen to have received the next place, and there is room
+    /// for an entry.
+    pub fn may_deliver(&self) -> bool
+        ensures { result ≡ may_deliver self.now }
+    {
+        self.next < self.least_seen(RECEIVED_COLUMN) && self.history.has_room()
+    }
+
+    /// Whether its history has an entry that isn't on its log.
+    #[inline]
+    pub fn may_append(&self) -> bool
+        ensures { result ≡ may_append self.now }
+    {
+        self.logged < self.history.entries().len()
+    }
+
+    /// Whether its logged word is behind its log.
+    #[inline]
+    pub fn may_publish(&self) -> bool
+        ensures { result ≡ may_publish self.now }
+    {
+        self.rows.own(LOGGED_COLUMN) < self.logged as u64
+    }
+
+    /// Whether every member of the view is seen to have logged more than it reported durable.
+    pub fn may_report(&self) -> bool
+        ensures { result ≡ may_report self.now }
+    {
+        self.durable < self.least_seen(LOGGED_COLUMN)
+    }
+
+    /// Whether it holds everything, durably, and hasn't said so yet.
+    pub fn may_mark(&self) -> bool
+        ensures { result ≡ may_mark self.now }
+    {
+        self.rows.own(DONE_COLUMN) == 0
+            && self.holds_all()
+            && self.durable == self.history.entries().len() as u64
+    }
+
+    /// Whether every row of the view shows done.
+    pub fn all_done(&self) -> bool
+        ensures { result ≡ all_done self.now }
+    {
+        for member in self.items.members() {
+            if self.rows.seen(*member, DONE_COLUMN) != 1 {
+                return false;
+            }
+        }
+        true
+    }
+
+    /// Whether its own word of a column differs from the one last pushed to the member `to`.
+    #[inline]
+    pub fn has_changed(&self, to: u8, column: usize) -> bool
+        requires to { to < self.now.roster }
+        requires column { column < self.now.rows.columns }
+        ensures { result ≡ changed self.now.rows to column }
+    {
+        self.rows.changed(to, column)
+    }
+
+    /// The least word of a column over the rows of its view.
+    pub(super) fn least_seen(&self, column: usize) -> u64
+        requires { column < self.now.rows.columns }
+        ensures { result ≡ least_seen self.now column }
+    {
+        let mut least = u64::MAX;
+        for member in self.items.members() {
+            least = least.min(self.rows.seen(*member, column));
+        }
+        least
+    }
+
+    /// The index of the next message that it puts.
+    #[inline]
+    pub(super) fn next_index(&self) -> usize
+        ensures { result ≡ next_index self.now }
+    {
+        self.base as usize + self.sent.len()
+    }
+
+    /// Whether its history has all messages of each member of its view.
+    fn holds_all(&self) -> bool
+        ensures { result ≡ holds_all self.now }
+    {
+        for member in self.items.members() {
+            if self.history.messages_from(*member) != self.totals[usize::from(*member)] {
+                return false;
+            }
+        }
+        true
+    }
+}

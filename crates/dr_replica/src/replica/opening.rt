@@ -1,0 +1,84 @@
+//! How a replica begins and how it is told at its end.
+ghost use Rattle.std.specs.Prelude.{◌≡◌, IfOk};
+ghost use Rattle.dr_machine.specs.Form.{CanBegin, HasForm};
+ghost use Rattle.dr_machine.specs.Program.{member_end};
+ghost use Rattle.dr_machine.specs.Replica.{begun_replica, greatest};
+
+use super::Replica;
+use crate::history::History;
+use crate::items::Items;
+use dr_entry::{End, Entry, MemberEnd, Seq, ViewSent};
+use dr_machine::Setup;
+use dr_rows::Rows;
+use dr_words::LOGGED_COLUMN;
+use std::alloc::{AllocError, Global};
+
+impl Replica {
+    /// A replica as its age opens. All memory of the age is taken here.
+    pub fn begin(alloc: Global, setup: Setup) -> Result<Replica, AllocError>
+        requires { CanBegin setup }
+        ensures begun { IfOk result (λ replica. replica ≡ begun_replica setup) }
+        ensures form { IfOk result HasForm }
+    {
+        let shape = setup.shape;
+        let most = greatest(&setup.totals);
+        let places = most as usize * usize::from(shape.members);
+        let room = setup.start.as_slice().len() + usize::from(shape.banks) + places;
+        let view = Entry::View {
+            age: setup.age,
+            number: 0,
+            members: setup.members.bits(),
+        };
+        let history = History::begin(alloc, setup.start, view, shape.members, room)?;
+        let logged = history.entries().len();
+        let mut rows = Rows::new(alloc, shape.members, shape.columns(), setup.me)?;
+        rows.set_own(LOGGED_COLUMN, logged as u64);
+        let messages = setup.messages.into_vec();
+        Ok(Replica {
+            shape,
+            totals: setup.totals,
+            rows,
+            view: 0,
+            members: setup.members,
+            items: Items::begin(alloc, setup.members, shape.members, most)?,
+            base: history.messages_from(setup.me),
+            sent: Vec::with_capacity(alloc, messages.len())?,
+            past: Vec::with_capacity(alloc, 1)?,
+            messages,
+            next: 0,
+            history,
+            logged,
+            durable: logged as u64,
+            turns: 0,
+            acts: 0,
+            end: None,
+        })
+    }
+
+    /// How the member ended; as done, where it hasn't ended yet. Takes no memory.
+    pub fn into_end(self) -> MemberEnd
+        ensures { result ≡ member_end self }
+    {
+        let mut sent = self.past;
+        sent.push(ViewSent {
+            number: self.view,
+            items: Seq::of(self.sent),
+        })
+        .unwrap();
+        MemberEnd {
+            end: self.end.unwrap_or(End::Done),
+            turns: self.turns,
+            sent: Seq::of(sent),
+            history: self.history.into_entries(),
+            logged: self.logged as u64,
+            durable: self.durable,
+        }
+    }
+}
+
+/// The greatest of these numbers of messages.
+fn greatest(totals: &[u32]) -> u32
+    ensures { result ≡ greatest totals.now }
+{
+    totals.iter().fold(0, |most, total| most.max(*total))
+}
