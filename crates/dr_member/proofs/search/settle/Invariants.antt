@@ -1,0 +1,13 @@
+use Rattle.std.proofs.Common.{◌≡◌}
+use Rattle.dr_machine.specs.Running.{members, columns, settled}
+use Rattle.dr_member.specs.Search.{IsUnderway, left, standing}
+use Rattle.dr_member.proofs.search.settle.Given as goal
+
+abbrev pub decreases-loop-place : goal.decreases-loop-place
+decreases-loop-place l = left (members (standing l.replica l.limit l.place)) (columns (standing l.replica l.limit l.place)) l.place
+
+abbrev pub invariant-loop-place : goal.invariant-loop-place
+invariant-loop-place l = record {
+  same : settled (standing l.replica l.limit l.place) ≡ settled (standing l.replica l.limit l.fn.from);
+  underway : IsUnderway (standing l.replica l.limit l.place);
+}

@@ -1,0 +1,4 @@
+pub mod Search
+pub mod Work
+pub mod Deeds
+pub mod Inside

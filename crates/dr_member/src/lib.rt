@@ -1,0 +1,16 @@
+//! One member of a group as it runs: a replica with its place in its turn.
+//!
+//! A member says what it does next, its next *deed*; whoever runs it does that to the group's table
+//! or to the member's log, and tells the member. Contracts see a [`Member`] as the running member of
+//! the machine's definitions.
+#![tactic(auto)]
+
+mod acts;
+mod laws;
+mod member;
+mod search;
+
+pub use laws::{
+    a_look_may_see_what_has_grown, running_members_stay_so, the_search_goes_to_the_next_place,
+};
+pub use member::Member;
