@@ -1,0 +1,5 @@
+pub mod Bounds
+pub mod Guarding
+pub mod Effects
+pub mod Taking
+pub mod Beginning

@@ -1,0 +1,42 @@
+-- What the program holds of a group, and the world that it is.
+use Rattle.std.specs.Prelude.{◌≡◌, ℕ, ◌+◌, ◌*◌, ◌≤◌, List, length, slice_get, Some}
+use Rattle.dr_script.specs.declared.script.Script.{Script}
+use Rattle.dr_restart.specs.declared.start.Start.{Start}
+use Rattle.dr_restart.specs.Groups.{group_of}
+use Rattle.dr_machine.specs.Group.{Group, IsGroup, roster}
+use Rattle.dr_machine.specs.World.{World}
+use Rattle.dr_machine.specs.Replica.{Replica, greatest}
+use Rattle.dr_machine.specs.Reading.{world_of}
+use Rattle.dr_machine.specs.Form.{HasForm, IsOf}
+use Rattle.dr_machine.specs.Run.{IsReached}
+use Rattle.dr_reading.specs.Programs.{IsTable}
+
+-- a script and the start of an age, a replica for each member, and the words of the table
+pub record Held : Type 0 where
+  pub script : Script
+  pub start : Start
+  pub replicas : List Replica
+  pub table : List ℕ
+
+-- the group that it is of
+abbrev pub its_group : Held → Group
+its_group h = group_of h.script h.start
+
+-- the world that it is
+abbrev pub its_world : Held → World
+its_world h = world_of (its_group h) h.replicas h.table
+
+-- the replicas are the members of the group, with room for every entry that can come
+pub record AreMembers (g : Group) (rs : List Replica) : Type 0 where
+  pub all : length rs ≡ roster g
+  pub form : (m : ℕ) (r : Replica) → slice_get rs m ≡ Some r → HasForm r
+  pub of : (m : ℕ) (r : Replica) → slice_get rs m ≡ Some r → IsOf g m r
+  pub room : (m : ℕ) (r : Replica) → slice_get rs m ≡ Some r
+      → length g.opening.start + roster g + greatest r.totals * roster g ≤ r.room
+
+-- the members of a group, in a world that some events lead to
+pub record IsHeld (h : Held) : Type 0 where
+  pub group : IsGroup (its_group h)
+  pub members : AreMembers (its_group h) h.replicas
+  pub table : IsTable (its_group h) h.table
+  pub reached : IsReached (its_group h) (its_world h)

@@ -1,0 +1,17 @@
+//! The world of a group, as a value that takes events one by one: a replica for each member, and the
+//! table of words that they share.
+//!
+//! Each event does exactly what the machine's definitions say of it, for every list of events. Contracts
+//! see a [`World`] as its script, its start, its replicas and its table, and read it as the machine's
+//! world. All memory is taken in [`World::opening`].
+#![tactic(auto)]
+
+mod setups;
+mod steps;
+mod world;
+
+pub use dr_machine::Event;
+pub use world::World;
+
+#[cfg(test)]
+mod tests;
