@@ -1,0 +1,6 @@
+mod Agreeing
+mod Completion
+mod Histories
+mod Items
+mod Reached
+mod Runs

@@ -1,0 +1,66 @@
+//! Runs of the executable world, and what is certain of them.
+ghost use Rattle.std.specs.Prelude.{◌≡◌, ◌↔◌, ◌⊎◌, IfOk, IsTrue};
+ghost use Rattle.dr_history.specs.History.{IsPrefixOf};
+ghost use Rattle.dr_machine.specs.Group.{IsGroup};
+ghost use Rattle.dr_machine.specs.Run.{NoLaterItem, Run, WorldAgreed};
+ghost use Rattle.dr_machine.specs.World.{opening_world};
+ghost use Rattle.dr_restart.specs.Groups.{HasGroupRanges, group_of};
+ghost use Rattle.dr_world.specs.Held.{its_group, its_world};
+
+use dr_entry::Entry;
+use dr_history::is_prefix;
+use dr_restart::Start;
+use dr_script::Script;
+use dr_world::{Event, World};
+use std::alloc::{AllocError, Global};
+
+/// Runs the group of a script from a start through these events, whatever they are: those that may
+/// not come change nothing. In the world after them the histories agree, and no slot holds a later item
+/// than the one that a member waits for there.
+///
+/// # Errors
+///
+/// Want of memory alone, before the first event.
+pub fn agreed_run(
+    alloc: Global,
+    script: &Script,
+    start: &Start,
+    events: &[Event],
+) -> Result<World, AllocError>
+    requires ranges { HasGroupRanges script.now }
+    requires group { IsGroup (group_of script.now start.now) }
+    ensures run { IfOk result (λ w. Run (group_of script.now start.now)
+        (opening_world (group_of script.now start.now)) events.now (its_world w)) }
+    ensures agreed { IfOk result (λ w. WorldAgreed (group_of script.now start.now) (its_world w)) }
+    ensures no_later_item { IfOk result (λ w. NoLaterItem (group_of script.now start.now) (its_world w)) }
+    ensures script { IfOk result (λ w. w.script ≡ script.now) }
+    ensures start { IfOk result (λ w. w.start ≡ start.now) }
+{
+    let mut world = World::opening(alloc, script, start)?;
+    world.run(events);
+    Ok(world)
+}
+
+/// Whether the histories of a world agree. It compares each two of them, whether one is a prefix of
+/// the other; that each of them is in order needs no test, since a [`World`] is always one that events
+/// lead to. It takes no memory.
+pub fn agree(world: &World) -> bool
+    ensures { IsTrue result ↔ WorldAgreed (its_group world.now) (its_world world.now) }
+{
+    let members = world.members();
+    for i in 0..members {
+        for j in 0..members {
+            if !is_either_prefix(world.history(i), world.history(j)) {
+                return false;
+            }
+        }
+    }
+    true
+}
+
+/// Whether one of two histories is a prefix of the other.
+fn is_either_prefix(one: &[Entry], other: &[Entry]) -> bool
+    ensures { IsTrue result ↔ (IsPrefixOf one.now other.now ⊎ IsPrefixOf other.now one.now) }
+{
+    is_prefix(one, other) || is_prefix(other, one)
+}
