@@ -17,6 +17,7 @@ use Rattle.dr_words.specs.declared.column.TheConstants.{LOGGED_COLUMN}
 use Rattle.dr_words.specs.declared.shape.Shape.{Shape}
 use Rattle.dr_words.specs.Columns.{columns_of}
 use Rattle.dr_words.specs.Layout.{words_of, word_index_of}
+use Rattle.dr_machine.specs.declared.setup.CrashPoint.{CrashPoint}
 use Rattle.dr_machine.specs.declared.setup.Setup.{Setup}
 use Rattle.dr_machine.specs.Group.{Group, IsGroup, roster, columns}
 use Rattle.dr_machine.specs.World.{opening_world}
@@ -29,8 +30,8 @@ use Rattle.dr_machine.proofs.OwnWords.{both_same, own_with, seen_with, same_numb
 
 -- ---- the setup of a member
 
-abbrev pub setup_of : Group → ℕ → ℕ → Shape → Setup
-setup_of g limit m shape = record {
+abbrev pub setup_of : Group → ℕ → ℕ → Shape → List CrashPoint → Setup
+setup_of g limit m shape crashes = record {
   shape = shape;
   me = m;
   age = g.opening.age;
@@ -39,9 +40,10 @@ setup_of g limit m shape = record {
   start = g.opening.start;
   messages = messages_of g.opening m;
   totals = map (λ i. length (messages_of g.opening i)) (range_with_len 0 16);
+  crashes = crashes;
 }
 
-pub setup_is : (g : Group) (limit m : ℕ) (s : Setup) → IsSetup g limit m s → s ≡ setup_of g limit m s.shape
+pub setup_is : (g : Group) (limit m : ℕ) (s : Setup) → IsSetup g limit m s → s ≡ setup_of g limit m s.shape s.crashes
 setup_is g limit m s is = λ z. record {
   shape = s.shape;
   me = is.me z;
@@ -51,6 +53,7 @@ setup_is g limit m s is = λ z. record {
   start = is.start z;
   messages = is.messages z;
   totals = is.totals z;
+  crashes = s.crashes;
 }
 
 -- the shape is the group's
@@ -93,9 +96,9 @@ pub wide : (g : Group) (shape : Shape) → IsGroup g → IsShape g shape → (sh
 wide g shape is of = (omega (arith, is.most_members, of.members), omega arith, omega (arith, is.most_members, is.most_slots, of.members, of.window))
 
 -- what a member has as its age opens
-begun_own : (g : Group) (limit m : ℕ) (shape : Shape) → IsGroup g → IsShape g shape → m < roster g
-    → (holding_of g (begun_replica (setup_of g limit m shape))).own ≡ (opening_world g).past.own m
-begun_own g limit m shape is of within = fun_ext λ v. fun_ext λ c.
+begun_own : (g : Group) (limit m : ℕ) (shape : Shape) (crashes : List CrashPoint) → IsGroup g → IsShape g shape → m < roster g
+    → (holding_of g (begun_replica (setup_of g limit m shape crashes))).own ≡ (opening_world g).past.own m
+begun_own g limit m shape crashes is of within = fun_ext λ v. fun_ext λ c.
     let bounds = wide g shape is of in
     let word = first_own shape.members (columns_of shape.members shape.window) m (length (first_entries g.opening)) c bounds.0 bounds.2 (omega (arith, within, of.members)) bounds.1 in
     ap (λ x. if v == 0 then x else 0) word ∙ begun_word (roster g) m v c (length (first_entries g.opening)) within
@@ -103,11 +106,11 @@ begun_own g limit m shape is of within = fun_ext λ v. fun_ext λ c.
     begun_word : (n m v c logged : ℕ) → m < n → (if v == 0 then (if c == LOGGED_COLUMN then logged else 0) else 0) ≡ (if nat_lt m n && (v == 0 && c == LOGGED_COLUMN) then logged else 0)
     begun_word n m v c logged within = grind (arith, nat_tests, within)
 
-begun_holding : (g : Group) (limit m : ℕ) (shape : Shape) → IsGroup g → IsShape g shape → m < roster g
-    → holding_of g (begun_replica (setup_of g limit m shape)) ≡ held (opening_world g) m
-begun_holding g limit m shape is of within =
-    let r : Replica = begun_replica (setup_of g limit m shape) in
-    let own : (holding_of g r).own ≡ (opening_world g).past.own m = begun_own g limit m shape is of within in
+begun_holding : (g : Group) (limit m : ℕ) (shape : Shape) (crashes : List CrashPoint) → IsGroup g → IsShape g shape → m < roster g
+    → holding_of g (begun_replica (setup_of g limit m shape crashes)) ≡ held (opening_world g) m
+begun_holding g limit m shape crashes is of within =
+    let r : Replica = begun_replica (setup_of g limit m shape crashes) in
+    let own : (holding_of g r).own ≡ (opening_world g).past.own m = begun_own g limit m shape crashes is of within in
     let count : (holding_of g r).count ≡ (opening_world g).past.count m = fun_ext λ v. fun_ext λ s. ap (λ x. if v == 0 then x else 0) (copy_at {X = ℕ} shape.members 0 s) ∙ both_same {X = ℕ} (v == 0) 0 in
     let item : (holding_of g r).item ≡ (opening_world g).past.item m = fun_ext λ v. fun_ext λ s. fun_ext λ k.
     ap (λ x. if nat_lt s (roster g) then in_view r v x Null else Null) (copy_at _ Null (k * shape.members + s))
@@ -143,7 +146,7 @@ begun_member g limit setups table m is are = by (slice_get setups m) refl
         let within : m < roster g = omega (arith, slice_get_within setups m s e, are.all) in
         held_of g (begun_replicas setups) table m (begun_replica s) (begun_get setups m ∙ ap (option_map begun_replica) e)
         ∙ ap (λ x. holding_of g (begun_replica x)) (setup_is g limit m s (are.each m s e))
-        ∙ begun_holding g limit m s.shape is (shape_is g limit m s (are.each m s e)) within
+        ∙ begun_holding g limit m s.shape s.crashes is (shape_is g limit m s (are.each m s e)) within
 
 pub begins_at_the_opening : (g : Group) (limit : ℕ) (setups : List Setup) → IsGroup g → AreSetups g limit setups
     → world g (begun_program g setups) ≡ opening_world g

@@ -28,6 +28,7 @@ use Rattle.dr_words.specs.Form.{IsInForm, AllInForm}
 use Rattle.dr_words.specs.Packing.{recv_word}
 use Rattle.dr_words.proofs.Bits.{has_ones}
 use Rattle.dr_ring.specs.Slots.{slot_column}
+use Rattle.dr_machine.specs.declared.setup.CrashPoint.{CrashPoint}
 use Rattle.dr_machine.specs.declared.setup.Setup.{Setup}
 use Rattle.dr_machine.specs.Group.{Group, IsGroup, roster}
 use Rattle.dr_machine.specs.Replica.{Replica, begun_replica, first_entries_of, count, greatest, view_of}
@@ -203,8 +204,8 @@ begun_in_form s can =
     }
 
 -- a setup of the group can begin
-pub setups_can_begin : (g : Group) (limit m : ℕ) (shape : Shape) → IsGroup g → IsShape g shape → m < roster g → CanBegin (setup_of g limit m shape)
-setups_can_begin g limit m shape is of within = record {
+setups_can_begin : (g : Group) (limit m : ℕ) (shape : Shape) (crashes : List CrashPoint) → IsGroup g → IsShape g shape → m < roster g → CanBegin (setup_of g limit m shape crashes)
+setups_can_begin g limit m shape crashes is of within = record {
   banks = omega (arith, of.banks, of.members);
   roster = λ i has_i. grind (arith, members_of_roster g i is, of.members, has_i);
   present = members_of_roster g m is ∙ grind (arith, within);
@@ -216,11 +217,14 @@ setups_can_begin g limit m shape is of within = record {
   start = is.start;
 }
 
-begun_form : (g : Group) (limit m : ℕ) (shape : Shape) → IsGroup g → IsShape g shape → m < roster g → HasForm (begun_replica (setup_of g limit m shape))
-begun_form g limit m shape is of within = begun_in_form (setup_of g limit m shape) (setups_can_begin g limit m shape is of within)
+pub can_begin : (g : Group) (limit m : ℕ) (s : Setup) → IsGroup g → IsSetup g limit m s → m < roster g → CanBegin s
+can_begin g limit m s is setup within = rw (setup_is g limit m s setup) (setups_can_begin g limit m s.shape s.crashes is (shape_is g limit m s setup) within)
 
-begun_is_of : (g : Group) (limit m : ℕ) (shape : Shape) → IsGroup g → IsShape g shape → IsOf g m (begun_replica (setup_of g limit m shape))
-begun_is_of g limit m shape is of = record {
+begun_form : (g : Group) (limit m : ℕ) (shape : Shape) (crashes : List CrashPoint) → IsGroup g → IsShape g shape → m < roster g → HasForm (begun_replica (setup_of g limit m shape crashes))
+begun_form g limit m shape crashes is of within = begun_in_form (setup_of g limit m shape crashes) (setups_can_begin g limit m shape crashes is of within)
+
+begun_is_of : (g : Group) (limit m : ℕ) (shape : Shape) (crashes : List CrashPoint) → IsGroup g → IsShape g shape → IsOf g m (begun_replica (setup_of g limit m shape crashes))
+begun_is_of g limit m shape crashes is of = record {
   number = refl;
   members = of.members;
   window = of.window;
@@ -231,9 +235,9 @@ begun_is_of g limit m shape is of = record {
   whole = refl;
 }
 
-begun_runs : (g : Group) (limit m : ℕ) (shape : Shape) → IsGroup g → IsShape g shape → m < roster g → 1 ≤ limit → IsRunningMember (begun_running (setup_of g limit m shape))
-begun_runs g limit m shape is of within some = record {
-  replica = begun_form g limit m shape is of within;
+begun_runs : (g : Group) (limit m : ℕ) (shape : Shape) (crashes : List CrashPoint) → IsGroup g → IsShape g shape → m < roster g → 1 ≤ limit → IsRunningMember (begun_running (setup_of g limit m shape crashes))
+begun_runs g limit m shape crashes is of within some = record {
+  replica = begun_form g limit m shape crashes is of within;
   place = tt;
   due = refl;
   rests = (λ e p. absurd (cc), λ p. refl);
@@ -244,4 +248,4 @@ begun_runs g limit m shape is of within some = record {
 pub begins_in_form : (g : Group) (limit m : ℕ) (s : Setup) → IsGroup g → 1 ≤ limit → IsSetup g limit m s → m < roster g → IsRunningMember (begun_running s) × IsOf g m (begun_running s).replica
 begins_in_form g limit m s is some setup within =
     let shape = shape_is g limit m s setup in
-    rw (setup_is g limit m s setup) (begun_runs g limit m s.shape is shape within some, begun_is_of g limit m s.shape is shape)
+    rw (setup_is g limit m s setup) (begun_runs g limit m s.shape s.crashes is shape within some, begun_is_of g limit m s.shape s.crashes is shape)

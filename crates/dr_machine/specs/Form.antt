@@ -13,7 +13,7 @@ use Rattle.dr_words.specs.Masks.{IsInRoster}
 use Rattle.dr_words.specs.Packing.{recv_word, ring_tag}
 use Rattle.dr_machine.specs.declared.setup.Setup.{Setup}
 use Rattle.dr_machine.specs.declared.place.Place.{Place}
-use Rattle.dr_machine.specs.declared.place.Place.TheVariants.{Beat, Look, Receive, Send, Deliver, Append, Publish, Report, Mark, Push, Done, Spent, Rest}
+use Rattle.dr_machine.specs.declared.place.Place.TheVariants.{Beat, Look, Receive, Send, Deliver, Append, Publish, Report, Mark, Push, Crash, Done, Spent, Rest}
 use Rattle.dr_machine.specs.Group.{Group, roster}
 use Rattle.dr_machine.specs.Replica.{Replica, me, count, greatest, view_of}
 use Rattle.dr_machine.specs.Running.{Running, members, columns, applies}
@@ -98,6 +98,7 @@ InPlace n k Append = Unit {0}
 InPlace n k Publish = Unit {0}
 InPlace n k Report = Unit {0}
 InPlace n k Mark = Unit {0}
+InPlace n k Crash = Unit {0}
 InPlace n k Done = Unit {0}
 InPlace n k Spent = Unit {0}
 InPlace n k Rest = Unit {0}

@@ -9,3 +9,4 @@ pub mod Running
 pub mod Program
 pub mod Reading
 pub mod Form
+pub mod Schedule

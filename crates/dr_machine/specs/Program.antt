@@ -1,5 +1,5 @@
 -- A program: the members of a group as they run, over the words of one table.
-use Rattle.std.specs.Prelude.{◌≡◌, ◌⊎◌, ℕ, zero, suc, ◌<◌, Bool, true, false, IsTrue, All, List, [], ◌∷◌, length, map, fold, replicate, slice_index, slice_get, slice_set, Option, None, Some, is_some, unwrap_or}
+use Rattle.std.specs.Prelude.{◌≡◌, ℕ, IsTrue, All, List, [], ◌∷◌, length, map, fold, replicate, slice_index, slice_get, slice_set, Option, None, Some, is_some, unwrap_or}
 use Rattle.std.specs.List.{range_with_len}
 use Rattle.dr_entry.specs.declared.end.AgeEnd.{AgeEnd}
 use Rattle.dr_entry.specs.declared.end.MemberEnd.{MemberEnd}
@@ -8,8 +8,6 @@ use Rattle.dr_words.specs.Layout.{words_of}
 use Rattle.dr_history.specs.History.{messages_of}
 use Rattle.dr_history.specs.declared.opening.Opening.{Opening}
 use Rattle.dr_machine.specs.declared.setup.Setup.{Setup}
-use Rattle.dr_machine.specs.declared.place.Place.{Place}
-use Rattle.dr_machine.specs.declared.place.Place.TheVariants.{Beat, Rest}
 use Rattle.dr_machine.specs.declared.deed.Deed.{Deed}
 use Rattle.dr_machine.specs.declared.deed.Deed.TheVariants as deeds
 use Rattle.dr_machine.specs.Group.{Group, roster}
@@ -82,52 +80,9 @@ begun_program g setups = record {
   table = replicate (words_of (roster g) g.window (roster g)) 0;
 }
 
--- ---- lockstep
-
--- the member has ended, or stands before a turn
-abbrev pub is_at_rest : Place → Bool
-is_at_rest Beat = true
-is_at_rest Rest = true
-is_at_rest p = false
-
-abbrev pub has_ended : Option Running → Bool
-has_ended None = true
-has_ended (Some r) = is_some r.replica.end
-
-abbrev pub is_between_turns : Option Running → Bool
-is_between_turns None = true
-is_between_turns (Some r) = is_at_rest r.place
-
--- member m takes one whole turn: its deeds up to the first after which it has ended or stands before a turn
-pub record IsTurn (m : ℕ) (p q : Program) : Type 0 where
-  pub deeds : ℕ
-  pub some : 0 < deeds
-  pub taken : q ≡ ran p (replicate deeds m)
-  pub whole : is_between_turns (slice_get q.members m) ≡ true
-  pub first : (k : ℕ) → 0 < k → k < deeds → is_between_turns (slice_get (ran p (replicate k m)).members m) ≡ false
-
--- each of these members without an end takes one whole turn, in this order
-abbrev pub TakeTurns : List ℕ → Program → Program → Type 0
-TakeTurns [] p q = q ≡ p
-TakeTurns (m ∷ ms) p q =
-    (mid : Program)
-    × (((has_ended (slice_get p.members m) ≡ true) × (mid ≡ p)) ⊎ ((has_ended (slice_get p.members m) ≡ false) × IsTurn m p mid))
-    × TakeTurns ms mid q
-
--- so many rounds, in each of which every member takes its turn, ascending
-abbrev pub Rounds : ℕ → Program → Program → Type 0
-Rounds zero p q = q ≡ p
-Rounds (suc k) p q = (mid : Program) × TakeTurns (range_with_len 0 (length p.members)) p mid × Rounds k mid q
-
 -- all members have ended
 abbrev pub AllEnded : Program → Type 0
 AllEnded p = All (λ (r : Running). IsTrue (is_some r.replica.end)) p.members
-
--- the run in lockstep: rounds until all members have ended
-pub record IsLockstep (begun p : Program) : Type 0 where
-  pub rounds : ℕ
-  pub ran : Rounds rounds begun p
-  pub ended : AllEnded p
 
 -- how a member ended
 abbrev pub member_end : Replica → MemberEnd

@@ -7,12 +7,12 @@ use Rattle.dr_words.specs.Layout.{word_index_of}
 use Rattle.dr_machine.specs.declared.event.Event.{Event}
 use Rattle.dr_machine.specs.declared.event.Event.TheVariants as events
 use Rattle.dr_machine.specs.declared.place.Place.{Place}
-use Rattle.dr_machine.specs.declared.place.Place.TheVariants.{Beat, Look, Receive, Send, Deliver, Append, Publish, Report, Mark, Push, Done, Spent, Rest}
+use Rattle.dr_machine.specs.declared.place.Place.TheVariants.{Beat, Look, Receive, Send, Deliver, Append, Publish, Report, Mark, Push, Crash, Done, Spent, Rest}
 use Rattle.dr_entry.specs.declared.end.End.TheVariants as ends
 use Rattle.dr_machine.specs.Group.{Group, roster, columns}
 use Rattle.dr_machine.specs.World.{World, opening_world}
 use Rattle.dr_machine.specs.Replica.{Replica, me, count, item}
-use Rattle.dr_machine.specs.Running.{Running}
+use Rattle.dr_machine.specs.Running.{Running, crashes_now}
 use Rattle.dr_machine.specs.Program.{Program}
 
 -- what member m has of something, and at the opening's where there is no such member
@@ -76,7 +76,8 @@ event_at r Append = Some (events.Append (me r.replica))
 event_at r Publish = Some (events.Publish (me r.replica))
 event_at r Report = Some (events.Report (me r.replica))
 event_at r Mark = Some (events.Mark (me r.replica))
-event_at r (Push j c) = Some (events.Push (me r.replica) j c)
+event_at r (Push j c) = Some (if crashes_now r then events.Crash (me r.replica) ends.Crashed else events.Push (me r.replica) j c)
+event_at r Crash = Some (events.Crash (me r.replica) ends.Crashed)
 event_at r Done = Some (events.Halt (me r.replica) ends.Done)
 event_at r Spent = Some (events.Crash (me r.replica) (ends.Spent r.replica.turns))
 event_at r Rest = None

@@ -1,14 +1,16 @@
 -- A running member: a replica that goes through its turn, place by place, and does at each what there is to do.
-use Rattle.std.specs.Prelude.{ℕ, zero, suc, ◌+◌, ◌*◌, ◌==◌, ◌&&◌, Bool, true, nat_lt, if◌then◌else◌, slice_index_or, unwrap_or}
+use Rattle.std.specs.Prelude.{ℕ, zero, suc, ◌+◌, ◌*◌, ◌==◌, ◌&&◌, ◌||◌, Bool, true, false, nat_lt, if◌then◌else◌, List, fold, slice_index_or, Option, None, Some, unwrap_or}
+use Rattle.std.specs.Option.{option_map_or}
 use Rattle.dr_entry.specs.declared.entry.Entry.TheVariants.{View}
 use Rattle.dr_entry.specs.declared.record.Record.TheVariants as records
 use Rattle.dr_entry.specs.declared.end.End.TheVariants as ends
 use Rattle.dr_rows.specs.Words.{own, changed}
 use Rattle.dr_words.specs.Columns.{columns_of}
 use Rattle.dr_words.specs.Layout.{word_index_of}
+use Rattle.dr_machine.specs.declared.setup.CrashPoint.{CrashPoint}
 use Rattle.dr_machine.specs.declared.setup.Setup.{Setup}
 use Rattle.dr_machine.specs.declared.place.Place.{Place}
-use Rattle.dr_machine.specs.declared.place.Place.TheVariants.{Beat, Look, Receive, Send, Deliver, Append, Publish, Report, Mark, Push, Done, Spent, Rest}
+use Rattle.dr_machine.specs.declared.place.Place.TheVariants.{Beat, Look, Receive, Send, Deliver, Append, Publish, Report, Mark, Push, Crash, Done, Spent, Rest}
 use Rattle.dr_machine.specs.declared.deed.Deed.{Deed}
 use Rattle.dr_machine.specs.declared.deed.Deed.TheVariants as deeds
 use Rattle.dr_machine.specs.Effects.{one_more}
@@ -21,10 +23,33 @@ pub record Running : Type 0 where
   pub place : Place
   -- after how many turns it ends
   pub limit : ℕ
+  -- where it crashes, if anywhere, and how many pushes it has done in this turn
+  pub crash : Option CrashPoint
+  pub pushes : ℕ
+
+-- one crash point comes before another: in an earlier turn, or in the same one at an earlier push
+abbrev pub comes_before : CrashPoint → CrashPoint → Bool
+comes_before a b = nat_lt a.turn b.turn || ((a.turn == b.turn) && nat_lt a.push b.push)
+
+-- the earlier of a crash point, if there is one, and another
+abbrev pub earlier_of : Option CrashPoint → CrashPoint → CrashPoint
+earlier_of None b = b
+earlier_of (Some a) b = if comes_before b a then b else a
+
+-- the first of some crash points
+abbrev pub first_crash : List CrashPoint → Option CrashPoint
+first_crash points = fold (λ a b. Some (earlier_of a b)) None points
 
 -- a member as its age opens, before its first deed
 abbrev pub begun_running : Setup → Running
-begun_running s = record { replica = begun_replica s; place = Beat; limit = s.turns }
+begun_running s = record { replica = begun_replica s; place = Beat; limit = s.turns; crash = first_crash s.crashes; pushes = 0 }
+
+-- whether it crashes just before its next push, and whether it crashes in this turn
+abbrev pub crashes_now : Running → Bool
+crashes_now r = option_map_or (λ c. (c.turn == r.replica.turns) && (c.push == r.pushes)) r.crash false
+
+abbrev pub crashes_in_turn : Running → Bool
+crashes_in_turn r = option_map_or (λ c. c.turn == r.replica.turns) r.crash false
 
 -- whether there is something to do at this place
 abbrev pub applies : Running → Place → Bool
@@ -38,6 +63,7 @@ applies r Publish = may_publish r.replica
 applies r Report = may_report r.replica
 applies r Mark = may_mark r.replica
 applies r (Push j c) = is_other r.replica j && changed r.replica.rows j c
+applies r Crash = crashes_in_turn r
 applies r Done = all_done r.replica
 applies r Spent = r.replica.turns == r.limit
 applies r Rest = true
@@ -53,7 +79,8 @@ after n k Append = Publish
 after n k Publish = Report
 after n k Report = Mark
 after n k Mark = Push 0 0
-after n k (Push j c) = if nat_lt (c + 1) k then Push j (c + 1) else (if nat_lt (j + 1) n then Push (j + 1) 0 else Done)
+after n k (Push j c) = if nat_lt (c + 1) k then Push j (c + 1) else (if nat_lt (j + 1) n then Push (j + 1) 0 else Crash)
+after n k Crash = Done
 after n k Done = Spent
 after n k Spent = Beat
 after n k Rest = Rest
@@ -84,13 +111,15 @@ settled r = settle (places_of (members r) (columns r)) r
 
 -- what the act at a place makes of the member; an act that may be repeated leaves the place as it is
 abbrev pub act : Running → Place → Running
-act r Beat = moved (record r { replica = beaten r.replica })
+act r Beat = moved (record r { replica = beaten r.replica; pushes = 0 })
 act r (Receive s) = record r { replica = received r.replica s }
 act r Send = record r { replica = sent r.replica }
 act r Deliver = record r { replica = delivered r.replica }
 act r Publish = record r { replica = published r.replica; place = Append }
 act r Report = record r { replica = reported r.replica }
 act r Mark = record r { replica = marked r.replica }
+act r (Push j c) = record r { replica = ended r.replica ends.Crashed; place = Rest }
+act r Crash = record r { replica = ended r.replica ends.Crashed; place = Rest }
 act r Done = record r { replica = ended r.replica ends.Done; place = Rest }
 act r Spent = record r { replica = ended r.replica (ends.Spent r.replica.turns); place = Rest }
 act r p = r
@@ -107,7 +136,7 @@ abbrev pub after_look : Running → ℕ → Running
 after_look r word = settled (looked_at r r.place word)
 
 abbrev pub pushed_at : Running → Place → Running
-pushed_at r (Push j c) = moved (record r { replica = pushed r.replica j c })
+pushed_at r (Push j c) = moved (record r { replica = pushed r.replica j c; pushes = one_more 32 r.pushes })
 pushed_at r p = r
 
 abbrev pub after_push : Running → Running
@@ -120,13 +149,17 @@ after_append r = settled (record r { replica = appended r.replica; place = Publi
 abbrev pub index_of : Running → ℕ → ℕ → ℕ → ℕ
 index_of r copy row column = word_index_of r.replica.roster r.replica.window r.replica.view copy row column
 
+-- an act: the own beat word takes the number of acts
+abbrev pub act_deed : Running → Deed
+act_deed r = deeds.Act (index_of r (me r.replica) (me r.replica) 0) (one_more 64 r.replica.acts)
+
 -- the deed that is due at a place
 abbrev pub deed : Running → Place → Deed
 deed r (Look i c) = deeds.Look (index_of r (me r.replica) i c)
-deed r (Push j c) = deeds.Push (index_of r j (me r.replica) c) (own r.replica.rows c)
+deed r (Push j c) = if crashes_now r then act_deed r else deeds.Push (index_of r j (me r.replica) c) (own r.replica.rows c)
 deed r Append = deeds.Append (records.Entry (slice_index_or r.replica.history r.replica.logged (View 0 0 0)))
 deed r Rest = deeds.Rest (unwrap_or r.replica.end ends.Done)
-deed r p = deeds.Act (index_of r (me r.replica) (me r.replica) 0) (one_more 64 r.replica.acts)
+deed r p = act_deed r
 
 -- the next deed of the member
 abbrev pub next_deed : Running → Deed

@@ -16,4 +16,4 @@ pub use deed::Deed;
 pub use event::Event;
 pub use laws::{programs_begin_at_the_opening, runs_follow_one_another};
 pub use place::Place;
-pub use setup::Setup;
+pub use setup::{CrashPoint, Setup};

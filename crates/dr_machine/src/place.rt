@@ -21,6 +21,8 @@ pub enum Place {
     Mark,
     /// A push of the own word of a column to a member.
     Push { to: u8, column: usize },
+    /// The end of a member that was to crash in this turn, behind its last push.
+    Crash,
     /// The end of a member that is done.
     Done,
     /// The end of a member whose turns are spent.

@@ -1,6 +1,16 @@
 use dr_entry::{Entry, Message, Seq};
 use dr_words::{Mask, Shape};
 
+/// A point in a member's turns at which it crashes.
+#[derive(Clone, Copy, Debug, PartialEq, Eq)]
+pub struct CrashPoint {
+    /// The turn, counted from 1.
+    pub turn: u32,
+    /// The push of that turn, counted from 0, just before which it crashes; where the turn has fewer
+    /// pushes, it crashes after the last.
+    pub push: u32,
+}
+
 /// What a member of a group is told as its age opens.
 #[derive(Debug, Drop)]
 pub struct Setup {
@@ -20,4 +30,6 @@ pub struct Setup {
     pub messages: Seq<Message>,
     /// The number of the script's messages of each member, and 0 for whoever is none.
     pub totals: [u32; 16],
+    /// The points at which the member is to crash: it does so at the first that it comes to.
+    pub crashes: Seq<CrashPoint>,
 }
