@@ -1,24 +1,25 @@
 -- A step keeps a program of the group, where it keeps the form of the member that takes it.
-use Rattle.std.proofs.Common.{◌≡◌, refl, sym, ap, ◌∙◌, subst, ℕ, ◌<◌, ◌≤◌, inl, inr, List, length, map, arith}
+use Rattle.std.proofs.Common.{◌≡◌, refl, sym, ap, ◌∙◌, subst, ℕ, ◌<◌, ◌≤◌, inl, inr, List, length, map, Bool, true, false, if◌then◌else◌, arith}
 use Rattle.std.specs.Prelude.{Option, Some, None, slice_get, slice_set, slice_index, option_map}
 use Rattle.std.proofs.lemmas.Bool.{cases_eq}
 use Rattle.std.proofs.lemmas.List.{length-set, length-map, length-replicate}
 use Rattle.std.proofs.lemmas.Option.{slice_get-map, slice_get_within, same_Some}
+use Rattle.dr_rows.specs.Words.{own}
 use Rattle.dr_words.specs.Layout.{words_of}
 use Rattle.dr_machine.specs.declared.setup.Setup.{Setup}
 use Rattle.dr_machine.specs.declared.place.Place.{Place}
-use Rattle.dr_machine.specs.declared.place.Place.TheVariants.{Beat, Look, Receive, Send, Deliver, Append, Publish, Report, Mark, Push, Done, Spent, Rest}
+use Rattle.dr_machine.specs.declared.place.Place.TheVariants.{Beat, Look, Receive, Send, Deliver, Append, Publish, Report, Mark, Push, Crash, Done, Spent, Rest}
 use Rattle.dr_machine.specs.declared.deed.Deed.{Deed}
 use Rattle.dr_machine.specs.declared.deed.Deed.TheVariants as deeds
 use Rattle.dr_machine.specs.Group.{Group, IsGroup, roster}
 use Rattle.dr_machine.specs.Replica.{Replica, me}
-use Rattle.dr_machine.specs.Running.{Running, begun_running, deed, next_deed, settled}
+use Rattle.dr_machine.specs.Running.{Running, act_deed, begun_running, crashes_now, deed, index_of, next_deed, settled}
 use Rattle.dr_machine.specs.Program.{Program, AreSetups, begun_program, answered, stored, step_of}
 use Rattle.dr_machine.specs.Form.{IsOf, IsRunningMember}
 use Rattle.dr_machine.proofs.Holdings.{replica_set, replica_kept}
 use Rattle.dr_machine.proofs.OpeningForm.{begins_in_form}
 use Rattle.dr_reading.specs.Programs.{IsProgram}
-use Rattle.dr_reading.proofs.Deeds.{settle_replica}
+use Rattle.dr_reading.proofs.Deeds.{member_at, settle_replica}
 
 -- ---- the member
 
@@ -39,24 +40,26 @@ of_same g m q r of number roster window banks messages totals view members = rec
 of_settled : (g : Group) (m : ℕ) (x : Running) → IsOf g m x.replica → IsOf g m (settled x).replica
 of_settled g m x of = subst (IsOf g m) (sym (settle_replica _ x)) of
 
-abbrev member_at : Replica → Place → ℕ → Running
-member_at q place limit = record { replica = q; place = place; limit = limit }
-
-of_answered : (g : Group) (m : ℕ) (table : List ℕ) (q : Replica) (place : Place) (limit : ℕ) → IsOf g m q
-    → IsOf g m (answered table (deed (member_at q place limit) place) (member_at q place limit)).replica
-of_answered g m table q Beat limit of = of_settled g m _ (of_same g m q _ of refl refl refl refl refl refl refl refl)
-of_answered g m table q (Look i c) limit of = of_settled g m _ (of_same g m q _ of refl refl refl refl refl refl refl refl)
-of_answered g m table q (Receive s) limit of = of_settled g m _ (of_same g m q _ of refl refl refl refl refl refl refl refl)
-of_answered g m table q Send limit of = of_settled g m _ (of_same g m q _ of refl refl refl refl refl refl refl refl)
-of_answered g m table q Deliver limit of = of_settled g m _ (of_same g m q _ of refl refl refl refl refl refl refl refl)
-of_answered g m table q Append limit of = of_settled g m _ (of_same g m q _ of refl refl refl refl refl refl refl refl)
-of_answered g m table q Publish limit of = of_settled g m _ (of_same g m q _ of refl refl refl refl refl refl refl refl)
-of_answered g m table q Report limit of = of_settled g m _ (of_same g m q _ of refl refl refl refl refl refl refl refl)
-of_answered g m table q Mark limit of = of_settled g m _ (of_same g m q _ of refl refl refl refl refl refl refl refl)
-of_answered g m table q (Push j c) limit of = of_settled g m _ (of_same g m q _ of refl refl refl refl refl refl refl refl)
-of_answered g m table q Done limit of = of_settled g m _ (of_same g m q _ of refl refl refl refl refl refl refl refl)
-of_answered g m table q Spent limit of = of_settled g m _ (of_same g m q _ of refl refl refl refl refl refl refl refl)
-of_answered g m table q Rest limit of = of
+of_answered : (g : Group) (m : ℕ) (table : List ℕ) (q : Replica) (place : Place) (x : Running) → IsOf g m q
+    → IsOf g m (answered table (deed (member_at q place x) place) (member_at q place x)).replica
+of_answered g m table q Beat x of = of_settled g m _ (of_same g m q _ of refl refl refl refl refl refl refl refl)
+of_answered g m table q (Look i c) x of = of_settled g m _ (of_same g m q _ of refl refl refl refl refl refl refl refl)
+of_answered g m table q (Receive s) x of = of_settled g m _ (of_same g m q _ of refl refl refl refl refl refl refl refl)
+of_answered g m table q Send x of = of_settled g m _ (of_same g m q _ of refl refl refl refl refl refl refl refl)
+of_answered g m table q Deliver x of = of_settled g m _ (of_same g m q _ of refl refl refl refl refl refl refl refl)
+of_answered g m table q Append x of = of_settled g m _ (of_same g m q _ of refl refl refl refl refl refl refl refl)
+of_answered g m table q Publish x of = of_settled g m _ (of_same g m q _ of refl refl refl refl refl refl refl refl)
+of_answered g m table q Report x of = of_settled g m _ (of_same g m q _ of refl refl refl refl refl refl refl refl)
+of_answered g m table q Mark x of = of_settled g m _ (of_same g m q _ of refl refl refl refl refl refl refl refl)
+of_answered g m table q (Push j c) x of = by (crashes_now (member_at q (Push j c) x))
+  where
+    by : (b : Bool) → IsOf g m (answered table (if b then act_deed (member_at q (Push j c) x) else deeds.Push (index_of (member_at q (Push j c) x) j (me q) c) (own q.rows c)) (member_at q (Push j c) x)).replica
+    by true = of_settled g m _ (of_same g m q _ of refl refl refl refl refl refl refl refl)
+    by false = of_settled g m _ (of_same g m q _ of refl refl refl refl refl refl refl refl)
+of_answered g m table q Crash x of = of_settled g m _ (of_same g m q _ of refl refl refl refl refl refl refl refl)
+of_answered g m table q Done x of = of_settled g m _ (of_same g m q _ of refl refl refl refl refl refl refl refl)
+of_answered g m table q Spent x of = of_settled g m _ (of_same g m q _ of refl refl refl refl refl refl refl refl)
+of_answered g m table q Rest x of = of
 
 -- ---- the program
 
@@ -91,7 +94,7 @@ step_kept g p m is keeps = by (slice_get p.members m) refl
     by : (o : Option Running) → slice_get p.members m ≡ o → IsProgram g (step_of p m)
     by None e = rw e is
     by (Some r) e = rw e (replaced_program g p m (answered p.table (next_deed r) r) (next_deed r) is (slice_get_within p.members m r e) (keeps r e)
-        (of_answered g m p.table r.replica r.place r.limit (is.of m r e)))
+        (of_answered g m p.table r.replica r.place r (is.of m r e)))
 
 -- ---- the beginning
 
