@@ -10,7 +10,7 @@ use Rattle.dr_entry.specs.declared.end.MemberEnd.{MemberEnd}
 use Rattle.dr_entry.specs.declared.end.AgeEnd.{AgeEnd}
 use Rattle.dr_history.specs.Members.{members_of}
 use Rattle.dr_text.specs.declared.last.Last.{Last}
-use Rattle.dr_text.specs.declared.last.Last.TheVariants.{Done as AllDone, Usage, NotBuilt, SourceFault, Unfinished}
+use Rattle.dr_text.specs.declared.last.Last.TheVariants.{Done as AllDone, Usage, NotBuilt, TooLong, NotJson, Rule, SourceFault, Unfinished}
 
 -- the members of a mask, ascending, with commas between them
 abbrev pub mask_text : ℕ → List ℕ
@@ -62,11 +62,18 @@ age_text a =
     (codes "age " ∷ decimal a.age ∷ codes " start " ∷ decimal (length a.start) ∷ codes "\n"
     ∷ flat_map entry_text a.start ∷ members_text (length a.start) a.members ∷ [])
 
+-- the line that names a broken rule and its place
+abbrev pub rule_text : ℕ → List ℕ → List ℕ
+rule_text rule path = concat (codes "refused: rule " ∷ decimal rule ∷ codes " at " ∷ path ∷ codes "\n" ∷ [])
+
 -- the last line
 abbrev pub last_text : Last → List ℕ
 last_text AllDone = codes "ok\n"
 last_text Usage = codes "usage: derecho (sim|run) [--logs FOLDER]\n"
 last_text NotBuilt = codes "refused: not built\n"
+last_text TooLong = codes "refused: too long\n"
+last_text NotJson = codes "refused: not json\n"
+last_text (Rule rule path) = rule_text rule path
 last_text SourceFault = codes "fault: source\n"
 last_text Unfinished = codes "unfinished\n"
 

@@ -1,5 +1,5 @@
 use super::*;
-use dr_entry::{AgeEnd, End, Entry, MemberEnd, Message, Seq};
+use dr_entry::{AgeEnd, End, Entry, MemberEnd, Message, Seq, Text};
 use std::alloc::Global;
 use std::test::Fail;
 
@@ -155,9 +155,16 @@ unfinished
 #[test]
 fn where_no_age_ran_the_last_line_stands_alone(rt: HostRuntime) -> Result<(), Fail> {
     let alloc = rt.alloc();
+    let path = Text::of(String::from_str(alloc, "/messages/2/0")?);
     let lines = [
         (Last::Usage, "usage: derecho (sim|run) [--logs FOLDER]\n"),
         (Last::NotBuilt, "refused: not built\n"),
+        (Last::TooLong, "refused: too long\n"),
+        (Last::NotJson, "refused: not json\n"),
+        (
+            Last::Rule { rule: 10, path },
+            "refused: rule 10 at /messages/2/0\n",
+        ),
         (Last::SourceFault, "fault: source\n"),
     ];
     for (last, line) in lines {

@@ -1,5 +1,5 @@
 ghost use Rattle.std.specs.Prelude.{◌≡◌, ℕ, ◌++◌, IfOk, OnOk, string_bytes};
-ghost use Rattle.dr_text.specs.Report.{age_text, last_text, report_text, members_text, member_text};
+ghost use Rattle.dr_text.specs.Report.{age_text, last_text, rule_text, report_text, members_text, member_text};
 
 use crate::ends::push_end;
 use crate::entries::push_entries;
@@ -16,20 +16,30 @@ pub fn report(alloc: Global, ages: &[AgeEnd], last: &Last) -> Result<String, All
     for age in ages {
         push_age(&mut out, age)?;
     }
-    push_last(&mut out, *last)?;
+    push_last(&mut out, last)?;
     Ok(out)
 }
 
-fn push_last(out: &mut String, last: Last) -> Result<(), AllocError>
-    ensures { OnOk result (string_bytes out.new ≡ string_bytes out.old ++ last_text last) }
+fn push_last(out: &mut String, last: &Last) -> Result<(), AllocError>
+    ensures { OnOk result (string_bytes out.new ≡ string_bytes out.old ++ last_text last.now) }
 {
     match last {
         Last::Done => out.push_str("ok\n"),
         Last::Usage => out.push_str("usage: derecho (sim|run) [--logs FOLDER]\n"),
         Last::NotBuilt => out.push_str("refused: not built\n"),
+        Last::TooLong => out.push_str("refused: too long\n"),
+        Last::NotJson => out.push_str("refused: not json\n"),
+        Last::Rule { rule, path } => push_rule(out, *rule, path.as_str()),
         Last::SourceFault => out.push_str("fault: source\n"),
         Last::Unfinished => out.push_str("unfinished\n"),
     }
+}
+
+fn push_rule(out: &mut String, rule: u8, path: &str) -> Result<(), AllocError>
+    ensures { OnOk result
+        (string_bytes out.new ≡ string_bytes out.old ++ rule_text rule path.now) }
+{
+    writeln!(out, "refused: rule {rule} at {path}")
 }
 
 fn push_age(out: &mut String, age: &AgeEnd) -> Result<(), AllocError>
