@@ -1,6 +1,7 @@
-use Rattle.std.proofs.Common.{◌≡◌, ℕ, Bool, true, false, cond, List, [], ◌∷◌, Option, Some, None, refl, ap, String, string_bytes, ◌&&◌}
+use Rattle.std.proofs.Common.{◌≡◌, ℕ, Bool, true, false, cond, List, [], ◌∷◌, Option, Some, None, refl, ap, String, string_bytes, ◌&&◌, map}
+use Rattle.std.specs.Prelude.{◌||◌}
 use Rattle.std.specs.declared.alloc.Global.{Global}
-use Rattle.std.specs.List.{list_all}
+use Rattle.std.specs.List.{list_all, list_any}
 use Rattle.std.specs.Map.{keys_of}
 use Rattle.std.specs.Str.{IsUtf8, is_utf8}
 use Rattle.std.proofs.lemmas.Str.{is_utf8-from_IsUtf8, IsUtf8-from_is_utf8}
@@ -30,3 +31,7 @@ elements_of_items (d ∷ ds) = ap (λ es. d ∷ es) (elements_of_items ds)
 pub all_keys : (test : List ℕ → Bool) (entries : List (String Global × Value)) → list_all test (keys (members_view entries)) ≡ list_all (λ key. test (string_bytes key)) (keys_of entries)
 all_keys test [] = refl
 all_keys test (e ∷ entries) = ap (λ rest. test (string_bytes e.0) && rest) (all_keys test entries)
+
+pub list_any_map : {A B : Type 0} (test : B → Bool) (f : A → B) (xs : List A) → list_any test (map f xs) ≡ list_any (λ x. test (f x)) xs
+list_any_map test f [] = refl
+list_any_map test f (x ∷ xs) = ap (λ rest. test (f x) || rest) (list_any_map test f xs)

@@ -1,3 +1,6 @@
+mod EachLemmas
 mod JsonLemmas
 mod MessageLemmas
-mod PlainLemmas
+mod RangeLemmas
+mod RuleLemmas
+mod StopLemmas

@@ -1,3 +1,5 @@
 pub mod Json
+pub mod Places
 pub mod Rules
-pub mod Plain
+pub mod Reading
+pub mod Ranges

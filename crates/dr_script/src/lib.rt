@@ -1,17 +1,21 @@
-//! Scripts: how many members a group has, what each sends, and for how long they run, as JSON text.
+//! Scripts: how many members a group has, what each sends, which of them fail, and for how long
+//! they run, as JSON text.
 //!
-//! [`plain_script`] reads the scripts that use the plainest forms alone. Contracts see a
-//! [`Script`] as the record of its fields, and its messages as lists of lists of bytes.
+//! [`read_script`] reads a script, and names the first rule that a text breaks, with its place.
+//! Contracts see a [`Script`] as the record of its fields, and its messages as lists of lists of
+//! bytes.
 #![tactic(auto)]
 
+mod faults;
 mod json;
 mod messages;
-mod plain;
+mod place;
+mod reading;
 mod refusal;
-mod rules;
 mod script;
+mod sizes;
 
-pub use plain::{MAX_SCRIPT, plain_script};
+pub use reading::{MAX_SCRIPT, read_script};
 pub use refusal::ScriptFault;
 pub use script::{Fault, Schedule, Script, What};
 

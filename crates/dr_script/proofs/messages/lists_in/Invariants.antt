@@ -1,8 +1,13 @@
-use Rattle.std.proofs.Common.{◌≡◌, take, Some, option_and_then}
+use Rattle.std.proofs.Common.{◌≡◌, ◌<◌, All, take, map, None}
 use Rattle.serde_json.specs.View.{view}
-use Rattle.dr_script.specs.Json.{all_of, list_of}
-use Rattle.dr_script.specs.Rules.{few_of, text_of}
+use Rattle.dr_script.specs.Places.{broken_at}
+use Rattle.dr_script.specs.Rules.{list_breaks}
+use Rattle.dr_script.specs.Reading.{messages_in}
 use Rattle.dr_script.proofs.messages.lists_in.Given as goal
 
-abbrev pub invariant-loop-value : goal.invariant-loop-value
-invariant-loop-value l = all_of (λ v. option_and_then (all_of text_of) (option_and_then few_of (list_of (view v)))) (take l.value-index l.values) ≡ Some l.lists.items
+abbrev pub invariant-loop-member : goal.invariant-loop-member
+invariant-loop-member l = record {
+  kept : broken_at 10 (list_breaks (map view (take l.member l.lists))) ≡ None;
+  messages : l.messages.items ≡ messages_in (map view (take l.member l.lists));
+  bytes : All (All (All (λ byte. byte < 256))) l.messages.items;
+}

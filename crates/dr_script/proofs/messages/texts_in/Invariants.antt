@@ -1,8 +1,13 @@
-use Rattle.std.proofs.Common.{◌≡◌, take, Some}
+use Rattle.std.proofs.Common.{◌≡◌, ◌<◌, All, take, map, None}
+use Rattle.std.specs.List.{filter_map}
 use Rattle.serde_json.specs.View.{view}
-use Rattle.dr_script.specs.Json.{all_of}
-use Rattle.dr_script.specs.Rules.{text_of}
+use Rattle.dr_script.specs.Places.{broken_at}
+use Rattle.dr_script.specs.Rules.{member_breaks, text_of}
 use Rattle.dr_script.proofs.messages.texts_in.Given as goal
 
-abbrev pub invariant-loop-value : goal.invariant-loop-value
-invariant-loop-value l = all_of (λ v. text_of (view v)) (take l.value-index l.values) ≡ Some l.texts.items
+abbrev pub invariant-loop-index : goal.invariant-loop-index
+invariant-loop-index l = record {
+  kept : broken_at 10 (member_breaks l.member (map view (take l.index l.texts))) ≡ None;
+  messages : l.messages.items ≡ filter_map text_of (map view (take l.index l.texts));
+  bytes : All (All (λ byte. byte < 256)) l.messages.items;
+}

@@ -1,0 +1,12 @@
+use Rattle.std.proofs.Common.{◌≡◌, take, map, None}
+use Rattle.std.specs.List.{filter_map}
+use Rattle.serde_json.specs.View.{view}
+use Rattle.dr_script.specs.Places.{broken_at}
+use Rattle.dr_script.specs.Rules.{deed_breaks, fault_of}
+use Rattle.dr_script.proofs.faults.faults_in.Given as goal
+
+abbrev pub invariant-loop-index : goal.invariant-loop-index
+invariant-loop-index l = record {
+  kept : broken_at 13 (deed_breaks l.sizes (map view (take l.index l.values))) ≡ None;
+  faults : l.faults.items ≡ filter_map (fault_of l.sizes) (map view (take l.index l.values));
+}
