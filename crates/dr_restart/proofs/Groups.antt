@@ -1,12 +1,13 @@
 -- A script and a first start make a group.
-use Rattle.std.proofs.Common.{◌≡◌, refl, sym, ap, ◌∙◌, ◌⊎◌, inl, inr, subst, ℕ, ◌-◌, ◌^◌, ◌<◌, ◌≤◌, List, [], length, get_or, arith}
-use Rattle.std.specs.Prelude.{All, Some, None, slice_get, slice_index, unwrap_or}
+use Rattle.std.proofs.Common.{◌≡◌, sym, ap, ◌∙◌, ◌⊎◌, inl, inr, subst, ℕ, ◌-◌, ◌^◌, ◌<◌, ◌≤◌, List, [], length, get_or, arith}
+use Rattle.std.specs.Prelude.{All, Some, slice_get, slice_index, unwrap_or}
 use Rattle.std.proofs.lemmas.Option.{get_or_from_slice_get, slice_get_within, slice_get_past, unwrap_or-slice_get}
 use Rattle.std.proofs.lemmas.Bool.{cases_lt}
 use Rattle.dr_script.specs.declared.script.Script.{Script}
 use Rattle.dr_history.specs.History.{GroupView, view_after, view_of}
 use Rattle.dr_machine.specs.Group.{IsGroup}
-use Rattle.dr_restart.specs.Groups.{HasGroupRanges, first_group_of}
+use Rattle.dr_script.specs.Ranges.{HasRanges}
+use Rattle.dr_restart.specs.Groups.{first_group_of}
 
 -- past the end stands the default
 default_past : {A : Type 0} (xs : List A) (i : ℕ) (d : A) → length xs ≤ i → get_or xs i d ≡ d
@@ -43,7 +44,7 @@ unfolding view_after
 no_view v e = absurd cc
 
 -- a script is a group in its first age
-pub first_group : (script : Script) → HasGroupRanges script → IsGroup (first_group_of script)
+pub first_group : (script : Script) → HasRanges script → IsGroup (first_group_of script)
 first_group script ranges = record {
   some_member = omega (arith, ranges.some_member, ranges.lists);
   most_members = omega (arith, ranges.most_members, ranges.lists);

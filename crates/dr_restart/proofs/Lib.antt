@@ -1,1 +1,5 @@
+mod Crashes
 mod Groups
+pub mod Setups
+mod Totals
+mod Unique

@@ -1,11 +1,13 @@
-ghost use Rattle.std.specs.Prelude.{◌≡◌};
+ghost use Rattle.std.specs.Prelude.{◌≡◌, IfOk};
 ghost use Rattle.dr_machine.specs.Group.{IsGroup};
-ghost use Rattle.dr_restart.specs.Groups.{HasGroupRanges, first_start_of, first_group_of};
+ghost use Rattle.dr_script.specs.Ranges.{HasRanges};
+ghost use Rattle.dr_restart.specs.Groups.{first_start_of, first_group_of};
 
+use crate::copies::copy_entries;
 use dr_entry::{Entry, Seq};
 use dr_script::Script;
 use dr_words::Mask;
-use std::alloc::Global;
+use std::alloc::{AllocError, Global};
 
 /// What an age starts with: what came out of the logs, and who takes part.
 #[derive(Debug, PartialEq, Eq, Drop)]
@@ -20,9 +22,27 @@ pub struct Start {
     pub entries: Seq<Entry>,
 }
 
+impl Start {
+    /// An equal start.
+    ///
+    /// # Errors
+    ///
+    /// Want of memory alone.
+    pub fn copy(&self, alloc: Global) -> Result<Start, AllocError>
+        ensures { IfOk result (λ copy. copy ≡ self.now) }
+    {
+        Ok(Start {
+            age: self.age,
+            members: self.members,
+            present: self.present,
+            entries: copy_entries(alloc, &self.entries)?,
+        })
+    }
+}
+
 /// The start of a new group: age 0, the whole roster, and no entries.
 pub fn first_start(alloc: Global, script: &Script) -> Start
-    requires { HasGroupRanges script.now }
+    requires { HasRanges script.now }
     ensures start { result ≡ first_start_of script.now }
     ensures group { IsGroup (first_group_of script.now) }
 {

@@ -1,0 +1,43 @@
+-- What the members of a script's group are told as an age opens, and the program that they are then.
+use Rattle.std.specs.Prelude.{◌≡◌, ℕ, ◌==◌, ◌&&◌, if◌then◌else◌, List, length, filter_map, slice_get, Option, None, Some}
+use Rattle.dr_script.specs.declared.script.Fault.{Fault}
+use Rattle.dr_script.specs.declared.script.Script.{Script}
+use Rattle.dr_script.specs.declared.script.What.{What}
+use Rattle.dr_script.specs.declared.script.What.TheVariants.{Crash, Suspect}
+use Rattle.dr_machine.specs.declared.setup.CrashPoint.{CrashPoint}
+use Rattle.dr_machine.specs.declared.setup.Setup.{Setup}
+use Rattle.dr_machine.specs.Program.{Program, IsSetup, begun_program}
+use Rattle.dr_restart.specs.declared.start.Start.{Start}
+use Rattle.dr_restart.specs.Groups.{group_of}
+
+-- the crash point of what happens to a member, where it is a crash
+abbrev pub point_of : What → Option CrashPoint
+point_of (Crash turn push) = Some (record { turn = turn; push = push })
+point_of (Suspect turn other) = None
+
+-- the crash point that a fault is to a member in the age that is number nth of the run, from 0
+abbrev pub crash_of : ℕ → ℕ → Fault → Option CrashPoint
+crash_of nth me fault = if (fault.age == nth) && (fault.member == me) then point_of fault.what else None
+
+-- the points at which the member crashes in that age, in the order of the faults
+abbrev pub crashes_of : List Fault → ℕ → ℕ → List CrashPoint
+crashes_of faults nth me = filter_map (crash_of nth me) faults
+
+-- the setup of a member in the age that is number nth of the run, from 0
+pub record IsSetupOf (script : Script) (start : Start) (nth me : ℕ) (s : Setup) : Type 0 where
+  pub setup : IsSetup (group_of script start) script.turns me s
+  pub crashes : s.crashes ≡ crashes_of script.faults nth me
+
+-- the setups of the first n members, ascending
+pub record AreFirstSetupsOf (script : Script) (start : Start) (nth n : ℕ) (setups : List Setup) : Type 0 where
+  pub all : length setups ≡ n
+  pub each : (m : ℕ) (s : Setup) → slice_get setups m ≡ Some s → IsSetupOf script start nth m s
+
+-- the setups of all members of the roster, ascending
+abbrev pub AreSetupsOf : Script → Start → ℕ → List Setup → Type 0
+AreSetupsOf script start nth setups = AreFirstSetupsOf script start nth script.members setups
+
+-- the program as that age opens
+abbrev pub IsBegun : Script → Start → ℕ → Program → Type 0
+IsBegun script start nth p =
+    (setups : List Setup) × AreSetupsOf script start nth setups × (p ≡ begun_program (group_of script start) setups)
