@@ -3,6 +3,7 @@ use Rattle.std.proofs.Common.{◌≡◌, ℕ, zero, suc, ◌<◌, ◌≤◌, nat
 use Rattle.dr_entry.specs.declared.entry.Entry.{Entry}
 use Rattle.dr_history.specs.Members.{has}
 use Rattle.dr_words.specs.declared.shape.Shape.{Shape}
+use Rattle.dr_machine.specs.declared.setup.CrashPoint.{CrashPoint}
 use Rattle.dr_machine.specs.Replica.{greatest}
 use Rattle.dr_machine.specs.Form.{CanBegin}
 use Rattle.dr_replica.proofs.Keeps.{totals_most}
@@ -14,10 +15,10 @@ totals_within : (i : ℕ) → slice_index totals i ≤ 4096
 totals_within i = let most : slice_index totals i ≤ greatest totals = totals_most totals i in omega (arith, most)
 
 -- member 0 has a message, and member 1 none
-pub test_begins : (shape : Shape) (me members : ℕ) (messages : List (List ℕ)) (start : List Entry) → shape.members ≡ 2 → shape.banks ≡ 2 → me < 2 → ((n : ℕ) → has members n ≡ nat_lt n 2)
+pub test_begins : (shape : Shape) (me members : ℕ) (messages : List (List ℕ)) (start : List Entry) (crashes : List CrashPoint) → shape.members ≡ 2 → shape.banks ≡ 2 → me < 2 → ((n : ℕ) → has members n ≡ nat_lt n 2)
     → messages ≡ (if me == 0 then (104 ∷ 105 ∷ []) ∷ [] else []) → start ≡ []
-    → CanBegin (record { shape = shape; me = me; age = 3; members = members; turns = 9; start = start; messages = messages; totals = 1 ∷ 0 ∷ 0 ∷ 0 ∷ 0 ∷ 0 ∷ 0 ∷ 0 ∷ 0 ∷ 0 ∷ 0 ∷ 0 ∷ 0 ∷ 0 ∷ 0 ∷ 0 ∷ [] })
-test_begins shape zero members messages start two banks within all says none = rw (says, none) record {
+    → CanBegin (record { shape = shape; me = me; age = 3; members = members; turns = 9; start = start; messages = messages; totals = 1 ∷ 0 ∷ 0 ∷ 0 ∷ 0 ∷ 0 ∷ 0 ∷ 0 ∷ 0 ∷ 0 ∷ 0 ∷ 0 ∷ 0 ∷ 0 ∷ 0 ∷ 0 ∷ []; crashes = crashes })
+test_begins shape zero members messages start crashes two banks within all says none = rw (says, none) record {
   banks = banks ∙ sym two;
   roster = λ n h. grind (arith, all n, two, h);
   present = all 0;
@@ -37,7 +38,7 @@ test_begins shape zero members messages start two banks within all says none = r
     small zero = omega arith
     small (suc zero) = omega arith
     small (suc (suc k)) = omega arith
-test_begins shape (suc zero) members messages start two banks within all says none = rw (says, none) record {
+test_begins shape (suc zero) members messages start crashes two banks within all says none = rw (says, none) record {
   banks = banks ∙ sym two;
   roster = λ n h. grind (arith, all n, two, h);
   present = all 1;
@@ -48,4 +49,4 @@ test_begins shape (suc zero) members messages start two banks within all says no
   base = omega arith;
   start = omega arith;
 }
-test_begins shape (suc (suc n)) members messages start two banks within all says none = absurd (omega arith)
+test_begins shape (suc (suc n)) members messages start crashes two banks within all says none = absurd (omega arith)

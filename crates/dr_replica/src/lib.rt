@@ -8,6 +8,7 @@
 mod history;
 mod items;
 mod replica;
+mod slots;
 
 pub use replica::Replica;
 

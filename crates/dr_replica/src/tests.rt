@@ -48,6 +48,7 @@ fn begun(alloc: Global, me: u8) -> Result<Replica, Fail>
             start: Seq::of(Vec::new(alloc)),
             messages: Seq::of(messages),
             totals,
+            crashes: Seq::of(Vec::new(alloc)),
         },
     )?)
 }

@@ -4,7 +4,8 @@ ghost use Rattle.dr_machine.specs.Replica.{all_done, holds_all, is_other, least_
 ghost use Rattle.dr_rows.specs.Words.{changed};
 
 use super::Replica;
-use dr_ring::{free, ready};
+use crate::slots::is_ready;
+use dr_ring::free;
 use dr_words::{DONE_COLUMN, LOGGED_COLUMN, RECEIVED_COLUMN};
 
 impl Replica {
@@ -24,8 +25,8 @@ impl Replica {
     {
         let count = self.items.count(sender);
         self.is_other(sender)
-            && ready(&self.rows, &self.shape, sender, count).is_some()
             && self.items.has_room(sender)
+            && is_ready(&self.rows, &self.shape, sender, count)
     }
 
     /// Whether it has a message left, and the slot of its next item is free.

@@ -6,6 +6,7 @@ use Rattle.dr_machine.proofs.OpeningForm.{begun_in_form}
 use Rattle.dr_replica.specs.declared.replica.Replica.TheInside.{Inside}
 use Rattle.dr_replica.proofs.Openings.{AreBegun, few_messages_each, small_room, someone, begun_view, begun_inside}
 use Rattle.dr_replica.proofs.replica.Replica.begin.Goals as goal
+use Rattle.dr_replica.proofs.replica.Replica.begin.Goals.{In_ok-with_capacity-2}
 
 pub begin-requires-clause-small : goal.begin-requires-clause-small
 begin-requires-clause-small c =
@@ -19,7 +20,7 @@ pub begin-requires-2-clause-most : goal.begin-requires-2-clause-most
 begin-requires-2-clause-most c = omega (arith, c.greatest-most.ensures, few_messages_each c.args.setup c.requires)
 
 -- the fields, as they are made
-abbrev fields : goal.In_ok-with_capacity-2 → Inside
+abbrev fields : In_ok-with_capacity-2 → Inside
 fields c = record {
   shape = c.args.setup.shape;
   messages = c.into_vec-messages.result;
@@ -40,7 +41,7 @@ fields c = record {
   end = None;
 }
 
-made : (c : goal.In_ok-with_capacity-2) → AreBegun (fields c) c.args.setup c.in_ok-rows.rows c.greatest-most.result
+made : (c : In_ok-with_capacity-2) → AreBegun (fields c) c.args.setup c.in_ok-rows.rows c.greatest-most.result
 made c = record {
   shape = refl;
   messages = c.into_vec-messages.ensures;
@@ -68,4 +69,8 @@ invariant_of-result c =
     (search rules) c.in_ok-with_capacity-2.ensures.items c.in_ok-with_capacity-2.ensures.capacity
 
 pub returns-clause-form : goal.returns-clause-form
-returns-clause-form c = subst HasForm (sym (begun_view (fields c) c.args.setup c.in_ok-rows.rows c.greatest-most.result (made c))) (begun_in_form c.args.setup c.requires)
+returns-clause-form c =
+    subst HasForm (sym (begun_view (fields at) c.args.setup c.in_ok-rows.rows c.greatest-most.result (made at))) (begun_in_form c.args.setup c.requires)
+  where
+    at : In_ok-with_capacity-2
+    at = (goal.at.returns-clause-form c).In_ok-with_capacity-2
