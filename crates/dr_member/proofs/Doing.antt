@@ -7,12 +7,13 @@ use Rattle.dr_rows.specs.Words.{own}
 use Rattle.dr_words.specs.declared.column.TheConstants.{RECEIVED_COLUMN, LOGGED_COLUMN, DONE_COLUMN}
 use Rattle.dr_words.specs.Columns.{columns_of}
 use Rattle.dr_machine.specs.declared.place.Place.{Place}
-use Rattle.dr_machine.specs.declared.place.Place.TheVariants.{Beat, Look, Receive, Send, Deliver, Append, Publish, Report, Mark, Push, Done, Spent, Rest}
+use Rattle.dr_machine.specs.declared.place.Place.TheVariants.{Beat, Look, Receive, Send, Deliver, Append, Publish, Report, Mark, Push, Crash, Done, Spent, Rest}
 use Rattle.dr_machine.specs.Group.{Group}
 use Rattle.dr_machine.specs.Effects.{one_more}
 use Rattle.dr_machine.specs.Replica.{Replica, me, least_seen, acted, beaten, looked, pushed, received, sent, delivered, appended, published, reported, marked, ended}
 use Rattle.dr_machine.specs.Running.{applies, moved, places_of}
 use Rattle.dr_machine.specs.Form.{HasForm, InPlace, IsOf}
+use Rattle.dr_member.specs.declared.fate.Fate.{Fate}
 use Rattle.dr_member.specs.Search.{left, IsUnderway, standing}
 use Rattle.dr_member.specs.Work.{work, deeds_of, deeds_left}
 use Rattle.dr_member.specs.Deeds.{IsDone}
@@ -48,39 +49,39 @@ still r q f g m o = record {
 -- ---- acts that leave the member where it is
 
 -- the turns and the end are as they were, and the work has become less
-stays : (r q : Replica) (limit : ℕ) (p : Place) → IsFixed r q → q.end ≡ r.end → q.turns ≡ r.turns → work q < work r
-    → IsUnderway (standing r limit p) → HasForm q → Rises r q → IsDone (standing r limit p) (standing q limit p)
-stays r q limit p fixed end turns less u form grown = record {
+stays : (r q : Replica) (fate : Fate) (p : Place) → IsFixed r q → q.end ≡ r.end → q.turns ≡ r.turns → work q < work r
+    → IsUnderway (standing r fate p) → HasForm q → Rises r q → IsDone (standing r fate p) (standing q fate p)
+stays r q fate p fixed end turns less u form grown = record {
   underway = record {
     replica = form;
     place = subst (λ (w : ℕ). InPlace q.roster (columns_of q.roster w) p) (sym fixed.window)
         (subst (λ (n : ℕ). InPlace n (columns_of n r.window) p) (sym fixed.roster) u.place);
     rests = (λ h. u.rests.0 (sym end ∙ h), λ h. end ∙ u.rests.1 h);
-    turns = subst (λ (t : ℕ). t ≤ limit) (sym turns) u.turns;
-    left = λ e. subst (λ (t : ℕ). t < limit) (sym turns) (u.left e);
+    turns = subst (λ (t : ℕ). t ≤ fate.limit) (sym turns) u.turns;
+    left = λ e. subst (λ (t : ℕ). t < fate.limit) (sym turns) (u.left e);
   };
   grown = grown;
-  fewer = subst (λ (t : ℕ). deeds_of (limit - t) (places_of q.roster (columns_of q.roster q.window)) (left q.roster (columns_of q.roster q.window) p) (work q) < deeds_left (standing r limit p)) (sym turns)
-      (subst (λ (w : ℕ). deeds_of (limit - r.turns) (places_of q.roster (columns_of q.roster w)) (left q.roster (columns_of q.roster w) p) (work q) < deeds_left (standing r limit p)) (sym fixed.window)
-      (subst (λ (n : ℕ). deeds_of (limit - r.turns) (places_of n (columns_of n r.window)) (left n (columns_of n r.window) p) (work q) < deeds_left (standing r limit p)) (sym fixed.roster)
-      (fewer_here (limit - r.turns) (places_of r.roster (columns_of r.roster r.window)) here here (work r) (work q) (omega arith))));
+  fewer = subst (λ (t : ℕ). deeds_of (fate.limit - t) (places_of q.roster (columns_of q.roster q.window)) (left q.roster (columns_of q.roster q.window) p) (work q) < deeds_left (standing r fate p)) (sym turns)
+      (subst (λ (w : ℕ). deeds_of (fate.limit - r.turns) (places_of q.roster (columns_of q.roster w)) (left q.roster (columns_of q.roster w) p) (work q) < deeds_left (standing r fate p)) (sym fixed.window)
+      (subst (λ (n : ℕ). deeds_of (fate.limit - r.turns) (places_of n (columns_of n r.window)) (left n (columns_of n r.window) p) (work q) < deeds_left (standing r fate p)) (sym fixed.roster)
+      (fewer_here (fate.limit - r.turns) (places_of r.roster (columns_of r.roster r.window)) here here (work r) (work q) (omega arith))));
   still = still r q fixed;
 }
   where
     here : ℕ
     here = left r.roster (columns_of r.roster r.window) p
 
-pub receive_does : (r : Replica) (limit s : ℕ) → IsUnderway (standing r limit (Receive s)) → applies (standing r limit (Receive s)) (Receive s) ≡ true
+pub receive_does : (r : Replica) (fate : Fate) (s : ℕ) → IsUnderway (standing r fate (Receive s)) → applies (standing r fate (Receive s)) (Receive s) ≡ true
     → HasForm (acted (received r s)) → Rises r (acted (received r s))
-    → IsDone (standing r limit (Receive s)) (standing (acted (received r s)) limit (Receive s))
-receive_does r limit s u due form grown =
-    stays r _ limit (Receive s) (record { number = refl; roster = refl; window = refl; banks = refl; messages = refl; totals = refl; view = refl; members = refl }) refl refl
+    → IsDone (standing r fate (Receive s)) (standing (acted (received r s)) fate (Receive s))
+receive_does r fate s u due form grown =
+    stays r _ fate (Receive s) (record { number = refl; roster = refl; window = refl; banks = refl; messages = refl; totals = refl; view = refl; members = refl }) refl refl
     (received_less r s (omega (arith, u.replica.counts, u.place)) form (risen r (acted (received r s)) refl grown)) u form grown
 
-pub send_does : (r : Replica) (limit : ℕ) → IsUnderway (standing r limit Send) → applies (standing r limit Send) Send ≡ true
-    → HasForm (acted (sent r)) → Rises r (acted (sent r)) → IsDone (standing r limit Send) (standing (acted (sent r)) limit Send)
-send_does r limit u due form grown =
-    stays r _ limit Send (record { number = refl; roster = refl; window = refl; banks = refl; messages = refl; totals = refl; view = refl; members = refl }) refl refl
+pub send_does : (r : Replica) (fate : Fate) → IsUnderway (standing r fate Send) → applies (standing r fate Send) Send ≡ true
+    → HasForm (acted (sent r)) → Rises r (acted (sent r)) → IsDone (standing r fate Send) (standing (acted (sent r)) fate Send)
+send_does r fate u due form grown =
+    stays r _ fate Send (record { number = refl; roster = refl; window = refl; banks = refl; messages = refl; totals = refl; view = refl; members = refl }) refl refl
     (sent_less r (omega (arith, u.replica.counts, u.replica.members, u.replica.rows.present)) form (risen r (acted (sent r)) refl grown)) u form grown
 
 both : (a b : Bool) → (a && b) ≡ true → (a ≡ true) × (b ≡ true)
@@ -90,22 +91,22 @@ both false b e = absurd (cc)
 below : (a b : ℕ) → nat_lt a b ≡ true → a < b
 below a b e = grind (arith, nat_tests)
 
-pub deliver_does : (r : Replica) (limit : ℕ) → IsUnderway (standing r limit Deliver) → applies (standing r limit Deliver) Deliver ≡ true
-    → HasForm (acted (delivered r)) → Rises r (acted (delivered r)) → IsDone (standing r limit Deliver) (standing (acted (delivered r)) limit Deliver)
-deliver_does r limit u due form grown =
-    stays r _ limit Deliver (record { number = refl; roster = refl; window = refl; banks = refl; messages = refl; totals = refl; view = refl; members = refl }) refl refl
+pub deliver_does : (r : Replica) (fate : Fate) → IsUnderway (standing r fate Deliver) → applies (standing r fate Deliver) Deliver ≡ true
+    → HasForm (acted (delivered r)) → Rises r (acted (delivered r)) → IsDone (standing r fate Deliver) (standing (acted (delivered r)) fate Deliver)
+deliver_does r fate u due form grown =
+    stays r _ fate Deliver (record { number = refl; roster = refl; window = refl; banks = refl; messages = refl; totals = refl; view = refl; members = refl }) refl refl
     (delivered_less r (below r.next (least_seen r RECEIVED_COLUMN) (both (nat_lt r.next (least_seen r RECEIVED_COLUMN)) (nat_lt (length r.history) r.room) due).0) (risen r (acted (delivered r)) refl grown)) u form grown
 
-pub report_does : (r : Replica) (limit : ℕ) → IsUnderway (standing r limit Report) → applies (standing r limit Report) Report ≡ true
-    → HasForm (acted (reported r)) → Rises r (acted (reported r)) → IsDone (standing r limit Report) (standing (acted (reported r)) limit Report)
-report_does r limit u due form grown =
-    stays r _ limit Report (record { number = refl; roster = refl; window = refl; banks = refl; messages = refl; totals = refl; view = refl; members = refl }) refl refl
+pub report_does : (r : Replica) (fate : Fate) → IsUnderway (standing r fate Report) → applies (standing r fate Report) Report ≡ true
+    → HasForm (acted (reported r)) → Rises r (acted (reported r)) → IsDone (standing r fate Report) (standing (acted (reported r)) fate Report)
+report_does r fate u due form grown =
+    stays r _ fate Report (record { number = refl; roster = refl; window = refl; banks = refl; messages = refl; totals = refl; view = refl; members = refl }) refl refl
     (reported_less r (below r.durable (least_seen r LOGGED_COLUMN) due) (risen r (acted (reported r)) refl grown)) u form grown
 
-pub mark_does : (r : Replica) (limit : ℕ) → IsUnderway (standing r limit Mark) → applies (standing r limit Mark) Mark ≡ true
-    → HasForm (acted (marked r)) → Rises r (acted (marked r)) → IsDone (standing r limit Mark) (standing (acted (marked r)) limit Mark)
-mark_does r limit u due form grown =
-    stays r _ limit Mark (record { number = refl; roster = refl; window = refl; banks = refl; messages = refl; totals = refl; view = refl; members = refl }) refl refl
+pub mark_does : (r : Replica) (fate : Fate) → IsUnderway (standing r fate Mark) → applies (standing r fate Mark) Mark ≡ true
+    → HasForm (acted (marked r)) → Rises r (acted (marked r)) → IsDone (standing r fate Mark) (standing (acted (marked r)) fate Mark)
+mark_does r fate u due form grown =
+    stays r _ fate Mark (record { number = refl; roster = refl; window = refl; banks = refl; messages = refl; totals = refl; view = refl; members = refl }) refl refl
     (marked_less r u.replica (is_none (both (own r.rows DONE_COLUMN == 0) _ due).0) (risen r (acted (marked r)) refl grown)) u form grown
   where
     is_none : (own r.rows DONE_COLUMN == 0) ≡ true → own r.rows DONE_COLUMN ≡ 0
@@ -113,27 +114,31 @@ mark_does r limit u due form grown =
 
 -- ---- acts that lead elsewhere
 
-pub beat_does : (r : Replica) (limit : ℕ) → limit < 2 ^ 32 → IsUnderway (standing r limit Beat)
-    → HasForm (acted (beaten r)) → Rises r (acted (beaten r)) → IsDone (standing r limit Beat) (standing (acted (beaten r)) limit (Look 0 0))
-beat_does r limit fits u form grown = record {
+-- the fate of a member that begins a turn
+abbrev pub fresh : Fate → Fate
+fresh fate = record fate { pushes = 0 }
+
+pub beat_does : (r : Replica) (fate : Fate) → fate.limit < 2 ^ 32 → IsUnderway (standing r fate Beat)
+    → HasForm (acted (beaten r)) → Rises r (acted (beaten r)) → IsDone (standing r fate Beat) (standing (acted (beaten r)) (fresh fate) (Look 0 0))
+beat_does r fate fits u form grown = record {
   underway = record {
     replica = form;
-    place = (some_member (standing r limit Beat) u.replica, some_column (standing r limit Beat));
+    place = (some_member (standing r fate Beat) u.replica, some_column (standing r fate Beat));
     rests = (λ h. λ (e : Look 0 0 ≡ Rest). cc, λ h. u.rests.1 (λ (e : Beat ≡ Rest). cc));
     turns = omega (arith, one, before);
     left = λ (e : Look 0 0 ≡ Beat). absurd (cc);
   };
   grown = grown;
-  fewer = fewer_turns (limit - r.turns) (limit - one_more 32 r.turns) (places_of r.roster (columns_of r.roster r.window)) _ _ (work r) (work (acted (beaten r)))
+  fewer = fewer_turns (fate.limit - r.turns) (fate.limit - one_more 32 r.turns) (places_of r.roster (columns_of r.roster r.window)) _ _ (work r) (work (acted (beaten r)))
       (omega (arith, one, before)) (left_small r.roster (columns_of r.roster r.window) (Look 0 0)) (beaten_less r (risen r (acted (beaten r)) refl grown));
   still = still r (acted (beaten r)) (record { number = refl; roster = refl; window = refl; banks = refl; messages = refl; totals = refl; view = refl; members = refl });
 }
   where
-    before : r.turns < limit
+    before : r.turns < fate.limit
     before = u.left refl
 
     one : one_more 32 r.turns ≡ r.turns + 1
-    one = one_of r.turns limit before fits
+    one = one_of r.turns fate.limit before fits
       where
         one_of : (a b : ℕ) → a < b → b < 2 ^ 32 → one_more 32 a ≡ a + 1
         one_of a b h g = min-eq_left (omega arith)
@@ -147,9 +152,9 @@ rest : (n k : ℕ) (p : Place) (new old : ℕ) → 0 < left n k p → new ≤ ol
 unfolding left
 rest n k p new old h g = omega arith
 
-pub publish_does : (r : Replica) (limit : ℕ) → IsUnderway (standing r limit Publish) → applies (standing r limit Publish) Publish ≡ true
-    → HasForm (acted (published r)) → Rises r (acted (published r)) → IsDone (standing r limit Publish) (standing (acted (published r)) limit Append)
-publish_does r limit u due form grown = record {
+pub publish_does : (r : Replica) (fate : Fate) → IsUnderway (standing r fate Publish) → applies (standing r fate Publish) Publish ≡ true
+    → HasForm (acted (published r)) → Rises r (acted (published r)) → IsDone (standing r fate Publish) (standing (acted (published r)) fate Append)
+publish_does r fate u due form grown = record {
   underway = record {
     replica = form;
     place = tt;
@@ -158,14 +163,14 @@ publish_does r limit u due form grown = record {
     left = λ (e : Append ≡ Beat). absurd (cc);
   };
   grown = grown;
-  fewer = fewer_here (limit - r.turns) _ _ _ (work r) (work (acted (published r))) (back r.roster (columns_of r.roster r.window) (work (acted (published r))) (work r)
+  fewer = fewer_here (fate.limit - r.turns) _ _ _ (work r) (work (acted (published r))) (back r.roster (columns_of r.roster r.window) (work (acted (published r))) (work r)
       (published_less r u.replica (below (own r.rows LOGGED_COLUMN) r.logged due) (risen r (acted (published r)) refl grown)));
   still = still r (acted (published r)) (record { number = refl; roster = refl; window = refl; banks = refl; messages = refl; totals = refl; view = refl; members = refl });
 }
 
-pub end_does : (r : Replica) (limit : ℕ) (p : Place) (end : End) → 0 < left r.roster (columns_of r.roster r.window) p → IsUnderway (standing r limit p)
-    → HasForm (acted (ended r end)) → Rises r (acted (ended r end)) → IsDone (standing r limit p) (standing (acted (ended r end)) limit Rest)
-end_does r limit p end some u form grown = record {
+pub end_does : (r : Replica) (fate : Fate) (p : Place) (end : End) → 0 < left r.roster (columns_of r.roster r.window) p → IsUnderway (standing r fate p)
+    → HasForm (acted (ended r end)) → Rises r (acted (ended r end)) → IsDone (standing r fate p) (standing (acted (ended r end)) fate Rest)
+end_does r fate p end some u form grown = record {
   underway = record {
     replica = form;
     place = tt;
@@ -174,10 +179,18 @@ end_does r limit p end some u form grown = record {
     left = λ (e : Rest ≡ Beat). absurd (cc);
   };
   grown = grown;
-  fewer = fewer_here (limit - r.turns) _ _ _ (work r) (work (acted (ended r end))) (rest r.roster (columns_of r.roster r.window) p (work (acted (ended r end))) (work r) some
+  fewer = fewer_here (fate.limit - r.turns) _ _ _ (work r) (work (acted (ended r end))) (rest r.roster (columns_of r.roster r.window) p (work (acted (ended r end))) (work r) some
       (ended_less r end (risen r (acted (ended r end)) refl grown)));
   still = still r (acted (ended r end)) (record { number = refl; roster = refl; window = refl; banks = refl; messages = refl; totals = refl; view = refl; members = refl });
 }
+
+pub push_left : (n k j c : ℕ) → 0 < left n k (Push j c)
+unfolding left
+push_left n k j c = omega arith
+
+pub crash_left : (n k : ℕ) → 0 < left n k Crash
+unfolding left
+crash_left n k = omega arith
 
 pub done_left : (n k : ℕ) → 0 < left n k Done
 unfolding left
@@ -189,14 +202,14 @@ spent_left n k = omega arith
 
 -- ---- deeds that are no acts
 
-pub look_does : (r : Replica) (limit i c word : ℕ) → IsUnderway (standing r limit (Look i c))
+pub look_does : (r : Replica) (fate : Fate) (i c word : ℕ) → IsUnderway (standing r fate (Look i c))
     → HasForm (looked r i c word) → Rises r (looked r i c word)
-    → IsDone (standing r limit (Look i c)) (moved (standing (looked r i c word) limit (Look i c)))
-look_does r limit i c word u form grown = record {
-  underway = underway_next (standing (looked r i c word) limit (Look i c)) (record { replica = form; place = u.place; rests = u.rests; turns = u.turns; left = u.left })
+    → IsDone (standing r fate (Look i c)) (moved (standing (looked r i c word) fate (Look i c)))
+look_does r fate i c word u form grown = record {
+  underway = underway_next (standing (looked r i c word) fate (Look i c)) (record { replica = form; place = u.place; rests = u.rests; turns = u.turns; left = u.left })
       (λ (e : Look i c ≡ Rest). cc) (λ (e : Look i c ≡ Spent). cc);
   grown = grown;
-  fewer = fewer_here (limit - r.turns) _ _ _ (work r) (work (looked r i c word)) (omega (
+  fewer = fewer_here (fate.limit - r.turns) _ _ _ (work r) (work (looked r i c word)) (omega (
     arith,
     left_falls r.roster (columns_of r.roster r.window) (Look i c) u.place (λ (e : Look i c ≡ Beat). cc) (λ (e : Look i c ≡ Rest). cc),
     looked_less r i c word (risen r (looked r i c word) refl grown),
@@ -204,14 +217,18 @@ look_does r limit i c word u form grown = record {
   still = still r (looked r i c word) (record { number = refl; roster = refl; window = refl; banks = refl; messages = refl; totals = refl; view = refl; members = refl });
 }
 
-pub push_does : (r : Replica) (limit j c : ℕ) → IsUnderway (standing r limit (Push j c))
+-- the fate of a member that has done a push more
+abbrev pub raised : Fate → Fate
+raised fate = record fate { pushes = one_more 32 fate.pushes }
+
+pub push_does : (r : Replica) (fate : Fate) (j c : ℕ) → IsUnderway (standing r fate (Push j c))
     → HasForm (pushed r j c) → Rises r (pushed r j c)
-    → IsDone (standing r limit (Push j c)) (moved (standing (pushed r j c) limit (Push j c)))
-push_does r limit j c u form grown = record {
-  underway = underway_next (standing (pushed r j c) limit (Push j c)) (record { replica = form; place = u.place; rests = u.rests; turns = u.turns; left = u.left })
+    → IsDone (standing r fate (Push j c)) (moved (standing (pushed r j c) (raised fate) (Push j c)))
+push_does r fate j c u form grown = record {
+  underway = underway_next (standing (pushed r j c) (raised fate) (Push j c)) (record { replica = form; place = u.place; rests = u.rests; turns = u.turns; left = u.left })
       (λ (e : Push j c ≡ Rest). cc) (λ (e : Push j c ≡ Spent). cc);
   grown = grown;
-  fewer = fewer_here (limit - r.turns) _ _ _ (work r) (work (pushed r j c)) (omega (
+  fewer = fewer_here (fate.limit - r.turns) _ _ _ (work r) (work (pushed r j c)) (omega (
     arith,
     left_falls r.roster (columns_of r.roster r.window) (Push j c) u.place (λ (e : Push j c ≡ Beat). cc) (λ (e : Push j c ≡ Rest). cc),
     pushed_less r j c,
@@ -219,13 +236,13 @@ push_does r limit j c u form grown = record {
   still = still r (pushed r j c) (record { number = refl; roster = refl; window = refl; banks = refl; messages = refl; totals = refl; view = refl; members = refl });
 }
 
-pub append_does : (r : Replica) (limit : ℕ) → IsUnderway (standing r limit Append) → applies (standing r limit Append) Append ≡ true
-    → HasForm (appended r) → Rises r (appended r) → IsDone (standing r limit Append) (standing (appended r) limit Publish)
-append_does r limit u due form grown = record {
-  underway = underway_next (standing (appended r) limit Append) (record { replica = form; place = u.place; rests = u.rests; turns = u.turns; left = u.left })
+pub append_does : (r : Replica) (fate : Fate) → IsUnderway (standing r fate Append) → applies (standing r fate Append) Append ≡ true
+    → HasForm (appended r) → Rises r (appended r) → IsDone (standing r fate Append) (standing (appended r) fate Publish)
+append_does r fate u due form grown = record {
+  underway = underway_next (standing (appended r) fate Append) (record { replica = form; place = u.place; rests = u.rests; turns = u.turns; left = u.left })
       (λ (e : Append ≡ Rest). cc) (λ (e : Append ≡ Spent). cc);
   grown = grown;
-  fewer = fewer_here (limit - r.turns) _ _ _ (work r) (work (appended r)) (omega (
+  fewer = fewer_here (fate.limit - r.turns) _ _ _ (work r) (work (appended r)) (omega (
     arith,
     left_falls r.roster (columns_of r.roster r.window) Append tt (λ (e : Append ≡ Beat). cc) (λ (e : Append ≡ Rest). cc),
     appended_less r (omega (arith, below r.logged (length r.history) due, u.replica.room)),
@@ -236,14 +253,14 @@ append_does r limit u due form grown = record {
 -- ---- where the member comes from what the code did
 
 -- a deed at a place that is known by an equation, of a replica that is
-pub does_there : (r q q' : Replica) (limit : ℕ) (p p' s s' : Place) → p ≡ p' → s ≡ s' → q ≡ q'
-    → HasForm q → Rises r q → IsUnderway (standing r limit p) → applies (standing r limit p) p ≡ true
-    → (IsUnderway (standing r limit p') → applies (standing r limit p') p' ≡ true → HasForm q' → Rises r q' → IsDone (standing r limit p') (standing q' limit s'))
-    → IsDone (standing r limit p) (standing q limit s)
-does_there r q q' limit p p' s s' at to is form grown u due does =
-    subst (λ (x : Place). IsDone (standing r limit x) (standing q limit s)) (sym at)
-    (subst (λ (x : Place). IsDone (standing r limit p') (standing q limit x)) (sym to)
-    (subst (λ (x : Replica). IsDone (standing r limit p') (standing x limit s')) (sym is)
-    (does (subst (λ (x : Place). IsUnderway (standing r limit x)) at u)
-    (subst (λ (x : Place). applies (standing r limit x) x ≡ true) at due)
+pub does_there : (r q q' : Replica) (fate next : Fate) (p p' s s' : Place) → p ≡ p' → s ≡ s' → q ≡ q'
+    → HasForm q → Rises r q → IsUnderway (standing r fate p) → applies (standing r fate p) p ≡ true
+    → (IsUnderway (standing r fate p') → applies (standing r fate p') p' ≡ true → HasForm q' → Rises r q' → IsDone (standing r fate p') (standing q' next s'))
+    → IsDone (standing r fate p) (standing q next s)
+does_there r q q' fate next p p' s s' at to is form grown u due does =
+    subst (λ (x : Place). IsDone (standing r fate x) (standing q next s)) (sym at)
+    (subst (λ (x : Place). IsDone (standing r fate p') (standing q next x)) (sym to)
+    (subst (λ (x : Replica). IsDone (standing r fate p') (standing x next s')) (sym is)
+    (does (subst (λ (x : Place). IsUnderway (standing r fate x)) at u)
+    (subst (λ (x : Place). applies (standing r fate x) x ≡ true) at due)
     (subst HasForm is form) (subst (Rises r) is grown))))

@@ -4,4 +4,5 @@ pub mod Fewer
 pub mod Working
 pub mod Doing
 pub mod Steps
+mod Indices
 mod Answers

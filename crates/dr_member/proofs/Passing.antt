@@ -4,9 +4,10 @@ use Rattle.std.proofs.lemmas.Bool.Decides.{nat_tests}
 use Rattle.dr_rows.specs.Words.{changed}
 use Rattle.dr_words.specs.Columns.{columns_of}
 use Rattle.dr_machine.specs.declared.place.Place.{Place}
-use Rattle.dr_machine.specs.declared.place.Place.TheVariants.{Look, Receive, Push, Done}
+use Rattle.dr_machine.specs.declared.place.Place.TheVariants.{Look, Receive, Push, Crash}
 use Rattle.dr_machine.specs.Replica.{Replica, is_other}
 use Rattle.dr_machine.specs.Running.{Running, members, columns, applies, after, moved, settle, settled, places_of}
+use Rattle.dr_member.specs.declared.fate.Fate.{Fate}
 use Rattle.dr_member.specs.Search.{left, GoesBy, IsUnderway, look_from, push_from, standing}
 use Rattle.dr_member.proofs.Turn.{busy, left_falls, left_none, left_small, underway_moved}
 
@@ -71,70 +72,70 @@ look_here n k i c h = by (nat_lt c k) (grind (arith, nat_tests))
     by false e = absurd (cc)
 
 -- the looks at a row of nobody else are passed over, with so many columns behind this one
-pass_looks : (d : ℕ) (replica : Replica) (limit i c : ℕ) → IsUnderway (standing replica limit (Look i c)) → is_other replica i ≡ false
+pass_looks : (d : ℕ) (replica : Replica) (fate : Fate) (i c : ℕ) → IsUnderway (standing replica fate (Look i c)) → is_other replica i ≡ false
     → c + 1 + d ≡ columns_of replica.roster replica.window
-    → GoesBy (standing replica limit (Look i c)) (standing replica limit (look_from replica.roster (columns_of replica.roster replica.window) i (columns_of replica.roster replica.window)))
-pass_looks zero replica limit i c u other e =
-    subst (λ (x : ℕ). GoesBy (standing replica limit (Look i c)) (standing replica limit (look_from replica.roster (columns_of replica.roster replica.window) i x)))
-    (omega arith) (goes_on (standing replica limit (Look i c)) u other)
-pass_looks (suc d) replica limit i c u other e = far (pass_looks d replica limit i (c + 1))
+    → GoesBy (standing replica fate (Look i c)) (standing replica fate (look_from replica.roster (columns_of replica.roster replica.window) i (columns_of replica.roster replica.window)))
+pass_looks zero replica fate i c u other e =
+    subst (λ (x : ℕ). GoesBy (standing replica fate (Look i c)) (standing replica fate (look_from replica.roster (columns_of replica.roster replica.window) i x)))
+    (omega arith) (goes_on (standing replica fate (Look i c)) u other)
+pass_looks (suc d) replica fate i c u other e = far (pass_looks d replica fate i (c + 1))
   where
-    next : GoesBy (standing replica limit (Look i c)) (standing replica limit (Look i (c + 1)))
-    next = subst (λ (p : Place). GoesBy (standing replica limit (Look i c)) (standing replica limit p))
-        (look_here replica.roster (columns_of replica.roster replica.window) i (c + 1) (omega arith)) (goes_on (standing replica limit (Look i c)) u other)
+    next : GoesBy (standing replica fate (Look i c)) (standing replica fate (Look i (c + 1)))
+    next = subst (λ (p : Place). GoesBy (standing replica fate (Look i c)) (standing replica fate p))
+        (look_here replica.roster (columns_of replica.roster replica.window) i (c + 1) (omega arith)) (goes_on (standing replica fate (Look i c)) u other)
 
-    far : (IsUnderway (standing replica limit (Look i (c + 1))) → is_other replica i ≡ false → c + 1 + 1 + d ≡ columns_of replica.roster replica.window
-        → GoesBy (standing replica limit (Look i (c + 1))) (standing replica limit (look_from replica.roster (columns_of replica.roster replica.window) i (columns_of replica.roster replica.window))))
-        → GoesBy (standing replica limit (Look i c)) (standing replica limit (look_from replica.roster (columns_of replica.roster replica.window) i (columns_of replica.roster replica.window)))
+    far : (IsUnderway (standing replica fate (Look i (c + 1))) → is_other replica i ≡ false → c + 1 + 1 + d ≡ columns_of replica.roster replica.window
+        → GoesBy (standing replica fate (Look i (c + 1))) (standing replica fate (look_from replica.roster (columns_of replica.roster replica.window) i (columns_of replica.roster replica.window))))
+        → GoesBy (standing replica fate (Look i c)) (standing replica fate (look_from replica.roster (columns_of replica.roster replica.window) i (columns_of replica.roster replica.window)))
     far s = goes_far _ _ _ next (s next.underway other (omega arith))
 
 -- from a look at which there is nothing to do, the search goes by the end of the row
-pub past_looks : (replica : Replica) (limit i c k : ℕ) → IsUnderway (standing replica limit (Look i c)) → is_other replica i ≡ false
+pub past_looks : (replica : Replica) (fate : Fate) (i c k : ℕ) → IsUnderway (standing replica fate (Look i c)) → is_other replica i ≡ false
     → k ≡ columns_of replica.roster replica.window
-    → GoesBy (standing replica limit (Look i c)) (standing replica limit (look_from replica.roster k i k))
-past_looks replica limit i c k u other e =
-    subst (λ (x : ℕ). GoesBy (standing replica limit (Look i c)) (standing replica limit (look_from replica.roster x i x))) (sym e)
-    (pass_looks (columns_of replica.roster replica.window - (c + 1)) replica limit i c u other (omega (arith, u.place.1)))
+    → GoesBy (standing replica fate (Look i c)) (standing replica fate (look_from replica.roster k i k))
+past_looks replica fate i c k u other e =
+    subst (λ (x : ℕ). GoesBy (standing replica fate (Look i c)) (standing replica fate (look_from replica.roster x i x))) (sym e)
+    (pass_looks (columns_of replica.roster replica.window - (c + 1)) replica fate i c u other (omega (arith, u.place.1)))
 
 -- ---- pushes
 
 pub push_here : (n k j c : ℕ) → c < k → push_from n k j c ≡ Push j c
 push_here n k j c h = by (nat_lt c k) (grind (arith, nat_tests))
   where
-    by : (x : Bool) → x ≡ true → (if x then Push j c else (if nat_lt (j + 1) n then Push (j + 1) 0 else Done)) ≡ Push j c
+    by : (x : Bool) → x ≡ true → (if x then Push j c else (if nat_lt (j + 1) n then Push (j + 1) 0 else Crash)) ≡ Push j c
     by true e = refl
     by false e = absurd (cc)
 
 -- pushes at which there is nothing to do are passed over, with so many columns between this one and t
-pass_pushes : (d : ℕ) (replica : Replica) (limit j c t : ℕ) → IsUnderway (standing replica limit (Push j c))
+pass_pushes : (d : ℕ) (replica : Replica) (fate : Fate) (j c t : ℕ) → IsUnderway (standing replica fate (Push j c))
     → ((x : ℕ) → c ≤ x → x < t → (is_other replica j && changed replica.rows j x) ≡ false)
     → c + 1 + d ≡ t → t ≤ columns_of replica.roster replica.window
-    → GoesBy (standing replica limit (Push j c)) (standing replica limit (push_from replica.roster (columns_of replica.roster replica.window) j t))
-pass_pushes zero replica limit j c t u idle e within =
-    subst (λ (x : ℕ). GoesBy (standing replica limit (Push j c)) (standing replica limit (push_from replica.roster (columns_of replica.roster replica.window) j x)))
-    (omega arith) (goes_on (standing replica limit (Push j c)) u (idle c (le_refl c) (omega arith)))
-pass_pushes (suc d) replica limit j c t u idle e within = far (pass_pushes d replica limit j (c + 1) t)
+    → GoesBy (standing replica fate (Push j c)) (standing replica fate (push_from replica.roster (columns_of replica.roster replica.window) j t))
+pass_pushes zero replica fate j c t u idle e within =
+    subst (λ (x : ℕ). GoesBy (standing replica fate (Push j c)) (standing replica fate (push_from replica.roster (columns_of replica.roster replica.window) j x)))
+    (omega arith) (goes_on (standing replica fate (Push j c)) u (idle c (le_refl c) (omega arith)))
+pass_pushes (suc d) replica fate j c t u idle e within = far (pass_pushes d replica fate j (c + 1) t)
   where
-    next : GoesBy (standing replica limit (Push j c)) (standing replica limit (Push j (c + 1)))
-    next = subst (λ (p : Place). GoesBy (standing replica limit (Push j c)) (standing replica limit p))
+    next : GoesBy (standing replica fate (Push j c)) (standing replica fate (Push j (c + 1)))
+    next = subst (λ (p : Place). GoesBy (standing replica fate (Push j c)) (standing replica fate p))
         (push_here replica.roster (columns_of replica.roster replica.window) j (c + 1) (omega arith))
-        (goes_on (standing replica limit (Push j c)) u (idle c (le_refl c) (omega arith)))
+        (goes_on (standing replica fate (Push j c)) u (idle c (le_refl c) (omega arith)))
 
-    far : (IsUnderway (standing replica limit (Push j (c + 1))) → ((x : ℕ) → c + 1 ≤ x → x < t → (is_other replica j && changed replica.rows j x) ≡ false)
+    far : (IsUnderway (standing replica fate (Push j (c + 1))) → ((x : ℕ) → c + 1 ≤ x → x < t → (is_other replica j && changed replica.rows j x) ≡ false)
         → c + 1 + 1 + d ≡ t → t ≤ columns_of replica.roster replica.window
-        → GoesBy (standing replica limit (Push j (c + 1))) (standing replica limit (push_from replica.roster (columns_of replica.roster replica.window) j t)))
-        → GoesBy (standing replica limit (Push j c)) (standing replica limit (push_from replica.roster (columns_of replica.roster replica.window) j t))
+        → GoesBy (standing replica fate (Push j (c + 1))) (standing replica fate (push_from replica.roster (columns_of replica.roster replica.window) j t)))
+        → GoesBy (standing replica fate (Push j c)) (standing replica fate (push_from replica.roster (columns_of replica.roster replica.window) j t))
     far s = goes_far _ _ _ next (s next.underway (λ x l h. idle x (omega arith) h) (omega arith) within)
 
 -- from a push at which there is nothing to do, the search goes by a later one, where there is nothing to do at any between the two
-pub past_pushes : (replica : Replica) (limit j c t k : ℕ) → IsUnderway (standing replica limit (Push j c))
+pub past_pushes : (replica : Replica) (fate : Fate) (j c t k : ℕ) → IsUnderway (standing replica fate (Push j c))
     → (is_other replica j && changed replica.rows j c) ≡ false
     → ((x : ℕ) → c + 1 ≤ x → x < t → (is_other replica j && changed replica.rows j x) ≡ false)
     → c < t → k ≡ columns_of replica.roster replica.window → t ≤ k
-    → GoesBy (standing replica limit (Push j c)) (standing replica limit (push_from replica.roster k j t))
-past_pushes replica limit j c t k u first idle later e within =
-    subst (λ (x : ℕ). GoesBy (standing replica limit (Push j c)) (standing replica limit (push_from replica.roster x j t))) (sym e)
-    (pass_pushes (t - (c + 1)) replica limit j c t u between (omega arith) (omega arith))
+    → GoesBy (standing replica fate (Push j c)) (standing replica fate (push_from replica.roster k j t))
+past_pushes replica fate j c t k u first idle later e within =
+    subst (λ (x : ℕ). GoesBy (standing replica fate (Push j c)) (standing replica fate (push_from replica.roster x j t))) (sym e)
+    (pass_pushes (t - (c + 1)) replica fate j c t u between (omega arith) (omega arith))
   where
     between : (x : ℕ) → c ≤ x → x < t → (is_other replica j && changed replica.rows j x) ≡ false
     between x l h = by (c == x) refl
@@ -145,34 +146,34 @@ past_pushes replica limit j c t k u first idle later e within =
 
 -- ---- what a skip does, where the shape is told apart
 
-pub skip_look : (replica : Replica) (limit : ℕ) (p q : Place) (n w i c k : ℕ) → p ≡ Look i c → n ≡ replica.roster → w ≡ replica.window
+pub skip_look : (replica : Replica) (fate : Fate) (p q : Place) (n w i c k : ℕ) → p ≡ Look i c → n ≡ replica.roster → w ≡ replica.window
     → k ≡ columns_of n w → q ≡ look_from n (columns_of n w) i k
-    → IsUnderway (standing replica limit p) → applies (standing replica limit p) p ≡ false → GoesBy (standing replica limit p) (standing replica limit q)
-skip_look replica limit p q n w i c k is a b e result =
-    subst (λ (x : Place). IsUnderway (standing replica limit x) → applies (standing replica limit x) x ≡ false → GoesBy (standing replica limit x) (standing replica limit q))
-    (sym is) (λ u idle. subst (λ (x : Place). GoesBy (standing replica limit (Look i c)) (standing replica limit x)) (sym there)
-    (past_looks replica limit i c (columns_of replica.roster replica.window) u idle refl))
+    → IsUnderway (standing replica fate p) → applies (standing replica fate p) p ≡ false → GoesBy (standing replica fate p) (standing replica fate q)
+skip_look replica fate p q n w i c k is a b e result =
+    subst (λ (x : Place). IsUnderway (standing replica fate x) → applies (standing replica fate x) x ≡ false → GoesBy (standing replica fate x) (standing replica fate q))
+    (sym is) (λ u idle. subst (λ (x : Place). GoesBy (standing replica fate (Look i c)) (standing replica fate x)) (sym there)
+    (past_looks replica fate i c (columns_of replica.roster replica.window) u idle refl))
   where
     there : q ≡ look_from replica.roster (columns_of replica.roster replica.window) i (columns_of replica.roster replica.window)
     there = subst (λ (y : ℕ). q ≡ look_from replica.roster (columns_of replica.roster y) i (columns_of replica.roster y)) b
         (subst (λ (x : ℕ). q ≡ look_from x (columns_of x w) i (columns_of x w)) a (subst (λ (x : ℕ). q ≡ look_from n (columns_of n w) i x) e result))
 
-pub skip_push : (replica : Replica) (limit : ℕ) (p q : Place) (n w j c t : ℕ) → p ≡ Push j c → n ≡ replica.roster → w ≡ replica.window
+pub skip_push : (replica : Replica) (fate : Fate) (p q : Place) (n w j c t : ℕ) → p ≡ Push j c → n ≡ replica.roster → w ≡ replica.window
     → q ≡ push_from n (columns_of n w) j t → c < t → t ≤ columns_of replica.roster replica.window
     → ((x : ℕ) → c + 1 ≤ x → x < t → (is_other replica j && changed replica.rows j x) ≡ false)
-    → IsUnderway (standing replica limit p) → applies (standing replica limit p) p ≡ false → GoesBy (standing replica limit p) (standing replica limit q)
-skip_push replica limit p q n w j c t is a b result above within between =
-    subst (λ (x : Place). IsUnderway (standing replica limit x) → applies (standing replica limit x) x ≡ false → GoesBy (standing replica limit x) (standing replica limit q))
-    (sym is) (λ u idle. subst (λ (x : Place). GoesBy (standing replica limit (Push j c)) (standing replica limit x)) (sym there)
-    (past_pushes replica limit j c t (columns_of replica.roster replica.window) u idle between above refl within))
+    → IsUnderway (standing replica fate p) → applies (standing replica fate p) p ≡ false → GoesBy (standing replica fate p) (standing replica fate q)
+skip_push replica fate p q n w j c t is a b result above within between =
+    subst (λ (x : Place). IsUnderway (standing replica fate x) → applies (standing replica fate x) x ≡ false → GoesBy (standing replica fate x) (standing replica fate q))
+    (sym is) (λ u idle. subst (λ (x : Place). GoesBy (standing replica fate (Push j c)) (standing replica fate x)) (sym there)
+    (past_pushes replica fate j c t (columns_of replica.roster replica.window) u idle between above refl within))
   where
     there : q ≡ push_from replica.roster (columns_of replica.roster replica.window) j t
     there = subst (λ (y : ℕ). q ≡ push_from replica.roster (columns_of replica.roster y) j t) b (subst (λ (x : ℕ). q ≡ push_from x (columns_of x w) j t) a result)
 
-pub skip_on : (replica : Replica) (limit : ℕ) (p q : Place) (n w : ℕ) → n ≡ replica.roster → w ≡ replica.window → q ≡ after n (columns_of n w) p
-    → IsUnderway (standing replica limit p) → applies (standing replica limit p) p ≡ false → GoesBy (standing replica limit p) (standing replica limit q)
-skip_on replica limit p q n w a b result u idle =
-    subst (λ (x : Place). GoesBy (standing replica limit p) (standing replica limit x)) (sym there) (goes_on (standing replica limit p) u idle)
+pub skip_on : (replica : Replica) (fate : Fate) (p q : Place) (n w : ℕ) → n ≡ replica.roster → w ≡ replica.window → q ≡ after n (columns_of n w) p
+    → IsUnderway (standing replica fate p) → applies (standing replica fate p) p ≡ false → GoesBy (standing replica fate p) (standing replica fate q)
+skip_on replica fate p q n w a b result u idle =
+    subst (λ (x : Place). GoesBy (standing replica fate p) (standing replica fate x)) (sym there) (goes_on (standing replica fate p) u idle)
   where
     there : q ≡ after replica.roster (columns_of replica.roster replica.window) p
     there = subst (λ (y : ℕ). q ≡ after replica.roster (columns_of replica.roster y) p) b (subst (λ (x : ℕ). q ≡ after x (columns_of x w) p) a result)

@@ -3,7 +3,7 @@ use Rattle.std.proofs.Common.{◌≡◌, ◌≢◌, refl, sym, ap, ◌∙◌, �
 use Rattle.std.proofs.lemmas.Nat.{mul-add-lt}
 use Rattle.std.proofs.lemmas.Bool.Decides.{nat_tests}
 use Rattle.dr_machine.specs.declared.place.Place.{Place}
-use Rattle.dr_machine.specs.declared.place.Place.TheVariants.{Beat, Look, Receive, Send, Deliver, Append, Publish, Report, Mark, Push, Done, Spent, Rest}
+use Rattle.dr_machine.specs.declared.place.Place.TheVariants.{Beat, Look, Receive, Send, Deliver, Append, Publish, Report, Mark, Push, Crash, Done, Spent, Rest}
 use Rattle.dr_machine.specs.Running.{Running, members, columns, applies, after, moved, settle, settled, places_of}
 use Rattle.dr_machine.specs.Form.{HasForm, InPlace, IsRunningMember}
 use Rattle.dr_member.specs.Search.{left, Passed, here, on, IsUnderway}
@@ -22,6 +22,7 @@ applies_at r p Publish = refl
 applies_at r p Report = refl
 applies_at r p Mark = refl
 applies_at r p (Push j c) = refl
+applies_at r p Crash = refl
 applies_at r p Done = refl
 applies_at r p Spent = refl
 applies_at r p Rest = refl
@@ -62,7 +63,7 @@ left_look n k i c a b false true e f = omega (arith, mul-add-lt i k c n a b)
 left_look n k i c a b false false e f = omega (arith, mul-add-lt i k c n a b)
 
 left_push : (n k j c : ℕ) → j < n → c < k → (x y : Bool) → nat_lt (c + 1) k ≡ x → nat_lt (j + 1) n ≡ y
-    → left n k (if x then Push j (c + 1) else (if y then Push (j + 1) 0 else Done)) < left n k (Push j c)
+    → left n k (if x then Push j (c + 1) else (if y then Push (j + 1) 0 else Crash)) < left n k (Push j c)
 unfolding left
 left_push n k j c a b true y e f = omega (arith, mul-add-lt j k c n a b)
 left_push n k j c a b false true e f = omega (arith, mul-add-lt j k c n a b)
@@ -86,6 +87,7 @@ left_falls n k Publish h a b = omega arith
 left_falls n k Report h a b = omega arith
 left_falls n k Mark h a b = omega arith
 left_falls n k (Push j c) h a b = left_push n k j c h.0 h.1 _ _ refl refl
+left_falls n k Crash h a b = omega arith
 left_falls n k Done h a b = omega arith
 left_falls n k Spent h a b = omega arith
 left_falls n k Rest h a b = absurd (b refl)
@@ -103,6 +105,7 @@ left_small n k Publish = omega arith
 left_small n k Report = omega arith
 left_small n k Mark = omega arith
 left_small n k (Push j c) = omega arith
+left_small n k Crash = omega arith
 left_small n k Done = omega arith
 left_small n k Spent = omega arith
 left_small n k Rest = omega arith
@@ -120,6 +123,7 @@ left_none r n k Publish h = absurd (omega arith)
 left_none r n k Report h = absurd (omega arith)
 left_none r n k Mark h = absurd (omega arith)
 left_none r n k (Push j c) h = absurd (omega arith)
+left_none r n k Crash h = absurd (omega arith)
 left_none r n k Done h = absurd (omega arith)
 left_none r n k Spent h = absurd (omega arith)
 left_none r n k Rest h = refl
@@ -137,7 +141,7 @@ in_look n k i c a b false true e f = (grind (arith, nat_tests), omega arith)
 in_look n k i c a b false false e f = omega arith
 
 in_push : (n k j c : ℕ) → j < n → c < k → (x y : Bool) → nat_lt (c + 1) k ≡ x → nat_lt (j + 1) n ≡ y
-    → InPlace n k (if x then Push j (c + 1) else (if y then Push (j + 1) 0 else Done))
+    → InPlace n k (if x then Push j (c + 1) else (if y then Push (j + 1) 0 else Crash))
 in_push n k j c a b true y e f = (a, grind (arith, nat_tests))
 in_push n k j c a b false true e f = (grind (arith, nat_tests), omega arith)
 in_push n k j c a b false false e f = tt
@@ -157,6 +161,7 @@ after_in n k Publish a b h = tt
 after_in n k Report a b h = tt
 after_in n k Mark a b h = (a, b)
 after_in n k (Push j c) a b h = in_push n k j c h.0 h.1 _ _ refl refl
+after_in n k Crash a b h = tt
 after_in n k Done a b h = tt
 after_in n k Spent a b h = tt
 after_in n k Rest a b h = tt
@@ -183,10 +188,11 @@ after_beat n k Report e = absurd (cc)
 after_beat n k Mark e = absurd (cc)
 after_beat n k (Push j c) e = absurd (by (nat_lt (c + 1) k) (nat_lt (j + 1) n) e)
   where
-    by : (x y : Bool) → (if x then Push j (c + 1) else (if y then Push (j + 1) 0 else Done)) ≢ Beat
+    by : (x y : Bool) → (if x then Push j (c + 1) else (if y then Push (j + 1) 0 else Crash)) ≢ Beat
     by true y = λ e. cc
     by false true = λ e. cc
     by false false = λ e. cc
+after_beat n k Crash e = absurd (cc)
 after_beat n k Done e = absurd (cc)
 after_beat n k Spent e = refl
 after_beat n k Rest e = absurd (cc)
@@ -212,10 +218,11 @@ after_rest n k Report h = λ e. cc
 after_rest n k Mark h = λ e. cc
 after_rest n k (Push j c) h = by (nat_lt (c + 1) k) (nat_lt (j + 1) n)
   where
-    by : (x y : Bool) → (if x then Push j (c + 1) else (if y then Push (j + 1) 0 else Done)) ≢ Rest
+    by : (x y : Bool) → (if x then Push j (c + 1) else (if y then Push (j + 1) 0 else Crash)) ≢ Rest
     by true y = λ e. cc
     by false true = λ e. cc
     by false false = λ e. cc
+after_rest n k Crash h = λ e. cc
 after_rest n k Done h = λ e. cc
 after_rest n k Spent h = λ e. cc
 after_rest n k Rest h = h

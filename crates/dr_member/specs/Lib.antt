@@ -1,4 +1,5 @@
 pub mod Search
 pub mod Work
 pub mod Deeds
+pub mod Bases
 pub mod Inside

@@ -6,6 +6,8 @@
 #![tactic(auto)]
 
 mod acts;
+mod bases;
+mod fate;
 mod laws;
 mod member;
 mod search;

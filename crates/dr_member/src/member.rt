@@ -3,11 +3,14 @@ ghost use Rattle.dr_machine.specs.Form.{CanBegin, IsRunningMember};
 ghost use Rattle.dr_machine.specs.Program.{end_of};
 ghost use Rattle.dr_machine.specs.Replica.{me};
 ghost use Rattle.dr_machine.specs.Running.{after_act, after_append, after_look, after_push, begun_running, columns, index_of, members, next_deed};
+ghost use Rattle.dr_machine.specs.Schedule.{is_at_rest};
 ghost use Rattle.dr_member.specs.Deeds.{HasGrownTo, IsStill, IsWithin, MaySee, table_size, is_act, is_append, is_beat, is_push};
 ghost use Rattle.dr_member.specs.Work.{deeds_left};
 
 use crate::acts::act;
-use crate::search::{look_from, next_changed, push_from, settle};
+use crate::bases::Bases;
+use crate::fate::{Fate, first_crash};
+use crate::search::{next_changed, settle, settle_look, settle_push};
 use dr_entry::{End, Entry, MemberEnd, Record};
 use dr_machine::{Deed, Place, Setup};
 use dr_replica::Replica;
@@ -26,7 +29,8 @@ use std::marker::Model;
 pub struct Member {
     replica: Replica,
     place: Place,
-    limit: u32,
+    fate: Fate,
+    bases: Bases,
 }
 
 impl Model for Member {
@@ -50,30 +54,38 @@ impl Member {
         ensures begun { IfOk result (λ member. member ≡ begun_running setup) }
         ensures form { IfOk result IsRunningMember }
     {
-        let limit = setup.turns;
+        let fate = Fate {
+            limit: setup.turns,
+            crash: first_crash(setup.crashes.as_slice()),
+            pushes: 0,
+        };
+        let replica = Replica::begin(alloc, setup)?;
+        let bases = Bases::of(&replica);
         Ok(Member {
-            replica: Replica::begin(alloc, setup)?,
+            replica,
             place: Place::Beat,
-            limit,
+            fate,
+            bases,
         })
     }
 
     /// What the member does next. An index in it is one of the table's.
+    #[inline(always)]
     pub fn next(&self) -> Deed
         ensures deed { result ≡ next_deed self.now }
         ensures within { IsWithin (table_size self.now) result }
     {
         if let Place::Look { row, column } = self.place {
-            return Deed::Look(self.index(self.me(), row, column));
+            return Deed::Look(self.look_index(row, column));
         }
         match self.place {
-            Place::Push { to, column } => {
-                Deed::Push(self.index(to, self.me(), column), self.replica.own(column))
+            Place::Push { to, column } if !self.fate.crashes_now(&self.replica) => {
+                Deed::Push(self.push_index(to, column), self.replica.own(column))
             }
             Place::Append => Deed::Append(Record::Entry(self.replica.next_entry())),
             Place::Rest => Deed::Rest(self.replica.end().unwrap_or(End::Done)),
             _ => Deed::Act(
-                self.index(self.me(), self.me(), BEAT_COLUMN),
+                self.look_index(self.me(), BEAT_COLUMN),
                 self.replica.acts_after(),
             ),
         }
@@ -89,15 +101,15 @@ impl Member {
         ensures keeps { IsStill self.old self.new }
     {
         if let Place::Look { row, column } = self.place {
-            let shape = self.replica.shape();
+            let columns = self.bases.columns;
             let next = column + 1;
-            if next < shape.columns() {
+            if next < columns {
                 // The place is written before the word, so that it needn't be read again.
                 self.place = Place::Look { row, column: next };
                 self.replica.look(row, column, word);
             } else {
                 self.replica.look(row, column, word);
-                self.place = settle(&self.replica, self.limit, look_from(&shape, row, next));
+                self.place = settle_look(&self.replica, &self.fate, row, next);
             }
         }
     }
@@ -112,18 +124,20 @@ impl Member {
         ensures keeps { IsStill self.old self.new }
     {
         if let Place::Push { to, column } = self.place {
+            let columns = self.bases.columns;
             self.replica.push(to, column);
-            let shape = self.replica.shape();
-            let next = next_changed(&self.replica, to, column + 1);
-            if next < shape.columns() {
+            self.fate.pushes = self.fate.pushes.saturating_add(1);
+            let next = next_changed(&self.replica, columns, to, column + 1);
+            if next < columns {
                 self.place = Place::Push { to, column: next };
             } else {
-                self.place = settle(&self.replica, self.limit, push_from(&shape, to, next));
+                self.place = settle_push(&self.replica, &self.fate, to, next);
             }
         }
     }
 
     /// Does its act, whose beat word was stored.
+    #[inline(never)]
     pub fn acted(&mut self)
         requires { is_act (next_deed self.old) ≡ true }
         ensures after { self.new ≡ after_act self.old }
@@ -132,11 +146,12 @@ impl Member {
         ensures falls { deeds_left self.new < deeds_left self.old }
         ensures keeps { IsStill self.old self.new }
     {
-        let place = act(&mut self.replica, self.limit, self.place);
-        self.place = settle(&self.replica, self.limit, place);
+        let place = act(&mut self.replica, &mut self.fate, self.place);
+        self.place = settle(&self.replica, &self.fate, place);
     }
 
     /// Takes note that its log has the record that it appended.
+    #[inline(never)]
     pub fn appended(&mut self)
         requires { is_append (next_deed self.old) ≡ true }
         ensures after { self.new ≡ after_append self.old }
@@ -146,7 +161,7 @@ impl Member {
         ensures keeps { IsStill self.old self.new }
     {
         self.replica.append();
-        self.place = settle(&self.replica, self.limit, Place::Publish);
+        self.place = settle(&self.replica, &self.fate, Place::Publish);
     }
 
     /// How it ended; `None` exactly where it hasn't ended.
@@ -155,6 +170,13 @@ impl Member {
         ensures form { IsRunningMember self.now }
     {
         self.replica.end()
+    }
+
+    /// Whether it has ended, or stands before a turn.
+    pub fn is_between_turns(&self) -> bool
+        ensures { result ≡ is_at_rest self.now.place }
+    {
+        matches!(self.place, Place::Beat | Place::Rest)
     }
 
     /// Whether it stands before a turn.
@@ -207,17 +229,26 @@ impl Member {
         self.replica.into_end()
     }
 
-    /// The index in the table of a word of the member's bank.
-    fn index(&self, copy: u8, row: u8, column: usize) -> usize
-        requires copy { copy < members self.now }
+    /// The index in the table of a word that the member sees, in its own copy.
+    #[inline]
+    fn look_index(&self, row: u8, column: usize) -> usize
         requires row { row < members self.now }
         requires column { column < columns self.now }
-        ensures index { result ≡ index_of self.now copy row column }
+        ensures index { result ≡ index_of self.now (me self.now.replica) row column }
         ensures within { result < table_size self.now }
     {
-        self.replica
-            .shape()
-            .word_index(self.replica.view(), copy, row, column)
+        self.bases.own_copy + usize::from(row) * self.bases.columns + column
+    }
+
+    /// The index in the table of the member's word of a column, in the copy of the member `to`.
+    #[inline]
+    fn push_index(&self, to: u8, column: usize) -> usize
+        requires to { to < members self.now }
+        requires column { column < columns self.now }
+        ensures index { result ≡ index_of self.now to (me self.now.replica) column }
+        ensures within { result < table_size self.now }
+    {
+        self.bases.own_row + usize::from(to) * self.bases.copy_words + column
     }
 }
 

@@ -4,28 +4,58 @@ ghost use Rattle.dr_machine.specs.Running.{after, applies, settled};
 ghost use Rattle.dr_machine.specs.Form.{HasForm, InPlace};
 ghost use Rattle.dr_words.specs.Columns.{columns_of};
 ghost use Rattle.dr_rows.specs.Words.{changed};
+ghost use Rattle.dr_member.specs.declared.fate.Fate.{Fate};
 ghost use Rattle.dr_member.specs.Search.{GoesBy, IsUnderway, look_from, push_from, standing};
 
+use crate::fate::Fate;
 use dr_machine::Place;
 use dr_replica::Replica;
 use dr_words::Shape;
 
 /// The first place of the turn, from this one on, at which there is something to do.
-pub(crate) fn settle(replica: &Replica, limit: u32, from: Place) -> Place
-    requires { IsUnderway (standing replica.now limit from) }
-    ensures { standing replica.now limit result ≡ settled (standing replica.now limit from) }
+#[inline(always)]
+pub(crate) fn settle(replica: &Replica, fate: &Fate, from: Place) -> Place
+    requires { IsUnderway (standing replica.now fate.now from) }
+    ensures { standing replica.now fate.now result ≡ settled (standing replica.now fate.now from) }
 {
     let mut place = from;
-    while !applies(replica, limit, place) {
+    while !applies(replica, fate, place) {
         place = skip(replica, place);
     }
     place
 }
 
+/// The first place of the turn, from the look at a column of a row on, at which there is something to
+/// do. Out of line, it leaves looks a small loop.
+#[inline(never)]
+pub(crate) fn settle_look(replica: &Replica, fate: &Fate, row: u8, column: usize) -> Place
+    requires row { row < replica.now.roster }
+    requires underway { IsUnderway (standing replica.now fate.now
+        (look_from replica.now.roster (columns_of replica.now.roster replica.now.window) row column)) }
+    ensures { standing replica.now fate.now result ≡ settled (standing replica.now fate.now
+        (look_from replica.now.roster (columns_of replica.now.roster replica.now.window) row column)) }
+{
+    settle(replica, fate, look_from(&replica.shape(), row, column))
+}
+
+/// The first place of the turn, from the push of a column to a member on, at which there is something
+/// to do. Out of line, it leaves pushes a small loop.
+#[inline(never)]
+pub(crate) fn settle_push(replica: &Replica, fate: &Fate, to: u8, column: usize) -> Place
+    requires to { to < replica.now.roster }
+    requires underway { IsUnderway (standing replica.now fate.now
+        (push_from replica.now.roster (columns_of replica.now.roster replica.now.window) to column)) }
+    ensures { standing replica.now fate.now result ≡ settled (standing replica.now fate.now
+        (push_from replica.now.roster (columns_of replica.now.roster replica.now.window) to column)) }
+{
+    settle(replica, fate, push_from(&replica.shape(), to, column))
+}
+
 /// Whether there is something to do at a place.
-fn applies(replica: &Replica, limit: u32, place: Place) -> bool
-    requires { IsUnderway (standing replica.now limit place) }
-    ensures { result ≡ applies (standing replica.now limit place) place }
+#[inline(always)]
+fn applies(replica: &Replica, fate: &Fate, place: Place) -> bool
+    requires { IsUnderway (standing replica.now fate.now place) }
+    ensures { result ≡ applies (standing replica.now fate.now place) place }
 {
     match place {
         Place::Beat | Place::Rest => true,
@@ -38,8 +68,9 @@ fn applies(replica: &Replica, limit: u32, place: Place) -> bool
         Place::Report => replica.may_report(),
         Place::Mark => replica.may_mark(),
         Place::Push { to, column } => replica.is_other(to) && replica.has_changed(to, column),
+        Place::Crash => fate.crashes_in_turn(replica),
         Place::Done => replica.all_done(),
-        Place::Spent => replica.turns() == limit,
+        Place::Spent => replica.turns() == fate.limit,
     }
 }
 
@@ -47,15 +78,16 @@ fn applies(replica: &Replica, limit: u32, place: Place) -> bool
 fn skip(replica: &Replica, place: Place) -> Place
     requires form { HasForm replica.now }
     requires place { InPlace replica.now.roster (columns_of replica.now.roster replica.now.window) place }
-    ensures { (limit : ℕ) → IsUnderway (standing replica.now limit place)
-        → applies (standing replica.now limit place) place ≡ false
-        → GoesBy (standing replica.now limit place) (standing replica.now limit result) }
+    ensures { (fate : Fate) → IsUnderway (standing replica.now fate place)
+        → applies (standing replica.now fate place) place ≡ false
+        → GoesBy (standing replica.now fate place) (standing replica.now fate result) }
 {
     let shape = replica.shape();
     match place {
         Place::Look { row, .. } => look_from(&shape, row, shape.columns()),
         Place::Push { to, column } if replica.is_other(to) => {
-            push_from(&shape, to, next_changed(replica, to, column + 1))
+            let next = next_changed(replica, shape.columns(), to, column + 1);
+            push_from(&shape, to, next)
         }
         Place::Push { to, .. } => push_from(&shape, to, shape.columns()),
         _ => after(&shape, place),
@@ -81,6 +113,7 @@ fn after(shape: &Shape, place: Place) -> Place
         Place::Report => Place::Mark,
         Place::Mark => Place::Push { to: 0, column: 0 },
         Place::Push { to, column } => push_from(shape, to, column + 1),
+        Place::Crash => Place::Done,
         Place::Done => Place::Spent,
         Place::Spent => Place::Beat,
         Place::Rest => Place::Rest,
@@ -89,7 +122,7 @@ fn after(shape: &Shape, place: Place) -> Place
 
 /// The look at a column of a row, or what comes after the looks at that row where it has no such
 /// column.
-pub(crate) fn look_from(shape: &Shape, row: u8, column: usize) -> Place
+fn look_from(shape: &Shape, row: u8, column: usize) -> Place
     requires { row < shape.now.members }
     ensures { result ≡ look_from shape.now.members (columns_of shape.now.members shape.now.window) row column }
 {
@@ -107,7 +140,7 @@ pub(crate) fn look_from(shape: &Shape, row: u8, column: usize) -> Place
 
 /// The push of a column to a member, or what comes after the pushes to it where there is no such
 /// column.
-pub(crate) fn push_from(shape: &Shape, to: u8, column: usize) -> Place
+fn push_from(shape: &Shape, to: u8, column: usize) -> Place
     requires { to < shape.now.members }
     ensures { result ≡ push_from shape.now.members (columns_of shape.now.members shape.now.window) to column }
 {
@@ -119,14 +152,15 @@ pub(crate) fn push_from(shape: &Shape, to: u8, column: usize) -> Place
             column: 0,
         }
     } else {
-        Place::Done
+        Place::Crash
     }
 }
 
 /// The next column, from this one on, whose own word differs from the one last pushed to a member, or
 /// the number of columns where there is none.
-pub(crate) fn next_changed(replica: &Replica, to: u8, from: usize) -> usize
+pub(crate) fn next_changed(replica: &Replica, columns: usize, to: u8, from: usize) -> usize
     requires form { HasForm replica.now }
+    requires columns { columns ≡ columns_of replica.now.roster replica.now.window }
     requires to { to < replica.now.roster }
     requires from { from ≤ columns_of replica.now.roster replica.now.window }
     ensures from { from ≤ result }
@@ -135,7 +169,6 @@ pub(crate) fn next_changed(replica: &Replica, to: u8, from: usize) -> usize
     ensures changed { result < columns_of replica.now.roster replica.now.window
         → changed replica.now.rows to result ≡ true }
 {
-    let columns = replica.shape().columns();
     for column in from..columns {
         if replica.has_changed(to, column) {
             return column;

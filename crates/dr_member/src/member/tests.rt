@@ -5,6 +5,7 @@ ghost use Rattle.dr_words.specs.Grown.{HasGrown};
 
 use super::*;
 use dr_entry::{Message, SentItem, Seq, ViewSent};
+use dr_machine::CrashPoint;
 use dr_words::{DONE_COLUMN, Mask, SUSPECTED_COLUMN, Shape};
 use std::process::Abort;
 use std::test::Fail;
@@ -17,8 +18,9 @@ const SHAPE: Shape = Shape {
     banks: 2,
 };
 
-/// A member of two, with one message of one byte each.
-fn begun(alloc: Global, me: u8, turns: u32) -> Result<Member, Fail>
+/// A member of two, with one message of one byte each, that takes so many turns and has these crash
+/// points.
+fn begun(alloc: Global, me: u8, turns: u32, crashes: Vec<CrashPoint>) -> Result<Member, Fail>
     requires me { me < 2 }
     requires turns { 1 ≤ turns }
     ensures form { IfOk result IsRunningMember }
@@ -39,6 +41,7 @@ fn begun(alloc: Global, me: u8, turns: u32) -> Result<Member, Fail>
             start: Seq::of(Vec::new(alloc)),
             messages: Seq::of(messages),
             totals,
+            crashes: Seq::of(crashes),
         },
     )?)
 }
@@ -127,8 +130,8 @@ fn deeds(
 #[test]
 fn two_members_in_lockstep_are_done(rt: HostRuntime) -> Result<(), Fail> {
     let mut table = vec![in rt.alloc(); 0; 216]?;
-    let mut zero = begun(rt.alloc(), 0, 9)?;
-    let mut one = begun(rt.alloc(), 1, 9)?;
+    let mut zero = begun(rt.alloc(), 0, 9, Vec::new(rt.alloc()))?;
+    let mut one = begun(rt.alloc(), 1, 9, Vec::new(rt.alloc()))?;
     let first = [
         turn(&rt, &mut zero, &mut table),
         turn(&rt, &mut one, &mut table),
@@ -152,7 +155,7 @@ fn two_members_in_lockstep_are_done(rt: HostRuntime) -> Result<(), Fail> {
 #[test]
 fn a_member_ends_when_its_turns_are_spent(rt: HostRuntime) -> Result<(), Fail> {
     let mut table = vec![in rt.alloc(); 0; 216]?;
-    let mut zero = begun(rt.alloc(), 0, 1)?;
+    let mut zero = begun(rt.alloc(), 0, 1, Vec::new(rt.alloc()))?;
     let first = deeds(&rt, rt.alloc(), &mut zero, &mut table, 3)?;
     assert_eq!(rt;
         first.as_slice(),
@@ -170,6 +173,44 @@ fn a_member_ends_when_its_turns_are_spent(rt: HostRuntime) -> Result<(), Fail> {
         Deed::Push(65, 0x0000_0001_6100_0000),
         Deed::Act(0, 3),
         Deed::Rest(End::Spent { turns: 1 }),
+    ];
+    assert_eq!(rt; last.as_slice(), expected.as_slice());
+    Ok(())
+}
+
+/// The member comes first to the crash point of its first turn, where it has done two pushes of six.
+#[test]
+fn a_member_crashes_before_its_push(rt: HostRuntime) -> Result<(), Fail> {
+    let mut table = vec![in rt.alloc(); 0; 216]?;
+    let points = vec![in rt.alloc();
+        CrashPoint { turn: 2, push: 0 },
+        CrashPoint { turn: 1, push: 2 },
+    ]?;
+    let mut zero = begun(rt.alloc(), 0, 9, points)?;
+    deeds(&rt, rt.alloc(), &mut zero, &mut table, 29)?;
+    let last = deeds(&rt, rt.alloc(), &mut zero, &mut table, 4)?;
+    let expected = [
+        Deed::Push(54, 2),
+        Deed::Push(56, 1),
+        Deed::Act(0, 3),
+        Deed::Rest(End::Crashed),
+    ];
+    assert_eq!(rt; last.as_slice(), expected.as_slice());
+    Ok(())
+}
+
+/// The turn has six pushes, counted from 0, so the member crashes behind the last.
+#[test]
+fn a_member_crashes_behind_its_last_push(rt: HostRuntime) -> Result<(), Fail> {
+    let mut table = vec![in rt.alloc(); 0; 216]?;
+    let points = vec![in rt.alloc(); CrashPoint { turn: 1, push: 6 }]?;
+    let mut zero = begun(rt.alloc(), 0, 9, points)?;
+    deeds(&rt, rt.alloc(), &mut zero, &mut table, 34)?;
+    let last = deeds(&rt, rt.alloc(), &mut zero, &mut table, 3)?;
+    let expected = [
+        Deed::Push(65, 0x0000_0001_6100_0000),
+        Deed::Act(0, 3),
+        Deed::Rest(End::Crashed),
     ];
     assert_eq!(rt; last.as_slice(), expected.as_slice());
     Ok(())

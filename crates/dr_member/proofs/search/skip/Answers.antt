@@ -9,16 +9,16 @@ use Rattle.dr_member.proofs.Passing.{skip_look, skip_push, skip_on, neither, nor
 use Rattle.dr_member.proofs.search.skip.Goals as goal
 
 pub returns-in-Look : goal.returns-in-Look
-returns-in-Look c limit = skip_look c.args.replica.now limit c.args.place c.look_from.result _ _ _ _ _ c.in-Look.is
+returns-in-Look c fate = skip_look c.args.replica.now fate c.args.place c.look_from.result _ _ _ _ _ c.in-Look.is
     c.shape-shape.ensures.members c.shape-shape.ensures.window c.columns.ensures c.look_from.ensures
 
 pub returns-in-Push : goal.returns-in-Push
-returns-in-Push c limit = skip_push c.args.replica.now limit c.args.place c.push_from.result _ _ _ _ _ c.in-Push.is
-    c.shape-shape.ensures.members c.shape-shape.ensures.window c.push_from.ensures (omega arith) c.next_changed.ensures.within
-    (λ x l h. neither (is_other c.args.replica.now c.in-Push.to) (changed c.args.replica.now.rows c.in-Push.to x) (c.next_changed.ensures.unchanged x l h))
+returns-in-Push c fate = skip_push c.args.replica.now fate c.args.place c.push_from.result _ _ _ _ _ c.in-Push.is
+    c.shape-shape.ensures.members c.shape-shape.ensures.window c.push_from.ensures (omega arith) c.next_changed-next.ensures.within
+    (λ x l h. neither (is_other c.args.replica.now c.in-Push.to) (changed c.args.replica.now.rows c.in-Push.to x) (c.next_changed-next.ensures.unchanged x l h))
 
 pub returns-in-Push-2 : goal.returns-in-Push-2
-returns-in-Push-2 c limit = skip_push c.args.replica.now limit c.args.place c.push_from-in-Push-2.result _ _ _ c.in-Push-2.column c.columns-in-Push-2.result c.in-Push-2.is
+returns-in-Push-2 c fate = skip_push c.args.replica.now fate c.args.place c.push_from-in-Push-2.result _ _ _ c.in-Push-2.column c.columns-in-Push-2.result c.in-Push-2.is
     c.shape-shape.ensures.members c.shape-shape.ensures.window c.push_from-in-Push-2.ensures (omega (arith, all, within.1)) (le_of_eq all)
     (λ x l h. nor (is_other c.args.replica.now c.in-Push-2.to) (changed c.args.replica.now.rows c.in-Push-2.to x) other)
   where
@@ -32,5 +32,5 @@ returns-in-Push-2 c limit = skip_push c.args.replica.now limit c.args.place c.pu
     other = cc
 
 pub returns-in_default : goal.returns-in_default
-returns-in_default c limit = skip_on c.args.replica.now limit c.args.place c.after.result _ _
+returns-in_default c fate = skip_on c.args.replica.now fate c.args.place c.after.result _ _
     c.shape-shape.ensures.members c.shape-shape.ensures.window c.after.ensures
