@@ -1,6 +1,6 @@
-mod Agreeing
+pub mod Agreeing
 mod Completion
 mod Histories
 mod Items
-mod Reached
+pub mod Reached
 mod Runs

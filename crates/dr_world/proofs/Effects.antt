@@ -1,6 +1,6 @@
 -- What an event makes of the replica of its member and of the table is its effect on the world.
-use Rattle.std.proofs.Common.{◌≡◌, ◌≢◌, refl, sym, ap, ◌∙◌, subst, ℕ, ◌<◌, ◌&&◌, true, not, List, length, slice_index, arith}
-use Rattle.std.specs.Prelude.{Some, is_some, nat_lt, slice_get, slice_set}
+use Rattle.std.proofs.Common.{◌≡◌, ◌≢◌, sym, ap, ◌∙◌, subst, ℕ, ◌<◌, true, List, slice_index, arith}
+use Rattle.std.specs.Prelude.{Some, nat_lt, slice_get, slice_set}
 use Rattle.std.proofs.lemmas.Option.{slice_get_within}
 use Rattle.dr_rows.specs.Words.{own, seen}
 use Rattle.dr_words.specs.declared.column.TheConstants.{BEAT_COLUMN}
@@ -12,7 +12,7 @@ use Rattle.dr_machine.specs.declared.event.Event.TheVariants.{Beat, Look, Push, 
 use Rattle.dr_machine.specs.Group.{Group, roster, columns}
 use Rattle.dr_machine.specs.World.{World}
 use Rattle.dr_machine.specs.Effects.{effect, one_more}
-use Rattle.dr_machine.specs.Replica.{Replica, me, is_other, may_send, may_receive, acted, beaten, looked, pushed, received, sent, delivered, published, reported, marked, ended}
+use Rattle.dr_machine.specs.Replica.{Replica, is_other, may_receive, acted, beaten, looked, pushed, received, sent, delivered, published, reported, marked, ended}
 use Rattle.dr_machine.specs.Reading.{world_of}
 use Rattle.dr_machine.proofs.Holdings.{held_of}
 use Rattle.dr_told.specs.Faithful.{Faithful}
@@ -25,7 +25,7 @@ use Rattle.dr_reading.proofs.Acts.{beat_effect, deliver_effect, append_effect, p
 use Rattle.dr_reading.proofs.Looks.{look_effect, push_effect}
 use Rattle.dr_reading.proofs.Puts.{send_effect, receive_effect}
 use Rattle.dr_world.specs.Held.{Held, its_group, its_world, IsHeld}
-use Rattle.dr_world.specs.Steps.{member_of, has_cell, allows, may_take, index_in, found, taken, stamped, stored, IsSight, IsInSight}
+use Rattle.dr_world.specs.Steps.{member_of, has_cell, allows, index_in, found, taken, stamped, stored, IsSight, IsInSight}
 use Rattle.dr_world.proofs.Guarding.{is_member, cell_test}
 
 -- ---- words of the table

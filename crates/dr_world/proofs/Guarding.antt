@@ -1,21 +1,19 @@
 -- The test of an event at the replica of its member is the guard of that event, in every world that is reached.
-use Rattle.std.proofs.Common.{◌≡◌, refl, sym, ap, ◌∙◌, ◌↔◌, subst, ℕ, ◌<◌, ◌&&◌, Bool, true, false, not, List, length, arith}
+use Rattle.std.proofs.Common.{◌≡◌, refl, sym, ap, ◌∙◌, ◌↔◌, subst, ℕ, ◌<◌, ◌&&◌, Bool, true, not, List, arith}
 use Rattle.std.specs.Prelude.{Option, Some, None, is_some, nat_lt, slice_get}
 use Rattle.std.proofs.lemmas.Bool.Decides.{nat_tests}
 use Rattle.dr_entry.specs.declared.end.End.{End}
 use Rattle.dr_entry.specs.declared.end.End.TheVariants.{Done, Crashed, Suspected, Excluded, NoMajority, DiskFault, LogFull, Spent}
-use Rattle.dr_history.specs.Members.{has}
 use Rattle.dr_words.specs.Columns.{columns_of}
 use Rattle.dr_machine.specs.declared.event.Event.{Event}
 use Rattle.dr_machine.specs.declared.event.Event.TheVariants.{Beat, Look, Push, Send, Receive, Deliver, Append, Publish, Report, Mark, Halt, Crash}
 use Rattle.dr_machine.specs.Group.{Group, roster, columns}
 use Rattle.dr_machine.specs.World.{World}
-use Rattle.dr_machine.specs.Guards.{Guard, IsFault, CanReceive, CanDeliver, CanHalt}
-use Rattle.dr_machine.specs.Replica.{Replica, me, is_other, all_done, may_receive, may_deliver}
-use Rattle.dr_machine.specs.Reading.{world_of}
+use Rattle.dr_machine.specs.Guards.{Guard, IsFault, CanHalt}
+use Rattle.dr_machine.specs.Replica.{Replica, is_other, all_done, may_receive, may_deliver}
 use Rattle.dr_reading.specs.Programs.{IsMember}
 use Rattle.dr_reading.proofs.Views.{both, parts}
-use Rattle.dr_reading.proofs.Guards.{other_within, other_member}
+use Rattle.dr_reading.proofs.Guards.{other_within}
 use Rattle.dr_reading.proofs.Tests.{beat_test, look_test, push_test, send_test, receive_test, deliver_test, append_test, publish_test, report_test, mark_test, halt_test, crash_test}
 use Rattle.dr_world.specs.Held.{Held, its_group, its_world, IsHeld}
 use Rattle.dr_world.specs.Steps.{member_of, is_done, is_fault, has_cell, allows, may_take}

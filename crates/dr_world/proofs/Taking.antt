@@ -1,6 +1,6 @@
 -- What is held stays the members of the group, in a world that is reached.
-use Rattle.std.proofs.Common.{◌≡◌, refl, sym, ap, ◌∙◌, subst, ℕ, ◌+◌, ◌*◌, ◌<◌, ◌≤◌, ◌&&◌, ◌⊎◌, inl, inr, Bool, true, false, not, List, [], ◌∷◌, ◌++◌, length, take, slice_index, get_or, arith}
-use Rattle.std.specs.Prelude.{Option, Some, None, IsTrue, ◌↔◌, is_some, slice_get, slice_set}
+use Rattle.std.proofs.Common.{◌≡◌, refl, sym, ap, ◌∙◌, subst, ℕ, ◌+◌, ◌*◌, ◌<◌, ◌≤◌, ◌⊎◌, inl, inr, true, false, not, List, [], ◌∷◌, length, take, slice_index, get_or, arith}
+use Rattle.std.specs.Prelude.{Some, is_some, slice_get, slice_set}
 use Rattle.std.proofs.lemmas.Bool.{cases_eq}
 use Rattle.std.proofs.lemmas.List.{length-set, take_more}
 use Rattle.std.proofs.lemmas.Option.{slice_get_within, same_Some}
@@ -19,7 +19,6 @@ use Rattle.dr_machine.specs.Form.{HasForm, IsOf}
 use Rattle.dr_machine.proofs.Runs.{run_on}
 use Rattle.dr_machine.proofs.Holdings.{replica_set, replica_kept}
 use Rattle.dr_told.proofs.Faithfulness.{words_grew}
-use Rattle.dr_reading.specs.Programs.{IsTable}
 use Rattle.dr_reading.proofs.Views.{parts}
 use Rattle.dr_world.specs.Held.{Held, its_group, its_world, AreMembers, IsHeld}
 use Rattle.dr_world.specs.Steps.{member_of, allows, may_take, taken, stored}

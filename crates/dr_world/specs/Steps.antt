@@ -1,5 +1,5 @@
 -- What an event makes of the replica of its member and of the table, and when it may.
-use Rattle.std.specs.Prelude.{ℕ, ◌<◌, ◌&&◌, not, nat_lt, Bool, true, false, is_some, List, slice_index, slice_set}
+use Rattle.std.specs.Prelude.{ℕ, ◌&&◌, not, nat_lt, Bool, true, false, is_some, List, slice_index, slice_set}
 use Rattle.dr_entry.specs.declared.end.End.{End}
 use Rattle.dr_entry.specs.declared.end.End.TheVariants.{Done, Crashed, Suspected, Excluded, NoMajority, DiskFault, LogFull, Spent}
 use Rattle.dr_rows.specs.Words.{own, seen}

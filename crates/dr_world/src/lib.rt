@@ -6,7 +6,7 @@
 //! world. All memory is taken in [`World::opening`].
 #![tactic(auto)]
 
-mod setups;
+mod opening;
 mod steps;
 mod world;
 

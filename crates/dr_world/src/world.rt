@@ -3,15 +3,16 @@ ghost use Rattle.dr_machine.specs.Group.{IsGroup, roster};
 ghost use Rattle.dr_machine.specs.Guards.{Guard};
 ghost use Rattle.dr_machine.specs.Run.{Happens, IsReached, Run, WordsGrew};
 ghost use Rattle.dr_machine.specs.World.{count_of, opening_world};
-ghost use Rattle.dr_restart.specs.Groups.{HasGroupRanges, group_of};
+ghost use Rattle.dr_script.specs.Ranges.{HasRanges};
+ghost use Rattle.dr_restart.specs.Groups.{group_of};
 ghost use Rattle.dr_world.specs.Held.{AreMembers, its_group, its_world};
 
-use crate::setups::{copy_script, copy_start, replicas_of, shape_of};
+use crate::opening::{copy_script, replicas_of};
 use crate::steps::{may_take, member_of, store, take};
 use dr_entry::{Entry, SentItem};
 use dr_machine::Event;
 use dr_replica::Replica;
-use dr_restart::Start;
+use dr_restart::{Start, shape_of};
 use dr_script::Script;
 use std::alloc::{AllocError, Global};
 use std::marker::Model;
@@ -45,7 +46,7 @@ impl World {
     ///
     /// Want of memory alone.
     pub fn opening(alloc: Global, script: &Script, start: &Start) -> Result<World, AllocError>
-        requires ranges { HasGroupRanges script.now }
+        requires ranges { HasRanges script.now }
         requires group { IsGroup (group_of script.now start.now) }
         ensures opening { IfOk result (λ w. its_world w ≡ opening_world (group_of script.now start.now)) }
         ensures script { IfOk result (λ w. w.script ≡ script.now) }
@@ -53,7 +54,7 @@ impl World {
     {
         Ok(World {
             script: copy_script(alloc, script)?,
-            start: copy_start(alloc, start)?,
+            start: start.copy(alloc)?,
             replicas: replicas_of(alloc, script, start)?,
             table: vec![in alloc; 0; shape_of(script).words()]?,
         })

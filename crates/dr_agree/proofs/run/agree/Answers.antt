@@ -1,4 +1,4 @@
-use Rattle.std.proofs.Common.{◌≡◌, ◌<◌, refl, arith}
+use Rattle.std.proofs.Common.{◌<◌, refl, arith}
 use Rattle.dr_machine.specs.Group.{roster}
 use Rattle.dr_world.specs.Held.{its_group, its_world}
 use Rattle.dr_agree.proofs.Agreeing.{agreed}

@@ -1,7 +1,6 @@
-use Rattle.std.proofs.Common.{◌≡◌, ◌∙◌}
+use Rattle.std.proofs.Common.{◌∙◌}
 use Rattle.dr_restart.specs.Groups.{group_of}
-use Rattle.dr_machine.specs.World.{opening_world}
-use Rattle.dr_machine.specs.Run.{Run, IsReached}
+use Rattle.dr_machine.specs.Run.{IsReached}
 use Rattle.dr_world.specs.Held.{its_world}
 use Rattle.dr_told.proofs.Faithfulness.{no_later}
 use Rattle.dr_agree.proofs.Agreeing.{agreed}

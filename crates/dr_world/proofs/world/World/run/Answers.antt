@@ -1,4 +1,4 @@
-use Rattle.std.proofs.Common.{◌≡◌, ◌∙◌, refl, take}
+use Rattle.std.proofs.Common.{◌∙◌}
 use Rattle.dr_machine.specs.declared.event.Event.TheVariants.{Beat}
 use Rattle.dr_world.proofs.Taking.{ran_more}
 use Rattle.dr_world.proofs.world.World.run.Goals as goal

@@ -1,13 +1,12 @@
-use Rattle.std.proofs.Common.{◌≡◌, refl, sym, ap, ◌∙◌, subst, ◌<◌, ◌≤◌, ℕ, inl, List, length, arith}
-use Rattle.std.specs.Prelude.{Some, slice_get, slice_set}
+use Rattle.std.proofs.Common.{refl, sym, ap, ◌∙◌, subst, ℕ, inl, List, length, arith}
+use Rattle.std.specs.Prelude.{slice_get, slice_set}
 use Rattle.std.specs.Vec.{with_item, with_items}
 use Rattle.std.proofs.lemmas.List.{with_items_is}
 use Rattle.std.proofs.lemmas.Option.{slice_get_read}
 use Rattle.dr_machine.specs.Guards.{Guard}
-use Rattle.dr_machine.specs.Run.{Happens, WordsGrew}
-use Rattle.dr_world.specs.Held.{Held, its_group, its_world, IsHeld}
+use Rattle.dr_world.specs.Held.{Held, its_group, its_world}
 use Rattle.dr_world.specs.Inside.{held_of}
-use Rattle.dr_world.specs.Steps.{member_of, may_take, stored, IsInSight}
+use Rattle.dr_world.specs.Steps.{stored, IsInSight}
 use Rattle.dr_world.proofs.Taking.{refused, nobody, refused_event, may_still, words_within, Took, took, stored_within, allowed}
 use Rattle.dr_world.proofs.Effects.{in_sight}
 use Rattle.dr_world.proofs.world.World.step.Goals as goal
