@@ -1,0 +1,49 @@
+-- A simulation begins as the program of its script, sound and in the world as the age opens.
+use Rattle.std.proofs.Common.{◌≡◌, sym, ap, ◌∙◌, ℕ, ◌+◌, ◌≤◌, List, [], ◌∷◌, ◌++◌, length, replicate}
+use Rattle.std.proofs.lemmas.List.{map-append}
+use Rattle.dr_script.specs.declared.script.Script.{Script}
+use Rattle.dr_words.specs.Layout.{words_of}
+use Rattle.dr_machine.specs.declared.setup.Setup.{Setup}
+use Rattle.dr_machine.specs.Group.{IsGroup}
+use Rattle.dr_machine.specs.Running.{Running, begun_running}
+use Rattle.dr_machine.specs.Program.{Program}
+use Rattle.dr_ends.proofs.Schedules.{begun_program_of, begun_reached}
+use Rattle.dr_restart.specs.declared.start.Start.{Start}
+use Rattle.dr_restart.specs.Groups.{group_of}
+use Rattle.dr_restart.specs.Setups.{IsBegun, IsSetupOf}
+use Rattle.dr_restart.proofs.Setups.{more, none}
+use Rattle.dr_sim.specs.Simulated.{HaveBegun}
+use Rattle.dr_sim.specs.Sound.{IsSound}
+
+pub begun_none : (script : Script) (start : Start) (nth : ℕ) (members : List Running) → members ≡ [] → HaveBegun script start nth 0 members
+begun_none script start nth members empty = record { setups = []; are = none script start nth; begun = empty }
+
+pub begun_more : (script : Script) (start : Start) (nth n : ℕ) (rs qs : List Running) (s : Setup) (r : Running) → HaveBegun script start nth n rs
+    → IsSetupOf script start nth n s → r ≡ begun_running s → qs ≡ rs ++ r ∷ [] → HaveBegun script start nth (n + 1) qs
+begun_more script start nth n rs qs s r so_far setup begins pushed = record {
+  setups = so_far.setups ++ s ∷ [];
+  are = more script start nth n so_far.setups s so_far.are setup;
+  begun = pushed ∙ (λ z. so_far.begun z ++ begins z ∷ []) ∙ sym (map-append begun_running so_far.setups (s ∷ []));
+}
+
+-- all members, over a table of zeros, are the program as the age opens
+pub is_begun : (script : Script) (start : Start) (nth : ℕ) (members : List Running) (table : List ℕ)
+    → HaveBegun script start nth script.members members → length script.messages ≡ script.members
+    → table ≡ replicate (words_of script.members script.window script.members) 0
+    → IsBegun script start nth (record { members = members; table = table })
+is_begun script start nth members table begun lists zeros = (
+  begun.setups,
+  begun.are,
+  λ z. record {
+    members = begun.begun z;
+    table = (zeros ∙ ap (λ n. replicate (words_of n script.window n) 0) (sym lists)) z;
+  },
+)
+
+pub begun_is_sound : (script : Script) (start : Start) (nth : ℕ) (p : Program) → IsGroup (group_of script start) → 1 ≤ script.turns
+    → length script.messages ≡ script.members → IsBegun script start nth p → IsSound (group_of script start) p
+begun_is_sound script start nth p group some lists begins = record {
+  group = group;
+  form = begun_program_of script start nth p group lists some begins;
+  reached = begun_reached script start nth p group lists begins;
+}

@@ -1,0 +1,12 @@
+use Rattle.dr_sim.specs.Sound.{IsSound, all_left}
+use Rattle.dr_sim.proofs.Turns.{HasRounds}
+use Rattle.dr_sim.proofs.simulation.Simulation.run_lockstep.Given as goal
+
+abbrev pub ghost-take_round : goal.ghost-take_round
+ghost-take_round g a = g.group
+
+abbrev pub invariant-loop-self : goal.invariant-loop-self
+invariant-loop-self g l = record { sound : IsSound g.group l.self; rounds : HasRounds l.fn.self l.self }
+
+abbrev pub decreases-loop-self : goal.decreases-loop-self
+decreases-loop-self g l = all_left l.self

@@ -1,0 +1,81 @@
+//! An age, from its opening to the ends of all members.
+ghost use Rattle.std.specs.Prelude.{◌≡◌, ◌≤◌, IfOk, IsTrue, All, [], is_some, length, map, vec_capacity};
+ghost use Rattle.dr_ends.specs.Ended.{HaveEnded};
+ghost use Rattle.dr_history.specs.Agreement.{EndsAgreed};
+ghost use Rattle.dr_machine.specs.Group.{Group, IsGroup};
+ghost use Rattle.dr_machine.specs.Program.{Program, age_of, end_of};
+ghost use Rattle.dr_restart.specs.Groups.{group_of};
+ghost use Rattle.dr_restart.specs.Setups.{crashes_of};
+ghost use Rattle.dr_script.specs.Ranges.{HasRanges};
+ghost use Rattle.dr_sim.specs.Simulated.{HasRun, IsSimulated};
+ghost use Rattle.dr_sim.specs.Sound.{IsSound};
+
+use crate::simulation::Simulation;
+use dr_entry::{AgeEnd, Entry, MemberEnd, Seq};
+use dr_member::Member;
+use dr_restart::{Start, copy_entries};
+use dr_script::{Schedule, Script};
+use std::alloc::{AllocError, Global};
+
+/// Runs the group of a script through one age, by the script's schedule, and answers how it ended.
+/// `nth` is the number of the age in the run, from 0: it says which of the faults are those of this
+/// age. Each append to a log succeeds.
+///
+/// # Errors
+///
+/// Want of memory alone, before the first deed.
+pub fn sim_age(alloc: Global, script: &Script, start: &Start, nth: u8) -> Result<AgeEnd, AllocError>
+    requires ranges { HasRanges script.now }
+    requires group { IsGroup (group_of script.now start.now) }
+    ensures run { IfOk result (λ age. IsSimulated script.now start.now nth age) }
+    ensures agreed { IfOk result (λ age.
+        EndsAgreed (group_of script.now start.now).opening age.members) }
+    ensures ended { IfOk result (λ age. HaveEnded (group_of script.now start.now).opening
+        script.now.turns (crashes_of script.now.faults nth) age.members) }
+{
+    let entries = copy_entries(alloc, &start.entries)?;
+    let ends = Vec::with_capacity(alloc, usize::from(script.members))?;
+    let simulation = Simulation::begin(alloc, script, start, nth)?;
+    Ok(run(simulation, script, start, entries, ends))
+}
+
+/// Runs the members by the script's schedule, and tells how their age ended, by its entries and with
+/// room for its ends.
+fn run(
+    mut simulation: Simulation,
+    script: &Script,
+    start: &Start,
+    entries: Seq<Entry>,
+    ends: Vec<MemberEnd>,
+) -> AgeEnd
+    ghost group: { Group }
+    requires sound { IsSound group simulation }
+    requires entries { entries ≡ start.now.entries }
+    requires none { ends.items ≡ [] }
+    requires room { length simulation.members ≤ vec_capacity ends }
+    ensures { (p : Program) × HasRun script.now.schedule simulation p × IsSound group p
+        × (result ≡ age_of (group_of script.now start.now).opening p) }
+{
+    match script.schedule {
+        Schedule::Lockstep => simulation.run_lockstep(),
+        Schedule::Seed(seed) => simulation.run_seeded(seed),
+    }
+    AgeEnd {
+        age: start.age,
+        start: entries,
+        members: Seq::of(ends_of(simulation.into_members(), ends)),
+    }
+}
+
+/// How these members ended, in a list that has room for them.
+fn ends_of(members: Vec<Member>, mut ends: Vec<MemberEnd>) -> Vec<MemberEnd>
+    requires ended { All (λ member. IsTrue (is_some member.replica.end)) members.items }
+    requires none { ends.items ≡ [] }
+    requires room { length members.items ≤ vec_capacity ends }
+    ensures { result.items ≡ map end_of members.items }
+{
+    for member in members {
+        ends.push(member.into_end()).unwrap();
+    }
+    ends
+}

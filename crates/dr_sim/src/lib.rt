@@ -1,0 +1,15 @@
+//! The simulator: it runs the members of a script's group by its schedule, over the words of one table,
+//! in one thread.
+#![tactic(auto)]
+
+mod age;
+mod deed;
+mod lcg;
+mod lockstep;
+mod opening;
+mod seeded;
+mod simulation;
+
+pub use age::sim_age;
+pub use lcg::Lcg;
+pub use simulation::Simulation;

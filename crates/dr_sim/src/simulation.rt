@@ -1,0 +1,111 @@
+ghost use Rattle.std.specs.Prelude.{◌≡◌, ◌<◌, ◌↔◌, IfOk, IsTrue, true, false, length, slice_get};
+ghost use Rattle.dr_machine.specs.Group.{Group, IsGroup};
+ghost use Rattle.dr_machine.specs.Program.{AllEnded, Program, step_of};
+ghost use Rattle.dr_machine.specs.Schedule.{has_ended, is_between_turns};
+ghost use Rattle.dr_restart.specs.Groups.{group_of};
+ghost use Rattle.dr_restart.specs.Setups.{IsBegun};
+ghost use Rattle.dr_script.specs.Ranges.{HasRanges};
+ghost use Rattle.dr_sim.specs.Sound.{IsSound, all_left};
+
+use crate::deed::{all_ended, take};
+use crate::opening::members_of;
+use dr_member::Member;
+use dr_restart::{Start, shape_of};
+use dr_script::Script;
+use std::alloc::{AllocError, Global};
+use std::marker::Model;
+
+/// The running members of a group, over the words of one table. Contracts see it as the machine's
+/// program.
+#[derive(Drop)]
+pub struct Simulation {
+    members: Vec<Member>,
+    table: Vec<u64>,
+}
+
+impl Model for Simulation {
+    ghost use Rattle.dr_machine.specs.Program.{Program};
+
+    ghost Value = { Program };
+
+    ghost use Rattle.dr_sim.specs.Inside.{program_of};
+
+    ghost view = { program_of };
+}
+
+impl Simulation {
+    /// The members of a script's group as an age opens, and the empty table. `nth` is the number of the
+    /// age in the run, from 0. No later call takes memory.
+    ///
+    /// # Errors
+    ///
+    /// Want of memory alone.
+    pub fn begin(
+        alloc: Global,
+        script: &Script,
+        start: &Start,
+        nth: u8,
+    ) -> Result<Simulation, AllocError>
+        requires ranges { HasRanges script.now }
+        requires group { IsGroup (group_of script.now start.now) }
+        ensures begun { IfOk result (λ s. IsBegun script.now start.now nth s) }
+        ensures sound { IfOk result (λ s. IsSound (group_of script.now start.now) s) }
+    {
+        Ok(Simulation {
+            members: members_of(alloc, script, start, nth)?,
+            table: vec![in alloc; 0; shape_of(script).words()]?,
+        })
+    }
+
+    /// The members.
+    pub fn into_members(self) -> Vec<Member>
+        ensures { result.items ≡ self.members }
+    {
+        self.members
+    }
+
+    /// The number of members.
+    pub fn len(&self) -> usize
+        ensures { result ≡ length self.now.members }
+    {
+        self.members.len()
+    }
+
+    /// Whether member `m` has ended.
+    pub fn has_ended(&self, m: usize) -> bool
+        requires { m < length self.now.members }
+        ensures { result ≡ has_ended (slice_get self.now.members m) }
+    {
+        self.members[m].end().is_some()
+    }
+
+    /// Whether member `m` has ended, or stands before a turn.
+    pub fn is_between_turns(&self, m: usize) -> bool
+        ghost group: { Group }
+        requires sound { IsSound group self.now }
+        requires member { m < length self.now.members }
+        ensures { result ≡ is_between_turns (slice_get self.now.members m) }
+    {
+        self.members[m].is_between_turns()
+    }
+
+    /// Whether all members have ended.
+    pub fn all_ended(&self) -> bool
+        ensures { IsTrue result ↔ AllEnded self.now }
+    {
+        all_ended(&self.members)
+    }
+
+    /// Member `m`, which has not ended, takes its next deed.
+    #[inline(always)]
+    pub fn take_deed(&mut self, m: usize)
+        ghost group: { Group }
+        requires sound { IsSound group self.old }
+        requires going { has_ended (slice_get self.old.members m) ≡ false }
+        ensures step { self.new ≡ step_of self.old m }
+        ensures sound { IsSound group self.new }
+        ensures falls { all_left self.new < all_left self.old }
+    {
+        take(&mut self.members[m], self.table.as_mut_slice());
+    }
+}
