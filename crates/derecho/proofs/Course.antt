@@ -1,19 +1,22 @@
 -- What a call may come to, and what its clauses say in each case.
-use Rattle.std.proofs.Common.{◌≡◌, ◌≢◌, ◌⊎◌, inl, inr, ℕ, zero, suc, ◌<◌, ◌≤◌, Bool, true, false, true≢false, IsTrue, List, [], ◌∷◌, length, slice_index_or, All, Contains, Option, Some, None, MatchOption, String, if◌then◌else◌, refl, sym, ap, subst, ◌∙◌, arith}
+use Rattle.std.proofs.Common.{◌≡◌, ◌≢◌, ◌⊎◌, inl, inr, ℕ, zero, suc, ◌<◌, ◌≤◌, Bool, true, false, true≢false, IsTrue, List, [], ◌∷◌, length, slice_index_or, All, Contains, Option, Some, None, MatchOption, Result, Ok, Err, IfOk, String, if◌then◌else◌, refl, sym, ap, subst, ◌∙◌, arith}
 use Rattle.std.proofs.lemmas.List.Elements.{All-nil}
 use Rattle.std.specs.declared.alloc.Global.{Global}
 use Rattle.dr_entry.specs.declared.end.AgeEnd.{AgeEnd}
 use Rattle.dr_io.specs.Faults.{Rose}
-use Rattle.dr_rounds.specs.Rounds.{age_of, opening_of}
+use Rattle.dr_restart.specs.Groups.{first_start_of}
 use Rattle.dr_script.specs.declared.script.Script.{Script}
-use Rattle.dr_script.specs.Plain.{plain_script_of}
+use Rattle.dr_script.specs.Reading.{Reading, reading_of, TooLong as TooLongText, NotJson as NoJsonText, Wrong, Reads}
+use Rattle.dr_sim.specs.Simulated.{IsSimulated}
 use Rattle.dr_text.specs.declared.last.Last.{Last}
-use Rattle.dr_text.specs.declared.last.Last.TheVariants.{Done, Usage, NotBuilt, SourceFault, Unfinished}
+use Rattle.dr_text.specs.declared.last.Last.TheVariants.{Done, Usage, SourceFault, Unfinished}
 use Rattle.derecho.specs.declared.status.TheConstants.{DONE, USAGE, SCRIPT_REFUSED, READ_FAULT, WRITE_FAULT, UNFINISHED, OUT_OF_MEMORY}
+use Rattle.derecho.specs.declared.outcome.Outcome.{Outcome}
 use Rattle.derecho.specs.Words.{IsCommand}
+use Rattle.derecho.specs.Built.{runnable, refusal}
 use Rattle.derecho.specs.Reading.{IsNoScript, IsScript, WasRead}
 use Rattle.derecho.specs.Ages.{IsRunOf, RanAlone, some_spent}
-use Rattle.derecho.specs.Outcome.{Exactly, GaveUp, IsDue, MayBeUnread, RanRead, Wrote, last_of_run, status_of}
+use Rattle.derecho.specs.Outcome.{Exactly, GaveUp, IsDue, IsRunOver, MayBeUnread, RanRead, Wrote, last_of_run, status_of}
 
 -- the status is the one that is due, or that of a write fault
 abbrev IsOr : ℕ → ℕ → Type 0
@@ -25,16 +28,23 @@ pub record Ran (old new : Option (List ℕ)) (ages : List AgeEnd) : Type 0 where
   pub script : Script
   pub age : AgeEnd
   pub read : WasRead old new bytes
-  pub is : plain_script_of bytes ≡ Some script
+  pub is : runnable (reading_of bytes) ≡ Some script
   pub alone : ages ≡ age ∷ []
   pub run : IsRunOf script age
+
+-- what is due over the bytes that were read
+pub due_read : {E : Type 0} (words : List (String Global)) (old new : Option (List ℕ)) (before after : ℕ) (bytes : List ℕ) (result : Result Outcome E)
+    → IsCommand words → WasRead old new bytes → IfOk result (λ (o : Outcome). IsRunOver bytes o.ages o.last)
+    → IfOk result (λ (o : Outcome). IsDue words old new before after o.ages o.last)
+due_read words old new before after bytes (Ok o) known read over = inr (inr (known, (bytes, read, over)))
+due_read words old new before after bytes (Err e) known read over = tt
 
 -- what a call may come to
 pub data Course (words : List (String Global)) (old new : Option (List ℕ)) (before after status : ℕ) (ages : List AgeEnd) : Type 0 where
   no_memory : status ≡ OUT_OF_MEMORY → ages ≡ [] → Course words old new before after status ages
   no_command : ¬ IsCommand words → ages ≡ [] → IsOr USAGE status → Course words old new before after status ages
   no_read : IsCommand words → ages ≡ [] → Rose before after → IsOr READ_FAULT status → Course words old new before after status ages
-  no_script : IsCommand words → ages ≡ [] → (bytes : List ℕ) → WasRead old new bytes → plain_script_of bytes ≡ None → IsOr SCRIPT_REFUSED status
+  no_script : IsCommand words → ages ≡ [] → (bytes : List ℕ) → WasRead old new bytes → runnable (reading_of bytes) ≡ None → IsOr SCRIPT_REFUSED status
       → Course words old new before after status ages
   done : IsCommand words → Ran old new ages → some_spent ages ≡ false → IsOr DONE status → Course words old new before after status ages
   unfinished : IsCommand words → Ran old new ages → some_spent ages ≡ true → IsOr UNFINISHED status → Course words old new before after status ages
@@ -54,13 +64,20 @@ ran_course words old new held held' before after fall rise status ages last fals
 ran_course words old new held held' before after fall rise status ages last true known ran is same wrote =
     unfinished known ran is (or_of held held' fall rise status ages last Unfinished wrote (same ∙ ap (λ spent. if spent then Unfinished else Done) is))
 
+-- the status of every refusal of a text
+refused_status : (r : Reading) → status_of (refusal r) ≡ SCRIPT_REFUSED
+refused_status TooLongText = refl
+refused_status NoJsonText = refl
+refused_status (Wrong rule path) = refl
+refused_status (Reads s) = refl
+
 -- a text that was written over the bytes that were read
 over_course : (words : List (String Global)) (old new held held' : Option (List ℕ)) (before after fall rise status : ℕ) (ages : List AgeEnd) (last : Last)
-    (bytes : List ℕ) (o : Option Script) → plain_script_of bytes ≡ o → IsCommand words → WasRead old new bytes
-    → MatchOption o ((last ≡ NotBuilt) × (ages ≡ [])) (λ s. (last ≡ last_of_run ages) × RanAlone s ages)
+    (bytes : List ℕ) (o : Option Script) → runnable (reading_of bytes) ≡ o → IsCommand words → WasRead old new bytes
+    → MatchOption o ((last ≡ refusal (reading_of bytes)) × (ages ≡ [])) (λ s. (last ≡ last_of_run ages) × RanAlone s ages)
     → Wrote held held' fall rise status ages last → Course words old new before after status ages
 over_course words old new held held' before after fall rise status ages last bytes None is known read (same, none) wrote =
-    no_script known none bytes read is (or_of held held' fall rise status ages last NotBuilt wrote same)
+    no_script known none bytes read is (subst (λ due. IsOr due status) (refused_status (reading_of bytes)) (or_of held held' fall rise status ages last (refusal (reading_of bytes)) wrote same))
 over_course words old new held held' before after fall rise status ages last bytes (Some s) is known read (same, (a, alone, run)) wrote =
     ran_course
     words
@@ -90,7 +107,7 @@ wrote_course words old new held held' before after fall rise status ages last (i
 wrote_course words old new held held' before after fall rise status ages last (inr (inl (known, same, none, rose))) wrote =
     no_read known none rose (or_of held held' fall rise status ages last SourceFault wrote same)
 wrote_course words old new held held' before after fall rise status ages last (inr (inr (known, (bytes, read, over)))) wrote =
-    over_course words old new held held' before after fall rise status ages last bytes (plain_script_of bytes) refl known read over wrote
+    over_course words old new held held' before after fall rise status ages last bytes (runnable (reading_of bytes)) refl known read over wrote
 
 -- a call that has finished
 pub course_of : (words : List (String Global)) (old new held held' : Option (List ℕ)) (before after fall rise status : ℕ) (due ages : List AgeEnd)
@@ -119,9 +136,9 @@ all_one P x here (suc k) d below = absurd (omega arith)
 -- a fact that holds of the run of every script that was read holds of each age
 pub all_ages : {words : List (String Global)} {old new : Option (List ℕ)} {before after status : ℕ} {ages : List AgeEnd} (P : Script → AgeEnd → Type 0)
     → Course words old new before after status ages → ((s : Script) (a : AgeEnd) → IsRunOf s a → P s a)
-    → All (λ a. (s : Script) × IsScript old new s × (a ≡ age_of (opening_of s) s.turns) × P s a) ages
+    → All (λ a. (s : Script) × IsScript old new s × IsSimulated s (first_start_of s) 0 a × P s a) ages
 all_ages {words} {old} {new} {before} {after} {status} {ages} P course step =
-    let Q : AgeEnd → Type 0 = λ a. (s : Script) × IsScript old new s × (a ≡ age_of (opening_of s) s.turns) × P s a in
+    let Q : AgeEnd → Type 0 = λ a. (s : Script) × IsScript old new s × IsSimulated s (first_start_of s) 0 a × P s a in
     let R : List AgeEnd → Type 0 = λ all. All Q all in
     let nil : ages ≡ [] → All Q ages = λ none. subst R (sym none) (All-nil Q) in
     let one : Ran old new ages → All Q ages =
@@ -267,17 +284,17 @@ ran_read old new status ages r not =
     λ o. MatchOption
     o
     ((ages ≡ []) × ((status ≡ SCRIPT_REFUSED) ⊎ (status ≡ WRITE_FAULT)))
-    (λ s. (ages ≡ age_of (opening_of s) s.turns ∷ []) × (status ≢ SCRIPT_REFUSED)) in
-    (r.bytes, r.read, subst P (sym r.is) (r.alone ∙ ap (λ a. a ∷ []) r.run.run, not))
+    (λ s. ((a : AgeEnd) × (ages ≡ a ∷ []) × IsSimulated s (first_start_of s) 0 a) × (status ≢ SCRIPT_REFUSED)) in
+    (r.bytes, r.read, subst P (sym r.is) ((r.age, r.alone, r.run.run), not))
 
-refused_read : (old new : Option (List ℕ)) (status : ℕ) (ages : List AgeEnd) (bytes : List ℕ) → WasRead old new bytes → plain_script_of bytes ≡ None
+refused_read : (old new : Option (List ℕ)) (status : ℕ) (ages : List AgeEnd) (bytes : List ℕ) → WasRead old new bytes → runnable (reading_of bytes) ≡ None
     → ages ≡ [] → IsOr SCRIPT_REFUSED status → RanRead old new status ages
 refused_read old new status ages bytes read is none due =
     let P : Option Script → Type 0 =
     λ o. MatchOption
     o
     ((ages ≡ []) × ((status ≡ SCRIPT_REFUSED) ⊎ (status ≡ WRITE_FAULT)))
-    (λ s. (ages ≡ age_of (opening_of s) s.turns ∷ []) × (status ≢ SCRIPT_REFUSED)) in
+    (λ s. ((a : AgeEnd) × (ages ≡ a ∷ []) × IsSimulated s (first_start_of s) 0 a) × (status ≢ SCRIPT_REFUSED)) in
     (bytes, read, subst P (sym is) (none, due))
 
 pub read_of : {words : List (String Global)} {old new : Option (List ℕ)} {before after status : ℕ} {ages : List AgeEnd}

@@ -1,5 +1,6 @@
 pub mod Words
 pub mod Reading
 pub mod Writing
+pub mod Built
 pub mod Ages
 pub mod Outcome

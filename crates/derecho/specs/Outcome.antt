@@ -5,13 +5,15 @@ use Rattle.dr_entry.specs.declared.end.AgeEnd.{AgeEnd}
 use Rattle.dr_io.specs.Faults.{Rose}
 use Rattle.dr_io.specs.Source.{Loses}
 use Rattle.dr_io.specs.Sink.{Gains}
-use Rattle.dr_rounds.specs.Rounds.{age_of, opening_of}
-use Rattle.dr_script.specs.Plain.{plain_script_of}
+use Rattle.dr_restart.specs.Groups.{first_start_of}
+use Rattle.dr_script.specs.Reading.{reading_of}
+use Rattle.dr_sim.specs.Simulated.{IsSimulated}
 use Rattle.dr_text.specs.declared.last.Last.{Last}
-use Rattle.dr_text.specs.declared.last.Last.TheVariants.{Done, Usage, NotBuilt, SourceFault, Unfinished}
+use Rattle.dr_text.specs.declared.last.Last.TheVariants.{Done, Usage, TooLong, NotJson, Rule, NotBuilt, SourceFault, Unfinished}
 use Rattle.dr_text.specs.Report.{report_text}
 use Rattle.derecho.specs.declared.status.TheConstants.{DONE, USAGE, SCRIPT_REFUSED, READ_FAULT, WRITE_FAULT, UNFINISHED, OUT_OF_MEMORY}
 use Rattle.derecho.specs.Words.{IsCommand}
+use Rattle.derecho.specs.Built.{runnable, refusal}
 use Rattle.derecho.specs.Reading.{WasRead}
 use Rattle.derecho.specs.Writing.{WroteFront}
 use Rattle.derecho.specs.Ages.{some_spent, RanAlone}
@@ -20,12 +22,12 @@ use Rattle.derecho.specs.Ages.{some_spent, RanAlone}
 abbrev pub last_of_run : List AgeEnd → Last
 last_of_run ages = if some_spent ages then Unfinished else Done
 
--- what the bytes ask for: no age and a refusal where they are no plain script, and else the run of that script
+-- what the bytes ask for: no age and a refusal where they are no script that can be run, and else the run of that script
 abbrev pub IsRunOver : List ℕ → List AgeEnd → Last → Type 0
 IsRunOver bytes ages last =
     MatchOption
-    (plain_script_of bytes)
-    ((last ≡ NotBuilt) × (ages ≡ []))
+    (runnable (reading_of bytes))
+    ((last ≡ refusal (reading_of bytes)) × (ages ≡ []))
     (λ s. (last ≡ last_of_run ages) × RanAlone s ages)
 
 -- the last line that is due, with its ages: the usage where the words are no command, a fault where the source failed, and else what the bytes that were read ask for
@@ -39,6 +41,9 @@ IsDue words old new before after ages last =
 abbrev pub status_of : Last → ℕ
 status_of Done = DONE
 status_of Usage = USAGE
+status_of TooLong = SCRIPT_REFUSED
+status_of NotJson = SCRIPT_REFUSED
+status_of (Rule rule path) = SCRIPT_REFUSED
 status_of NotBuilt = SCRIPT_REFUSED
 status_of SourceFault = READ_FAULT
 status_of Unfinished = UNFINISHED
@@ -63,12 +68,12 @@ abbrev pub MayBeUnread : ℕ → ℕ → ℕ → Type 0
 MayBeUnread before after status =
     (status ≡ READ_FAULT) ⊎ (status ≡ OUT_OF_MEMORY) ⊎ ((status ≡ WRITE_FAULT) × Rose before after)
 
--- the source was read to its end or to the limit, and what was read decides: it is no plain script, is refused and has no age, or the ages are the one run of that script
+-- the source was read to its end or to the limit, and what was read decides: it is no script that can be run, is refused and has no age, or the ages are the one run of that script
 abbrev pub RanRead : Option (List ℕ) → Option (List ℕ) → ℕ → List AgeEnd → Type 0
 RanRead old new status ages =
     (bytes : List ℕ)
     × WasRead old new bytes
     × MatchOption
-    (plain_script_of bytes)
+    (runnable (reading_of bytes))
     ((ages ≡ []) × ((status ≡ SCRIPT_REFUSED) ⊎ (status ≡ WRITE_FAULT)))
-    (λ s. (ages ≡ age_of (opening_of s) s.turns ∷ []) × (status ≢ SCRIPT_REFUSED))
+    (λ s. ((a : AgeEnd) × (ages ≡ a ∷ []) × IsSimulated s (first_start_of s) 0 a) × (status ≢ SCRIPT_REFUSED))

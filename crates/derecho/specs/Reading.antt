@@ -2,8 +2,9 @@
 use Rattle.std.specs.Prelude.{◌≡◌, ℕ, ◌<◌, ◌≤◌, List, length, Option, Some, None}
 use Rattle.dr_io.specs.Source.{Loses, IsUsedUp}
 use Rattle.dr_script.specs.declared.script.Script.{Script}
-use Rattle.dr_script.specs.Plain.{plain_script_of}
+use Rattle.dr_script.specs.Reading.{reading_of}
 use Rattle.derecho.specs.declared.reading.TheConstants.{READ_LIMIT}
+use Rattle.derecho.specs.Built.{runnable}
 
 -- these bytes were read from the front of what was left: all of it, or as many as the limit
 pub record WasRead (old new : Option (List ℕ)) (bytes : List ℕ) : Type 0 where
@@ -11,10 +12,10 @@ pub record WasRead (old new : Option (List ℕ)) (bytes : List ℕ) : Type 0 whe
   pub end : length bytes < READ_LIMIT → IsUsedUp new
   pub limit : length bytes ≤ READ_LIMIT
 
--- what was read is this plain script
+-- what was read is this script, which can be run
 abbrev pub IsScript : Option (List ℕ) → Option (List ℕ) → Script → Type 0
-IsScript old new s = (bytes : List ℕ) × WasRead old new bytes × (plain_script_of bytes ≡ Some s)
+IsScript old new s = (bytes : List ℕ) × WasRead old new bytes × (runnable (reading_of bytes) ≡ Some s)
 
--- what was read is no plain script
+-- what was read is no script that can be run
 abbrev pub IsNoScript : Option (List ℕ) → Option (List ℕ) → Type 0
-IsNoScript old new = (bytes : List ℕ) × WasRead old new bytes × (plain_script_of bytes ≡ None)
+IsNoScript old new = (bytes : List ℕ) × WasRead old new bytes × (runnable (reading_of bytes) ≡ None)

@@ -1,6 +1,7 @@
 //! Runs a group by a script, and prints what each of its members delivered.
 #![tactic(auto)]
 
+mod built;
 mod outcome;
 mod reading;
 mod status;

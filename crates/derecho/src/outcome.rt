@@ -1,15 +1,17 @@
 ghost use Rattle.std.specs.Prelude.{◌≡◌, if◌then◌else◌, IfOk, []};
 ghost use Rattle.std.specs.List.{list_any};
-ghost use Rattle.dr_script.specs.Plain.{IsPlain};
+ghost use Rattle.dr_script.specs.Ranges.{HasRanges};
 ghost use Rattle.derecho.specs.Ages.{is_spent, RanAlone};
 ghost use Rattle.derecho.specs.Outcome.{IsDue, IsRunOver, last_of_run};
 
+use crate::built::is_built;
 use crate::reading::{ReadFault, read_all};
 use crate::words::is_command;
 use dr_entry::{AgeEnd, End, MemberEnd, Seq};
 use dr_io::Source;
-use dr_rounds::run;
-use dr_script::{Script, ScriptFault, plain_script};
+use dr_restart::first_start;
+use dr_script::{Script, ScriptFault, read_script};
+use dr_sim::sim_age;
 use dr_text::Last;
 use std::alloc::{AllocError, Global};
 
@@ -39,24 +41,30 @@ pub(crate) fn outcome_of<S: Source>(
     }
 }
 
-/// Runs what was read, where it is a plain script.
+/// Runs what was read, where it is a script that can be run.
 fn judge(alloc: Global, bytes: &[u8]) -> Result<Outcome, AllocError>
     ensures { IfOk result (λ o. IsRunOver bytes.now o.ages o.last) }
 {
-    match plain_script(alloc, bytes) {
-        Ok(script) => simulate(alloc, script),
-        Err(ScriptFault::NotPlain) => Ok(without_ages(alloc, Last::NotBuilt)),
+    match read_script(alloc, bytes) {
+        Ok(script) if is_built(&script) => simulate(alloc, &script),
+        Ok(_) => Ok(without_ages(alloc, Last::NotBuilt)),
+        Err(ScriptFault::TooLong) => Ok(without_ages(alloc, Last::TooLong)),
+        Err(ScriptFault::NotJson) => Ok(without_ages(alloc, Last::NotJson)),
+        Err(ScriptFault::Wrong { rule, path }) => {
+            Ok(without_ages(alloc, Last::Rule { rule, path }))
+        }
         Err(ScriptFault::OutOfMemory) => Err(AllocError),
     }
 }
 
-/// Runs a plain script.
-fn simulate(alloc: Global, script: Script) -> Result<Outcome, AllocError>
-    requires { IsPlain script }
-    ensures ran { IfOk result (λ o. RanAlone script o.ages) }
+/// Runs a script in its one age, from nothing.
+fn simulate(alloc: Global, script: &Script) -> Result<Outcome, AllocError>
+    requires { HasRanges script.now }
+    ensures ran { IfOk result (λ o. RanAlone script.now o.ages) }
     ensures last { IfOk result (λ o. o.last ≡ last_of_run o.ages) }
 {
-    let age = run(alloc, script)?;
+    let start = first_start(alloc, script);
+    let age = sim_age(alloc, script, &start, 0)?;
     let last = last_of(age.members.as_slice());
     let mut ages = Vec::new(alloc);
     ages.push(age)?;

@@ -65,11 +65,28 @@ member 2 done history 4 logged 4 durable 4
 unfinished
 ";
 
-/// A script whose window is not 1.
-const WIDE: &[u8] =
-    br#"{"members":3,"window":2,"turns":12,"patience":0,"ages":1,"messages":[["a"],["b"],["c"]],"faults":[],"schedule":"lockstep"}"#;
+/// The same three members, who take their deeds as a generator chooses.
+const SEED_7: &[u8] =
+    br#"{"members":3,"window":1,"turns":1000,"patience":0,"ages":1,"messages":[["a"],["b"],["c"]],"faults":[],"schedule":7}"#;
 
-const REFUSED_LINE: &[u8] = b"refused: not built\n";
+const SEED_8: &[u8] =
+    br#"{"members":3,"window":1,"turns":1000,"patience":0,"ages":1,"messages":[["a"],["b"],["c"]],"faults":[],"schedule":8}"#;
+
+/// Three members, of which the last crashes in its first turn before it has pushed anything.
+const CRASH: &[u8] =
+    br#"{"members":3,"window":1,"turns":12,"patience":0,"ages":1,"messages":[["a"],["b"],["c"]],"faults":[{"age":0,"member":2,"crash":[1,0]}],"schedule":"lockstep"}"#;
+
+const CRASH_TEXT: &[u8] = b"\
+age 0 start 0
+member 0 spent 12 history 1 logged 1 durable 1
+  view 0 0 0,1,2
+member 1 spent 12 history 1 logged 1 durable 1
+  view 0 0 0,1,2
+member 2 crashed history 2 logged 2 durable 1
+  view 0 0 0,1,2
+  msg 0 0 61
+unfinished
+";
 
 const USAGE_LINE: &[u8] = b"usage: derecho (sim|run) [--logs FOLDER]\n";
 
@@ -180,17 +197,37 @@ fn other_words_are_told_the_usage(rt: HostRuntime) -> Result<(), Fail> {
 }
 
 #[test]
-fn what_is_no_plain_script_is_refused(rt: HostRuntime) -> Result<(), Fail> {
-    for script in [WIDE, b"{\"members\":3,", b""] {
-        writes(
-            &rt,
-            rt.alloc(),
-            &["sim"],
-            script,
-            100,
-            (SCRIPT_REFUSED, 0),
-            REFUSED_LINE,
-        )?;
+fn members_that_a_seed_chooses_deliver_the_same(rt: HostRuntime) -> Result<(), Fail> {
+    for script in [SEED_7, SEED_8] {
+        let ended = (DONE, 1);
+        writes(&rt, rt.alloc(), &["sim"], script, 100, ended, THREE_TEXT)?;
+    }
+    Ok(())
+}
+
+#[test]
+fn a_member_crashes_where_the_script_says(rt: HostRuntime) -> Result<(), Fail> {
+    let ended = (UNFINISHED, 1);
+    writes(&rt, rt.alloc(), &["sim"], CRASH, 100, ended, CRASH_TEXT)
+}
+
+#[test]
+fn what_is_no_script_is_refused(rt: HostRuntime) -> Result<(), Fail> {
+    let texts: [(&[u8], &[u8]); 4] = [
+        (b"{\"members\":3,", b"refused: not json\n"),
+        (b"[]", b"refused: rule 1 at /\n"),
+        (
+            br#"{"members":17,"window":0,"turns":12,"patience":0,"ages":1,"messages":[],"faults":[],"schedule":7}"#,
+            b"refused: rule 3 at /members\n",
+        ),
+        (
+            br#"{"members":1,"window":1,"turns":12,"patience":3,"ages":1,"messages":[[]],"faults":[],"schedule":7}"#,
+            b"refused: not built\n",
+        ),
+    ];
+    for (script, line) in texts {
+        let ended = (SCRIPT_REFUSED, 0);
+        writes(&rt, rt.alloc(), &["sim"], script, 100, ended, line)?;
     }
     Ok(())
 }
@@ -211,7 +248,7 @@ fn a_script_has_at_most_1048576_bytes(rt: HostRuntime) -> Result<(), Fail> {
         &script,
         200,
         (SCRIPT_REFUSED, 0),
-        REFUSED_LINE,
+        b"refused: too long\n",
     )
 }
 

@@ -2,10 +2,13 @@ ghost use Rattle.std.specs.Prelude.{◌≡◌, ◌≢◌, ◌⊎◌, ◌≤◌, 
 ghost use Rattle.dr_entry.specs.declared.end.AgeEnd.{AgeEnd};
 ghost use Rattle.dr_script.specs.declared.script.Script.{Script};
 ghost use Rattle.dr_text.specs.declared.last.Last.{Last};
+ghost use Rattle.dr_ends.specs.Ended.{HaveEnded};
 ghost use Rattle.dr_history.specs.Agreement.{EndsAgreed};
 ghost use Rattle.dr_io.specs.Faults.{Rose};
 ghost use Rattle.dr_io.specs.Sink.{Gains};
-ghost use Rattle.dr_rounds.specs.Rounds.{age_of, opening_of, HasEnded};
+ghost use Rattle.dr_restart.specs.Groups.{first_group_of, first_start_of};
+ghost use Rattle.dr_restart.specs.Setups.{crashes_of};
+ghost use Rattle.dr_sim.specs.Simulated.{IsSimulated};
 ghost use Rattle.derecho.specs.Words.{IsCommand};
 ghost use Rattle.derecho.specs.Reading.{IsNoScript, IsScript};
 ghost use Rattle.derecho.specs.Ages.{some_spent};
@@ -47,10 +50,10 @@ pub fn derecho<R: Threads + Sync, S: Source, K: Sink>(
         → MayBeUnread (S.faults source.old) (S.faults source.new) result.status
         ⊎ RanRead (S.left source.old) (S.left source.new) result.status result.ages }
     ensures agreed { All (λ a. (s : Script) × IsScript (S.left source.old) (S.left source.new) s
-        × (a ≡ age_of (opening_of s) s.turns) × EndsAgreed (opening_of s) a.members) result.ages }
+        × IsSimulated s (first_start_of s) 0 a × EndsAgreed (first_group_of s).opening a.members) result.ages }
     ensures ended { All (λ a. (s : Script) × IsScript (S.left source.old) (S.left source.new) s
-        × (a ≡ age_of (opening_of s) s.turns)
-        × All (HasEnded (opening_of s) s.turns a.members) a.members) result.ages }
+        × IsSimulated s (first_start_of s) 0 a
+        × HaveEnded (first_group_of s).opening s.turns (crashes_of s.faults 0) a.members) result.ages }
     ensures one_age { length result.ages ≤ 1 }
 
     // The text: the report of these ages, with the last line that is due.
@@ -92,7 +95,7 @@ fn finish<K: Sink>(alloc: Global, outcome: Outcome, sink: &mut K) -> Ended
         return given_up(alloc);
     };
     let status = match write_all(sink, text.as_bytes()) {
-        Ok(()) => status_of(outcome.last),
+        Ok(()) => status_of(&outcome.last),
         Err(_) => WRITE_FAULT,
     };
     Ended {
@@ -112,13 +115,13 @@ fn given_up(alloc: Global) -> Ended
     }
 }
 
-fn status_of(last: Last) -> u8
-    ensures { result ≡ status_of last }
+fn status_of(last: &Last) -> u8
+    ensures { result ≡ status_of last.now }
 {
     match last {
         Last::Done => DONE,
         Last::Usage => USAGE,
-        Last::NotBuilt => SCRIPT_REFUSED,
+        Last::TooLong | Last::NotJson | Last::Rule { .. } | Last::NotBuilt => SCRIPT_REFUSED,
         Last::SourceFault => READ_FAULT,
         Last::Unfinished => UNFINISHED,
     }

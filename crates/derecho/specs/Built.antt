@@ -1,0 +1,42 @@
+-- The scripts that can be run so far.
+use Rattle.std.specs.Prelude.{ℕ, List, [], length, Bool, true, false, ◌==◌, ◌&&◌, Option, Some, None, if◌then◌else◌}
+use Rattle.std.specs.List.{list_all, slice_index_or}
+use Rattle.dr_script.specs.declared.script.Script.{Script}
+use Rattle.dr_script.specs.declared.script.Fault.{Fault}
+use Rattle.dr_script.specs.declared.script.What.{What}
+use Rattle.dr_script.specs.declared.script.What.TheVariants.{Crash, Suspect}
+use Rattle.dr_script.specs.Reading.{Reading, TooLong, NotJson, Wrong, Reads}
+use Rattle.dr_text.specs.declared.last.Last.{Last}
+use Rattle.dr_text.specs.declared.last.Last.TheVariants as lasts
+
+-- whether the fault is a crash
+abbrev pub is_crash : What → Bool
+is_crash (Crash turn push) = true
+is_crash (Suspect turn other) = false
+
+-- the length of the first list
+abbrev pub first_length : {A : Type 0} → List (List A) → ℕ
+first_length lists = length (slice_index_or lists 0 [])
+
+-- each list is as long as the first
+abbrev pub are_alike : {A : Type 0} → List (List A) → Bool
+are_alike lists = list_all (λ xs. length xs == first_length lists) lists
+
+-- whether a script uses only what is built: no patience, one age, no suspicion, and as many messages of each member
+abbrev pub is_built : Script → Bool
+is_built s =
+    (s.patience == 0) && (s.ages == 1) && list_all (λ (f : Fault). is_crash f.what) s.faults && are_alike s.messages
+
+-- the script to run, where a text is one that can be run
+abbrev pub runnable : Reading → Option Script
+runnable TooLong = None
+runnable NotJson = None
+runnable (Wrong rule path) = None
+runnable (Reads s) = if is_built s then Some s else None
+
+-- what the last line says of a text that is not run
+abbrev pub refusal : Reading → Last
+refusal TooLong = lasts.TooLong
+refusal NotJson = lasts.NotJson
+refusal (Wrong rule path) = lasts.Rule rule path
+refusal (Reads s) = lasts.NotBuilt

@@ -1,4 +1,0 @@
-pub mod Standing
-pub mod Turn
-pub mod Rounds
-pub mod Sound
