@@ -12,7 +12,7 @@ use group::Group;
 use member::{End, Entry};
 use rows::{MAX_MESSAGE, Shape};
 use std::env;
-use std::fs;
+use std::fmt::{self, Write};
 use std::process::ExitCode;
 
 /// The most turns that a script may ask for.
@@ -61,38 +61,32 @@ fn read_task(words: &[String]) -> Option<Task> {
     })
 }
 
-/// The user time that this process has taken, in hundredths of a second, where Linux tells it.
-fn user_time() -> Option<u64> {
-    let stat = fs::read_to_string("/proc/self/stat").ok()?;
-    let (_, behind_name) = stat.rsplit_once(')')?;
-    behind_name.split_whitespace().nth(11)?.parse().ok()
-}
-
-/// Prints the turns of each member, and the age as `derecho` does.
-fn report(group: &Group) {
+/// The turns of each member, and the age as `derecho` prints it.
+fn report(group: &Group) -> Result<String, fmt::Error> {
+    let mut text = String::new();
     let turns = group.members.iter().map(|member| member.turns.to_string());
-    println!(
-        "turns {}\nage 0 start 0",
-        turns.collect::<Vec<_>>().join(" ")
-    );
+    let turns = turns.collect::<Vec<_>>().join(" ");
+    writeln!(text, "turns {turns}\nage 0 start 0")?;
     for (m, member) in group.members.iter().enumerate() {
         let end = match member.end {
             None => "running".to_owned(),
             Some(End::Done) => "done".to_owned(),
             Some(End::Spent { turns }) => format!("spent {turns}"),
         };
-        let history = &member.history;
-        println!(
-            "member {m} {end} history {} logged {} durable {}",
-            history.len(),
-            member.logged,
-            member.durable
-        );
-        history.iter().for_each(report_entry);
+        let (history, logged, durable) = (&member.history, member.logged, member.durable);
+        let len = history.len();
+        writeln!(
+            text,
+            "member {m} {end} history {len} logged {logged} durable {durable}"
+        )?;
+        for entry in history {
+            report_entry(&mut text, entry)?;
+        }
     }
+    Ok(text)
 }
 
-fn report_entry(entry: &Entry) {
+fn report_entry(text: &mut String, entry: &Entry) -> fmt::Result {
     match entry {
         Entry::View {
             age,
@@ -101,22 +95,23 @@ fn report_entry(entry: &Entry) {
         } => {
             let members = (0..16).filter(|member| (members >> member) & 1 == 1);
             let members: Vec<String> = members.map(|member| member.to_string()).collect();
-            println!("  view {age} {number} {}", members.join(","));
+            writeln!(text, "  view {age} {number} {}", members.join(","))
         }
         Entry::Msg {
             sender,
             index,
             bytes,
         } => {
-            let hex: String = bytes
-                .bytes()
-                .iter()
-                .map(|byte| format!("{byte:02x}"))
-                .collect();
-            println!(
-                "  msg {sender} {index} {}",
-                if hex.is_empty() { "-" } else { &hex }
-            );
+            write!(text, "  msg {sender} {index} ")?;
+            let bytes = bytes.bytes();
+            if bytes.is_empty() {
+                text.push('-');
+            }
+            for byte in bytes {
+                write!(text, "{byte:02x}")?;
+            }
+            text.push('\n');
+            Ok(())
         }
     }
 }
@@ -128,27 +123,27 @@ fn main() -> ExitCode {
         return ExitCode::from(2);
     };
     let mut group = Group::begin(task.shape, task.messages, task.bytes, task.turns);
-    let before = user_time();
-    match task.seed {
-        None => group.run_lockstep(),
-        Some(seed) => group.run_seeded(seed),
-    }
-    let after = user_time();
-    let deeds = group.deeds;
+    let schedule = match task.seed {
+        None => {
+            group.run_lockstep();
+            "lockstep"
+        }
+        Some(seed) => {
+            group.run_seeded(seed);
+            "seeded"
+        }
+    };
     println!(
-        "members: {deeds} rounds: {} checksum: {:016x}",
-        group.rounds(),
+        "{schedule}: {} checksum: {:016x}",
+        group.entries(),
         group.checksum()
     );
-    match (before, after) {
-        (Some(before), Some(after)) if before < after => {
-            let seconds = (after - before) as f64 / 100.0;
-            println!("{seconds:.2} s, {:.1} M/s", deeds as f64 / seconds / 1e6);
-        }
-        _ => println!("no user time to be measured"),
-    }
+    println!("deeds: {} most turns: {}", group.deeds, group.rounds());
     if task.has_report {
-        report(&group);
+        match report(&group) {
+            Ok(text) => print!("{text}"),
+            Err(_) => return ExitCode::FAILURE,
+        }
     }
     ExitCode::SUCCESS
 }

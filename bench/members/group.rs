@@ -1,13 +1,12 @@
 //! A group that runs over the words of one table.
 
-use crate::member::{Deed, Entry, Member, Record};
+use crate::member::{Deed, Entry, Member};
 use crate::rows::{Message, Shape};
 
-/// The members over the words of one table, with the last record of each one's log.
+/// The members over the words of one table.
 pub struct Group {
     pub members: Vec<Member>,
     table: Vec<u64>,
-    logs: Vec<Option<Record>>,
     pub deeds: u64,
 }
 
@@ -21,7 +20,6 @@ impl Group {
         Group {
             members: (0..shape.members).map(begin).collect(),
             table: vec![0; shape.words()],
-            logs: (0..shape.members).map(|_| None).collect(),
             deeds: 0,
         }
     }
@@ -30,7 +28,7 @@ impl Group {
     fn turn(&mut self, m: usize) {
         let member = &mut self.members[m];
         loop {
-            step(member, &mut self.table, &mut self.logs[m]);
+            step(member, &mut self.table);
             self.deeds += 1;
             if member.is_between_turns() {
                 return;
@@ -67,7 +65,7 @@ impl Group {
                 .wrapping_add(1_442_695_040_888_963_407);
             let chosen = ((state >> 33) as u32 % living.len() as u32) as usize;
             let m = living[chosen];
-            step(&mut self.members[m], &mut self.table, &mut self.logs[m]);
+            step(&mut self.members[m], &mut self.table);
             self.deeds += 1;
             if self.members[m].end.is_some() {
                 living.remove(chosen);
@@ -84,25 +82,29 @@ impl Group {
             .unwrap_or(0)
     }
 
-    /// A number made of the words of the table, and of each member's end, history and last record.
+    /// The number of entries in all histories.
+    pub fn entries(&self) -> usize {
+        self.members.iter().map(|member| member.history.len()).sum()
+    }
+
+    /// A number made of how each member ended, and of its history.
     pub fn checksum(&self) -> u64 {
-        let mut sum = self.table.iter().fold(0, |sum, word| mixed(sum, *word));
-        for (member, log) in self.members.iter().zip(&self.logs) {
-            let lengths = [member.history.len(), member.logged, member.durable];
-            sum = lengths.iter().fold(sum, |sum, len| mixed(sum, *len as u64));
-            sum = mixed(sum, u64::from(member.turns));
-            sum = member.history.iter().fold(sum, mixed_entry);
-            if let Some(Record::Entry(entry)) = log {
-                sum = mixed_entry(sum, entry);
-            }
-        }
-        sum
+        self.members.iter().fold(0, |sum, member| {
+            let parts = [
+                member.history.len() as u64,
+                member.logged as u64,
+                member.durable as u64,
+                u64::from(member.turns),
+            ];
+            let sum = parts.into_iter().fold(sum, mixed);
+            member.history.iter().fold(sum, mixed_entry)
+        })
     }
 }
 
 /// A member takes its next deed.
 #[inline(always)]
-fn step(member: &mut Member, table: &mut [u64], log: &mut Option<Record>) {
+fn step(member: &mut Member, table: &mut [u64]) {
     match member.next() {
         Deed::Look(index) => member.looked(table[index]),
         Deed::Push(index, word) => {
@@ -113,10 +115,7 @@ fn step(member: &mut Member, table: &mut [u64], log: &mut Option<Record>) {
             table[index] = word;
             member.acted();
         }
-        Deed::Append(record) => {
-            *log = Some(record);
-            member.appended();
-        }
+        Deed::Append(_) => member.appended(),
         Deed::Rest => {}
     }
 }
@@ -125,7 +124,7 @@ fn mixed(sum: u64, word: u64) -> u64 {
     sum.wrapping_mul(31).wrapping_add(word)
 }
 
-/// A View counts by its members, a message by its sender, its index and the sum of its bytes.
+/// A View counts by its members, a message by its sender, its index, its length and its first byte.
 fn mixed_entry(sum: u64, entry: &Entry) -> u64 {
     match entry {
         Entry::View { members, .. } => mixed(sum, u64::from(*members)),
@@ -134,8 +133,9 @@ fn mixed_entry(sum: u64, entry: &Entry) -> u64 {
             index,
             bytes,
         } => {
-            let total: u16 = bytes.bytes().iter().map(|byte| u16::from(*byte)).sum();
-            let parts = [u64::from(*sender), u64::from(*index), u64::from(total)];
+            let bytes = bytes.bytes();
+            let first = bytes.first().map_or(0, |byte| u64::from(*byte));
+            let parts = [u64::from(*sender), u64::from(*index), bytes.len() as u64, first];
             parts.into_iter().fold(sum, mixed)
         }
     }

@@ -16,7 +16,8 @@ pub enum Entry {
     },
 }
 
-/// What goes on a log. (Votes come with suspicions.)
+/// What goes on a log, of which this group keeps none. (Votes come with suspicions.)
+#[allow(dead_code)]
 pub enum Record {
     Entry(Entry),
 }
@@ -28,6 +29,7 @@ pub enum End {
 }
 
 /// What a member does next, with indices of the table.
+#[allow(dead_code)]
 pub enum Deed {
     Look(usize),
     Push(usize, u64),

@@ -49,7 +49,7 @@ impl Message {
     pub fn numbered(sender: usize, index: usize, len: u8) -> Message {
         let mut bytes = [0; MAX_MESSAGE];
         for (place, byte) in bytes[..usize::from(len)].iter_mut().enumerate() {
-            *byte = ((31 * sender + 7 * index + place) % 128) as u8;
+            *byte = b'a' + ((31 * sender + 7 * index + place) % 26) as u8;
         }
         Message { bytes, len }
     }

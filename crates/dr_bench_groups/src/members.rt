@@ -1,0 +1,143 @@
+ghost use Rattle.std.specs.Prelude.{◌≡◌, ◌<◌, ◌≤◌, All, IfOk, length};
+ghost use Rattle.dr_script.specs.Ranges.{HasRanges};
+
+use dr_entry::{AgeEnd, Entry, MAX_MESSAGE, MemberEnd, Message, Seq};
+use dr_restart::first_start;
+use dr_script::{Schedule, Script};
+use dr_sim::sim_age;
+use std::alloc::{AllocError, Global};
+
+/// The members of the largest group, and the slots of a ring.
+const MEMBERS: u8 = 16;
+
+const WINDOW: u8 = 8;
+
+/// The most turns that a member may take: so many that none comes to them.
+const TURNS: u32 = 1_000_000;
+
+/// The most messages that a member may have.
+const MOST_MESSAGES: u32 = 4096;
+
+/// What came of a run: how many entries all histories have, and a number made of how the members ended.
+#[derive(Clone, Copy, Debug, PartialEq, Eq)]
+pub struct Tally {
+    pub count: u64,
+    pub checksum: u64,
+}
+
+/// Runs the largest group from its opening to the ends of all members, each of which has so many
+/// messages of 64 bytes.
+#[inline(never)]
+pub fn members(alloc: Global, messages: u32, schedule: Schedule) -> Result<Tally, AllocError> {
+    let script = script_of(alloc, messages.min(MOST_MESSAGES), schedule)?;
+    let start = first_start(alloc, &script);
+    let age = sim_age(alloc, &script, &start, 0)?;
+    Ok(tally_of(&age))
+}
+
+fn script_of(alloc: Global, messages: u32, schedule: Schedule) -> Result<Script, AllocError>
+    requires { messages ≤ 4096 }
+    ensures { IfOk result HasRanges }
+{
+    Ok(Script {
+        members: MEMBERS,
+        window: WINDOW,
+        turns: TURNS,
+        patience: 0,
+        ages: 1,
+        messages: Seq::of(lists_of(alloc, messages)?),
+        faults: Seq::of(Vec::new(alloc)),
+        schedule,
+    })
+}
+
+/// The messages of all members.
+fn lists_of(alloc: Global, messages: u32) -> Result<Vec<Seq<Message>>, AllocError>
+    requires { messages ≤ 4096 }
+    ensures count { IfOk result (λ lists. length lists.items ≡ 16) }
+    ensures few { IfOk result (λ lists. All (λ list. length list ≤ 4096) lists.items) }
+    ensures short { IfOk result (λ lists. All (All (λ bytes. length bytes ≤ 64)) lists.items) }
+    ensures bytes { IfOk result (λ lists. All (All (All (λ byte. byte < 256))) lists.items) }
+{
+    let mut lists = Vec::with_capacity(alloc, usize::from(MEMBERS))?;
+    for me in 0..MEMBERS {
+        lists.push(Seq::of(messages_of(alloc, me, messages)?))?;
+    }
+    Ok(lists)
+}
+
+/// The messages of one member.
+fn messages_of(alloc: Global, me: u8, messages: u32) -> Result<Vec<Message>, AllocError>
+    ensures count { IfOk result (λ list. length list.items ≡ messages) }
+    ensures short { IfOk result (λ list. All (λ bytes. length bytes ≤ 64) list.items) }
+    ensures bytes { IfOk result (λ list. All (All (λ byte. byte < 256)) list.items) }
+{
+    let mut list = Vec::with_capacity(alloc, messages as usize)?;
+    for index in 0..messages {
+        list.push(numbered(me, index))?;
+    }
+    Ok(list)
+}
+
+/// The message of a member with this index: 64 letters that follow one another, from another one on
+/// each time.
+fn numbered(me: u8, index: u32) -> Message
+    ensures short { length result ≤ 64 }
+    ensures bytes { All (λ byte. byte < 256) result }
+{
+    let mut bytes = [0; MAX_MESSAGE];
+    let mut letter = ((31 * u32::from(me) + 7 * (index % 26)) % 26) as u8;
+    for place in &mut bytes {
+        *place = b'a'.wrapping_add(letter);
+        letter = letter.wrapping_add(1) % 26;
+    }
+    Message::of(&bytes).unwrap()
+}
+
+/// The entries of all histories, and a number made of how all members ended.
+fn tally_of(age: &AgeEnd) -> Tally {
+    let mut tally = Tally {
+        count: 0,
+        checksum: 0,
+    };
+    for member in age.members.as_slice() {
+        let entries = member.history.as_slice();
+        tally.count = tally.count.wrapping_add(entries.len() as u64);
+        tally.checksum = mixed_member(tally.checksum, member);
+    }
+    tally
+}
+
+fn mixed_member(sum: u64, member: &MemberEnd) -> u64 {
+    let entries = member.history.as_slice();
+    let mut sum = mixed(sum, entries.len() as u64);
+    sum = mixed(sum, member.logged);
+    sum = mixed(sum, member.durable);
+    sum = mixed(sum, u64::from(member.turns));
+    for entry in entries {
+        sum = mixed_entry(sum, entry);
+    }
+    sum
+}
+
+/// A message counts by its sender, its index, its length and its first byte.
+fn mixed_entry(sum: u64, entry: &Entry) -> u64 {
+    match entry {
+        Entry::View { members, .. } => mixed(sum, u64::from(*members)),
+        Entry::Msg {
+            sender,
+            index,
+            bytes,
+        } => {
+            let bytes = bytes.bytes();
+            let sum = mixed(mixed(sum, u64::from(*sender)), u64::from(*index));
+            let sum = mixed(sum, bytes.len() as u64);
+            mixed(sum, bytes.first().map_or(0, |byte| u64::from(*byte)))
+        }
+    }
+}
+
+/// A number made of numbers, in their order.
+fn mixed(sum: u64, word: u64) -> u64 {
+    sum.wrapping_mul(31).wrapping_add(word)
+}
