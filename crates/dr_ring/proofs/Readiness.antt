@@ -1,5 +1,5 @@
 -- The test whether an item can be read.
-use Rattle.std.proofs.Common.{◌≡◌, ℕ, zero, suc, ◌+◌, ◌<◌, ◌≤◌, Bool, true, false, cond, ◌&&◌, nat_le, ◌⊎◌, inl, inr, ◌↔◌, Some, None, IsSome, refl, sym, ap, ◌∙◌, add-one, arith}
+use Rattle.std.proofs.Common.{◌≡◌, ℕ, zero, suc, ◌+◌, ◌<◌, ◌≤◌, Bool, true, false, cond, ◌&&◌, nat_le, ◌⊎◌, inl, inr, ◌↔◌, Option, Some, None, IsSome, IsTrue, is_some, refl, sym, ap, subst, ◌∙◌, add-one, arith}
 use Rattle.std.specs.List.{list_all}
 use Rattle.std.proofs.lemmas.Bool.Decides.{nat_tests}
 use Rattle.dr_entry.specs.declared.entry.Item.{Item}
@@ -59,3 +59,11 @@ ready_test k slot = (
       let c : list_all (is_of k) (first_words slot (body_len (ring_low (slot 0)))) ≡ true = all_pass (is_of k) slot (body_len (ring_low (slot 0))) (λ part lt. of_tag k (slot (1 + part)) (r.body part lt)) in
       rw (a, b, c) refl,
 )
+
+some_tested : {A : Type 0} (o : Option A) (P : Type 0) → (IsSome o ↔ P) → IsTrue (is_some o) ↔ P
+some_tested None P t = t
+some_tested (Some x) P t = t
+
+-- the same, as a test
+pub ready_value : (k : ℕ) (slot : ℕ → ℕ) (ready : Bool) → ready ≡ is_some (item_in k slot) → IsTrue ready ↔ IsReady k slot
+ready_value k slot ready same = subst (λ (b : Bool). IsTrue b ↔ IsReady k slot) (sym same) (some_tested (item_in k slot) (IsReady k slot) (ready_test k slot))

@@ -7,7 +7,7 @@
 
 mod ring;
 
-pub use ring::{free, put, ready};
+pub use ring::{free, is_ready, put, ready};
 
 #[cfg(test)]
 mod tests;

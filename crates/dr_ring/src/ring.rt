@@ -1,4 +1,4 @@
-ghost use Rattle.std.specs.Prelude.{◌≡◌, ℕ, ◌+◌, ◌-◌, ◌*◌, ◌%◌, ◌^◌, ◌<◌, ◌≤◌, ◌↔◌, true, false, IsTrue, IsSome, MatchOption, map, take};
+ghost use Rattle.std.specs.Prelude.{◌≡◌, ℕ, ◌+◌, ◌-◌, ◌*◌, ◌%◌, ◌^◌, ◌<◌, ◌≤◌, ◌↔◌, true, false, IsTrue, IsSome, MatchOption, is_some, map, take};
 ghost use Rattle.std.specs.List.{list_all, range_with_len};
 ghost use Rattle.std.specs.Int.{div_ceil};
 ghost use Rattle.dr_words.specs.Form.{AllInForm};
@@ -73,6 +73,21 @@ pub fn put(rows: &mut Rows, shape: &Shape, members: Mask, k: u32, item: &Item)
     }
 }
 
+/// Whether all words were seen that item `k` of the member of this row needs. Builds no item.
+pub fn is_ready(rows: &Rows, shape: &Shape, row: u8, k: u32) -> bool
+    requires shape { HasShape shape.now rows.now }
+    requires row { row < rows.now.members }
+    ensures ready { IsTrue result ↔ IsReady k (slot_of shape.now.window rows.now row k) }
+    ensures value { result ≡ is_some (item_in k (slot_of shape.now.window rows.now row k)) }
+{
+    let slot = slot_at(shape, k);
+    let word = rows.seen(row, shape.head_column(slot));
+    let (_, head) = unpack_ring(word);
+    is_of(k, word)
+        && (head == NULL_MARK
+            || head as usize <= MAX_MESSAGE && has_body(rows, shape, row, k, head as usize))
+}
+
 /// Item `k` of the member of this row, where all words that it needs were seen: the head, whose low
 /// half is a length or the mark of a null, and the words of the body that hold the bytes.
 pub fn ready(rows: &Rows, shape: &Shape, row: u8, k: u32) -> Option<Item>
@@ -93,6 +108,8 @@ pub fn ready(rows: &Rows, shape: &Shape, row: u8, k: u32) -> Option<Item>
     body_at(rows, shape, row, k, len).map(Item::Text)
 }
 
+// The slot of item `k`.
+#[inline]
 fn slot_at(shape: &Shape, k: u32) -> u8
     ensures value { result ≡ k % shape.now.window }
     ensures within { result < shape.now.window }
@@ -107,12 +124,34 @@ fn piece_at(rows: &Rows, row: u8, column: usize, k: u32) -> Option<u32>
     ensures { let word = seen rows.now row column in
         MatchOption result (is_of k word ≡ false) (λ piece. (is_of k word ≡ true) × (piece ≡ ring_low word)) }
 {
-    let (tag, piece) = unpack_ring(rows.seen(row, column));
-    if u64::from(tag) == u64::from(k) + 1 {
-        Some(piece)
-    } else {
-        None
+    let word = rows.seen(row, column);
+    let (_, piece) = unpack_ring(word);
+    is_of(k, word).then_some(piece)
+}
+
+// Whether a word of a ring is of item `k`.
+#[inline]
+fn is_of(k: u32, word: u64) -> bool
+    ensures { result ≡ is_of k word }
+{
+    let (tag, _) = unpack_ring(word);
+    u64::from(tag) == u64::from(k) + 1
+}
+
+// Whether all words of the body of item `k` were seen that hold so many bytes.
+fn has_body(rows: &Rows, shape: &Shape, row: u8, k: u32, len: usize) -> bool
+    requires shape { HasShape shape.now rows.now }
+    requires row { row < rows.now.members }
+    requires len { len ≤ MAX_MESSAGE }
+    ensures { result ≡ list_all (is_of k) (map (slot_of shape.now.window rows.now row k) (range_with_len 1 (div_ceil len 4))) }
+{
+    let slot = slot_at(shape, k);
+    for part in 0..len.div_ceil(4) {
+        if !is_of(k, rows.seen(row, shape.body_column(slot, part as u8))) {
+            return false;
+        }
     }
+    true
 }
 
 // The message of so many bytes in the body, where all words that it needs are of item `k`.
