@@ -143,6 +143,7 @@ items_kept a rows t s item puts inside took room form = record {
   roster = ap (λ (h : Held). h.roster) took ∙ inside.roster;
   most = ap (λ (h : Held). h.most) took ∙ inside.most;
   messages = inside.messages;
+  next = inside.next;
   sent = room;
   past = inside.past;
   end = inside.end;

@@ -18,6 +18,8 @@ use Rattle.dr_replica.specs.History as histories
 use Rattle.dr_replica.specs.History.{Kept}
 use Rattle.dr_replica.proofs.Members.{member_somewhere}
 use Rattle.dr_replica.specs.Inside.{IsInside, view_of}
+use Rattle.dr_replica.specs.Spots.{IsSpot}
+use Rattle.dr_replica.specs.declared.spot.Spot.{Spot}
 use Rattle.dr_replica.specs.declared.replica.Replica.TheInside.{Inside}
 
 -- where items, history and what was put stay as they are, only the form is left
@@ -30,6 +32,7 @@ state_kept a rows logged durable turns acts end inside form = record {
   roster = inside.roster;
   most = inside.most;
   messages = inside.messages;
+  next = inside.next;
   sent = inside.sent;
   past = inside.past;
   end = inside.end;
@@ -50,6 +53,9 @@ may_of f v now same may = ap f same ∙ may
 
 -- ---- delivery
 
+pub next_is_spot : (a : Inside) → IsInside a → IsSpot (length a.items.members) a.next
+next_is_spot a inside = subst (λ (ms : List ℕ). IsSpot (length ms) a.next) (sym inside.members) inside.next
+
 least_start : (xs : List ℕ) (a : ℕ) → fold min a xs ≤ a
 least_start [] a = omega arith
 least_start (x ∷ xs) a = omega (arith, least_start xs (min a x))
@@ -69,19 +75,21 @@ next_held r f may =
     let most = least_start (map (λ (i : ℕ). seen r.rows i RECEIVED_COLUMN) (replica.view_of r)) (2 ^ 64 - 1) in
     (omega (arith, seen_by_all, least, mine, f.received), omega (arith, seen_by_all, most))
 
-pub next_before : (a : Inside) (now : Replica) → view_of a ≡ now → IsInside a → may_deliver now ≡ true → (a.next < items.front a.items) × (a.next + 1 < 2 ^ 64)
+pub next_before : (a : Inside) (now : Replica) → view_of a ≡ now → IsInside a → may_deliver now ≡ true → (a.next.place < items.front a.items) × (a.next.place + 1 < 2 ^ 64)
 next_before a now same inside may =
     let held = next_held (view_of a) inside.form (may_of may_deliver (view_of a) now same may) in
-    (subst (λ (ms : List ℕ). a.next < front_of (map (slice_index a.items.counts) ms)) (sym inside.members) held.0, held.1)
+    (subst (λ (ms : List ℕ). a.next.place < front_of (map (slice_index a.items.counts) ms)) (sym inside.members) held.0, held.1)
 
-pub delivered_after : (a : Inside) (h : Kept) (s : ℕ) (item : Item) → IsInside a → s ≡ items.sender_at a.items a.next → item ≡ items.item_at a.items a.next
-    → h ≡ histories.delivered a.history s item → view_of (record a { next = a.next + 1; history = h }) ≡ delivered (view_of a)
-delivered_after a h s item inside sender what after =
-    let who : s ≡ replica.sender_at (view_of a) a.next = sender ∙ ap (λ (ms : List ℕ). slice_index ms (a.next % length ms)) inside.members in
-    let which : item ≡ replica.item_at (view_of a) a.next =
+pub delivered_after : (a : Inside) (n : Spot) (h : Kept) (s : ℕ) (item : Item) → IsInside a → s ≡ items.sender_at a.items a.next.place → item ≡ items.item_at a.items a.next.place
+    → h ≡ histories.delivered a.history s item → n.place ≡ a.next.place + 1 → view_of (record a { next = n; history = h }) ≡ delivered (view_of a)
+delivered_after a n h s item inside sender what after next =
+    let p : ℕ = a.next.place in
+    let who : s ≡ replica.sender_at (view_of a) p = sender ∙ ap (λ (ms : List ℕ). slice_index ms (p % length ms)) inside.members in
+    let which : item ≡ replica.item_at (view_of a) p =
     what
-    ∙ ap (λ (ms : List ℕ). slice_index_or a.items.items (a.next / length ms * a.items.roster + slice_index ms (a.next % length ms)) Null) inside.members
-    ∙ ap (λ (n : ℕ). slice_index_or a.items.items (a.next / length (replica.view_of (view_of a)) * n + replica.sender_at (view_of a) a.next) Null) inside.roster in
-    ap (λ (k : Kept). view_of (record a { next = a.next + 1; history = k })) after
-    ∙ ap (λ (i : ℕ). record (view_of a) { next = a.next + 1; history = a.history.entries ++ entries_of a.history.entries i item }) who
-    ∙ ap (λ (x : Item). record (view_of a) { next = a.next + 1; history = a.history.entries ++ entries_of a.history.entries (replica.sender_at (view_of a) a.next) x }) which
+    ∙ ap (λ (ms : List ℕ). slice_index_or a.items.items (p / length ms * a.items.roster + slice_index ms (p % length ms)) Null) inside.members
+    ∙ ap (λ (m : ℕ). slice_index_or a.items.items (p / length (replica.view_of (view_of a)) * m + replica.sender_at (view_of a) p) Null) inside.roster in
+    ap (λ (k : Kept). view_of (record a { next = n; history = k })) after
+    ∙ ap (λ (m : ℕ). record (view_of a) { next = m; history = a.history.entries ++ entries_of a.history.entries s item }) next
+    ∙ ap (λ (i : ℕ). record (view_of a) { next = p + 1; history = a.history.entries ++ entries_of a.history.entries i item }) who
+    ∙ ap (λ (x : Item). record (view_of a) { next = p + 1; history = a.history.entries ++ entries_of a.history.entries (replica.sender_at (view_of a) p) x }) which

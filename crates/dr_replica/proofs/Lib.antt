@@ -1,6 +1,7 @@
 pub mod Members
 pub mod Tables
 pub mod Gains
+pub mod Spots
 pub mod Places
 pub mod Histories
 pub mod Puts

@@ -16,6 +16,9 @@ use Rattle.dr_replica.specs.Items.{Held, none_held}
 use Rattle.dr_replica.specs.History.{Kept}
 use Rattle.dr_replica.specs.Inside.{IsInside, view_of}
 use Rattle.dr_replica.specs.declared.replica.Replica.TheInside.{Inside}
+use Rattle.dr_replica.specs.Spots.{first_spot}
+use Rattle.dr_replica.specs.declared.spot.Spot.{Spot}
+use Rattle.dr_replica.proofs.Spots.{first_is_spot}
 use Rattle.dr_replica.proofs.Members.{some_member}
 
 -- the ranges of what is taken
@@ -44,7 +47,7 @@ pub record AreBegun (a : Inside) (s : Setup) (fresh : Words) (top : ℕ) : Type 
   pub items : a.items ≡ none_held s.members s.shape.members top
   pub base : a.base ≡ length (messages_from s.me a.history.entries)
   pub sent : a.sent.items ≡ []
-  pub next : a.next ≡ 0
+  pub next : a.next ≡ first_spot
   pub history : a.history ≡ record { roster = s.shape.members; entries = first_entries_of s; room = length s.start + s.shape.banks + top * s.shape.members }
   pub logged : a.logged ≡ length a.history.entries
   pub durable : a.durable ≡ length a.history.entries
@@ -67,7 +70,7 @@ begun_view a s first most b =
     let logged : a.logged ≡ count = b.logged ∙ ap length entries in
     let durable : a.durable ≡ count = b.durable ∙ ap length entries in
     let shape = b.shape in let messages = b.messages in let totals = b.totals in let view = b.view in let members = b.members in let sent = b.sent in
-    let next = b.next in let turns = b.turns in let acts = b.acts in let end = b.end in
+    let next : a.next.place ≡ 0 = ap (λ (n : Spot). n.place) b.next in let turns = b.turns in let acts = b.acts in let end = b.end in
     cc
 
 pub begun_inside : (a : Inside) (s : Setup) (first : Words) (most : ℕ) → CanBegin s → AreBegun a s first most → length a.messages.items ≤ vec_capacity a.sent → a.past.items ≡ [] → 1 ≤ vec_capacity a.past → IsInside a
@@ -77,6 +80,7 @@ begun_inside a s first most can b sent past end = record {
   roster = ap (λ (h : Held). h.roster) b.items ∙ ap (λ (x : _). x.members) (sym b.shape);
   most = ap (λ (h : Held). h.most) b.items ∙ b.most ∙ ap greatest (sym b.totals);
   messages = ap (λ (h : Kept). h.roster) b.history ∙ ap (λ (x : _). x.members) (sym b.shape);
+  next = rw (b.next, b.members) (first_is_spot (length (members_of s.members)) (someone s can));
   sent = sent;
   past = past;
   end = end;

@@ -1,5 +1,5 @@
 -- The items by place, and their front.
-use Rattle.std.proofs.Common.{◌≡◌, ℕ, ◌+◌, ◌*◌, ◌/◌, ◌%◌, ◌^◌, ◌<◌, ◌≤◌, inl, inr, true, false, List, length, replicate, map, get_or, set, slice_index, slice_index_or, sym, ap, subst, ◌∙◌, arith, le_refl}
+use Rattle.std.proofs.Common.{◌≡◌, ℕ, ◌+◌, ◌*◌, ◌/◌, ◌%◌, ◌^◌, ◌<◌, ◌≤◌, inl, inr, true, false, nat_lt, List, length, replicate, map, get_or, set, slice_index, slice_index_or, sym, ap, subst, ◌∙◌, arith, le_refl}
 use Rattle.std.proofs.lemmas.Bool.{cases_lt, ltb-true}
 use Rattle.std.proofs.lemmas.List.{get_or-map, get_or-replicate, get_or_past, get_or_read, length-map, length-replicate, length-set}
 use Rattle.std.proofs.lemmas.Nat.{div-add-mod', mod_below, mul-le, mul-add-lt}
@@ -15,6 +15,9 @@ use Rattle.dr_history.proofs.FrontLemmas.{IsFront-least, is_held-below}
 use Rattle.dr_replica.specs.Items.{Held, IsHeld, counts_of, front, sender_at, item_at, taken}
 use Rattle.dr_replica.specs.Inside.{AreItems, held_of}
 use Rattle.dr_replica.specs.declared.items.Items.TheInside.{Inside}
+use Rattle.dr_replica.specs.Spots.{IsSpot, first_spot}
+use Rattle.dr_replica.specs.declared.spot.Spot.{Spot}
+use Rattle.dr_replica.proofs.Spots.{first_is_spot, spot_number, spot_rank}
 use Rattle.dr_replica.proofs.Gains.{counts_rise, counts_bounded}
 
 below_product : (p n q : ℕ) → 0 < n → p / n < q → p < n * q
@@ -34,6 +37,15 @@ held_item counts members p some held =
     subst (λ (n : ℕ). p / n < get_or (map (slice_index counts) members) (p % n) 0) long there in
     let which = get_or-map (slice_index counts) members (p % length members) 0 0 (mod_below p (length members) some) in
     omega (arith, at, which)
+
+pub held_read : (counts members : List ℕ) (s : Spot) (m c : ℕ) → IsSpot (length members) s → m ≡ get_or members s.rank 0 → c ≡ get_or counts m 0
+    → nat_lt s.number c ≡ is_held (map (slice_index counts) members) s.place
+held_read counts members s m c is at count =
+    let number = spot_number (length members) s is in
+    let rank = spot_rank (length members) s is in
+    let which = get_or-map (slice_index counts) members s.rank 0 0 is.rank in
+    let test : nat_lt s.number c ≡ nat_lt (s.place / length members) (get_or (map (slice_index counts) members) (s.place % length members) 0) = cc in
+    subst (λ (n : ℕ). nat_lt s.number c ≡ nat_lt (s.place / n) (get_or (map (slice_index counts) members) (s.place % n) 0)) (sym (length-map members (slice_index counts))) test
 
 -- so it isn't beyond all items
 pub held_small : (counts members : List ℕ) (p : ℕ) → 0 < length members → ((i : ℕ) → get_or counts i 0 < 2 ^ 32)
@@ -62,18 +74,21 @@ pub few_items : (h : Held) → IsHeld h → length h.items ≤ 65536
 few_items h is = let product = mul-le h.most h.roster 4096 16 is.most is.roster in omega (arith, product, is.items)
 
 -- the item that was read there is the one of the place
-pub item_place : (a : Inside) (now : Held) (p n r s : ℕ) → held_of a ≡ now → AreItems a → p < front now → n ≡ length a.members.items → r ≡ a.roster → s ≡ sender_at now p
-    → (p / n * r + s < length a.items.items) × (length a.items.items ≤ 65536)
-item_place a now p n r s same are before long roster sender =
-    let there = item_within (held_of a) p are.form (subst (λ (h : Held). p < front h) (sym same) before) in
-    (rw (long, roster, sender ∙ ap (λ (h : Held). sender_at h p) (sym same)) there, few_items (held_of a) are.form)
+pub item_number : (a : Inside) (now : Held) (s : Spot) → held_of a ≡ now → IsSpot (length now.members) s → s.number ≡ s.place / length a.members.items
+item_number a now s same is = subst (λ (h : Held). s.number ≡ s.place / length h.members) (sym same) (spot_number (length now.members) s is)
 
-pub item_read : (a : Inside) (now : Held) (p n r s : ℕ) (x : Item) → held_of a ≡ now → AreItems a → p < front now → n ≡ length a.members.items → r ≡ a.roster → s ≡ sender_at now p
-    → x ≡ slice_index_or a.items.items (p / n * r + s) x → x ≡ item_at now p
-item_read a now p n r s x same are before long roster sender read =
-    let there = item_place a now p n r s same are before long roster sender in
-    let here : x ≡ slice_index_or a.items.items (p / n * r + s) Null = get_or_read a.items.items (p / n * r + s) x there.0 read Null in
-    here ∙ ap (λ (i : ℕ). slice_index_or a.items.items i Null) (ap (λ (m : ℕ). p / m * r + s) long ∙ ap (λ (m : ℕ). p / length a.members.items * m + s) roster
+pub item_place : (a : Inside) (now : Held) (p k r s : ℕ) → held_of a ≡ now → AreItems a → p < front now → k ≡ p / length a.members.items → r ≡ a.roster → s ≡ sender_at now p
+    → (k * r + s < length a.items.items) × (length a.items.items ≤ 65536)
+item_place a now p k r s same are before number roster sender =
+    let there = item_within (held_of a) p are.form (subst (λ (h : Held). p < front h) (sym same) before) in
+    (rw (number, roster, sender ∙ ap (λ (h : Held). sender_at h p) (sym same)) there, few_items (held_of a) are.form)
+
+pub item_read : (a : Inside) (now : Held) (p k r s : ℕ) (x : Item) → held_of a ≡ now → AreItems a → p < front now → k ≡ p / length a.members.items → r ≡ a.roster → s ≡ sender_at now p
+    → x ≡ slice_index_or a.items.items (k * r + s) x → x ≡ item_at now p
+item_read a now p k r s x same are before number roster sender read =
+    let there = item_place a now p k r s same are before number roster sender in
+    let here : x ≡ slice_index_or a.items.items (k * r + s) Null = get_or_read a.items.items (k * r + s) x there.0 read Null in
+    here ∙ ap (λ (i : ℕ). slice_index_or a.items.items i Null) (ap (λ (m : ℕ). m * r + s) number ∙ ap (λ (m : ℕ). p / length a.members.items * m + s) roster
     ∙ ap (λ (m : ℕ). p / length a.members.items * a.roster + m) (sender ∙ ap (λ (h : Held). sender_at h p) (sym same)))
     ∙ ap (λ (h : Held). item_at h p) same
 
@@ -114,7 +129,7 @@ still_held h s is sender =
 -- ---- the fields of the items
 
 pub begun_items : (a : Inside) (view : ℕ) → a.members.items ≡ members_of view → a.counts.items ≡ replicate a.roster 0 → a.items.items ≡ replicate (a.most * a.roster) Null
-    → a.front ≡ 0 → a.roster ≤ 16 → IsInRoster a.roster view → 0 < length (members_of view) → a.most ≤ 4096 → AreItems a
+    → a.front ≡ first_spot → a.roster ≤ 16 → IsInRoster a.roster view → 0 < length (members_of view) → a.most ≤ 4096 → AreItems a
 begun_items a view members counts items zero few roster some most = record {
   form = record {
     roster = few;
@@ -127,6 +142,7 @@ begun_items a view members counts items zero few roster some most = record {
     items = ap length items ∙ length-replicate (a.most * a.roster) _;
   };
   front = rw (zero, counts) (sym (front_of_none a.roster a.members.items));
+  spot = rw zero (first_is_spot (length a.members.items) (rw members some));
 }
   where
     none : (n i : ℕ) → get_or (replicate n 0) i 0 ≤ 0
@@ -137,7 +153,7 @@ begun_items a view members counts items zero few roster some most = record {
 
 -- the new counts are above the old front
 pub taken_above : (a : Inside) (now : Held) (members counts : List ℕ) (s e f x : ℕ) → held_of a ≡ now → AreItems a → s < now.roster → e ≡ s → f ≡ s
-    → x ≡ slice_index_or a.counts.items e x → members ≡ a.members.items → counts ≡ set a.counts.items f (x + 1) → AllHeldBelow (map (slice_index counts) members) a.front
+    → x ≡ slice_index_or a.counts.items e x → members ≡ a.members.items → counts ≡ set a.counts.items f (x + 1) → AllHeldBelow (map (slice_index counts) members) a.front.place
 taken_above a now members counts s e f x same are within from at read who new =
     let mine : s < a.roster = subst (λ (h : Held). s < h.roster) (sym same) within in
     let here : x ≡ get_or a.counts.items s 0 = subst (λ (i : ℕ). x ≡ slice_index_or a.counts.items i x → x ≡ get_or a.counts.items s 0) (sym from) (λ r. get_or_read a.counts.items s x (omega (arith, mine, are.form.counts)) r 0) read in

@@ -5,6 +5,7 @@ use Rattle.dr_history.specs.Members.{members_of}
 use Rattle.dr_machine.specs.Replica.{Replica, greatest}
 use Rattle.dr_machine.specs.Form.{HasForm}
 use Rattle.dr_replica.specs.Items.{Held, IsHeld, front}
+use Rattle.dr_replica.specs.Spots.{IsSpot}
 use Rattle.dr_replica.specs.History.{Kept, IsKept}
 use Rattle.dr_replica.specs.declared.items.Items.TheInside as items
 use Rattle.dr_replica.specs.declared.history.History.TheInside as history
@@ -16,7 +17,8 @@ held_of a = record { members = a.members.items; roster = a.roster; most = a.most
 -- the front is kept beside the counts
 pub record AreItems (a : items.Inside) : Type 0 where
   pub form : IsHeld (held_of a)
-  pub front : a.front ≡ front (held_of a)
+  pub front : a.front.place ≡ front (held_of a)
+  pub spot : IsSpot (length a.members.items) a.front
 
 abbrev pub kept_of : history.Inside → Kept
 kept_of a = record { roster = length a.messages.items; entries = a.entries.items; room = a.room }
@@ -41,7 +43,7 @@ view_of a = record {
   items = a.items.items;
   base = a.base;
   sent = a.sent.items;
-  next = a.next;
+  next = a.next.place;
   history = a.history.entries;
   room = a.history.room;
   logged = a.logged;
@@ -58,6 +60,7 @@ pub record IsInside (a : replica.Inside) : Type 0 where
   pub roster : a.items.roster ≡ a.shape.members
   pub most : a.items.most ≡ greatest a.totals
   pub messages : a.history.roster ≡ a.shape.members
+  pub next : IsSpot (length (members_of a.members)) a.next
   -- there is room for what it has yet to put, and to tell how it ended
   pub sent : length a.messages.items ≤ vec_capacity a.sent
   pub past : a.past.items ≡ []

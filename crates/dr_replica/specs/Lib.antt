@@ -1,3 +1,4 @@
 pub mod Items
+pub mod Spots
 pub mod History
 pub mod Inside

@@ -1,8 +1,10 @@
 ghost use Rattle.std.specs.Prelude.{◌≡◌, ℕ, ◌<◌, ◌≤◌, IfOk, length, map, nat_lt, replicate, slice_index};
 ghost use Rattle.dr_history.specs.Members.{has, members_of};
 ghost use Rattle.dr_history.specs.Places.{AllHeldBelow, front_of, is_held};
+ghost use Rattle.dr_replica.specs.Spots.{IsSpot};
 ghost use Rattle.dr_words.specs.Masks.{IsInRoster};
 
+use crate::spot::Spot;
 use dr_entry::Item;
 use dr_history::members_of;
 use dr_words::Mask;
@@ -17,7 +19,7 @@ pub(crate) struct Items {
     most: u32,
     counts: Vec<u32>,
     items: Vec<Item>,
-    front: u64,
+    front: Spot,
 }
 
 impl Model for Items {
@@ -58,7 +60,7 @@ impl Items {
             most,
             counts: vec![in alloc; 0; usize::from(roster)]?,
             items: nulls(alloc, places)?,
-            front: 0,
+            front: Spot::first(),
         })
     }
 
@@ -94,7 +96,7 @@ impl Items {
     pub(crate) fn front(&self) -> u64
         ensures { result ≡ front self.now }
     {
-        self.front
+        self.front.place
     }
 
     /// Takes the next item of a member.
@@ -111,21 +113,23 @@ impl Items {
     }
 
     /// The member whose item stands at a place.
-    pub(crate) fn sender_at(&self, place: u64) -> u8
-        ensures sender { result ≡ sender_at self.now place }
+    #[tactic(auto, using(crate::proofs::Spots::spot_rank))]
+    pub(crate) fn sender_at(&self, spot: Spot) -> u8
+        requires { IsSpot (length self.now.members) spot }
+        ensures sender { result ≡ sender_at self.now spot.place }
         ensures member { result < self.now.roster }
     {
-        self.members[(place % self.members.len() as u64) as usize]
+        self.members[spot.rank]
     }
 
     /// The item at a place before the front.
-    pub(crate) fn item_at(&self, place: u64) -> &Item
-        requires { place < front self.now }
-        ensures { result.now ≡ item_at self.now place }
+    pub(crate) fn item_at(&self, spot: Spot) -> &Item
+        requires spot { IsSpot (length self.now.members) spot }
+        requires before { spot.place < front self.now }
+        ensures { result.now ≡ item_at self.now spot.place }
     {
-        let round = (place / self.members.len() as u64) as usize;
-        let sender = self.sender_at(place);
-        &self.items[round * usize::from(self.roster) + usize::from(sender)]
+        let sender = self.sender_at(spot);
+        &self.items[spot.number as usize * usize::from(self.roster) + usize::from(sender)]
     }
 }
 
@@ -141,29 +145,30 @@ fn nulls(alloc: Global, count: usize) -> Result<Vec<Item>, AllocError>
 }
 
 /// The front of the members' counts, by their ranks, where all places before `from` hold an item.
-fn front_from(members: &[u8], counts: &[u32], from: u64) -> u64
+fn front_from(members: &[u8], counts: &[u32], from: Spot) -> Spot
     requires some { 0 < length members.now }
     requires few { length members.now ≤ 16 }
     requires members { (i : ℕ) → i < length members.now
         → slice_index members.now i < length counts.now }
-    requires held { AllHeldBelow (map (slice_index counts.now) members.now) from }
-    ensures { result ≡ front_of (map (slice_index counts.now) members.now) }
+    requires spot { IsSpot (length members.now) from }
+    requires held { AllHeldBelow (map (slice_index counts.now) members.now) from.place }
+    ensures front { result.place ≡ front_of (map (slice_index counts.now) members.now) }
+    ensures spot { IsSpot (length members.now) result }
 {
-    let mut place = from;
-    while is_held(members, counts, place) {
-        place += 1;
+    let mut spot = from;
+    while is_held(members, counts, spot) {
+        spot.step(members.len());
     }
-    place
+    spot
 }
 
 /// Whether a place holds an item, by the members' counts.
-fn is_held(members: &[u8], counts: &[u32], place: u64) -> bool
-    requires some { 0 < length members.now }
+fn is_held(members: &[u8], counts: &[u32], spot: Spot) -> bool
     requires members { (i : ℕ) → i < length members.now
         → slice_index members.now i < length counts.now }
-    ensures { result ≡ is_held (map (slice_index counts.now) members.now) place }
+    requires spot { IsSpot (length members.now) spot }
+    ensures { result ≡ is_held (map (slice_index counts.now) members.now) spot.place }
 {
-    let ranks = members.len() as u64;
-    let member = members[(place % ranks) as usize];
-    place / ranks < u64::from(counts[usize::from(member)])
+    let member = members[spot.rank];
+    spot.number < u64::from(counts[usize::from(member)])
 }

@@ -8,7 +8,7 @@
 mod history;
 mod items;
 mod replica;
-mod slots;
+mod spot;
 
 pub use replica::Replica;
 

@@ -5,6 +5,7 @@ mod state;
 
 use crate::history::History;
 use crate::items::Items;
+use crate::spot::Spot;
 use dr_entry::{End, Message, SentItem, ViewSent};
 use dr_rows::Rows;
 use dr_words::{Mask, Shape};
@@ -28,7 +29,7 @@ pub struct Replica {
     sent: Vec<SentItem>,
     /// What it put in earlier views, with room for this one.
     past: Vec<ViewSent>,
-    next: u64,
+    next: Spot,
     history: History,
     logged: usize,
     durable: u64,

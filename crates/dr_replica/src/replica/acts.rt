@@ -91,7 +91,7 @@ impl Replica {
     {
         let sender = self.items.sender_at(self.next);
         self.history.deliver(sender, self.items.item_at(self.next));
-        self.next += 1;
+        self.next.step(self.items.members().len());
         self.stamp();
     }
 

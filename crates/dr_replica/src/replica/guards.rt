@@ -4,8 +4,7 @@ ghost use Rattle.dr_machine.specs.Replica.{all_done, holds_all, is_other, least_
 ghost use Rattle.dr_rows.specs.Words.{changed};
 
 use super::Replica;
-use crate::slots::is_ready;
-use dr_ring::free;
+use dr_ring::{free, is_ready};
 use dr_words::{DONE_COLUMN, LOGGED_COLUMN, RECEIVED_COLUMN};
 
 impl Replica {
@@ -43,7 +42,7 @@ impl Replica {
     pub fn may_deliver(&self) -> bool
         ensures { result ≡ may_deliver self.now }
     {
-        self.next < self.least_seen(RECEIVED_COLUMN) && self.history.has_room()
+        self.next.place < self.least_seen(RECEIVED_COLUMN) && self.history.has_room()
     }
 
     /// Whether its history has an entry that isn't on its log.

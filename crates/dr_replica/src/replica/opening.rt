@@ -7,6 +7,7 @@ ghost use Rattle.dr_machine.specs.Replica.{begun_replica, greatest};
 use super::Replica;
 use crate::history::History;
 use crate::items::Items;
+use crate::spot::Spot;
 use dr_entry::{End, Entry, MemberEnd, Seq, ViewSent};
 use dr_machine::Setup;
 use dr_rows::Rows;
@@ -45,7 +46,7 @@ impl Replica {
             sent: Vec::with_capacity(alloc, messages.len())?,
             past: Vec::with_capacity(alloc, 1)?,
             messages,
-            next: 0,
+            next: Spot::first(),
             history,
             logged,
             durable: logged as u64,

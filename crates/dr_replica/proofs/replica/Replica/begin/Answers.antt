@@ -6,7 +6,7 @@ use Rattle.dr_machine.proofs.OpeningForm.{begun_in_form}
 use Rattle.dr_replica.specs.declared.replica.Replica.TheInside.{Inside}
 use Rattle.dr_replica.proofs.Openings.{AreBegun, few_messages_each, small_room, someone, begun_view, begun_inside}
 use Rattle.dr_replica.proofs.replica.Replica.begin.Goals as goal
-use Rattle.dr_replica.proofs.replica.Replica.begin.Goals.{In_ok-with_capacity-2}
+use Rattle.dr_replica.proofs.replica.Replica.begin.Goals.{After-first}
 
 pub begin-requires-clause-small : goal.begin-requires-clause-small
 begin-requires-clause-small c =
@@ -20,7 +20,7 @@ pub begin-requires-2-clause-most : goal.begin-requires-2-clause-most
 begin-requires-2-clause-most c = omega (arith, c.greatest-most.ensures, few_messages_each c.args.setup c.requires)
 
 -- the fields, as they are made
-abbrev fields : In_ok-with_capacity-2 → Inside
+abbrev fields : After-first → Inside
 fields c = record {
   shape = c.args.setup.shape;
   messages = c.into_vec-messages.result;
@@ -32,7 +32,7 @@ fields c = record {
   base = c.messages_from.result;
   sent = c.in_ok-with_capacity.field-0;
   past = c.in_ok-with_capacity-2.field-0;
-  next = 0;
+  next = c.first.result;
   history = c.in_ok-history.history;
   logged = length c.entries-logged.result.now;
   durable = length c.entries-logged.result.now;
@@ -41,7 +41,7 @@ fields c = record {
   end = None;
 }
 
-made : (c : In_ok-with_capacity-2) → AreBegun (fields c) c.args.setup c.in_ok-rows.rows c.greatest-most.result
+made : (c : After-first) → AreBegun (fields c) c.args.setup c.in_ok-rows.rows c.greatest-most.result
 made c = record {
   shape = refl;
   messages = c.into_vec-messages.ensures;
@@ -54,7 +54,7 @@ made c = record {
   items = c.in_ok-begin.ensures.begun;
   base = c.messages_from.ensures;
   sent = c.in_ok-with_capacity.ensures.items;
-  next = refl;
+  next = c.first.ensures;
   history = cc (c.in_ok-history.ensures.begun, c.as_slice.ensures, c.from.ensures, c.from-2.ensures, c.bits.ensures);
   logged = ap length c.entries-logged.ensures.entries;
   durable = ap length c.entries-logged.ensures.entries;
@@ -72,5 +72,5 @@ pub returns-clause-form : goal.returns-clause-form
 returns-clause-form c =
     subst HasForm (sym (begun_view (fields at) c.args.setup c.in_ok-rows.rows c.greatest-most.result (made at))) (begun_in_form c.args.setup c.requires)
   where
-    at : In_ok-with_capacity-2
-    at = (goal.at.returns-clause-form c).In_ok-with_capacity-2
+    at : After-first
+    at = (goal.at.returns-clause-form c).After-first
