@@ -78,12 +78,14 @@ impl Member {
         if let Place::Look { row, column } = self.place {
             return Deed::Look(self.look_index(row, column));
         }
+        if let Some(end) = self.replica.end() {
+            return Deed::Rest(end);
+        }
         match self.place {
             Place::Push { to, column } if !self.fate.crashes_now(&self.replica) => {
                 Deed::Push(self.push_index(to, column), self.replica.own(column))
             }
             Place::Append => Deed::Append(Record::Entry(self.replica.next_entry())),
-            Place::Rest => Deed::Rest(self.replica.end().unwrap_or(End::Done)),
             _ => Deed::Act(
                 self.look_index(self.me(), BEAT_COLUMN),
                 self.replica.acts_after(),
