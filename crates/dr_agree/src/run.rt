@@ -4,7 +4,7 @@ ghost use Rattle.dr_history.specs.History.{IsPrefixOf};
 ghost use Rattle.dr_machine.specs.Group.{IsGroup};
 ghost use Rattle.dr_machine.specs.Run.{NoLaterItem, Run, WorldAgreed};
 ghost use Rattle.dr_machine.specs.World.{opening_world};
-ghost use Rattle.dr_script.specs.Ranges.{HasRanges};
+ghost use Rattle.dr_script.specs.Ranges.{HasGroupRanges};
 ghost use Rattle.dr_restart.specs.Groups.{group_of};
 ghost use Rattle.dr_world.specs.Held.{its_group, its_world};
 
@@ -28,7 +28,7 @@ pub fn agreed_run(
     start: &Start,
     events: &[Event],
 ) -> Result<World, AllocError>
-    requires ranges { HasRanges script.now }
+    requires ranges { HasGroupRanges script.now }
     requires group { IsGroup (group_of script.now start.now) }
     ensures run { IfOk result (λ w. Run (group_of script.now start.now)
         (opening_world (group_of script.now start.now)) events.now (its_world w)) }

@@ -6,7 +6,7 @@ use Rattle.std.proofs.lemmas.Bool.{cases_lt}
 use Rattle.dr_script.specs.declared.script.Script.{Script}
 use Rattle.dr_history.specs.History.{GroupView, view_after, view_of}
 use Rattle.dr_machine.specs.Group.{IsGroup}
-use Rattle.dr_script.specs.Ranges.{HasRanges}
+use Rattle.dr_script.specs.Ranges.{HasGroupRanges}
 use Rattle.dr_restart.specs.Groups.{first_group_of}
 
 -- past the end stands the default
@@ -44,7 +44,7 @@ unfolding view_after
 no_view v e = absurd cc
 
 -- a script is a group in its first age
-pub first_group : (script : Script) → HasRanges script → IsGroup (first_group_of script)
+pub first_group : (script : Script) → HasGroupRanges script → IsGroup (first_group_of script)
 first_group script ranges = record {
   some_member = omega (arith, ranges.some_member, ranges.lists);
   most_members = omega (arith, ranges.most_members, ranges.lists);

@@ -1,7 +1,7 @@
 //! What the members of a group are told as its age opens.
 ghost use Rattle.std.specs.Prelude.{◌≡◌, ◌≤◌, ◌<◌, All, IfOk, [], length, map, slice_index_or};
 ghost use Rattle.std.specs.List.{range_with_len};
-ghost use Rattle.dr_script.specs.Ranges.{HasRanges};
+ghost use Rattle.dr_script.specs.Ranges.{HasGroupRanges};
 ghost use Rattle.dr_restart.specs.Setups.{IsSetupOf, crash_of, crashes_of};
 
 use crate::copies::{copy_entries, copy_messages};
@@ -14,7 +14,7 @@ use std::alloc::{AllocError, Global};
 
 /// The shape of the table of a script's group: a bank for each member.
 pub fn shape_of(script: &Script) -> Shape
-    requires { HasRanges script.now }
+    requires { HasGroupRanges script.now }
     ensures members { result.members ≡ script.now.members }
     ensures window { result.window ≡ script.now.window }
     ensures banks { result.banks ≡ script.now.members }
@@ -38,7 +38,7 @@ pub fn setup_of(
     nth: u8,
     me: u8,
 ) -> Result<Setup, AllocError>
-    requires ranges { HasRanges script.now }
+    requires ranges { HasGroupRanges script.now }
     requires me { me < script.now.members }
     ensures { IfOk result (λ s. IsSetupOf script.now start.now nth me s) }
 {

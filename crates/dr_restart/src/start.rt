@@ -1,6 +1,6 @@
 ghost use Rattle.std.specs.Prelude.{◌≡◌, IfOk};
 ghost use Rattle.dr_machine.specs.Group.{IsGroup};
-ghost use Rattle.dr_script.specs.Ranges.{HasRanges};
+ghost use Rattle.dr_script.specs.Ranges.{HasGroupRanges};
 ghost use Rattle.dr_restart.specs.Groups.{first_start_of, first_group_of};
 
 use crate::copies::copy_entries;
@@ -42,7 +42,7 @@ impl Start {
 
 /// The start of a new group: age 0, the whole roster, and no entries.
 pub fn first_start(alloc: Global, script: &Script) -> Start
-    requires { HasRanges script.now }
+    requires { HasGroupRanges script.now }
     ensures start { result ≡ first_start_of script.now }
     ensures group { IsGroup (first_group_of script.now) }
 {

@@ -1,5 +1,5 @@
 ghost use Rattle.std.specs.Prelude.{◌≡◌, IfOk};
-ghost use Rattle.dr_script.specs.Ranges.{HasRanges};
+ghost use Rattle.dr_script.specs.Ranges.{HasGroupRanges};
 
 use super::*;
 use dr_entry::Seq;
@@ -23,7 +23,7 @@ fn crash(age: u8, member: u8, turn: u32, push: u32) -> Fault
 
 /// Two members without messages. Member 1 crashes at two points of age 1.
 fn two_members(alloc: Global) -> Result<Script, Fail>
-    ensures ranges { IfOk result HasRanges }
+    ensures ranges { IfOk result HasGroupRanges }
     ensures members { IfOk result (λ script. script.members ≡ 2) }
 {
     let suspects = Fault {

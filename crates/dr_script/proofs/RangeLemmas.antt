@@ -217,19 +217,21 @@ ranges_of_kept d none bytes =
     let faults = length_filter_map (fault_of (sizes_of d)) (faults_in d) in
     let few = few_faults (few_faults_of d) (few_some d) in
     record {
-      some_member = members.0;
-      most_members = members.1;
-      some_slot = window.0;
-      most_slots = window.1;
+      group = record {
+        some_member = members.0;
+        most_members = members.1;
+        some_slot = window.0;
+        most_slots = window.1;
+        lists = rw length-map (there (λ lists. length lists ≡ (sizes_of d).members) (lists_of (sizes_of d).members d) [] (lists_some (sizes_of d).members d) holds.lists);
+        few = short_lists 0 (lists_in d) holds.short;
+        short = short_texts (lists_in d);
+        bytes = bytes;
+      };
       some_turn = turns.0;
       most_turns = turns.1;
       patience = there HasPatience (patience_of d) 0 (patience_some d) holds.patience;
       some_age = ages.0;
       most_ages = ages.1;
-      lists = rw length-map (there (λ lists. length lists ≡ (sizes_of d).members) (lists_of (sizes_of d).members d) [] (lists_some (sizes_of d).members d) holds.lists);
-      few = short_lists 0 (lists_in d) holds.short;
-      short = short_texts (lists_in d);
-      bytes = bytes;
       few_faults = omega arith;
       faults = all_filter_map (HasFaultRanges (script_of d)) (fault_of (sizes_of d)) (λ element fault is. fault_in d fault (fault_some (sizes_of d) element fault is)) (faults_in d);
     }

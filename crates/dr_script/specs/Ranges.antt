@@ -17,20 +17,24 @@ pub record HasFaultRanges (script : Script) (fault : Fault) : Type 0 where
   pub member : fault.member < script.members
   pub what : HasWhatRanges script fault.member fault.what
 
--- all ranges of a script that was read
-pub record HasRanges (script : Script) : Type 0 where
+-- the ranges of the group of a script: its members, its window and its messages
+pub record HasGroupRanges (script : Script) : Type 0 where
   pub some_member : 1 ≤ script.members
   pub most_members : script.members ≤ 16
   pub some_slot : 1 ≤ script.window
   pub most_slots : script.window ≤ 8
+  pub lists : length script.messages ≡ script.members
+  pub few : All (λ messages. length messages ≤ 4096) script.messages
+  pub short : All (All (λ bytes. length bytes ≤ 64)) script.messages
+  pub bytes : All (All (All (λ byte. byte < 256))) script.messages
+
+-- all ranges of a script that was read
+pub record HasRanges (script : Script) : Type 0 where
+  pub group : HasGroupRanges script
   pub some_turn : 1 ≤ script.turns
   pub most_turns : script.turns ≤ 1000000
   pub patience : (script.patience ≡ 0) ⊎ ((3 ≤ script.patience) × (script.patience ≤ 1000000))
   pub some_age : 1 ≤ script.ages
   pub most_ages : script.ages ≤ 16
-  pub lists : length script.messages ≡ script.members
-  pub few : All (λ messages. length messages ≤ 4096) script.messages
-  pub short : All (All (λ bytes. length bytes ≤ 64)) script.messages
-  pub bytes : All (All (All (λ byte. byte < 256))) script.messages
   pub few_faults : length script.faults ≤ 256
   pub faults : All (HasFaultRanges script) script.faults

@@ -1,7 +1,7 @@
 //! What a world opens with.
 ghost use Rattle.std.specs.Prelude.{◌≡◌, IfOk};
 ghost use Rattle.dr_machine.specs.Group.{IsGroup};
-ghost use Rattle.dr_script.specs.Ranges.{HasRanges};
+ghost use Rattle.dr_script.specs.Ranges.{HasGroupRanges};
 ghost use Rattle.dr_restart.specs.Groups.{group_of};
 ghost use Rattle.dr_world.specs.Begun.{HaveBegun};
 
@@ -17,7 +17,7 @@ pub(crate) fn replicas_of(
     script: &Script,
     start: &Start,
 ) -> Result<Vec<Replica>, AllocError>
-    requires ranges { HasRanges script.now }
+    requires ranges { HasGroupRanges script.now }
     requires group { IsGroup (group_of script.now start.now) }
     ensures { IfOk result (λ rs. HaveBegun script.now start.now script.now.members rs.items) }
 {

@@ -1,5 +1,5 @@
 ghost use Rattle.std.specs.Prelude.{◌≡◌, IfOk, [], ◌∷◌, length};
-ghost use Rattle.dr_script.specs.Ranges.{HasRanges};
+ghost use Rattle.dr_script.specs.Ranges.{HasGroupRanges};
 
 use super::*;
 use dr_entry::{End, Entry, Message, SentItem, Seq};
@@ -31,7 +31,7 @@ fn one_message(alloc: Global, byte: u8) -> Result<Seq<Message>, Fail>
 
 /// Three members with one message each: `a`, `b` and `c`. The window is 1.
 fn three_members(alloc: Global) -> Result<Script, Fail>
-    ensures ranges { IfOk result HasRanges }
+    ensures ranges { IfOk result HasGroupRanges }
     ensures members { IfOk result (λ script. length script.messages ≡ 3) }
 {
     let mut messages = Vec::new(alloc);

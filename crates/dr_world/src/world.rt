@@ -3,7 +3,7 @@ ghost use Rattle.dr_machine.specs.Group.{IsGroup, roster};
 ghost use Rattle.dr_machine.specs.Guards.{Guard};
 ghost use Rattle.dr_machine.specs.Run.{Happens, IsReached, Run, WordsGrew};
 ghost use Rattle.dr_machine.specs.World.{count_of, opening_world};
-ghost use Rattle.dr_script.specs.Ranges.{HasRanges};
+ghost use Rattle.dr_script.specs.Ranges.{HasGroupRanges};
 ghost use Rattle.dr_restart.specs.Groups.{group_of};
 ghost use Rattle.dr_world.specs.Held.{AreMembers, its_group, its_world};
 
@@ -46,7 +46,7 @@ impl World {
     ///
     /// Want of memory alone.
     pub fn opening(alloc: Global, script: &Script, start: &Start) -> Result<World, AllocError>
-        requires ranges { HasRanges script.now }
+        requires ranges { HasGroupRanges script.now }
         requires group { IsGroup (group_of script.now start.now) }
         ensures opening { IfOk result (λ w. its_world w ≡ opening_world (group_of script.now start.now)) }
         ensures script { IfOk result (λ w. w.script ≡ script.now) }

@@ -19,5 +19,5 @@ pub returns-clause-ended : goal.returns-clause-ended
 returns-clause-ended c =
     let (p, has_run, sound, same) = c.run.ensures in
     subst (λ (age : AgeEnd). HaveEnded (group_of c.args.script.now c.args.start.now).opening c.args.script.now.turns (crashes_of c.args.script.now.faults c.args.nth) age.members) (sym same)
-    (ended_by_script c.args.script.now c.args.start.now c.args.nth _ p sound.group c.requires.ranges.lists c.in_ok-simulation.ensures.begun
+    (ended_by_script c.args.script.now c.args.start.now c.args.nth _ p sound.group c.requires.ranges.group.lists c.in_ok-simulation.ensures.begun
     (schedule_ran c.args.script.now.schedule _ p has_run) sound.form sound.reached (schedule_ends c.args.script.now.schedule _ p has_run))

@@ -10,7 +10,7 @@ loop-me-init c = begun_none c.args.script.now c.args.start.now c.args.nth c.in_o
 pub begin-requires-clause-ranges : goal.begin-requires-clause-ranges
 begin-requires-clause-ranges c =
     can_begin (group_of c.args.script.now c.args.start.now) c.args.script.now.turns c.loop-me.me c.in_ok-setup.setup c.requires.group c.in_ok-setup.ensures.setup
-    (omega (arith, c.loop-me-test.true, c.requires.ranges.lists))
+    (omega (arith, c.loop-me-test.true, c.requires.ranges.group.lists))
 
 pub begin-requires-clause-turns : goal.begin-requires-clause-turns
 begin-requires-clause-turns c = omega (arith, c.in_ok-setup.ensures.setup.turns, c.requires.ranges.some_turn)
