@@ -13,7 +13,7 @@ use Rattle.dr_reading.proofs.Deeds.{step_reached}
 use Rattle.dr_reading.proofs.Steps.{step_kept}
 use Rattle.dr_member.specs.Deeds.{table_size}
 use Rattle.dr_member.specs.Work.{deeds_left}
-use Rattle.dr_sim.specs.Sound.{IsSound, all_left}
+use Rattle.dr_sim.specs.Sound.{IsAmong, IsSound, all_left}
 
 -- what the next deed of member m makes of a program
 pub record Took (g : Group) (p : Program) (m : ℕ) (q : Program) : Type 0 where
@@ -60,3 +60,12 @@ pub member_read : (rs : List Running) (cells : List ℕ) (now : Program) (m : �
 member_read rs cells now m r is going read =
     subst (λ (v : Program). has_ended (slice_get v.members m) ≡ false → slice_get v.members m ≡ Some r) is
     (λ goes. slice_get_read rs (length rs) m r refl (going_within rs m goes) read) going
+
+-- so it is one of the program
+pub among_read : (g : Group) (rs : List Running) (cells words : List ℕ) (now : Program) (m : ℕ) (r : Running) → record { members = rs; table = cells } ≡ now → IsSound g now
+    → has_ended (slice_get now.members m) ≡ false → r ≡ get_or rs m r → words ≡ cells → IsAmong g now m r words
+among_read g rs cells words now m r is sound going read same = record {
+  sound = sound;
+  there = member_read rs cells now m r is going read;
+  table = sym (same ∙ ap (λ (v : Program). v.table) is);
+}

@@ -1,18 +1,21 @@
 -- Runs in lockstep: turns, rounds, and what goes on.
-use Rattle.std.proofs.Common.{◌≡◌, refl, sym, ap, ◌∙◌, subst, inl, inr, ◌⊎◌, ℕ, zero, suc, ◌+◌, ◌<◌, ◌≤◌, true, false, List, [], ◌∷◌, ◌++◌, length, replicate, arith}
-use Rattle.std.specs.Prelude.{Option, Some, None, IsTrue, is_some, slice_get, slice_index_or}
+use Rattle.std.proofs.Common.{◌≡◌, refl, sym, ap, ◌∙◌, subst, inl, inr, ◌⊎◌, ℕ, zero, suc, ◌+◌, ◌<◌, ◌≤◌, Bool, true, false, List, [], ◌∷◌, ◌++◌, length, replicate, le_refl, arith}
+use Rattle.std.specs.Prelude.{Some, IsTrue, is_some, slice_get, slice_index_or, slice_set}
 use Rattle.std.specs.List.{range_with_len}
-use Rattle.std.proofs.lemmas.List.{get_or_default}
-use Rattle.std.proofs.lemmas.Option.{slice_get_read}
+use Rattle.std.proofs.lemmas.List.{get_or_default, set-get_or}
+use Rattle.std.proofs.lemmas.Option.{get_or_from_slice_get, slice_get_read, slice_get_within}
 use Rattle.dr_machine.specs.declared.place.Place.{Place}
 use Rattle.dr_machine.specs.declared.place.Place.TheVariants.{Rest}
 use Rattle.dr_machine.specs.Group.{Group}
-use Rattle.dr_machine.specs.Running.{Running}
-use Rattle.dr_machine.specs.Program.{Program, ran, step_of, AllEnded}
 use Rattle.dr_machine.specs.Schedule.{is_at_rest, has_ended, is_between_turns, IsTurn, TakeTurns, Rounds}
 use Rattle.dr_machine.specs.Form.{IsRunningMember}
-use Rattle.dr_sim.specs.Sound.{IsSound, all_left}
+use Rattle.dr_machine.specs.Program.{Program, AllEnded, answered, ran, step_of, stored}
+use Rattle.dr_machine.specs.Running.{Running, next_deed}
+use Rattle.dr_machine.proofs.Holdings.{replica_set}
+use Rattle.dr_member.specs.Work.{deeds_left}
+use Rattle.dr_sim.specs.Sound.{IsAmong, IsSound, TookTurn, all_left, with_member}
 use Rattle.dr_sim.proofs.Ranges.{count_more}
+use Rattle.dr_sim.proofs.Steps.{Took, took}
 
 -- ---- a turn
 
@@ -26,16 +29,8 @@ pub ran_none : (p : Program) (m : ℕ) → p ≡ ran p (replicate 0 m)
 unfolding ran
 ran_none p m = refl
 
--- a member that is amid a turn has not ended
 rests_where : (q : Place) → q ≡ Rest → is_at_rest q ≡ true
 rests_where q e = ap is_at_rest e
-
-amid_a_turn : (rs : List Running) (m : ℕ) → ((r : Running) → slice_get rs m ≡ Some r → IsRunningMember r) → is_between_turns (slice_get rs m) ≡ false → has_ended (slice_get rs m) ≡ false
-amid_a_turn rs m form amid = by (slice_get rs m) refl amid
-  where
-    by : (o : Option Running) → slice_get rs m ≡ o → is_between_turns o ≡ false → has_ended o ≡ false
-    by None e not = absurd (cc)
-    by (Some r) e not = ap is_some ((form r e).rests.1 (λ rest. absurd (cc (rests_where r.place rest))))
 
 -- member m is amid a turn, or has begun none: so many deeds of it
 pub record IsInTurn (m : ℕ) (begun p : Program) : Type 0 where
@@ -74,8 +69,69 @@ turn_goes_on m begun p q is step amid = record { deeds = suc is.deeds; taken = t
       | inr before ↦ is.amid k some before
     ]
 
-pub still_going : (g : Group) (p : Program) (m : ℕ) → IsSound g p → is_between_turns (slice_get p.members m) ≡ false → has_ended (slice_get p.members m) ≡ false
-still_going g p m is = amid_a_turn p.members m (is.form.form m)
+-- ---- a turn of a member alone
+
+set_twice : {A : Type 0} (xs : List A) (i : ℕ) (a b : A) → slice_set (slice_set xs i a) i b ≡ slice_set xs i b
+set_twice [] i a b = refl
+set_twice (x ∷ xs) zero a b = refl
+set_twice (x ∷ xs) (suc i) a b = ap (λ ys. x ∷ ys) (set_twice xs i a b)
+
+set_itself : {A : Type 0} (xs : List A) (i : ℕ) (a : A) → slice_get xs i ≡ Some a → slice_set xs i a ≡ xs
+set_itself xs i a there = ap (λ x. slice_set xs i x) (sym (get_or_from_slice_get xs i a a there)) ∙ set-get_or xs i a
+
+-- the program in which the member has gone so far
+pub record IsUnderWay (g : Group) (p : Program) (m : ℕ) (q : Program) : Type 0 where
+  pub sound : IsSound g q
+  pub turn : IsInTurn m p q
+  pub falls : all_left q ≤ all_left p
+
+pub way_begins : (g : Group) (p : Program) (m : ℕ) (r : Running) (table : List ℕ) → IsAmong g p m r table → IsUnderWay g p m (with_member p m r table)
+way_begins g p m r table is = subst (IsUnderWay g p m) (sym same) (record { sound = is.sound; turn = turn_begins m p; falls = le_refl _ })
+  where
+    same : with_member p m r table ≡ p
+    same = ap (λ rs. record { members = rs; table = table }) (set_itself p.members m r is.there) ∙ ap (λ t. record { members = p.members; table = t }) (sym is.table)
+
+-- the member is one of the program that has gone so far
+pub way_among : (g : Group) (p : Program) (m : ℕ) (r x : Running) (table cells : List ℕ) → IsAmong g p m r table → IsUnderWay g p m (with_member p m x cells) → IsAmong g (with_member p m x cells) m x cells
+way_among g p m r x table cells is way = record { sound = way.sound; there = replica_set p.members m x (slice_get_within p.members m r is.there); table = refl }
+
+-- its next deed there
+way_takes : (g : Group) (p : Program) (m : ℕ) (x y : Running) (cells next : List ℕ) → IsAmong g (with_member p m x cells) m x cells
+    → y ≡ answered cells (next_deed x) x → next ≡ stored cells (next_deed x) → IsRunningMember y → deeds_left y < deeds_left x
+    → Took g (with_member p m x cells) m (with_member p m y next)
+way_takes g p m x y cells next is member table form falls =
+    subst (λ rs. Took g (with_member p m x cells) m (record { members = rs; table = next })) (set_twice p.members m x y)
+    (took g (with_member p m x cells) m x y next is.sound is.there member table form falls)
+
+-- where it stands then is where it stands in the program
+stands : (p : Program) (m : ℕ) (y : Running) (next : List ℕ) (b : Bool) → m < length p.members → is_at_rest y.place ≡ b → is_between_turns (slice_get (with_member p m y next).members m) ≡ b
+stands p m y next b within at = ap is_between_turns (replica_set p.members m y within) ∙ at
+
+pub way_goes_on : (g : Group) (p : Program) (m : ℕ) (r x y : Running) (table cells next : List ℕ) → IsAmong g p m r table → IsUnderWay g p m (with_member p m x cells)
+    → y ≡ answered cells (next_deed x) x → next ≡ stored cells (next_deed x) → IsRunningMember y → deeds_left y < deeds_left x → is_at_rest y.place ≡ false
+    → IsUnderWay g p m (with_member p m y next)
+way_goes_on g p m r x y table cells next is way member stores form falls amid =
+    let took = way_takes g p m x y cells next (way_among g p m r x table cells is way) member stores form falls in
+    record {
+      sound = took.sound;
+      turn = turn_goes_on m p (with_member p m x cells) (with_member p m y next) way.turn took.step (stands p m y next false (slice_get_within p.members m r is.there) amid);
+      falls = omega (arith, took.falls, way.falls);
+    }
+
+pub way_ends : (g : Group) (p : Program) (m : ℕ) (r x y : Running) (table cells next : List ℕ) → IsAmong g p m r table → IsUnderWay g p m (with_member p m x cells)
+    → y ≡ answered cells (next_deed x) x → next ≡ stored cells (next_deed x) → IsRunningMember y → deeds_left y < deeds_left x → is_at_rest y.place ≡ true
+    → TookTurn g p m (with_member p m y next)
+way_ends g p m r x y table cells next is way member stores form falls whole =
+    let took = way_takes g p m x y cells next (way_among g p m r x table cells is way) member stores form falls in
+    record {
+      turn = turn_ends m p (with_member p m x cells) (with_member p m y next) way.turn took.step (stands p m y next true (slice_get_within p.members m r is.there) whole);
+      sound = took.sound;
+      falls = omega (arith, took.falls, way.falls);
+    }
+
+-- a member amid its turn has not ended
+pub amid_goes : (r : Running) → IsRunningMember r → is_at_rest r.place ≡ false → is_some r.replica.end ≡ false
+amid_goes r form amid = ap is_some (form.rests.1 (λ rest. absurd (cc (rests_where r.place rest))))
 
 -- ---- a round
 

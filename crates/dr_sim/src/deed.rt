@@ -1,10 +1,11 @@
-ghost use Rattle.std.specs.Prelude.{◌≡◌, ◌<◌, ◌≤◌, ◌↔◌, All, IsTrue, false, is_some, length};
+ghost use Rattle.std.specs.Prelude.{◌≡◌, ℕ, ◌<◌, ◌≤◌, ◌↔◌, All, IsTrue, false, is_some, length};
 ghost use Rattle.dr_machine.specs.Form.{IsRunningMember};
-ghost use Rattle.dr_machine.specs.Program.{answered, stored};
+ghost use Rattle.dr_machine.specs.Group.{Group};
+ghost use Rattle.dr_machine.specs.Program.{Program, answered, stored};
 ghost use Rattle.dr_machine.specs.Running.{next_deed};
 ghost use Rattle.dr_member.specs.Deeds.{table_size};
 ghost use Rattle.dr_member.specs.Work.{deeds_left};
-ghost use Rattle.dr_sim.specs.Sound.{SeesWell};
+ghost use Rattle.dr_sim.specs.Sound.{IsAmong, IsSomewhere, SeesWell, TookTurn, with_member};
 
 use dr_machine::Deed;
 use dr_member::Member;
@@ -32,6 +33,22 @@ pub fn take(member: &mut Member, table: &mut [u64])
         }
         Deed::Append(_) => member.appended(),
         Deed::Rest(_) => {}
+    }
+}
+
+/// The member, which has not ended, takes a whole turn: its deeds up to the first after which it has
+/// ended or stands before a turn.
+pub fn take_turn(member: &mut Member, table: &mut [u64])
+    requires somewhere { IsSomewhere member.old table.old }
+    requires going { is_some member.old.replica.end ≡ false }
+    ensures { (g : Group) → (p : Program) → (m : ℕ) → IsAmong g p m member.old table.old
+        → TookTurn g p m (with_member p m member.new table.new) }
+{
+    loop {
+        take(member, table);
+        if member.is_between_turns() {
+            return;
+        }
     }
 }
 

@@ -31,13 +31,13 @@ impl Lcg {
     }
 
     /// The next choice among `n`: a number below it. The generator goes on to its next state first.
-    pub fn choose(&mut self, n: u64) -> u64
+    pub fn choose(&mut self, n: u32) -> u32
         requires { n ≢ 0 }
         ensures state { self.new ≡ next_state self.old }
         ensures choice { result ≡ choice_of (next_state self.old) n }
     {
         self.state = self.state.wrapping_mul(MULTIPLIER).wrapping_add(INCREMENT);
-        (self.state >> 33) % n
+        (self.state >> 33) as u32 % n
     }
 }
 

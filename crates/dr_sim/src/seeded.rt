@@ -21,7 +21,7 @@ impl Simulation {
         let mut lcg = Lcg::new(seed);
         let mut going = self.going();
         while !going.is_empty() {
-            let at = lcg.choose(going.len() as u64) as usize;
+            let at = lcg.choose(going.len() as u32) as usize;
             let m = going[at];
             self.take_deed(m);
             if self.has_ended(m) {

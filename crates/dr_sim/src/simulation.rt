@@ -1,13 +1,13 @@
 ghost use Rattle.std.specs.Prelude.{◌≡◌, ◌<◌, ◌↔◌, IfOk, IsTrue, true, false, length, slice_get};
 ghost use Rattle.dr_machine.specs.Group.{Group, IsGroup};
 ghost use Rattle.dr_machine.specs.Program.{AllEnded, Program, step_of};
-ghost use Rattle.dr_machine.specs.Schedule.{has_ended, is_between_turns};
+ghost use Rattle.dr_machine.specs.Schedule.{IsTurn, has_ended};
 ghost use Rattle.dr_restart.specs.Groups.{group_of};
 ghost use Rattle.dr_restart.specs.Setups.{IsBegun};
 ghost use Rattle.dr_script.specs.Ranges.{HasRanges};
 ghost use Rattle.dr_sim.specs.Sound.{IsSound, all_left};
 
-use crate::deed::{all_ended, take};
+use crate::deed::{all_ended, take, take_turn};
 use crate::opening::members_of;
 use dr_member::Member;
 use dr_restart::{Start, shape_of};
@@ -79,16 +79,6 @@ impl Simulation {
         self.members[m].end().is_some()
     }
 
-    /// Whether member `m` has ended, or stands before a turn.
-    pub fn is_between_turns(&self, m: usize) -> bool
-        ghost group: { Group }
-        requires sound { IsSound group self.now }
-        requires member { m < length self.now.members }
-        ensures { result ≡ is_between_turns (slice_get self.now.members m) }
-    {
-        self.members[m].is_between_turns()
-    }
-
     /// Whether all members have ended.
     pub fn all_ended(&self) -> bool
         ensures { IsTrue result ↔ AllEnded self.now }
@@ -107,5 +97,18 @@ impl Simulation {
         ensures falls { all_left self.new < all_left self.old }
     {
         take(&mut self.members[m], self.table.as_mut_slice());
+    }
+
+    /// Member `m`, which has not ended, takes a whole turn: its deeds up to the first after which it
+    /// has ended or stands before a turn.
+    pub fn take_turn(&mut self, m: usize)
+        ghost group: { Group }
+        requires sound { IsSound group self.old }
+        requires going { has_ended (slice_get self.old.members m) ≡ false }
+        ensures turn { IsTurn m self.old self.new }
+        ensures sound { IsSound group self.new }
+        ensures falls { all_left self.new < all_left self.old }
+    {
+        take_turn(&mut self.members[m], self.table.as_mut_slice());
     }
 }
