@@ -18,6 +18,10 @@ const TURNS: u32 = 1_000_000;
 /// The most messages that a member may have.
 const MOST_MESSAGES: u32 = 4096;
 
+/// The letters in their order, again and again: so many that each may be the first of a message.
+const LETTERS: &[u8] =
+    b"abcdefghijklmnopqrstuvwxyzabcdefghijklmnopqrstuvwxyzabcdefghijklmnopqrstuvwxyzabcdefghijk";
+
 /// What came of a run: how many entries all histories have, and a number made of how the members ended.
 #[derive(Clone, Copy, Debug, PartialEq, Eq)]
 pub struct Tally {
@@ -85,13 +89,17 @@ fn numbered(me: u8, index: u32) -> Message
     ensures short { length result ≤ 64 }
     ensures bytes { All (λ byte. byte < 256) result }
 {
-    let mut bytes = [0; MAX_MESSAGE];
-    let mut letter = ((31 * u32::from(me) + 7 * (index % 26)) % 26) as u8;
-    for place in &mut bytes {
-        *place = b'a'.wrapping_add(letter);
-        letter = letter.wrapping_add(1) % 26;
-    }
-    Message::of(&bytes).unwrap()
+    let first = ((31 * u32::from(me) + 7 * (index % 26)) % 26) as usize;
+    message_of(&LETTERS[first..first + MAX_MESSAGE])
+}
+
+/// The message of these bytes.
+fn message_of(bytes: &[u8]) -> Message
+    requires { length bytes.now ≤ 64 }
+    ensures short { length result ≤ 64 }
+    ensures bytes { All (λ byte. byte < 256) result }
+{
+    Message::of(bytes).unwrap()
 }
 
 /// The entries of all histories, and a number made of how all members ended.
