@@ -1,2 +1,2 @@
-pub mod Keeping
-pub mod Putting
+pub mod Bounds
+pub mod Items

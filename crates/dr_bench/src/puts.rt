@@ -3,7 +3,7 @@ ghost use Rattle.dr_history.specs.Members.{has};
 ghost use Rattle.dr_bench.specs.Known.{HasPut, IsItem, IsUpTo};
 
 use crate::group::{ME, SHAPE, Tally, checksum, fresh_rows};
-use dr_entry::{Item, MAX_MESSAGE, Message};
+use dr_entry::{Item, MAX_MESSAGE_LENGTH, Message};
 use dr_ring::{free, put};
 use dr_rows::Rows;
 use dr_words::{Mask, Shape, pack_recv};
@@ -87,7 +87,7 @@ fn long_items(alloc: Global) -> Result<Vec<Item>, AllocError>
 fn long_item(number: u8) -> Item
     ensures { IsItem result }
 {
-    let mut bytes = [0; MAX_MESSAGE];
+    let mut bytes = [0; MAX_MESSAGE_LENGTH];
     let mut byte = number.wrapping_mul(64);
     for place in &mut bytes {
         *place = byte;

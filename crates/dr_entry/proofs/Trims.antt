@@ -14,23 +14,37 @@ use Rattle.dr_entry.specs.Grammar.{Field, free, number_at, first_fault, trims_at
 abbrev pub trims_left : ℕ → ℕ → List Field
 trims_left members i = map (λ s. free (8 + 4 * s) 4) (range_with_len i (members - i))
 
-filled_more : (f : ℕ → ℕ) (i : ℕ) → i < 16 → set (map f (range_with_len 0 i) ++ replicate (16 - i) 0) i (f i) ≡ map f (range_with_len 0 (i + 1)) ++ replicate (16 - (i + 1)) 0
+filled_more : (f : ℕ → ℕ) (i : ℕ) → i < 16
+    → set (map f (range_with_len 0 i) ++ replicate (16 - i) 0) i (f i)
+    ≡ map f (range_with_len 0 (i + 1)) ++ replicate (16 - (i + 1)) 0
 filled_more f i lt =
     let one : 16 - i ≡ suc (16 - (i + 1)) = omega arith in
-    rw (one, set_at (map f (range_with_len 0 i)) 0 (replicate (16 - (i + 1)) 0) (f i) i (length-map-range_with_len f 0 i), map-range_with_len_more f 0 i i (omega arith)) (sym (append_assoc (map f (range_with_len 0 i)) (f i ∷ []) (replicate (16 - (i + 1)) 0)))
+    rw (
+      one,
+      set_at (map f (range_with_len 0 i)) 0 (replicate (16 - (i + 1)) 0) (f i) i
+          (length-map-range_with_len f 0 i),
+      map-range_with_len_more f 0 i i (omega arith),
+    )
+    (sym (append_assoc (map f (range_with_len 0 i)) (f i ∷ []) (replicate (16 - (i + 1)) 0)))
 
 -- one trim more was read
-pub set-trims_at : (i : ℕ) (bytes : List ℕ) → i < 16 → set (trims_at i bytes) i (number_at w32 (8 + 4 * i) bytes) ≡ trims_at (i + 1) bytes
+pub set-trims_at : (i : ℕ) (bytes : List ℕ) → i < 16
+    → set (trims_at i bytes) i (number_at w32 (8 + 4 * i) bytes) ≡ trims_at (i + 1) bytes
 set-trims_at i bytes lt = filled_more (λ s. number_at w32 (8 + 4 * s) bytes) i lt
 
-left_more : (members i : ℕ) → i < members → trims_left members i ≡ free (8 + 4 * i) 4 ∷ trims_left members (i + 1)
+left_more : (members i : ℕ) → i < members → trims_left members i ≡ free (8 + 4 * i) 4
+    ∷ trims_left members (i + 1)
 left_more members i lt = let one : members - i ≡ suc (members - (i + 1)) = omega arith in rw one refl
 
 -- where the next trim is whole, the fault is that of the trims behind it; else it is Short there
-pub first_fault-whole : (members i : ℕ) (bytes : List ℕ) → i < members → 8 + 4 * i + 4 ≤ length bytes → first_fault (trims_left members i) bytes ≡ first_fault (trims_left members (i + 1)) bytes
+pub first_fault-whole : (members i : ℕ) (bytes : List ℕ) → i < members → 8 + 4 * i + 4
+    ≤ length bytes → first_fault (trims_left members i) bytes
+    ≡ first_fault (trims_left members (i + 1)) bytes
 first_fault-whole members i bytes lt whole = rw (left_more members i lt, le-ltb _ _ whole) refl
 
-pub first_fault-short : (members i : ℕ) (bytes : List ℕ) → i < members → length bytes < 8 + 4 * i + 4 → first_fault (trims_left members i) bytes ≡ Some (Short (8 + 4 * i))
+-- where the next trim is cut off, the fault is Short at its place
+pub first_fault-short : (members i : ℕ) (bytes : List ℕ) → i < members → length bytes
+    < 8 + 4 * i + 4 → first_fault (trims_left members i) bytes ≡ Some (Short (8 + 4 * i))
 first_fault-short members i bytes lt short = rw (left_more members i lt, lt-ltb _ _ short) refl
 
 -- four bytes for each number
@@ -38,5 +52,14 @@ pub counts_length : (counts : List ℕ) → length (flat_map (to_be_bytes w32) c
 counts_length [] = refl
 counts_length (count ∷ counts) = omega (arith, counts_length counts)
 
-pub vote_length : (v : Vote) → length v.value.trim ≡ 16 → v.members ≤ 16 → length (vote_spelling v) ≡ 8 + 4 * v.members
-vote_length v places few = omega (arith, length-append (3 ∷ to_be_bytes w16 v.age ++ v.view ∷ v.ballot ∷ to_be_bytes w16 v.value.leavers) (v.members ∷ flat_map (to_be_bytes w32) (take v.members v.value.trim)), counts_length (take v.members v.value.trim), length-take v.members v.value.trim)
+-- a vote is spelled in eight bytes and four for each member
+pub vote_length : (v : Vote) → length v.value.trim ≡ 16 → v.members ≤ 16
+    → length (vote_spelling v) ≡ 8 + 4 * v.members
+vote_length v places few = omega (
+  arith,
+  length-append (3 ∷ to_be_bytes w16 v.age ++ v.view ∷ v.ballot
+      ∷ to_be_bytes w16 v.value.leavers)
+      (v.members ∷ flat_map (to_be_bytes w32) (take v.members v.value.trim)),
+  counts_length (take v.members v.value.trim),
+  length-take v.members v.value.trim,
+)

@@ -8,6 +8,7 @@ use Rattle.dr_entry.specs.declared.record.Record.TheVariants as records
 use Rattle.dr_entry.specs.declared.record.Vote.{Vote}
 use Rattle.dr_entry.specs.declared.reading.DecodeFault.{DecodeFault}
 use Rattle.dr_entry.specs.declared.reading.DecodeFault.TheVariants.{Short, BadKind, BadField}
+use Rattle.dr_entry.specs.declared.limits.TheConstants.{MAX_MEMBERS, MAX_MESSAGE_LENGTH}
 
 -- the number of this width that begins at this place, its greatest byte first
 abbrev pub number_at : Width → ℕ → List ℕ → ℕ
@@ -34,7 +35,8 @@ view_fields = free 1 2 ∷ free 3 1 ∷ tested 4 w16 (λ members. not (members =
 -- kind 2: sender, index, length and bytes of a message, for this length
 abbrev pub message_fields : ℕ → List Field
 message_fields len =
-    tested 1 w8 (λ sender. nat_le sender 15) ∷ free 2 4 ∷ tested 6 w8 (λ n. nat_le n 64) ∷ free 7 len ∷ []
+    tested 1 w8 (λ sender. nat_lt sender MAX_MEMBERS) ∷ free 2 4
+    ∷ tested 6 w8 (λ n. nat_le n MAX_MESSAGE_LENGTH) ∷ free 7 len ∷ []
 
 abbrev pub trim_fields : ℕ → List Field
 trim_fields members = map (λ s. free (8 + 4 * s) 4) (range_with_len 0 members)
@@ -43,8 +45,10 @@ trim_fields members = map (λ s. free (8 + 4 * s) 4) (range_with_len 0 members)
 -- Ballot and leavers are looked at once more behind the members, by which they are judged
 abbrev pub vote_fields : ℕ → List Field
 vote_fields members =
-    (free 1 2 ∷ free 3 1 ∷ free 4 1 ∷ free 5 2 ∷ tested 7 w8 (λ n. nat_le 1 n && nat_le n 16)
-    ∷ tested 4 w8 (λ ballot. nat_lt ballot members) ∷ tested 5 w16 (λ leavers. nat_lt leavers (2 ^ members)) ∷ [])
+    (free 1 2 ∷ free 3 1 ∷ free 4 1 ∷ free 5 2
+    ∷ tested 7 w8 (λ n. nat_le 1 n && nat_le n MAX_MEMBERS)
+    ∷ tested 4 w8 (λ ballot. nat_lt ballot members)
+    ∷ tested 5 w16 (λ leavers. nat_lt leavers (2 ^ members)) ∷ [])
     ++ trim_fields members
 
 -- the first of these fields that isn't whole or breaks its rule
@@ -68,7 +72,10 @@ fault_of (kind ∷ rest) = fault_by_kind kind (kind ∷ rest)
 
 -- what the fields of each kind make where none is refused, with the length of the record
 abbrev pub view_at : List ℕ → Record × ℕ
-view_at bytes = (records.Entry (View (number_at w16 1 bytes) (slice_index bytes 3) (number_at w16 4 bytes)), 6)
+view_at bytes = (
+  records.Entry (View (number_at w16 1 bytes) (slice_index bytes 3) (number_at w16 4 bytes)),
+  6,
+)
 
 abbrev pub message_at : List ℕ → Record × ℕ
 message_at bytes =
@@ -77,7 +84,8 @@ message_at bytes =
 
 -- the trims of the members, and 0 for whoever is none
 abbrev pub trims_at : ℕ → List ℕ → List ℕ
-trims_at members bytes = map (λ s. number_at w32 (8 + 4 * s) bytes) (range_with_len 0 members) ++ replicate (16 - members) 0
+trims_at members bytes = map (λ s. number_at w32 (8 + 4 * s) bytes) (range_with_len 0 members)
+    ++ replicate (MAX_MEMBERS - members) 0
 
 abbrev pub vote_of : List ℕ → Vote
 vote_of bytes = record {
@@ -92,7 +100,8 @@ abbrev pub vote_at : List ℕ → Record × ℕ
 vote_at bytes = (records.Vote (vote_of bytes), 8 + 4 * slice_index bytes 7)
 
 abbrev pub found_by_kind : ℕ → List ℕ → Record × ℕ
-found_by_kind kind bytes = if kind == 1 then view_at bytes else (if kind == 2 then message_at bytes else vote_at bytes)
+found_by_kind kind bytes = if kind == 1 then view_at bytes else
+    (if kind == 2 then message_at bytes else vote_at bytes)
 
 -- the fault, or what is found where there is none
 abbrev pub unless : {A : Type 0} → Option DecodeFault → A → Result A DecodeFault

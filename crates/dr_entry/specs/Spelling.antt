@@ -7,15 +7,16 @@ use Rattle.dr_entry.specs.declared.entry.Entry.TheVariants.{View, Msg}
 use Rattle.dr_entry.specs.declared.record.Record.{Record}
 use Rattle.dr_entry.specs.declared.record.Record.TheVariants as records
 use Rattle.dr_entry.specs.declared.record.Vote.{Vote}
+use Rattle.dr_entry.specs.declared.limits.TheConstants.{MAX_MEMBERS, MAX_MESSAGE_LENGTH}
 
--- a view has members; a message has a sender of the greatest roster, and at most 64 bytes
+-- a view has members; a message has a sender of the greatest roster, and not too many bytes
 abbrev pub IsValidEntry : Entry → Type 0
 IsValidEntry (View age number members) = 0 < members
-IsValidEntry (Msg sender index bytes) = (sender ≤ 15) × (length bytes ≤ 64)
+IsValidEntry (Msg sender index bytes) = (sender < MAX_MEMBERS) × (length bytes ≤ MAX_MESSAGE_LENGTH)
 
 -- in a roster of members, its ballot and its leavers are of the roster, and nobody else has a trim
 pub record IsValidVote (v : Vote) : Type 0 where
-  pub members : v.members ≤ 16
+  pub members : v.members ≤ MAX_MEMBERS
   pub ballot : v.ballot < v.members
   pub leavers : v.value.leavers < 2 ^ v.members
   pub trim : (s : ℕ) → v.members ≤ s → slice_index v.value.trim s ≡ 0
@@ -32,7 +33,7 @@ FitsEntry (Msg sender index bytes) = index < 2 ^ 32
 pub record FitsVote (v : Vote) : Type 0 where
   pub age : v.age < 2 ^ 16
   pub view : v.view < 2 ^ 8
-  pub places : length v.value.trim ≡ 16
+  pub places : length v.value.trim ≡ MAX_MEMBERS
   pub trim : (s : ℕ) → slice_index v.value.trim s < 2 ^ 32
 
 abbrev pub Fits : Record → Type 0

@@ -8,6 +8,7 @@
 mod end;
 mod entry;
 mod laws;
+mod limits;
 mod message;
 mod reading;
 mod record;
@@ -17,13 +18,11 @@ mod writing;
 
 pub use end::{AgeEnd, End, MemberEnd, SentItem, ViewSent};
 pub use entry::{Entry, Item};
-pub use laws::one_spelling;
-pub use message::{MAX_MESSAGE, Message};
+pub use laws::{limits_law, one_spelling};
+pub use limits::{MAX_MEMBERS, MAX_MESSAGE_LENGTH, MAX_MESSAGES};
+pub use message::Message;
 pub use reading::{DecodeFault, decode};
-pub use record::{MAX_MEMBERS, Record, Value, Vote};
+pub use record::{Record, Value, Vote};
 pub use seq::Seq;
 pub use text::Text;
 pub use writing::{MAX_RECORD, RECORD_ROOM, encode};
-
-#[cfg(test)]
-mod tests;

@@ -1,32 +1,34 @@
-ghost use Rattle.std.specs.Prelude.{◌≡◌, ◌<◌, ◌≤◌, length, MatchOption};
+ghost use Rattle.std.specs.Prelude.{◌≡◌, ◌<◌, IfSome, length, MatchOption};
+ghost use Rattle.dr_entry.specs.Messages.{IsMessage};
 
+use crate::MAX_MESSAGE_LENGTH;
 use arrayvec::ArrayVec;
 use std::fmt;
 use std::marker::Model;
 
-/// The greatest number of bytes of a message.
-pub const MAX_MESSAGE: usize = 64;
-
-/// A message of a member: at most [`MAX_MESSAGE`] bytes.
+/// A message of a member: at most [`MAX_MESSAGE_LENGTH`] bytes.
 #[derive(Drop)]
 pub struct Message {
-    bytes: ArrayVec<u8, MAX_MESSAGE>,
+    bytes: ArrayVec<u8, MAX_MESSAGE_LENGTH>,
 }
 
 impl Model for Message {
-    ghost use Rattle.std.specs.Prelude.{List, ℕ, length, ◌≤◌};
+    ghost use Rattle.std.specs.Prelude.{List, ℕ};
+    ghost use Rattle.dr_entry.specs.Messages.{IsMessage};
 
     ghost Value = { List ℕ };
 
     ghost view = { λ m. m.bytes.items };
 
-    ghost invariant = { λ m. length m.bytes.items ≤ 64 };
+    ghost invariant = { λ m. IsMessage m.bytes.items };
 }
 
 impl Message {
-    /// The message of these bytes; `None` exactly where they are more than [`MAX_MESSAGE`].
+    /// The message of these bytes; `None` exactly where they are more than
+    /// [`MAX_MESSAGE_LENGTH`].
     pub fn of(bytes: &[u8]) -> Option<Message>
-        ensures { MatchOption result (MAX_MESSAGE < length bytes.now) (λ m. m ≡ bytes.now) }
+        ensures value { MatchOption result (64 < length bytes.now) (λ m. m ≡ bytes.now) }
+        ensures message { IfSome result IsMessage }
     {
         match ArrayVec::try_from(bytes) {
             Ok(bytes) => Some(Message { bytes }),
@@ -37,7 +39,7 @@ impl Message {
     /// The message's bytes.
     pub fn bytes(&self) -> &[u8]
         ensures same { result.now ≡ self.now }
-        ensures fits { length self.now ≤ MAX_MESSAGE }
+        ensures message { IsMessage self.now }
     {
         self.bytes.as_slice()
     }

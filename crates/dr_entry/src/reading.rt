@@ -8,18 +8,22 @@ ghost use Rattle.dr_entry.specs.Grammar.{decoded, fault_of, unless, first_fault,
 ghost use Rattle.dr_entry.specs.Grammar.{view_fields, view_at, message_fields, message_at};
 ghost use Rattle.dr_entry.specs.Grammar.{vote_fields, vote_at, trim_fields, trims_at};
 
-use crate::record::{MAX_MEMBERS, MESSAGE, VIEW, VOTE};
+use crate::record::{MESSAGE, VIEW, VOTE};
 use crate::writing::MAX_RECORD;
-use crate::{Entry, MAX_MESSAGE, Message, Record, Value, Vote};
+use crate::{Entry, MAX_MEMBERS, MAX_MESSAGE_LENGTH, Message, Record, Value, Vote};
+use thiserror::Error;
 
 /// Why bytes do not begin with a record. Places count bytes from 0.
-#[derive(Clone, Copy, Debug, PartialEq, Eq)]
+#[derive(Clone, Copy, Debug, PartialEq, Eq, Error)]
 pub enum DecodeFault {
     /// The field that begins at `at` is not whole.
+    #[error("the field at byte {at} is not whole")]
     Short { at: usize },
     /// The byte at `at` names no kind of record.
+    #[error("the byte {kind} at {at} names no kind of record")]
     BadKind { at: usize, kind: u8 },
     /// The field that begins at `at` breaks a rule.
+    #[error("the field at byte {at} breaks a rule")]
     BadField { at: usize },
 }
 
@@ -66,7 +70,7 @@ fn message_from(from: &[u8]) -> Result<(Record, usize), DecodeFault>
     }
     let index = u32_at(from, 2)?;
     let len = usize::from(u8_at(from, 6)?);
-    if len > MAX_MESSAGE {
+    if len > MAX_MESSAGE_LENGTH {
         return Err(DecodeFault::BadField { at: 6 });
     }
     let end = 7 + len;

@@ -1,9 +1,6 @@
 ghost use Rattle.std.specs.Prelude.{◌≡◌};
 
-use crate::Entry;
-
-/// The greatest number of members of a roster.
-pub const MAX_MEMBERS: usize = 16;
+use crate::{Entry, MAX_MEMBERS};
 
 /// The kinds of records, by which their spellings begin.
 pub(crate) const VIEW: u8 = 1;

@@ -20,27 +20,30 @@ IsFront-monotone old new f g same grown is_f is_g =
     le_trans (is_f.held rank k within_old below_old) (grown rank within_old))
 
 -- an item's place is held exactly where its number is below its rank's count
-pub is_held-place_of : (counts : List ℕ) (rank k : ℕ) → rank < length counts
+is_held-place_of : (counts : List ℕ) (rank k : ℕ) → rank < length counts
     → is_held counts (place_of (length counts) rank k) ≡ nat_lt k (slice_index counts rank)
 is_held-place_of counts rank k within =
     rw (place_of-div (length counts) rank k within, place_of-mod (length counts) rank k within) refl
 
 -- places below one that are all held, and one more
-pub AllHeldBelow-more : (counts : List ℕ) (p : ℕ) → AllHeldBelow counts p → is_held counts p ≡ true → AllHeldBelow counts (p + 1)
+pub AllHeldBelow-more : (counts : List ℕ) (p : ℕ) → AllHeldBelow counts p → is_held counts p
+    ≡ true → AllHeldBelow counts (p + 1)
 AllHeldBelow-more counts p all held rank k within below = by (last_or_below below)
   where
     last_or_below : place_of (length counts) rank k < p + 1
         → (place_of (length counts) rank k ≡ p) ⊎ (place_of (length counts) rank k < p)
     last_or_below h = grind arith
 
-    by : (place_of (length counts) rank k ≡ p) ⊎ (place_of (length counts) rank k < p) → k < slice_index counts rank
+    by : (place_of (length counts) rank k ≡ p) ⊎ (place_of (length counts) rank k < p) → k
+        < slice_index counts rank
     by (inl e) =
         let at_place : is_held counts (place_of (length counts) rank k) ≡ true = rw e held in
         grind (arith, at_place, is_held-place_of counts rank k within)
     by (inr less) = all rank k within less
 
 -- a place below one below which all are held is held
-pub is_held-below : (counts : List ℕ) (front p : ℕ) → 0 < length counts → AllHeldBelow counts front → p < front
+pub is_held-below : (counts : List ℕ) (front p : ℕ) → 0 < length counts → AllHeldBelow counts front
+    → p < front
     → is_held counts p ≡ true
 is_held-below counts front p some all below =
     let within : p % length counts < length counts = mod_below p (length counts) some in
@@ -50,12 +53,14 @@ is_held-below counts front p some all below =
     grind (arith, held)
 
 -- each place below the front is held
-pub is_held-below_front : (counts : List ℕ) (front p : ℕ) → 0 < length counts → IsFront counts front → p < front
+pub is_held-below_front : (counts : List ℕ) (front p : ℕ) → 0 < length counts → IsFront counts front
+    → p < front
     → is_held counts p ≡ true
 is_held-below_front counts front p some is_front below = is_held-below counts front p some is_front.held below
 
 -- the front isn't held
-pub is_held-front : (counts : List ℕ) (front : ℕ) → IsFront counts front → is_held counts front ≡ false
+pub is_held-front : (counts : List ℕ) (front : ℕ) → IsFront counts front → is_held counts front
+    ≡ false
 is_held-front counts front is_front = by (is_held counts front) refl
   where
     by : (b : Bool) → is_held counts front ≡ b → is_held counts front ≡ false
@@ -65,7 +70,8 @@ is_held-front counts front is_front = by (is_held counts front) refl
 
 -- the front is the place that isn't held, below which every place is held
 pub IsFront-least : (counts : List ℕ) (front : ℕ) → 0 < length counts
-    → ((p : ℕ) → p < front → is_held counts p ≡ true) → is_held counts front ≡ false → IsFront counts front
+    → ((p : ℕ) → p < front → is_held counts p ≡ true) → is_held counts front ≡ false
+    → IsFront counts front
 IsFront-least counts front some held gap = record {
   held = λ rank k within below.
       let h = held (place_of (length counts) rank k) below in

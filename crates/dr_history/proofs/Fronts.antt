@@ -5,71 +5,84 @@ use Rattle.dr_history.specs.Places.{is_held, IsFront, first, front_of}
 use Rattle.dr_history.proofs.FrontLemmas.{IsFront-least, IsFront-monotone, IsFront-only}
 
 -- what passes is found at once; what does not is passed over
-pub first_at : (p : ℕ → Bool) (n k : ℕ) (b : Bool) → p n ≡ b → first p n (suc k) ≡ cond b n (first p (suc n) k)
+first_at : (p : ℕ → Bool) (n k : ℕ) (b : Bool) → p n ≡ b → first p n (suc k)
+    ≡ cond b n (first p (suc n) k)
 unfolding first
 first_at p n k b e = ap (λ (x : Bool). cond x n (first p (suc n) k)) e
 
+-- the first number that passes, of k from n on, is at most n + k
 pub first_within : (p : ℕ → Bool) (n k : ℕ) → first p n k ≤ n + k
 unfolding first
 first_within p n zero = omega arith
 first_within p n (suc k) = by (p n) refl (first_within p (suc n) k)
   where
-    by : (b : Bool) → p n ≡ b → first p (suc n) k ≤ suc n + k → cond (p n) n (first p (suc n) k) ≤ n + suc k
+    by : (b : Bool) → p n ≡ b → first p (suc n) k ≤ suc n + k → cond (p n) n (first p (suc n) k)
+        ≤ n + suc k
     by true e h = rw e (omega arith)
     by false e h = rw e (omega (arith, h))
 
 -- nothing before the first passes
-pub first_before : (p : ℕ → Bool) (n k i : ℕ) → n ≤ i → i < first p n k → p i ≡ false
+first_before : (p : ℕ → Bool) (n k i : ℕ) → n ≤ i → i < first p n k → p i ≡ false
 unfolding first
 first_before p n zero i l h = absurd (omega arith)
 first_before p n (suc k) i l h = by (p n) refl h (first_before p (suc n) k i)
   where
-    by : (b : Bool) → p n ≡ b → i < cond (p n) n (first p (suc n) k) → (suc n ≤ i → i < first p (suc n) k → p i ≡ false) → p i ≡ false
+    by : (b : Bool) → p n ≡ b → i < cond (p n) n (first p (suc n) k)
+        → (suc n ≤ i → i < first p (suc n) k → p i ≡ false) → p i ≡ false
     by true e g r = let g' = rw e at g in absurd (omega (arith, l, g'))
     by false e g r = let g' = rw e at g in here (i == n) refl g' r
       where
-        here : (b : Bool) → (i == n) ≡ b → i < first p (suc n) k → (suc n ≤ i → i < first p (suc n) k → p i ≡ false) → p i ≡ false
+        here : (b : Bool) → (i == n) ≡ b → i < first p (suc n) k
+            → (suc n ≤ i → i < first p (suc n) k → p i ≡ false) → p i ≡ false
         here true q g r = let same : i ≡ n = grind (arith, q) in rw same e
         here false q g r = r (grind (arith, q, l)) g
 
 -- the first passes, where one of the numbers does
-pub first_found : (p : ℕ → Bool) (n k : ℕ) → first p n k < n + k → p (first p n k) ≡ true
+first_found : (p : ℕ → Bool) (n k : ℕ) → first p n k < n + k → p (first p n k) ≡ true
 unfolding first
 first_found p n zero h = absurd (omega arith)
 first_found p n (suc k) h = by (p n) refl h (first_found p (suc n) k)
   where
-    by : (b : Bool) → p n ≡ b → cond (p n) n (first p (suc n) k) < n + suc k → (first p (suc n) k < suc n + k → p (first p (suc n) k) ≡ true) → p (cond (p n) n (first p (suc n) k)) ≡ true
+    by : (b : Bool) → p n ≡ b → cond (p n) n (first p (suc n) k) < n + suc k
+        → (first p (suc n) k < suc n + k → p (first p (suc n) k) ≡ true)
+        → p (cond (p n) n (first p (suc n) k)) ≡ true
     by true e g r = rw e e
     by false e g r = let g' = rw e at g in rw e (r (omega (arith, g')))
 
-pub fold_max : (xs : List ℕ) (a : ℕ) → a ≤ fold max a xs
+fold_max : (xs : List ℕ) (a : ℕ) → a ≤ fold max a xs
 fold_max [] a = le_refl a
 fold_max (x ∷ xs) a = let h : max a x ≤ fold max (max a x) xs = fold_max xs (max a x) in omega arith
 
 -- a count is at most the greatest
 pub count_max : (xs : List ℕ) (a i : ℕ) → i < length xs → slice_index xs i ≤ fold max a xs
 count_max [] a i l = absurd (omega arith)
-count_max (x ∷ xs) a zero l = let h : max a x ≤ fold max (max a x) xs = fold_max xs (max a x) in omega arith
+count_max (x ∷ xs) a zero l = let h : max a x ≤ fold max (max a x) xs = fold_max xs (max a x) in
+    omega arith
 count_max (x ∷ xs) a (suc i) l = count_max xs (max a x) i (omega arith)
 
 -- every place below the front holds an item
 pub front_held : (counts : List ℕ) (p : ℕ) → p < front_of counts → is_held counts p ≡ true
 unfolding front_of
-front_held counts p l = by (is_held counts p) refl (first_before (λ q. not (is_held counts q)) 0 (length counts * fold max 0 counts) p (omega arith) l)
+front_held counts p l = by (is_held counts p) refl
+    (first_before (λ q. not (is_held counts q)) 0 (length counts * fold max 0 counts) p (omega arith) l)
   where
-    by : (b : Bool) → is_held counts p ≡ b → not (is_held counts p) ≡ false → is_held counts p ≡ true
+    by : (b : Bool) → is_held counts p ≡ b → not (is_held counts p) ≡ false → is_held counts p
+        ≡ true
     by true e h = e
     by false e h = grind (arith, e, h)
 
 -- the place behind the last round holds none
-top_open : (counts : List ℕ) (m : ℕ) → 0 < length counts → ((i : ℕ) → i < length counts → slice_index counts i ≤ m) → is_held counts (length counts * m) ≡ false
+top_open : (counts : List ℕ) (m : ℕ) → 0 < length counts
+    → ((i : ℕ) → i < length counts → slice_index counts i ≤ m)
+    → is_held counts (length counts * m) ≡ false
 top_open counts m l most =
     let round : length counts * m / length counts ≡ m = mul-div_cancel_left m l in
-    let rank : slice_index counts (length counts * m % length counts) ≤ m = most (length counts * m % length counts) (mod-lt (length counts * m) l) in
+    let rank : slice_index counts (length counts * m % length counts)
+    ≤ m = most (length counts * m % length counts) (mod-lt (length counts * m) l) in
     rw round (grind (arith, rank))
 
 -- the place at the front holds none
-pub front_open : (counts : List ℕ) → 0 < length counts → is_held counts (front_of counts) ≡ false
+front_open : (counts : List ℕ) → 0 < length counts → is_held counts (front_of counts) ≡ false
 unfolding front_of
 front_open counts l = by (nat_lt found top) refl
   where
@@ -93,18 +106,23 @@ front_open counts l = by (nat_lt found top) refl
     by true e = opened (is_held counts found) (passes (grind (arith, e)))
     by false e =
         let last : found ≡ top = grind (arith, e, within) in
-        subst (λ q. is_held counts q ≡ false) (sym last) (top_open counts (fold max 0 counts) l (λ i h. count_max counts 0 i h))
+        subst (λ q. is_held counts q ≡ false) (sym last)
+        (top_open counts (fold max 0 counts) l (λ i h. count_max counts 0 i h))
 
 -- this front is the front by its definition
 pub front_is : (counts : List ℕ) → 0 < length counts → IsFront counts (front_of counts)
-front_is counts some = IsFront-least counts (front_of counts) some (front_held counts) (front_open counts some)
+front_is counts some = IsFront-least counts (front_of counts) some (front_held counts)
+    (front_open counts some)
 
 -- where no count falls, the front doesn't fall
 pub front_more : (old new : List ℕ) → 0 < length new → length old ≡ length new
-    → ((i : ℕ) → i < length new → slice_index old i ≤ slice_index new i) → front_of old ≤ front_of new
+    → ((i : ℕ) → i < length new → slice_index old i ≤ slice_index new i) → front_of old
+    ≤ front_of new
 front_more old new some same more =
-    IsFront-monotone old new (front_of old) (front_of new) same (λ i l. more i (omega (arith, l, same))) (front_is old (omega (arith, same))) (front_is new some)
+    IsFront-monotone old new (front_of old) (front_of new) same (λ i l. more i (omega (arith, l, same)))
+    (front_is old (omega (arith, same))) (front_is new some)
 
 -- the front by its definition is this one
-pub front_only : (counts : List ℕ) (f : ℕ) → 0 < length counts → IsFront counts f → f ≡ front_of counts
+pub front_only : (counts : List ℕ) (f : ℕ) → 0 < length counts → IsFront counts f → f
+    ≡ front_of counts
 front_only counts f some is = IsFront-only counts f (front_of counts) is (front_is counts some)

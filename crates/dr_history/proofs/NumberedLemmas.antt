@@ -1,111 +1,66 @@
 -- The messages of a sender, one entry later, and the script's messages by their numbers.
-use Rattle.std.proofs.Common.{◌≡◌, ℕ, suc, ◌+◌, ◌<◌, ◌≤◌, ◌==◌, ◌⊎◌, inl, inr, Bool, true, false, cond, List, [], ◌∷◌, ◌++◌, length, take, drop, get_or, slice_get, Some, refl, sym, ap, ◌∙◌, append-nil, zero-add, arith, length-append}
+use Rattle.std.proofs.Common.{◌≡◌, ℕ, ◌+◌, ◌<◌, ◌==◌, Bool, false, cond, List, [], ◌∷◌, ◌++◌, length, take, get_or, slice_get, Some, refl, ap, ◌∙◌, append-nil, zero-add}
 use Rattle.std.specs.List.{enumerate_from}
-use Rattle.std.proofs.lemmas.List.{take-append-drop, take_more, length-take-le, get_or_at, get_or-map, length-map}
+use Rattle.std.proofs.lemmas.List.{take_more, get_or-map, length-map}
 use Rattle.std.proofs.lemmas.List.Elements.{filter-append}
 use Rattle.std.proofs.lemmas.List.FromFn.{length-enumerate_from, get_or-enumerate_from}
-use Rattle.std.proofs.lemmas.Option.{slice_get-get_or, slice_get_within, get_or_from_slice_get}
-use Rattle.std.proofs.lemmas.Bool.{eq-eqb, eqb-true}
-use Rattle.std.proofs.lemmas.Grind.{common_steps}
+use Rattle.std.proofs.lemmas.Option.{slice_get_within, get_or_from_slice_get}
+use Rattle.std.proofs.lemmas.Bool.{eq-eqb}
 use Rattle.dr_entry.specs.declared.entry.Entry.{Entry}
 use Rattle.dr_entry.specs.declared.entry.Entry.TheVariants.{View, Msg}
 use Rattle.dr_history.specs.declared.opening.Opening.{Opening}
-use Rattle.dr_history.specs.History.{IsPrefixOf, messages_of}
+use Rattle.dr_history.specs.History.{messages_of}
 use Rattle.dr_history.specs.Order.{messages_from, numbered_messages}
-use Rattle.dr_history.proofs.ListLemmas.{take_read}
 
-pub messages_from-append : (s : ℕ) (g h : List Entry) → messages_from s (g ++ h) ≡ messages_from s g ++ messages_from s h
+-- a sender's messages in two histories one behind the other are those of the one and then those of
+-- the other
+pub messages_from-append : (s : ℕ) (g h : List Entry) → messages_from s (g ++ h) ≡ messages_from s g
+    ++ messages_from s h
 messages_from-append s g h = filter-append _ g h
 
 -- a View adds none
-pub messages_from-View : (s : ℕ) (h : List Entry) (a n m : ℕ) → messages_from s (h ++ View a n m ∷ []) ≡ messages_from s h
+pub messages_from-View : (s : ℕ) (h : List Entry) (a n m : ℕ)
+    → messages_from s (h ++ View a n m ∷ []) ≡ messages_from s h
 messages_from-View s h a n m = messages_from-append s h (View a n m ∷ []) ∙ append-nil (messages_from s h)
 
 -- nor does a message of another sender
-pub messages_from-other : (s : ℕ) (h : List Entry) (sender i : ℕ) (b : List ℕ) → (sender == s) ≡ false
+pub messages_from-other : (s : ℕ) (h : List Entry) (sender i : ℕ) (b : List ℕ) → (sender == s)
+    ≡ false
     → messages_from s (h ++ Msg sender i b ∷ []) ≡ messages_from s h
 messages_from-other s h sender i b apart =
-    messages_from-append s h (Msg sender i b ∷ []) ∙ (ap (λ (t : Bool). messages_from s h ++ cond t (Msg sender i b ∷ []) []) apart ∙ append-nil (messages_from s h))
+    messages_from-append s h (Msg sender i b ∷ [])
+    ∙ (ap (λ (t : Bool). messages_from s h ++ cond t (Msg sender i b ∷ []) []) apart
+    ∙ append-nil (messages_from s h))
 
 -- one of the sender adds itself
 pub messages_from-Msg : (s : ℕ) (h : List Entry) (i : ℕ) (b : List ℕ)
     → messages_from s (h ++ Msg s i b ∷ []) ≡ messages_from s h ++ Msg s i b ∷ []
 messages_from-Msg s h i b =
-    messages_from-append s h (Msg s i b ∷ []) ∙ ap (λ (t : Bool). messages_from s h ++ cond t (Msg s i b ∷ []) []) (eq-eqb s s refl)
+    messages_from-append s h (Msg s i b ∷ [])
+    ∙ ap (λ (t : Bool). messages_from s h ++ cond t (Msg s i b ∷ []) []) (eq-eqb s s refl)
 
--- a sender has no messages in a history, or one at some place
-pub has_message_or_not : (s : ℕ) (h : List Entry)
-    → (messages_from s h ≡ []) ⊎ ((k i : ℕ) × (b : List ℕ) × (slice_get h k ≡ Some (Msg s i b)))
-has_message_or_not s [] = inl refl
-has_message_or_not s (View a n m ∷ h) = further (has_message_or_not s h)
-  where
-    further : (messages_from s h ≡ []) ⊎ ((k i : ℕ) × (b : List ℕ) × (slice_get h k ≡ Some (Msg s i b)))
-        → (messages_from s (View a n m ∷ h) ≡ []) ⊎ ((k i : ℕ) × (b : List ℕ) × (slice_get (View a n m ∷ h) k ≡ Some (Msg s i b)))
-    further (inl none) = inl none
-    further (inr at) = inr (suc at.0, at.1, at.2, at.3)
-has_message_or_not s (Msg sender j c ∷ h) = by (sender == s) refl (has_message_or_not s h)
-  where
-    by : (t : Bool) → (sender == s) ≡ t → (messages_from s h ≡ []) ⊎ ((k i : ℕ) × (b : List ℕ) × (slice_get h k ≡ Some (Msg s i b)))
-        → (messages_from s (Msg sender j c ∷ h) ≡ []) ⊎ ((k i : ℕ) × (b : List ℕ) × (slice_get (Msg sender j c ∷ h) k ≡ Some (Msg s i b)))
-    by true same rest = inr (0, j, c, ap (λ (z : ℕ). Some (Msg z j c)) (eqb-true sender s same))
-    by false apart (inl none) = inl (rw apart none)
-    by false apart (inr at) = inr (suc at.0, at.1, at.2, at.3)
-
-pub length-numbered_messages : (o : Opening) (s : ℕ) → length (numbered_messages o s) ≡ length (messages_of o s)
-length-numbered_messages o s = length-map (enumerate_from 0 (messages_of o s)) _ ∙ length-enumerate_from 0 (messages_of o s)
+-- numbering leaves the count of a sender's messages
+pub length-numbered_messages : (o : Opening) (s : ℕ) → length (numbered_messages o s)
+    ≡ length (messages_of o s)
+length-numbered_messages o s = length-map (enumerate_from 0 (messages_of o s)) _
+    ∙ length-enumerate_from 0 (messages_of o s)
 
 -- the script's message of this number as an entry
-get_or-numbered_messages : (o : Opening) (s k : ℕ) (d : Entry) → k < length (messages_of o s)
+pub get_or-numbered_messages : (o : Opening) (s k : ℕ) (d : Entry) → k < length (messages_of o s)
     → get_or (numbered_messages o s) k d ≡ Msg s k (get_or (messages_of o s) k [])
 get_or-numbered_messages o s k d within =
-    get_or-map _ (enumerate_from 0 (messages_of o s)) k (0, []) d (rw (length-enumerate_from 0 (messages_of o s)) within) ∙
+    get_or-map _ (enumerate_from 0 (messages_of o s)) k (0, []) d
+    (rw (length-enumerate_from 0 (messages_of o s)) within) ∙
     rw (get_or-enumerate_from 0 (messages_of o s) k (0, []) within, zero-add k) refl
 
 -- the script's messages up to one more
-pub numbered_messages-more : (o : Opening) (s k : ℕ) (b : List ℕ) → slice_get (messages_of o s) k ≡ Some b
+pub numbered_messages-more : (o : Opening) (s k : ℕ) (b : List ℕ) → slice_get (messages_of o s) k
+    ≡ Some b
     → take (k + 1) (numbered_messages o s) ≡ take k (numbered_messages o s) ++ Msg s k b ∷ []
 numbered_messages-more o s k b at =
     let within : k < length (messages_of o s) = slice_get_within (messages_of o s) k b at in
     let read : get_or (messages_of o s) k [] ≡ b = get_or_from_slice_get (messages_of o s) k b [] at in
     let d : Entry = View 0 0 0 in
     take_more (numbered_messages o s) k d (rw (length-numbered_messages o s) within) ∙
-    ap (λ (e : Entry). take k (numbered_messages o s) ++ e ∷ []) (get_or-numbered_messages o s k d within ∙ ap (λ (c : List ℕ). Msg s k c) read)
-
--- where the sender's messages up to an entry are the script's first ones, and all of them begin the script's, the entry is the next one
-pub numbered_here : (o : Opening) (s : ℕ) (h : List Entry) (i next index : ℕ) (b : List ℕ) → i < length h
-    → Msg s index b ≡ get_or h i (Msg s index b) → messages_from s (take i h) ≡ take next (numbered_messages o s)
-    → next ≤ length (messages_of o s) → IsPrefixOf (messages_from s h) (numbered_messages o s)
-    → (slice_get (messages_of o s) next ≡ Some b) × (index ≡ next)
-numbered_here o s h i next index b within read so_far given prefix =
-    let numbered : List Entry = numbered_messages o s in
-    let rest : List Entry = messages_from s (drop (i + 1) h) in
-    let parts : messages_from s h ≡ (take next numbered ++ Msg s index b ∷ []) ++ rest =
-    ap (messages_from s) (sym (take-append-drop (i + 1) h)) ∙
-    (messages_from-append s (take (i + 1) h) (drop (i + 1) h) ∙
-    ap (λ (es : List Entry). es ++ rest)
-    (ap (messages_from s) (take_read h i (Msg s index b) within read) ∙
-    (messages_from-Msg s (take i h) index b ∙ ap (λ (es : List Entry). es ++ Msg s index b ∷ []) so_far))) in
-    let whole : take next numbered ++ (Msg s index b ∷ (rest ++ prefix.0)) ≡ numbered =
-    grind (arith, common_steps, parts, prefix.1) in
-    let front : length (take next numbered) ≡ next =
-    length-take-le next numbered (rw (length-numbered_messages o s) given) in
-    let longer : next < length (messages_of o s) =
-    omega (arith, length-append (take next numbered) (Msg s index b ∷ (rest ++ prefix.0)), ap length whole, length-numbered_messages o s) in
-    let here : get_or numbered next (Msg s index b) ≡ Msg s index b =
-    rw whole at (get_or_at (take next numbered) (Msg s index b) (rest ++ prefix.0) (Msg s index b) next front) in
-    let same : Msg s index b ≡ Msg s next (get_or (messages_of o s) next []) =
-    sym here ∙ get_or-numbered_messages o s next (Msg s index b) longer in
-    let same_index : index ≡ next = cc in
-    let same_bytes : get_or (messages_of o s) next [] ≡ b = cc in
-    (slice_get-get_or (messages_of o s) next [] longer ∙ ap Some same_bytes, same_index)
-
--- one more of the sender's messages, where it is the script's next one
-pub numbered_step : (o : Opening) (s : ℕ) (h : List Entry) (i next index : ℕ) (b : List ℕ) → i < length h
-    → Msg s index b ≡ get_or h i (Msg s index b) → messages_from s (take i h) ≡ take next (numbered_messages o s)
-    → slice_get (messages_of o s) next ≡ Some b → index ≡ next
-    → messages_from s (take (i + 1) h) ≡ take (next + 1) (numbered_messages o s)
-numbered_step o s h i next index b within read so_far at same =
-    ap (messages_from s) (take_read h i (Msg s index b) within read) ∙
-    (messages_from-Msg s (take i h) index b ∙
-    (ap (λ (es : List Entry). es ++ Msg s index b ∷ []) so_far ∙
-    (ap (λ (k : ℕ). take next (numbered_messages o s) ++ Msg s k b ∷ []) same ∙ sym (numbered_messages-more o s next b at))))
+    ap (λ (e : Entry). take k (numbered_messages o s) ++ e ∷ [])
+    (get_or-numbered_messages o s k d within ∙ ap (λ (c : List ℕ). Msg s k c) read)

@@ -1,28 +1,75 @@
--- What it is for the histories of an age to agree.
-use Rattle.std.specs.Prelude.{◌≡◌, ℕ, List, map, take, slice_get, Some, ◌⊎◌}
+-- What it is for the members of an age to agree.
+use Rattle.std.specs.Prelude.{◌≡◌, ℕ, ◌≤◌, ◌⊎◌, List, [], length, take, All, Contains, slice_get, Some, IsSomeAnd}
+use Rattle.std.specs.Option.{option_map_or}
 use Rattle.dr_entry.specs.declared.entry.Entry.{Entry}
 use Rattle.dr_entry.specs.declared.entry.Entry.TheVariants.{View}
+use Rattle.dr_entry.specs.declared.end.SentItem.{SentItem}
 use Rattle.dr_entry.specs.declared.end.MemberEnd.{MemberEnd}
 use Rattle.dr_history.specs.declared.opening.Opening.{Opening}
-use Rattle.dr_history.specs.History.{IsPrefixOf, Sent, sent_of}
+use Rattle.dr_history.specs.History.{IsPrefixOf, Sent, sent_of, view_of}
 use Rattle.dr_history.specs.Order.{InOrder}
+use Rattle.dr_history.specs.Soundness.{IsPresentIn}
 
--- two histories that hold a View of the same age and number have the same members in it and the same entries before it
+-- what a member has done in an age
+pub record Account : Type 0 where
+  -- what it has put in each view, by the view's number
+  pub sent : ℕ → List SentItem
+  -- what it has delivered
+  pub history : List Entry
+  -- the entries on its log
+  pub log : List Entry
+  -- how many entries it knows to be durable
+  pub durable : ℕ
+
+-- an account of each member, by its number
+abbrev pub Accounts : Type 0
+Accounts = ℕ → Account
+
+-- what each member has put in each view
+abbrev pub sent_by : Accounts → Sent
+sent_by accounts s v = (accounts s).sent v
+
+-- two histories that hold a View of the same age and number have the same members in it and the same
+-- entries before it
 abbrev pub SamePast : List Entry → List Entry → Type 0
-SamePast g h = (i j age number m n : ℕ) → slice_get g i ≡ Some (View age number m) → slice_get h j ≡ Some (View age number n)
+SamePast g h = (i j age number m n : ℕ) → slice_get g i ≡ Some (View age number m) → slice_get h j
+    ≡ Some (View age number n)
     → (m ≡ n) × (take i g ≡ take j h)
 
--- histories of an age agree
-pub record Agreed (o : Opening) (sent : Sent) (histories : List (List Entry)) : Type 0 where
-  -- of any two, one is a prefix of the other
-  pub prefix : (i j : ℕ) (g h : List Entry) → slice_get histories i ≡ Some g → slice_get histories j ≡ Some h
-      → IsPrefixOf g h ⊎ IsPrefixOf h g
+-- the member i is in the view that its history is in, and what it knows to be durable stands on the log of
+-- each member of it
+abbrev pub KnowsDurable : Accounts → ℕ → Type 0
+KnowsDurable accounts i = IsSomeAnd (view_of (accounts i).history)
+    (λ v. Contains v.members i × All (λ j. (accounts i).durable ≤ length (accounts j).log) v.members)
+
+-- the members of an age agree
+pub record Agreed (o : Opening) (accounts : Accounts) : Type 0 where
+  -- of any two histories, one is a prefix of the other
+  pub prefix : (i j : ℕ) → IsPresentIn o i → IsPresentIn o j
+      → IsPrefixOf (accounts i).history (accounts j).history
+      ⊎ IsPrefixOf (accounts j).history (accounts i).history
   -- each is in order
-  pub ordered : (i : ℕ) (h : List Entry) → slice_get histories i ≡ Some h → InOrder o sent h
+  pub ordered : (i : ℕ) → IsPresentIn o i → InOrder o (sent_by accounts) (accounts i).history
   -- members that installed the same view had the same history before it
-  pub same_past : (i j : ℕ) (g h : List Entry) → slice_get histories i ≡ Some g → slice_get histories j ≡ Some h
-      → SamePast g h
+  pub same_past : (i j : ℕ) → IsPresentIn o i → IsPresentIn o j
+      → SamePast (accounts i).history (accounts j).history
+  -- the entries of each log are the first ones of its member's history
+  pub logged : (i : ℕ) → IsPresentIn o i → IsPrefixOf (accounts i).log (accounts i).history
+  -- what a member knows to be durable stands on the logs of all members of its view
+  pub durable : (i : ℕ) → IsPresentIn o i → KnowsDurable accounts i
+
+-- what the members of an age that has ended have done: each has as many entries on its log as it tells, its
+-- first ones
+abbrev pub accounts_of : List MemberEnd → Accounts
+accounts_of ends m = let end = slice_get ends m in record {
+  sent = sent_of ends m;
+  history = option_map_or (λ (e : MemberEnd). e.history) end [];
+  log = option_map_or (λ (e : MemberEnd). take e.logged e.history) end [];
+  durable = option_map_or (λ (e : MemberEnd). e.durable) end 0;
+}
 
 -- the members of an age that has ended agree
-abbrev pub EndsAgreed : Opening → List MemberEnd → Type 0
-EndsAgreed o ends = Agreed o (sent_of ends) (map (λ (e : MemberEnd). e.history) ends)
+pub record EndsAgreed (o : Opening) (ends : List MemberEnd) : Type 0 where
+  -- nobody tells of more entries on its log than it has delivered
+  pub told : All (λ (e : MemberEnd). e.logged ≤ length e.history) ends
+  pub agreed : Agreed o (accounts_of ends)

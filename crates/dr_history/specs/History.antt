@@ -24,7 +24,8 @@ pub record GroupView : Type 0 where
 -- the view in force after the entries, where `v` was in force before them
 unfoldable pub view_after : Option GroupView → List Entry → Option GroupView
 view_after v [] = v
-view_after v (View a n m ∷ es) = view_after (Some (record { age = a; number = n; members = members_of m })) es
+view_after v (View a n m ∷ es) =
+    view_after (Some (record { age = a; number = n; members = members_of m })) es
 view_after v (Msg s i b ∷ es) = view_after v es
 
 -- the view that a history is in: that of its last View

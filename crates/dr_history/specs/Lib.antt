@@ -2,5 +2,5 @@ pub mod Members
 pub mod Places
 pub mod History
 pub mod Order
-pub mod Agreement
 pub mod Soundness
+pub mod Agreement

@@ -1,6 +1,7 @@
 -- Members of a group as a mask: member n belongs to it exactly where bit n is set. A number of a
--- member is below 16.
+-- member is below `MAX_MEMBERS`.
 use Rattle.std.specs.Prelude.{ℕ, zero, suc, ◌/◌, ◌%◌, ◌^◌, ◌==◌, Bool, List, [], ◌∷◌, ◌++◌, if◌then◌else◌}
+use Rattle.dr_entry.specs.declared.limits.TheConstants.{MAX_MEMBERS}
 
 -- whether member n is in the mask
 abbrev pub has : ℕ → ℕ → Bool
@@ -13,4 +14,4 @@ members_below mask (suc n) = members_below mask n ++ (if has mask n then n ∷ [
 
 -- the members of the mask, ascending
 unfoldable pub members_of : ℕ → List ℕ
-members_of mask = members_below mask 16
+members_of mask = members_below mask MAX_MEMBERS

@@ -1,5 +1,5 @@
 -- What it is for a history to be in order.
-use Rattle.std.specs.Prelude.{◌≡◌, ◌≢◌, ⊤, ℕ, ◌+◌, ◌<◌, ◌==◌, Bool, false, List, [], ◌∷◌, ◌++◌, length, map, filter, take, All, Contains, slice_get, Some, IsSome, IsSomeAnd}
+use Rattle.std.specs.Prelude.{◌≡◌, ◌≢◌, ⊤, ℕ, ◌+◌, ◌^◌, ◌<◌, ◌==◌, Bool, false, List, [], ◌∷◌, ◌++◌, length, map, filter, take, All, Contains, slice_get, Some, IsSome, IsSomeAnd}
 use Rattle.std.specs.List.{enumerate_from}
 use Rattle.dr_entry.specs.declared.entry.Entry.{Entry}
 use Rattle.dr_entry.specs.declared.entry.Entry.TheVariants.{View, Msg}
@@ -13,13 +13,16 @@ use Rattle.dr_history.specs.History.{IsPrefixOf, GroupView, view_of, Sent, messa
 abbrev pub first_entries : Opening → List Entry
 first_entries o = o.start ++ View o.age 0 o.members ∷ []
 
--- a View that may follow a view: of the same age, with the next number, and with some but not all of its members
+-- a View that may follow a view: of the same age, with the next number, and with some but not all of its
+-- members, each of
+-- them a number below 16
 pub record MayFollow (v : GroupView) (age number members : ℕ) : Type 0 where
   pub same_age : age ≡ v.age
   pub next_number : number ≡ v.number + 1
   pub some : members_of members ≢ []
   pub part : All (λ s. Contains v.members s) (members_of members)
   pub fewer : length (members_of members) < length v.members
+  pub numbers : members < 2 ^ 16
 
 -- the messages of a sender among the entries
 abbrev pub messages_from : ℕ → List Entry → List Entry
@@ -43,16 +46,21 @@ pub record InOrder (o : Opening) (sent : Sent) (h : List Entry) : Type 0 where
   -- it begins with the start, followed by View 0 of all members
   pub begins : IsPrefixOf (first_entries o) h
   -- each later View may follow the view before it
-  pub views : (i age number members : ℕ) → length o.start < i → slice_get h i ≡ Some (View age number members)
+  pub views : (i age number members : ℕ) → length o.start < i → slice_get h i
+      ≡ Some (View age number members)
       → IsSomeAnd (view_of (take i h)) (λ v. MayFollow v age number members)
   -- each message after the start was sent in the view in which it was delivered, by a member of it
-  pub placed : (i s index : ℕ) (b : List ℕ) → length o.start < i → slice_get h i ≡ Some (Msg s index b)
+  pub placed : (i s index : ℕ) (b : List ℕ) → length o.start < i → slice_get h i
+      ≡ Some (Msg s index b)
       → IsSome (place_at sent h i)
   -- within a view the places of the messages rise
   pub rising : (i j p q : ℕ) → length o.start < i → i < j → view_of (take i h) ≡ view_of (take j h)
       → place_at sent h i ≡ Some p → place_at sent h j ≡ Some q → p < q
-  -- each sender's messages are its first ones by the script, in their order: with the indices 0, 1, 2, and so on
+  -- each sender's messages are its first ones by the script, in their order: with the indices 0, 1, 2, and
+  -- so on
   pub numbered : (s : ℕ) → IsPrefixOf (messages_from s h) (numbered_messages o s)
   -- below a message delivered in the last view, every place of that view holds an item that was delivered
-  pub whole : (i p q : ℕ) (v : GroupView) → length o.start < i → view_of (take i h) ≡ Some v → view_of h ≡ Some v
-      → place_at sent h i ≡ Some p → q < p → IsSomeAnd (item_at sent v q) (λ t. IsDelivered h t.0 t.1)
+  pub whole : (i p q : ℕ) (v : GroupView) → length o.start < i → view_of (take i h) ≡ Some v
+      → view_of h ≡ Some v
+      → place_at sent h i ≡ Some p → q < p
+      → IsSomeAnd (item_at sent v q) (λ t. IsDelivered h t.0 t.1)

@@ -10,7 +10,8 @@ place_of ranks rank k = k * ranks + rank
 -- every place below p holds an item, where each rank has sent as many items as its count
 abbrev pub AllHeldBelow : List ℕ → ℕ → Type 0
 AllHeldBelow counts p =
-    (rank k : ℕ) → rank < length counts → place_of (length counts) rank k < p → k < slice_index counts rank
+    (rank k : ℕ) → rank < length counts → place_of (length counts) rank k < p → k
+    < slice_index counts rank
 
 -- the front of the counts: the greatest place below which every place holds an item
 pub record IsFront (counts : List ℕ) (front : ℕ) : Type 0 where

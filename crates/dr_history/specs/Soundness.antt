@@ -1,10 +1,15 @@
 -- What an age may start with.
-use Rattle.std.specs.Prelude.{◌≡◌, ℕ, ◌-◌, ◌^◌, ◌<◌, ◌⊎◌, List, length, take, Contains, slice_get, Option, Some, IsSomeAnd}
+use Rattle.std.specs.Prelude.{◌≡◌, ℕ, ◌-◌, ◌^◌, ◌<◌, ◌⊎◌, true, List, length, take, Contains, slice_get, Option, Some, IsSomeAnd}
 use Rattle.dr_entry.specs.declared.entry.Entry.{Entry}
 use Rattle.dr_entry.specs.declared.entry.Entry.TheVariants.{View, Msg}
 use Rattle.dr_history.specs.declared.opening.Opening.{Opening}
+use Rattle.dr_history.specs.Members.{has}
 use Rattle.dr_history.specs.History.{GroupView, view_of, messages_of}
 use Rattle.dr_history.specs.Order.{MayFollow, messages_from}
+
+-- the member is there in this age
+abbrev pub IsPresentIn : Opening → ℕ → Type 0
+IsPresentIn o m = has o.present m ≡ true
 
 -- the mask of all members of the roster
 abbrev pub whole_roster : Opening → ℕ
@@ -20,7 +25,8 @@ pub record Opens (o : Opening) (last : Option GroupView) (age number members : �
   pub first : number ≡ 0
   pub whole : members ≡ whole_roster o
 
--- an entry may stand behind these entries: a View opens an age or follows the last view, and a message is the next of its
+-- an entry may stand behind these entries: a View opens an age or follows the last view, and a message is
+-- the next of its
 -- sender, a member of the last view, with the script's bytes
 abbrev pub MayStand : Opening → List Entry → Entry → Type 0
 MayStand o before (View age number members) =
@@ -37,5 +43,6 @@ pub record Sound (o : Opening) : Type 0 where
   pub entries : (i : ℕ) (e : Entry) → slice_get o.start i ≡ Some e → MayStand o (take i o.start) e
   -- the age is later than every age of the start
   pub later : IsLaterAge (view_of o.start) o.age
-  -- its first view has the whole roster
+  -- its first view has the whole roster, and so far every member is there
   pub whole : o.members ≡ whole_roster o
+  pub present : o.present ≡ whole_roster o

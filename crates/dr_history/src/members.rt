@@ -2,9 +2,7 @@ ghost use Rattle.std.specs.Prelude.{◌≡◌, ◌<◌};
 ghost use Rattle.dr_history.specs.Members.{has, members_of};
 
 use arrayvec::ArrayVec;
-
-/// The greatest number of members of a group.
-pub const MAX_MEMBERS: usize = 16;
+use dr_entry::MAX_MEMBERS;
 
 /// Whether member `n` is in the mask. A member's number is below [`MAX_MEMBERS`].
 pub fn has(mask: u16, n: u8) -> bool

@@ -4,3 +4,4 @@ pub mod Sink
 pub mod Plan
 pub mod MemorySource
 pub mod MemorySink
+pub mod Adapters

@@ -2,7 +2,8 @@
 use Rattle.std.specs.Prelude.{ℕ, ◌+◌, List, Contains, Result, Ok, Err}
 use Rattle.dr_io.specs.Faults.{count_after}
 
--- the numbers of the calls that are to fail, and how many calls and faults there were, where a count stays at its last value
+-- the numbers of the calls that are to fail, and how many calls and faults there were, where a count stays
+-- at its last value
 pub record CallPlan : Type 0 where
   pub fails : List ℕ
   pub calls : ℕ

@@ -9,6 +9,7 @@ Gains (Some old) None bytes = ⊥
 Gains (Some old) (Some new) bytes = new ≡ old ++ bytes
 
 -- a write appended the first bytes of the buffer, and a failed write none
-abbrev pub Writes : {E : Type 0} → Option (List ℕ) → Option (List ℕ) → Result ℕ E → List ℕ → Type 0
+abbrev pub Writes : {E : Type 0} → Option (List ℕ) → Option (List ℕ) → Result ℕ E → List ℕ
+    → Type 0
 Writes old new result buffer =
     MatchResult result (λ n. Gains old new (take n buffer)) (λ _. Gains old new [])

@@ -13,7 +13,10 @@ abbrev pub IsUsedUp : Option (List ℕ) → Type 0
 IsUsedUp None = ⊤
 IsUsedUp (Some left) = left ≡ []
 
--- a read gave the next bytes at the front of the buffer, none only where the input has ended, and a failed read took none
-abbrev pub Reads : {E : Type 0} → Option (List ℕ) → Option (List ℕ) → Result ℕ E → List ℕ → Type 0
+-- a read gave the next bytes at the front of the buffer, none only where the input has ended, and a failed
+-- read took none
+abbrev pub Reads : {E : Type 0} → Option (List ℕ) → Option (List ℕ) → Result ℕ E → List ℕ
+    → Type 0
 Reads old new result buffer =
-    MatchResult result (λ n. Loses old new (take n buffer) × (n ≡ 0 → IsUsedUp new)) (λ _. Loses old new [])
+    MatchResult result (λ n. Loses old new (take n buffer) × (n ≡ 0 → IsUsedUp new))
+    (λ _. Loses old new [])

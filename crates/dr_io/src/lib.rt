@@ -21,6 +21,3 @@ pub use memory_source::MemorySource;
 pub use output_sink::OutputSink;
 pub use sink::Sink;
 pub use source::Source;
-
-#[cfg(test)]
-mod tests;

@@ -1,2 +1,2 @@
-mod LeastLemmas
-mod MergeLemmas
+mod Fronts
+mod Merges

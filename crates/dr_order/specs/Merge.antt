@@ -6,9 +6,11 @@ use Rattle.dr_history.specs.Places.{is_held}
 abbrev pub IsNextHeld : List ℕ → ℕ → Option ℕ → Type 0
 IsNextHeld counts from None = (p : ℕ) → from ≤ p → is_held counts p ≡ false
 IsNextHeld counts from (Some p) =
-    (from ≤ p) × (is_held counts p ≡ true) × ((q : ℕ) → from ≤ q → q < p → is_held counts q ≡ false)
+    (from ≤ p) × (is_held counts p ≡ true)
+    × ((q : ℕ) → from ≤ q → q < p → is_held counts q ≡ false)
 
--- these places come by taking the next held place again and again from `from` on, each time from behind the last, until there is none
+-- these places come by taking the next held place again and again from `from` on, each time from behind the
+-- last, until there is none
 abbrev pub AreTaken : List ℕ → ℕ → List ℕ → Type 0
 AreTaken counts from [] = IsNextHeld counts from None
 AreTaken counts from (p ∷ ps) = IsNextHeld counts from (Some p) × AreTaken counts (p + 1) ps

@@ -7,8 +7,10 @@
 ghost use Rattle.std.specs.List.{IsFirstBest};
 ghost use Rattle.std.specs.List.Sorted.{IsStrictlyIncreasing};
 ghost use Rattle.std.specs.Prelude.{nat_lt, ◌≡◌, ◌<◌, ◌≤◌, ◌^◌, ◌/◌, ◌↔◌, ℕ, List, length, slice_index, IsTrue, Any};
-ghost use Rattle.dr_history.specs.Places.{place_of, IsFront, is_held, held_places};
+ghost use Rattle.dr_history.specs.Places.{place_of, IsFront, front_of, is_held, held_places};
 ghost use Rattle.dr_order.specs.Merge.{IsNextHeld, AreTaken};
+
+use dr_entry::MAX_MEMBERS;
 
 /// The place of item `k` of the member of rank `rank`, where the view has `ranks` members.
 pub fn place(ranks: u8, rank: u8, k: u32) -> u64
@@ -24,17 +26,18 @@ pub fn split(ranks: u8, place: u64) -> (u32, u8)
     requires fits { place / ranks < 2 ^ 32 }
     ensures rank { result.1 < ranks }
     ensures place { place_of ranks result.1 result.0 ≡ place }
-    ensures only { (rank k : ℕ) → rank < ranks → place_of ranks rank k ≡ place → result ≡ (k, rank) }
+    ensures only { (rank k : ℕ) → rank < ranks → place_of ranks rank k ≡ place
+        → result ≡ (k, rank) }
 {
     let ranks = u64::from(ranks);
     ((place / ranks) as u32, (place % ranks) as u8)
 }
 
 /// The front of the counts: the greatest place below which every place holds an item. There are
-/// 1 to 16 counts.
+/// 1 to [`MAX_MEMBERS`] counts.
 pub fn front(counts: &[u32]) -> u64
     requires some { 0 < length counts.now }
-    requires few { length counts.now ≤ 16 }
+    requires few { length counts.now ≤ MAX_MEMBERS }
     ensures { IsFront counts.now result }
 {
     let rank = first_least(counts);
@@ -55,8 +58,8 @@ fn first_least(counts: &[u32]) -> usize
     least
 }
 
-/// Whether the place holds an item.
-fn is_held(counts: &[u32], place: u64) -> bool
+/// Whether the place holds an item, where each rank has sent as many items as its count.
+pub fn is_held(counts: &[u32], place: u64) -> bool
     requires { 0 < length counts.now }
     ensures { result ≡ is_held counts.now place }
 {
@@ -65,10 +68,10 @@ fn is_held(counts: &[u32], place: u64) -> bool
 }
 
 /// The least place at or after `from` that holds an item, `None` exactly where no such place holds
-/// one. There are 1 to 16 counts.
+/// one. There are 1 to [`MAX_MEMBERS`] counts.
 pub fn merge_next(counts: &[u32], from: u64) -> Option<u64>
     requires some { 0 < length counts.now }
-    requires few { length counts.now ≤ 16 }
+    requires few { length counts.now ≤ MAX_MEMBERS }
     ensures { IsNextHeld counts.now from result }
 {
     // Each rank's first item at or after `from` lies within one round. A rank that lacks this one
@@ -91,6 +94,13 @@ pub fn null_due(counts: &[u32], rank: u8) -> bool
     counts.iter().any(|&count| count > own)
 }
 
+/// The law of [`front`]: counts have one front, which is the first place that holds no item.
+pub fn front_law()
+    ensures first { (counts : List ℕ) → 0 < length counts → IsFront counts (front_of counts) }
+    ensures one { (counts : List ℕ) (front : ℕ) → 0 < length counts → IsFront counts front
+        → front ≡ front_of counts }
+{}
+
 /// The law of [`merge_next`]. Taken again and again, first from place 0 and then each time from
 /// behind the place that it gave, until it gives none, it gives exactly the places that hold an
 /// item, each once, ascending.
@@ -99,6 +109,3 @@ pub fn merge_law()
         → AreTaken counts 0 places ↔ (places ≡ held_places counts) }
     ensures once { (counts : List ℕ) → IsStrictlyIncreasing (held_places counts) }
 {}
-
-#[cfg(test)]
-mod tests;

@@ -7,9 +7,11 @@ use Rattle.dr_words.specs.Form.{AllInForm}
 use Rattle.dr_words.specs.Rows.{word_at}
 
 -- a suspected word has 16 bits
-pub suspected_small : (n : ℕ) (rows : List (List ℕ)) → AllInForm n rows → n ≤ 16 → (i : ℕ) → word_at rows i SUSPECTED_COLUMN < 2 ^ 16
+pub suspected_small : (n : ℕ) (rows : List (List ℕ)) → AllInForm n rows → n ≤ 16 → (i : ℕ)
+    → word_at rows i SUSPECTED_COLUMN < 2 ^ 16
 suspected_small n rows form l i = le_trans ((form i SUSPECTED_COLUMN).suspected refl) (pow_mono l)
 
 -- a recv word has 33 bits
-pub recv_small : (n : ℕ) (rows : List (List ℕ)) → AllInForm n rows → (s : ℕ) → s < n → (i : ℕ) → word_at rows i (recv_column s) < 2 ^ 33
+pub recv_small : (n : ℕ) (rows : List (List ℕ)) → AllInForm n rows → (s : ℕ) → s < n
+    → (i : ℕ) → word_at rows i (recv_column s) < 2 ^ 33
 recv_small n rows form s l i = (form i (recv_column s)).recv s l refl

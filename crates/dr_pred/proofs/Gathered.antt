@@ -16,29 +16,38 @@ unfolding members_below
 few_members m zero = omega arith
 few_members m (suc n) = by (has m n) (length-members_below_suc m n) (few_members m n)
   where
-    by : (b : Bool) → length (members_below m (suc n)) ≡ length (members_below m n) + (if b then 1 else 0) → length (members_below m n) ≤ n
+    by : (b : Bool) → length (members_below m (suc n))
+        ≡ length (members_below m n) + (if b then 1 else 0) → length (members_below m n) ≤ n
         → length (members_below m (suc n)) ≤ suc n
     by true e l = omega arith
     by false e l = omega arith
 
-pub room : (words : List ℕ) (f : ℕ → ℕ) (m n : ℕ) → words ≡ map f (members_below m n) → length words ≤ n
+-- the words of the members below a number are no more than it says
+pub room : (words : List ℕ) (f : ℕ → ℕ) (m n : ℕ) → words ≡ map f (members_below m n)
+    → length words ≤ n
 room words f m n e = rw (e, length-map) (few_members m n)
 
+-- below the number 0 there is no word
 pub none_yet : (f : ℕ → ℕ) (m : ℕ) → map f (members_below m 0) ≡ []
 unfolding members_below
 none_yet f m = refl
 
-pub one_more : (f : ℕ → ℕ) (m n : ℕ) → has m n ≡ true → map f (members_below m (n + 1)) ≡ map f (members_below m n) ++ f n ∷ []
+-- a member adds its word
+pub one_more : (f : ℕ → ℕ) (m n : ℕ) → has m n ≡ true
+    → map f (members_below m (n + 1)) ≡ map f (members_below m n) ++ f n ∷ []
 unfolding members_below
 one_more f m n h = rw add-one (rw h (map-append f (members_below m n) (n ∷ [])))
 
-pub no_more : (f : ℕ → ℕ) (m n : ℕ) → has m n ≡ false → map f (members_below m (n + 1)) ≡ map f (members_below m n)
+-- a number that is no member adds nothing
+pub no_more : (f : ℕ → ℕ) (m n : ℕ) → has m n ≡ false
+    → map f (members_below m (n + 1)) ≡ map f (members_below m n)
 unfolding members_below
 no_more f m n h = rw add-one (rw h (ap (map f) (append-nil (members_below m n))))
 
 -- ---- what the list says of each member
 
-contains_word : (f : ℕ → ℕ) (m n i : ℕ) → i < n → has m i ≡ true → Contains (map f (members_below m n)) (f i)
+contains_word : (f : ℕ → ℕ) (m n i : ℕ) → i < n → has m i ≡ true
+    → Contains (map f (members_below m n)) (f i)
 unfolding members_below
 contains_word f m zero i l h = absurd (omega arith)
 contains_word f m (suc n) i l h = rw map-append (by (last_or_below i n l) (λ p. contains_word f m n i p h))
@@ -49,49 +58,69 @@ contains_word f m (suc n) i l h = rw map-append (by (last_or_below i n l) (λ p.
     by : (i ≡ n) ⊎ (i < n) → (i < n → Contains (map f (members_below m n)) (f i))
         → Contains (map f (members_below m n) ++ map f (if has m n then n ∷ [] else [])) (f i)
     by (inl e) rest = rw (← e, h) (Contains-push (map f (members_below m i)) (f i))
-    by (inr p) rest = Contains-append_left (map f (members_below m n)) (map f (if has m n then n ∷ [] else [])) (f i) (rest p)
+    by (inr p) rest = Contains-append_left (map f (members_below m n))
+        (map f (if has m n then n ∷ [] else [])) (f i) (rest p)
 
-word_of : (f : ℕ → ℕ) (m n x : ℕ) → Contains (map f (members_below m n)) x → (i : ℕ) × (has m i ≡ true) × (x ≡ f i)
+word_of : (f : ℕ → ℕ) (m n x : ℕ) → Contains (map f (members_below m n)) x
+    → (i : ℕ) × (has m i ≡ true) × (x ≡ f i)
 unfolding members_below
 word_of f m zero x h = absurd (omega (arith, h.1))
 word_of f m (suc n) x h = by (has m n) refl (rw map-append at h) (word_of f m n x)
   where
-    by : (b : Bool) → has m n ≡ b → Contains (map f (members_below m n) ++ map f (if has m n then n ∷ [] else [])) x
-        → (Contains (map f (members_below m n)) x → (i : ℕ) × (has m i ≡ true) × (x ≡ f i)) → (i : ℕ) × (has m i ≡ true) × (x ≡ f i)
+    by : (b : Bool) → has m n ≡ b
+        → Contains (map f (members_below m n) ++ map f (if has m n then n ∷ [] else [])) x
+        → (Contains (map f (members_below m n)) x → (i : ℕ) × (has m i ≡ true) × (x ≡ f i))
+        → (i : ℕ) × (has m i ≡ true) × (x ≡ f i)
     by true e c rest = last (Contains-push_cases (map f (members_below m n)) (f n) x (rw e at c))
       where
-        last : Contains (map f (members_below m n)) x ⊎ (f n ≡ x) → (i : ℕ) × (has m i ≡ true) × (x ≡ f i)
+        last : Contains (map f (members_below m n)) x ⊎ (f n ≡ x)
+            → (i : ℕ) × (has m i ≡ true) × (x ≡ f i)
         last (inl d) = rest d
         last (inr q) = (n, e, sym q)
     by false e c rest = rest (rw append-nil at (rw e at c))
 
-member_word : (f : ℕ → ℕ) (m n i : ℕ) → IsInRoster n m → n ≤ 16 → has m i ≡ true → Contains (map f (members_of m)) (f i)
+member_word : (f : ℕ → ℕ) (m n i : ℕ) → IsInRoster n m → n ≤ 16 → has m i ≡ true
+    → Contains (map f (members_of m)) (f i)
 unfolding members_of
 member_word f m n i r l e = contains_word f m 16 i (le_trans (r i e) l) e
 
-pub each_word : (P : ℕ → Type 0) (f : ℕ → ℕ) (m n : ℕ) → IsInRoster n m → n ≤ 16 → All P (map f (members_of m)) → (i : ℕ) → has m i ≡ true → P (f i)
+-- what holds of all words of the list holds of each member's word
+pub each_word : (P : ℕ → Type 0) (f : ℕ → ℕ) (m n : ℕ) → IsInRoster n m → n ≤ 16
+    → All P (map f (members_of m)) → (i : ℕ) → has m i ≡ true → P (f i)
 each_word P f m n r l h i e = All-contains P (map f (members_of m)) (f i) h (member_word f m n i r l e)
 
-pub all_words : (P : ℕ → Type 0) (f : ℕ → ℕ) (m : ℕ) → ((i : ℕ) → has m i ≡ true → P (f i)) → All P (map f (members_of m))
+-- what holds of each member's word holds of all words of the list
+pub all_words : (P : ℕ → Type 0) (f : ℕ → ℕ) (m : ℕ)
+    → ((i : ℕ) → has m i ≡ true → P (f i)) → All P (map f (members_of m))
 unfolding members_of
-all_words P f m h k d l = let w = word_of f m 16 (slice_index_or (map f (members_below m 16)) k d) (Contains-get_or (map f (members_below m 16)) k d l) in
+all_words P f m h k d l = let w =
+    word_of f m 16 (slice_index_or (map f (members_below m 16)) k d)
+    (Contains-get_or (map f (members_below m 16)) k d l) in
     subst P (sym w.2) (h w.0 w.1)
 
 -- a word of the list is that of some member
-pub some_word : (f : ℕ → ℕ) (m x : ℕ) → Contains (map f (members_of m)) x → (i : ℕ) × (has m i ≡ true) × (x ≡ f i)
+pub some_word : (f : ℕ → ℕ) (m x : ℕ) → Contains (map f (members_of m)) x
+    → (i : ℕ) × (has m i ≡ true) × (x ≡ f i)
 unfolding members_of
 some_word f m x h = word_of f m 16 x h
 
 -- ---- tests of all or of some of the words
 
-pub each_iff : (P : ℕ → Type 0) (f : ℕ → ℕ) (m n : ℕ) (words : List ℕ) (b : Bool) → words ≡ map f (members_of m) → IsInRoster n m → n ≤ 16
+-- a test of all words of the list tells what holds of each member's word
+pub each_iff : (P : ℕ → Type 0) (f : ℕ → ℕ) (m n : ℕ) (words : List ℕ) (b : Bool)
+    → words ≡ map f (members_of m) → IsInRoster n m → n ≤ 16
     → (IsTrue b ↔ All P words) → (IsTrue b ↔ ((i : ℕ) → has m i ≡ true → P (f i)))
-each_iff P f m n words b e r l h =
-    (λ t. each_word P f m n r l (subst (All P) e (h.0 t)), λ g. h.1 (subst (All P) (sym e) (all_words P f m g)))
+each_iff P f m n words b e r l h = (
+  λ t. each_word P f m n r l (subst (All P) e (h.0 t)),
+  λ g. h.1 (subst (All P) (sym e) (all_words P f m g)),
+)
 
-pub some_iff : (P : ℕ → Type 0) (f : ℕ → ℕ) (m n : ℕ) (words : List ℕ) (b : Bool) → words ≡ map f (members_of m) → IsInRoster n m → n ≤ 16
+-- a test of some word of the list tells what holds of some member's word
+pub some_iff : (P : ℕ → Type 0) (f : ℕ → ℕ) (m n : ℕ) (words : List ℕ) (b : Bool)
+    → words ≡ map f (members_of m) → IsInRoster n m → n ≤ 16
     → (IsTrue b ↔ Any P words) → (IsTrue b ↔ ((i : ℕ) × (has m i ≡ true) × P (f i)))
-some_iff P f m n words b e r l h = (λ t. to (subst (Any P) e (h.0 t)), λ g. h.1 (subst (Any P) (sym e) (back g)))
+some_iff P f m n words b e r l h =
+    (λ t. to (subst (Any P) e (h.0 t)), λ g. h.1 (subst (Any P) (sym e) (back g)))
   where
     to : Any P (map f (members_of m)) → (i : ℕ) × (has m i ≡ true) × P (f i)
     to a = let w = some_word f m a.1 (a.0, a.2, a.3) in (w.0, w.1, subst P w.2 a.4)
@@ -101,17 +130,22 @@ some_iff P f m n words b e r l h = (λ t. to (subst (Any P) e (h.0 t)), λ g. h.
 
 -- ---- no words at all
 
-pub no_member : (f : ℕ → ℕ) (m n : ℕ) (words : List ℕ) → words ≡ map f (members_of m) → IsInRoster n m → n ≤ 16 → length words ≡ 0
+-- where the list is empty nobody is in the mask
+pub no_member : (f : ℕ → ℕ) (m n : ℕ) (words : List ℕ) → words ≡ map f (members_of m)
+    → IsInRoster n m → n ≤ 16 → length words ≡ 0
     → (i : ℕ) → has m i ≡ false
 no_member f m n words e r l z i = by (has m i) refl
   where
     by : (b : Bool) → has m i ≡ b → has m i ≡ false
-    by true h = let c = member_word f m n i r l h in let k : c.0 < length words = rw e c.1 in absurd (omega arith)
+    by true h = let c = member_word f m n i r l h in let k : c.0 < length words = rw e c.1 in
+        absurd (omega arith)
     by false h = h
 
 -- a test of all words of a column
 pub column_iff : (P : ℕ → Type 0) (rows : Words) (m : ℕ) (words : List ℕ) (column k : ℕ) (b : Bool)
-    → words ≡ map (λ i. seen rows i column) (members_of m) → column ≡ k → IsInRoster rows.members m → rows.members ≤ 16
+    → words ≡ map (λ i. seen rows i column) (members_of m) → column ≡ k
+    → IsInRoster rows.members m → rows.members ≤ 16
     → (IsTrue b ↔ All P words) → (IsTrue b ↔ ((i : ℕ) → has m i ≡ true → P (seen rows i k)))
 column_iff P rows m words column k b e c r l h =
-    each_iff P (λ i. seen rows i k) m rows.members words b (e ∙ ap (λ (x : ℕ). map (λ i. seen rows i x) (members_of m)) c) r l h
+    each_iff P (λ i. seen rows i k) m rows.members words b
+    (e ∙ ap (λ (x : ℕ). map (λ i. seen rows i x) (members_of m)) c) r l h

@@ -5,19 +5,20 @@ ghost use Rattle.dr_words.specs.Packing.{is_final, accept_promise};
 ghost use Rattle.dr_rows.specs.Words.{seen};
 
 use arrayvec::ArrayVec;
+use dr_entry::MAX_MEMBERS;
 use dr_lane::least;
 use dr_rows::Rows;
 use dr_words::{Mask, unpack_accept, unpack_recv};
 
 /// The words that the rows of these members have in a column, ascending by member.
 #[tactic(auto, using(crate::proofs::Gathered::room, crate::proofs::Gathered::none_yet, crate::proofs::Gathered::one_more, crate::proofs::Gathered::no_more), unfolding(dr_history::specs::Members::members_of))]
-pub(crate) fn words_of(rows: &Rows, members: Mask, column: usize) -> ArrayVec<u64, 16>
+pub(crate) fn words_of(rows: &Rows, members: Mask, column: usize) -> ArrayVec<u64, MAX_MEMBERS>
     requires roster { IsInRoster rows.now.members members }
     requires column { column < rows.now.columns }
     ensures { result.items ≡ map (λ i. seen rows.now i column) (members_of members) }
 {
     let mut words = ArrayVec::new();
-    for member in 0..16 {
+    for member in 0..MAX_MEMBERS as u8 {
         if members.has(member) {
             words.push(rows.seen(member, column));
         }
@@ -28,7 +29,7 @@ pub(crate) fn words_of(rows: &Rows, members: Mask, column: usize) -> ArrayVec<u6
 /// The least of the words that the rows of these members have in a column; `None` where there are no
 /// members.
 pub(crate) fn least_word(rows: &Rows, members: Mask, column: usize) -> Option<u64>
-    requires most { rows.now.members ≤ 16 }
+    requires most { rows.now.members ≤ MAX_MEMBERS }
     requires roster { IsInRoster rows.now.members members }
     requires column { column < rows.now.columns }
     ensures below { IfSome result (λ least. (i : ℕ) → has members i ≡ true
@@ -62,7 +63,7 @@ pub(crate) fn all_promise(words: &[u64], promise: u8) -> bool
 
 // Whether some of these suspected words names the member.
 pub(crate) fn any_suspects(words: &[u64], name: u8) -> bool
-    requires name { name < 16 }
+    requires name { name < MAX_MEMBERS }
     requires masks { All (λ word. word < 2 ^ 16) words.now }
     ensures { IsTrue result ↔ Any (λ word. has word name ≡ true) words.now }
 {

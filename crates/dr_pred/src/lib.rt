@@ -11,6 +11,3 @@ mod watches;
 pub use once::Once;
 pub use watch::Watch;
 pub use watches::{AllDone, AllFinal, LoggedFront, PromisedAt, ReceivedFront, SomeSuspect};
-
-#[cfg(test)]
-mod tests;

@@ -7,6 +7,7 @@ ghost use Rattle.dr_rows.specs.Words.{seen};
 
 use crate::Watch;
 use crate::column::{all_done, all_final, all_promise, any_suspects, least_word, words_of};
+use dr_entry::MAX_MEMBERS;
 use dr_rows::Rows;
 use dr_words::{DONE_COLUMN, LOGGED_COLUMN, Mask, RECEIVED_COLUMN, SUSPECTED_COLUMN, Shape};
 
@@ -18,15 +19,17 @@ pub struct ReceivedFront {
 }
 
 impl Watch for ReceivedFront {
+    ghost use Rattle.dr_words.specs.declared.column.TheConstants.{RECEIVED_COLUMN};
+    ghost use Rattle.std.proofs.Common.{le_trans};
     ghost use Rattle.dr_pred.specs.Group.{IsOfGroup};
     ghost use Rattle.dr_pred.specs.Watches.{AllReceivedAbove};
-    ghost use Rattle.dr_pred.specs.Lasting.{received_lasts};
 
     ghost fits = { λ w rows. IsOfGroup rows × IsInRoster rows.members w.members };
 
     ghost waits_for = { λ w rows. AllReceivedAbove w.members w.at rows };
 
-    ghost lasts = { λ w old new f g grown. received_lasts w.members w.at old new grown };
+    ghost lasts = { λ w old new f g grown holds i member.
+        le_trans (holds i member) (grown.grown.words i RECEIVED_COLUMN).number };
 
     fn holds(&self, rows: &Rows) -> bool {
         least_word(rows, self.members, RECEIVED_COLUMN).is_none_or(|least| least > self.at)
@@ -41,15 +44,17 @@ pub struct LoggedFront {
 }
 
 impl Watch for LoggedFront {
+    ghost use Rattle.dr_words.specs.declared.column.TheConstants.{LOGGED_COLUMN};
+    ghost use Rattle.std.proofs.Common.{le_trans};
     ghost use Rattle.dr_pred.specs.Group.{IsOfGroup};
     ghost use Rattle.dr_pred.specs.Watches.{AllLogged};
-    ghost use Rattle.dr_pred.specs.Lasting.{logged_lasts};
 
     ghost fits = { λ w rows. IsOfGroup rows × IsInRoster rows.members w.members };
 
     ghost waits_for = { λ w rows. AllLogged w.members w.at rows };
 
-    ghost lasts = { λ w old new f g grown. logged_lasts w.members w.at old new grown };
+    ghost lasts = { λ w old new f g grown holds i member.
+        le_trans (holds i member) (grown.grown.words i LOGGED_COLUMN).number };
 
     fn holds(&self, rows: &Rows) -> bool {
         least_word(rows, self.members, LOGGED_COLUMN).is_none_or(|least| least >= self.at)
@@ -65,11 +70,11 @@ pub struct AllFinal {
 }
 
 impl AllFinal {
-    ghost use Rattle.dr_pred.specs.Group.{HasShape};
+    ghost use Rattle.dr_pred.specs.Group.{IsOfShape};
 
     // Whether the counts of a sender are final.
     fn is_final(&self, rows: &Rows, sender: u8) -> bool
-        requires shape { HasShape self.now.shape rows.now }
+        requires shape { IsOfShape self.now.shape rows.now }
         requires of { IsInRoster rows.now.members self.now.of }
         requires sender { sender < rows.now.members }
         ensures { IsTrue result ↔ ((i : ℕ) → has self.now.of i ≡ true
@@ -81,18 +86,21 @@ impl AllFinal {
 }
 
 impl Watch for AllFinal {
-    ghost use Rattle.dr_pred.specs.Group.{HasShape};
+    ghost use Rattle.dr_words.proofs.Lasting.{final_lasts};
+    ghost use Rattle.dr_pred.specs.Group.{IsOfShape};
     ghost use Rattle.dr_pred.specs.Watches.{AllCountsFinal};
-    ghost use Rattle.dr_pred.specs.Lasting.{final_lasts};
 
-    ghost fits = { λ w rows. HasShape w.shape rows × IsInRoster rows.members w.of × IsInRoster rows.members w.senders };
+    ghost fits = { λ w rows. IsOfShape w.shape rows × IsInRoster rows.members w.of
+        × IsInRoster rows.members w.senders };
 
     ghost waits_for = { λ w rows. AllCountsFinal w.of w.senders rows };
 
-    ghost lasts = { λ w old new f g grown. final_lasts w.of w.senders old new f.2 grown };
+    ghost lasts = { λ w old new f g grown holds i s member sender.
+        final_lasts old.members s (seen old i (recv_column s)) (seen new i (recv_column s))
+        (grown.grown.words i (recv_column s)) (f.2 s sender) (holds i s member sender) };
 
     fn holds(&self, rows: &Rows) -> bool {
-        for sender in 0..16 {
+        for sender in 0..MAX_MEMBERS as u8 {
             if self.senders.has(sender) && !self.is_final(rows, sender) {
                 return false;
             }
@@ -112,12 +120,12 @@ pub struct PromisedAt {
 }
 
 impl PromisedAt {
-    ghost use Rattle.dr_pred.specs.Group.{HasShape};
+    ghost use Rattle.dr_pred.specs.Group.{IsOfShape};
     ghost use Rattle.dr_pred.specs.Watches.{Promises};
 
     // Whether the accept words of a column have the promise.
     fn is_promised(&self, rows: &Rows, column: usize) -> bool
-        requires shape { HasShape self.now.shape rows.now }
+        requires shape { IsOfShape self.now.shape rows.now }
         requires of { IsInRoster rows.now.members self.now.of }
         requires column { column < rows.now.columns }
         ensures { IsTrue result ↔ ((i : ℕ) → has self.now.of i ≡ true
@@ -129,18 +137,31 @@ impl PromisedAt {
 }
 
 impl Watch for PromisedAt {
-    ghost use Rattle.dr_pred.specs.Group.{HasShape};
+    ghost use Rattle.std.proofs.Common.{sym, subst};
+    ghost use Rattle.dr_words.proofs.Lasting.{promise_lasts};
+    ghost use Rattle.dr_words.specs.Columns.{leavers_column, trim_column};
+    ghost use Rattle.dr_pred.specs.Watches.{Promises};
+    ghost use Rattle.dr_pred.specs.Group.{IsOfShape};
     ghost use Rattle.dr_pred.specs.Watches.{AllPromised};
-    ghost use Rattle.dr_pred.specs.Lasting.{promised_lasts};
 
-    ghost fits = { λ w rows. HasShape w.shape rows × IsInRoster rows.members w.of × IsInRoster rows.members w.senders };
+    ghost fits = { λ w rows. IsOfShape w.shape rows × IsInRoster rows.members w.of
+        × IsInRoster rows.members w.senders };
 
     ghost waits_for = { λ w rows. AllPromised w.of w.senders w.promise rows };
 
-    ghost lasts = { λ w old new f g grown. promised_lasts w.of w.senders w.promise old new grown };
+    ghost lasts = { λ w old new f g grown holds. record {
+      leavers = λ i member. subst (λ (n : ℕ). Promises new w.promise i (leavers_column n))
+          (sym grown.members)
+          (promise_lasts old.members (leavers_column old.members) w.promise _ _
+          (grown.grown.words i (leavers_column old.members)) (holds.leavers i member));
+      trims = λ i s member sender. subst (λ (n : ℕ). Promises new w.promise i (trim_column n s))
+          (sym grown.members)
+          (promise_lasts old.members (trim_column old.members s) w.promise _ _
+          (grown.grown.words i (trim_column old.members s)) (holds.trims i s member sender));
+    } };
 
     fn holds(&self, rows: &Rows) -> bool {
-        for sender in 0..16 {
+        for sender in 0..MAX_MEMBERS as u8 {
             if self.senders.has(sender) && !self.is_promised(rows, self.shape.trim_column(sender)) {
                 return false;
             }
@@ -157,15 +178,21 @@ pub struct SomeSuspect {
 }
 
 impl Watch for SomeSuspect {
+    ghost use Rattle.dr_words.specs.declared.column.TheConstants.{SUSPECTED_COLUMN};
+    ghost use Rattle.std.proofs.Common.{refl};
     ghost use Rattle.dr_pred.specs.Group.{IsOfGroup};
     ghost use Rattle.dr_pred.specs.Watches.{IsSuspected};
-    ghost use Rattle.dr_pred.specs.Lasting.{suspected_lasts};
 
-    ghost fits = { λ w rows. IsOfGroup rows × IsInRoster rows.members w.members × (w.name < rows.members) };
+    ghost fits = { λ w rows. IsOfGroup rows × IsInRoster rows.members w.members
+        × (w.name < rows.members) };
 
     ghost waits_for = { λ w rows. IsSuspected w.members w.name rows };
 
-    ghost lasts = { λ w old new f g grown. suspected_lasts w.members w.name old new grown };
+    ghost lasts = { λ w old new f g grown holds. (
+      holds.0,
+      holds.1,
+      (grown.grown.words holds.0 SUSPECTED_COLUMN).suspected refl w.name holds.2,
+    ) };
 
     fn holds(&self, rows: &Rows) -> bool {
         let words = words_of(rows, self.members, SUSPECTED_COLUMN);
@@ -180,15 +207,18 @@ pub struct AllDone {
 }
 
 impl Watch for AllDone {
+    ghost use Rattle.dr_words.specs.declared.column.TheConstants.{DONE_COLUMN};
+    ghost use Rattle.dr_words.proofs.Lasting.{done_lasts};
     ghost use Rattle.dr_pred.specs.Group.{IsOfGroup};
     ghost use Rattle.dr_pred.specs.Watches.{AllAreDone};
-    ghost use Rattle.dr_pred.specs.Lasting.{done_lasts};
 
     ghost fits = { λ w rows. IsOfGroup rows × IsInRoster rows.members w.members };
 
     ghost waits_for = { λ w rows. AllAreDone w.members rows };
 
-    ghost lasts = { λ w old new f g grown. done_lasts w.members old new g.0.form grown };
+    ghost lasts = { λ w old new f g grown holds i member.
+        done_lasts old.members new.members (seen old i DONE_COLUMN) (seen new i DONE_COLUMN)
+        (grown.grown.words i DONE_COLUMN) (g.0.form i DONE_COLUMN) (holds i member) };
 
     fn holds(&self, rows: &Rows) -> bool {
         let words = words_of(rows, self.members, DONE_COLUMN);

@@ -1,18 +1,21 @@
 -- What is read from a slot of which some words have come.
 use Rattle.std.proofs.Common.{◌≡◌, ℕ, zero, suc, ◌+◌, ◌^◌, ◌<◌, ◌≤◌, ◌⊎◌, inl, inr, Bool, true, false, cond, List, [], ◌∷◌, length, get_or, map, Option, Some, None, refl, sym, ap, ◌∙◌, arith}
 use Rattle.std.specs.List.{list_all, range_with_len}
+use Rattle.std.proofs.lemmas.Bool.{and_parts}
 use Rattle.std.proofs.lemmas.Bool.Decides.{nat_tests}
 use Rattle.dr_entry.specs.declared.entry.Item.{Item}
 use Rattle.dr_words.specs.Packing.{ring_word, ring_tag, ring_low}
 use Rattle.dr_ring.specs.Pieces.{head_piece, body_pieces, pieces, item_of}
 use Rattle.dr_ring.specs.Slots.{is_of, item_in}
-use Rattle.dr_ring.proofs.Bodies.{true_both, first_words}
+use Rattle.dr_ring.proofs.Bodies.{first_words}
 use Rattle.dr_ring.proofs.Items.{IsItem, item_of-pieces, body_len-pieces, head_is_head, head_fits, piece_fits}
 
 -- the words that have come hold the pieces of item k, and the others are of earlier items
 pub record HasCome (k : ℕ) (item : Item) (slot : ℕ → ℕ) (come : ℕ → Bool) : Type 0 where
-  pub here : (part : ℕ) → part < length (pieces item) → come part ≡ true → slot part ≡ ring_word k (get_or (pieces item) part 0)
-  pub earlier : (part : ℕ) → part < length (pieces item) → come part ≡ false → ring_tag (slot part) ≤ k
+  pub here : (part : ℕ) → part < length (pieces item) → come part ≡ true
+      → slot part ≡ ring_word k (get_or (pieces item) part 0)
+  pub earlier : (part : ℕ) → part < length (pieces item) → come part ≡ false
+      → ring_tag (slot part) ≤ k
 
 of_word : (k word low : ℕ) → low < 2 ^ 32 → word ≡ ring_word k low → is_of k word ≡ true
 of_word k word low fits e = let tag : ring_tag word ≡ k + 1 = omega (arith, e) in grind (arith, nat_tests)
@@ -24,7 +27,9 @@ not_of : (k word : ℕ) → ring_tag word ≤ k → is_of k word ≡ false
 not_of k word tag = grind (arith, nat_tests)
 
 -- two tests that agree on a range
-same_tests : (p q : ℕ → Bool) (slot : ℕ → ℕ) (n a : ℕ) → ((i : ℕ) → a ≤ i → i < a + n → p (slot i) ≡ q i) → list_all p (map slot (range_with_len a n)) ≡ list_all q (range_with_len a n)
+same_tests : (p q : ℕ → Bool) (slot : ℕ → ℕ) (n a : ℕ)
+    → ((i : ℕ) → a ≤ i → i < a + n → p (slot i) ≡ q i)
+    → list_all p (map slot (range_with_len a n)) ≡ list_all q (range_with_len a n)
 same_tests p q slot zero a same = refl
 same_tests p q slot (suc n) a same =
     let first = same a (omega arith) (omega arith) in
@@ -34,50 +39,70 @@ same_tests p q slot (suc n) a same =
 first_or_later : (a i : ℕ) → a ≤ i → (i ≡ a) ⊎ (a + 1 ≤ i)
 first_or_later a i from = grind arith
 
-tests_all : (q : ℕ → Bool) (n a : ℕ) → list_all q (range_with_len a n) ≡ true → (i : ℕ) → a ≤ i → i < a + n → q i ≡ true
+tests_all : (q : ℕ → Bool) (n a : ℕ) → list_all q (range_with_len a n) ≡ true → (i : ℕ)
+    → a ≤ i → i < a + n → q i ≡ true
 tests_all q zero a all i from to = absurd (omega arith)
 tests_all q (suc n) a all i from to =
-    let both = true_both (q a) _ all in
-    elim (first_or_later a i from) [ inl first ↦ ap q first ∙ both.0 | inr later ↦ tests_all q n (a + 1) both.1 i later (omega arith) ]
+    let both = and_parts (q a) _ all in
+    elim (first_or_later a i from) [
+      | inl first ↦ ap q first ∙ both.0
+      | inr later ↦
+          tests_all q n (a + 1) both.1 i later (omega arith)
+    ]
 
 -- the pieces that a range of words holds
-same_pieces : (slot : ℕ → ℕ) (list : List ℕ) (a : ℕ) → ((i : ℕ) → i < length list → ring_low (slot (a + i)) ≡ get_or list i 0) → map ring_low (map slot (range_with_len a (length list))) ≡ list
+same_pieces : (slot : ℕ → ℕ) (list : List ℕ) (a : ℕ)
+    → ((i : ℕ) → i < length list → ring_low (slot (a + i)) ≡ get_or list i 0)
+    → map ring_low (map slot (range_with_len a (length list))) ≡ list
 same_pieces slot [] a same = refl
 same_pieces slot (x ∷ list) a same =
     let place : a + 0 ≡ a = omega arith in
-    let first : ring_low (slot a) ≡ x = ap (λ (i : ℕ). ring_low (slot i)) (sym place) ∙ same 0 (omega arith) in
-    let others = same_pieces slot list (a + 1) (λ i lt. let next : a + 1 + i ≡ a + suc i = omega arith in ap (λ (j : ℕ). ring_low (slot j)) next ∙ same (suc i) (omega arith)) in
+    let first : ring_low (slot a) ≡ x = ap (λ (i : ℕ). ring_low (slot i)) (sym place)
+    ∙ same 0 (omega arith) in
+    let others = same_pieces slot list (a + 1)
+    (λ i lt. let next : a + 1 + i ≡ a + suc i = omega arith in
+    ap (λ (j : ℕ). ring_low (slot j)) next ∙ same (suc i) (omega arith)) in
     rw (first, others) refl
 
 abbrev some : Item → Option Item
 some x = Some x
 
 -- the item is read exactly where all words that it needs have come
-pub item_in-come : (k : ℕ) (item : Item) (slot : ℕ → ℕ) (come : ℕ → Bool) → IsItem item → HasCome k item slot come
+pub item_in-come : (k : ℕ) (item : Item) (slot : ℕ → ℕ) (come : ℕ → Bool) → IsItem item
+    → HasCome k item slot come
     → item_in k slot ≡ cond (list_all come (range_with_len 0 (length (pieces item)))) (Some item) None
 item_in-come k item slot come is words = by (come 0) refl
   where
     all : Bool
     all = list_all come (range_with_len 1 (length (body_pieces item)))
 
-    agrees : (i : ℕ) → i < length (pieces item) → (b : Bool) → come i ≡ b → is_of k (slot i) ≡ come i
-    agrees i lt true e = of_word k (slot i) (get_or (pieces item) i 0) (piece_fits item i is) (words.here i lt e) ∙ sym e
+    agrees : (i : ℕ) → i < length (pieces item) → (b : Bool) → come i ≡ b
+        → is_of k (slot i) ≡ come i
+    agrees i lt true e = of_word k (slot i) (get_or (pieces item) i 0) (piece_fits item i is)
+        (words.here i lt e) ∙ sym e
     agrees i lt false e = not_of k (slot i) (words.earlier i lt e) ∙ sym e
 
-    tests : list_all (is_of k) (first_words slot (length (body_pieces item))) ≡ list_all come (range_with_len 1 (length (body_pieces item)))
-    tests = same_tests (is_of k) come slot (length (body_pieces item)) 1 (λ i from to. agrees i (omega arith) (come i) refl)
+    tests : list_all (is_of k) (first_words slot (length (body_pieces item)))
+        ≡ list_all come (range_with_len 1 (length (body_pieces item)))
+    tests = same_tests (is_of k) come slot (length (body_pieces item)) 1
+        (λ i from to. agrees i (omega arith) (come i) refl)
 
     read : (b : Bool) → list_all come (range_with_len 1 (length (body_pieces item))) ≡ b
-        → cond (list_all come (range_with_len 1 (length (body_pieces item)))) (Some (item_of (head_piece item) (map ring_low (first_words slot (length (body_pieces item)))))) None ≡ cond (list_all come (range_with_len 1 (length (body_pieces item)))) (Some item) None
+        → cond (list_all come (range_with_len 1 (length (body_pieces item))))
+        (Some (item_of (head_piece item) (map ring_low (first_words slot (length (body_pieces item))))))
+        None ≡ cond (list_all come (range_with_len 1 (length (body_pieces item)))) (Some item) None
     read false e = rw e refl
     read true e =
         let body = same_pieces slot (body_pieces item) 1 (λ i lt.
         let come_i = tests_all come (length (body_pieces item)) 1 e (1 + i) (omega arith) (omega arith) in
         let there : 1 + i ≡ suc i = omega arith in
-        low_word k (slot (1 + i)) (get_or (body_pieces item) i 0) (piece_fits item (suc i) is) (words.here (1 + i) (omega arith) come_i ∙ ap (λ (j : ℕ). ring_word k (get_or (pieces item) j 0)) there)) in
+        low_word k (slot (1 + i)) (get_or (body_pieces item) i 0) (piece_fits item (suc i) is)
+        (words.here (1 + i) (omega arith) come_i
+        ∙ ap (λ (j : ℕ). ring_word k (get_or (pieces item) j 0)) there)) in
         rw (e, body) (ap (λ (x : Item). some x) (item_of-pieces item is))
 
-    by : (head : Bool) → come 0 ≡ head → item_in k slot ≡ cond (list_all come (range_with_len 0 (length (pieces item)))) (Some item) None
+    by : (head : Bool) → come 0 ≡ head
+        → item_in k slot ≡ cond (list_all come (range_with_len 0 (length (pieces item)))) (Some item) None
     by false e = rw (not_of k (slot 0) (words.earlier 0 (omega arith) e), e) refl
     by true e =
         let head : slot 0 ≡ ring_word k (head_piece item) = words.here 0 (omega arith) e in

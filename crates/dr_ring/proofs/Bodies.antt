@@ -1,5 +1,5 @@
 -- The words of a body, one after the other.
-use Rattle.std.proofs.Common.{◌≡◌, ℕ, ◌+◌, ◌*◌, ◌%◌, ◌<◌, ◌≤◌, Bool, true, false, ◌&&◌, List, [], ◌∷◌, ◌++◌, length, take, map, refl, sym, ap, ◌∙◌, arith}
+use Rattle.std.proofs.Common.{◌≡◌, ℕ, ◌+◌, ◌*◌, ◌%◌, ◌<◌, ◌≤◌, Bool, true, false, List, [], ◌∷◌, ◌++◌, length, take, map, refl, sym, ap, ◌∙◌, arith}
 use borrow.Rule.Slice.PartMut.{put_mid}
 use Rattle.std.specs.List.{list_all, range_with_len}
 use Rattle.std.specs.Int.{w32, to_be_bytes}
@@ -13,39 +13,48 @@ use Rattle.dr_rows.specs.Words.{Words, seen}
 use Rattle.dr_ring.specs.Pieces.{bytes_of}
 use Rattle.dr_ring.specs.Slots.{slot_column, slot_of}
 
-pub true_both : (a b : Bool) → (a && b) ≡ true → (a ≡ true) × (b ≡ true)
-true_both true true e = (refl, refl)
-true_both true false e = absurd (cc)
-true_both false b e = absurd (cc)
-
 -- the words of the first parts of a body
 abbrev pub first_words : (ℕ → ℕ) → ℕ → List ℕ
 first_words slot n = map slot (range_with_len 1 n)
 
-pub words_more : (slot : ℕ → ℕ) (n : ℕ) → first_words slot (n + 1) ≡ first_words slot n ++ slot (1 + n) ∷ []
+-- the first words of a body, with one part more
+words_more : (slot : ℕ → ℕ) (n : ℕ)
+    → first_words slot (n + 1) ≡ first_words slot n ++ slot (1 + n) ∷ []
 words_more slot n = map-range_with_len_more slot 1 n (1 + n) refl
 
 -- one word more passes
-pub passes_more : (p : ℕ → Bool) (slot : ℕ → ℕ) (n : ℕ) → list_all p (first_words slot n) ≡ true → p (slot (1 + n)) ≡ true → list_all p (first_words slot (n + 1)) ≡ true
+pub passes_more : (p : ℕ → Bool) (slot : ℕ → ℕ) (n : ℕ)
+    → list_all p (first_words slot n) ≡ true → p (slot (1 + n)) ≡ true
+    → list_all p (first_words slot (n + 1)) ≡ true
 passes_more p slot n all one =
-    ap (list_all p) (words_more slot n) ∙ list_all-append p (first_words slot n) (slot (1 + n) ∷ []) ∙ rw (all, one) refl
+    ap (list_all p) (words_more slot n) ∙ list_all-append p (first_words slot n) (slot (1 + n) ∷ [])
+    ∙ rw (all, one) refl
 
 -- one that doesn't is enough
-pub passes_not : (p : ℕ → Bool) (slot : ℕ → ℕ) (n i : ℕ) → i < n → p (slot (1 + i)) ≡ false → list_all p (first_words slot n) ≡ false
+pub passes_not : (p : ℕ → Bool) (slot : ℕ → ℕ) (n i : ℕ) → i < n
+    → p (slot (1 + i)) ≡ false → list_all p (first_words slot n) ≡ false
 passes_not p slot n i lt one =
-    list_all_at p (first_words slot n) i 0 (omega (arith, length-map-range_with_len slot 1 n)) (ap p (get_or-map-range_with_len slot 1 n i (1 + i) 0 lt refl) ∙ one)
+    list_all_at p (first_words slot n) i 0 (omega (arith, length-map-range_with_len slot 1 n))
+    (ap p (get_or-map-range_with_len slot 1 n i (1 + i) 0 lt refl) ∙ one)
 
 -- the bytes of one word more were written
-pub bytes_more : (slot : ℕ → ℕ) (n len : ℕ) (bytes written : List ℕ) → 4 * n ≤ length bytes → length written ≡ 4 → take (4 * n) bytes ≡ bytes_of (map ring_low (first_words slot n)) → written ≡ to_be_bytes w32 (ring_low (slot (1 + n)))
-    → take (4 * (n + 1)) (put_mid (4 * n) len bytes written) ≡ bytes_of (map ring_low (first_words slot (n + 1)))
+pub bytes_more : (slot : ℕ → ℕ) (n len : ℕ) (bytes written : List ℕ) → 4 * n ≤ length bytes
+    → length written ≡ 4 → take (4 * n) bytes ≡ bytes_of (map ring_low (first_words slot n))
+    → written ≡ to_be_bytes w32 (ring_low (slot (1 + n)))
+    → take (4 * (n + 1)) (put_mid (4 * n) len bytes written)
+    ≡ bytes_of (map ring_low (first_words slot (n + 1)))
 bytes_more slot n len bytes written room four so_far new =
     take-put_mid (4 * n) len bytes written (4 * (n + 1)) (omega arith) room
     ∙ ap (λ (front : List ℕ). front ++ written) so_far
     ∙ ap (λ (back : List ℕ). bytes_of (map ring_low (first_words slot n)) ++ back) new
     ∙ flat_map_more (to_be_bytes w32) [] (map ring_low (first_words slot n)) (ring_low (slot (1 + n)))
-    ∙ ap bytes_of (sym (map_push ring_low (first_words slot n) (slot (1 + n))) ∙ ap (map ring_low) (sym (words_more slot n)))
+    ∙ ap bytes_of (sym (map_push ring_low (first_words slot n) (slot (1 + n)))
+    ∙ ap (map ring_low) (sym (words_more slot n)))
 
 -- where the words of the body stand
-pub seen_body : (window : ℕ) (w : Words) (row k part members slot column : ℕ) → w.members ≡ members → slot ≡ k % window → column ≡ body_column members slot part → seen w row column ≡ slot_of window w row k (1 + part)
+pub seen_body : (window : ℕ) (w : Words) (row k part members slot column : ℕ) → w.members ≡ members
+    → slot ≡ k % window → column ≡ body_column members slot part
+    → seen w row column ≡ slot_of window w row k (1 + part)
 seen_body window w row k part members slot column same at here =
-    let place : column ≡ slot_column w.members window k + (1 + part) = rw (same, ← at, here) (omega arith) in ap (λ (c : ℕ). seen w row c) place
+    let place : column ≡ slot_column w.members window k + (1 + part) =
+    rw (same, ← at, here) (omega arith) in ap (λ (c : ℕ). seen w row c) place

@@ -6,6 +6,8 @@ use Rattle.std.proofs.lemmas.Bool.{cases_lt}
 use Rattle.std.proofs.lemmas.Bool.Decides.{nat_tests}
 use Rattle.std.proofs.lemmas.List.{drop-drop, drop_all, get_or-drop, get_or_past}
 use Rattle.std.proofs.lemmas.List.FromFn.{length-map-range_with_len, get_or-map-range_with_len}
+use Rattle.dr_words.specs.declared.column.TheConstants.{PIECES}
+use Rattle.dr_entry.specs.declared.limits.TheConstants.{MAX_MESSAGE_LENGTH}
 use Rattle.dr_entry.specs.declared.entry.Item.{Item}
 use Rattle.dr_entry.specs.declared.entry.Item.TheVariants.{Null, Text}
 use Rattle.dr_entry.proofs.Fields.{IsBytes, number_below_4}
@@ -15,7 +17,8 @@ use Rattle.dr_ring.specs.Pieces.{null_mark, is_head, body_len, body_piece, head_
 abbrev four : ℕ → ℕ → ℕ → ℕ → ℕ
 four a b c d = a * 16777216 + b * 65536 + c * 256 + d
 
-byte_0 : (a b c d : ℕ) → a < 256 → b < 256 → c < 256 → d < 256 → four a b c d / 16777216 % 256 ≡ a
+byte_0 : (a b c d : ℕ) → a < 256 → b < 256 → c < 256 → d < 256
+    → four a b c d / 16777216 % 256 ≡ a
 byte_0 a b c d p q r s = omega arith
 
 byte_1 : (a b c d : ℕ) → a < 256 → b < 256 → c < 256 → d < 256 → four a b c d / 65536 % 256 ≡ b
@@ -31,31 +34,42 @@ zero_fits : 0 < 256
 zero_fits = omega arith
 
 -- four bytes, or fewer at the end, are those of their number
-pub bytes_back : (bytes rest : List ℕ) → IsBytes bytes → take (length bytes - 4) rest ≡ drop 4 bytes → take (length bytes) (to_be_bytes w32 (from_be_bytes w32 bytes) ++ rest) ≡ bytes
+bytes_back : (bytes rest : List ℕ) → IsBytes bytes → take (length bytes - 4) rest ≡ drop 4 bytes
+    → take (length bytes) (to_be_bytes w32 (from_be_bytes w32 bytes) ++ rest) ≡ bytes
 bytes_back [] rest fits e = refl
-bytes_back (a ∷ []) rest fits e = ap (λ (x : ℕ). x ∷ []) (byte_0 a 0 0 0 (fits 0) zero_fits zero_fits zero_fits)
+bytes_back (a ∷ []) rest fits e =
+    ap (λ (x : ℕ). x ∷ []) (byte_0 a 0 0 0 (fits 0) zero_fits zero_fits zero_fits)
 bytes_back (a ∷ b ∷ []) rest fits e =
-    ap (λ (x : ℕ). x ∷ four a b 0 0 / 65536 % 256 ∷ []) (byte_0 a b 0 0 (fits 0) (fits 1) zero_fits zero_fits)
+    ap (λ (x : ℕ). x ∷ four a b 0 0 / 65536 % 256 ∷ [])
+    (byte_0 a b 0 0 (fits 0) (fits 1) zero_fits zero_fits)
     ∙ ap (λ (x : ℕ). a ∷ x ∷ []) (byte_1 a b 0 0 (fits 0) (fits 1) zero_fits zero_fits)
 bytes_back (a ∷ b ∷ c ∷ []) rest fits e =
-    ap (λ (x : ℕ). x ∷ four a b c 0 / 65536 % 256 ∷ four a b c 0 / 256 % 256 ∷ []) (byte_0 a b c 0 (fits 0) (fits 1) (fits 2) zero_fits)
-    ∙ ap (λ (x : ℕ). a ∷ x ∷ four a b c 0 / 256 % 256 ∷ []) (byte_1 a b c 0 (fits 0) (fits 1) (fits 2) zero_fits)
+    ap (λ (x : ℕ). x ∷ four a b c 0 / 65536 % 256 ∷ four a b c 0 / 256 % 256 ∷ [])
+    (byte_0 a b c 0 (fits 0) (fits 1) (fits 2) zero_fits)
+    ∙ ap (λ (x : ℕ). a ∷ x ∷ four a b c 0 / 256 % 256 ∷ [])
+    (byte_1 a b c 0 (fits 0) (fits 1) (fits 2) zero_fits)
     ∙ ap (λ (x : ℕ). a ∷ b ∷ x ∷ []) (byte_2 a b c 0 (fits 0) (fits 1) (fits 2) zero_fits)
 bytes_back (a ∷ b ∷ c ∷ d ∷ bytes) rest fits e =
     let n = four a b c d in
     let left : length (a ∷ b ∷ c ∷ d ∷ bytes) - 4 ≡ length bytes = omega arith in
     let end : take (length bytes) rest ≡ bytes = ap (λ (m : ℕ). take m rest) (sym left) ∙ e in
-    ap (λ (x : ℕ). x ∷ n / 65536 % 256 ∷ n / 256 % 256 ∷ n % 256 ∷ take (length bytes) rest) (byte_0 a b c d (fits 0) (fits 1) (fits 2) (fits 3))
-    ∙ ap (λ (x : ℕ). a ∷ x ∷ n / 256 % 256 ∷ n % 256 ∷ take (length bytes) rest) (byte_1 a b c d (fits 0) (fits 1) (fits 2) (fits 3))
-    ∙ ap (λ (x : ℕ). a ∷ b ∷ x ∷ n % 256 ∷ take (length bytes) rest) (byte_2 a b c d (fits 0) (fits 1) (fits 2) (fits 3))
-    ∙ ap (λ (x : ℕ). a ∷ b ∷ c ∷ x ∷ take (length bytes) rest) (byte_3 a b c d (fits 0) (fits 1) (fits 2) (fits 3))
+    ap (λ (x : ℕ). x ∷ n / 65536 % 256 ∷ n / 256 % 256 ∷ n % 256 ∷ take (length bytes) rest)
+    (byte_0 a b c d (fits 0) (fits 1) (fits 2) (fits 3))
+    ∙ ap (λ (x : ℕ). a ∷ x ∷ n / 256 % 256 ∷ n % 256 ∷ take (length bytes) rest)
+    (byte_1 a b c d (fits 0) (fits 1) (fits 2) (fits 3))
+    ∙ ap (λ (x : ℕ). a ∷ b ∷ x ∷ n % 256 ∷ take (length bytes) rest)
+    (byte_2 a b c d (fits 0) (fits 1) (fits 2) (fits 3))
+    ∙ ap (λ (x : ℕ). a ∷ b ∷ c ∷ x ∷ take (length bytes) rest)
+    (byte_3 a b c d (fits 0) (fits 1) (fits 2) (fits 3))
     ∙ ap (λ (xs : List ℕ). a ∷ b ∷ c ∷ d ∷ xs) end
 
 IsBytes-drop : (n : ℕ) (bytes : List ℕ) → IsBytes bytes → IsBytes (drop n bytes)
 IsBytes-drop n bytes fits i = rw get_or-drop (fits (n + i))
 
 -- the pieces of a body from part i on hold the bytes from there on
-text_back : (n i : ℕ) (bytes : List ℕ) → IsBytes bytes → length bytes ≤ 4 * (i + n) → take (length bytes - 4 * i) (bytes_of (map (body_piece bytes) (range_with_len i n))) ≡ drop (4 * i) bytes
+text_back : (n i : ℕ) (bytes : List ℕ) → IsBytes bytes → length bytes ≤ 4 * (i + n)
+    → take (length bytes - 4 * i) (bytes_of (map (body_piece bytes) (range_with_len i n)))
+    ≡ drop (4 * i) bytes
 text_back zero i bytes fits short =
     let none : length bytes - 4 * i ≡ 0 = omega arith in
     ap (λ (m : ℕ). take {A = ℕ} m []) none ∙ sym (drop_all (4 * i) bytes (omega arith))
@@ -66,47 +80,61 @@ text_back (suc n) i bytes fits short =
     let len_rest : length here - 4 ≡ length bytes - 4 * (i + 1) = omega (arith, len) in
     let next : 4 * (i + 1) ≡ 4 * i + 4 = omega arith in
     let later : take (length here - 4) rest ≡ drop 4 here =
-    ap (λ (m : ℕ). take m rest) len_rest ∙ text_back n (i + 1) bytes fits (omega arith) ∙ ap (λ (m : ℕ). drop m bytes) next ∙ sym (drop-drop 4 (4 * i) bytes) in
-    ap (λ (m : ℕ). take m (to_be_bytes w32 (body_piece bytes i) ++ rest)) len ∙ bytes_back here rest (IsBytes-drop (4 * i) bytes fits) later
+    ap (λ (m : ℕ). take m rest) len_rest ∙ text_back n (i + 1) bytes fits (omega arith)
+    ∙ ap (λ (m : ℕ). drop m bytes) next ∙ sym (drop-drop 4 (4 * i) bytes) in
+    ap (λ (m : ℕ). take m (to_be_bytes w32 (body_piece bytes i) ++ rest)) len
+    ∙ bytes_back here rest (IsBytes-drop (4 * i) bytes fits) later
 
 -- ---- an item
 
 -- what an item of the code is
 abbrev pub IsItem : Item → Type 0
 IsItem Null = Unit {0}
-IsItem (Text bytes) = (length bytes ≤ 64) × IsBytes bytes
+IsItem (Text bytes) = (length bytes ≤ MAX_MESSAGE_LENGTH) × IsBytes bytes
 
+-- an item is read back from its pieces
 pub item_of-pieces : (item : Item) → IsItem item → item_of (head_piece item) (body_pieces item) ≡ item
 item_of-pieces Null is = refl
 item_of-pieces (Text bytes) is =
     let message : (length bytes == null_mark) ≡ false = grind (arith, nat_tests, is.0) in
     let whole : length bytes ≡ length bytes - 4 * 0 = omega arith in
     let body = bytes_of (body_pieces (Text bytes)) in
-    rw message (ap (λ (n : ℕ). Text (take n body)) whole ∙ ap Text (text_back (div_ceil (length bytes) 4) 0 bytes is.1 (omega arith)))
+    rw message (ap (λ (n : ℕ). Text (take n body)) whole
+    ∙ ap Text (text_back (div_ceil (length bytes) 4) 0 bytes is.1 (omega arith)))
 
-pub body_len-pieces : (item : Item) → IsItem item → body_len (head_piece item) ≡ length (body_pieces item)
+-- the head tells how many pieces the body has
+pub body_len-pieces : (item : Item) → IsItem item
+    → body_len (head_piece item) ≡ length (body_pieces item)
 body_len-pieces Null is = refl
 body_len-pieces (Text bytes) is =
     let message : (length bytes == null_mark) ≡ false = grind (arith, nat_tests, is.0) in
     rw message (sym (length-map-range_with_len (body_piece bytes) 0 (div_ceil (length bytes) 4)))
 
+-- the first piece of an item is a head
 pub head_is_head : (item : Item) → IsItem item → is_head (head_piece item) ≡ true
 head_is_head Null is = refl
 head_is_head (Text bytes) is = grind (arith, nat_tests, is.0)
 
+-- the first piece of an item has 32 bits
 pub head_fits : (item : Item) → IsItem item → head_piece item < 2 ^ 32
 head_fits Null is = omega arith
 head_fits (Text bytes) is = omega (arith, is.0)
 
-pub few_pieces : (item : Item) → IsItem item → length (pieces item) ≤ 17
+-- the pieces of an item fit in a slot
+pub few_pieces : (item : Item) → IsItem item → length (pieces item) ≤ PIECES
 few_pieces Null is = omega arith
-few_pieces (Text bytes) is = omega (arith, is.0, length-map-range_with_len (body_piece bytes) 0 (div_ceil (length bytes) 4))
+few_pieces (Text bytes) is = omega
+    (arith, is.0, length-map-range_with_len (body_piece bytes) 0 (div_ceil (length bytes) 4))
 
+-- each piece of an item has 32 bits
 pub piece_fits : (item : Item) (part : ℕ) → IsItem item → get_or (pieces item) part 0 < 2 ^ 32
 piece_fits item zero is = head_fits item is
 piece_fits Null (suc part) is = omega arith
 piece_fits (Text bytes) (suc part) is =
     elim (cases_lt part (div_ceil (length bytes) 4)) [
-      | inl lt ↦ rw (get_or-map-range_with_len (body_piece bytes) 0 (div_ceil (length bytes) 4) part part 0 lt (omega arith)) (number_below_4 (4 * part) bytes is.1)
-      | inr past ↦ rw (get_or_past (body_pieces (Text bytes)) part 0 (omega (arith, length-map-range_with_len (body_piece bytes) 0 (div_ceil (length bytes) 4)))) (omega arith)
+      | inl lt ↦ rw (get_or-map-range_with_len (body_piece bytes) 0
+          (div_ceil (length bytes) 4) part part 0 lt (omega arith)) (number_below_4 (4 * part) bytes is.1)
+      | inr past ↦ rw (get_or_past (body_pieces (Text bytes)) part 0
+          (omega (arith, length-map-range_with_len (body_piece bytes) 0 (div_ceil (length bytes) 4))))
+          (omega arith)
     ]

@@ -6,4 +6,4 @@ pub mod Growing
 pub mod Items
 pub mod Arrivals
 pub mod Looks
-pub mod Putting
+pub mod Puts

@@ -2,6 +2,7 @@
 use Rattle.std.specs.Prelude.{ℕ, ◌-◌, ◌*◌, ◌^◌, Bool, ◌||◌, ◌==◌, nat_le, if◌then◌else◌, List, [], ◌∷◌, length, take, drop, map}
 use Rattle.std.specs.List.{flat_map, range_with_len}
 use Rattle.std.specs.Int.{w32, div_ceil, from_be_bytes, to_be_bytes}
+use Rattle.dr_entry.specs.declared.limits.TheConstants.{MAX_MESSAGE_LENGTH}
 use Rattle.dr_entry.specs.declared.entry.Item.{Item}
 use Rattle.dr_entry.specs.declared.entry.Item.TheVariants.{Null, Text}
 
@@ -10,7 +11,7 @@ abbrev pub null_mark : ℕ
 null_mark = 2 ^ 32 - 1
 
 abbrev pub is_head : ℕ → Bool
-is_head piece = piece == null_mark || nat_le piece 64
+is_head piece = piece == null_mark || nat_le piece MAX_MESSAGE_LENGTH
 
 -- how many pieces the body has behind this head, four bytes each
 abbrev pub body_len : ℕ → ℕ

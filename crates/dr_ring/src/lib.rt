@@ -8,6 +8,3 @@
 mod ring;
 
 pub use ring::{free, is_ready, put, ready};
-
-#[cfg(test)]
-mod tests;

@@ -10,9 +10,9 @@ ghost use Rattle.dr_ring.specs.Pieces.{body_piece, bytes_of};
 ghost use Rattle.dr_ring.specs.Slots.{HasShape, IsFree, is_free, IsReady, is_of, item_in, slot_of, with_item};
 ghost use Rattle.dr_ring.specs.Arrival.{Arrives};
 
-use dr_entry::{Item, MAX_MESSAGE, Message};
+use dr_entry::{Item, MAX_MESSAGE_LENGTH, Message};
 use dr_rows::Rows;
-use dr_words::{Mask, Shape, pack_ring, unpack_recv, unpack_ring};
+use dr_words::{Mask, PIECES, Shape, pack_ring, unpack_recv, unpack_ring};
 
 /// The piece of the head of a null. That of a message is its length.
 const NULL_MARK: u32 = u32::MAX;
@@ -51,7 +51,7 @@ pub fn put(rows: &mut Rows, shape: &Shape, members: Mask, k: u32, item: &Item)
     requires roster { IsInRoster rows.old.members members }
     requires free { IsFree shape.now.window rows.old members k }
     requires number { k < 2 ^ 32 - 1 }
-    requires earlier { (part : ℕ) → part < 17
+    requires earlier { (part : ℕ) → part < PIECES
         → ring_tag (slot_of shape.now.window rows.old rows.old.me k part) ≤ k }
     ensures after { rows.new ≡ with_item shape.now.window rows.old k item.now }
     ensures arrives { Arrives shape.now.window rows.new k item.now }
@@ -85,7 +85,7 @@ pub fn is_ready(rows: &Rows, shape: &Shape, row: u8, k: u32) -> bool
     let (_, head) = unpack_ring(word);
     is_of(k, word)
         && (head == NULL_MARK
-            || head as usize <= MAX_MESSAGE && has_body(rows, shape, row, k, head as usize))
+            || head as usize <= MAX_MESSAGE_LENGTH && has_body(rows, shape, row, k, head as usize))
 }
 
 /// Item `k` of the member of this row, where all words that it needs were seen: the head, whose low
@@ -102,7 +102,7 @@ pub fn ready(rows: &Rows, shape: &Shape, row: u8, k: u32) -> Option<Item>
         return Some(Item::Null);
     }
     let len = head as usize;
-    if len > MAX_MESSAGE {
+    if len > MAX_MESSAGE_LENGTH {
         return None;
     }
     body_at(rows, shape, row, k, len).map(Item::Text)
@@ -122,7 +122,8 @@ fn piece_at(rows: &Rows, row: u8, column: usize, k: u32) -> Option<u32>
     requires row { row < rows.now.members }
     requires column { column < rows.now.columns }
     ensures { let word = seen rows.now row column in
-        MatchOption result (is_of k word ≡ false) (λ piece. (is_of k word ≡ true) × (piece ≡ ring_low word)) }
+        MatchOption result (is_of k word ≡ false)
+        (λ piece. (is_of k word ≡ true) × (piece ≡ ring_low word)) }
 {
     let word = rows.seen(row, column);
     let (_, piece) = unpack_ring(word);
@@ -142,8 +143,9 @@ fn is_of(k: u32, word: u64) -> bool
 fn has_body(rows: &Rows, shape: &Shape, row: u8, k: u32, len: usize) -> bool
     requires shape { HasShape shape.now rows.now }
     requires row { row < rows.now.members }
-    requires len { len ≤ MAX_MESSAGE }
-    ensures { result ≡ list_all (is_of k) (map (slot_of shape.now.window rows.now row k) (range_with_len 1 (div_ceil len 4))) }
+    requires len { len ≤ MAX_MESSAGE_LENGTH }
+    ensures { result ≡ list_all (is_of k)
+        (map (slot_of shape.now.window rows.now row k) (range_with_len 1 (div_ceil len 4))) }
 {
     let slot = slot_at(shape, k);
     for part in 0..len.div_ceil(4) {
@@ -158,14 +160,15 @@ fn has_body(rows: &Rows, shape: &Shape, row: u8, k: u32, len: usize) -> bool
 fn body_at(rows: &Rows, shape: &Shape, row: u8, k: u32, len: usize) -> Option<Message>
     requires shape { HasShape shape.now rows.now }
     requires row { row < rows.now.members }
-    requires len { len ≤ MAX_MESSAGE }
+    requires len { len ≤ MAX_MESSAGE_LENGTH }
     ensures { let body = map (slot_of shape.now.window rows.now row k) (range_with_len 1 (div_ceil len 4)) in
         MatchOption result
         (list_all (is_of k) body ≡ false)
-        (λ message. (list_all (is_of k) body ≡ true) × (message ≡ take len (bytes_of (map ring_low body)))) }
+        (λ message. (list_all (is_of k) body ≡ true)
+        × (message ≡ take len (bytes_of (map ring_low body)))) }
 {
     let slot = slot_at(shape, k);
-    let mut bytes = [0; MAX_MESSAGE];
+    let mut bytes = [0; MAX_MESSAGE_LENGTH];
     for part in 0..len.div_ceil(4) {
         let piece = piece_at(rows, row, shape.body_column(slot, part as u8), k)?;
         bytes[4 * part..4 * part + 4].copy_from_slice(&piece.to_be_bytes());
@@ -176,7 +179,7 @@ fn body_at(rows: &Rows, shape: &Shape, row: u8, k: u32, len: usize) -> Option<Me
 // The bytes from `4 * part` on as a number; behind the end they are 0.
 #[inline]
 fn piece_of(bytes: &[u8], part: usize) -> u32
-    requires { part < 16 }
+    requires { part + 1 < PIECES }
     ensures { result ≡ body_piece bytes.now part }
 {
     let from = 4 * part;
@@ -195,7 +198,7 @@ fn piece_of(bytes: &[u8], part: usize) -> u32
 // The same where fewer than four bytes are left.
 #[cold]
 fn last_piece_of(bytes: &[u8], part: usize) -> u32
-    requires { part < 16 }
+    requires { part + 1 < PIECES }
     ensures { result ≡ body_piece bytes.now part }
 {
     let byte = |i: usize| bytes.get(4 * part + i).copied().unwrap_or(0);

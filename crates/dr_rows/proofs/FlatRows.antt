@@ -13,28 +13,33 @@ use Rattle.dr_rows.proofs.Grids.{same_grids, with_word-same, with_word-row, with
 abbrev row_in : ℕ → List ℕ → ℕ → List ℕ
 row_in k flat i = map (λ c. slice_index flat (i * k + c)) (range_with_len 0 k)
 
-pub row_of-rows_of : (n k : ℕ) (flat : List ℕ) (i : ℕ) (d : List ℕ) → i < n → get_or (rows_of n k flat) i d ≡ row_in k flat i
+-- each row of the grid is a run of the vector
+row_of-rows_of : (n k : ℕ) (flat : List ℕ) (i : ℕ) (d : List ℕ) → i < n
+    → get_or (rows_of n k flat) i d ≡ row_in k flat i
 unfolding rows_of
 row_of-rows_of n k flat i d h = get_or-map-range_with_len (row_in k flat) 0 n i i d h (omega arith)
 
 -- a word of the grid is the one at its place in the vector
-pub word_at-rows_of : (n k : ℕ) (flat : List ℕ) (i c : ℕ) → i < n → c < k → word_at (rows_of n k flat) i c ≡ slice_index flat (i * k + c)
+pub word_at-rows_of : (n k : ℕ) (flat : List ℕ) (i c : ℕ) → i < n → c < k
+    → word_at (rows_of n k flat) i c ≡ slice_index flat (i * k + c)
 word_at-rows_of n k flat i c h g =
     ap (λ row. get_or row c 0) (row_of-rows_of n k flat i [] h)
     ∙ get_or-map-range_with_len (λ c. slice_index flat (i * k + c)) 0 k c c 0 g (omega arith)
 
 -- the rows of a vector are a grid
-pub IsGrid-rows_of : (n k : ℕ) (flat : List ℕ) → IsGrid n k (rows_of n k flat)
+IsGrid-rows_of : (n k : ℕ) (flat : List ℕ) → IsGrid n k (rows_of n k flat)
 unfolding rows_of
 IsGrid-rows_of n k flat =
     let height : length (rows_of n k flat) ≡ n = length-map-range_with_len (row_in k flat) 0 n in
     record {
       height = height;
-      width = λ i d h. ap length (row_of-rows_of n k flat i d (omega (arith, height))) ∙ length-map-range_with_len (λ c. slice_index flat (i * k + c)) 0 k;
+      width = λ i d h. ap length (row_of-rows_of n k flat i d (omega (arith, height)))
+          ∙ length-map-range_with_len (λ c. slice_index flat (i * k + c)) 0 k;
     }
 
 -- a write at a place of the vector is a write to the grid
-pub rows_of-set : (n k : ℕ) (flat : List ℕ) (i c v : ℕ) → length flat ≡ n * k → i < n → c < k → rows_of n k (set flat (i * k + c) v) ≡ with_word (rows_of n k flat) i c v
+pub rows_of-set : (n k : ℕ) (flat : List ℕ) (i c v : ℕ) → length flat ≡ n * k → i < n → c < k
+    → rows_of n k (set flat (i * k + c) v) ≡ with_word (rows_of n k flat) i c v
 rows_of-set n k flat i c v full h g =
     let grid = IsGrid-rows_of n k flat in
     same_grids n k (rows_of n k (set flat (i * k + c) v)) (with_word (rows_of n k flat) i c v)
@@ -44,9 +49,13 @@ rows_of-set n k flat i c v full h g =
     let new = word_at-rows_of n k (set flat (i * k + c) v) j d hj hd in
     let old = word_at-rows_of n k flat j d hj hd in
     elim (cases_eq d c) [
-      | inr apart ↦ new ∙ get_or-set_other flat (i * k + c) (j * k + d) v 0 (λ e. apart (same_from_place j d i c k hd g e).1) ∙ sym old ∙ sym (with_word-column (rows_of n k flat) i c v j d apart)
+      | inr apart ↦ new ∙ get_or-set_other flat (i * k + c) (j * k + d) v 0
+          (λ e. apart (same_from_place j d i c k hd g e).1) ∙ sym old
+          ∙ sym (with_word-column (rows_of n k flat) i c v j d apart)
       | inl same_column ↦ elim (cases_eq j i) [
-        | inr apart ↦ new ∙ get_or-set_other flat (i * k + c) (j * k + d) v 0 (λ e. apart (same_from_place j d i c k hd g e).0) ∙ sym old ∙ sym (ap (λ row. get_or row d 0) (with_word-row (rows_of n k flat) i c v j apart))
+        | inr apart ↦ new ∙ get_or-set_other flat (i * k + c) (j * k + d) v 0
+            (λ e. apart (same_from_place j d i c k hd g e).0) ∙ sym old
+            ∙ sym (ap (λ row. get_or row d 0) (with_word-row (rows_of n k flat) i c v j apart))
         | inl same_row ↦
             let there = word_at-rows_of n k (set flat (i * k + c) v) i c h g
             ∙ get_or-set_same flat (i * k + c) v 0 (omega (arith, mul-add-lt i k c n h g))
@@ -58,6 +67,9 @@ rows_of-set n k flat i c v full h g =
 -- a vector of zeros holds rows of zeros
 pub rows_of-zeros : (n k : ℕ) → rows_of n k (replicate (n * k) 0) ≡ zeros n k
 rows_of-zeros n k =
-    same_grids n k (rows_of n k (replicate (n * k) 0)) (zeros n k) (IsGrid-rows_of n k (replicate (n * k) 0)) (IsGrid-zeros n k)
-    (λ i c h g. word_at-rows_of n k (replicate (n * k) 0) i c h g ∙ get_or-replicate (n * k) (i * k + c) 0 0 (omega (arith, mul-add-lt i k c n h g))
-    ∙ sym (ap (λ row. get_or row c 0) (get_or-replicate n i (replicate k 0) [] h) ∙ get_or-replicate k c 0 0 g))
+    same_grids n k (rows_of n k (replicate (n * k) 0)) (zeros n k)
+    (IsGrid-rows_of n k (replicate (n * k) 0)) (IsGrid-zeros n k)
+    (λ i c h g. word_at-rows_of n k (replicate (n * k) 0) i c h g
+    ∙ get_or-replicate (n * k) (i * k + c) 0 0 (omega (arith, mul-add-lt i k c n h g))
+    ∙ sym (ap (λ row. get_or row c 0) (get_or-replicate n i (replicate k 0) [] h)
+    ∙ get_or-replicate k c 0 0 g))

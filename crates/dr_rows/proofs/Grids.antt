@@ -1,5 +1,5 @@
 -- Rows of words as a grid: what stands at each place, also after a write.
-use Rattle.std.proofs.Common.{◌≡◌, ◌≢◌, ℕ, ◌<◌, inl, inr, List, [], length, get_or, set, replicate, sym, ap, ◌∙◌, arith}
+use Rattle.std.proofs.Common.{◌≡◌, ◌≢◌, ℕ, ◌<◌, ◌⊎◌, inl, inr, List, [], length, get_or, set, replicate, sym, ap, ◌∙◌, arith}
 use Rattle.std.proofs.lemmas.Bool.{cases_eq, cases_lt}
 use Rattle.std.proofs.lemmas.Grind.{common_steps, same_number_lists}
 use Rattle.std.proofs.lemmas.List.{get_or-set_same, get_or-set_other, get_or_default, length-set, length-replicate, same_lists, set_past}
@@ -15,31 +15,56 @@ same_grids n k xs ys p q same = same_lists xs ys (p.height ∙ sym q.height) (λ
     let left = get_or_default xs i d [] h in
     let right = get_or_default ys i d [] (omega (arith, p.height, q.height)) in
     same_number_lists (get_or xs i d) (get_or ys i d) (x ∙ sym y)
-    (λ c g. ap (λ row. get_or row c 0) left ∙ same i c (omega (arith, p.height)) (omega (arith, x)) ∙ sym (ap (λ row. get_or row c 0) right)))
+    (λ c g. ap (λ row. get_or row c 0) left ∙ same i c (omega (arith, p.height)) (omega (arith, x))
+    ∙ sym (ap (λ row. get_or row c 0) right)))
 
 -- the word that was written stands at its place
-pub with_word-same : (n k : ℕ) (rows : List (List ℕ)) (i c v : ℕ) → IsGrid n k rows → i < n → c < k → word_at (with_word rows i c v) i c ≡ v
+pub with_word-same : (n k : ℕ) (rows : List (List ℕ)) (i c v : ℕ) → IsGrid n k rows → i < n
+    → c < k → word_at (with_word rows i c v) i c ≡ v
 with_word-same n k rows i c v p h g =
-    ap (λ row. get_or row c 0) (get_or-set_same rows i (set (row_of rows i) c v) [] (omega (arith, p.height)))
+    ap (λ row. get_or row c 0) (get_or-set_same rows i (set (row_of rows i) c v) []
+    (omega (arith, p.height)))
     ∙ get_or-set_same (row_of rows i) c v 0 (omega (arith, p.width i [] (omega (arith, p.height))))
 
 -- a write to a row leaves the other rows
-pub with_word-row : (rows : List (List ℕ)) (i c v j : ℕ) → j ≢ i → row_of (with_word rows i c v) j ≡ row_of rows j
+pub with_word-row : (rows : List (List ℕ)) (i c v j : ℕ) → j ≢ i
+    → row_of (with_word rows i c v) j ≡ row_of rows j
 with_word-row rows i c v j other = get_or-set_other rows i j (set (row_of rows i) c v) [] other
 
 -- a write to a column leaves the words of the other columns
-pub with_word-column : (rows : List (List ℕ)) (i c v j d : ℕ) → d ≢ c → word_at (with_word rows i c v) j d ≡ word_at rows j d
+pub with_word-column : (rows : List (List ℕ)) (i c v j d : ℕ) → d ≢ c
+    → word_at (with_word rows i c v) j d ≡ word_at rows j d
 with_word-column rows i c v j d other =
     elim (cases_eq j i) [
       | inr apart ↦ ap (λ row. get_or row d 0) (with_word-row rows i c v j apart)
       | inl same ↦ elim (cases_lt i (length rows)) [
-        | inl within ↦ grind (arith, common_steps, get_or-set_same rows i (set (row_of rows i) c v) [] within, get_or-set_other (row_of rows i) c d v 0 other)
+        | inl within ↦ grind (
+          arith,
+          common_steps,
+          get_or-set_same rows i (set (row_of rows i) c v) [] within,
+          get_or-set_other (row_of rows i) c d v 0 other,
+        )
         | inr past ↦ ap (λ xs. word_at xs j d) (set_past rows i (set (row_of rows i) c v) past)
       ]
     ]
 
+-- a word is as before the write, or is the one that was written to its column
+pub with_word_either : (n k : ℕ) (rows : List (List ℕ)) (i c v j d : ℕ) → IsGrid n k rows → i < n
+    → c < k
+    → (word_at (with_word rows i c v) j d ≡ word_at rows j d)
+    ⊎ ((d ≡ c) × (word_at (with_word rows i c v) j d ≡ v))
+with_word_either n k rows i c v j d grid h g =
+    elim (cases_eq d c) [
+      | inr apart ↦ inl (with_word-column rows i c v j d apart)
+      | inl same ↦ elim (cases_eq j i) [
+        | inr apart ↦ inl (ap (λ row. get_or row d 0) (with_word-row rows i c v j apart))
+        | inl here ↦ let there = with_word-same n k rows i c v grid h g in inr (same, cc)
+      ]
+    ]
+
 -- a write keeps the grid
-pub IsGrid-with_word : (n k : ℕ) (rows : List (List ℕ)) (i c v : ℕ) → IsGrid n k rows → i < n → IsGrid n k (with_word rows i c v)
+pub IsGrid-with_word : (n k : ℕ) (rows : List (List ℕ)) (i c v : ℕ) → IsGrid n k rows → i < n
+    → IsGrid n k (with_word rows i c v)
 IsGrid-with_word n k rows i c v p h = record {
   height = length-set rows i (set (row_of rows i) c v) ∙ p.height;
   width = All-set (λ row. length row ≡ k) rows i (set (row_of rows i) c v)

@@ -1,4 +1,4 @@
 pub mod Grids
 mod FlatRows
 pub mod WordsLemmas
-mod InsideLemmas
+mod Vectors

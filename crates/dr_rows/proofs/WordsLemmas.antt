@@ -7,6 +7,7 @@ use Rattle.dr_rows.specs.Words.{Words, IsWords, begun, looked, pushed, own, word
 use Rattle.dr_rows.specs.Growth.{IsFresh}
 use Rattle.dr_rows.proofs.Grids.{IsGrid-with_word, IsGrid-zeros}
 
+-- the words of the beginning have their form
 pub IsWords-begun : (n k me : ℕ) → n ≤ 16 → k ≤ 1024 → me < n → IsWords (begun n k me)
 IsWords-begun n k me few narrow present = record {
   few = few;
@@ -18,6 +19,7 @@ IsWords-begun n k me few narrow present = record {
   alive = get_or-replicate n me false false present;
 }
 
+-- a look keeps the form of the words
 pub IsWords-looked : (w : Words) (i c v : ℕ) → IsWords w → i < w.members → IsWords (looked w i c v)
 IsWords-looked w i c v form within = record {
   few = form.few;
@@ -29,6 +31,7 @@ IsWords-looked w i c v form within = record {
   alive = form.alive;
 }
 
+-- a push keeps the form of the words
 pub IsWords-pushed : (w : Words) (j c : ℕ) → IsWords w → j < w.members → IsWords (pushed w j c)
 IsWords-pushed w j c form within = record {
   few = form.few;
@@ -52,13 +55,17 @@ copy_at n x i =
 word_at-zeros : (n k i c : ℕ) → word_at (zeros n k) i c ≡ 0
 word_at-zeros n k i c =
     elim (cases_lt i n) [
-      | inl within ↦ ap (λ row. get_or row c 0) (get_or-replicate n i (replicate k 0) [] within) ∙ copy_at k 0 c
-      | inr past ↦ ap (λ row. get_or row c 0) (get_or_past (zeros n k) i [] (omega (arith, length-replicate n (replicate {A = ℕ} k 0))))
+      | inl within ↦ ap (λ row. get_or row c 0) (get_or-replicate n i (replicate k 0) [] within)
+          ∙ copy_at k 0 c
+      | inr past ↦ ap (λ row. get_or row c 0)
+          (get_or_past (zeros n k) i [] (omega (arith, length-replicate n (replicate {A = ℕ} k 0))))
     ]
 
+-- the words of the beginning are fresh
 pub IsFresh-begun : (n k me : ℕ) → IsFresh (begun n k me)
 IsFresh-begun n k me = record {
   zero = word_at-zeros n k;
   unfrozen = copy_at n false;
-  unchanged = λ j c. let here = word_at-zeros n k me c in let there = word_at-zeros n k j c in grind (arith, nat_tests);
+  unchanged = λ j c. let here = word_at-zeros n k me c in let there = word_at-zeros n k j c in
+      grind (arith, nat_tests);
 }

@@ -6,7 +6,8 @@ use Rattle.dr_rows.specs.declared.rows.Rows.TheInside.{Inside}
 
 -- the rows of a vector that has them one after another
 unfoldable pub rows_of : ℕ → ℕ → List ℕ → List (List ℕ)
-rows_of n k flat = map (λ i. map (λ c. slice_index flat (i * k + c)) (range_with_len 0 k)) (range_with_len 0 n)
+rows_of n k flat = map (λ i. map (λ c. slice_index flat (i * k + c)) (range_with_len 0 k))
+    (range_with_len 0 n)
 
 -- the words that the fields mean
 abbrev pub view_of : Inside → Words

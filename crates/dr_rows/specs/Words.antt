@@ -1,7 +1,9 @@
 -- What `Rows` is to its callers: the words that one member has, and sees of the others.
 use Rattle.std.specs.Prelude.{◌≡◌, ℕ, ◌<◌, ◌≤◌, ◌==◌, Bool, true, false, not, List, [], All, length, replicate, slice_index, slice_index_or, slice_set}
+use Rattle.dr_entry.specs.declared.limits.TheConstants.{MAX_MEMBERS}
 
--- the numbers of members and of columns, the own member, and by member the row of words (the own row has the own words),
+-- the numbers of members and of columns, the own member, and by member the row of words (the own row has
+-- the own words),
 -- the words that were last pushed to that member, and whether its row is frozen
 pub record Words : Type 0 where
   pub members : ℕ
@@ -85,7 +87,7 @@ pub record IsGrid (n k : ℕ) (rows : List (List ℕ)) : Type 0 where
 
 -- the form that the words of `Rows` always have
 pub record IsWords (w : Words) : Type 0 where
-  pub few : w.members ≤ 16
+  pub few : w.members ≤ MAX_MEMBERS
   pub narrow : w.columns ≤ 1024
   pub present : w.me < w.members
   pub rows : IsGrid w.members w.columns w.words

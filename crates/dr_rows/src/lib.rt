@@ -4,6 +4,3 @@
 mod rows;
 
 pub use rows::Rows;
-
-#[cfg(test)]
-mod tests;

@@ -1,5 +1,6 @@
 ghost use Rattle.std.specs.Prelude.{◌≡◌, ◌≢◌, ◌+◌, ◌*◌, ◌<◌, ◌≤◌, false, IfOk};
 
+use dr_entry::MAX_MEMBERS;
 use std::alloc::{AllocError, Global};
 use std::marker::Model;
 
@@ -33,10 +34,10 @@ impl Rows {
     ghost use Rattle.dr_rows.specs.Growth.{HasGrown, IsFresh};
     ghost use Rattle.dr_rows.specs.Words.{IsWords, begun, changed, is_frozen, last_pushed, looked, own, pushed, renewed, seen, with_frozen, with_own};
 
-    /// The rows of member `me` in a group of 1 to 16 members, with at most 1,024 columns. All
-    /// words are 0, and no row is frozen. No later call takes memory.
+    /// The rows of member `me` in a group of 1 to [`MAX_MEMBERS`] members, with at most 1,024 columns.
+    /// All words are 0, and no row is frozen. No later call takes memory.
     pub fn new(alloc: Global, members: u8, columns: usize, me: u8) -> Result<Rows, AllocError>
-        requires members { members ≤ 16 }
+        requires members { members ≤ MAX_MEMBERS }
         requires columns { columns ≤ 1024 }
         requires me { me < members }
         ensures begun { IfOk result (λ rows. rows ≡ begun members columns me) }

@@ -10,5 +10,6 @@ use Rattle.dr_script.specs.Json.{list_of}
 use Rattle.dr_script.specs.Rules.{are_lists}
 
 -- as many arrays as members, by the values of an array
-pub are_lists_map : (members : ℕ) (vs : List Value) → are_lists members (map view vs) ≡ ((length vs == members) && list_all (λ v. is_some (list_of (view v))) vs)
+pub are_lists_map : (members : ℕ) (vs : List Value) → are_lists members (map view vs)
+    ≡ ((length vs == members) && list_all (λ v. is_some (list_of (view v))) vs)
 are_lists_map members vs = rw (length-map, list_all-map) refl

@@ -16,7 +16,8 @@ path_text Patience = codes "/patience"
 path_text Ages = codes "/ages"
 path_text Messages = codes "/messages"
 path_text (Texts member) = concat (codes "/messages/" ∷ decimal member ∷ [])
-path_text (Text member index) = concat (codes "/messages/" ∷ decimal member ∷ codes "/" ∷ decimal index ∷ [])
+path_text (Text member index) =
+    concat (codes "/messages/" ∷ decimal member ∷ codes "/" ∷ decimal index ∷ [])
 path_text Faults = codes "/faults"
 path_text (Fault index) = concat (codes "/faults/" ∷ decimal index ∷ [])
 path_text Schedule = codes "/schedule"

@@ -4,6 +4,7 @@ use Rattle.std.specs.Prelude.{ℕ, List, [], ◌∷◌, ◌++◌, length, Bool, 
 use Rattle.std.specs.List.{list_all}
 use Rattle.std.specs.Option.{option_map_or}
 use Rattle.std.specs.Str.{bytes_eq}
+use Rattle.dr_entry.specs.declared.limits.TheConstants.{MAX_MEMBERS, MAX_MESSAGE_LENGTH, MAX_MESSAGES}
 use Rattle.serde_json.specs.Data.{Data, number, string}
 use Rattle.serde_json.specs.Find.{get, as_u64, as_str, as_object}
 use Rattle.dr_script.specs.declared.script.Schedule.{Schedule}
@@ -20,7 +21,8 @@ use Rattle.dr_script.specs.Places.{unless, each, broken_at, or_else}
 
 -- the keys of a script
 abbrev pub script_keys : List (List ℕ)
-script_keys = codes "members" ∷ codes "window" ∷ codes "turns" ∷ codes "patience" ∷ codes "ages" ∷ codes "messages" ∷ codes "faults" ∷ codes "schedule" ∷ []
+script_keys = codes "members" ∷ codes "window" ∷ codes "turns" ∷ codes "patience" ∷ codes "ages"
+    ∷ codes "messages" ∷ codes "faults" ∷ codes "schedule" ∷ []
 
 -- 1: it is an object
 abbrev pub object_breaks : Data → List Place
@@ -32,7 +34,7 @@ keys_breaks d = unless (has_exactly script_keys d) places.Whole
 
 -- members, where it is whole, 1 to 16
 abbrev pub members_of : Data → Option ℕ
-members_of = number_at (codes "members") 1 16
+members_of = number_at (codes "members") 1 MAX_MEMBERS
 
 -- 3: members is whole, 1 to 16
 abbrev pub members_breaks : Data → List Place
@@ -98,7 +100,7 @@ lists_in d = unwrap_or (lists_of (sizes_of d).members d) []
 
 -- an array has at most 4096 elements
 abbrev pub is_short : Data → Bool
-is_short list = nat_le (length (elements_of list)) 4096
+is_short list = nat_le (length (elements_of list)) MAX_MESSAGES
 
 -- the arrays that are longer
 abbrev pub long_breaks : List Data → List Place
@@ -110,7 +112,7 @@ texts_breaks d = long_breaks (lists_in d)
 
 -- a text, where it has at most 64 bytes
 abbrev pub text_of : Data → Option (List ℕ)
-text_of d = as_str d >>= (λ bytes. only_if (nat_le (length bytes) 64) bytes)
+text_of d = as_str d >>= (λ bytes. only_if (nat_le (length bytes) MAX_MESSAGE_LENGTH) bytes)
 
 -- the elements of a member's array that are no such texts
 abbrev pub member_breaks : ℕ → List Data → List Place
@@ -130,7 +132,8 @@ few_faults_of d = list_at (codes "faults") d >>= (λ faults. only_if (nat_le (le
 
 -- an object with exactly age, member and one of crash and suspect
 abbrev pub is_fault : Data → Bool
-is_fault d = has_exactly (codes "age" ∷ codes "member" ∷ codes "crash" ∷ []) d || has_exactly (codes "age" ∷ codes "member" ∷ codes "suspect" ∷ []) d
+is_fault d = has_exactly (codes "age" ∷ codes "member" ∷ codes "crash" ∷ []) d
+    || has_exactly (codes "age" ∷ codes "member" ∷ codes "suspect" ∷ []) d
 
 -- the elements that are none
 abbrev pub form_breaks : List Data → List Place
@@ -182,7 +185,8 @@ suspect_of sizes member d = do
 
 -- the one of them that a fault has
 abbrev pub what_of : Sizes → ℕ → Data → Option What
-what_of sizes member d = if is_some (get (codes "crash") d) then crash_of sizes d else suspect_of sizes member d
+what_of sizes member d = if is_some
+    (get (codes "crash") d) then crash_of sizes d else suspect_of sizes member d
 
 -- the fault that an element is
 abbrev pub fault_of : Sizes → Data → Option Fault
@@ -224,7 +228,8 @@ shape_rules = (1, object_breaks) ∷ (2, keys_breaks) ∷ []
 
 -- those on the numbers
 abbrev pub size_rules : List Rule
-size_rules = (3, members_breaks) ∷ (4, window_breaks) ∷ (5, turns_breaks) ∷ (6, patience_breaks) ∷ (7, ages_breaks) ∷ []
+size_rules = (3, members_breaks) ∷ (4, window_breaks) ∷ (5, turns_breaks) ∷ (6, patience_breaks)
+    ∷ (7, ages_breaks) ∷ []
 
 -- those on the messages
 abbrev pub message_rules : List Rule

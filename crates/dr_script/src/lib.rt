@@ -18,6 +18,3 @@ mod sizes;
 pub use reading::{MAX_SCRIPT, read_script};
 pub use refusal::ScriptFault;
 pub use script::{Fault, Schedule, Script, What};
-
-#[cfg(test)]
-mod tests;

@@ -10,11 +10,9 @@ ghost use Rattle.dr_script.specs.Reading.{messages_in};
 use crate::json::{elements_of, list_at, list_of};
 use crate::place::{Broken, Place};
 use crate::refusal::Stop;
-use dr_entry::{Message, Seq};
+use dr_entry::{MAX_MESSAGES, Message, Seq};
 use serde_json::Value;
 use std::alloc::Global;
-
-const MAX_MESSAGES: usize = 4096;
 
 /// The messages of the script's members, by the rules 8 to 10.
 pub(crate) fn messages_of(

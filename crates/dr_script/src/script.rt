@@ -3,7 +3,7 @@ use dr_entry::{Message, Seq};
 /// What a group is to do: its members, what they send, and which of them fail.
 #[derive(Debug, PartialEq, Eq, Drop)]
 pub struct Script {
-    /// The number of members, 1 to 16.
+    /// The number of members, 1 to `MAX_MEMBERS`.
     pub members: u8,
     /// How many items of a member its ring holds, 1 to 8.
     pub window: u8,
@@ -14,7 +14,7 @@ pub struct Script {
     pub patience: u32,
     /// The number of ages of the run, 1 to 16.
     pub ages: u8,
-    /// For each member, ascending, its messages in order: at most 4,096 of at most 64 bytes.
+    /// For each member, ascending, its messages in order: at most `MAX_MESSAGES` of them.
     pub messages: Seq<Seq<Message>>,
     /// The failures, at most 256, in the order of the text.
     pub faults: Seq<Fault>,

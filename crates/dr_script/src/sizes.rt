@@ -4,6 +4,7 @@ ghost use Rattle.dr_script.specs.Rules.{members_of, window_of, turns_of, patienc
 
 use crate::json::number_at;
 use crate::place::{Broken, Place};
+use dr_entry::MAX_MEMBERS;
 use serde_json::Value;
 
 /// The five numbers of a script.
@@ -50,7 +51,7 @@ pub(crate) fn sizes_of(value: &Value) -> Result<Sizes, Broken>
 fn members_of(value: &Value) -> Option<u8>
     ensures { result ≡ members_of (view value.now) }
 {
-    let members = number_at(value, "members", 1, 16)?;
+    let members = number_at(value, "members", 1, MAX_MEMBERS as u32)?;
     Some(members as u8)
 }
 

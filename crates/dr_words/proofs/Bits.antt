@@ -1,13 +1,8 @@
 -- The members of masks that bit operations make.
 use Rattle.std.proofs.Common.{◌≡◌, ◌≢◌, ℕ, ◌-◌, ◌*◌, ◌/◌, ◌%◌, ◌^◌, ◌<◌, ◌≤◌, ◌==◌, ◌&&◌, ◌||◌, not, nat_lt, false, ap, ◌∙◌, ◌⊎◌, inl, inr, w16, bit_and, bit_or, arith}
+use Rattle.std.proofs.lemmas.Bool.{cases_eq, cases_lt}
 use Rattle.std.proofs.lemmas.Nat.Bits.{bit_at-lt, bit_at-zero, bit_at_and, bit_at_not, bit_at_above, bit_at_ones, bit_at_ones_above, bit_at_set_same, bit_at_set_other, ones_shr}
 use Rattle.dr_history.specs.Members.{has}
-
-eq_or_not : (a b : ℕ) → (a ≡ b) ⊎ (a ≢ b)
-eq_or_not a b = grind arith
-
-pub below_or_not : (a b : ℕ) → (a < b) ⊎ (b ≤ a)
-below_or_not a b = grind arith
 
 -- nobody is in the mask 0
 pub has_zero : (n : ℕ) → has 0 n ≡ false
@@ -15,31 +10,40 @@ has_zero n = grind (arith, bit_at-zero n)
 
 -- a run of ones holds the members below its length
 pub has_ones : (k n : ℕ) → has (2 ^ k - 1) n ≡ nat_lt n k
-has_ones k n = by (below_or_not n k)
+has_ones k n = by (cases_lt n k)
   where
     by : (n < k) ⊎ (k ≤ n) → has (2 ^ k - 1) n ≡ nat_lt n k
     by (inl l) = grind (arith, bit_at_ones k n l)
     by (inr l) = grind (arith, bit_at_ones_above k n l)
 
 -- the mask of a roster's members is such a run
-pub ones_of : (members : ℕ) → 1 ≤ members → members ≤ 16 → 65535 / 2 ^ (16 - members) ≡ 2 ^ members - 1
+pub ones_of : (members : ℕ) → 1 ≤ members → members ≤ 16
+    → 65535 / 2 ^ (16 - members) ≡ 2 ^ members - 1
 ones_of members p q =
     let e : 16 - (16 - members) ≡ members = omega arith in
     let l : 16 - members ≤ 16 = omega arith in
     ones_shr 16 (16 - members) l ∙ ap (λ (x : ℕ). 2 ^ x - 1) e
 
 -- a bit set adds its member alone
-pub has_with : (m k : ℕ) → k < 16 → (i : ℕ) → has (bit_or m (1 * 2 ^ k % 2 ^ 16)) i ≡ (i == k || has m i)
-has_with m k l i = by (eq_or_not i k)
+pub has_with : (m k : ℕ) → k < 16 → (i : ℕ)
+    → has (bit_or m (1 * 2 ^ k % 2 ^ 16)) i ≡ (i == k || has m i)
+has_with m k l i = by (cases_eq i k)
   where
     by : (i ≡ k) ⊎ (i ≢ k) → has (bit_or m (1 * 2 ^ k % 2 ^ 16)) i ≡ (i == k || has m i)
     by (inl e) = grind (arith, bit_at_set_same w16 m k l)
     by (inr d) = grind (arith, bit_at_set_other w16 m k l i d)
 
 -- the bits of another mask taken away
-pub has_without : (m o : ℕ) → m < 2 ^ 16 → o < 2 ^ 16 → (i : ℕ) → has (bit_and m (65535 - o)) i ≡ (has m i && not (has o i))
-has_without m o p q i = by (below_or_not i 16)
+pub has_without : (m o : ℕ) → m < 2 ^ 16 → o < 2 ^ 16 → (i : ℕ)
+    → has (bit_and m (65535 - o)) i ≡ (has m i && not (has o i))
+has_without m o p q i = by (cases_lt i 16)
   where
     by : (i < 16) ⊎ (16 ≤ i) → has (bit_and m (65535 - o)) i ≡ (has m i && not (has o i))
-    by (inl l) = grind (arith, bit_at_and m (65535 - o) i, bit_at_not w16 o i q l, bit_at-lt m i, bit_at-lt o i)
+    by (inl l) = grind (
+      arith,
+      bit_at_and m (65535 - o) i,
+      bit_at_not w16 o i q l,
+      bit_at-lt m i,
+      bit_at-lt o i,
+    )
     by (inr l) = grind (arith, bit_at_and m (65535 - o) i, bit_at_above m 16 i p l)

@@ -1,5 +1,8 @@
 pub mod Bits
 pub mod Ranks
-pub mod Meeting
+pub mod Majorities
 pub mod Places
+pub mod Tests
+pub mod Forms
 pub mod Order
+pub mod Lasting

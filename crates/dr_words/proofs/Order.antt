@@ -1,25 +1,39 @@
 -- Growth is reflexive and transitive, and a mask that grows is no smaller a number.
-use Rattle.std.proofs.Common.{◌≡◌, ℕ, ◌≤◌, refl, ◌∙◌, subst, Bool, List, le_refl, le_trans, arith, bit_and}
+use Rattle.std.proofs.Common.{◌≡◌, ℕ, ◌≤◌, refl, sym, ◌∙◌, subst, Bool, List, le_refl, le_trans, arith, bit_and}
 use Rattle.std.specs.Int.{bit_at}
 use Rattle.std.proofs.lemmas.Nat.{and_le_r}
 use Rattle.std.proofs.lemmas.Nat.Bits.{bit_at_and, bit_at-lt, same_from_bits}
 use Rattle.dr_words.specs.Masks.{IsPartOf}
 use Rattle.dr_words.specs.Grown.{HasGrown, Grown}
 
+-- a word has grown from itself
 pub HasGrown_refl : (members column word : ℕ) → HasGrown members column word word
-HasGrown_refl members column word = record { number = le_refl word; suspected = λ e i h. h; final = λ s l e h. refl }
+HasGrown_refl members column word =
+    record { number = le_refl word; suspected = λ e i h. h; final = λ s l e h. refl }
 
-pub HasGrown_trans : (members column a b c : ℕ) → HasGrown members column a b → HasGrown members column b c → HasGrown members column a c
+-- an equal word has grown
+pub HasGrown_same : (members column old new : ℕ) → new ≡ old → HasGrown members column old new
+HasGrown_same members column old new same =
+    subst (λ (v : ℕ). HasGrown members column old v) (sym same) (HasGrown_refl members column old)
+
+-- a word that has grown twice has grown
+pub HasGrown_trans : (members column a b c : ℕ) → HasGrown members column a b
+    → HasGrown members column b c → HasGrown members column a c
 HasGrown_trans members column a b c p q = record {
   number = le_trans p.number q.number;
   suspected = λ e i h. q.suspected e i (p.suspected e i h);
   final = λ s l e h. let same = p.final s l e h in q.final s l e (rw same h) ∙ same;
 }
 
-pub Grown_refl : (members : ℕ) (rows : List (List ℕ)) (marks : List Bool) → Grown members rows rows marks marks
-Grown_refl members rows marks = record { words = λ i c. HasGrown_refl members c _; frozen = λ i h. h; still = λ i h. refl }
+-- rows have grown from themselves
+pub Grown_refl : (members : ℕ) (rows : List (List ℕ)) (marks : List Bool)
+    → Grown members rows rows marks marks
+Grown_refl members rows marks =
+    record { words = λ i c. HasGrown_refl members c _; frozen = λ i h. h; still = λ i h. refl }
 
-pub Grown_trans : (members : ℕ) (a b c : List (List ℕ)) (x y z : List Bool) → Grown members a b x y → Grown members b c y z
+-- rows that have grown twice have grown
+pub Grown_trans : (members : ℕ) (a b c : List (List ℕ)) (x y z : List Bool) → Grown members a b x y
+    → Grown members b c y z
     → Grown members a c x z
 Grown_trans members a b c x y z p q = record {
   words = λ i k. HasGrown_trans members k _ _ _ (p.words i k) (q.words i k);
@@ -29,7 +43,8 @@ Grown_trans members a b c x y z p q = record {
 
 -- a mask is no greater a number than one that it is a part of
 pub IsPartOf-le : (part whole : ℕ) → IsPartOf part whole → part ≤ whole
-IsPartOf-le part whole p = subst (λ (x : ℕ). x ≤ whole) (same_from_bits (bit_and part whole) part same) (and_le_r part whole)
+IsPartOf-le part whole p = subst (λ (x : ℕ). x ≤ whole) (same_from_bits (bit_and part whole) part same)
+    (and_le_r part whole)
   where
     same : (i : ℕ) → bit_at (bit_and part whole) i ≡ bit_at part i
     same i = grind (arith, bit_at_and part whole i, p i, bit_at-lt part i, bit_at-lt whole i)

@@ -16,10 +16,13 @@ pub record HasGrown (members column old new : ℕ) : Type 0 where
   pub final : (s : ℕ) → s < members → column ≡ recv_column s → is_final old ≡ true → new ≡ old
 
 -- rows have grown, of which some were frozen before, and some are now
-pub record Grown (members : ℕ) (old new : List (List ℕ)) (were_frozen are_frozen : List Bool) : Type 0 where
+pub record Grown (members : ℕ) (old new : List (List ℕ))
+    (were_frozen are_frozen : List Bool) : Type 0 where
   -- each word is as before or has grown
   pub words : (row column : ℕ) → HasGrown members column (word_at old row column) (word_at new row column)
   -- a frozen row stays frozen
-  pub frozen : (row : ℕ) → slice_index_or were_frozen row false ≡ true → slice_index_or are_frozen row false ≡ true
+  pub frozen : (row : ℕ) → slice_index_or were_frozen row false ≡ true
+      → slice_index_or are_frozen row false ≡ true
   -- and each of its words is as before
-  pub still : (row : ℕ) → slice_index_or were_frozen row false ≡ true → row_of new row ≡ row_of old row
+  pub still : (row : ℕ) → slice_index_or were_frozen row false ≡ true
+      → row_of new row ≡ row_of old row

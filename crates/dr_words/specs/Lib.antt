@@ -6,3 +6,4 @@ pub mod Packing
 pub mod Form
 pub mod Grown
 pub mod Counts
+pub mod Shapes

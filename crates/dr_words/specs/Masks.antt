@@ -1,5 +1,6 @@
 -- Parts, least members and majorities of masks.
 use Rattle.std.specs.Prelude.{◌≡◌, ℕ, ◌*◌, ◌<◌, ◌≤◌, true, length}
+use Rattle.dr_entry.specs.declared.limits.TheConstants.{MAX_MEMBERS}
 use Rattle.dr_history.specs.Members.{has, members_of}
 
 -- each member of the first mask is in the second
@@ -16,6 +17,6 @@ IsMajorityOf mask all = length (members_of all) < 2 * length (members_of mask)
 
 -- the member with the lowest number in the mask
 pub record IsLeastOf (mask n : ℕ) : Type 0 where
-  pub number : n < 16
+  pub number : n < MAX_MEMBERS
   pub member : has mask n ≡ true
   pub least : (i : ℕ) → has mask i ≡ true → n ≤ i

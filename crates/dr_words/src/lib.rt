@@ -1,6 +1,7 @@
 //! The words of a group's table: masks of members, the table's layout, and what each word packs.
 //!
-//! A member's number is below 16, and a group has 1 to 16 members. No call of this crate takes memory.
+//! A member's number is below `MAX_MEMBERS`, and a group has 1 to `MAX_MEMBERS` members. No call of this
+//! crate takes memory.
 #![tactic(auto)]
 
 mod column;
@@ -9,11 +10,11 @@ mod mask;
 mod shape;
 mod word;
 
-pub use column::{BEAT_COLUMN, DONE_COLUMN, LOGGED_COLUMN, RECEIVED_COLUMN, SUSPECTED_COLUMN};
+pub use column::{
+    BEAT_COLUMN, DONE_COLUMN, LOGGED_COLUMN, PIECES, RECEIVED_COLUMN, SUSPECTED_COLUMN, column_law,
+    layout_law,
+};
 pub use growth::growth_laws;
 pub use mask::{Mask, majorities_meet};
 pub use shape::Shape;
 pub use word::{pack_accept, pack_recv, pack_ring, unpack_accept, unpack_recv, unpack_ring};
-
-#[cfg(test)]
-mod tests;

@@ -2,6 +2,7 @@ ghost use Rattle.std.specs.Prelude.{◌≡◌, ℕ, ◌+◌, ◌-◌, ◌/◌, �
 ghost use Rattle.dr_history.specs.Members.{has, members_below, members_of};
 ghost use Rattle.dr_words.specs.Masks.{IsPartOf, IsLeastOf, IsMajorityOf};
 
+use dr_entry::MAX_MEMBERS;
 use std::marker::Model;
 
 /// Members of a group by number: member `n` belongs to the mask exactly where bit `n` is set.
@@ -50,7 +51,7 @@ impl Mask {
     #[inline]
     pub const fn all(members: u8) -> Mask
         requires some { 1 ≤ members }
-        requires most { members ≤ 16 }
+        requires most { members ≤ MAX_MEMBERS }
         ensures members { (n : ℕ) → has result n ≡ nat_lt n members }
         ensures bits { result ≡ 2 ^ members - 1 }
     {
@@ -60,7 +61,7 @@ impl Mask {
     /// Whether the member is in the mask.
     #[inline]
     pub const fn has(&self, n: u8) -> bool
-        requires { n < 16 }
+        requires { n < MAX_MEMBERS }
         ensures { result ≡ has self.now n }
     {
         (self.0 >> n) & 1 == 1
@@ -69,7 +70,7 @@ impl Mask {
     /// The mask with this member too.
     #[inline]
     pub const fn with(&self, n: u8) -> Mask
-        requires { n < 16 }
+        requires { n < MAX_MEMBERS }
         ensures members { (i : ℕ) → has result i ≡ (i == n || has self.now i) }
         ensures grows { self.now ≤ result }
     {
@@ -88,7 +89,7 @@ impl Mask {
     #[inline]
     pub const fn count(&self) -> u8
         ensures value { result ≡ length (members_of self.now) }
-        ensures most { result ≤ 16 }
+        ensures most { result ≤ MAX_MEMBERS }
     {
         self.0.count_ones() as u8
     }
@@ -109,7 +110,7 @@ impl Mask {
     /// The member's rank: the number of members of the mask with a lower number.
     #[inline]
     pub const fn rank_of(&self, n: u8) -> u8
-        requires number { n < 16 }
+        requires number { n < MAX_MEMBERS }
         requires member { has self.now n ≡ true }
         ensures rank { result ≡ length (members_below self.now n) }
         ensures below { result < length (members_of self.now) }
@@ -124,7 +125,7 @@ impl Mask {
         requires { r < length (members_of self.now) }
         ensures found { slice_get (members_of self.now) r ≡ Some result }
         ensures member { has self.now result ≡ true }
-        ensures number { result < 16 }
+        ensures number { result < MAX_MEMBERS }
         ensures rank { length (members_below self.now result) ≡ r }
     {
         let (number, rank) = narrow(self.0, 0, r, 8);
@@ -167,5 +168,6 @@ const fn narrow(bits: u16, from: u8, rank: u8, half: u8) -> (u8, u8)
 pub fn majorities_meet()
     ensures { (all one other : ℕ) → IsPartOf one all → IsPartOf other all
         → IsMajorityOf one all → IsMajorityOf other all
-        → (n : ℕ) × (n < 16) × (has all n ≡ true) × (has one n ≡ true) × (has other n ≡ true) }
+        → (n : ℕ) × (n < MAX_MEMBERS) × (has all n ≡ true) × (has one n ≡ true)
+        × (has other n ≡ true) }
 {}

@@ -1,19 +1,22 @@
-ghost use Rattle.std.specs.Prelude.{◌≡◌, ℕ, ◌<◌, ◌≤◌};
+ghost use Rattle.std.specs.Prelude.{◌≡◌, ℕ, ◌+◌, ◌<◌, ◌≤◌};
+ghost use Rattle.dr_entry.specs.declared.limits.TheConstants.{MAX_MEMBERS};
 ghost use Rattle.dr_words.specs.Columns.{columns_of, recv_column, leavers_column, trim_column, head_column, body_column};
 ghost use Rattle.dr_words.specs.Layout.{words_of, word_index_of};
+
+use crate::PIECES;
 
 /// The shape of a group's table: how many members the roster has, how many slots a ring has, and how
 /// many banks, one for each view of an age, there are.
 #[derive(Clone, Copy, Debug, PartialEq, Eq)]
 pub struct Shape {
-    /// The members of the roster, 1 to 16.
+    /// The members of the roster, 1 to `MAX_MEMBERS`.
     pub members: u8,
     /// The slots of a ring, 1 to 8.
     pub window: u8,
     /// The banks of the table.
     pub banks: u8,
     ghost some_member: { 1 ≤ members },
-    ghost most_members: { members ≤ 16 },
+    ghost most_members: { members ≤ MAX_MEMBERS },
     ghost some_slot: { 1 ≤ window },
     ghost most_slots: { window ≤ 8 },
 }
@@ -24,7 +27,7 @@ impl Shape {
     pub const fn columns(&self) -> usize
         ensures { result ≡ columns_of self.now.members self.now.window }
     {
-        6 + 2 * self.members as usize + 17 * self.window as usize
+        6 + 2 * self.members as usize + PIECES * self.window as usize
     }
 
     /// The number of words of the table.
@@ -92,17 +95,17 @@ impl Shape {
         ensures value { result ≡ head_column self.now.members slot }
         ensures within { result < columns_of self.now.members self.now.window }
     {
-        6 + 2 * self.members as usize + 17 * slot as usize
+        6 + 2 * self.members as usize + PIECES * slot as usize
     }
 
-    /// The column of a body word of a slot; `part` counts the 16 of them from 0.
+    /// The column of a body word of a slot; `part` counts them from 0.
     #[inline]
     pub const fn body_column(&self, slot: u8, part: u8) -> usize
         requires slot { slot < self.now.window }
-        requires part { part < 16 }
+        requires part { part + 1 < PIECES }
         ensures value { result ≡ body_column self.now.members slot part }
         ensures within { result < columns_of self.now.members self.now.window }
     {
-        7 + 2 * self.members as usize + 17 * slot as usize + part as usize
+        7 + 2 * self.members as usize + PIECES * slot as usize + part as usize
     }
 }

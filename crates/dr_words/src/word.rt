@@ -9,7 +9,8 @@ ghost use Rattle.dr_words.specs.Packing.{ring_word, ring_tag, ring_low, recv_wor
 pub const fn pack_ring(k: u32, low: u32) -> u64
     requires { k < 2 ^ 32 - 1 }
     ensures value { result ≡ ring_word k low }
-    ensures one_to_one { (i l : ℕ) → l < 2 ^ 32 → ring_word i l ≡ result → (i ≡ k) × (l ≡ low) }
+    ensures one_to_one { (i l : ℕ) → l < 2 ^ 32 → ring_word i l ≡ result
+        → (i ≡ k) × (l ≡ low) }
     ensures grows { (i l : ℕ) → i < k → l < 2 ^ 32 → ring_word i l < result }
     ensures in_form { (members column : ℕ)
         → head_column members 0 ≤ column → IsInForm members column result }
@@ -32,7 +33,8 @@ pub const fn unpack_ring(word: u64) -> (u32, u32)
 pub const fn pack_recv(count: u32, ended: bool) -> u64
     ensures value { result ≡ recv_word count ended }
     ensures small { result < 2 ^ 33 }
-    ensures one_to_one { (n : ℕ) (b : Bool) → recv_word n b ≡ result → (n ≡ count) × (b ≡ ended) }
+    ensures one_to_one { (n : ℕ) (b : Bool) → recv_word n b ≡ result
+        → (n ≡ count) × (b ≡ ended) }
     ensures grows { (members sender n : ℕ) → n ≤ count
         → HasGrown members (recv_column sender) (recv_word n false) result }
     ensures in_form { (members sender : ℕ) → sender < members
@@ -62,7 +64,8 @@ pub const fn pack_accept(promise: u8, tag: u8, value: u64) -> u64
         → (p ≡ promise) × (t ≡ tag) × (v ≡ value) }
     ensures grows { (p t v : ℕ) → t < 2 ^ 8 → v < 2 ^ 48
         → (p < promise) ⊎ ((p ≡ promise) × (t < tag)) → accept_word p t v < result }
-    ensures leavers_in_form { (members : ℕ) → promise < members → tag ≤ members → value < 2 ^ members
+    ensures leavers_in_form { (members : ℕ) → promise < members → tag ≤ members
+        → value < 2 ^ members
         → IsInForm members (leavers_column members) result }
     ensures trim_in_form { (members sender : ℕ) → promise < members → tag ≤ members → value < 2 ^ 32
         → sender < members → IsInForm members (trim_column members sender) result }

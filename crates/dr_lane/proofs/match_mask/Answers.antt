@@ -5,7 +5,8 @@ use Rattle.dr_lane.proofs.match_mask.Goals as goal
 use Rattle.dr_lane.proofs.match_mask.Goals.{then-word-to, else-word-to}
 
 -- the next word equals `to`, and its bit is set
-marked : (words : List ℕ) (to mask i : ℕ) → i < 64 → slice_index words i ≡ to → Marks words to mask i
+marked : (words : List ℕ) (to mask i : ℕ) → i < 64 → slice_index words i ≡ to
+    → Marks words to mask i
     → Marks words to (bit_or mask (1 * 2 ^ i % 2 ^ 64)) (i + 1)
 marked words to mask i within same before = record {
   set = below_more _ _
@@ -15,9 +16,11 @@ marked words to mask i within same before = record {
 }
 
 -- the next word does not equal `to`, and its bit stays clear
-unmarked : (words : List ℕ) (to mask i : ℕ) → slice_index words i ≢ to → Marks words to mask i → Marks words to mask (i + 1)
+unmarked : (words : List ℕ) (to mask i : ℕ) → slice_index words i ≢ to → Marks words to mask i
+    → Marks words to mask (i + 1)
 unmarked words to mask i other before = record {
-  set = below_more _ _ before.set (let e = before.clear i (omega arith) in (λ h. absurd (omega arith), λ h. absurd (other h)));
+  set = below_more _ _ before.set
+      (let e = before.clear i (omega arith) in (λ h. absurd (omega arith), λ h. absurd (other h)));
   clear = λ k h. before.clear k (omega arith);
 }
 
@@ -28,6 +31,8 @@ loop-i-preserved c =
     let i = c.loop-i.i in
     let after : ℕ → Type 0 = λ mask. Marks words to mask (i + 1) in
     elim c.if-word-to.branch [
-      | then-word-to w ↦ subst after (sym w.mask-is) (marked words to c.loop-i.mask i (omega arith) w.if-word-to.true c.loop-i.invariant)
-      | else-word-to w ↦ subst after (sym w.mask-is) (unmarked words to c.loop-i.mask i w.if-word-to.false c.loop-i.invariant)
+      | then-word-to w ↦ subst after (sym w.mask-is)
+          (marked words to c.loop-i.mask i (omega arith) w.if-word-to.true c.loop-i.invariant)
+      | else-word-to w ↦ subst after (sym w.mask-is)
+          (unmarked words to c.loop-i.mask i w.if-word-to.false c.loop-i.invariant)
     ]

@@ -1,4 +1,4 @@
-use Rattle.dr_order.proofs.MergeLemmas.{AreTaken-held_places, IsStrictlyIncreasing-held_places}
+use Rattle.dr_order.proofs.Merges.{AreTaken-held_places, IsStrictlyIncreasing-held_places}
 use Rattle.dr_order.proofs.merge_law.Goals as goal
 
 pub returns : goal.returns

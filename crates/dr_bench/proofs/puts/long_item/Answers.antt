@@ -7,7 +7,10 @@ bytes_from : (byte n i : ℕ) → byte < 256 → slice_index (replicate n byte) 
 bytes_from byte n i fits =
     elim (cases_lt i n) [
       | inl within ↦ omega (arith, get_or-replicate n i byte 0 within)
-      | inr past ↦ omega (arith, get_or_past (replicate n byte) i 0 (omega (arith, length-replicate n byte)))
+      | inr past ↦ omega (
+        arith,
+        get_or_past (replicate n byte) i 0 (omega (arith, length-replicate n byte)),
+      )
     ]
 
 pub loop-place-init : goal.loop-place-init

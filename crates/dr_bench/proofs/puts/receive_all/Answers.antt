@@ -1,6 +1,6 @@
-use Rattle.std.proofs.Common.{◌≡◌, ◌<◌, ◌≤◌, rules, arith}
+use Rattle.std.proofs.Common.{◌<◌, rules, arith}
 use Rattle.dr_words.specs.Form.{IsInForm}
-use Rattle.dr_bench.proofs.Putting.{received_one}
+use Rattle.dr_bench.proofs.Items.{received_one}
 use Rattle.dr_bench.proofs.puts.receive_all.Goals as goal
 use Rattle.dr_bench.proofs.puts.receive_all.Goals.{then-row-ne-ME, else-row-ne-ME}
 
@@ -12,7 +12,9 @@ loop-row-preserved c =
     let form : IsInForm c.loop-row.rows.members c.recv_column-column.result c.pack_recv-word.result =
     rw c.recv_column-column.ensures.value (c.pack_recv-word.ensures.in_form c.loop-row.rows.members 0 some) in
     elim c.if-row-ne-ME.branch [
-      | then-row-ne-ME w ↦ rw w.rows-is (received_one c.args.shape.now c.pack_recv-word.result c.loop-row.rows w.look.new.self c.loop-row.row c.recv_column-column.result
+      | then-row-ne-ME w ↦ rw w.rows-is
+          (received_one c.args.shape.now c.pack_recv-word.result c.loop-row.rows w.look.new.self
+          c.loop-row.row c.recv_column-column.result
           known w.look.ensures.after w.look.ensures.form (search rules) (search rules) (search rules) form)
       | else-row-ne-ME w ↦ rw w.rows-is known
     ]

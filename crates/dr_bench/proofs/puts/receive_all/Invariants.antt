@@ -1,4 +1,4 @@
-use Rattle.dr_bench.proofs.Putting.{AreReceived}
+use Rattle.dr_bench.proofs.Items.{AreReceived}
 use Rattle.dr_bench.proofs.puts.receive_all.Given as goal
 
 abbrev pub invariant-loop-row : goal.invariant-loop-row

@@ -7,4 +7,11 @@ use Rattle.dr_entry.proofs.writing.put_counts.Goals as goal
 pub put-requires : goal.put-requires
 put-requires c =
     let written = take c.loop-count.count-index c.args.counts.now in
-    omega (arith, ap length c.loop-count.invariant, length-append c.args.into.now.items (flat_map (to_be_bytes w32) written), counts_length written, length-take c.loop-count.count-index c.args.counts.now, ap length c.to_be_bytes.ensures)
+    omega (
+      arith,
+      ap length c.loop-count.invariant,
+      length-append c.args.into.now.items (flat_map (to_be_bytes w32) written),
+      counts_length written,
+      length-take c.loop-count.count-index c.args.counts.now,
+      ap length c.to_be_bytes.ensures,
+    )

@@ -4,4 +4,5 @@ use Rattle.dr_rows.specs.Words.{seen}
 use Rattle.dr_pred.proofs.column.words_of.Given as goal
 
 abbrev pub invariant-loop-member : goal.invariant-loop-member
-invariant-loop-member l = l.words.items ≡ map (λ i. seen l.rows i l.column) (members_below l.members l.member)
+invariant-loop-member l = l.words.items
+    ≡ map (λ i. seen l.rows i l.column) (members_below l.members l.member)

@@ -7,5 +7,6 @@ use Rattle.dr_script.proofs.json.is_among.Goals as goal
 
 pub returns : goal.returns
 returns c =
-    any_from_yields_List (λ name. bytes_eq name.now c.args.key.now) _ _ c.any.result c.any.ensures.ran (YieldsList-from_slice _ c.iter.ensures.rest) (λ x b q k. search (rules, tests))
+    any_from_yields_List (λ name. bytes_eq name.now c.args.key.now) _ _ c.any.result c.any.ensures.ran
+    (YieldsList-from_slice _ c.iter.ensures.rest) (λ x b q k. search (rules, tests))
     ∙ sym (list_any_map (λ name. bytes_eq name c.args.key.now) (λ name. name.now) c.args.names.now)

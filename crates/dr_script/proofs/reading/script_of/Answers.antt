@@ -12,18 +12,25 @@ use Rattle.dr_script.proofs.reading.script_of.Goals as goal
 
 pub returns-in_err-sizes-clause-broken : goal.returns-in_err-sizes-clause-broken
 returns-in_err-sizes-clause-broken c = λ broken is.
-    let named = rule_of c.from_residual-in_err-sizes.result c.in_err-sizes.field-0.0 broken c.from_residual-in_err-sizes.ensures.1 is in
-    broken_size (view c.args.value.now) broken c.in_ok-check_shape.ensures.kept (c.in_err-sizes.ensures.broken ∙ ap Some named)
+    let named = rule_of c.from_residual-in_err-sizes.result c.in_err-sizes.field-0.0 broken
+    c.from_residual-in_err-sizes.ensures.1 is in
+    broken_size (view c.args.value.now) broken c.in_ok-check_shape.ensures.kept
+    (c.in_err-sizes.ensures.broken ∙ ap Some named)
 
 pub returns-in_err-messages-clause-broken : goal.returns-in_err-messages-clause-broken
 returns-in_err-messages-clause-broken c = λ broken is.
-    let named = handed_on c.from_residual-in_err-messages.result c.messages_of.result c.in_err-messages.field-0.0 broken c.from_residual-in_err-messages.ensures.1 c.in_err-messages.was is in
-    broken_message (view c.args.value.now) broken c.in_ok-check_shape.ensures.kept c.in_ok-sizes.ensures.kept (c.messages_of.ensures.broken broken named)
+    let named = handed_on c.from_residual-in_err-messages.result c.messages_of.result
+    c.in_err-messages.field-0.0 broken c.from_residual-in_err-messages.ensures.1 c.in_err-messages.was
+    is in
+    broken_message (view c.args.value.now) broken c.in_ok-check_shape.ensures.kept
+    c.in_ok-sizes.ensures.kept (c.messages_of.ensures.broken broken named)
 
 pub returns-in_err-faults-clause-broken : goal.returns-in_err-faults-clause-broken
 returns-in_err-faults-clause-broken c = λ broken is.
-    let named = handed_on c.from_residual-in_err-faults.result c.faults_of.result c.in_err-faults.field-0.0 broken c.from_residual-in_err-faults.ensures.1 c.in_err-faults.was is in
-    broken_fault (view c.args.value.now) broken c.in_ok-check_shape.ensures.kept c.in_ok-sizes.ensures.kept c.in_ok-messages.ensures.kept (c.faults_of.ensures.broken broken named)
+    let named = handed_on c.from_residual-in_err-faults.result c.faults_of.result c.in_err-faults.field-0.0
+    broken c.from_residual-in_err-faults.ensures.1 c.in_err-faults.was is in
+    broken_fault (view c.args.value.now) broken c.in_ok-check_shape.ensures.kept c.in_ok-sizes.ensures.kept
+    c.in_ok-messages.ensures.kept (c.faults_of.ensures.broken broken named)
 
 pub returns-clause-ranges : goal.returns-clause-ranges
 returns-clause-ranges c =
@@ -40,4 +47,6 @@ returns-clause-ranges c =
       schedule = c.in_ok-schedule.schedule;
     } in
     let same : made ≡ script_of d = search (common_rules, tests) in
-    subst HasRanges (sym same) (ranges_of_kept d none (subst (All (All (All (λ byte. byte < 256)))) c.in_ok-messages.ensures.messages c.in_ok-messages.ensures.bytes))
+    subst HasRanges (sym same) (ranges_of_kept d none
+    (subst (All (All (All (λ byte. byte < 256)))) c.in_ok-messages.ensures.messages
+    c.in_ok-messages.ensures.bytes))

@@ -1,4 +1,4 @@
-use Rattle.dr_words.proofs.Meeting.{majorities_meet_lem}
+use Rattle.dr_words.proofs.Majorities.{majorities_meet_lem}
 use Rattle.dr_words.proofs.mask.majorities_meet.Goals as goal
 
 pub returns : goal.returns

@@ -11,8 +11,12 @@ pub any_suspects-requires-clause-masks : goal.any_suspects-requires-clause-masks
 any_suspects-requires-clause-masks c =
     subst (All (λ w. w < 2 ^ 16)) (sym (c.as_slice.ensures.value ∙ c.words_of-words.ensures))
     (all_words (λ w. w < 2 ^ 16) (λ i. seen c.args.rows.now i SUSPECTED_COLUMN) c.args.self.now.members
-    (λ i m. suspected_small c.args.rows.now.members c.args.rows.now.words c.requires.0.form c.requires.0.most_members i))
+    (λ i m. suspected_small c.args.rows.now.members c.args.rows.now.words c.requires.0.form
+    c.requires.0.most_members i))
 
 pub returns : goal.returns
-returns c = some_iff (λ w. has w c.args.self.now.name ≡ true) (λ i. seen c.args.rows.now i SUSPECTED_COLUMN) c.args.self.now.members c.args.rows.now.members
-    c.as_slice.result.now c.any_suspects.result (c.as_slice.ensures.value ∙ c.words_of-words.ensures) c.requires.1 c.requires.0.most_members c.any_suspects.ensures
+returns c = some_iff (λ w. has w c.args.self.now.name ≡ true)
+    (λ i. seen c.args.rows.now i SUSPECTED_COLUMN) c.args.self.now.members c.args.rows.now.members
+    c.as_slice.result.now c.any_suspects.result
+    (c.as_slice.ensures.value ∙ c.words_of-words.ensures) c.requires.1 c.requires.0.most_members
+    c.any_suspects.ensures

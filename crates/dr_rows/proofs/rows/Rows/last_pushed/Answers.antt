@@ -1,4 +1,4 @@
-use Rattle.dr_rows.proofs.InsideLemmas.{last_pushed_read}
+use Rattle.dr_rows.proofs.Vectors.{last_pushed_read}
 use Rattle.dr_rows.proofs.rows.Rows.last_pushed.Goals as goal
 
 pub returns : goal.returns

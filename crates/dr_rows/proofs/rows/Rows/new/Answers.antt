@@ -1,5 +1,5 @@
 use Rattle.std.proofs.Common.{◌*◌, ap, ◌∙◌, replicate, false}
-use Rattle.dr_rows.proofs.InsideLemmas.{IsBlank, begun_blank, IsInside-begun, IsFresh-blank}
+use Rattle.dr_rows.proofs.Vectors.{IsBlank, begun_blank, IsInside-begun, IsFresh-blank}
 use Rattle.dr_rows.specs.declared.rows.Rows.TheInside.{Inside}
 use Rattle.dr_rows.proofs.rows.Rows.new.Goals as goal
 
@@ -16,14 +16,18 @@ inside c = record {
 blank : (c : goal.In_ok-vec-3) → IsBlank (inside c)
 unfolding inside
 blank c = record {
-  words = c.in_ok-vec.ensures.items_if_clones_equal (λ y h. h) ∙ ap (λ n. replicate (n * c.args.columns) 0) c.from.ensures;
-  sent = c.in_ok-vec-2.ensures.items_if_clones_equal (λ y h. h) ∙ ap (λ n. replicate (n * c.args.columns) 0) c.from.ensures;
-  frozen = c.in_ok-vec-3.ensures.items_if_clones_equal (λ y h. h) ∙ ap (λ n. replicate n false) c.from-2.ensures;
+  words = c.in_ok-vec.ensures.items_if_clones_equal (λ y h. h)
+      ∙ ap (λ n. replicate (n * c.args.columns) 0) c.from.ensures;
+  sent = c.in_ok-vec-2.ensures.items_if_clones_equal (λ y h. h)
+      ∙ ap (λ n. replicate (n * c.args.columns) 0) c.from.ensures;
+  frozen = c.in_ok-vec-3.ensures.items_if_clones_equal (λ y h. h)
+      ∙ ap (λ n. replicate n false) c.from-2.ensures;
 }
 
 pub invariant_of-result : goal.invariant_of-result
 unfolding inside
-invariant_of-result c = IsInside-begun (inside c) (blank c) c.requires.members c.requires.columns c.requires.me
+invariant_of-result c = IsInside-begun (inside c)
+    (blank c) c.requires.members c.requires.columns c.requires.me
 
 pub returns-clause-begun : goal.returns-clause-begun
 unfolding inside

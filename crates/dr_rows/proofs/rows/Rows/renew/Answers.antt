@@ -1,11 +1,12 @@
 use Rattle.std.proofs.Common.{ap, ◌∙◌, replicate, false, arith}
 use Rattle.dr_rows.specs.Words.{renewed}
-use Rattle.dr_rows.proofs.InsideLemmas.{IsBlank, begun_blank, IsInside-begun, IsFresh-blank}
+use Rattle.dr_rows.proofs.Vectors.{IsBlank, begun_blank, IsInside-begun, IsFresh-blank}
 use Rattle.dr_rows.specs.declared.rows.Rows.TheInside.{Inside}
 use Rattle.dr_rows.proofs.rows.Rows.renew.Goals as goal
 
 inside : goal.After-fill-3 → Inside
-inside c = record c.self.inside { words = c.fill.new.self; sent = c.fill-2.new.self; frozen = c.fill-3.new.self }
+inside c = record c.self.inside
+    { words = c.fill.new.self; sent = c.fill-2.new.self; frozen = c.fill-3.new.self }
 
 blank : (c : goal.After-fill-3) → IsBlank (inside c)
 unfolding inside

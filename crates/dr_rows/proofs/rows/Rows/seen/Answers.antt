@@ -1,4 +1,4 @@
-use Rattle.dr_rows.proofs.InsideLemmas.{seen_read}
+use Rattle.dr_rows.proofs.Vectors.{seen_read}
 use Rattle.dr_rows.proofs.rows.Rows.seen.Goals as goal
 
 pub returns : goal.returns

@@ -1,0 +1,5 @@
+mod Endings
+mod Lists
+mod Numbers
+mod Orders
+mod Views

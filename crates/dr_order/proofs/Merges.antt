@@ -1,0 +1,180 @@
+-- Places that hold an item: none after a round without one, and the list of all of them.
+use Rattle.std.proofs.Common.{◌≡◌, ℕ, zero, suc, ◌+◌, ◌-◌, ◌*◌, ◌/◌, ◌%◌, ◌^◌, ◌<◌, ◌≤◌, ◌⊎◌, inl, inr, Bool, true, false, cond, List, [], ◌∷◌, Some, length, slice_index, max, fold, filter, arith, le_refl, sym, subst, refl}
+use Rattle.std.specs.List.{range_with_len}
+use Rattle.std.specs.List.Sorted.{IsStrictlyIncreasing}
+use Rattle.std.proofs.lemmas.List.FromFn.{length-range_with_len, get_or-range_with_len}
+use Rattle.std.proofs.lemmas.List.Kept.{IsStrictlyIncreasing-filter}
+use Rattle.std.proofs.lemmas.Nat.{mod_below, div-add-mod', le-div}
+use Rattle.std.proofs.Math.Nat.{add-mul-div_right, add-mul-mod_self_right}
+use Rattle.dr_history.specs.Places.{is_held, held_places}
+use Rattle.dr_history.proofs.Fronts.{count_max}
+use Rattle.dr_order.specs.Merge.{IsNextHeld, AreTaken}
+
+-- where a place isn't held, the same rank's place some rounds later isn't
+not_held_later : (counts : List ℕ) (p rounds : ℕ) → 0 < length counts → is_held counts p ≡ false
+    → is_held counts (p + rounds * length counts) ≡ false
+not_held_later counts p rounds some h =
+    rw (
+      add-mul-div_right p rounds {z = length counts} some,
+      add-mul-mod_self_right p rounds (length counts),
+    ) (grind (arith, h))
+
+-- where no place of a round is held, none after it is
+not_held_after_round : (counts : List ℕ) (from : ℕ) → 0 < length counts
+    → ((p : ℕ) → from ≤ p → p < from + length counts → is_held counts p ≡ false)
+    → (p : ℕ) → from ≤ p → is_held counts p ≡ false
+not_held_after_round counts from some round p after =
+    let n = length counts in
+    let early : ℕ = from + (p - from) % n in
+    let less : (p - from) % n < n = mod_below (p - from) n some in
+    let split : (p - from) / n * n + (p - from) % n ≡ p - from = div-add-mod' (p - from) n in
+    let same : early + (p - from) / n * n ≡ p = omega arith in
+    let gap : is_held counts early ≡ false = round early (omega arith) (omega arith) in
+    subst (λ (q : ℕ). is_held counts q ≡ false) same
+    (not_held_later counts early ((p - from) / n) some gap)
+
+-- a place whose item number is at least every count isn't held
+not_held_above : (counts : List ℕ) (bound p : ℕ) → 0 < length counts
+    → ((rank : ℕ) → rank < length counts → slice_index counts rank ≤ bound)
+    → bound * length counts ≤ p → is_held counts p ≡ false
+not_held_above counts bound p some most above =
+    let number : bound ≤ p / length counts = le-div bound p (length counts) some above in
+    let count = most (p % length counts) (mod_below p (length counts) some) in
+    grind (arith, number, count)
+
+-- where no place of a round is held, as far as the round goes within 64 bits, no later place is
+pub not_held_after : (counts : List ℕ) (from end : ℕ) → 0 < length counts → length counts ≤ 16
+    → ((rank : ℕ) → slice_index counts rank < 2 ^ 32)
+    → (from + length counts ≤ end) ⊎ (2 ^ 64 - 1 ≤ end)
+    → ((p : ℕ) → from ≤ p → p < end → is_held counts p ≡ false)
+    → (p : ℕ) → from ≤ p → is_held counts p ≡ false
+not_held_after counts from end some few fit far round =
+    not_held_after_round counts from some (λ p after within. by p after within far (below_or_not p))
+  where
+    below_or_not : (p : ℕ) → (p < end) ⊎ (end ≤ p)
+    below_or_not p = grind arith
+
+    by : (p : ℕ) → from ≤ p → p < from + length counts
+        → (from + length counts ≤ end) ⊎ (2 ^ 64 - 1 ≤ end)
+        → (p < end) ⊎ (end ≤ p) → is_held counts p ≡ false
+    by p after within far (inl below) = round p after below
+    by p after within (inl whole) (inr above) = absurd (omega arith)
+    by p after within (inr top) (inr above) =
+        not_held_above counts (2 ^ 32) p some (λ rank h. omega (arith, fit rank)) (omega arith)
+
+-- where the first place isn't held, it may be left out
+taken_after : (counts : List ℕ) (from : ℕ) (ps : List ℕ) → is_held counts from ≡ false
+    → AreTaken counts from ps → AreTaken counts (from + 1) ps
+taken_after counts from [] gap none = λ p after. none p (omega arith)
+taken_after counts from (p ∷ ps) gap t =
+    ((further (from_or_later t.0.0), t.0.1, λ q after below. t.0.2 q (omega arith) below), t.1)
+  where
+    from_or_later : from ≤ p → (from ≡ p) ⊎ (from + 1 ≤ p)
+    from_or_later h = grind arith
+
+    further : (from ≡ p) ⊎ (from + 1 ≤ p) → from + 1 ≤ p
+    further (inl e) =
+        let held : is_held counts from ≡ true = rw e t.0.1 in absurd (cc)
+    further (inr later) = later
+
+-- where the first place isn't held, it may be put before
+taken_before : (counts : List ℕ) (from : ℕ) (ps : List ℕ) → is_held counts from ≡ false
+    → AreTaken counts (from + 1) ps → AreTaken counts from ps
+taken_before counts from ps gap t = by ps t
+  where
+    from_or_later : (q : ℕ) → from ≤ q → (from ≡ q) ⊎ (from + 1 ≤ q)
+    from_or_later q h = grind arith
+
+    at : (P : ℕ → Type 0) → ((q : ℕ) → from + 1 ≤ q → P q → is_held counts q ≡ false)
+        → (q : ℕ) → P q
+        → (from ≡ q) ⊎ (from + 1 ≤ q) → is_held counts q ≡ false
+    at P later q h (inl e) = subst (λ (z : ℕ). is_held counts z ≡ false) e gap
+    at P later q h (inr after) = later q after h
+
+    by : (ps : List ℕ) → AreTaken counts (from + 1) ps → AreTaken counts from ps
+    by [] none = λ q after. at (λ _. Unit {0}) (λ z later _. none z later) q tt (from_or_later q after)
+    by (p ∷ ps) t = (
+      (
+        omega (arith, t.0.0),
+        t.0.1,
+        λ q after below. at (λ z. z < p) t.0.2 q below (from_or_later q after),
+      ),
+      t.1,
+    )
+
+-- the places that are taken are the held ones of a range behind which no place is held
+taken_is : (counts : List ℕ) (len from : ℕ) (ps : List ℕ)
+    → ((p : ℕ) → from + len ≤ p → is_held counts p ≡ false)
+    → AreTaken counts from ps → ps ≡ filter (is_held counts) (range_with_len from len)
+taken_is counts zero from [] past t = refl
+taken_is counts zero from (p ∷ ps) past t =
+    let gap : is_held counts p ≡ false = past p (omega (arith, t.0.0)) in
+    let held : is_held counts p ≡ true = t.0.1 in
+    absurd (cc)
+taken_is counts (suc len) from ps past t =
+    by (λ rest. taken_is counts len (from + 1) rest (λ p above. past p (omega arith)))
+    (is_held counts from) refl ps t
+  where
+    by : ((rest : List ℕ) → AreTaken counts (from + 1) rest
+        → rest ≡ filter (is_held counts) (range_with_len (from + 1) len))
+        → (b : Bool) → is_held counts from ≡ b → (ps : List ℕ) → AreTaken counts from ps
+        → ps ≡ cond b (from ∷ filter (is_held counts) (range_with_len (from + 1) len))
+        (filter (is_held counts) (range_with_len (from + 1) len))
+    by rest false e ps t = rest ps (taken_after counts from ps e t)
+    by rest true e [] t =
+        let gap : is_held counts from ≡ false = t from (le_refl from) in absurd (cc)
+    by rest true e (p ∷ ps) t =
+        let at : from ≡ p = first p t.0 (from_or_later p t.0.0) in
+        let same : ps ≡ filter (is_held counts) (range_with_len (from + 1) len) =
+        rest ps (subst (λ (z : ℕ). AreTaken counts (z + 1) ps) (sym at) t.1) in
+        cc
+      where
+        from_or_later : (p : ℕ) → from ≤ p → (from ≡ p) ⊎ (from < p)
+        from_or_later p h = grind arith
+
+        first : (p : ℕ) → IsNextHeld counts from (Some p) → (from ≡ p) ⊎ (from < p) → from ≡ p
+        first p t (inl at) = at
+        first p t (inr later) =
+            let gap : is_held counts from ≡ false = t.2 from (le_refl from) later in absurd (cc)
+
+-- the held places of a range behind which no place is held are those that are taken
+is_taken : (counts : List ℕ) (len from : ℕ)
+    → ((p : ℕ) → from + len ≤ p → is_held counts p ≡ false)
+    → AreTaken counts from (filter (is_held counts) (range_with_len from len))
+is_taken counts zero from past = λ p above. past p (omega arith)
+is_taken counts (suc len) from past =
+    by (filter (is_held counts) (range_with_len (from + 1) len))
+    (is_taken counts len (from + 1) (λ p above. past p (omega arith))) (is_held counts from) refl
+  where
+    by : (rest : List ℕ) → AreTaken counts (from + 1) rest → (b : Bool) → is_held counts from ≡ b
+        → AreTaken counts from (cond b (from ∷ rest) rest)
+    by rest t false e = taken_before counts from rest e t
+    by rest t true e = ((le_refl from, e, λ q after below. absurd (omega arith)), t)
+
+-- the places that are taken from place 0 on are the held places
+pub AreTaken-held_places : (counts places : List ℕ) → 0 < length counts
+    → (AreTaken counts 0 places → places ≡ held_places counts)
+    × (places ≡ held_places counts → AreTaken counts 0 places)
+unfolding held_places
+AreTaken-held_places counts places some = (
+  λ t. taken_is counts (length counts * fold max 0 counts) 0 places past t,
+  λ e. subst (λ (ps : List ℕ). AreTaken counts 0 ps) (sym e)
+      (is_taken counts (length counts * fold max 0 counts) 0 past),
+)
+  where
+    past : (p : ℕ) → 0 + length counts * fold max 0 counts ≤ p → is_held counts p ≡ false
+    past p above = not_held_above counts (fold max 0 counts) p some (count_max counts 0) (omega arith)
+
+-- a range rises
+IsStrictlyIncreasing-range_with_len : (from len : ℕ) → IsStrictlyIncreasing (range_with_len from len)
+IsStrictlyIncreasing-range_with_len from len k within =
+    let next : k + 1 < len = omega (arith, length-range_with_len from len) in
+    rw (get_or-range_with_len from len k 0 (omega arith), get_or-range_with_len from len (k + 1) 0 next)
+    (omega arith)
+
+-- the held places rise
+pub IsStrictlyIncreasing-held_places : (counts : List ℕ) → IsStrictlyIncreasing (held_places counts)
+unfolding held_places
+IsStrictlyIncreasing-held_places counts =
+    IsStrictlyIncreasing-filter (is_held counts) _
+    (IsStrictlyIncreasing-range_with_len 0 (length counts * fold max 0 counts))
