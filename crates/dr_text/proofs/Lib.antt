@@ -1,1 +1,4 @@
-pub mod Numbered
+mod Hex
+mod Bounds
+pub mod Numbers
+mod Lines

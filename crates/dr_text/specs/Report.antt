@@ -10,7 +10,7 @@ use Rattle.dr_entry.specs.declared.end.MemberEnd.{MemberEnd}
 use Rattle.dr_entry.specs.declared.end.AgeEnd.{AgeEnd}
 use Rattle.dr_history.specs.Members.{members_of}
 use Rattle.dr_text.specs.declared.last.Last.{Last}
-use Rattle.dr_text.specs.declared.last.Last.TheVariants.{Done as AllDone, Usage, NotBuilt, TooLong, NotJson, Rule, SourceFault, Unfinished}
+use Rattle.dr_text.specs.declared.last.Last.TheVariants as lasts
 
 -- the members of a mask, ascending, with commas between them
 abbrev pub mask_text : ℕ → List ℕ
@@ -28,9 +28,13 @@ message_text (byte ∷ bytes) = flat_map hex_text (byte ∷ bytes)
 -- the line of an entry of a history
 abbrev pub entry_text : Entry → List ℕ
 entry_text (View age number members) =
-    concat (codes "  view " ∷ decimal age ∷ codes " " ∷ decimal number ∷ codes " " ∷ mask_text members ∷ codes "\n" ∷ [])
+    concat
+    (codes "  view " ∷ decimal age ∷ codes " " ∷ decimal number ∷ codes " " ∷ mask_text members
+    ∷ codes "\n" ∷ [])
 entry_text (Msg sender index bytes) =
-    concat (codes "  msg " ∷ decimal sender ∷ codes " " ∷ decimal index ∷ codes " " ∷ message_text bytes ∷ codes "\n" ∷ [])
+    concat
+    (codes "  msg " ∷ decimal sender ∷ codes " " ∷ decimal index ∷ codes " " ∷ message_text bytes
+    ∷ codes "\n" ∷ [])
 
 -- how a member ended, in its line
 abbrev pub end_text : End → List ℕ
@@ -47,7 +51,8 @@ end_text (Spent turns) = codes "spent " ++ decimal turns
 abbrev pub member_text : ℕ → ℕ → MemberEnd → List ℕ
 member_text start number m =
     concat
-    (codes "member " ∷ decimal number ∷ codes " " ∷ end_text m.end ∷ codes " history " ∷ decimal (length m.history)
+    (codes "member " ∷ decimal number ∷ codes " " ∷ end_text m.end
+    ∷ codes " history " ∷ decimal (length m.history)
     ∷ codes " logged " ∷ decimal m.logged ∷ codes " durable " ∷ decimal m.durable ∷ codes "\n"
     ∷ flat_map entry_text (drop start m.history) ∷ [])
 
@@ -64,18 +69,37 @@ age_text a =
 
 -- the line that names a broken rule and its place
 abbrev pub rule_text : ℕ → List ℕ → List ℕ
-rule_text rule path = concat (codes "refused: rule " ∷ decimal rule ∷ codes " at " ∷ path ∷ codes "\n" ∷ [])
+rule_text rule path = concat (codes "refused: rule " ∷ decimal rule ∷ codes " at " ∷ path
+    ∷ codes "\n" ∷ [])
 
 -- the last line
 abbrev pub last_text : Last → List ℕ
-last_text AllDone = codes "ok\n"
-last_text Usage = codes "usage: derecho (sim|run) [--logs FOLDER]\n"
-last_text NotBuilt = codes "refused: not built\n"
-last_text TooLong = codes "refused: too long\n"
-last_text NotJson = codes "refused: not json\n"
-last_text (Rule rule path) = rule_text rule path
-last_text SourceFault = codes "fault: source\n"
-last_text Unfinished = codes "unfinished\n"
+last_text lasts.Done = codes "ok\n"
+last_text lasts.Usage = codes "usage: derecho (sim|run) [--logs FOLDER]\n"
+last_text lasts.NotBuilt = codes "refused: not built\n"
+last_text lasts.TooLong = codes "refused: too long\n"
+last_text lasts.NotJson = codes "refused: not json\n"
+last_text (lasts.Rule rule path) = rule_text rule path
+last_text lasts.SourceFault = codes "fault: source\n"
+last_text (lasts.DiskFault member) =
+    concat (codes "fault: disk of member " ∷ decimal member ∷ codes "\n" ∷ [])
+last_text (lasts.Damaged member at) =
+    concat
+    (codes "refused: damaged log of member " ∷ decimal member ∷ codes " at " ∷ decimal at
+    ∷ codes "\n" ∷ [])
+last_text (lasts.Foreign member place) =
+    concat
+    (codes "refused: foreign log of member " ∷ decimal member ∷ codes " at entry " ∷ decimal place
+    ∷ codes "\n" ∷ [])
+last_text (lasts.Disagree a b place) =
+    concat
+    (codes "refused: logs of members " ∷ decimal a ∷ codes " and " ∷ decimal b
+    ∷ codes " disagree at entry " ∷ decimal place ∷ codes "\n" ∷ [])
+last_text lasts.AgesUsedUp = codes "refused: ages used up\n"
+last_text lasts.Unfinished = codes "unfinished\n"
+last_text lasts.NoMajority = codes "no majority\n"
+last_text (lasts.LogFull member) =
+    concat (codes "fault: log full of member " ∷ decimal member ∷ codes "\n" ∷ [])
 
 -- the whole text: the ages, and one last line
 abbrev pub report_text : List AgeEnd → Last → List ℕ

@@ -1,10 +1,12 @@
-ghost use Rattle.std.specs.Prelude.{◌≡◌, ◌<◌, ◌++◌, OnOk, string_bytes, codes, if◌then◌else◌, length, [], ◌∷◌};
+ghost use Rattle.std.specs.Prelude.{◌≡◌, ◌<◌, ◌≤◌, ◌++◌, OnOk, string_bytes, codes, if◌then◌else◌, length, [], ◌∷◌};
 ghost use Rattle.std.specs.Fmt.{decimal};
-ghost use Rattle.std.specs.List.{flat_map};
+ghost use Rattle.std.specs.List.{concat, flat_map};
+ghost use Rattle.dr_entry.specs.declared.entry.Entry.{Entry};
 ghost use Rattle.dr_history.specs.Members.{has};
 ghost use Rattle.dr_text.specs.Report.{entry_text, message_text, hex_text, mask_text};
 
-use dr_entry::Entry;
+use crate::digits::{push_decimal, push_hex_bytes};
+use dr_entry::{Entry, MAX_MESSAGE_LENGTH, Message};
 use std::alloc::AllocError;
 use std::fmt::Write;
 
@@ -19,7 +21,7 @@ pub(crate) fn push_entries(out: &mut String, entries: &[Entry]) -> Result<(), Al
     Ok(())
 }
 
-fn push_entry(out: &mut String, entry: &Entry) -> Result<(), AllocError>
+pub(crate) fn push_entry(out: &mut String, entry: &Entry) -> Result<(), AllocError>
     ensures { OnOk result (string_bytes out.new ≡ string_bytes out.old ++ entry_text entry.now) }
 {
     match entry {
@@ -27,23 +29,47 @@ fn push_entry(out: &mut String, entry: &Entry) -> Result<(), AllocError>
             age,
             number,
             members,
-        } => {
-            write!(out, "  view {age} {number} ")?;
-            push_mask(out, *members)?;
-        }
+        } => push_view(out, *age, *number, *members),
         Entry::Msg {
             sender,
             index,
             bytes,
-        } => {
-            write!(out, "  msg {sender} {index} ")?;
-            push_message(out, bytes.bytes())?;
-        }
+        } => push_msg(out, *sender, *index, bytes),
     }
+}
+
+fn push_view(out: &mut String, age: u16, number: u8, members: u16) -> Result<(), AllocError>
+    ensures { OnOk result
+        (string_bytes out.new ≡ string_bytes out.old ++ entry_text (Entry.View age number members)) }
+{
+    write!(out, "  view {age} {number} ")?;
+    push_mask(out, members)?;
     out.push_str("\n")
 }
 
+fn push_msg(out: &mut String, sender: u8, index: u32, bytes: &Message) -> Result<(), AllocError>
+    ensures { OnOk result
+        (string_bytes out.new ≡ string_bytes out.old ++ entry_text (Entry.Msg sender index bytes.now)) }
+{
+    push_place(out, sender, index)?;
+    push_message(out, bytes.bytes())?;
+    out.push_str("\n")
+}
+
+/// Appends what stands before the bytes of a message.
+fn push_place(out: &mut String, sender: u8, index: u32) -> Result<(), AllocError>
+    ensures { OnOk result (string_bytes out.new ≡ string_bytes out.old ++ concat
+        (codes "  msg " ∷ decimal sender ∷ codes " " ∷ decimal index ∷ codes " " ∷ [])) }
+{
+    out.push_str("  msg ")?;
+    push_decimal(out, u64::from(sender))?;
+    out.push_str(" ")?;
+    push_decimal(out, u64::from(index))?;
+    out.push_str(" ")
+}
+
 fn push_message(out: &mut String, bytes: &[u8]) -> Result<(), AllocError>
+    requires { length bytes.now ≤ MAX_MESSAGE_LENGTH }
     ensures { OnOk result (string_bytes out.new ≡ string_bytes out.old ++ message_text bytes.now) }
 {
     if bytes.is_empty() {
@@ -51,23 +77,6 @@ fn push_message(out: &mut String, bytes: &[u8]) -> Result<(), AllocError>
     } else {
         push_hex_bytes(out, bytes)
     }
-}
-
-fn push_hex_bytes(out: &mut String, bytes: &[u8]) -> Result<(), AllocError>
-    ensures { OnOk result
-        (string_bytes out.new ≡ string_bytes out.old ++ flat_map hex_text bytes.now) }
-{
-    for byte in bytes {
-        push_hex(out, *byte)?;
-    }
-    Ok(())
-}
-
-#[tactic(auto, using(std::proofs::lemmas::Fmt::hex_byte))]
-fn push_hex(out: &mut String, byte: u8) -> Result<(), AllocError>
-    ensures { OnOk result (string_bytes out.new ≡ string_bytes out.old ++ hex_text byte) }
-{
-    write!(out, "{byte:02x}")
 }
 
 /// Appends the members of a mask, ascending, with commas between them.

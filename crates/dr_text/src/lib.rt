@@ -3,13 +3,12 @@
 //! The definitions in `specs/` give the text line by line.
 #![tactic(auto)]
 
+mod digits;
 mod ends;
 mod entries;
 mod last;
+mod printed;
 mod text;
 
 pub use last::Last;
 pub use text::report;
-
-#[cfg(test)]
-mod tests;

@@ -11,4 +11,5 @@ is_none (x ∷ xs) = false
 abbrev pub invariant-loop-number : goal.invariant-loop-number
 invariant-loop-number l =
     (l.first ≡ is_none (members_below l.mask l.number))
-    × (string_bytes l.out ≡ string_bytes l.initial.out ++ join_by decimal (codes ",") (members_below l.mask l.number))
+    × (string_bytes l.out
+    ≡ string_bytes l.initial.out ++ join_by decimal (codes ",") (members_below l.mask l.number))

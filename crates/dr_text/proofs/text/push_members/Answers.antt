@@ -1,6 +1,6 @@
 use Rattle.std.proofs.Common.{string_bytes, arith}
 use Rattle.dr_text.specs.Report.{member_text}
-use Rattle.dr_text.proofs.Numbered.{numbered_texts_more}
+use Rattle.dr_text.proofs.Numbers.{numbered_texts_more}
 use Rattle.dr_text.proofs.text.push_members.Goals as goal
 
 pub loop-number-preserved : goal.loop-number-preserved

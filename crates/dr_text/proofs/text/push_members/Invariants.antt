@@ -3,4 +3,5 @@ use Rattle.dr_text.specs.Report.{members_text}
 use Rattle.dr_text.proofs.text.push_members.Given as goal
 
 abbrev pub invariant-loop-number : goal.invariant-loop-number
-invariant-loop-number l = string_bytes l.out ≡ string_bytes l.initial.out ++ members_text l.start (take l.number l.members)
+invariant-loop-number l =
+    string_bytes l.out ≡ string_bytes l.initial.out ++ members_text l.start (take l.number l.members)

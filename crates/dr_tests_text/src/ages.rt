@@ -1,5 +1,5 @@
-use super::*;
-use dr_entry::{AgeEnd, End, Entry, MemberEnd, Message, Seq, Text};
+use dr_entry::{AgeEnd, End, Entry, MemberEnd, Message, Seq};
+use dr_text::{Last, report};
 use std::alloc::Global;
 use std::test::Fail;
 
@@ -35,26 +35,30 @@ fn member(alloc: Global, end: End, history: Vec<Entry>) -> MemberEnd {
     }
 }
 
+fn age(age: u16, start: Vec<Entry>, members: Vec<MemberEnd>) -> AgeEnd {
+    AgeEnd {
+        age,
+        start: Seq::of(start),
+        members: Seq::of(members),
+    }
+}
+
 #[test]
 fn three_members_that_delivered_three_messages(rt: HostRuntime) -> Result<(), Fail> {
     let alloc = rt.alloc();
     let mut members = Vec::new(alloc);
     for _ in 0..3u8 {
-        let mut history = Vec::new(alloc);
-        history.push(view(0, 0, 7))?;
-        history.push(message(0, 0, b"a")?)?;
-        history.push(message(1, 0, b"b")?)?;
-        history.push(message(2, 0, b"c")?)?;
+        let history = vec![in alloc;
+            view(0, 0, 7),
+            message(0, 0, b"a")?,
+            message(1, 0, b"b")?,
+            message(2, 0, b"c")?,
+        ]?;
         let mut member = member(alloc, End::Done, history);
         member.durable = 4;
         members.push(member)?;
     }
-    let mut ages = Vec::new(alloc);
-    ages.push(AgeEnd {
-        age: 0,
-        start: Seq::of(Vec::new(alloc)),
-        members: Seq::of(members),
-    })?;
+    let ages = [age(0, Vec::new(alloc), members)];
     let text = report(alloc, &ages, &Last::Done)?;
     let expected = "\
 age 0 start 0
@@ -79,34 +83,53 @@ ok
     Ok(())
 }
 
+/// The first member has less than the second, and the third has another message in the midst.
 #[test]
-fn the_start_stands_behind_its_age_alone(rt: HostRuntime) -> Result<(), Fail> {
+fn histories_differ_behind_a_start(rt: HostRuntime) -> Result<(), Fail> {
     let alloc = rt.alloc();
-    let mut start = Vec::new(alloc);
-    start.push(view(0, 0, 3))?;
-    start.push(message(1, 0, b"")?)?;
-    let mut history = Vec::new(alloc);
-    history.push(view(0, 0, 3))?;
-    history.push(message(1, 0, b"")?)?;
-    history.push(view(1, 0, 3))?;
-    history.push(message(0, 0, &[0, 10, 171, 255])?)?;
-    let mut members = Vec::new(alloc);
-    members.push(member(alloc, End::Crashed, history))?;
-    let mut ages = Vec::new(alloc);
-    ages.push(AgeEnd {
-        age: 1,
-        start: Seq::of(start),
-        members: Seq::of(members),
-    })?;
-    let text = report(alloc, &ages, &Last::Done)?;
+    let first = vec![in alloc; view(0, 0, 1)]?;
+    let start = vec![in alloc; view(0, 0, 7), message(1, 0, b"")?]?;
+    let behind = vec![in alloc; view(0, 0, 7), message(1, 0, b"")?, view(1, 0, 7)]?;
+    let long = vec![in alloc;
+        view(0, 0, 7),
+        message(1, 0, b"")?,
+        view(1, 0, 7),
+        message(0, 0, &[0, 10, 171, 255])?,
+        view(1, 1, 5),
+    ]?;
+    let other = vec![in alloc;
+        view(0, 0, 7),
+        message(1, 0, b"")?,
+        view(1, 0, 7),
+        message(0, 0, &[0, 10, 171])?,
+        view(1, 1, 5),
+    ]?;
+    let alone = vec![in alloc; member(alloc, End::Done, first)]?;
+    let members = vec![in alloc;
+        member(alloc, End::Crashed, behind),
+        member(alloc, End::Done, long),
+        member(alloc, End::Spent { turns: 9 }, other),
+    ]?;
+    let ages = [age(0, Vec::new(alloc), alone), age(1, start, members)];
+    let text = report(alloc, &ages, &Last::Unfinished)?;
     let expected = "\
+age 0 start 0
+member 0 done history 1 logged 1 durable 0
+  view 0 0 0
 age 1 start 2
-  view 0 0 0,1
+  view 0 0 0,1,2
   msg 1 0 -
-member 0 crashed history 4 logged 4 durable 3
-  view 1 0 0,1
+member 0 crashed history 3 logged 3 durable 2
+  view 1 0 0,1,2
+member 1 done history 5 logged 5 durable 4
+  view 1 0 0,1,2
   msg 0 0 000aabff
-ok
+  view 1 1 0,2
+member 2 spent 9 history 5 logged 5 durable 4
+  view 1 0 0,1,2
+  msg 0 0 000aab
+  view 1 1 0,2
+unfinished
 ";
     assert_eq!(rt; text.as_str(), expected);
     Ok(())
@@ -129,12 +152,7 @@ fn each_end_has_its_words(rt: HostRuntime) -> Result<(), Fail> {
     for end in ends {
         members.push(member(alloc, end, Vec::new(alloc)))?;
     }
-    let mut ages = Vec::new(alloc);
-    ages.push(AgeEnd {
-        age: 65_535,
-        start: Seq::of(Vec::new(alloc)),
-        members: Seq::of(members),
-    })?;
+    let ages = [age(65_535, Vec::new(alloc), members)];
     let text = report(alloc, &ages, &Last::Unfinished)?;
     let expected = "\
 age 65535 start 0
@@ -149,27 +167,5 @@ member 7 spent 1000000 history 0 logged 0 durable 0
 unfinished
 ";
     assert_eq!(rt; text.as_str(), expected);
-    Ok(())
-}
-
-#[test]
-fn where_no_age_ran_the_last_line_stands_alone(rt: HostRuntime) -> Result<(), Fail> {
-    let alloc = rt.alloc();
-    let path = Text::of(String::from_str(alloc, "/messages/2/0")?);
-    let lines = [
-        (Last::Usage, "usage: derecho (sim|run) [--logs FOLDER]\n"),
-        (Last::NotBuilt, "refused: not built\n"),
-        (Last::TooLong, "refused: too long\n"),
-        (Last::NotJson, "refused: not json\n"),
-        (
-            Last::Rule { rule: 10, path },
-            "refused: rule 10 at /messages/2/0\n",
-        ),
-        (Last::SourceFault, "fault: source\n"),
-    ];
-    for (last, line) in lines {
-        let text = report(alloc, &[], &last)?;
-        assert_eq!(rt; text.as_str(), line);
-    }
     Ok(())
 }

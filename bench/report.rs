@@ -1,0 +1,59 @@
+//! The report of a large age in plain Rust, made in the way of `dr_text`: the lines of the longest
+//! history once, and then copied for each member as far as its own entries are the same.
+
+#[path = "report/text.rs"]
+mod text;
+
+use std::env;
+use std::hint::black_box;
+use std::io::{self, Write};
+use std::process::ExitCode;
+use text::{Entry, MAX_MESSAGE, Member, report};
+
+const MEMBERS: u8 = 16;
+
+/// The most messages that a member may have.
+const MOST_MESSAGES: u32 = 4096;
+
+/// Message `index` of a member: letters that follow one another.
+fn message(sender: u8, index: u32) -> Vec<u8> {
+    let first = 31 * u32::from(sender) + 7 * index;
+    (0..MAX_MESSAGE as u32)
+        .map(|place| b'a' + ((first + place) % 26) as u8)
+        .collect()
+}
+
+/// A member that delivered so many messages of each, and has all of them on its disk.
+fn member(messages: u32) -> Member {
+    let mut history = vec![Entry::View {
+        age: 0,
+        number: 0,
+        members: u16::MAX,
+    }];
+    for index in 0..messages {
+        for sender in 0..MEMBERS {
+            history.push(Entry::msg(sender, index, &message(sender, index)));
+        }
+    }
+    Member { history }
+}
+
+fn main() -> io::Result<ExitCode> {
+    let words: Vec<String> = env::args().skip(1).collect();
+    let numbers: Vec<u32> = words.iter().filter_map(|word| word.parse().ok()).collect();
+    let &[messages, rounds] = numbers.as_slice() else {
+        println!("usage: report MESSAGES ROUNDS");
+        return Ok(ExitCode::from(2));
+    };
+    let messages = messages.min(MOST_MESSAGES);
+    let members: Vec<Member> = (0..MEMBERS).map(|_| member(messages)).collect();
+    let mut bytes = 0;
+    for _ in 1..rounds {
+        bytes += black_box(report(&members)).len();
+    }
+    let text = report(&members);
+    bytes += text.len();
+    io::stdout().write_all(&text)?;
+    println!("bytes: {bytes}");
+    Ok(ExitCode::SUCCESS)
+}

@@ -1,0 +1,178 @@
+//! The text of one age's members, as `derecho` prints it.
+
+use std::io::Write;
+
+pub const MAX_MESSAGE: usize = 64;
+
+/// The two digits of each byte.
+const DIGITS: [[u8; 2]; 256] = {
+    let digits = b"0123456789abcdef";
+    let mut table = [[0; 2]; 256];
+    let mut byte = 0;
+    while byte < 256 {
+        table[byte] = [digits[byte / 16], digits[byte % 16]];
+        byte += 1;
+    }
+    table
+};
+
+/// A message of at most 64 bytes; what is behind them is 0.
+#[derive(Clone, PartialEq, Eq)]
+pub struct Message {
+    bytes: [u8; MAX_MESSAGE],
+    len: u8,
+}
+
+impl Message {
+    fn bytes(&self) -> &[u8] {
+        &self.bytes[..usize::from(self.len)]
+    }
+}
+
+#[derive(Clone, PartialEq, Eq)]
+pub enum Entry {
+    View {
+        age: u16,
+        number: u8,
+        members: u16,
+    },
+    Msg {
+        sender: u8,
+        index: u32,
+        bytes: Message,
+    },
+}
+
+impl Entry {
+    /// A message of at most 64 bytes.
+    pub fn msg(sender: u8, index: u32, bytes: &[u8]) -> Entry {
+        let mut all = [0; MAX_MESSAGE];
+        all[..bytes.len()].copy_from_slice(bytes);
+        let bytes = Message {
+            bytes: all,
+            len: bytes.len() as u8,
+        };
+        Entry::Msg {
+            sender,
+            index,
+            bytes,
+        }
+    }
+}
+
+/// A member that ended as done, with all of its history logged and durable.
+pub struct Member {
+    pub history: Vec<Entry>,
+}
+
+/// The lines of some entries, and where those of the first ones end.
+struct Printed<'a> {
+    entries: &'a [Entry],
+    text: Vec<u8>,
+    ends: Vec<usize>,
+}
+
+impl<'a> Printed<'a> {
+    fn of(entries: &'a [Entry]) -> Printed<'a> {
+        let mut text = Vec::new();
+        let mut ends = vec![0];
+        for entry in entries {
+            push_entry(&mut text, entry);
+            ends.push(text.len());
+        }
+        Printed {
+            entries,
+            text,
+            ends,
+        }
+    }
+
+    fn push_entries(&self, out: &mut Vec<u8>, entries: &[Entry]) {
+        let both = self.entries.iter().zip(entries);
+        let same = both.take_while(|(ours, theirs)| ours == theirs).count();
+        out.extend_from_slice(&self.text[..self.ends[same]]);
+        for entry in &entries[same..] {
+            push_entry(out, entry);
+        }
+    }
+}
+
+/// The report of one age with an empty start.
+#[inline(never)]
+pub fn report(members: &[Member]) -> Vec<u8> {
+    let mut out = b"age 0 start 0\n".to_vec();
+    let histories = members.iter().map(|member| member.history.as_slice());
+    let printed = Printed::of(histories.max_by_key(|history| history.len()).unwrap_or(&[]));
+    out.reserve(printed.text.len() * members.len());
+    for (number, member) in members.iter().enumerate() {
+        let count = member.history.len();
+        push_text(
+            &mut out,
+            format_args!("member {number} done history {count} logged {count} durable {count}\n"),
+        );
+        printed.push_entries(&mut out, &member.history);
+    }
+    out.extend_from_slice(b"ok\n");
+    out
+}
+
+/// Appends a line that there are few of.
+fn push_text(out: &mut Vec<u8>, text: std::fmt::Arguments<'_>) {
+    out.write_fmt(text)
+        .expect("a vector takes all that is written");
+}
+
+fn push_entry(out: &mut Vec<u8>, entry: &Entry) {
+    match entry {
+        Entry::View {
+            age,
+            number,
+            members,
+        } => {
+            let members = (0..16).filter(|member| (members >> member) & 1 == 1);
+            let members: Vec<String> = members.map(|member| member.to_string()).collect();
+            push_text(
+                out,
+                format_args!("  view {age} {number} {}\n", members.join(",")),
+            );
+        }
+        Entry::Msg {
+            sender,
+            index,
+            bytes,
+        } => {
+            out.extend_from_slice(b"  msg ");
+            push_decimal(out, u32::from(*sender));
+            out.push(b' ');
+            push_decimal(out, *index);
+            out.push(b' ');
+            push_message(out, bytes.bytes());
+            out.push(b'\n');
+        }
+    }
+}
+
+fn push_message(out: &mut Vec<u8>, bytes: &[u8]) {
+    if bytes.is_empty() {
+        out.push(b'-');
+    }
+    let mut room = [[0; 2]; MAX_MESSAGE];
+    for (digits, byte) in room.iter_mut().zip(bytes) {
+        *digits = DIGITS[usize::from(*byte)];
+    }
+    out.extend_from_slice(room[..bytes.len()].as_flattened());
+}
+
+fn push_decimal(out: &mut Vec<u8>, mut number: u32) {
+    let mut digits = [b'0'; 10];
+    let mut first = digits.len();
+    loop {
+        first -= 1;
+        digits[first] = b'0' + (number % 10) as u8;
+        number /= 10;
+        if number == 0 {
+            break;
+        }
+    }
+    out.extend_from_slice(&digits[first..]);
+}

@@ -1,0 +1,54 @@
+-- The kit's words for hexadecimal text, and those of the report.
+use Rattle.std.proofs.Common.{◌≡◌, ℕ, zero, suc, ◌/◌, ◌%◌, ◌<◌, ◌==◌, nat_lt, ◌&&◌, Bool, true, inl, inr, false, List, [], ◌∷◌, slice_index, refl, arith}
+use Rattle.std.specs.Fmt.{digit_glyph}
+use Rattle.std.specs.List.{flat_map}
+use Rattle.std.specs.Str.{IsAscii}
+use Rattle.std.proofs.lemmas.Bool.{and_parts, cases_lt, eqb-true, ltb-true}
+use Rattle.std.proofs.lemmas.Str.Ascii.{IsAscii-nil, IsAscii-cons}
+use Rattle.hex.specs.Hex.{IsBytes, encode_with, encode_lower, lower_digits}
+use Rattle.hex.proofs.HexLemmas.{IsAscii-encode_with}
+use Rattle.dr_text.specs.Report.{hex_text}
+
+-- the first n of the kit's digits are those of the report
+abbrev same_digits : ℕ → Bool
+same_digits zero = true
+same_digits (suc n) = (slice_index lower_digits n == digit_glyph false n) && same_digits n
+
+-- a digit below n is the same
+same_digit : (n d : ℕ) → same_digits n ≡ true → d < n
+    → slice_index lower_digits d ≡ digit_glyph false d
+same_digit zero d h below = absurd (omega arith)
+same_digit (suc n) d h below =
+    let parts = and_parts (slice_index lower_digits n == digit_glyph false n) (same_digits n) h in
+    elim (cases_lt d n) [
+      | inl less ↦ same_digit n d parts.1 less
+      | inr top ↦
+          let e : d ≡ n = omega arith in
+          rw e (eqb-true (slice_index lower_digits n) (digit_glyph false n) parts.0)
+    ]
+
+-- the kit's hexadecimal text is that of the report
+pub encoded_text : (bytes : List ℕ) → IsBytes bytes → encode_lower bytes ≡ flat_map hex_text bytes
+unfolding encode_with
+encoded_text [] h = refl
+encoded_text (b ∷ rest) h =
+    let low : b < 256 = h 0 in
+    let high_digit = same_digit 16 (b / 16) refl (omega arith) in
+    let low_digit = same_digit 16 (b % 16) refl (omega arith) in
+    rw (high_digit, low_digit, encoded_text rest (λ i. h (suc i))) refl
+
+-- whether each of the bytes is below 128
+abbrev all_ascii : List ℕ → Bool
+all_ascii [] = true
+all_ascii (b ∷ bs) = nat_lt b 128 && all_ascii bs
+
+-- bytes below 128 are ASCII
+ascii_from_all : (bs : List ℕ) → all_ascii bs ≡ true → IsAscii bs
+ascii_from_all [] h = IsAscii-nil
+ascii_from_all (b ∷ bs) h =
+    let parts = and_parts (nat_lt b 128) (all_ascii bs) h in
+    IsAscii-cons b bs (ltb-true b 128 parts.0) (ascii_from_all bs parts.1)
+
+-- the kit's hexadecimal text is ASCII
+pub encoded_ascii : (bytes : List ℕ) → IsAscii (encode_lower bytes)
+encoded_ascii bytes = IsAscii-encode_with lower_digits bytes (ascii_from_all lower_digits refl)
