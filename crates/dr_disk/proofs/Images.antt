@@ -1,0 +1,228 @@
+-- What the images of a disk are: at rest, after a write, and what a read gives among them.
+use Rattle.std.proofs.Common.{◌≡◌, ℕ, ◌+◌, ◌-◌, ◌<◌, ◌≤◌, min, max, List, [], ◌∷◌, ◌++◌, length, get_or, take, drop, ◌⊎◌, inl, inr, ⊎_elim, refl, sym, ap, ◌∙◌, arith, length-append, length-drop, length-take}
+use Rattle.std.proofs.lemmas.Bool.{cases_lt}
+use Rattle.std.proofs.lemmas.List.{ext_get_or, get_or-take, get_or-drop, get_or_append_left, get_or-append_right, length-take-le, drop_more, take-append-drop}
+use Rattle.dr_disk.specs.Calls.{Call, Write, FailedWrite, Cut, FailedCut, Sync, State, at_rest, written, step, run_from, run, content_after}
+use Rattle.dr_disk.specs.Images.{IsImage}
+
+-- at rest there is one image
+pub image_at_rest : (bytes image : List ℕ) → IsImage (at_rest bytes) image → image ≡ bytes
+image_at_rest bytes image is = ext_get_or 0 image bytes (omega (arith, is.no_shorter, is.no_longer))
+    (λ i l. is.stays i l (omega (arith, l, is.no_longer)) tt)
+
+rest_image : (bytes : List ℕ) → IsImage (at_rest bytes) bytes
+rest_image bytes = record { no_shorter = omega arith; no_longer = omega arith; stays = λ i l k free. refl }
+
+-- ---- what a read gives is an image
+
+-- the length after a write that begins inside
+pub length-written : (old : List ℕ) (at : ℕ) (bytes : List ℕ) → at ≤ length old
+    → length (written old at bytes) ≡ max (length old) (at + length bytes)
+length-written old at bytes l =
+    omega (
+      arith,
+      length-append (take at old) (bytes ++ drop (at + length bytes) old),
+      length-append bytes (drop (at + length bytes) old),
+      length-take at old,
+      length-drop
+          (at + length bytes) old,
+    )
+
+length-written_past : (old : List ℕ) (at : ℕ) (bytes : List ℕ) → length old < at
+    → length (written old at bytes) ≡ length old + length bytes
+length-written_past old at bytes l =
+    omega (
+      arith,
+      length-append (take at old) (bytes ++ drop (at + length bytes) old),
+      length-append bytes (drop (at + length bytes) old),
+      length-take at old,
+      length-drop
+          (at + length bytes) old,
+    )
+
+-- a write leaves what stands before its range
+written_before : (old : List ℕ) (at : ℕ) (bytes : List ℕ) (i : ℕ) → i < min at (length old)
+    → get_or (written old at bytes) i 0 ≡ get_or old i 0
+written_before old at bytes i l =
+    get_or_append_left (take at old) (bytes ++ drop (at + length bytes) old) 0 i
+    (omega (arith, l, length-take at old)) ∙ get_or-take at old i 0 (omega (arith, l))
+
+-- and what stands behind it
+written_behind : (old : List ℕ) (at : ℕ) (bytes : List ℕ) (i : ℕ) → at ≤ length old
+    → at + length bytes ≤ i → get_or (written old at bytes) i 0 ≡ get_or old i 0
+written_behind old at bytes i inside l =
+    get_or-append_right (take at old) (bytes ++ drop (at + length bytes) old) at i 0
+    (length-take-le at old inside) (omega (arith, l))
+    ∙ get_or-append_right bytes (drop (at + length bytes) old) (length bytes) (i - at) 0 refl
+    (omega (arith, l))
+    ∙ get_or-drop (at + length bytes) old (i - at - length bytes) 0
+    ∙ ap (λ (n : ℕ). get_or old n 0) (omega (arith, l))
+
+write_keeps : (s : State) (at : ℕ) (bytes : List ℕ) → IsImage s s.content
+    → IsImage (step s (Write at bytes)) (written s.content at bytes)
+write_keeps s at bytes is = ⊎_elim
+    (λ (past : length s.content < at). record {
+      no_shorter = omega (arith, past, is.no_shorter, length-written_past s.content at bytes past);
+      no_longer = omega (arith, past, is.no_longer, length-written_past s.content at bytes past);
+      stays = λ i l k free. ⊎_elim
+          (λ (h : i < min at (length s.content)). written_before s.content at bytes i h
+          ∙ is.stays i (omega (arith, h)) k free.1)
+          (λ (h : min at (length s.content) + length bytes ≤ i).
+          absurd (omega (arith, h, past, l, length-written_past s.content at bytes past)))
+          free.0;
+    })
+    (λ (inside : at ≤ length s.content). record {
+      no_shorter = omega (arith, inside, is.no_shorter, length-written s.content at bytes inside);
+      no_longer = omega (arith, inside, is.no_longer, length-written s.content at bytes inside);
+      stays = λ i l k free. ⊎_elim
+          (λ (h : i < min at (length s.content)). written_before s.content at bytes i h
+          ∙ is.stays i (omega (arith, h)) k free.1)
+          (λ (h : min at (length s.content) + length bytes ≤ i).
+          written_behind s.content at bytes i inside (omega (arith, h, inside))
+          ∙ is.stays i (omega (arith, h, inside, l, length-written s.content at bytes inside)) k free.1)
+          free.0;
+    })
+    (cases_lt (length s.content) at)
+
+cut_keeps : (s : State) (to : ℕ) → IsImage s s.content → IsImage (step s (Cut to)) (take to s.content)
+cut_keeps s to is = record {
+  no_shorter = omega (arith, is.no_shorter, length-take to s.content);
+  no_longer = omega (arith, is.no_longer, length-take to s.content);
+  stays = λ i l k free. get_or-take to s.content i 0 (omega (arith, l, length-take to s.content))
+      ∙ is.stays i (omega (arith, l, length-take to s.content)) k free;
+}
+
+step_keeps : (s : State) (call : Call) → IsImage s s.content → IsImage (step s call) (step s call).content
+step_keeps s (Write at bytes) is = write_keeps s at bytes is
+step_keeps s (FailedWrite at count) is = record {
+  no_shorter = is.no_shorter;
+  no_longer = omega (arith, is.no_longer);
+  stays = λ i l k free. is.stays i l k free.1;
+}
+step_keeps s (Cut to) is = cut_keeps s to is
+step_keeps s (FailedCut to) is = record {
+  no_shorter = omega (arith, is.no_shorter);
+  no_longer = is.no_longer;
+  stays = is.stays;
+}
+step_keeps s Sync is = rest_image s.content
+
+-- what a read gives is an image of any disk that began with one
+reads_image_from : (s : State) (calls : List Call) → IsImage s s.content → IsImage (run_from s calls)
+    (run_from s calls).content
+reads_image_from s [] is = is
+reads_image_from s (call ∷ calls) is = reads_image_from (step s call) calls (step_keeps s call is)
+
+-- what a read gives is an image
+pub reads_image : (calls : List Call) → IsImage (run calls) (content_after calls)
+reads_image calls = reads_image_from (at_rest []) calls (rest_image [])
+
+-- ---- a write, or one that failed, on a disk at rest
+
+-- an image differs from the bytes at rest in a range of n bytes, and past their end, at most
+pub record Torn (at n : ℕ) (old image : List ℕ) : Type 0 where
+  pub no_shorter : length old ≤ length image
+  pub no_longer : length image ≤ max (length old) (at + n)
+  pub stays : (i : ℕ) → i < length old → (i < at) ⊎ (at + n ≤ i) → get_or image i 0
+      ≡ get_or old i 0
+
+-- a write leaves such images
+pub torn_by_write : (old : List ℕ) (at : ℕ) (bytes image : List ℕ)
+    → IsImage (step (at_rest old) (Write at bytes)) image → Torn at (length bytes) old image
+torn_by_write old at bytes image is = record {
+  no_shorter = is.no_shorter;
+  no_longer = is.no_longer;
+  stays = λ i l free. is.stays i (omega (arith, l, is.no_shorter)) l (
+    ⊎_elim (λ (h : i < at). inl (omega (arith, h, l))) (λ (h : at + length bytes ≤ i).
+        inr (omega (arith, h))) free,
+    tt,
+  );
+}
+
+-- so does one that failed
+pub torn_by_fault : (old : List ℕ) (at n : ℕ) (image : List ℕ)
+    → IsImage (step (at_rest old) (FailedWrite at n)) image → Torn at n old image
+torn_by_fault old at n image is = record {
+  no_shorter = is.no_shorter;
+  no_longer = is.no_longer;
+  stays = λ i l free. is.stays i (omega (arith, l, is.no_shorter)) l (free, tt);
+}
+
+-- what stands before the range is the old
+pub torn_front : (at n : ℕ) (old image : List ℕ) → at ≤ length old → Torn at n old image
+    → take at image ≡ take at old
+torn_front at n old image inside torn = ext_get_or 0 (take at image) (take at old)
+    (omega (arith, length-take at image, length-take at old, inside, torn.no_shorter))
+    (λ i l. let below : i < at = omega (arith, l, length-take at image) in
+    get_or-take at image i 0 below ∙ torn.stays i (omega (arith, below, inside)) (inl below)
+    ∙ sym (get_or-take at old i 0 below))
+
+-- a range of one byte inside: all but that byte is the old
+pub torn_byte : (at : ℕ) (old image : List ℕ) → at < length old → Torn at 1 old image
+    → image ≡ take at old ++ (get_or image at 0 ∷ drop (at + 1) old)
+torn_byte at old image inside torn =
+    let behind : drop (at + 1) image ≡ drop (at + 1) old = ext_get_or 0 (drop (at + 1) image)
+    (drop (at + 1) old)
+    (omega (
+      arith,
+      length-drop (at + 1) image,
+      length-drop (at + 1) old,
+      inside,
+      torn.no_shorter,
+      torn.no_longer,
+    ))
+    (λ i l. get_or-drop (at + 1) image i 0
+    ∙ torn.stays (at + 1 + i) (omega (arith, l, length-drop (at + 1) image, inside, torn.no_longer))
+    (inr (omega arith))
+    ∙ sym (get_or-drop (at + 1) old i 0)) in
+    sym (take-append-drop at image)
+    ∙ ap (λ (l : List ℕ). l ++ drop at image) (torn_front at 1 old image (omega (arith, inside)) torn)
+    ∙ ap (λ (l : List ℕ). take at old ++ l)
+    (drop_more image at 0 (omega (arith, inside, torn.no_shorter))
+    ∙ ap (λ (l : List ℕ). get_or image at 0 ∷ l) behind)
+
+-- ---- calls that are done in part
+
+-- a part of a write leaves no more than the whole
+pub part_of_write : (s : State) (at k : ℕ) (bytes image : List ℕ)
+    → IsImage (step s (Write at (take k bytes))) image → IsImage (step s (Write at bytes)) image
+part_of_write s at k bytes image is = record {
+  no_shorter = is.no_shorter;
+  no_longer = omega (arith, is.no_longer, length-take k bytes);
+  stays = λ i l m free. is.stays i l m (
+    ⊎_elim (λ (h : i < min at (length s.content)). inl h)
+        (λ (h : min at (length s.content) + length bytes ≤ i).
+        inr (omega (arith, h, length-take k bytes))) free.0,
+    free.1,
+  );
+}
+
+pub part_of_failed_write : (s : State) (at k : ℕ) (bytes image : List ℕ) → at ≤ length s.content
+    → IsImage (step s (Write at (take k bytes))) image
+    → IsImage (step s (FailedWrite at (length bytes))) image
+part_of_failed_write s at k bytes image inside is = record {
+  no_shorter = is.no_shorter;
+  no_longer = omega (arith, is.no_longer, length-take k bytes);
+  stays = λ i l m free. is.stays i l m (
+    ⊎_elim (λ (h : i < at). inl (omega (arith, h, inside)))
+        (λ (h : at + length bytes ≤ i). inr (omega (arith, h, length-take k bytes))) free.0,
+    free.1,
+  );
+}
+
+-- a part of a cut leaves no more than the whole
+pub part_of_cut : (s : State) (to more : ℕ) (image : List ℕ) → to ≤ more
+    → IsImage (step s (Cut more)) image → IsImage (step s (Cut to)) image
+part_of_cut s to more image part is = record {
+  no_shorter = omega (arith, is.no_shorter, part);
+  no_longer = is.no_longer;
+  stays = is.stays;
+}
+
+pub part_of_failed_cut : (s : State) (to more : ℕ) (image : List ℕ) → to ≤ more
+    → IsImage (step s (Cut more)) image → IsImage (step s (FailedCut to)) image
+part_of_failed_cut s to more image part is = record {
+  no_shorter = omega (arith, is.no_shorter, part);
+  no_longer = is.no_longer;
+  stays = is.stays;
+}

@@ -1,0 +1,23 @@
+use Rattle.std.proofs.Common.{◌≡◌, [], ◌∷◌, ◌++◌, List, ap, ◌∙◌, refl, rules}
+use Rattle.dr_disk.specs.Calls.{written}
+use Rattle.dr_disk.specs.Calls as calls
+use Rattle.dr_disk.specs.declared.kept.Step.TheVariants.{FailedCut}
+use Rattle.dr_disk.specs.Memory.{CalmState}
+use Rattle.dr_disk.proofs.Steps.{whole_still, calls_still}
+use Rattle.dr_disk.proofs.kept.Kept.fail_cut.Goals as goal
+
+pub invariant_of-self : goal.invariant_of-self
+invariant_of-self c =
+    let old = c.self.inside in
+    let pushed : c.push.new.self.items ≡ old.steps.items ++ FailedCut c.args.to ∷ [] = search rules in
+    whole_still old.steps.items _ old.text.items old.bytes.items _
+    (FailedCut c.args.to) c.self.invariant refl pushed c.self.invariant.same
+
+pub returns-clause-told : goal.returns-clause-told
+returns-clause-told c =
+    let old = c.self.inside in
+    let pushed : c.push.new.self.items ≡ old.steps.items ++ FailedCut c.args.to ∷ [] = search rules in
+    calls_still old.steps.items _ old.text.items old.bytes.items
+    (FailedCut c.args.to) c.self.invariant pushed
+    ∙ ap (λ (l : List calls.Call). l ++ calls.FailedCut c.args.to ∷ [])
+    (ap (λ (v : CalmState). v.calls) c.self.view_is)

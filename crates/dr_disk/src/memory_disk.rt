@@ -1,0 +1,179 @@
+//! A disk in memory whose calls fail where they are planned to.
+
+ghost use Rattle.std.specs.Prelude.{◌≡◌, ◌+◌, ◌≤◌, ◌↔◌, [], IfOk, IfSome, IsErr, OnOk, OnErr, length, take, drop};
+ghost use Rattle.dr_io.specs.Faults.{HasCause};
+ghost use Rattle.dr_disk.specs.Plan.{IsPlanned, plan_after};
+
+use crate::disk::Disk;
+use crate::kept::Kept;
+use crate::plan::Plan;
+use dr_io::Failed;
+use std::alloc::{AllocError, Global};
+use std::marker::Model;
+
+/// A disk in memory. The calls that are planned to fail do so and change nothing, and no others
+/// fail. No call but `reserve` takes memory.
+#[derive(Debug, Drop)]
+pub struct MemoryDisk {
+    kept: Kept,
+    plan: Plan,
+}
+
+impl Model for MemoryDisk {
+    ghost use Rattle.dr_disk.specs.Memory.{MemoryState};
+
+    ghost Value = { MemoryState };
+
+    ghost view = { λ a. record {
+      calls = a.kept.calls;
+      room_calls = a.kept.room_calls;
+      room_bytes = a.kept.room_bytes;
+      plan = a.plan;
+    } };
+}
+
+impl MemoryDisk {
+    ghost use Rattle.dr_disk.specs.Calls.{content_after};
+    ghost use Rattle.dr_disk.specs.Plan.{plan_of};
+
+    /// An empty disk. The calls whose numbers, from 1, are in `fails` fail, and all calls after the
+    /// first `stop`. Calls of `reserve` have no number.
+    ///
+    /// # Errors
+    ///
+    /// Want of memory alone.
+    pub fn new(alloc: Global, fails: &[u64], stop: Option<u64>) -> Result<MemoryDisk, AllocError>
+        ensures calls { IfOk result (λ disk. disk.calls ≡ []) }
+        ensures plan { IfOk result (λ disk. disk.plan ≡ plan_of fails.now stop) }
+    {
+        Ok(MemoryDisk {
+            kept: Kept::new(alloc),
+            plan: Plan::new(alloc, fails, stop)?,
+        })
+    }
+
+    /// What a read gives.
+    pub fn bytes(&self) -> &[u8]
+        ensures { result.now ≡ content_after self.now.calls }
+    {
+        self.kept.bytes()
+    }
+}
+
+/// Counts a call, and fails where it is planned to, which counts as a fault.
+fn begin(plan: &mut Plan) -> Result<(), Failed>
+    ensures planned { IsErr result ↔ IsPlanned plan.old }
+    ensures after { plan.new ≡ plan_after result plan.old }
+    ensures cause { HasCause plan.old.faults plan.new.faults result }
+{
+    if plan.count_call() {
+        plan.count_fault();
+        return Err(Failed);
+    }
+    Ok(())
+}
+
+impl Disk for MemoryDisk {
+    ghost use Rattle.std.specs.Prelude.{Some};
+    ghost use Rattle.dr_disk.specs.Calls.{Write, FailedWrite, Cut, FailedCut, Sync, content_after};
+    ghost use Rattle.dr_disk.specs.Disk.{added};
+
+    ghost told = { λ disk. Some disk.calls };
+
+    ghost room_calls = { λ disk. disk.room_calls };
+
+    ghost room_bytes = { λ disk. disk.room_bytes };
+
+    ghost faults = { λ disk. disk.plan.faults };
+
+    fn reserve(&mut self, calls: u64, bytes: u64) -> Result<(), AllocError> {
+        self.kept.reserve(calls, bytes)
+    }
+
+    fn len(&mut self) -> Result<u64, Failed>
+        ensures value { IfOk result (λ n. n ≡ length (content_after self.old.calls)) }
+        ensures told { Some self.new.calls ≡ Some self.old.calls }
+        ensures calls_kept { self.old.room_calls ≤ self.new.room_calls }
+        ensures bytes_kept { self.old.room_bytes ≤ self.new.room_bytes }
+        ensures cause { HasCause self.old.plan.faults self.new.plan.faults result }
+
+        ensures fails { IsErr result ↔ IsPlanned self.old.plan }
+        ensures plan { self.new.plan ≡ plan_after result self.old.plan }
+    {
+        begin(&mut self.plan)?;
+        Ok(self.kept.bytes().len() as u64)
+    }
+
+    fn read_at(&mut self, at: u64, into: &mut [u8]) -> Result<usize, Failed>
+        ensures bound { IfOk result (λ n. n ≤ length into.new) }
+        ensures value { IfOk result
+            (λ n. take n into.new ≡ take (length into.new) (drop at (content_after self.old.calls))) }
+        ensures told { Some self.new.calls ≡ Some self.old.calls }
+        ensures calls_kept { self.old.room_calls ≤ self.new.room_calls }
+        ensures bytes_kept { self.old.room_bytes ≤ self.new.room_bytes }
+        ensures cause { HasCause self.old.plan.faults self.new.plan.faults result }
+
+        ensures fails { IsErr result ↔ IsPlanned self.old.plan }
+        ensures plan { self.new.plan ≡ plan_after result self.old.plan }
+    {
+        begin(&mut self.plan)?;
+        Ok(self.kept.read_at(at, into))
+    }
+
+    fn write_at(&mut self, at: u64, from: &[u8]) -> Result<(), Failed>
+        requires inside { at ≤ length (content_after self.old.calls) }
+        requires room_for_call { 1 ≤ self.old.room_calls }
+        requires room_for_bytes { length from.now ≤ self.old.room_bytes }
+        ensures ok { OnOk result (Some self.new.calls ≡ added (Write at from.now) (Some self.old.calls)) }
+        ensures err { OnErr result (Some self.new.calls
+            ≡ added (FailedWrite at (length from.now)) (Some self.old.calls)) }
+        ensures calls_kept { self.old.room_calls ≤ self.new.room_calls + 1 }
+        ensures bytes_kept { self.old.room_bytes ≤ self.new.room_bytes + length from.now }
+        ensures cause { HasCause self.old.plan.faults self.new.plan.faults result }
+
+        ensures fails { IsErr result ↔ IsPlanned self.old.plan }
+        ensures plan { self.new.plan ≡ plan_after result self.old.plan }
+    {
+        if let Err(failed) = begin(&mut self.plan) {
+            self.kept.fail_write(at, from.len());
+            return Err(failed);
+        }
+        self.kept.write(at, from);
+        Ok(())
+    }
+
+    fn cut(&mut self, to: u64) -> Result<(), Failed>
+        requires room_for_call { 1 ≤ self.old.room_calls }
+        ensures ok { OnOk result (Some self.new.calls ≡ added (Cut to) (Some self.old.calls)) }
+        ensures err { OnErr result (Some self.new.calls ≡ added (FailedCut to) (Some self.old.calls)) }
+        ensures calls_kept { self.old.room_calls ≤ self.new.room_calls + 1 }
+        ensures bytes_kept { self.old.room_bytes ≤ self.new.room_bytes }
+        ensures cause { HasCause self.old.plan.faults self.new.plan.faults result }
+
+        ensures fails { IsErr result ↔ IsPlanned self.old.plan }
+        ensures plan { self.new.plan ≡ plan_after result self.old.plan }
+    {
+        if let Err(failed) = begin(&mut self.plan) {
+            self.kept.fail_cut(to);
+            return Err(failed);
+        }
+        self.kept.cut(to);
+        Ok(())
+    }
+
+    fn sync(&mut self) -> Result<(), Failed>
+        requires room_for_call { 1 ≤ self.old.room_calls }
+        ensures ok { OnOk result (Some self.new.calls ≡ added Sync (Some self.old.calls)) }
+        ensures err { OnErr result (Some self.new.calls ≡ Some self.old.calls) }
+        ensures calls_kept { self.old.room_calls ≤ self.new.room_calls + 1 }
+        ensures bytes_kept { self.old.room_bytes ≤ self.new.room_bytes }
+        ensures cause { HasCause self.old.plan.faults self.new.plan.faults result }
+
+        ensures fails { IsErr result ↔ IsPlanned self.old.plan }
+        ensures plan { self.new.plan ≡ plan_after result self.old.plan }
+    {
+        begin(&mut self.plan)?;
+        self.kept.sync();
+        Ok(())
+    }
+}

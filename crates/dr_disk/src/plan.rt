@@ -1,0 +1,84 @@
+//! Which calls of a disk in memory are to fail.
+
+ghost use Rattle.std.specs.Prelude.{◌≡◌, ◌+◌, ◌≤◌, ◌↔◌, Contains, IfOk, IsTrue, IsSomeAnd};
+
+use std::alloc::{AllocError, Global};
+use std::marker::Model;
+
+/// Counts the calls and the faults of a disk in memory, and knows which calls are to fail.
+#[derive(Debug, Drop)]
+pub(crate) struct Plan {
+    fails: Vec<u64>,
+    stop: Option<u64>,
+    calls: u64,
+    faults: u64,
+}
+
+impl Model for Plan {
+    ghost use Rattle.dr_disk.specs.Plan.{DiskPlan};
+
+    ghost Value = { DiskPlan };
+
+    ghost view = { λ a. record
+        { fails = a.fails.items; stop = a.stop; calls = a.calls; faults = a.faults } };
+}
+
+impl Plan {
+    ghost use Rattle.dr_io.specs.Faults.{count_after};
+    ghost use Rattle.dr_disk.specs.Plan.{IsPlanned, plan_of};
+
+    /// The plan by which the calls with these numbers, from 1, fail, and all calls after the first
+    /// `stop`.
+    pub(crate) fn new(alloc: Global, fails: &[u64], stop: Option<u64>) -> Result<Plan, AllocError>
+        ensures { IfOk result (λ plan. plan ≡ plan_of fails.now stop) }
+    {
+        Ok(Plan {
+            fails: Vec::from_slice(alloc, fails)?,
+            stop,
+            calls: 0,
+            faults: 0,
+        })
+    }
+
+    /// Counts one call, and answers whether it is to fail. Then it counts as a fault too.
+    pub(crate) fn count_call(&mut self) -> bool
+        ensures planned { IsTrue result ↔ IsPlanned self.old }
+        ensures calls { self.new.calls ≡ count_after self.old.calls }
+        ensures faults { self.new.faults ≡ self.old.faults }
+        ensures fails { self.new.fails ≡ self.old.fails }
+        ensures stop { self.new.stop ≡ self.old.stop }
+    {
+        let planned = has_next(self.fails.as_slice(), self.calls)
+            || has_stopped(self.stop, self.calls);
+        self.calls = self.calls.saturating_add(1);
+        planned
+    }
+
+    /// Counts one fault.
+    pub(crate) fn count_fault(&mut self)
+        ensures after { self.new ≡ record self.old { faults = count_after self.old.faults } }
+        ensures later { self.old.faults ≤ self.new.faults }
+    {
+        self.faults = self.faults.saturating_add(1);
+    }
+}
+
+/// Whether the number after `calls` is one of `numbers`. None of them is above the last `u64`.
+fn has_next(numbers: &[u64], calls: u64) -> bool
+    ensures { IsTrue result ↔ Contains numbers.now (calls + 1) }
+{
+    match calls.checked_add(1) {
+        Some(next) => numbers.contains(&next),
+        None => false,
+    }
+}
+
+/// Whether all calls after so many fail.
+fn has_stopped(stop: Option<u64>, calls: u64) -> bool
+    ensures { IsTrue result ↔ IsSomeAnd stop (λ stop. stop ≤ calls) }
+{
+    match stop {
+        Some(stop) => stop <= calls,
+        None => false,
+    }
+}

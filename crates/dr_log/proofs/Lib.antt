@@ -1,0 +1,6 @@
+pub mod Meaning
+pub mod Growing
+pub mod Moments
+pub mod Told
+pub mod Reading
+pub mod Mounting

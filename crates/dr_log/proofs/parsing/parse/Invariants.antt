@@ -1,0 +1,10 @@
+use Rattle.std.proofs.Common.{◌-◌, length}
+use Rattle.dr_log.specs.Parsed.{IsParsed}
+use Rattle.dr_log.proofs.parsing.parse.Given as goal
+
+-- the blocks before the place are those of the records so far
+abbrev pub invariant-loop-at : goal.invariant-loop-at
+invariant-loop-at l = IsParsed l.bytes l.entries.items l.votes.items l.at
+
+abbrev pub decreases-loop-at : goal.decreases-loop-at
+decreases-loop-at l = length l.bytes - l.at

@@ -1,0 +1,6 @@
+pub mod Grammar
+pub mod Standing
+pub mod State
+pub mod Appending
+pub mod Kept
+pub mod Parsed
