@@ -1,5 +1,3 @@
 pub mod Runs
-pub mod Holdings
-pub mod OwnWords
-pub mod Opening
-pub mod OpeningForm
+pub mod Presence
+pub mod Events

@@ -16,7 +16,11 @@ use Rattle.dr_words.specs.declared.column.TheConstants.{BEAT_COLUMN, RECEIVED_CO
 use Rattle.dr_words.specs.Columns.{recv_column}
 use Rattle.dr_words.specs.Packing.{ring_word, recv_word}
 use Rattle.dr_machine.specs.declared.event.Event.{Event}
-use Rattle.dr_machine.specs.declared.event.Event.TheVariants.{Beat, Look, Push, Send, Receive, Deliver, Append, Publish, Report, Mark, Halt, Crash}
+use Rattle.dr_machine.specs.declared.event.Act.{Act}
+use Rattle.dr_machine.specs.declared.event.Act.TheVariants as acts
+use Rattle.dr_machine.specs.declared.step.Step.{Step}
+use Rattle.dr_machine.specs.declared.step.Step.TheVariants as steps
+use Rattle.dr_machine.specs.Events.{member_of, step_of}
 use Rattle.dr_machine.specs.Writes.{at, at₂, at₃, at₄}
 use Rattle.dr_machine.specs.Group.{Group, roster}
 use Rattle.dr_machine.specs.World.{World, own_word, count_of, shown, view_members, item_at_place}
@@ -58,15 +62,18 @@ gains w m s item =
     let counts = at (w.past.count m v) s (k + 1) in record w {
       past = record w.past {
         count = at₂ w.past.count m v counts;
-        item = at₄ w.past.item m v s k item;
-        own = at₂ w.past.own m v (at (at (w.past.own m v) (recv_column s) (recv_word (k + 1) false)) RECEIVED_COLUMN (front_of (map counts (view_members w m))));
+        own = at₂ w.past.own m v (at
+            (at (w.past.own m v) (recv_column s) (recv_word (k + 1) false)) RECEIVED_COLUMN
+            (front_of (map counts (view_members w m))));
       };
+      item = at₃ w.item m s k item;
     }
 
 -- a row with these pieces of item k from a column on
 abbrev pub row_with : (ℕ → ℕ) → ℕ → ℕ → List ℕ → ℕ → ℕ
 row_with row from k list c =
-    if nat_le from c && nat_lt c (from + length list) then ring_word k (slice_index list (c - from)) else row c
+    if nat_le from c && nat_lt c (from + length list) then ring_word k
+    (slice_index list (c - from)) else row c
 
 -- m puts an item: its pieces stand in the slot, with the item's number
 abbrev pub puts : Group → World → ℕ → SentItem → Item → World
@@ -75,7 +82,8 @@ puts g w m name item =
     let k = count_of w m m in
     gains (record w {
       past = record w.past {
-        own = at₂ w.past.own m v (row_with (w.past.own m v) (slot_column (roster g) g.window k) k (pieces item));
+        own = at₂ w.past.own m v (row_with (w.past.own m v) (slot_column (roster g) g.window k) k
+            (pieces item));
         sent = at₂ w.past.sent m v (w.past.sent m v ++ name ∷ []);
       };
     }) m m item
@@ -105,7 +113,8 @@ abbrev pub delivers : World → ℕ → World
 delivers w m =
     let history = w.past.history m in record w {
       past = record w.past {
-        history = at w.past.history m (history ++ entries_of history (sender_at w m (w.next m)) (item_at_place w m (w.next m)));
+        history = at w.past.history m
+            (history ++ entries_of history (sender_at w m (w.next m)) (item_at_place w m (w.next m)));
       };
       next = at w.next m (w.next m + 1);
     }
@@ -114,7 +123,10 @@ delivers w m =
 abbrev pub appends : World → ℕ → World
 appends w m =
     let log = w.past.log m in
-    record w { past = record w.past { log = at w.past.log m (log ++ take 1 (drop (length log) (w.past.history m))) } }
+    record w {
+      past =
+          record w.past { log = at w.past.log m (log ++ take 1 (drop (length log) (w.past.history m))) };
+    }
 
 abbrev pub publishes : World → ℕ → World
 publishes w m = with_own w m LOGGED_COLUMN (length (w.past.log m))
@@ -124,25 +136,13 @@ abbrev pub least_shown : World → ℕ → ℕ → ℕ
 least_shown w m c = fold min (2 ^ 64 - 1) (map (λ i. shown w m i c) (view_members w m))
 
 abbrev pub reports : World → ℕ → World
-reports w m = record w { past = record w.past { durable = at w.past.durable m (least_shown w m LOGGED_COLUMN) } }
+reports w m = record w {
+  past =
+      record w.past { durable = at w.past.durable m (least_shown w m LOGGED_COLUMN) };
+}
 
 abbrev pub marks : World → ℕ → World
 marks w m = with_own w m DONE_COLUMN 1
 
 abbrev pub ends : World → ℕ → End → World
 ends w m end = record w { end = at w.end m (Some end) }
-
--- what the event makes of the world
-abbrev pub effect : Group → World → Event → World
-effect g w (Beat m) = stamped (beats w m) m
-effect g w (Look m i c) = looks w m i c
-effect g w (Push m j c) = pushes w m j c
-effect g w (Send m) = stamped (sends g w m) m
-effect g w (Receive m s) = stamped (receives g w m s) m
-effect g w (Deliver m) = stamped (delivers w m) m
-effect g w (Append m) = appends w m
-effect g w (Publish m) = stamped (publishes w m) m
-effect g w (Report m) = stamped (reports w m) m
-effect g w (Mark m) = stamped (marks w m) m
-effect g w (Halt m end) = stamped (ends w m end) m
-effect g w (Crash m end) = stamped (ends w m end) m

@@ -10,13 +10,17 @@ use Rattle.dr_words.specs.declared.column.TheConstants.{RECEIVED_COLUMN, LOGGED_
 use Rattle.dr_words.specs.Columns.{recv_column}
 use Rattle.dr_words.specs.Packing.{recv_count}
 use Rattle.dr_machine.specs.declared.event.Event.{Event}
-use Rattle.dr_machine.specs.declared.event.Event.TheVariants.{Beat, Look, Push, Send, Receive, Deliver, Append, Publish, Report, Mark, Halt, Crash}
-use Rattle.dr_machine.specs.Group.{Group, roster, columns}
+use Rattle.dr_machine.specs.declared.event.Act.{Act}
+use Rattle.dr_machine.specs.declared.event.Act.TheVariants as acts
+use Rattle.dr_machine.specs.declared.step.Step.{Step}
+use Rattle.dr_machine.specs.declared.step.Step.TheVariants as steps
+use Rattle.dr_machine.specs.Events.{member_of, step_of}
+use Rattle.dr_machine.specs.Group.{Group, IsPresent, roster, columns}
 use Rattle.dr_machine.specs.World.{World, own_word, count_of, shown}
 
--- m is a member of the roster without an end
+-- m is there, and has no end
 pub record IsRunning (g : Group) (w : World) (m : ℕ) : Type 0 where
-  pub member : m < roster g
+  pub present : IsPresent g m
   pub running : w.end m ≡ None
 
 -- it may take an event of its own choice: no vote waits to be acted on
@@ -52,7 +56,8 @@ pub record CanPush (g : Group) (w : World) (m j c : ℕ) : Type 0 where
 abbrev pub next_index : World → ℕ → ℕ
 next_index w m = w.base m + messages_in (w.past.sent m (w.past.view m))
 
--- the slot of m's item k is free: k is among the first items, or each other member of the view is seen to have received
+-- the slot of m's item k is free: k is among the first items, or each other member of the view is seen to
+-- have received
 -- the item that stood there before
 abbrev pub HasRoom : Group → World → ℕ → ℕ → Type 0
 HasRoom g w m k =
@@ -129,18 +134,3 @@ IsFault (Spent turns) = ⊤
 pub record CanCrash (g : Group) (w : World) (m : ℕ) (end : End) : Type 0 where
   pub alive : IsRunning g w m
   pub fault : IsFault end
-
--- the event may come
-abbrev pub Guard : Group → World → Event → Type 0
-Guard g w (Beat m) = CanBeat g w m
-Guard g w (Look m i c) = CanLook g w m i c
-Guard g w (Push m j c) = CanPush g w m j c
-Guard g w (Send m) = CanSend g w m
-Guard g w (Receive m s) = CanReceive g w m s
-Guard g w (Deliver m) = CanDeliver g w m
-Guard g w (Append m) = CanAppend g w m
-Guard g w (Publish m) = CanPublish g w m
-Guard g w (Report m) = CanReport g w m
-Guard g w (Mark m) = CanMark g w m
-Guard g w (Halt m end) = CanHalt g w m end
-Guard g w (Crash m end) = CanCrash g w m end

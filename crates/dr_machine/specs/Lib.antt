@@ -1,12 +1,8 @@
 pub mod Writes
 pub mod Group
 pub mod World
+pub mod Events
 pub mod Guards
 pub mod Effects
+pub mod Acts
 pub mod Run
-pub mod Replica
-pub mod Running
-pub mod Program
-pub mod Reading
-pub mod Form
-pub mod Schedule

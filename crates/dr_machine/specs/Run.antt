@@ -1,15 +1,16 @@
 -- Runs: what comes of a list of events.
-use Rattle.std.specs.Prelude.{◌≡◌, ◌⊎◌, ℕ, ◌+◌, ◌<◌, ◌≤◌, List, [], ◌∷◌, map}
-use Rattle.std.specs.List.{range_with_len}
-use Rattle.dr_history.specs.Agreement.{Agreed}
+use Rattle.std.specs.Prelude.{◌≡◌, ◌⊎◌, ℕ, ◌+◌, ◌<◌, ◌≤◌, List, [], ◌∷◌}
+use Rattle.dr_words.specs.declared.column.TheConstants.{PIECES}
+use Rattle.dr_history.specs.Agreement.{Accounts, Agreed}
+use Rattle.dr_history.specs.History.{IsPrefixOf}
 use Rattle.dr_ring.specs.Slots.{slot_column}
 use Rattle.dr_words.specs.Grown.{HasGrown}
 use Rattle.dr_words.specs.Packing.{ring_tag}
 use Rattle.dr_machine.specs.declared.event.Event.{Event}
-use Rattle.dr_machine.specs.Group.{Group, roster}
-use Rattle.dr_machine.specs.World.{World, opening_world, count_of}
-use Rattle.dr_machine.specs.Guards.{Guard, IsOther}
-use Rattle.dr_machine.specs.Effects.{effect}
+use Rattle.dr_machine.specs.Group.{Group, IsPresent, roster}
+use Rattle.dr_machine.specs.World.{Past, World, opening_world, count_of}
+use Rattle.dr_machine.specs.Guards.{IsOther}
+use Rattle.dr_machine.specs.Acts.{Guard, effect}
 
 -- what happens at an event: its effect where it may come, and else nothing
 abbrev pub Happens : Group → World → Event → World → Type 0
@@ -24,16 +25,35 @@ Run g w (e ∷ es) after = (mid : World) × Happens g w e mid × Run g mid es af
 abbrev pub IsReached : Group → World → Type 0
 IsReached g w = (es : List Event) × Run g (opening_world g) es w
 
--- the histories of the roster agree
-abbrev pub WorldAgreed : Group → World → Type 0
-WorldAgreed g w = Agreed g.opening w.past.sent (map w.past.history (range_with_len 0 (roster g)))
+-- what each member has done
+abbrev pub accounts_in : World → Accounts
+accounts_in w m = record {
+  sent = w.past.sent m;
+  history = w.past.history m;
+  log = w.past.log m;
+  durable = w.past.durable m;
+}
 
--- no later item stands in the slot of the item of s that m waits for, neither in m's copy nor in what it has seen
+-- the members agree
+abbrev pub WorldAgreed : Group → World → Type 0
+WorldAgreed g w = Agreed g.opening (accounts_in w)
+
+-- no later item stands in the slot of the item of s that m waits for, neither in m's copy nor in what it
+-- has seen
 abbrev pub NoLaterItem : Group → World → Type 0
-NoLaterItem g w = (m s part : ℕ) → m < roster g → IsOther w m s → part < 17
+NoLaterItem g w = (m s part : ℕ) → IsPresent g m → IsOther w m s → part < PIECES
     → (let column = slot_column (roster g) g.window (count_of w m s) + part in
     (ring_tag (w.table (w.past.view m) m s column) ≤ count_of w m s + 1)
     × (ring_tag (w.seen m s column) ≤ count_of w m s + 1))
+
+-- what only grows has grown, or is as before
+pub record PastGrew (old new : Past) : Type 0 where
+  pub count : (m v s : ℕ) → old.count m v s ≤ new.count m v s
+  pub sent : (m v : ℕ) → IsPrefixOf (old.sent m v) (new.sent m v)
+  pub history : (m : ℕ) → IsPrefixOf (old.history m) (new.history m)
+  pub log : (m : ℕ) → IsPrefixOf (old.log m) (new.log m)
+  pub durable : (m : ℕ) → old.durable m ≤ new.durable m
+  pub acts : (m : ℕ) → old.acts m ≤ new.acts m
 
 -- each word is as before or has grown, in the sense of its column, while its member stays in its view
 pub record WordsGrew (g : Group) (old new : World) : Type 0 where

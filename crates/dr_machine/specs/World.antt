@@ -1,6 +1,7 @@
 -- The world: all members of a group in their age, and the words of the table that they share.
 -- Members, rows and copies go by the members' numbers, and what belongs to a view also by the view's number.
 use Rattle.std.specs.Prelude.{ℕ, ◌==◌, ◌&&◌, ◌%◌, ◌/◌, Bool, false, nat_lt, if◌then◌else◌, List, [], length, replicate, slice_index, Option, None}
+use Rattle.dr_entry.specs.declared.limits.TheConstants.{MAX_MEMBERS}
 use Rattle.dr_entry.specs.declared.entry.Entry.{Entry}
 use Rattle.dr_entry.specs.declared.entry.Item.{Item}
 use Rattle.dr_entry.specs.declared.entry.Item.TheVariants.{Null}
@@ -21,8 +22,6 @@ pub record Past : Type 0 where
   pub own : ℕ → ℕ → ℕ → ℕ
   -- how many items of a sender a member has in a view: received ones, or, of itself, those that it has put
   pub count : ℕ → ℕ → ℕ → ℕ
-  -- item k of a sender, as a member has it in a view
-  pub item : ℕ → ℕ → ℕ → ℕ → Item
   -- what a member has put in a view, by the indices of its messages
   pub sent : Sent
   -- what a member has delivered, and what of it stands on its log
@@ -40,9 +39,8 @@ pub record World : Type 0 where
   pub past : Past
   -- the members of a member's view, as a mask
   pub members : ℕ → ℕ
-  -- whom it suspects, as a mask, and whose rows are frozen for it
+  -- whom it suspects, as a mask; their rows are frozen for it
   pub suspects : ℕ → ℕ
-  pub frozen : ℕ → ℕ → Bool
   -- its promise, the tag and the value that it has accepted, and the value that it has committed
   pub promise : ℕ → ℕ
   pub tag : ℕ → ℕ
@@ -50,6 +48,8 @@ pub record World : Type 0 where
   pub committed : ℕ → Option Value
   -- the vote that it has logged and not yet acted on
   pub pending : ℕ → Option Vote
+  -- item k of a sender, as it has it
+  pub item : ℕ → ℕ → ℕ → Item
   -- the next place that it delivers
   pub next : ℕ → ℕ
   -- the index of the first message that it puts in its view
@@ -59,14 +59,16 @@ pub record World : Type 0 where
   -- the turns that it has begun, and how it ended
   pub turns : ℕ → ℕ
   pub end : ℕ → Option End
-  -- the table: the word of a bank, a copy, a row and a column. The bank is a view's number, and a member reads its own copy
+  -- the table: the word of a bank, a copy, a row and a column. The bank is a view's number, and a member
+  -- reads its own copy
   pub table : ℕ → ℕ → ℕ → ℕ → ℕ
 
 -- no value
 abbrev pub no_value : Value
-no_value = record { leavers = 0; trim = replicate 16 0 }
+no_value = record { leavers = 0; trim = replicate MAX_MEMBERS 0 }
 
--- the world as the age opens: every history is the start and View 0, logged and durable, and nothing has been put or seen
+-- the world as the age opens: every history is the start and View 0, logged and durable, and nothing has
+-- been put or seen
 abbrev pub opening_world : Group → World
 opening_world g =
     let first = first_entries g.opening in record {
@@ -74,7 +76,6 @@ opening_world g =
         view = λ m. 0;
         own = λ m v c. if nat_lt m (roster g) && (v == 0 && c == LOGGED_COLUMN) then length first else 0;
         count = λ m v s. 0;
-        item = λ m v s k. Null;
         sent = λ m v. [];
         history = λ m. first;
         log = λ m. first;
@@ -84,12 +85,12 @@ opening_world g =
       };
       members = λ m. g.opening.members;
       suspects = λ m. 0;
-      frozen = λ m i. false;
       promise = λ m. 0;
       tag = λ m. 0;
       value = λ m. no_value;
       committed = λ m. None;
       pending = λ m. None;
+      item = λ m s k. Null;
       next = λ m. 0;
       base = λ m. length (messages_from m g.opening.start);
       seen = λ m i c. 0;
@@ -98,15 +99,12 @@ opening_world g =
       table = λ v j i c. 0;
     }
 
--- what member m has now: its own word of a column, and the count and item k of a sender
+-- what member m has now: its own word of a column, and the count of a sender's items
 abbrev pub own_word : World → ℕ → ℕ → ℕ
 own_word w m c = w.past.own m (w.past.view m) c
 
 abbrev pub count_of : World → ℕ → ℕ → ℕ
 count_of w m s = w.past.count m (w.past.view m) s
-
-abbrev pub item_of : World → ℕ → ℕ → ℕ → Item
-item_of w m s k = w.past.item m (w.past.view m) s k
 
 -- the word of row i as member m has it: its own one in its own row, and else the one that it has seen
 abbrev pub shown : World → ℕ → ℕ → ℕ → ℕ
@@ -120,4 +118,4 @@ view_members w m = members_of (w.members m)
 abbrev pub item_at_place : World → ℕ → ℕ → Item
 item_at_place w m p =
     let ms = view_members w m in
-    item_of w m (slice_index ms (p % length ms)) (p / length ms)
+    w.item m (slice_index ms (p % length ms)) (p / length ms)

@@ -1,4 +1,31 @@
+ghost use Rattle.std.specs.Prelude.{◌≡◌};
+ghost use Rattle.dr_machine.specs.Events.{member_of, step_of};
+
+use crate::step::Step;
 use dr_entry::End;
+
+/// What a member does by itself, of its own choice or as its end: each counts as one more act.
+#[derive(Clone, Copy, Debug, PartialEq, Eq)]
+pub enum Act {
+    /// It begins a turn.
+    Beat,
+    /// It takes the next item of a sender.
+    Receive { sender: u8 },
+    /// It puts its next message.
+    Send,
+    /// It delivers its next place.
+    Deliver,
+    /// Its logged word follows its log.
+    Publish,
+    /// What every member of its view has logged is durable.
+    Report,
+    /// Its done word says that it holds everything, durably.
+    Mark,
+    /// It ends as it should.
+    Halt { end: End },
+    /// It ends by a fault, or with its turns spent.
+    Crash { end: End },
+}
 
 /// One atomic step of one member `m`: an act of its own, a look at a word, a push of one, or an
 /// append to its log.
@@ -28,4 +55,46 @@ pub enum Event {
     Halt { m: u8, end: End },
     /// It ends by a fault, or with its turns spent.
     Crash { m: u8, end: End },
+}
+
+impl Event {
+    /// The member that it is of.
+    pub fn member(&self) -> u8
+        ensures { result ≡ member_of self.now }
+    {
+        match *self {
+            Event::Beat { m }
+            | Event::Look { m, .. }
+            | Event::Push { m, .. }
+            | Event::Send { m }
+            | Event::Receive { m, .. }
+            | Event::Deliver { m }
+            | Event::Append { m }
+            | Event::Publish { m }
+            | Event::Report { m }
+            | Event::Mark { m }
+            | Event::Halt { m, .. }
+            | Event::Crash { m, .. } => m,
+        }
+    }
+
+    /// What it is of that member.
+    pub fn step(&self) -> Step
+        ensures { result ≡ step_of self.now }
+    {
+        match *self {
+            Event::Beat { .. } => Step::Do(Act::Beat),
+            Event::Look { i, c, .. } => Step::Look { row: i, column: c },
+            Event::Push { j, c, .. } => Step::Push { to: j, column: c },
+            Event::Send { .. } => Step::Do(Act::Send),
+            Event::Receive { s, .. } => Step::Do(Act::Receive { sender: s }),
+            Event::Deliver { .. } => Step::Do(Act::Deliver),
+            Event::Append { .. } => Step::Append,
+            Event::Publish { .. } => Step::Do(Act::Publish),
+            Event::Report { .. } => Step::Do(Act::Report),
+            Event::Mark { .. } => Step::Do(Act::Mark),
+            Event::Halt { end, .. } => Step::Do(Act::Halt { end }),
+            Event::Crash { end, .. } => Step::Do(Act::Crash { end }),
+        }
+    }
 }

@@ -1,0 +1,318 @@
+-- Acts that put and take no items, before they stamp the beat word: turns, ends, logs, reports, marks and
+-- deliveries.
+use Rattle.std.proofs.Common.{List, ap, arith, drop, inl, le_of_eq, le_refl, le_trans, length, length-append, refl, sym, take, true, ℕ, ◌++◌, ◌+◌, ◌-◌, ◌<◌, ◌^◌, ◌∙◌, ◌≡◌, ◌≤◌}
+use Rattle.std.proofs.lemmas.List.{take_all}
+use Rattle.dr_entry.specs.declared.end.End.{End}
+use Rattle.dr_entry.specs.declared.entry.Entry.{Entry}
+use Rattle.dr_entry.specs.declared.entry.Item.{Item}
+use Rattle.dr_entry.specs.declared.entry.Item.TheVariants.{Null, Text}
+use Rattle.dr_history.specs.History.{IsPrefixOf, messages_of}
+use Rattle.dr_history.specs.Members.{has}
+use Rattle.dr_machine.specs.Effects.{appends, beats, delivers, ends, entries_of, least_shown, marks, publishes, reports, sender_at, with_own}
+use Rattle.dr_machine.specs.Group.{Group, IsGroup, IsPresent, roster}
+use Rattle.dr_machine.specs.Guards.{CanDeliver, CanMark, CanReport}
+use Rattle.dr_machine.specs.Run.{PastGrew, WordsGrew}
+use Rattle.dr_machine.specs.World.{Past, World, item_at_place, own_word, shown}
+use Rattle.dr_machine.specs.Writes.{at, at₃}
+use Rattle.dr_faithful.proofs.Forms.{form_done, form_free, grown_done, grown_free}
+use Rattle.dr_faithful.proofs.Lists.{least_all, least_most, least_some, prefix_more, prefix_next}
+use Rattle.dr_faithful.proofs.OwnWords.{IsPlain, counts_word, delivered_word, form_word, old_later, own_grown}
+use Rattle.dr_faithful.proofs.Pasts.{past_same, prefix_refl, prefix_short, same_past, tells_done, tells_later, tells_logged, words_later}
+use Rattle.dr_faithful.proofs.Shown.{shown_le}
+use Rattle.dr_faithful.proofs.Writes.{at_case, at₃_case}
+use Rattle.dr_faithful.specs.Faithful.{Faithful}
+use Rattle.dr_faithful.specs.Tells.{HasAll, Tells, Views}
+use Rattle.dr_words.proofs.Order.{HasGrown_refl}
+use Rattle.dr_words.specs.declared.column.TheConstants.{DONE_COLUMN, LOGGED_COLUMN}
+use Rattle.dr_words.specs.Form.{IsInForm}
+use Rattle.dr_words.specs.Grown.{HasGrown}
+
+-- ---- turns and ends
+
+-- a turn begins
+pub beat_keeps : (g : Group) (V : Views) (w : World) (m : ℕ) → Faithful g V w → Faithful g V (beats w m)
+beat_keeps g V w m f = record {
+  beginning = f.beginning;
+  views = f.views;
+  items = f.items;
+  sent = f.sent;
+  counts = f.counts;
+  words = words_later g V w (beats w m) (past_same w.past) refl refl refl refl f.words;
+  logs = f.logs;
+  delivered = f.delivered;
+  old = f.old;
+  form = f.form;
+}
+
+-- a member ends
+pub end_keeps : (g : Group) (V : Views) (w : World) (m : ℕ) (end : End) → Faithful g V w
+    → Faithful g V (ends w m end)
+end_keeps g V w m end f = record {
+  beginning = f.beginning;
+  views = f.views;
+  items = f.items;
+  sent = f.sent;
+  counts = f.counts;
+  words = words_later g V w (ends w m end) (past_same w.past) refl refl refl refl f.words;
+  logs = f.logs;
+  delivered = f.delivered;
+  old = f.old;
+  form = f.form;
+}
+
+-- ---- one own word
+
+-- an own word is not what only grows
+pub word_past : (w : World) (m c x : ℕ) → PastGrew w.past (with_own w m c x).past
+word_past w m c x = same_past w.past (with_own w m c x).past refl refl refl refl refl refl
+
+-- the words after one own word has grown
+pub word_grew : (g : Group) (w : World) (m c x : ℕ) → HasGrown (roster g) c (own_word w m c) x
+    → WordsGrew g w (with_own w m c x)
+word_grew g w m c x grown = record {
+  own = own_grown g w.past.own m (w.past.view m) c x grown;
+  table = λ v j i k. HasGrown_refl (roster g) k (w.table v j i k);
+  seen = λ a i k e. HasGrown_refl (roster g) k (w.seen a i k);
+}
+
+-- one own word has grown, and tells
+word_keeps : (g : Group) (V : Views) (w : World) (m c x : ℕ) → IsPlain c
+    → HasGrown (roster g) c (own_word w m c) x → IsInForm (roster g) c x
+    → Tells g V w.past m (w.past.view m) c x → Faithful g V w → Faithful g V (with_own w m c x)
+word_keeps g V w m c x plain grown form told f = record {
+  beginning = f.beginning;
+  views = f.views;
+  items = f.items;
+  sent = f.sent;
+  counts = counts_word g V w.past.view w.suspects w.past.own w.past.count m
+      (w.past.view m) c x plain f.counts;
+  words = record {
+    own = at₃_case (λ i v k z. Tells g V past i v k z) w.past.own m (w.past.view m) c x
+        (λ i v k. tells_later g V w.past past i v k (w.past.own i v k) grew (f.words.own i v k))
+        (tells_later g V w.past past m (w.past.view m) c x grew told);
+    table = λ v j i k. tells_later g V w.past past i v k (w.table v j i k) grew (f.words.table v j i k);
+    seen = λ a i k. tells_later g V w.past past i (w.past.view a) k (w.seen a i k) grew (f.words.seen a i k);
+  };
+  logs = f.logs;
+  delivered = delivered_word g V w.past.view w.next w.past.own w.past.history m
+      (w.past.view m) c x plain f.delivered;
+  old = old_later g w.past.view w.past.own (at₃ w.past.own m (w.past.view m) c x) w.table w.seen
+      (own_grown g w.past.own m (w.past.view m) c x grown) f.old;
+  form = form_word g w.past.own w.table w.seen m (w.past.view m) c x form f.form;
+}
+  where
+    past : Past
+    past = (with_own w m c x).past
+
+    grew : PastGrew w.past (with_own w m c x).past
+    grew = word_past w m c x
+
+publish_grown : (g : Group) (V : Views) (w : World) (m : ℕ) → Faithful g V w
+    → HasGrown (roster g) LOGGED_COLUMN (own_word w m LOGGED_COLUMN) (length (w.past.log m))
+publish_grown g V w m f =
+    grown_free (roster g) LOGGED_COLUMN _ _ (inl (omega arith, omega arith))
+    ((f.words.own m (w.past.view m) LOGGED_COLUMN).logged refl)
+
+-- the logged word grows
+pub publish_grew : (g : Group) (V : Views) (w : World) (m : ℕ) → Faithful g V w
+    → WordsGrew g w (publishes w m)
+publish_grew g V w m f = word_grew g w m LOGGED_COLUMN (length (w.past.log m)) (publish_grown g V w m f)
+
+-- the logged word tells of the log
+pub publish_keeps : (g : Group) (V : Views) (w : World) (m : ℕ) → Faithful g V w
+    → Faithful g V (publishes w m)
+publish_keeps g V w m f =
+    let log : ℕ = length (w.past.log m) in
+    word_keeps g V w m LOGGED_COLUMN log (omega arith, omega arith) (publish_grown g V w m f)
+    (form_free (roster g) LOGGED_COLUMN log (inl (omega arith, omega arith)))
+    (tells_logged g V w.past m (w.past.view m) log (le_refl log)) f
+
+mark_grown : (g : Group) (V : Views) (w : World) (m : ℕ) → Faithful g V w
+    → HasGrown (roster g) DONE_COLUMN (own_word w m DONE_COLUMN) 1
+mark_grown g V w m f = grown_done (roster g) (own_word w m DONE_COLUMN)
+    ((f.words.own m (w.past.view m) DONE_COLUMN).done refl).0
+
+-- the done word grows
+pub mark_grew : (g : Group) (V : Views) (w : World) (m : ℕ) → Faithful g V w → WordsGrew g w (marks w m)
+mark_grew g V w m f = word_grew g w m DONE_COLUMN 1 (mark_grown g V w m f)
+
+-- the done word tells that all is there
+pub mark_keeps : (g : Group) (V : Views) (w : World) (m : ℕ) → CanMark g w m → Faithful g V w
+    → Faithful g V (marks w m)
+mark_keeps g V w m can f =
+    word_keeps g V w m DONE_COLUMN 1 (omega arith, omega arith) (mark_grown g V w m f) (form_done (roster g))
+    (tells_done g V w.past m (w.past.view m) mine) f
+  where
+    mine : HasAll g (V (w.past.view m)) (take (w.past.durable m) (w.past.history m))
+    mine s h =
+        let all : take (w.past.durable m) (w.past.history m)
+        ≡ w.past.history m = take_all (w.past.durable m) (w.past.history m)
+        (le_of_eq (sym can.durable)) in
+        rw (all, can.whole s (ap (λ k. has k s) (f.views.own m) ∙ h))
+        (le_refl (length (messages_of g.opening s)))
+
+-- ---- the log
+
+-- the log is one entry longer
+pub append_past : (w : World) (m : ℕ) → PastGrew w.past (appends w m).past
+append_past w m =
+    let same = past_same w.past in
+    let one : List Entry = take 1 (drop (length (w.past.log m)) (w.past.history m)) in record {
+      count = same.count;
+      sent = same.sent;
+      history = same.history;
+      log = at_case (λ i l. IsPrefixOf (w.past.log i) l) w.past.log m (w.past.log m ++ one)
+          (λ i d. prefix_refl (w.past.log i)) (one, refl);
+      durable = same.durable;
+      acts = same.acts;
+    }
+
+-- and is a front of the history still
+pub append_keeps : (g : Group) (V : Views) (w : World) (m : ℕ) → Faithful g V w
+    → Faithful g V (appends w m)
+append_keeps g V w m f = record {
+  beginning = f.beginning;
+  views = f.views;
+  items = f.items;
+  sent = f.sent;
+  counts = f.counts;
+  words = words_later g V w (appends w m) (append_past w m) refl refl refl refl f.words;
+  logs = record {
+    bounded = f.logs.bounded;
+    front = at_case (λ i l. IsPrefixOf l (w.past.history i)) w.past.log m (w.past.log m ++ one)
+        (λ i d. f.logs.front i) (prefix_next (w.past.log m) (w.past.history m) (f.logs.front m));
+    safe = λ a i l h. le_trans (f.logs.safe a i l h) (longer i);
+    small = f.logs.small;
+  };
+  delivered = f.delivered;
+  old = f.old;
+  form = f.form;
+}
+  where
+    one : List Entry
+    one = take 1 (drop (length (w.past.log m)) (w.past.history m))
+
+    longer : (i : ℕ) → length (w.past.log i) ≤ length (at w.past.log m (w.past.log m ++ one) i)
+    longer i = prefix_short (w.past.log i) (at w.past.log m (w.past.log m ++ one) i) ((append_past w m).log i)
+
+-- ---- what is durable
+
+-- every member of the view shows more than was known to be durable
+report_rises : (g : Group) (V : Views) (w : World) (m : ℕ) → CanReport g w m → Faithful g V w
+    → w.past.durable m ≤ least_shown w m LOGGED_COLUMN
+report_rises g V w m can f =
+    least_all (λ i. shown w m i LOGGED_COLUMN) (w.members m) (2 ^ 64 - 1) (w.past.durable m)
+    (omega (arith, f.logs.small m)) (λ i h. omega (arith, can.logged i h))
+
+-- more is known to be durable
+pub report_past : (g : Group) (V : Views) (w : World) (m : ℕ) → CanReport g w m → Faithful g V w
+    → PastGrew w.past (reports w m).past
+report_past g V w m can f =
+    let same = past_same w.past in record {
+      count = same.count;
+      sent = same.sent;
+      history = same.history;
+      log = same.log;
+      durable = at_case (λ i d. w.past.durable i ≤ d) w.past.durable m (least_shown w m LOGGED_COLUMN)
+          (λ i d. le_refl (w.past.durable i)) (report_rises g V w m can f);
+      acts = same.acts;
+    }
+
+-- and stands on the logs of all members of the view
+pub report_keeps : (g : Group) (V : Views) (w : World) (m : ℕ) → IsGroup g → CanReport g w m
+    → Faithful g V w → Faithful g V (reports w m)
+report_keeps g V w m is can f = record {
+  beginning = f.beginning;
+  views = f.views;
+  items = f.items;
+  sent = f.sent;
+  counts = f.counts;
+  words = words_later g V w (reports w m) (report_past g V w m can f) refl refl refl refl f.words;
+  logs = record {
+    bounded = f.logs.bounded;
+    front = f.logs.front;
+    safe = at_case (λ a d. (i : ℕ) → IsPresent g a → has (V (w.past.view a)) i ≡ true → d
+        ≤ length (w.past.log i)) w.past.durable m least
+        (λ a d. f.logs.safe a) (λ i l h. logged i h);
+    small = at_case (λ a d. d < 2 ^ 64) w.past.durable m least (λ a d. f.logs.small a)
+        (omega (arith, least_most (λ i. shown w m i LOGGED_COLUMN) (w.members m) (2 ^ 64 - 1)));
+  };
+  delivered = f.delivered;
+  old = f.old;
+  form = f.form;
+}
+  where
+    least : ℕ
+    least = least_shown w m LOGGED_COLUMN
+
+    logged : (i : ℕ) → has (V (w.past.view m)) i ≡ true → least ≤ length (w.past.log i)
+    logged i h =
+        let member : has (w.members m) i ≡ true = ap (λ k. has k i) (f.views.own m) ∙ h in
+        let few : i < 16 = le_trans (f.views.within (w.past.view m) i h) is.most_members in
+        le_trans (least_some (λ k. shown w m k LOGGED_COLUMN) (w.members m) (2 ^ 64 - 1) i few member)
+        (le_trans (shown_le g V w m i LOGGED_COLUMN f)
+        ((f.words.own i (w.past.view m) LOGGED_COLUMN).logged refl))
+
+-- ---- the next place
+
+one_entry : (history : List Entry) (s : ℕ) (item : Item) → length (entries_of history s item) ≤ 1
+one_entry history s Null = omega arith
+one_entry history s (Text bytes) = omega arith
+
+-- the history goes on
+pub deliver_past : (w : World) (m : ℕ) → PastGrew w.past (delivers w m).past
+deliver_past w m =
+    let same = past_same w.past in
+    let new : List Entry = entries_of (w.past.history m) (sender_at w m (w.next m))
+    (item_at_place w m (w.next m)) in record {
+      count = same.count;
+      sent = same.sent;
+      history = at_case (λ i l. IsPrefixOf (w.past.history i) l) w.past.history m (w.past.history m ++ new)
+          (λ i d. prefix_refl (w.past.history i)) (new, refl);
+      log = same.log;
+      durable = same.durable;
+      acts = same.acts;
+    }
+
+-- a place is delivered that every member of the view holds
+pub deliver_keeps : (g : Group) (V : Views) (w : World) (m : ℕ) → CanDeliver g w m → Faithful g V w
+    → Faithful g V (delivers w m)
+deliver_keeps g V w m can f = record {
+  beginning = f.beginning;
+  views = f.views;
+  items = f.items;
+  sent = f.sent;
+  counts = f.counts;
+  words = words_later g V w (delivers w m) (deliver_past w m) refl refl refl refl f.words;
+  logs = record {
+    bounded = f.logs.bounded;
+    front = at_case (λ i l. IsPrefixOf (w.past.log i) l) w.past.history m (w.past.history m ++ new)
+        (λ i d. f.logs.front i) (prefix_more (w.past.log m) (w.past.history m) new (f.logs.front m));
+    safe = f.logs.safe;
+    small = f.logs.small;
+  };
+  delivered = record {
+    held = λ a i. at_case (λ x n. IsPresent g x → has (V (w.past.view x)) i ≡ true → n
+        ≤ w.past.own i (w.past.view x) 2) w.next m (w.next m + 1)
+        (λ x d. f.delivered.held x i) (λ l h. shows i h) a;
+    short = λ a. grind (
+      arith,
+      f.delivered.short a,
+      length-append (w.past.history m) new,
+      one_entry (w.past.history m) (sender_at w m (w.next m)) (item_at_place w m (w.next m)),
+    );
+  };
+  old = f.old;
+  form = f.form;
+}
+  where
+    new : List Entry
+    new = entries_of (w.past.history m) (sender_at w m (w.next m)) (item_at_place w m (w.next m))
+
+    shows : (i : ℕ) → has (V (w.past.view m)) i ≡ true → w.next m + 1
+        ≤ w.past.own i (w.past.view m) 2
+    shows i h = omega (
+      arith,
+      can.received i (ap (λ k. has k i) (f.views.own m) ∙ h),
+      shown_le g V w m i 2 f,
+    )

@@ -1,0 +1,180 @@
+-- The members are faithful as the age opens.
+use Rattle.std.proofs.Common.{Bool, List, None, Some, [], add-one, append-nil, arith, false, fold, get_or, inl, inr, le_refl, length, length-append, map, max, refl, slice_get, subst, suc, sym, take, true, zero, ℕ, ◌++◌, ◌<◌, ◌==◌, ◌∷◌, ◌≡◌, ◌≢◌, ◌≤◌, ◌⊎◌}
+use Rattle.std.proofs.Math.Nat.{mul-zero}
+use Rattle.std.proofs.lemmas.Bool.{cases_eq, eqb-true}
+use Rattle.std.proofs.lemmas.List.{take_all, take_more}
+use Rattle.std.proofs.lemmas.Option.{slice_get_cases, slice_get_within}
+use Rattle.dr_words.proofs.Forms.{form_zero}
+use Rattle.dr_entry.specs.declared.entry.Entry.{Entry}
+use Rattle.dr_entry.specs.declared.entry.Entry.TheVariants.{Msg, View}
+use Rattle.dr_history.proofs.NumberedLemmas.{messages_from-Msg, messages_from-View, messages_from-other}
+use Rattle.dr_history.specs.History.{messages_of}
+use Rattle.dr_history.specs.Members.{has, members_of}
+use Rattle.dr_history.specs.Order.{first_entries, messages_from}
+use Rattle.dr_history.specs.Places.{first, front_of}
+use Rattle.dr_history.specs.Soundness.{Sound}
+use Rattle.dr_history.specs.declared.opening.Opening.{Opening}
+use Rattle.dr_history_laws.proofs.Lengths.{start-short}
+use Rattle.dr_machine.proofs.Presence.{is_present}
+use Rattle.dr_machine.specs.Group.{Group, IsGroup, IsPresent, roster}
+use Rattle.dr_machine.specs.World.{opening_world}
+use Rattle.dr_faithful.proofs.Forms.{form_free, grown_zero}
+use Rattle.dr_faithful.proofs.Pasts.{tells_logged, tells_nothing}
+use Rattle.dr_faithful.specs.Faithful.{Faithful}
+use Rattle.dr_faithful.specs.Tells.{Tells, WordsTell}
+use Rattle.dr_words.specs.declared.column.TheConstants.{LOGGED_COLUMN}
+use Rattle.dr_words.proofs.Bits.{has_ones}
+use Rattle.dr_words.specs.Form.{IsInForm}
+
+-- ---- the messages of the start
+
+-- each message of a sound start is the next of its sender by the script
+start_entries : (o : Opening) (s k : ℕ) → Sound o → k ≤ length o.start
+    → length (messages_from s (take k o.start)) ≤ length (messages_of o s)
+start_entries o s zero sound l = omega arith
+start_entries o s (suc k) sound l = by (slice_get_cases o.start k).1 (start_entries o s k sound (omega arith))
+  where
+    next : (e : Entry) → slice_get o.start k ≡ Some e → length (messages_from s (take k o.start))
+        ≤ length (messages_of o s)
+        → length (messages_from s (take k o.start ++ e ∷ [])) ≤ length (messages_of o s)
+    next (View a n m) is before = rw (messages_from-View s (take k o.start) a n m) before
+    next (Msg t i b) is before = mine (t == s) refl
+      where
+        mine : (b' : Bool) → (t == s) ≡ b'
+            → length (messages_from s (take k o.start ++ Msg t i b ∷ [])) ≤ length (messages_of o s)
+        mine true same =
+            let sender : t ≡ s = eqb-true t s same in
+            let one : messages_from s (take k o.start ++ Msg t i b ∷ [])
+            ≡ messages_from s (take k o.start) ++ Msg s i b ∷ [] =
+            rw sender (messages_from-Msg s (take k o.start) i b) in
+            let entry = sound.entries k (Msg t i b) is in
+            let index : i ≡ length (messages_from s (take k o.start)) = rw (← sender) entry.1 in
+            let there : i < length (messages_of o s) =
+            rw (← sender) (slice_get_within (messages_of o t) i b entry.2) in
+            rw one (omega (
+              arith,
+              length-append (messages_from s (take k o.start)) (Msg s i b ∷ []),
+              index,
+              there,
+            ))
+        mine false apart = rw (messages_from-other s (take k o.start) t i b apart) before
+
+    by : ((x : Entry) × (k < length o.start) × (slice_get o.start k ≡ Some x)
+        × (get_or o.start k x ≡ x)) ⊎ ((length o.start ≤ k) × (slice_get o.start k ≡ None))
+        → length (messages_from s (take k o.start)) ≤ length (messages_of o s)
+        → length (messages_from s (take (suc k) o.start)) ≤ length (messages_of o s)
+    by (inl t) before = rw (← add-one k, take_more o.start k t.0 t.1, t.3) (next t.0 t.2 before)
+    by (inr t) before = absurd (omega (arith, t.0))
+
+-- a sound start has no more messages of a member than the script
+pub start_messages : (o : Opening) (s : ℕ) → Sound o → length (messages_from s o.start)
+    ≤ length (messages_of o s)
+start_messages o s sound =
+    subst (λ (h : List Entry). length (messages_from s h) ≤ length (messages_of o s))
+    (take_all (length o.start) o.start (le_refl (length o.start)))
+    (start_entries o s (length o.start) sound (le_refl (length o.start)))
+
+-- ---- the front of no items
+
+none_most : (ms : List ℕ) → fold max 0 (map (λ (s : ℕ). 0) ms) ≡ 0
+none_most [] = refl
+none_most (m ∷ ms) = none_most ms
+
+-- the front of no items is 0
+pub front_of_none : (ms : List ℕ) → front_of (map (λ (s : ℕ). 0) ms) ≡ 0
+unfolding front_of first
+front_of_none ms =
+    let ranks : ℕ = length (map {A = ℕ} {B = ℕ} (λ s. 0) ms) in
+    rw (none_most ms) (rw (mul-zero ranks) refl)
+
+-- ---- the opening
+
+-- every word tells as the age opens: the logged words of the start, and all others nothing
+own_tells : (g : Group) (i v c : ℕ) → Tells g (λ v. g.opening.members) (opening_world g).past i v c
+    ((opening_world g).past.own i v c)
+own_tells g i v c = by (cases_eq c LOGGED_COLUMN)
+  where
+    by : (c ≡ LOGGED_COLUMN) ⊎ (c ≢ LOGGED_COLUMN)
+        → Tells g (λ v. g.opening.members) (opening_world g).past i v c
+        ((opening_world g).past.own i v c)
+    by (inl e) = subst (λ k. Tells g (λ v. g.opening.members) (opening_world g).past i v k
+        ((opening_world g).past.own i v k)) (sym e)
+        (tells_logged g (λ v. g.opening.members) (opening_world g).past i v _ (grind arith))
+    by (inr d) = subst (λ (x : ℕ). Tells g (λ v. g.opening.members) (opening_world g).past i v c x)
+        (grind arith)
+        (tells_nothing g (λ v. g.opening.members) (opening_world g).past i v c)
+
+tell : (g : Group) → WordsTell g (λ v. g.opening.members) (opening_world g)
+tell g = record {
+  own = own_tells g;
+  table = λ v j i c. tells_nothing g (λ v. g.opening.members) (opening_world g).past i v c;
+  seen = λ m i c. tells_nothing g (λ v. g.opening.members) (opening_world g).past i 0 c;
+}
+
+-- the members are faithful as the age opens
+pub begun : (g : Group) → IsGroup g → Faithful g (λ v. g.opening.members) (opening_world g)
+begun g is = record {
+  beginning = record {
+    all = λ m l. is_present g m is l;
+    first = λ m. refl;
+    unwedged = λ m. refl;
+    idle = λ m. refl;
+    start = λ m. refl;
+  };
+  views = record { own = λ m. refl; present = λ m l. present m l; within = λ v m h. within m h };
+  items = record {
+    counted = λ m v s. le_refl 0;
+    same = λ m s k l. absurd (omega (arith, l));
+    window = λ m v s h k. omega arith;
+  };
+  sent = record {
+    all = λ s v. refl;
+    put = λ s. record {
+      index = λ k l. absurd (omega (arith, l));
+      left = omega (arith, start_messages g.opening s is.sound);
+      nulls = λ l. absurd (omega (arith, l));
+    };
+    named = λ s v. refl;
+  };
+  counts = record {
+    recv = λ m v s l. grind arith;
+    unfinished = λ m s l e. grind arith;
+    received = λ m v. rw (front_of_none (members_of g.opening.members)) (grind arith);
+    few = λ m v s. omega arith;
+  };
+  words = tell g;
+  logs = record {
+    bounded = λ m. omega arith;
+    front = λ m. ([], append-nil (first_entries g.opening));
+    safe = λ m i l h. le_refl (length (first_entries g.opening));
+    small = λ m. omega (
+      arith,
+      start-short g.opening is.sound is.age is.some_member is.most_members is.messages,
+      length-append g.opening.start (View g.opening.age 0 g.opening.members ∷ []),
+    );
+  };
+  delivered = record { held = λ m i l h. omega arith; short = λ m. omega arith };
+  old = record {
+    in_table = λ v j i c. grown_zero (roster g) c _;
+    in_seen = λ m i c d. grown_zero (roster g) c _;
+  };
+  form = record {
+    in_own = λ m v c. own_in_form m v c;
+    in_table = λ v j i c. form_zero (roster g) c is.some_member;
+    in_seen = λ m i c. form_zero (roster g) c is.some_member;
+  };
+}
+  where
+    present : (m : ℕ) → IsPresent g m → has g.opening.members m ≡ true
+    present m there = rw is.sound.whole (rw (← is.sound.present) there)
+
+    within : (m : ℕ) → has g.opening.members m ≡ true → m < roster g
+    within m h = grind (arith, has_ones (roster g) m, is.sound.whole)
+
+    own_in_form : (m v c : ℕ) → IsInForm (roster g) c ((opening_world g).past.own m v c)
+    own_in_form m v c = by (cases_eq c 3)
+      where
+        by : (c ≡ 3) ⊎ (c ≢ 3) → IsInForm (roster g) c ((opening_world g).past.own m v c)
+        by (inl e) = form_free (roster g) c _ (inl (omega arith, omega arith))
+        by (inr d) = subst (λ (x : ℕ). IsInForm (roster g) c x) (grind arith)
+            (form_zero (roster g) c is.some_member)

@@ -1,0 +1,97 @@
+-- A look and a push: the words go from the owner to the table, and from there to another member.
+use Rattle.std.proofs.Common.{refl, subst, sym, ℕ, ◌<◌, ◌≡◌, ◌≢◌}
+use Rattle.dr_machine.specs.Effects.{looks, pushes}
+use Rattle.dr_machine.specs.Group.{Group, roster}
+use Rattle.dr_machine.specs.Run.{WordsGrew}
+use Rattle.dr_machine.specs.World.{World, own_word}
+use Rattle.dr_faithful.proofs.Writes.{at₃_case, at₄_case}
+use Rattle.dr_faithful.specs.Faithful.{Faithful}
+use Rattle.dr_faithful.specs.Tells.{Tells, Views}
+use Rattle.dr_words.proofs.Order.{HasGrown_refl, HasGrown_trans}
+use Rattle.dr_words.specs.Form.{IsInForm}
+use Rattle.dr_words.specs.Grown.{HasGrown}
+
+-- a look takes a word of the table
+pub look_grew : (g : Group) (V : Views) (w : World) (m i c : ℕ) → Faithful g V w → i ≢ m
+    → WordsGrew g w (looks w m i c)
+look_grew g V w m i c f d = record {
+  own = λ a v k. HasGrown_refl (roster g) k (w.past.own a v k);
+  table = λ v j a k. HasGrown_refl (roster g) k (w.table v j a k);
+  seen = λ a b k e. at₃_case (λ x y z u. HasGrown (roster g) z (w.seen x y z) u) w.seen m i c
+      (w.table (w.past.view m) m i c)
+      (λ x y z. HasGrown_refl (roster g) z (w.seen x y z)) (f.old.in_seen m i c d) a b k;
+}
+
+-- and that word tells of its owner
+pub look_keeps : (g : Group) (V : Views) (w : World) (m i c : ℕ) → Faithful g V w
+    → Faithful g V (looks w m i c)
+look_keeps g V w m i c f = record {
+  beginning = f.beginning;
+  views = f.views;
+  items = f.items;
+  sent = f.sent;
+  counts = f.counts;
+  words = record {
+    own = f.words.own;
+    table = f.words.table;
+    seen = at₃_case (λ x y z u. Tells g V w.past y (w.past.view x) z u) w.seen m i c
+        (w.table (w.past.view m) m i c)
+        f.words.seen (f.words.table (w.past.view m) m i c);
+  };
+  logs = f.logs;
+  delivered = f.delivered;
+  old = record {
+    in_table = f.old.in_table;
+    in_seen = at₃_case (λ x y z u. y ≢ x → HasGrown (roster g) z u (w.table (w.past.view x) x y z))
+        w.seen m i c (w.table (w.past.view m) m i c)
+        f.old.in_seen (λ d. HasGrown_refl (roster g) c (w.table (w.past.view m) m i c));
+  };
+  form = record {
+    in_own = f.form.in_own;
+    in_table = f.form.in_table;
+    in_seen = at₃_case (λ x y z u. IsInForm (roster g) z u) w.seen m i c
+        (w.table (w.past.view m) m i c) f.form.in_seen (f.form.in_table (w.past.view m) m i c);
+  };
+}
+
+-- a push brings an own word to the table
+pub push_grew : (g : Group) (V : Views) (w : World) (m j c : ℕ) → Faithful g V w
+    → WordsGrew g w (pushes w m j c)
+push_grew g V w m j c f = record {
+  own = λ a v k. HasGrown_refl (roster g) k (w.past.own a v k);
+  table = at₄_case (λ v a i k z. HasGrown (roster g) k (w.table v a i k) z) w.table (w.past.view m) j m c
+      (own_word w m c)
+      (λ v a i k. HasGrown_refl (roster g) k (w.table v a i k)) (f.old.in_table (w.past.view m) j m c);
+  seen = λ a i k e. HasGrown_refl (roster g) k (w.seen a i k);
+}
+
+-- and that word tells of its owner
+pub push_keeps : (g : Group) (V : Views) (w : World) (m j c : ℕ) → Faithful g V w
+    → Faithful g V (pushes w m j c)
+push_keeps g V w m j c f = record {
+  beginning = f.beginning;
+  views = f.views;
+  items = f.items;
+  sent = f.sent;
+  counts = f.counts;
+  words = record {
+    own = f.words.own;
+    table = at₄_case (λ v a i k z. Tells g V w.past i v k z) w.table (w.past.view m) j m c (own_word w m c)
+        f.words.table (f.words.own m (w.past.view m) c);
+    seen = f.words.seen;
+  };
+  logs = f.logs;
+  delivered = f.delivered;
+  old = record {
+    in_table = at₄_case (λ v a i k z. HasGrown (roster g) k z (w.past.own i v k)) w.table
+        (w.past.view m) j m c (own_word w m c) f.old.in_table (HasGrown_refl (roster g) c (own_word w m c));
+    in_seen = λ a i k d. HasGrown_trans (roster g) k (w.seen a i k) (w.table (w.past.view a) a i k) _
+        (f.old.in_seen a i k d) ((push_grew g V w m j c f).table (w.past.view a) a i k);
+  };
+  form = record {
+    in_own = f.form.in_own;
+    in_table = at₄_case (λ v a i k z. IsInForm (roster g) k z) w.table (w.past.view m) j m c
+        (own_word w m c) f.form.in_table (f.form.in_own m (w.past.view m) c);
+    in_seen = f.form.in_seen;
+  };
+}

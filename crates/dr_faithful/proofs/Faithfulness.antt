@@ -1,0 +1,184 @@
+-- Each event keeps the members faithful and lets the words grow, so in every world that is reached they are.
+use Rattle.std.proofs.Common.{ap, arith, inl, inr, length, refl, suc, sym, ℕ, ◌%◌, ◌*◌, ◌+◌, ◌/◌, ◌<◌, ◌∙◌, ◌≡◌, ◌≤◌, ◌⊎◌}
+use Rattle.std.proofs.lemmas.Bool.{cases_lt}
+use Rattle.std.proofs.Math.Nat.{div-add-mod, mul-le-mul_left, mul-suc}
+use Rattle.std.proofs.lemmas.Nat.{mod_below}
+use Rattle.dr_history.specs.Members.{has}
+use Rattle.dr_machine.proofs.Runs.{reached}
+use Rattle.dr_machine.specs.Acts.{CanDo, CanTake, Guard, does, effect, effect_of}
+use Rattle.dr_machine.specs.Effects.{appends, stamped}
+use Rattle.dr_machine.specs.Group.{Group, IsGroup, IsPresent, roster}
+use Rattle.dr_machine.specs.Guards.{IsOther}
+use Rattle.dr_machine.specs.Run.{IsReached, NoLaterItem, PastGrew, WordsGrew}
+use Rattle.dr_machine.specs.World.{World, count_of}
+use Rattle.dr_machine.specs.declared.event.Event.{Event}
+use Rattle.dr_machine.specs.declared.event.Act.{Act}
+use Rattle.dr_machine.specs.declared.event.Act.TheVariants as acts
+use Rattle.dr_machine.specs.declared.step.Step.{Step}
+use Rattle.dr_machine.specs.declared.step.Step.TheVariants.{Do, Look, Push, Append}
+use Rattle.dr_machine.specs.Events.{member_of, step_of}
+use Rattle.dr_rows.specs.Words.{own, seen}
+use Rattle.dr_faithful.proofs.Acts.{append_keeps, append_past, beat_keeps, deliver_keeps, deliver_past, end_keeps, mark_grew, mark_keeps, publish_grew, publish_keeps, report_keeps, report_past}
+use Rattle.dr_faithful.proofs.Begin.{begun}
+use Rattle.dr_faithful.proofs.Copies.{look_grew, look_keeps, push_grew, push_keeps}
+use Rattle.dr_faithful.proofs.Pieces.{sent_item, tag_of_piece}
+use Rattle.dr_faithful.proofs.Receipts.{receive_grew, receive_keeps, receive_past}
+use Rattle.dr_faithful.proofs.Sends.{send_grew, send_keeps, send_past}
+use Rattle.dr_faithful.proofs.Stamps.{stamp_grew, stamp_keeps, stamp_past}
+use Rattle.dr_faithful.proofs.Pasts.{past_on, past_same, same_past}
+use Rattle.dr_faithful.specs.Faithful.{Faithful}
+use Rattle.dr_faithful.specs.Tells.{TellsPiece, Views, item_sent, part_column}
+use Rattle.dr_words.proofs.Order.{HasGrown_same, HasGrown_trans}
+use Rattle.dr_words.specs.Packing.{ring_tag}
+
+-- the members of the one view that there is so far
+abbrev pub whole : Group → Views
+whole g v = g.opening.members
+
+act_keeps : (g : Group) (V : Views) (w : World) (m : ℕ) (a : Act) → IsGroup g → CanDo g w m a
+    → Faithful g V w → Faithful g V (does g w m a)
+act_keeps g V w m acts.Beat is can f = beat_keeps g V w m f
+act_keeps g V w m (acts.Receive s) is can f = receive_keeps g V w m s is can f
+act_keeps g V w m acts.Send is can f = send_keeps g V w m is can f
+act_keeps g V w m acts.Deliver is can f = deliver_keeps g V w m can f
+act_keeps g V w m acts.Publish is can f = publish_keeps g V w m f
+act_keeps g V w m acts.Report is can f = report_keeps g V w m is can f
+act_keeps g V w m acts.Mark is can f = mark_keeps g V w m can f
+act_keeps g V w m (acts.Halt end) is can f = end_keeps g V w m end f
+act_keeps g V w m (acts.Crash end) is can f = end_keeps g V w m end f
+
+step_keeps : (g : Group) (V : Views) (w : World) (m : ℕ) (s : Step) → IsGroup g → CanTake g w m s
+    → Faithful g V w → Faithful g V (effect_of g w m s)
+step_keeps g V w m (Do a) is can f = stamp_keeps g V (does g w m a) m (act_keeps g V w m a is can f)
+step_keeps g V w m (Look i c) is can f = look_keeps g V w m i c f
+step_keeps g V w m (Push j c) is can f = push_keeps g V w m j c f
+step_keeps g V w m Append is can f = append_keeps g V w m f
+
+-- the members are faithful in every world that is reached
+pub faithful : (g : Group) (w : World) → IsGroup g → IsReached g w → Faithful g (whole g) w
+faithful g w is r = reached g (Faithful g (whole g))
+    (λ u e can f. step_keeps g (whole g) u (member_of e) (step_of e) is can f) (begun g is) w r
+
+-- ---- growth
+
+-- growth while members stay in their views, and then growth again
+grew_on : (g : Group) (a b c : World) → ((m : ℕ) → b.past.view m ≡ a.past.view m)
+    → WordsGrew g a b → WordsGrew g b c → WordsGrew g a c
+grew_on g a b c stay p q = record {
+  own = λ m v k. HasGrown_trans (roster g) k _ _ _ (p.own m v k) (q.own m v k);
+  table = λ v j i k. HasGrown_trans (roster g) k _ _ _ (p.table v j i k) (q.table v j i k);
+  seen = λ m i k e. HasGrown_trans (roster g) k _ _ _ (p.seen m i k (stay m))
+      (q.seen m i k (e ∙ sym (stay m)));
+}
+
+-- an act and its stamp
+act_grew : (g : Group) (V : Views) (w u : World) (m : ℕ)
+    → ((i : ℕ) → u.past.view i ≡ w.past.view i) → WordsGrew g w u → Faithful g V u
+    → WordsGrew g w (stamped u m)
+act_grew g V w u m stay p f = grew_on g w u (stamped u m) stay p (stamp_grew g V u m f)
+
+-- the words are the same ones
+same_words : (g : Group) (w u : World) → u.past.own ≡ w.past.own → u.table ≡ w.table → u.seen
+    ≡ w.seen → WordsGrew g w u
+same_words g w u own table seen = record {
+  own = λ m v k. HasGrown_same (roster g) k (w.past.own m v k) (u.past.own m v k) (ap (λ f. f m v k) own);
+  table = λ v j i k. HasGrown_same (roster g) k (w.table v j i k) (u.table v j i k)
+      (ap (λ f. f v j i k) table);
+  seen = λ m i k e. HasGrown_same (roster g) k (w.seen m i k) (u.seen m i k) (ap (λ f. f m i k) seen);
+}
+
+-- the views are the same before and after an act, and the words grow in it
+act_stays : (g : Group) (w : World) (m : ℕ) (a : Act) (i : ℕ) → (does g w m a).past.view i
+    ≡ w.past.view i
+act_stays g w m acts.Beat i = refl
+act_stays g w m a i = refl
+
+does_grow : (g : Group) (V : Views) (w : World) (m : ℕ) (a : Act) → IsGroup g → CanDo g w m a
+    → Faithful g V w → WordsGrew g w (does g w m a)
+does_grow g V w m acts.Send is can f = send_grew g V w m is can f
+does_grow g V w m (acts.Receive s) is can f = receive_grew g V w m s is can f
+does_grow g V w m acts.Publish is can f = publish_grew g V w m f
+does_grow g V w m acts.Mark is can f = mark_grew g V w m f
+does_grow g V w m a is can f = same_words g w (does g w m a) refl refl refl
+
+grew : (g : Group) (V : Views) (w : World) (m : ℕ) (s : Step) → IsGroup g → CanTake g w m s
+    → Faithful g V w → WordsGrew g w (effect_of g w m s)
+grew g V w m (Do a) is can f =
+    act_grew g V w (does g w m a) m (act_stays g w m a) (does_grow g V w m a is can f)
+    (act_keeps g V w m a is can f)
+grew g V w m (Look i c) is can f = look_grew g V w m i c f can.row.other
+grew g V w m (Push j c) is can f = push_grew g V w m j c f
+grew g V w m Append is can f = same_words g w (appends w m) refl refl refl
+
+-- the words grow at every event
+pub words_grew : (g : Group) (w : World) (e : Event) → IsGroup g → IsReached g w → Guard g w e
+    → WordsGrew g w (effect g w e)
+words_grew g w e is r can = grew g (whole g) w (member_of e) (step_of e) is can (faithful g w is r)
+
+-- what an act makes only grow
+does_past : (g : Group) (V : Views) (w : World) (m : ℕ) (a : Act) → IsGroup g → CanDo g w m a
+    → Faithful g V w → PastGrew w.past (does g w m a).past
+does_past g V w m acts.Send is can f = send_past g V w m is can f
+does_past g V w m (acts.Receive s) is can f = receive_past g V w m s is can f
+does_past g V w m acts.Deliver is can f = deliver_past w m
+does_past g V w m acts.Report is can f = report_past g V w m can f
+does_past g V w m a is can f = same_past w.past (does g w m a).past refl refl refl refl refl refl
+
+step_past : (g : Group) (V : Views) (w : World) (m : ℕ) (s : Step) → IsGroup g → CanTake g w m s
+    → Faithful g V w → PastGrew w.past (effect_of g w m s).past
+step_past g V w m (Do a) is can f =
+    past_on w.past (does g w m a).past (stamped (does g w m a) m).past (does_past g V w m a is can f)
+    (stamp_past g V (does g w m a) m (act_keeps g V w m a is can f))
+step_past g V w m (Look i c) is can f = past_same w.past
+step_past g V w m (Push j c) is can f = past_same w.past
+step_past g V w m Append is can f = append_past w m
+
+-- and so does all else that only grows
+pub past_grew : (g : Group) (w : World) (e : Event) → IsGroup g → IsReached g w → Guard g w e
+    → PastGrew w.past (effect g w e).past
+past_grew g w e is r can = step_past g (whole g) w (member_of e) (step_of e) is can (faithful g w is r)
+
+-- ---- no later item
+
+-- items of one slot less than a window apart are not the later one
+same_slot : (n k q : ℕ) → 0 < n → q % n ≡ k % n → q < k + n → q ≤ k
+same_slot n k q some e l = by (cases_lt (k / n) (q / n))
+  where
+    by : (k / n < q / n) ⊎ (q / n ≤ k / n) → q ≤ k
+    by (inl over) =
+        let round : n * suc (k / n) ≤ n * (q / n) = mul-le-mul_left n over in
+        let next : n * suc (k / n) ≡ n * (k / n) + n = mul-suc n (k / n) in
+        absurd (omega (arith, round, next, div-add-mod q n, div-add-mod k n, e, l))
+    by (inr earlier) =
+        let round : n * (q / n) ≤ n * (k / n) = mul-le-mul_left n earlier in
+        omega (arith, round, div-add-mod q n, div-add-mod k n, e)
+
+-- a word of the slot of the item that m waits for is no later one's
+later_tag : (g : Group) (V : Views) (w : World) (m s part word : ℕ) → IsGroup g → Faithful g V w
+    → IsPresent g m → IsOther w m s
+    → TellsPiece g (length (w.past.sent s (w.past.view m))) (item_sent g w.past.sent s (w.past.view m))
+    (count_of w m s % g.window) part word
+    → ring_tag word ≤ count_of w m s + 1
+later_tag g V w m s part word is f l other (inl none) = omega arith
+later_tag g V w m s part word is f l other (inr p) =
+    let v : ℕ = w.past.view m in
+    let tag = tag_of_piece g (length (w.past.sent s v)) (item_sent g w.past.sent s v)
+    (count_of w m s % g.window) part word
+    (λ i. sent_item g w.past.sent s v i is) p in
+    let window = f.items.window m v s (f.views.present m l)
+    (ap (λ k. has k s) (sym (f.views.own m)) ∙ other.member) in
+    let earlier = same_slot g.window (count_of w m s) p.number is.some_slot p.place
+    (omega (arith, p.put, window, f.sent.all s v)) in
+    omega (arith, tag, earlier)
+
+-- no later item stands in the slot of one that is waited for
+pub no_later : (g : Group) (w : World) → IsGroup g → IsReached g w → NoLaterItem g w
+no_later g w is r m s part l other p =
+    let f = faithful g w is r in
+    let slot = mod_below (count_of w m s) g.window is.some_slot in
+    let column : ℕ = part_column g (count_of w m s % g.window) part in (
+      later_tag g (whole g) w m s part _ is f l other
+          ((f.words.table (w.past.view m) m s column).ring (count_of w m s % g.window) part slot p refl),
+      later_tag g (whole g) w m s part _ is f l other
+          ((f.words.seen m s column).ring (count_of w m s % g.window) part slot p refl),
+    )

@@ -1,0 +1,66 @@
+-- One own word that rises, in a column below those of the counts: what else its member's words tell stays.
+use Rattle.std.proofs.Common.{List, arith, subst, sym, ℕ, ◌<◌, ◌≢◌}
+use Rattle.dr_entry.specs.declared.entry.Entry.{Entry}
+use Rattle.dr_machine.specs.Group.{Group, roster}
+use Rattle.dr_machine.specs.Writes.{at₃}
+use Rattle.dr_faithful.proofs.Writes.{at₃_case, at₃_column}
+use Rattle.dr_faithful.specs.Faithful.{AreCounts, AreDelivered, AreInForm, AreOld, Numbers, Table}
+use Rattle.dr_faithful.specs.Tells.{Views}
+use Rattle.dr_words.proofs.Order.{HasGrown_refl, HasGrown_trans}
+use Rattle.dr_words.specs.declared.column.TheConstants.{RECEIVED_COLUMN}
+use Rattle.dr_words.specs.Columns.{recv_column}
+use Rattle.dr_words.specs.Form.{IsInForm}
+use Rattle.dr_words.specs.Grown.{HasGrown}
+
+-- the columns of the beat, logged and done words
+abbrev pub IsPlain : ℕ → Type 0
+IsPlain c = (c < recv_column 0) × (c ≢ RECEIVED_COLUMN)
+
+-- the counts are told as before
+pub counts_word : (g : Group) (V : Views) (view suspects : ℕ → ℕ) (own count : Numbers)
+    (m v c x : ℕ) → IsPlain c
+    → AreCounts g V view suspects own count → AreCounts g V view suspects (at₃ own m v c x) count
+counts_word g V view suspects own count m v c x plain f = record {
+  recv = λ i u s l. rw (at₃_column own m v c x i u (recv_column s) (omega (arith, plain.0)))
+      (f.recv i u s l);
+  unfinished = λ i s l e. rw (at₃_column own m v c x i (view i) (recv_column s) (omega (arith, plain.0)))
+      (f.unfinished i s l e);
+  received = λ i u. rw (at₃_column own m v c x i u 2 (λ e. plain.1 (sym e))) (f.received i u);
+  few = f.few;
+}
+
+-- the received words are as before
+pub delivered_word : (g : Group) (V : Views) (view next : ℕ → ℕ) (own : Numbers)
+    (history : ℕ → List Entry) (m v c x : ℕ) → IsPlain c
+    → AreDelivered g V view next own history → AreDelivered g V view next (at₃ own m v c x) history
+delivered_word g V view next own history m v c x plain f = record {
+  held = λ i j l h. rw (at₃_column own m v c x j (view i) 2 (λ e. plain.1 (sym e))) (f.held i j l h);
+  short = f.short;
+}
+
+-- the own words grow
+pub own_grown : (g : Group) (own : Numbers) (m v c x : ℕ) → HasGrown (roster g) c (own m v c) x
+    → (i u k : ℕ) → HasGrown (roster g) k (own i u k) (at₃ own m v c x i u k)
+own_grown g own m v c x grown =
+    at₃_case (λ i u k z. HasGrown (roster g) k (own i u k) z) own m v c x
+    (λ i u k. HasGrown_refl (roster g) k (own i u k)) grown
+
+-- words of the table are older ones of own words that have grown
+pub old_later : (g : Group) (view : ℕ → ℕ) (own new : Numbers) (table : Table) (seen : Numbers)
+    → ((i v c : ℕ) → HasGrown (roster g) c (own i v c) (new i v c)) → AreOld g view own table seen
+    → AreOld g view new table seen
+old_later g view own new table seen grown f = record {
+  in_table = λ v j i c. HasGrown_trans (roster g) c (table v j i c) (own i v c) (new i v c)
+      (f.in_table v j i c) (grown i v c);
+  in_seen = f.in_seen;
+}
+
+-- own words stay in form
+pub form_word : (g : Group) (own : Numbers) (table : Table) (seen : Numbers) (m v c x : ℕ)
+    → IsInForm (roster g) c x
+    → AreInForm g own table seen → AreInForm g (at₃ own m v c x) table seen
+form_word g own table seen m v c x form f = record {
+  in_own = at₃_case (λ i u k z. IsInForm (roster g) k z) own m v c x f.in_own form;
+  in_table = f.in_table;
+  in_seen = f.in_seen;
+}

@@ -1,0 +1,103 @@
+-- Receipts: the item that a member takes is the one that its sender has put.
+use Rattle.std.proofs.Common.{Some, ap, arith, inr, le_refl, le_trans, length, refl, slice_index, sym, ℕ, ◌%◌, ◌+◌, ◌<◌, ◌∙◌, ◌≡◌}
+use Rattle.std.proofs.lemmas.Nat.{mod_below}
+use Rattle.std.specs.Prelude.{unwrap_or}
+use Rattle.dr_entry.specs.declared.entry.Item.{Item}
+use Rattle.dr_entry.specs.declared.entry.Item.TheVariants.{Null}
+use Rattle.dr_history.specs.Members.{has}
+use Rattle.dr_machine.specs.Effects.{next_item, receives}
+use Rattle.dr_machine.specs.Group.{Group, IsGroup}
+use Rattle.dr_machine.specs.Guards.{CanReceive, seen_slot}
+use Rattle.dr_machine.specs.Run.{PastGrew, WordsGrew}
+use Rattle.dr_machine.specs.World.{World, count_of, own_word}
+use Rattle.dr_ring.proofs.Items.{IsItem}
+use Rattle.dr_ring.specs.Pieces.{pieces}
+use Rattle.dr_ring.specs.Slots.{item_in}
+use Rattle.dr_faithful.proofs.CountMore.{own_same}
+use Rattle.dr_faithful.proofs.ItemMore.{MayGain, gain_grew, gain_keeps, past_gained}
+use Rattle.dr_faithful.proofs.Pasts.{prefix_refl}
+use Rattle.dr_faithful.proofs.Pieces.{piece_of, ready_item, sent_item}
+use Rattle.dr_faithful.specs.Faithful.{Faithful}
+use Rattle.dr_faithful.specs.Tells.{Views, item_sent, part_column}
+use Rattle.dr_words.specs.Packing.{ring_tag, ring_word}
+
+-- the words that were seen of the next item are pieces of it
+receive_words : (g : Group) (V : Views) (w : World) (m s : ℕ) → IsGroup g → CanReceive g w m s
+    → Faithful g V w
+    → (count_of w m s < w.past.count s (w.past.view m) s)
+    × (next_item g w m s ≡ item_sent g w.past.sent s (w.past.view m) (count_of w m s))
+receive_words g V w m s is can f =
+    (omega (arith, head.0, f.sent.all s (w.past.view m)), ap (λ o. unwrap_or o Null) found)
+  where
+    k : ℕ
+    k = count_of w m s
+
+    put : ℕ
+    put = length (w.past.sent s (w.past.view m))
+
+    items : ℕ → Item
+    items = item_sent g w.past.sent s (w.past.view m)
+
+    are : (i : ℕ) → IsItem (item_sent g w.past.sent s (w.past.view m) i)
+    are i = sent_item g w.past.sent s (w.past.view m) i is
+
+    slot : k % g.window < g.window
+    slot = mod_below k g.window is.some_slot
+
+    piece : (part : ℕ) → part < 17 → ring_tag (seen_slot g w m s k part) ≡ k + 1 → (k < put)
+        × (seen_slot g w m s k part ≡ ring_word k (slice_index (pieces (items k)) part))
+    piece part l tag = piece_of g put items (k % g.window) part (seen_slot g w m s k part) k are
+        ((f.words.seen m s (part_column g (k % g.window) part)).ring (k % g.window) part slot l refl) tag
+
+    head : (k < put) × (seen_slot g w m s k 0 ≡ ring_word k (slice_index (pieces (items k)) 0))
+    head = piece 0 (omega arith) can.ready.head
+
+    found : item_in k (seen_slot g w m s k) ≡ Some (items k)
+    found = ready_item k (items k) (seen_slot g w m s k) (are k) can.ready
+        (λ part l tag. (piece part l tag).1)
+
+-- so it may have that item
+receive_may : (g : Group) (V : Views) (w : World) (m s : ℕ) → IsGroup g → CanReceive g w m s
+    → Faithful g V w
+    → MayGain g V w m s (next_item g w m s) (w.past.own m (w.past.view m)) w.past.sent
+receive_may g V w m s is can f =
+    let taken = receive_words g V w m s is can f in
+    record {
+      present = can.may.alive.present;
+      unwedged = can.unwedged;
+      sender = ap (λ k. has k s) (sym (f.views.own m)) ∙ can.sender.member;
+      source = inr (can.sender.other, taken.0);
+      grew = λ a u. prefix_refl (w.past.sent a u);
+      item = taken.1;
+      few = le_trans taken.0 (f.counts.few s (w.past.view m) s);
+      low = λ c l. refl;
+      high = λ c. le_refl (own_word w m c);
+      ring = λ slot part l p. (f.words.own m (w.past.view m) (part_column g slot part)).ring slot part l p
+          refl;
+      named = record {
+        all = λ a v. f.sent.all a v ∙ sym (own_same w.past.count m (w.past.view m) s a v can.sender.other);
+        put = f.sent.put;
+        named = f.sent.named;
+      };
+    }
+
+-- what only grows has grown
+pub receive_past : (g : Group) (V : Views) (w : World) (m s : ℕ) → IsGroup g → CanReceive g w m s
+    → Faithful g V w → PastGrew w.past (receives g w m s).past
+receive_past g V w m s is can f =
+    past_gained g V w m s (next_item g w m s) (w.past.own m (w.past.view m)) w.past.sent
+    (receive_may g V w m s is can f)
+
+-- the words grow
+pub receive_grew : (g : Group) (V : Views) (w : World) (m s : ℕ) → IsGroup g → CanReceive g w m s
+    → Faithful g V w → WordsGrew g w (receives g w m s)
+receive_grew g V w m s is can f =
+    gain_grew g V w m s (next_item g w m s) (w.past.own m (w.past.view m)) w.past.sent is
+    (receive_may g V w m s is can f) f
+
+-- and the members stay faithful
+pub receive_keeps : (g : Group) (V : Views) (w : World) (m s : ℕ) → IsGroup g → CanReceive g w m s
+    → Faithful g V w → Faithful g V (receives g w m s)
+receive_keeps g V w m s is can f =
+    gain_keeps g V w m s (next_item g w m s) (w.past.own m (w.past.view m)) w.past.sent is
+    (receive_may g V w m s is can f) f

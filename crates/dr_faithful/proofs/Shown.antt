@@ -1,0 +1,22 @@
+-- A word that a member shows another is at most its owner's.
+use Rattle.std.proofs.Common.{arith, inl, inr, le_trans, ℕ, ◌≡◌, ◌≢◌, ◌≤◌, ◌⊎◌}
+use Rattle.std.proofs.lemmas.Bool.{cases_eq}
+use Rattle.dr_machine.specs.Group.{Group}
+use Rattle.dr_machine.specs.World.{World, shown}
+use Rattle.dr_faithful.specs.Faithful.{Faithful}
+use Rattle.dr_faithful.specs.Tells.{Views}
+
+-- a seen word is at most its owner's
+pub seen_le : (g : Group) (V : Views) (w : World) (m i c : ℕ) → Faithful g V w → i ≢ m
+    → w.seen m i c ≤ w.past.own i (w.past.view m) c
+seen_le g V w m i c f d = le_trans (f.old.in_seen m i c d).number
+    (f.old.in_table (w.past.view m) m i c).number
+
+-- and so is a word that is shown
+pub shown_le : (g : Group) (V : Views) (w : World) (m i c : ℕ) → Faithful g V w → shown w m i c
+    ≤ w.past.own i (w.past.view m) c
+shown_le g V w m i c f = by (cases_eq i m)
+  where
+    by : (i ≡ m) ⊎ (i ≢ m) → shown w m i c ≤ w.past.own i (w.past.view m) c
+    by (inl e) = grind (arith, e)
+    by (inr d) = grind (arith, seen_le g V w m i c f d)

@@ -1,0 +1,128 @@
+-- What is true of every world that is reached: each word tells the truth of its owner, and each item is as
+-- its sender put it.
+-- V gives the members of each view, as a mask, by the view's number.
+use Rattle.std.specs.Prelude.{◌≡◌, ◌≢◌, ℕ, ◌+◌, ◌^◌, ◌<◌, ◌≤◌, true, false, List, length, map, slice_get, Option, None, Some}
+use Rattle.dr_entry.specs.declared.limits.TheConstants.{MAX_MESSAGES}
+use Rattle.dr_entry.specs.declared.entry.Entry.{Entry}
+use Rattle.dr_entry.specs.declared.entry.Item.{Item}
+use Rattle.dr_entry.specs.declared.end.SentItem.{SentItem}
+use Rattle.dr_entry.specs.declared.end.SentItem.TheVariants.{Index}
+use Rattle.dr_entry.specs.declared.record.Vote.{Vote}
+use Rattle.dr_history.specs.Members.{has, members_of}
+use Rattle.dr_history.specs.Places.{front_of}
+use Rattle.dr_history.specs.History.{IsPrefixOf, Sent, messages_in, messages_of}
+use Rattle.dr_history.specs.Order.{first_entries, messages_from}
+use Rattle.dr_words.specs.declared.column.TheConstants.{RECEIVED_COLUMN}
+use Rattle.dr_words.specs.Columns.{recv_column}
+use Rattle.dr_words.specs.Form.{IsInForm}
+use Rattle.dr_words.specs.Grown.{HasGrown}
+use Rattle.dr_words.specs.Packing.{recv_count, is_final}
+use Rattle.dr_machine.specs.Group.{Group, IsPresent, roster}
+use Rattle.dr_machine.specs.World.{World}
+use Rattle.dr_faithful.specs.Tells.{Views, WordsTell, item_sent}
+
+-- a number for each member, view, and column or sender: own words, and counts
+abbrev pub Numbers : Type 0
+Numbers = ℕ → ℕ → ℕ → ℕ
+
+-- an item for each member, sender and number
+abbrev pub Items : Type 0
+Items = ℕ → ℕ → ℕ → Item
+
+-- a word for each view, copy, row and column
+abbrev pub Table : Type 0
+Table = ℕ → ℕ → ℕ → ℕ → ℕ
+
+-- so far every member is there, there is one view, and nobody is suspected
+pub record IsBeginning (g : Group) (view suspects base : ℕ → ℕ)
+    (pending : ℕ → Option Vote) : Type 0 where
+  pub all : (m : ℕ) → m < roster g → IsPresent g m
+  pub first : (m : ℕ) → view m ≡ 0
+  pub unwedged : (m : ℕ) → suspects m ≡ 0
+  pub idle : (m : ℕ) → pending m ≡ None
+  -- each member goes on behind the messages of the start
+  pub start : (m : ℕ) → base m ≡ length (messages_from m g.opening.start)
+
+-- each member that is there is in a view of the roster
+pub record AreInViews (g : Group) (V : Views) (view members : ℕ → ℕ) : Type 0 where
+  pub own : (m : ℕ) → members m ≡ V (view m)
+  pub present : (m : ℕ) → IsPresent g m → has (V (view m)) m ≡ true
+  pub within : (v m : ℕ) → has (V v) m ≡ true → m < roster g
+
+-- the items that members have are those that their senders have put
+pub record AreItems (g : Group) (V : Views) (view : ℕ → ℕ) (count : Numbers) (item : Items)
+    (sent : Sent) : Type 0 where
+  -- nobody has more of a sender's items than it has put
+  pub counted : (m v s : ℕ) → count m v s ≤ count s v s
+  -- and each of them is as it was put
+  pub same : (m s k : ℕ) → k < count m (view m) s → item m s k ≡ item_sent g sent s (view m) k
+  -- nobody has put more than a window of items that another member of the view does not have
+  pub window : (m v s : ℕ) → has (V v) m ≡ true → has (V v) s ≡ true → count s v s
+      ≤ count m v s + g.window
+
+-- what a member has put in a view: its messages, one by one from the first one on, and nulls once none is
+-- left
+pub record IsPut (first total : ℕ) (items : List SentItem) : Type 0 where
+  pub index : (k : ℕ) → k < messages_in items → slice_get items k ≡ Some (Index (first + k))
+  pub left : first + messages_in items ≤ total
+  pub nulls : messages_in items < length items → first + messages_in items ≡ total
+
+-- each member has put its next messages of the script in its view
+pub record AreSent (g : Group) (view base : ℕ → ℕ) (sent : Sent) (count : Numbers) : Type 0 where
+  pub all : (s v : ℕ) → length (sent s v) ≡ count s v s
+  pub put : (s : ℕ) → IsPut (base s) (length (messages_of g.opening s)) (sent s (view s))
+  -- so far nobody puts a null
+  pub named : (s v : ℕ) → messages_in (sent s v) ≡ length (sent s v)
+
+-- the own words of a member say how many items it has
+pub record AreCounts (g : Group) (V : Views) (view suspects : ℕ → ℕ)
+    (own count : Numbers) : Type 0 where
+  pub recv : (m v s : ℕ) → s < roster g → recv_count (own m v (recv_column s)) ≡ count m v s
+  -- no count is final before the member is wedged
+  pub unfinished : (m s : ℕ) → s < roster g → suspects m ≡ 0
+      → is_final (own m (view m) (recv_column s)) ≡ false
+  pub received : (m v : ℕ) → own m v RECEIVED_COLUMN ≡ front_of (map (count m v) (members_of (V v)))
+  -- nobody has more items than a script has messages
+  pub few : (m v s : ℕ) → count m v s ≤ MAX_MESSAGES
+
+-- the log of a member is a front of its history, and what it knows to be durable is on all logs
+pub record AreLogs (g : Group) (V : Views) (view : ℕ → ℕ) (acts durable : ℕ → ℕ)
+    (log history : ℕ → List Entry) : Type 0 where
+  pub bounded : (m : ℕ) → acts m < 2 ^ 64
+  pub front : (m : ℕ) → IsPrefixOf (log m) (history m)
+  -- what a member knows to be durable stands on the logs of all members of its view
+  pub safe : (m i : ℕ) → IsPresent g m → has (V (view m)) i ≡ true → durable m ≤ length (log i)
+  pub small : (m : ℕ) → durable m < 2 ^ 64
+
+-- a member has delivered only places that every member of its view holds
+pub record AreDelivered (g : Group) (V : Views) (view next : ℕ → ℕ) (own : Numbers)
+    (history : ℕ → List Entry) : Type 0 where
+  pub held : (m i : ℕ) → IsPresent g m → has (V (view m)) i ≡ true → next m
+      ≤ own i (view m) RECEIVED_COLUMN
+  -- each place delivered has added one entry at most
+  pub short : (m : ℕ) → length (history m) ≤ length (first_entries g.opening) + next m
+
+-- a word in the table is an older one of its owner, and a seen word an older one of the table
+pub record AreOld (g : Group) (view : ℕ → ℕ) (own : Numbers) (table : Table)
+    (seen : Numbers) : Type 0 where
+  pub in_table : (v j i c : ℕ) → HasGrown (roster g) c (table v j i c) (own i v c)
+  pub in_seen : (m i c : ℕ) → i ≢ m → HasGrown (roster g) c (seen m i c) (table (view m) m i c)
+
+-- every word is in form
+pub record AreInForm (g : Group) (own : Numbers) (table : Table) (seen : Numbers) : Type 0 where
+  pub in_own : (m v c : ℕ) → IsInForm (roster g) c (own m v c)
+  pub in_table : (v j i c : ℕ) → IsInForm (roster g) c (table v j i c)
+  pub in_seen : (m i c : ℕ) → IsInForm (roster g) c (seen m i c)
+
+-- the members of a group are faithful
+pub record Faithful (g : Group) (V : Views) (w : World) : Type 0 where
+  pub beginning : IsBeginning g w.past.view w.suspects w.base w.pending
+  pub views : AreInViews g V w.past.view w.members
+  pub items : AreItems g V w.past.view w.past.count w.item w.past.sent
+  pub sent : AreSent g w.past.view w.base w.past.sent w.past.count
+  pub counts : AreCounts g V w.past.view w.suspects w.past.own w.past.count
+  pub words : WordsTell g V w
+  pub logs : AreLogs g V w.past.view w.past.acts w.past.durable w.past.log w.past.history
+  pub delivered : AreDelivered g V w.past.view w.next w.past.own w.past.history
+  pub old : AreOld g w.past.view w.past.own w.table w.seen
+  pub form : AreInForm g w.past.own w.table w.seen

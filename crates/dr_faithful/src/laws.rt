@@ -1,0 +1,33 @@
+//! Laws of the worlds that are reached.
+ghost use Rattle.dr_machine.specs.declared.event.Event.{Event};
+ghost use Rattle.dr_machine.specs.Group.{Group, IsGroup};
+ghost use Rattle.dr_machine.specs.World.{World};
+ghost use Rattle.dr_machine.specs.Acts.{Guard, effect};
+ghost use Rattle.dr_machine.specs.Run.{IsReached, NoLaterItem, PastGrew, WordsGrew};
+ghost use Rattle.dr_faithful.specs.Faithful.{Faithful};
+ghost use Rattle.dr_faithful.specs.Tells.{views_of};
+
+/// In every world that is reached the members are faithful: what a member has of another, and what a
+/// word says of its owner, is true.
+pub fn members_are_faithful()
+    ensures { (g : Group) (w : World) → IsGroup g → IsReached g w
+        → Faithful g (views_of g w) w }
+{}
+
+/// No event makes a word fall: own words, those in the table and those that were seen only grow.
+pub fn words_grow()
+    ensures { (g : Group) (w : World) (e : Event) → IsGroup g → IsReached g w → Guard g w e
+        → WordsGrew g w (effect g w e) }
+{}
+
+/// Nothing that was done is undone: counts of items, what was put, histories, logs, durable counts and
+/// numbers of acts only grow.
+pub fn pasts_grow()
+    ensures { (g : Group) (w : World) (e : Event) → IsGroup g → IsReached g w → Guard g w e
+        → PastGrew w.past (effect g w e).past }
+{}
+
+/// A member that waits for an item never finds a later one in its slot.
+pub fn no_later_item()
+    ensures { (g : Group) (w : World) → IsGroup g → IsReached g w → NoLaterItem g w }
+{}

@@ -1,0 +1,172 @@
+-- A view that ends with a cut: of each member so many of its first items, and no more.
+use Rattle.std.proofs.Common.{◌≡◌, ◌≢◌, refl, ap, sym, ◌∙◌, ◌⊎◌, inl, inr, subst, ℕ, ◌+◌, ◌/◌, ◌%◌, ◌==◌, ◌<◌, ◌≤◌, arith, Bool, true, false, nat_lt, List, [], ◌∷◌, ◌++◌, length, map, filter, filter_map, take, drop, Option, None, Some, slice_get, option_and_then, append-nil, append_assoc, take-append-drop, eq-eqb, ne_eqb, if◌then◌else◌}
+use Rattle.std.specs.List.{range_with_len}
+use Rattle.std.proofs.lemmas.Bool.{cases_eq}
+use Rattle.std.proofs.lemmas.List.{length-take}
+use Rattle.std.proofs.lemmas.Option.{slice_get_within}
+use Rattle.dr_entry.specs.declared.entry.Entry.{Entry}
+use Rattle.dr_entry.specs.declared.entry.Entry.TheVariants.{View}
+use Rattle.dr_entry.specs.declared.end.SentItem.TheVariants.{Index}
+use Rattle.dr_history.specs.declared.opening.Opening.{Opening}
+use Rattle.dr_history.specs.Places.{is_held, held_places, front_of}
+use Rattle.dr_history.specs.History.{IsPrefixOf, GroupView, Sent, messages_in, entry_of, item_at, merge}
+use Rattle.dr_history.specs.Order.{InOrder, MayFollow, messages_from}
+use Rattle.dr_history_laws.specs.Laid.{laid, entry_at, EndsWithView, GoesOn, SentMore}
+use Rattle.dr_history_laws.proofs.Lists.{slice_get-take, slice_get-prefix, take-prefix}
+use Rattle.dr_history_laws.proofs.LooseOrder.{InLooseOrder, InLooseOrder-from}
+use Rattle.dr_history_laws.proofs.LaidLemmas.{laid-same}
+use Rattle.dr_history_laws.proofs.Steady.{InOrder-steady}
+use Rattle.dr_history.proofs.Fronts.{front_held}
+use Rattle.dr_history_laws.proofs.Ordered.{HasReached, reached}
+use Rattle.dr_history_laws.proofs.Merging.{CountsAll, is_held-member, top_place, merge-laid, laid-top}
+use Rattle.dr_history_laws.proofs.Following.{InOrder-View, InLooseOrder-elsewhere}
+
+-- what was sent, with the items of a view cut behind those that are taken
+abbrev cut : Sent → GroupView → (ℕ → ℕ) → Sent
+cut sent v taken s n = if n == v.number then take (taken s) (sent s n) else sent s n
+
+cut_here : (sent : Sent) (v : GroupView) (taken : ℕ → ℕ) (s : ℕ) → cut sent v taken s v.number
+    ≡ take (taken s) (sent s v.number)
+cut_here sent v taken s = let e : (v.number == v.number) ≡ true = eq-eqb v.number v.number refl in rw e refl
+
+cut_elsewhere : (sent : Sent) (v : GroupView) (taken : ℕ → ℕ) (s n : ℕ) → n ≢ v.number
+    → cut sent v taken s n ≡ sent s n
+cut_elsewhere sent v taken s n other = let e : (n == v.number) ≡ false = ne_eqb n v.number other in
+    rw e refl
+
+-- it is the front part of what was sent
+cut_prefix : (sent : Sent) (v : GroupView) (taken : ℕ → ℕ) → SentMore (cut sent v taken) sent
+cut_prefix sent v taken s n = by (cases_eq n v.number)
+  where
+    by : (n ≡ v.number) ⊎ (n ≢ v.number) → IsPrefixOf (cut sent v taken s n) (sent s n)
+    by (inl e) = subst (λ k. IsPrefixOf (cut sent v taken s k) (sent s k)) (sym e) (
+      drop (taken s) (sent s v.number),
+      ap (λ items. items ++ drop (taken s) (sent s v.number)) (cut_here sent v taken s)
+          ∙ take-append-drop (taken s) (sent s v.number),
+    )
+    by (inr other) = (
+      [],
+      ap (λ items. items ++ []) (cut_elsewhere sent v taken s n other)
+          ∙ append-nil (sent s n),
+    )
+
+-- an item within the cut
+cut_item : (sent : Sent) (v : GroupView) (taken : ℕ → ℕ) (s k : ℕ) → k < taken s
+    → slice_get (cut sent v taken s v.number) k ≡ slice_get (sent s v.number) k
+cut_item sent v taken s k l = ap (λ items. slice_get items k) (cut_here sent v taken s)
+    ∙ slice_get-take (taken s) (sent s v.number) k l
+
+-- its messages go on as well
+cut_goes_on : (o : Opening) (sent : Sent) (h : List Entry) (v : GroupView) (taken : ℕ → ℕ)
+    → GoesOn o sent h v
+    → GoesOn o (cut sent v taken) h v
+cut_goes_on o sent h v taken goes = record {
+  index = λ s k i member at. goes.index s k i member (old s k i at) ∙
+      ap (λ items. length (messages_from s h) + messages_in items) (sym (front s k i at));
+  scripted = λ s k i member at. goes.scripted s k i member (old s k i at);
+}
+  where
+    old : (s k i : ℕ) → slice_get (cut sent v taken s v.number) k ≡ Some (Index i)
+        → slice_get (sent s v.number) k ≡ Some (Index i)
+    old s k i at = slice_get-prefix (cut sent v taken s v.number) (sent s v.number) k (Index i)
+        (cut_prefix sent v taken s v.number) at
+
+    front : (s k i : ℕ) → slice_get (cut sent v taken s v.number) k ≡ Some (Index i)
+        → take k (cut sent v taken s v.number) ≡ take k (sent s v.number)
+    front s k i at = sym (take-prefix (cut sent v taken s v.number) (sent s v.number) k
+        (cut_prefix sent v taken s v.number)
+        (omega (arith, slice_get_within (cut sent v taken s v.number) k (Index i) at)))
+
+-- and has no more items than are taken
+cut_counts : (sent : Sent) (v : GroupView) (taken : ℕ → ℕ) → CountsAll (cut sent v taken) v taken
+cut_counts sent v taken s member =
+    omega (arith, ap length (cut_here sent v taken s), length-take (taken s) (sent s v.number))
+
+-- what a test lets through goes by the places that pass
+filter_map-agree : {X Y : Type 0} (f g : X → Option Y) (test : X → Bool) (xs : List X)
+    → ((x : X) → test x ≡ true → f x ≡ g x)
+    → filter_map f (filter test xs) ≡ filter_map g (filter test xs)
+filter_map-agree f g test [] same = refl
+filter_map-agree {X} {Y} f g test (x ∷ xs) same = by (test x) refl (filter_map-agree f g test xs same)
+  where
+    by : (b : Bool) → test x ≡ b → filter_map f (filter test xs) ≡ filter_map g (filter test xs)
+        → filter_map f (filter test (x ∷ xs)) ≡ filter_map g (filter test (x ∷ xs))
+    by true e rest = rw (e, same x e, rest) refl
+    by false e rest = rw e rest
+
+-- the item of a held place is not cut off
+cut_held : (sent : Sent) (v : GroupView) (taken : ℕ → ℕ) (q : ℕ) → is_held (map taken v.members) q
+    ≡ true
+    → item_at (cut sent v taken) v q ≡ item_at sent v q
+cut_held sent v taken q held = by (slice_get v.members (q % length v.members)) refl
+  where
+    less : (s : ℕ) → slice_get v.members (q % length v.members) ≡ Some s → q / length v.members
+        < taken s
+    less s e =
+        let test : nat_lt (q / length v.members) (taken s)
+        ≡ true = sym (is_held-member taken v.members q s e) ∙ held in
+        grind (arith, test)
+
+    by : (z : Option ℕ) → slice_get v.members (q % length v.members) ≡ z
+        → item_at (cut sent v taken) v q ≡ item_at sent v q
+    by None e = rw e refl
+    by (Some s) e = rw (e, cut_item sent v taken s (q / length v.members) (less s e)) refl
+
+cut_entry : (o : Opening) (sent : Sent) (v : GroupView) (taken : ℕ → ℕ) (q : ℕ)
+    → is_held (map taken v.members) q ≡ true
+    → entry_at o (cut sent v taken) v q ≡ entry_at o sent v q
+cut_entry o sent v taken q held =
+    ap (option_and_then (λ t. entry_of o t.0 t.1)) (cut_held sent v taken q held)
+
+-- the merge of what is taken is all that is laid of what was cut
+cut_merge : (o : Opening) (sent : Sent) (v : GroupView) (taken : ℕ → ℕ)
+    → merge o sent v (map taken v.members) ≡ laid o (cut sent v taken) v (top_place (map taken v.members))
+unfolding held_places
+cut_merge o sent v taken =
+    sym (filter_map-agree (entry_at o (cut sent v taken) v) (entry_at o sent v)
+    (is_held (map taken v.members))
+    (range_with_len 0 (top_place (map taken v.members))) (λ q held. cut_entry o sent v taken q held)) ∙
+    merge-laid o (cut sent v taken) v taken (cut_counts sent v taken)
+
+-- a history in order, the merge of what is taken of its view, and a View that may follow
+pub InOrder-next_view : (o : Opening) (sent : Sent) (before : List Entry) (v : GroupView)
+    (taken : ℕ → ℕ) (age number mask : ℕ)
+    → InOrder o sent before → EndsWithView before v → GoesOn o sent before v
+    → MayFollow v age number mask
+    → InOrder o sent ((before ++ merge o sent v (map taken v.members)) ++ View age number mask ∷ [])
+InOrder-next_view o sent before v taken age number mask order ends goes follows =
+    subst (λ es. InOrder o sent ((before ++ es) ++ View age number mask ∷ []))
+    (sym (cut_merge o sent v taken))
+    (InOrder-steady o less sent ((before ++ laid o less v top) ++ View age number mask ∷ [])
+    (cut_prefix sent v taken)
+    (InOrder-View o less (before ++ laid o less v top) v age number mask r.ordered r.view follows))
+  where
+    less : Sent
+    less = cut sent v taken
+
+    top : ℕ
+    top = top_place (map taken v.members)
+
+    order_then : InLooseOrder o less before
+    order_then = InLooseOrder-elsewhere o sent less before v (InLooseOrder-from o sent before order) ends
+        (λ s n other. cut_elsewhere sent v taken s n other)
+
+    r : HasReached o less v (before ++ laid o less v top) top
+    r = reached o less before v top order_then ends (cut_goes_on o sent before v taken goes)
+
+-- what was laid within what is taken is a prefix
+pub merge-prefix : (o : Opening) (sent : Sent) (before : List Entry) (v : GroupView) (taken : ℕ → ℕ)
+    (p : ℕ)
+    → p ≤ front_of (map taken v.members)
+    → IsPrefixOf (before ++ laid o sent v p) (before ++ merge o sent v (map taken v.members))
+merge-prefix o sent before v taken p below =
+    let rest = laid-top o (cut sent v taken) v taken p (cut_counts sent v taken) in (
+      rest.0,
+      append_assoc before (laid o sent v p) rest.0 ∙
+          ap (λ es. before ++ es) (ap (λ es. es ++ rest.0) same
+          ∙ (rest.1 ∙ sym (cut_merge o sent v taken))),
+    )
+  where
+    same : laid o sent v p ≡ laid o (cut sent v taken) v p
+    same = sym (laid-same o sent (cut sent v taken) v p
+        (λ q l. cut_entry o sent v taken q (front_held (map taken v.members) q (omega (arith, l, below)))))

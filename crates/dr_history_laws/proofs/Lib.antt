@@ -1,0 +1,17 @@
+pub mod Counting
+pub mod Cutting
+pub mod Following
+pub mod Indices
+pub mod LaidLemmas
+pub mod Lengths
+pub mod Lists
+pub mod LooseOrder
+pub mod Members
+pub mod Merging
+pub mod Openings
+pub mod Ordered
+pub mod Places
+pub mod Pushing
+pub mod SendingLemmas
+pub mod Steady
+pub mod Views

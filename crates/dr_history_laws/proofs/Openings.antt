@@ -1,0 +1,81 @@
+-- What every history of an age begins with is a history in order.
+use Rattle.std.proofs.Common.{◌≡◌, refl, ap, sym, ◌∙◌, subst, ℕ, zero, suc, ◌+◌, ◌<◌, ◌≤◌, arith, [], ◌∷◌, ◌++◌, length, take, Some, slice_get, append-nil, length-append}
+use Rattle.std.specs.List.{range_with_len}
+use Rattle.std.proofs.lemmas.List.{take_all}
+use Rattle.std.proofs.lemmas.Option.{slice_get_within}
+use Rattle.dr_entry.specs.declared.entry.Entry.{Entry}
+use Rattle.dr_entry.specs.declared.entry.Entry.TheVariants.{View, Msg}
+use Rattle.dr_history.specs.declared.opening.Opening.{Opening}
+use Rattle.dr_history.specs.Members.{members_of}
+use Rattle.dr_history.specs.History.{IsPrefixOf, Sent}
+use Rattle.dr_history.specs.Order.{InOrder, first_entries, messages_from, numbered_messages}
+use Rattle.dr_history.specs.Soundness.{Sound, MayStand}
+use Rattle.dr_history.proofs.NumberedLemmas.{messages_from-View}
+use Rattle.dr_history_laws.specs.Laid.{EndsWithView, first_view}
+use Rattle.dr_history_laws.proofs.Lists.{slice_get-some, take-next}
+use Rattle.dr_history_laws.proofs.Members.{members_of-ones}
+use Rattle.dr_history_laws.proofs.Pushing.{numbered-push}
+use Rattle.dr_history_laws.proofs.LooseOrder.{place_at-within}
+
+-- the messages of a sender among the first entries of a sound start are its first ones
+pub numbered_start : (o : Opening) (s n : ℕ) → Sound o → n ≤ length o.start
+    → IsPrefixOf (messages_from s (take n o.start)) (numbered_messages o s)
+numbered_start o s zero sound l = (numbered_messages o s, refl)
+numbered_start o s (suc n) sound l =
+    by (slice_get-some o.start n (omega arith)) (numbered_start o s n sound (omega arith))
+  where
+    next : n + 1 ≡ suc n
+    next = omega arith
+
+    more : (e : Entry) → slice_get o.start n ≡ Some e → take n o.start ++ e ∷ []
+        ≡ take (suc n) o.start
+    more e at = sym (take-next o.start n e at) ∙ ap (λ k. take k o.start) next
+
+    by : (e : Entry) × (slice_get o.start n ≡ Some e)
+        → IsPrefixOf (messages_from s (take n o.start)) (numbered_messages o s)
+        → IsPrefixOf (messages_from s (take (suc n) o.start)) (numbered_messages o s)
+    by (View a k m, at) pre = subst (λ es. IsPrefixOf es (numbered_messages o s))
+        (sym (messages_from-View s (take n o.start) a k m) ∙ ap (messages_from s) (more (View a k m) at))
+        pre
+    by (Msg t i b, at) pre =
+        let stands : MayStand o (take n o.start) (Msg t i b) = sound.entries n (Msg t i b) at in
+        subst (λ es. IsPrefixOf (messages_from s es) (numbered_messages o s)) (more (Msg t i b) at)
+        (numbered-push o s t (take n o.start) i b pre stands.1 stands.2)
+
+-- and so with View 0
+numbered_first : (o : Opening) (s : ℕ) → Sound o
+    → IsPrefixOf (messages_from s (first_entries o)) (numbered_messages o s)
+numbered_first o s sound =
+    subst (λ es. IsPrefixOf es (numbered_messages o s))
+    (ap (messages_from s) (take_all (length o.start) o.start (omega arith))
+    ∙ sym (messages_from-View s o.start o.age 0 o.members))
+    (numbered_start o s (length o.start) sound (omega arith))
+
+-- no entry stands behind View 0
+first_within : (o : Opening) (i : ℕ) → i < length (first_entries o) → length o.start < i → ⊥
+first_within o i within after =
+    omega (arith, within, after, length-append o.start (View o.age 0 o.members ∷ []))
+
+-- with a sound start the first entries are in order
+pub InOrder-first : (o : Opening) (sent : Sent) → Sound o → InOrder o sent (first_entries o)
+InOrder-first o sent sound = record {
+  begins = ([], append-nil (first_entries o));
+  views = λ i age number members after at. absurd
+      (first_within o i (slice_get_within (first_entries o) i (View age number members) at) after);
+  placed = λ i s index b after at. absurd
+      (first_within o i (slice_get_within (first_entries o) i (Msg s index b) at) after);
+  rising = λ i j p q after _ _ at _. absurd
+      (first_within o i (place_at-within sent (first_entries o) i p at) after);
+  numbered = λ s. numbered_first o s sound;
+  whole = λ i p q v after _ _ at _. absurd
+      (first_within o i (place_at-within sent (first_entries o) i p at) after);
+}
+
+-- they end with View 0
+pub first-ends : (o : Opening) → EndsWithView (first_entries o) (first_view o)
+first-ends o = record { before = o.start; mask = o.members; ends = refl; members = refl }
+
+-- whose members are all of the roster
+pub first-members : (o : Opening) → Sound o → length o.messages ≤ 16 → members_of o.members
+    ≡ range_with_len 0 (length o.messages)
+first-members o sound few = ap members_of sound.whole ∙ members_of-ones (length o.messages) few

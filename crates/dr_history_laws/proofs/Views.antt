@@ -1,0 +1,227 @@
+-- The Views of a history rise: each is later than the view before it.
+use Rattle.std.proofs.Common.{◌≡◌, refl, ap, sym, ◌∙◌, ◌⊎◌, inl, inr, subst, ℕ, zero, suc, ◌+◌, ◌-◌, ◌<◌, ◌≤◌, arith, le_refl, List, [], ◌∷◌, length, take, Some, slice_get, append_assoc}
+use Rattle.std.proofs.lemmas.List.{take_at}
+use Rattle.std.proofs.lemmas.Option.{same_Some, slice_get_within}
+use Rattle.dr_entry.specs.declared.entry.Entry.{Entry}
+use Rattle.dr_entry.specs.declared.entry.Entry.TheVariants.{View, Msg}
+use Rattle.dr_history.specs.declared.opening.Opening.{Opening}
+use Rattle.dr_history.specs.Members.{members_of}
+use Rattle.dr_history.specs.History.{IsPrefixOf, GroupView, Sent, view_of}
+use Rattle.dr_history.specs.Order.{InOrder, MayFollow}
+use Rattle.dr_history.specs.Agreement.{SamePast}
+use Rattle.dr_history.specs.Soundness.{Sound, MayStand}
+use Rattle.dr_history.proofs.ViewLemmas.{view_of-View, view_of-Msg}
+use Rattle.dr_history_laws.proofs.Lists.{slice_get-seam, slice_get-some, slice_get-prefix, take-next, take-prefix, IsSomeAnd-at}
+use Rattle.dr_history_laws.proofs.LooseOrder.{InLooseOrder, InLooseOrder-from}
+
+-- an age and a number are later than those of a view
+abbrev pub IsLater : GroupView → ℕ → ℕ → Type 0
+IsLater u age number = (u.age < age) ⊎ ((u.age ≡ age) × (u.number < number))
+
+-- a view is not earlier than an age and a number
+abbrev pub HasCome : ℕ → ℕ → GroupView → Type 0
+HasCome age number w = (age < w.age) ⊎ ((age ≡ w.age) × (number ≤ w.number))
+
+-- each View at or behind `from` is later than the view before it
+abbrev pub ViewsRise : ℕ → List Entry → Type 0
+ViewsRise from h = (i age number members : ℕ) → from ≤ i → slice_get h i
+    ≡ Some (View age number members)
+    → (u : GroupView) → view_of (take i h) ≡ Some u → IsLater u age number
+
+come_later : (a n b m c l : ℕ) → (a < b) ⊎ ((a ≡ b) × (n ≤ m)) → (b < c)
+    ⊎ ((b ≡ c) × (m < l)) → (a < c) ⊎ ((a ≡ c) × (n < l))
+come_later a n b m c l h k = grind arith
+
+come_on : (a n b m c l : ℕ) → (a < b) ⊎ ((a ≡ b) × (n ≤ m)) → (b < c)
+    ⊎ ((b ≡ c) × (m < l)) → (a < c) ⊎ ((a ≡ c) × (n ≤ l))
+come_on a n b m c l h k = grind arith
+
+-- a view stays or a later one comes
+view-after : (h : List Entry) (from i d : ℕ) (u : GroupView) → ViewsRise from h → from ≤ i
+    → i + d ≤ length h
+    → view_of (take i h) ≡ Some u
+    → (w : GroupView) × (view_of (take (i + d) h) ≡ Some w) × HasCome u.age u.number w
+view-after h from i zero u rise l within e =
+    let same : i + 0 ≡ i = omega arith in
+    (u, ap (λ j. view_of (take j h)) same ∙ e, inr (refl, le_refl u.number))
+view-after h from i (suc d) u rise l within e =
+    next (view-after h from i d u rise l (omega arith) e) (slice_get-some h (i + d) (omega arith))
+  where
+    place : i + suc d ≡ i + d + 1
+    place = omega arith
+
+    next : (w : GroupView) × (view_of (take (i + d) h) ≡ Some w) × HasCome u.age u.number w
+        → (x : Entry) × (slice_get h (i + d) ≡ Some x)
+        → (w : GroupView) × (view_of (take (i + suc d) h) ≡ Some w) × HasCome u.age u.number w
+    next r (View a n m, at) = (
+      record { age = a; number = n; members = members_of m },
+      ap (λ j. view_of (take j h)) place
+          ∙ (ap view_of (take-next h (i + d) (View a n m) at) ∙ view_of-View (take (i + d) h) a n m),
+      come_on u.age u.number r.0.age r.0.number a n r.2 (rise (i + d) a n m (omega arith) at r.0 r.1),
+    )
+    next r (Msg s j b, at) = (
+      r.0,
+      ap (λ j. view_of (take j h)) place ∙
+          (ap view_of (take-next h (i + d) (Msg s j b) at) ∙ (view_of-Msg (take (i + d) h) s j b ∙ r.1)),
+      r.2,
+    )
+
+-- of two Views the one that stands behind is later
+View-later : (h : List Entry) (from i j a n m b l k : ℕ) → ViewsRise from h → from ≤ i → i < j
+    → slice_get h i ≡ Some (View a n m)
+    → slice_get h j ≡ Some (View b l k)
+    → (a < b) ⊎ ((a ≡ b) × (n < l))
+View-later h from i j a n m b l k rise from_i less at_i at_j =
+    let place : i + 1 + (j - (i + 1)) ≡ j = omega arith in
+    let first : view_of (take (i + 1) h) ≡ Some (record { age = a; number = n; members = members_of m }) =
+    ap view_of (take-next h i (View a n m) at_i) ∙ view_of-View (take i h) a n m in
+    let r = view-after h from (i + 1) (j - (i + 1))
+    (record { age = a; number = n; members = members_of m }) rise (omega arith)
+    (omega (arith, slice_get_within h j (View b l k) at_j)) first in
+    come_later a n r.0.age r.0.number b l r.2
+    (rise j b l k (omega arith) at_j r.0 (ap (λ z. view_of (take z h)) (sym place) ∙ r.1))
+
+-- so a View of an age and a number stands at one position
+View-once : (h : List Entry) (i j age number m n : ℕ) → ViewsRise 0 h → slice_get h i
+    ≡ Some (View age number m)
+    → slice_get h j ≡ Some (View age number n) → i ≡ j
+View-once h i j age number m n rise at_i at_j = by (apart i j)
+  where
+    apart : (i j : ℕ) → (i < j) ⊎ ((i ≡ j) ⊎ (j < i))
+    apart i j = grind arith
+
+    by : (i < j) ⊎ ((i ≡ j) ⊎ (j < i)) → i ≡ j
+    by (inl l) = let r = View-later h 0 i j age number m age number n rise (omega arith) l at_i at_j in
+        grind arith
+    by (inr (inl e)) = e
+    by (inr (inr l)) = let r = View-later h 0 j i age number n age number m rise
+        (omega arith) l at_j at_i in grind arith
+
+-- a View that may follow a view is later
+MayFollow-later : (u : GroupView) (age number members : ℕ) → MayFollow u age number members
+    → IsLater u age number
+MayFollow-later u age number members f = inr (sym f.same_age, omega (arith, f.next_number))
+
+-- behind View 0 the Views rise
+ViewsRise-behind_start : (o : Opening) (sent : Sent) (h : List Entry) → InLooseOrder o sent h
+    → ViewsRise (suc (length o.start)) h
+ViewsRise-behind_start o sent h order i age number members l at u e =
+    MayFollow-later u age number members
+    (IsSomeAnd-at (view_of (take i h)) (λ v. MayFollow v age number members) u e
+    (order.views i age number members (omega arith) at))
+
+-- so do the numbers of the views
+number_after : (o : Opening) (sent : Sent) (h : List Entry) (i d : ℕ) (u : GroupView)
+    → InLooseOrder o sent h → length o.start < i
+    → i + d ≤ length h → view_of (take i h) ≡ Some u → (w : GroupView)
+    × (view_of (take (i + d) h) ≡ Some w) × (u.number ≤ w.number)
+number_after o sent h i zero u order l within e =
+    let same : i + 0 ≡ i = omega arith in
+    (u, ap (λ j. view_of (take j h)) same ∙ e, le_refl u.number)
+number_after o sent h i (suc d) u order l within e =
+    next (number_after o sent h i d u order l (omega arith) e) (slice_get-some h (i + d) (omega arith))
+  where
+    place : i + suc d ≡ i + d + 1
+    place = omega arith
+
+    next : (w : GroupView) × (view_of (take (i + d) h) ≡ Some w) × (u.number ≤ w.number)
+        → (x : Entry) × (slice_get h (i + d) ≡ Some x)
+        → (w : GroupView) × (view_of (take (i + suc d) h) ≡ Some w) × (u.number ≤ w.number)
+    next r (View a n m, at) =
+        let follows = IsSomeAnd-at (view_of (take (i + d) h)) (λ v. MayFollow v a n m) r.0 r.1
+        (order.views (i + d) a n m (omega arith) at) in (
+          record { age = a; number = n; members = members_of m },
+          ap (λ j. view_of (take j h)) place
+              ∙ (ap view_of (take-next h (i + d) (View a n m) at) ∙ view_of-View (take (i + d) h) a n m),
+          omega (arith, r.2, follows.next_number),
+        )
+    next r (Msg s j b, at) = (
+      r.0,
+      ap (λ j. view_of (take j h)) place
+          ∙ (ap view_of (take-next h (i + d) (Msg s j b) at)
+          ∙ (view_of-Msg (take (i + d) h) s j b ∙ r.1)),
+      r.2,
+    )
+
+-- before a View behind the start the views have smaller numbers
+pub number-before : (o : Opening) (sent : Sent) (h : List Entry) (i j a n m : ℕ) (u : GroupView)
+    → InLooseOrder o sent h
+    → length o.start < i
+    → i ≤ j → slice_get h j ≡ Some (View a n m) → view_of (take i h) ≡ Some u → u.number < n
+number-before o sent h i j a n m u order l less at e =
+    let place : i + (j - i) ≡ j = omega arith in
+    let r = number_after o sent h i (j - i) u order l
+    (omega (arith, place, slice_get_within h j (View a n m) at)) e in
+    let view : view_of (take j h) ≡ Some r.0 = ap (λ k. view_of (take k h)) (sym place) ∙ r.1 in
+    let follows = IsSomeAnd-at (view_of (take j h)) (λ v. MayFollow v a n m) r.0 view
+    (order.views j a n m (omega (arith, l, less)) at) in
+    omega (arith, r.2, follows.next_number)
+
+-- with a sound start all of them do
+ViewsRise-sound : (o : Opening) (sent : Sent) (h : List Entry) → Sound o → InLooseOrder o sent h
+    → ViewsRise 0 h
+ViewsRise-sound o sent h sound order i age number members l at u e = by (apart i (length o.start))
+  where
+    apart : (i j : ℕ) → (i < j) ⊎ ((i ≡ j) ⊎ (j < i))
+    apart i j = grind arith
+
+    starts : IsPrefixOf o.start h
+    starts = (
+      View o.age 0 o.members
+          ∷ order.begins.0,
+      sym (append_assoc o.start (View o.age 0 o.members ∷ []) order.begins.0)
+          ∙ order.begins.1,
+    )
+
+    stood : MayStand o (take i o.start) (View age number members) → view_of (take i o.start) ≡ Some u
+        → IsLater u age number
+    stood (inl opens) before = inl (opens.later u before)
+    stood (inr follows) before = MayFollow-later u age number members
+        (IsSomeAnd-at (view_of (take i o.start)) (λ v. MayFollow v age number members) u before follows)
+
+    by : (i < length o.start) ⊎ ((i ≡ length o.start) ⊎ (length o.start < i)) → IsLater u age number
+    by (inl less) =
+        let here = slice_get-some o.start i less in
+        let same : here.0 ≡ View age number members = same_Some here.0 (View age number members)
+        (sym (slice_get-prefix o.start h i here.0 starts here.1) ∙ at) in
+        stood (sound.entries i (View age number members) (here.1 ∙ ap Some same))
+        (ap view_of (sym (take-prefix o.start h i starts (omega arith))) ∙ e)
+    by (inr (inl is)) =
+        let before : take i h ≡ o.start = ap (λ j. take j h) is ∙
+        (ap (take (length o.start)) (sym starts.1) ∙ take_at o.start starts.0 (length o.start) refl) in
+        let first : slice_get h i ≡ Some (View o.age 0 o.members) = ap (slice_get h) is ∙
+        (ap (λ es. slice_get es (length o.start)) (sym starts.1)
+        ∙ slice_get-seam o.start (View o.age 0 o.members) order.begins.0) in
+        let same : View o.age 0 o.members
+        ≡ View age number members = same_Some (View o.age 0 o.members) (View age number members)
+        (sym first ∙ at) in
+        let same_age : o.age ≡ age = cc in
+        inl (subst (λ a. u.age < a) same_age (sound.later u (sym (ap view_of before) ∙ e)))
+    by (inr (inr more)) = ViewsRise-behind_start o sent h order i age number members (omega arith) at u e
+
+-- where the Views rise, a View that also stands in a front part has its past there
+SamePast-prefix : (g h : List Entry) → ViewsRise 0 h → IsPrefixOf g h → SamePast g h
+SamePast-prefix g h rise pre i j age number m n at_i at_j =
+    let also : slice_get h i ≡ Some (View age number m) =
+    slice_get-prefix g h i (View age number m) pre at_i in
+    let place : i ≡ j = View-once h i j age number m n rise also at_j in
+    let same : View age number m ≡ View age number n = same_Some (View age number m) (View age number n)
+    (sym also ∙ (ap (slice_get h) place ∙ at_j)) in (
+      cc,
+      sym (take-prefix g h i pre (omega (arith, slice_get_within g i (View age number m) at_i)))
+          ∙ ap (λ k. take k h) place,
+    )
+
+SamePast-sym : (g h : List Entry) → SamePast g h → SamePast h g
+SamePast-sym g h same i j age number m n at_i at_j =
+    let r = same j i age number n m at_j at_i in
+    (sym r.0, sym r.1)
+
+-- histories in order with a sound start, one of them a prefix of the other, have the same past at each View
+pub SamePast-either : (o : Opening) (sent : Sent) (g h : List Entry) → Sound o → InOrder o sent g
+    → InOrder o sent h
+    → IsPrefixOf g h ⊎ IsPrefixOf h g → SamePast g h
+SamePast-either o sent g h sound og oh (inl pre) =
+    SamePast-prefix g h (ViewsRise-sound o sent h sound (InLooseOrder-from o sent h oh)) pre
+SamePast-either o sent g h sound og oh (inr pre) = SamePast-sym h g
+    (SamePast-prefix h g (ViewsRise-sound o sent g sound (InLooseOrder-from o sent g og)) pre)

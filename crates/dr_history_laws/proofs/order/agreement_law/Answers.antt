@@ -1,0 +1,5 @@
+use Rattle.dr_history_laws.proofs.Views.{SamePast-either}
+use Rattle.dr_history_laws.proofs.order.agreement_law.Goals as goal
+
+pub returns : goal.returns
+returns c = SamePast-either

@@ -1,0 +1,68 @@
+//! Laws of order and agreement.
+ghost use Rattle.std.specs.Prelude.{◌≡◌, ◌<◌, ◌≤◌, ◌⊎◌, ◌++◌, ◌∷◌, ◌^◌, [], ℕ, List, length, map, Some};
+ghost use Rattle.std.specs.List.{range_with_len};
+ghost use Rattle.dr_entry.specs.declared.entry.Entry.{Entry};
+ghost use Rattle.dr_entry.specs.declared.end.SentItem.TheVariants.{Index};
+ghost use Rattle.dr_entry.specs.declared.entry.Entry.TheVariants.{View};
+ghost use Rattle.dr_history.specs.declared.opening.Opening.{Opening};
+ghost use Rattle.dr_history.specs.Members.{members_of};
+ghost use Rattle.dr_history.specs.History.{IsPrefixOf, GroupView, Sent, item_at, merge, messages_of};
+ghost use Rattle.dr_history.specs.Order.{InOrder, MayFollow, first_entries, messages_from};
+ghost use Rattle.dr_history.specs.Places.{front_of};
+ghost use Rattle.dr_history.specs.Agreement.{SamePast};
+ghost use Rattle.dr_history.specs.Soundness.{Sound};
+ghost use Rattle.dr_history_laws.specs.Laid.{laid, HeldBelow, EndsWithView, GoesOn, SentMore, first_view};
+
+/// A history in order that ends with a View, and from which the messages sent in the view go on,
+/// stays in order while places are laid behind it that all hold items. The message at the next
+/// place is the next one of its sender. A history in order stays so when more is sent.
+pub fn order_laws()
+    ensures laid { (o : Opening) (sent : Sent) (before : List Entry) (v : GroupView) (p : ℕ)
+        → InOrder o sent before → EndsWithView before v
+        → GoesOn o sent before v → HeldBelow sent v p
+        → InOrder o sent (before ++ laid o sent v p) }
+    ensures next_index { (o : Opening) (sent : Sent) (before : List Entry) (v : GroupView)
+        → (p s i : ℕ)
+        → EndsWithView before v → GoesOn o sent before v
+        → item_at sent v p ≡ Some (s, Index i)
+        → i ≡ length (messages_from s (before ++ laid o sent v p)) }
+    ensures steady { (o : Opening) (sent now : Sent) (h : List Entry)
+        → SentMore sent now → InOrder o sent h → InOrder o now h }
+{}
+
+/// A view may end with so many of the first items of each member. Their merge behind the View, and
+/// then a View that may follow, bring the history in order again. What was laid before is a prefix of
+/// it, as far as the places of these items have no gap.
+pub fn view_laws()
+    ensures order { (o : Opening) (sent : Sent) (before : List Entry) (v : GroupView)
+        → (taken : ℕ → ℕ) (age number mask : ℕ)
+        → InOrder o sent before → EndsWithView before v → GoesOn o sent before v
+        → MayFollow v age number mask
+        → InOrder o sent
+        ((before ++ merge o sent v (map taken v.members)) ++ View age number mask ∷ []) }
+    ensures prefix { (o : Opening) (sent : Sent) (before : List Entry) (v : GroupView)
+        → (taken : ℕ → ℕ) (p : ℕ) → p ≤ front_of (map taken v.members)
+        → IsPrefixOf (before ++ laid o sent v p)
+        (before ++ merge o sent v (map taken v.members)) }
+{}
+
+/// Where an age starts soundly, what every history of it begins with is in order, whatever is sent.
+/// It ends with View 0, whose members are all of the roster. And the start is short: an age has at most
+/// 16 views, and a member at most 4096 messages.
+pub fn opening_laws()
+    ensures order { (o : Opening) (sent : Sent) → Sound o → InOrder o sent (first_entries o) }
+    ensures view { (o : Opening) → EndsWithView (first_entries o) (first_view o) }
+    ensures members { (o : Opening) → Sound o → length o.messages ≤ 16
+        → members_of o.members ≡ range_with_len 0 (length o.messages) }
+    ensures short { (o : Opening) → Sound o → o.age < 2 ^ 16
+        → 1 ≤ length o.messages → length o.messages ≤ 16
+        → ((s : ℕ) → length (messages_of o s) ≤ 4096) → length o.start < 2 ^ 31 }
+{}
+
+/// Where an age starts soundly, two histories in order, one of them a prefix of the other, have the
+/// same past at each View that both hold.
+pub fn agreement_law()
+    ensures { (o : Opening) (sent : Sent) (g h : List Entry)
+        → Sound o → InOrder o sent g → InOrder o sent h
+        → IsPrefixOf g h ⊎ IsPrefixOf h g → SamePast g h }
+{}

@@ -1,6 +1,0 @@
-use Rattle.dr_laid.proofs.LaidLemmas.{laid-next, laid-prefix}
-use Rattle.dr_laid.proofs.Steady.{laid-steady, HeldBelow-more}
-use Rattle.dr_laid.proofs.laying.laying_laws.Goals as goal
-
-pub returns : goal.returns
-returns c = record { next = laid-next; prefix = laid-prefix; steady = laid-steady; held = HeldBelow-more }

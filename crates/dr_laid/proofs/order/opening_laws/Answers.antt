@@ -1,5 +1,0 @@
-use Rattle.dr_laid.proofs.Openings.{InOrder-first, first-ends, first-members}
-use Rattle.dr_laid.proofs.order.opening_laws.Goals as goal
-
-pub returns : goal.returns
-returns c = record { order = InOrder-first; view = first-ends; members = first-members }

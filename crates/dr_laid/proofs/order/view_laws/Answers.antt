@@ -1,5 +1,0 @@
-use Rattle.dr_laid.proofs.Cutting.{InOrder-next_view, merge-prefix}
-use Rattle.dr_laid.proofs.order.view_laws.Goals as goal
-
-pub returns : goal.returns
-returns c = record { order = InOrder-next_view; prefix = merge-prefix }

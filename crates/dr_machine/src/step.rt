@@ -1,0 +1,14 @@
+use crate::event::Act;
+
+/// What an event is, but for its member.
+#[derive(Clone, Copy, Debug, PartialEq, Eq)]
+pub enum Step {
+    /// An act.
+    Do(Act),
+    /// A look at the word of a column in the row of a member.
+    Look { row: u8, column: usize },
+    /// A push of the own word of a column to a member.
+    Push { to: u8, column: usize },
+    /// The next entry of the history goes on the log.
+    Append,
+}

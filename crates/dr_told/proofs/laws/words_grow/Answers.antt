@@ -1,5 +1,0 @@
-use Rattle.dr_told.proofs.Faithfulness.{words_grew}
-use Rattle.dr_told.proofs.laws.words_grow.Goals as goal
-
-pub returns : goal.returns
-returns c = words_grew

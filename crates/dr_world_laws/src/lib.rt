@@ -1,0 +1,48 @@
+//! The laws of a group: whatever its members do, and in whatever order, their histories agree, and what a
+//! member that is done has delivered is everything.
+//!
+//! The machine is that of `dr_machine`. That its words tell the truth comes from `dr_faithful`, and what
+//! holds of histories laid out by places from `dr_history_laws`; this crate ties the two together.
+//! `docs/PROOFS.md` shows how.
+#![tactic(auto)]
+
+ghost use Rattle.std.specs.Prelude.{◌≡◌, ℕ, ◌<◌, List, ◌++◌, length, Some};
+ghost use Rattle.dr_entry.specs.declared.end.End.TheVariants.{Done};
+ghost use Rattle.dr_faithful.specs.Tells.{Views};
+ghost use Rattle.dr_machine.specs.declared.event.Event.{Event};
+ghost use Rattle.dr_machine.specs.Group.{Group, IsGroup, roster};
+ghost use Rattle.dr_machine.specs.World.{World, opening_world};
+ghost use Rattle.dr_machine.specs.Guards.{HoldsAll};
+ghost use Rattle.dr_machine.specs.Run.{Run, IsReached, WorldAgreed};
+ghost use Rattle.dr_world_laws.specs.Historic.{AreLaid, Heads, IsMerged};
+
+/// In every world that a group reaches its members agree: on their histories, on their logs, and on what
+/// is durable. So they do after every list of events.
+pub fn agreement()
+    ensures reached { (g : Group) (w : World) → IsGroup g → IsReached g w → WorldAgreed g w }
+    ensures events { (g : Group) (events : List Event) (w : World)
+        → IsGroup g → Run g (opening_world g) events w → WorldAgreed g w }
+{}
+
+/// Each history goes up to the View that its member is in, and then has the messages of the places that the
+/// member has delivered in it.
+pub fn histories_are_laid()
+    ensures { (g : Group) (w : World) → IsGroup g → IsReached g w
+        → AreLaid g w }
+{}
+
+/// A member that has ended as done has delivered all messages of the script, and knows its whole history to
+/// be durable. Behind the View that it is in lies the merge of all that was sent in this view. All members
+/// that are done have the same history.
+pub fn done_members_hold_all()
+    ensures whole { (g : Group) (w : World) (m : ℕ) → IsGroup g → IsReached g w
+        → m < roster g → w.end m ≡ Some Done → HoldsAll g w m }
+    ensures durable { (g : Group) (w : World) (m : ℕ) → IsGroup g → IsReached g w
+        → m < roster g → w.end m ≡ Some Done → w.past.durable m ≡ length (w.past.history m) }
+    ensures merged { (g : Group) (w : World) (m : ℕ) → IsGroup g → IsReached g w
+        → m < roster g → w.end m ≡ Some Done
+        → (V : Views) × (H : Heads) × IsMerged g V H w m }
+    ensures same { (g : Group) (w : World) (m k : ℕ) → IsGroup g → IsReached g w
+        → m < roster g → w.end m ≡ Some Done → k < roster g → w.end k ≡ Some Done
+        → w.past.history m ≡ w.past.history k }
+{}
