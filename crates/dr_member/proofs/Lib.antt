@@ -1,8 +1,6 @@
-pub mod Turn
 mod Passing
-pub mod Fewer
-pub mod Working
-pub mod Doing
-pub mod Steps
-mod Indices
+mod Crashes
+mod Dues
 mod Answers
+mod Indices
+mod Moves

@@ -2,7 +2,7 @@
 use Rattle.std.specs.Prelude.{◌≡◌, ℕ, ◌*◌, ◌^◌, ◌<◌}
 use Rattle.dr_words.specs.Columns.{columns_of}
 use Rattle.dr_words.specs.Layout.{word_index_of}
-use Rattle.dr_machine.specs.Replica.{Replica, me}
+use Rattle.dr_program.specs.Replica.{Replica, me}
 use Rattle.dr_member.specs.declared.bases.Bases.{Bases}
 
 -- those of member m in a view, for a roster of so many members and a window of so many slots

@@ -1,19 +1,10 @@
--- The deeds that a member may be due to do, and what each of them keeps.
-use Rattle.std.specs.Prelude.{ℕ, ◌<◌, Bool, true, false}
-use Rattle.dr_rows.specs.Words.{seen}
-use Rattle.dr_words.specs.Form.{IsInForm}
-use Rattle.dr_words.specs.Grown.{HasGrown, Grown}
+-- The deeds that a member may be due to do, and what its callers know of them.
+use Rattle.std.specs.Prelude.{ℕ, ◌<◌, ◌&&◌, Bool, not, true, false, is_some}
 use Rattle.dr_words.specs.Layout.{words_of}
-use Rattle.dr_machine.specs.declared.place.Place.{Place}
-use Rattle.dr_machine.specs.declared.place.Place.TheVariants.{Beat, Look, Publish}
-use Rattle.dr_machine.specs.declared.deed.Deed.{Deed}
-use Rattle.dr_machine.specs.declared.deed.Deed.TheVariants as deeds
-use Rattle.dr_machine.specs.Group.{Group}
-use Rattle.dr_machine.specs.Replica.{acted, appended}
-use Rattle.dr_machine.specs.Running.{Running, members, act}
-use Rattle.dr_machine.specs.Form.{IsOf}
-use Rattle.dr_member.specs.Search.{IsUnderway}
-use Rattle.dr_member.specs.Work.{deeds_left}
+use Rattle.dr_program.specs.declared.deed.Deed.{Deed}
+use Rattle.dr_program.specs.declared.deed.Deed.TheVariants as deeds
+use Rattle.dr_program.specs.Running.{Running}
+use Rattle.dr_program.specs.Turn.{is_beat, part_of}
 
 -- the deed is a look, a push, an act, or an append
 abbrev pub is_look : Deed → Bool
@@ -44,40 +35,6 @@ IsWithin size (deeds.Rest end) = Unit {0}
 abbrev pub table_size : Running → ℕ
 table_size r = words_of r.replica.roster r.replica.window r.replica.banks
 
--- the member stands before a turn
-abbrev pub is_beat : Place → Bool
-is_beat Beat = true
-is_beat p = false
-
--- the word may be what a look at this column of a row sees next: it is in form, and has grown from the one last seen
-pub record IsSeenNext (r : Running) (i c word : ℕ) : Type 0 where
-  pub form : IsInForm (members r) c word
-  pub grown : HasGrown (members r) c (seen r.replica.rows i c) word
-
--- a look is due at this place, and it may see this word
-abbrev pub MaySee : Running → Place → ℕ → Type 0
-MaySee r (Look i c) word = IsSeenNext r i c word
-MaySee r p word = ⊥
-
--- the member after its act, before the search
-abbrev pub acted_at : Running → Running
-acted_at r = let a = act r r.place in record a { replica = acted a.replica }
-
--- the member after its append, before the search
-abbrev pub appended_at : Running → Running
-appended_at r = record r { replica = appended r.replica; place = Publish }
-
--- no word of the member has fallen
-abbrev pub HasGrownTo : Running → Running → Type 0
-HasGrownTo r x = Grown (members r) r.replica.rows.words x.replica.rows.words r.replica.rows.frozen x.replica.rows.frozen
-
--- it is still the member that it was of a group
-abbrev pub IsStill : Running → Running → Type 0
-IsStill r x = (g : Group) (m : ℕ) → IsOf g m r.replica → IsOf g m x.replica
-
--- a deed makes x of r: with fewer deeds left, and no fallen word, it is still that member
-pub record IsDone (r x : Running) : Type 0 where
-  pub underway : IsUnderway x
-  pub grown : HasGrownTo r x
-  pub fewer : deeds_left x < deeds_left r
-  pub still : IsStill r x
+-- the member has no end, and stands before a turn
+abbrev pub is_before_turn : Running → Bool
+is_before_turn r = not (is_some r.replica.end) && is_beat (part_of r.place)

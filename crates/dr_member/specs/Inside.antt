@@ -1,7 +1,9 @@
 -- How the fields of `Member` hold what contracts see of it.
-use Rattle.dr_machine.specs.Running.{Running}
-use Rattle.dr_machine.specs.Form.{IsRunningMember}
+use Rattle.std.specs.Prelude.{◌^◌, ◌<◌}
+use Rattle.dr_program.specs.Running.{Running}
+use Rattle.dr_program.specs.Form.{IsRunningMember}
 use Rattle.dr_member.specs.Bases.{AreBases}
+use Rattle.dr_member.specs.Fate.{IsTimely}
 use Rattle.dr_member.specs.Search.{standing}
 use Rattle.dr_member.specs.declared.member.Member.TheInside.{Inside}
 
@@ -10,4 +12,6 @@ view_of a = standing a.replica a.fate a.place
 
 pub record IsInside (a : Inside) : Type 0 where
   pub form : IsRunningMember (view_of a)
+  pub fate : IsTimely a.fate a.replica.turns
+  pub limit : a.fate.limit < 2 ^ 32
   pub bases : AreBases a.bases a.replica

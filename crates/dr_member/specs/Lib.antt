@@ -1,5 +1,5 @@
 pub mod Search
-pub mod Work
+pub mod Fate
 pub mod Deeds
 pub mod Bases
 pub mod Inside

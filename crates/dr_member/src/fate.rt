@@ -1,63 +1,113 @@
 //! What is to become of a member by its script.
-ghost use Rattle.std.specs.Prelude.{◌≡◌};
-ghost use Rattle.dr_machine.specs.declared.place.Place.{Place};
-ghost use Rattle.dr_machine.specs.Running.{comes_before, crashes_in_turn, crashes_now, earlier_of, first_crash};
+ghost use Rattle.std.specs.Prelude.{◌≡◌, ◌^◌, ◌<◌};
+ghost use Rattle.dr_program.specs.declared.place.Place.{Place};
+ghost use Rattle.dr_program.specs.Running.{crashes_in_turn, crashes_now};
+ghost use Rattle.dr_member.specs.Fate.{IsTimely, fate_after, first_push, is_push_now, with_point};
 ghost use Rattle.dr_member.specs.Search.{standing};
 
-use dr_machine::CrashPoint;
+use dr_entry::Seq;
+use dr_machine::Act;
+use dr_program::{CrashPoint, Suspicion};
 use dr_replica::Replica;
 
-/// What ends a member that isn't done: its turns are spent, or it comes to its crash point.
-#[derive(Clone, Copy)]
+/// What the script has in store for a member, and how far it has come in this turn.
+#[derive(Drop)]
 pub(crate) struct Fate {
     /// The turns after which it ends.
     pub limit: u32,
-    /// Where it crashes, if anywhere.
-    pub crash: Option<CrashPoint>,
+    /// The turns without news of another member after which it suspects that one; 0 for never.
+    pub patience: u32,
+    /// The points at which it crashes.
+    pub crashes: Seq<CrashPoint>,
+    /// Whom it suspects, and in which turns.
+    pub suspicions: Seq<Suspicion>,
     /// The pushes that it has done in this turn.
     pub pushes: u32,
+    /// The least push of this turn at which it crashes, if at any.
+    pub crash: Option<u32>,
 }
 
 impl Fate {
-    /// Whether the member crashes just before its next push.
-    pub(crate) fn crashes_now(&self, replica: &Replica) -> bool
-        ensures { (place : Place) → result ≡ crashes_now (standing replica.now self.now place) }
+    /// What a script has in store for a member, before its first turn.
+    pub(crate) fn begin(
+        limit: u32,
+        patience: u32,
+        crashes: Seq<CrashPoint>,
+        suspicions: Seq<Suspicion>,
+    ) -> Fate
+        ensures begun { result ≡ record {
+          limit = limit;
+          patience = patience;
+          crashes = crashes;
+          suspicions = suspicions;
+          pushes = 0;
+          crash = first_push 0 crashes;
+        } }
+        ensures small { result.limit < 2 ^ 32 }
     {
-        let turn = replica.turns();
-        matches!(self.crash, Some(point) if point.turn == turn && point.push == self.pushes)
+        let crash = first_push(crashes.as_slice(), 0);
+        Fate {
+            limit,
+            patience,
+            crashes,
+            suspicions,
+            pushes: 0,
+            crash,
+        }
+    }
+
+    /// Whether the member crashes just before its next push.
+    #[inline]
+    pub(crate) fn crashes_now(&self) -> bool
+        ensures { (replica : Replica) → (place : Place) → IsTimely self.now replica.turns
+            → result ≡ crashes_now (standing replica self.now place) }
+    {
+        is_push_now(self.pushes, self.crash)
     }
 
     /// Whether the member crashes in this turn.
-    pub(crate) fn crashes_in_turn(&self, replica: &Replica) -> bool
-        ensures { (place : Place) → result ≡ crashes_in_turn (standing replica.now self.now place) }
+    pub(crate) fn crashes_in_turn(&self) -> bool
+        ensures { (replica : Replica) → (place : Place) → IsTimely self.now replica.turns
+            → result ≡ crashes_in_turn (standing replica self.now place) }
     {
-        let turn = replica.turns();
-        matches!(self.crash, Some(point) if point.turn == turn)
+        self.crash.is_some()
+    }
+
+    /// Takes note of an act, after which the member is in this turn. With a new turn the script's
+    /// points of that turn are sought among all of them.
+    pub(crate) fn note(&mut self, act: Act, turn: u32)
+        ensures { self.new ≡ fate_after self.old act turn }
+    {
+        if let Act::Beat = act {
+            self.pushes = 0;
+            self.crash = first_push(self.crashes.as_slice(), turn);
+        }
     }
 }
 
-/// The first of these points, by turn and then by push, if there is any.
-pub(crate) fn first_crash(points: &[CrashPoint]) -> Option<CrashPoint>
-    ensures { result ≡ first_crash points.now }
+/// Whether a push, if there is one, is this one.
+fn is_push_now(now: u32, push: Option<u32>) -> bool
+    ensures { result ≡ is_push_now now push }
+{
+    matches!(push, Some(push) if push == now)
+}
+
+/// The least push of a turn that one of these points names, if any does.
+fn first_push(points: &[CrashPoint], turn: u32) -> Option<u32>
+    ensures { result ≡ first_push turn points.now }
 {
     points
         .iter()
-        .fold(None, |first, point| Some(earlier(first, *point)))
+        .fold(None, |first, point| with_point(first, *point, turn))
 }
 
-/// The earlier of a point, if there is one, and another; of two at the same push, the first.
-fn earlier(first: Option<CrashPoint>, point: CrashPoint) -> CrashPoint
-    ensures { result ≡ earlier_of first point }
+/// The least push of a turn, with one point more.
+fn with_point(first: Option<u32>, point: CrashPoint, turn: u32) -> Option<u32>
+    ensures { result ≡ with_point turn first point }
 {
     match first {
-        Some(first) if !comes_before(point, first) => first,
-        _ => point,
+        _ if point.turn != turn => first,
+        Some(push) if push <= point.push => first,
+        _ => Some(point.push),
     }
-}
-
-/// Whether a point comes before another.
-fn comes_before(point: CrashPoint, other: CrashPoint) -> bool
-    ensures { result ≡ comes_before point other }
-{
-    point.turn < other.turn || (point.turn == other.turn && point.push < other.push)
 }

@@ -2,17 +2,15 @@
 //!
 //! A member says what it does next, its next *deed*; whoever runs it does that to the group's table
 //! or to the member's log, and tells the member. Contracts see a [`Member`] as the running member of
-//! the machine's definitions.
+//! the definitions.
 #![tactic(auto)]
 
-mod acts;
 mod bases;
 mod fate;
 mod laws;
 mod member;
 mod search;
 
-pub use laws::{
-    a_look_may_see_what_has_grown, running_members_stay_so, the_search_goes_to_the_next_place,
-};
+pub use dr_program::{Deed, Setup};
+pub use laws::a_look_may_see_what_has_grown;
 pub use member::Member;

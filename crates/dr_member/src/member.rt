@@ -1,22 +1,32 @@
-ghost use Rattle.std.specs.Prelude.{◌≡◌, ◌<◌, ◌≤◌, true, IfOk, is_some};
-ghost use Rattle.dr_machine.specs.Form.{CanBegin, IsRunningMember};
-ghost use Rattle.dr_machine.specs.Program.{end_of};
-ghost use Rattle.dr_machine.specs.Replica.{me};
-ghost use Rattle.dr_machine.specs.Running.{after_act, after_append, after_look, after_push, begun_running, columns, index_of, members, next_deed};
-ghost use Rattle.dr_machine.specs.Schedule.{is_at_rest};
-ghost use Rattle.dr_member.specs.Deeds.{HasGrownTo, IsStill, IsWithin, MaySee, table_size, is_act, is_append, is_beat, is_push};
-ghost use Rattle.dr_member.specs.Work.{deeds_left};
+ghost use Rattle.std.specs.Prelude.{◌≡◌, ◌<◌, ◌≤◌, ℕ, true, IfOk, Some, is_some};
+ghost use Rattle.dr_program.specs.Form.{CanBegin, IsRunningMember};
+ghost use Rattle.dr_program.specs.Program.{end_of};
+ghost use Rattle.dr_program.specs.Reading.{step_of_member};
+ghost use Rattle.dr_program.specs.Replica.{me};
+ghost use Rattle.dr_program.specs.Running.{after_step, begun_running, columns, crashes_now, deed_of, members, next_deed, push_or_crash};
+ghost use Rattle.dr_program.specs.Schedule.{is_between_turns};
+ghost use Rattle.dr_program.specs.Sight.{MaySee};
+ghost use Rattle.dr_program.specs.Steps.{index_in};
+ghost use Rattle.dr_member.specs.Deeds.{IsWithin, is_act, is_append, is_before_turn, is_push, table_size};
+ghost use Rattle.dr_turn.specs.Work.{HasGrownTo, IsStill, deeds_left};
 
-use crate::acts::act;
 use crate::bases::Bases;
-use crate::fate::{Fate, first_crash};
-use crate::search::{next_changed, settle, settle_look, settle_push};
-use dr_entry::{End, Entry, MemberEnd, Record};
-use dr_machine::{Deed, Place, Setup};
+use crate::fate::Fate;
+use crate::search::{goes, next_changed, settle, settle_from, step_at};
+use dr_entry::{End, Entry, MemberEnd, Record, Seq};
+use dr_machine::Step;
+use dr_program::{Deed, PARTS, Place, Setup};
 use dr_replica::Replica;
 use dr_words::BEAT_COLUMN;
 use std::alloc::{AllocError, Global};
 use std::marker::Model;
+
+/// The numbers of the parts of a turn that have the looks and the pushes, and of the part before a turn.
+const LOOKS: u8 = 0;
+
+const PUSHES: u8 = 8;
+
+const BEAT: u8 = PARTS as u8 - 1;
 
 /// One running member of a group, in one age.
 ///
@@ -34,7 +44,7 @@ pub struct Member {
 }
 
 impl Model for Member {
-    ghost use Rattle.dr_machine.specs.Running.{Running};
+    ghost use Rattle.dr_program.specs.Running.{Running};
 
     ghost Value = { Running };
 
@@ -54,16 +64,21 @@ impl Member {
         ensures begun { IfOk result (λ member. member ≡ begun_running setup) }
         ensures form { IfOk result IsRunningMember }
     {
-        let fate = Fate {
-            limit: setup.turns,
-            crash: first_crash(setup.crashes.as_slice()),
-            pushes: 0,
+        let fate = Fate::begin(setup.turns, setup.patience, setup.crashes, setup.suspicions);
+        let rest = Setup {
+            crashes: Seq::of(Vec::new(alloc)),
+            suspicions: Seq::of(Vec::new(alloc)),
+            ..setup
         };
-        let replica = Replica::begin(alloc, setup)?;
+        let replica = Replica::begin(alloc, rest)?;
         let bases = Bases::of(&replica);
         Ok(Member {
             replica,
-            place: Place::Beat,
+            place: Place {
+                part: BEAT,
+                row: 0,
+                column: 0,
+            },
             fate,
             bases,
         })
@@ -75,18 +90,23 @@ impl Member {
         ensures deed { result ≡ next_deed self.now }
         ensures within { IsWithin (table_size self.now) result }
     {
-        if let Place::Look { row, column } = self.place {
-            return Deed::Look(self.look_index(row, column));
-        }
         if let Some(end) = self.replica.end() {
             return Deed::Rest(end);
         }
-        match self.place {
-            Place::Push { to, column } if !self.fate.crashes_now(&self.replica) => {
+        let Place { part, row, column } = self.place;
+        if part == LOOKS {
+            return Deed::Look(self.look_index(row, column));
+        }
+        if part == PUSHES {
+            return self.push_deed(row, column);
+        }
+        match step_at(&self.replica, &self.fate, self.place) {
+            Step::Look { row, column } => Deed::Look(self.look_index(row, column)),
+            Step::Push { to, column } => {
                 Deed::Push(self.push_index(to, column), self.replica.own(column))
             }
-            Place::Append => Deed::Append(Record::Entry(self.replica.next_entry())),
-            _ => Deed::Act(
+            Step::Append => Deed::Append(Record::Entry(self.replica.next_entry())),
+            Step::Do(_) => Deed::Act(
                 self.look_index(self.me(), BEAT_COLUMN),
                 self.replica.acts_after(),
             ),
@@ -95,46 +115,47 @@ impl Member {
 
     /// Takes the word that its look saw. The word is in form, and has grown from the one last seen.
     pub fn looked(&mut self, word: u64)
-        requires { MaySee self.old self.old.place word }
-        ensures after { self.new ≡ after_look self.old word }
+        requires { MaySee self.old (step_of_member self.old) word }
+        ensures after { self.new ≡ after_step word self.old }
         ensures form { IsRunningMember self.new }
         ensures grown { HasGrownTo self.old self.new }
         ensures falls { deeds_left self.new < deeds_left self.old }
         ensures keeps { IsStill self.old self.new }
     {
-        if let Place::Look { row, column } = self.place {
-            let columns = self.bases.columns;
-            let next = column + 1;
-            if next < columns {
-                // The place is written before the word, so that it needn't be read again.
-                self.place = Place::Look { row, column: next };
-                self.replica.look(row, column, word);
-            } else {
-                self.replica.look(row, column, word);
-                self.place = settle_look(&self.replica, &self.fate, row, next);
-            }
+        let Place { row, column, .. } = self.place;
+        let next = column + 1;
+        if next < self.bases.columns {
+            // The place is written before the word, so that it needn't be read again.
+            self.place.column = next;
+            self.replica.look(row, column, word);
+        } else {
+            self.replica.look(row, column, word);
+            self.place = settle_from(&self.replica, &self.fate, self.place, next);
         }
     }
 
     /// Takes note that its push was done.
     pub fn pushed(&mut self)
         requires { is_push (next_deed self.old) ≡ true }
-        ensures after { self.new ≡ after_push self.old }
+        ensures after { (word : ℕ) → self.new ≡ after_step word self.old }
         ensures form { IsRunningMember self.new }
         ensures grown { HasGrownTo self.old self.new }
         ensures falls { deeds_left self.new < deeds_left self.old }
         ensures keeps { IsStill self.old self.new }
     {
-        if let Place::Push { to, column } = self.place {
-            let columns = self.bases.columns;
-            self.replica.push(to, column);
-            self.fate.pushes = self.fate.pushes.saturating_add(1);
-            let next = next_changed(&self.replica, columns, to, column + 1);
-            if next < columns {
-                self.place = Place::Push { to, column: next };
-            } else {
-                self.place = settle_push(&self.replica, &self.fate, to, next);
-            }
+        let Place {
+            row: to,
+            column,
+            ..
+        } = self.place;
+        let columns = self.bases.columns;
+        self.replica.push(to, column);
+        self.fate.pushes = self.fate.pushes.saturating_add(1);
+        let next = next_changed(&self.replica, columns, to, column + 1);
+        if next < columns {
+            self.place.column = next;
+        } else {
+            self.place = settle_from(&self.replica, &self.fate, self.place, next);
         }
     }
 
@@ -142,28 +163,33 @@ impl Member {
     #[inline(never)]
     pub fn acted(&mut self)
         requires { is_act (next_deed self.old) ≡ true }
-        ensures after { self.new ≡ after_act self.old }
+        ensures after { (word : ℕ) → self.new ≡ after_step word self.old }
         ensures form { IsRunningMember self.new }
         ensures grown { HasGrownTo self.old self.new }
         ensures falls { deeds_left self.new < deeds_left self.old }
         ensures keeps { IsStill self.old self.new }
     {
-        let place = act(&mut self.replica, &mut self.fate, self.place);
-        self.place = settle(&self.replica, &self.fate, place);
+        if let Step::Do(act) = step_at(&self.replica, &self.fate, self.place) {
+            let from = goes(&self.replica.shape(), self.place);
+            self.replica.take(act);
+            self.fate.note(act, self.replica.turns());
+            self.place = settle(&self.replica, &self.fate, from);
+        }
     }
 
     /// Takes note that its log has the record that it appended.
     #[inline(never)]
     pub fn appended(&mut self)
         requires { is_append (next_deed self.old) ≡ true }
-        ensures after { self.new ≡ after_append self.old }
+        ensures after { (word : ℕ) → self.new ≡ after_step word self.old }
         ensures form { IsRunningMember self.new }
         ensures grown { HasGrownTo self.old self.new }
         ensures falls { deeds_left self.new < deeds_left self.old }
         ensures keeps { IsStill self.old self.new }
     {
+        let from = goes(&self.replica.shape(), self.place);
         self.replica.append();
-        self.place = settle(&self.replica, &self.fate, Place::Publish);
+        self.place = settle(&self.replica, &self.fate, from);
     }
 
     /// How it ended; `None` exactly where it hasn't ended.
@@ -176,16 +202,16 @@ impl Member {
 
     /// Whether it has ended, or stands before a turn.
     pub fn is_between_turns(&self) -> bool
-        ensures { result ≡ is_at_rest self.now.place }
+        ensures { result ≡ is_between_turns (Some self.now) }
     {
-        matches!(self.place, Place::Beat | Place::Rest)
+        self.replica.end().is_some() || self.place.part == BEAT
     }
 
-    /// Whether it stands before a turn.
+    /// Whether it has no end and stands before a turn.
     pub fn at_beat(&self) -> bool
-        ensures { result ≡ is_beat self.now.place }
+        ensures { result ≡ is_before_turn self.now }
     {
-        matches!(self.place, Place::Beat)
+        self.replica.end().is_none() && self.place.part == BEAT
     }
 
     /// Its number.
@@ -231,12 +257,29 @@ impl Member {
         self.replica.into_end()
     }
 
+    /// The deed that is due at a push: the push, or the end of a member that crashes just before it.
+    #[inline(always)]
+    fn push_deed(&self, to: u8, column: usize) -> Deed
+        requires to { to < members self.now }
+        requires column { column < columns self.now }
+        ensures deed { result ≡ deed_of self.now (push_or_crash (crashes_now self.now) to column) }
+        ensures within { IsWithin (table_size self.now) result }
+    {
+        if self.fate.crashes_now() {
+            return Deed::Act(
+                self.look_index(self.me(), BEAT_COLUMN),
+                self.replica.acts_after(),
+            );
+        }
+        Deed::Push(self.push_index(to, column), self.replica.own(column))
+    }
+
     /// The index in the table of a word that the member sees, in its own copy.
     #[inline]
     fn look_index(&self, row: u8, column: usize) -> usize
         requires row { row < members self.now }
         requires column { column < columns self.now }
-        ensures index { result ≡ index_of self.now (me self.now.replica) row column }
+        ensures index { result ≡ index_in self.now.replica (me self.now.replica) row column }
         ensures within { result < table_size self.now }
     {
         self.bases.own_copy + usize::from(row) * self.bases.columns + column
@@ -247,12 +290,9 @@ impl Member {
     fn push_index(&self, to: u8, column: usize) -> usize
         requires to { to < members self.now }
         requires column { column < columns self.now }
-        ensures index { result ≡ index_of self.now to (me self.now.replica) column }
+        ensures index { result ≡ index_in self.now.replica to (me self.now.replica) column }
         ensures within { result < table_size self.now }
     {
         self.bases.own_row + usize::from(to) * self.bases.copy_words + column
     }
 }
-
-#[cfg(test)]
-mod tests;

@@ -1,23 +1,34 @@
 //! The search for the next place of a turn at which there is something to do.
-ghost use Rattle.std.specs.Prelude.{◌≡◌, ℕ, ◌<◌, ◌≤◌, true, false};
-ghost use Rattle.dr_machine.specs.Running.{after, applies, settled};
-ghost use Rattle.dr_machine.specs.Form.{HasForm, InPlace};
+ghost use Rattle.std.specs.Prelude.{length, ◌≡◌, ℕ, ◌<◌, ◌≤◌, true, false, None};
+ghost use Rattle.dr_program.specs.declared.place.TheConstants.{TURN};
+ghost use Rattle.dr_program.specs.Running.{applies, asks, goes, settled, step_of};
+ghost use Rattle.dr_program.specs.Turn.{IsIn, columns_in, part_of, rows_in};
+ghost use Rattle.dr_program.specs.Form.{HasForm};
 ghost use Rattle.dr_words.specs.Columns.{columns_of};
 ghost use Rattle.dr_rows.specs.Words.{changed};
+ghost use Rattle.dr_turn.specs.Search.{IsUnderway};
 ghost use Rattle.dr_member.specs.declared.fate.Fate.{Fate};
-ghost use Rattle.dr_member.specs.Search.{GoesBy, IsUnderway, look_from, push_from, standing};
+ghost use Rattle.dr_member.specs.Fate.{IsTimely};
+ghost use Rattle.dr_member.specs.Search.{GoesBy, from_column, standing};
 
 use crate::fate::Fate;
-use dr_machine::Place;
+use dr_entry::End;
+use dr_machine::{Act, Step};
+use dr_program::{Part, Place, TURN};
 use dr_replica::Replica;
 use dr_words::Shape;
 
-/// The first place of the turn, from this one on, at which there is something to do.
+/// The first place of the turn, from this one on, at which there is something to do; this one, where
+/// the member has ended.
 #[inline(always)]
 pub(crate) fn settle(replica: &Replica, fate: &Fate, from: Place) -> Place
-    requires { IsUnderway (standing replica.now fate.now from) }
+    requires underway { IsUnderway (standing replica.now fate.now from) }
+    requires fate { IsTimely fate.now replica.now.turns }
     ensures { standing replica.now fate.now result ≡ settled (standing replica.now fate.now from) }
 {
+    if replica.end().is_some() {
+        return from;
+    }
     let mut place = from;
     while !applies(replica, fate, place) {
         place = skip(replica, place);
@@ -25,134 +36,111 @@ pub(crate) fn settle(replica: &Replica, fate: &Fate, from: Place) -> Place
     place
 }
 
-/// The first place of the turn, from the look at a column of a row on, at which there is something to
-/// do. Out of line, it leaves looks a small loop.
+/// The first place of the turn, from the one of a column on, at which there is something to do. Out
+/// of line, it leaves looks and pushes a small loop.
 #[inline(never)]
-pub(crate) fn settle_look(replica: &Replica, fate: &Fate, row: u8, column: usize) -> Place
-    requires row { row < replica.now.roster }
+pub(crate) fn settle_from(replica: &Replica, fate: &Fate, place: Place, column: usize) -> Place
+    requires place { IsIn replica.now.roster (columns_of replica.now.roster replica.now.window) place }
     requires underway { IsUnderway (standing replica.now fate.now
-        (look_from replica.now.roster (columns_of replica.now.roster replica.now.window) row column)) }
+        (from_column replica.now.roster (columns_of replica.now.roster replica.now.window) place column)) }
+    requires fate { IsTimely fate.now replica.now.turns }
     ensures { standing replica.now fate.now result ≡ settled (standing replica.now fate.now
-        (look_from replica.now.roster (columns_of replica.now.roster replica.now.window) row column)) }
+        (from_column replica.now.roster (columns_of replica.now.roster replica.now.window) place column)) }
 {
-    settle(replica, fate, look_from(&replica.shape(), row, column))
+    settle(replica, fate, from_column(&replica.shape(), place, column))
 }
 
-/// The first place of the turn, from the push of a column to a member on, at which there is something
-/// to do. Out of line, it leaves pushes a small loop.
-#[inline(never)]
-pub(crate) fn settle_push(replica: &Replica, fate: &Fate, to: u8, column: usize) -> Place
-    requires to { to < replica.now.roster }
-    requires underway { IsUnderway (standing replica.now fate.now
-        (push_from replica.now.roster (columns_of replica.now.roster replica.now.window) to column)) }
-    ensures { standing replica.now fate.now result ≡ settled (standing replica.now fate.now
-        (push_from replica.now.roster (columns_of replica.now.roster replica.now.window) to column)) }
+/// The part of a place.
+#[inline(always)]
+fn part_of(place: Place) -> Part
+    requires { place.part < length TURN }
+    ensures { result ≡ part_of place }
 {
-    settle(replica, fate, push_from(&replica.shape(), to, column))
+    TURN[usize::from(place.part)]
+}
+
+/// The step that is due at a place.
+#[inline(always)]
+pub(crate) fn step_at(replica: &Replica, fate: &Fate, place: Place) -> Step
+    requires place { place.part < length TURN }
+    requires fate { IsTimely fate.now replica.now.turns }
+    ensures { result ≡ step_of (standing replica.now fate.now place) place }
+{
+    let Place { row, column, .. } = place;
+    match part_of(place) {
+        Part::Look => Step::Look { row, column },
+        Part::Receive => Step::Do(Act::Receive { sender: row }),
+        Part::Append => Step::Append,
+        Part::Push if fate.crashes_now() => Step::Do(Act::Crash { end: End::Crashed }),
+        Part::Push => Step::Push { to: row, column },
+        Part::Crash => Step::Do(Act::Crash { end: End::Crashed }),
+        Part::Done => Step::Do(Act::Halt { end: End::Done }),
+        Part::Spent => Step::Do(Act::Crash {
+            end: End::Spent {
+                turns: replica.turns(),
+            },
+        }),
+        Part::Do(act) => Step::Do(act),
+    }
+}
+
+/// What a part asks besides what its step does.
+#[inline(always)]
+fn asks(replica: &Replica, fate: &Fate, place: Place) -> bool
+    requires underway { IsUnderway (standing replica.now fate.now place) }
+    requires fate { IsTimely fate.now replica.now.turns }
+    ensures { result ≡ asks (standing replica.now fate.now place) (part_of place) place.row place.column }
+{
+    match part_of(place) {
+        Part::Push => replica.is_other(place.row) && replica.has_changed(place.row, place.column),
+        Part::Crash => fate.crashes_in_turn(),
+        Part::Spent => replica.turns() == fate.limit,
+        _ => true,
+    }
 }
 
 /// Whether there is something to do at a place.
 #[inline(always)]
 fn applies(replica: &Replica, fate: &Fate, place: Place) -> bool
-    requires { IsUnderway (standing replica.now fate.now place) }
+    requires underway { IsUnderway (standing replica.now fate.now place) }
+    requires fate { IsTimely fate.now replica.now.turns }
     ensures { result ≡ applies (standing replica.now fate.now place) place }
 {
-    match place {
-        Place::Beat | Place::Rest => true,
-        Place::Look { row, .. } => replica.is_other(row),
-        Place::Receive { sender } => replica.may_receive(sender),
-        Place::Send => replica.may_send(),
-        Place::Deliver => replica.may_deliver(),
-        Place::Append => replica.may_append(),
-        Place::Publish => replica.may_publish(),
-        Place::Report => replica.may_report(),
-        Place::Mark => replica.may_mark(),
-        Place::Push { to, column } => replica.is_other(to) && replica.has_changed(to, column),
-        Place::Crash => fate.crashes_in_turn(replica),
-        Place::Done => replica.all_done(),
-        Place::Spent => replica.turns() == fate.limit,
-    }
+    asks(replica, fate, place) && replica.allows(step_at(replica, fate, place))
 }
 
 /// A later place, where there is nothing to do at this one, nor at any between the two.
 fn skip(replica: &Replica, place: Place) -> Place
     requires form { HasForm replica.now }
-    requires place { InPlace replica.now.roster (columns_of replica.now.roster replica.now.window) place }
+    requires place { IsIn replica.now.roster (columns_of replica.now.roster replica.now.window) place }
     ensures { (fate : Fate) → IsUnderway (standing replica.now fate place)
+        → replica.now.end ≡ None
         → applies (standing replica.now fate place) place ≡ false
         → GoesBy (standing replica.now fate place) (standing replica.now fate result) }
 {
-    let shape = replica.shape();
-    match place {
-        Place::Look { row, .. } => look_from(&shape, row, shape.columns()),
-        Place::Push { to, column } if replica.is_other(to) => {
-            let next = next_changed(replica, shape.columns(), to, column + 1);
-            push_from(&shape, to, next)
-        }
-        Place::Push { to, .. } => push_from(&shape, to, shape.columns()),
-        _ => after(&shape, place),
-    }
+    from_column(&replica.shape(), place, next_column(replica, place))
 }
 
-/// The next place in the order of a turn.
-fn after(shape: &Shape, place: Place) -> Place
-    requires { InPlace shape.now.members (columns_of shape.now.members shape.now.window) place }
-    ensures { result ≡ after shape.now.members (columns_of shape.now.members shape.now.window) place }
+/// The next column of a part's row at which there may be something to do, where there is nothing to
+/// do at this one: a row of no other member has none. The number of its columns, where there is none.
+fn next_column(replica: &Replica, place: Place) -> usize
+    requires form { HasForm replica.now }
+    requires place { IsIn replica.now.roster (columns_of replica.now.roster replica.now.window) place }
+    ensures later { place.column < result }
+    ensures within { result
+        ≤ columns_in (columns_of replica.now.roster replica.now.window) (part_of place) }
+    ensures idle { (fate : Fate) → applies (standing replica.now fate place) place ≡ false
+        → (c : ℕ) → place.column ≤ c → c < result
+        → applies (standing replica.now fate place) (record place { column = c }) ≡ false }
 {
-    match place {
-        Place::Beat => Place::Look { row: 0, column: 0 },
-        Place::Look { row, column } => look_from(shape, row, column + 1),
-        Place::Receive { sender } if sender + 1 < shape.members => Place::Receive {
-            sender: sender + 1,
-        },
-        Place::Receive { .. } => Place::Send,
-        Place::Send => Place::Deliver,
-        Place::Deliver => Place::Append,
-        Place::Append => Place::Publish,
-        Place::Publish => Place::Report,
-        Place::Report => Place::Mark,
-        Place::Mark => Place::Push { to: 0, column: 0 },
-        Place::Push { to, column } => push_from(shape, to, column + 1),
-        Place::Crash => Place::Done,
-        Place::Done => Place::Spent,
-        Place::Spent => Place::Beat,
-        Place::Rest => Place::Rest,
-    }
-}
-
-/// The look at a column of a row, or what comes after the looks at that row where it has no such
-/// column.
-fn look_from(shape: &Shape, row: u8, column: usize) -> Place
-    requires { row < shape.now.members }
-    ensures { result ≡ look_from shape.now.members (columns_of shape.now.members shape.now.window) row column }
-{
-    if column < shape.columns() {
-        Place::Look { row, column }
-    } else if row + 1 < shape.members {
-        Place::Look {
-            row: row + 1,
-            column: 0,
+    match part_of(place) {
+        Part::Look => replica.shape().columns(),
+        Part::Push if replica.is_other(place.row) => {
+            let columns = replica.shape().columns();
+            next_changed(replica, columns, place.row, place.column + 1)
         }
-    } else {
-        Place::Receive { sender: 0 }
-    }
-}
-
-/// The push of a column to a member, or what comes after the pushes to it where there is no such
-/// column.
-fn push_from(shape: &Shape, to: u8, column: usize) -> Place
-    requires { to < shape.now.members }
-    ensures { result ≡ push_from shape.now.members (columns_of shape.now.members shape.now.window) to column }
-{
-    if column < shape.columns() {
-        Place::Push { to, column }
-    } else if to + 1 < shape.members {
-        Place::Push {
-            to: to + 1,
-            column: 0,
-        }
-    } else {
-        Place::Crash
+        Part::Push => replica.shape().columns(),
+        _ => place.column + 1,
     }
 }
 
@@ -175,4 +163,75 @@ pub(crate) fn next_changed(replica: &Replica, columns: usize, to: u8, from: usiz
         }
     }
     columns
+}
+
+/// The place of a column in the row, or what comes after the row where it has no such column.
+#[inline(always)]
+fn from_column(shape: &Shape, place: Place, column: usize) -> Place
+    requires { IsIn shape.now.members (columns_of shape.now.members shape.now.window) place }
+    ensures { result ≡ from_column shape.now.members
+        (columns_of shape.now.members shape.now.window) place column }
+{
+    let part = part_of(place);
+    if column < columns_in(shape, part) {
+        return Place { column, ..place };
+    }
+    if place.row + 1 < rows_in(shape, part) {
+        return Place {
+            part: place.part,
+            row: place.row + 1,
+            column: 0,
+        };
+    }
+    let next = if usize::from(place.part) + 1 < TURN.len() {
+        place.part + 1
+    } else {
+        0
+    };
+    Place {
+        part: next,
+        row: 0,
+        column: 0,
+    }
+}
+
+/// How many rows a part has.
+#[inline(always)]
+fn rows_in(shape: &Shape, part: Part) -> u8
+    ensures { result ≡ rows_in shape.now.members part }
+{
+    match part {
+        Part::Look | Part::Receive | Part::Push => shape.members,
+        _ => 1,
+    }
+}
+
+/// How many columns a row of a part has.
+#[inline(always)]
+fn columns_in(shape: &Shape, part: Part) -> usize
+    ensures { result ≡ columns_in (columns_of shape.now.members shape.now.window) part }
+{
+    match part {
+        Part::Look | Part::Push => shape.columns(),
+        _ => 1,
+    }
+}
+
+/// Where the member stands after the deed of a place.
+#[inline(always)]
+pub(crate) fn goes(shape: &Shape, place: Place) -> Place
+    requires { IsIn shape.now.members (columns_of shape.now.members shape.now.window) place }
+    ensures { result ≡ goes shape.now.members (columns_of shape.now.members shape.now.window)
+        (part_of place) place }
+{
+    match part_of(place) {
+        Part::Look | Part::Append | Part::Push | Part::Do(Act::Beat) => {
+            from_column(shape, place, place.column + 1)
+        }
+        Part::Do(Act::Publish) => Place {
+            part: place.part.saturating_sub(1),
+            ..place
+        },
+        _ => place,
+    }
 }

@@ -13,8 +13,8 @@ use Rattle.dr_rows.specs.Words.{Words, own}
 use Rattle.dr_words.specs.declared.column.TheConstants.{RECEIVED_COLUMN}
 use Rattle.dr_words.specs.Columns.{recv_column}
 use Rattle.dr_words.specs.Packing.{recv_word}
-use Rattle.dr_machine.specs.Replica.{Replica, me, count, next_index, ready_item, may_send, gained, received, sent}
-use Rattle.dr_machine.specs.Form.{HasForm}
+use Rattle.dr_program.specs.Replica.{Replica, me, count, next_index, ready_item, may_send, gained, received, sent}
+use Rattle.dr_program.specs.Form.{HasForm}
 use Rattle.dr_replica.specs.Items.{Held, front, taken}
 use Rattle.dr_replica.specs.Inside.{IsInside, view_of}
 use Rattle.dr_replica.specs.declared.replica.Replica.TheInside.{Inside}
@@ -27,20 +27,28 @@ abbrev pub Shown : Words → Words → Held → ℕ → Type 0
 Shown old new t s = new ≡ shown old s (slice_index t.counts s) (front t)
 
 -- the new count, and the front that doesn't fall
-counted : (a : Inside) (s c : ℕ) → IsInside a → s < a.shape.members → get_or (set a.items.counts s c) s 0 ≡ c
+counted : (a : Inside) (s c : ℕ) → IsInside a → s < a.shape.members
+    → get_or (set a.items.counts s c) s 0 ≡ c
 counted a s c inside within = get_or-set_same a.items.counts s c 0 (omega (arith, inside.form.counts, within))
 
-pub front_after : (a : Inside) (t : Held) (s : ℕ) (item : Item) → IsInside a → s < a.shape.members → t ≡ taken a.items s item → own a.rows RECEIVED_COLUMN ≤ front t
+-- after an item is taken the front is at least the one that the member shows
+pub front_after : (a : Inside) (t : Held) (s : ℕ) (item : Item) → IsInside a → s < a.shape.members
+    → t ≡ taken a.items s item → own a.rows RECEIVED_COLUMN ≤ front t
 front_after a t s item inside within after =
     let f = inside.form in
     let k : ℕ = get_or a.items.counts s 0 + 1 in
     let some = some_member a.members a.rows.me (omega (arith, f.rows.present, f.rows.few)) f.present in
-    let rises = front_rises (members_of a.members) a.items.counts s k some (omega (arith, f.counts, within)) (omega arith) in
-    let same : front (taken a.items s item) ≡ front_of (map (slice_index (set a.items.counts s k)) (members_of a.members)) = ap (λ (ms : List ℕ). front_of (map (slice_index (set a.items.counts s k)) ms)) inside.members in
+    let rises = front_rises (members_of a.members) a.items.counts s k some (omega (arith, f.counts, within))
+    (omega arith) in
+    let same : front (taken a.items s item)
+    ≡ front_of (map (slice_index (set a.items.counts s k)) (members_of a.members)) =
+    ap (λ (ms : List ℕ). front_of (map (slice_index (set a.items.counts s k)) ms)) inside.members in
     rw after (omega (arith, f.received, rises, same))
 
-pub gained_after : (a : Inside) (rows w : Words) (t : Held) (s : ℕ) (item : Item) (puts : List SentItem) → IsInside a → s < a.shape.members → t ≡ taken a.items s item → Shown rows w t s
-    → record (view_of a) { rows = w; counts = t.counts; items = t.items; sent = puts } ≡ gained (record (view_of a) { rows = rows; sent = puts }) s item
+gained_after : (a : Inside) (rows w : Words) (t : Held) (s : ℕ) (item : Item) (puts : List SentItem)
+    → IsInside a → s < a.shape.members → t ≡ taken a.items s item → Shown rows w t s
+    → record (view_of a) { rows = w; counts = t.counts; items = t.items; sent = puts }
+    ≡ gained (record (view_of a) { rows = rows; sent = puts }) s item
 gained_after a rows w t s item puts inside within took after =
     let old : ℕ = get_or a.items.counts s 0 in
     let cs : List ℕ = set a.items.counts s (old + 1) in
@@ -50,18 +58,30 @@ gained_after a rows w t s item puts inside within took after =
     ∙ ap (λ (n : ℕ). shown rows s n (front (taken a.items s item))) (counted a s (old + 1) inside within)
     ∙ ap (λ (ms : List ℕ). shown rows s (old + 1) (front_of (map (slice_index cs) ms))) inside.members in
     ap (λ (h : Held). record (view_of a) { rows = w; counts = h.counts; items = h.items; sent = puts }) took
-    ∙ ap (λ (x : Words). record (view_of a) { rows = x; counts = cs; items = set a.items.items (old * a.items.roster + s) item; sent = puts }) words
-    ∙ ap (λ (n : ℕ). record (view_of a) { rows = shown rows s (old + 1) (front_of (map (slice_index cs) (members_of a.members))); counts = cs; items = set a.items.items (old * n + s) item; sent = puts }) inside.roster
+    ∙ ap (λ (x : Words). record (view_of a)
+    { rows = x; counts = cs; items = set a.items.items (old * a.items.roster + s) item; sent = puts })
+    words
+    ∙ ap (λ (n : ℕ). record (view_of a) {
+      rows = shown rows s (old + 1) (front_of (map (slice_index cs) (members_of a.members)));
+      counts = cs;
+      items = set a.items.items (old * n + s) item;
+      sent = puts;
+    }) inside.roster
 
 -- ---- what was taken
 
-pub received_after : (a : Inside) (w : Words) (t : Held) (s k : ℕ) (o : Option Item) (item : Item) → IsInside a → s < a.shape.members → k ≡ slice_index a.items.counts s
-    → o ≡ item_in k (slot_of a.shape.window a.rows s k) → o ≡ Some item → t ≡ taken a.items s item → Shown a.rows w t s
+-- these fields are those of the replica that has received the sender's next item
+pub received_after : (a : Inside) (w : Words) (t : Held) (s k : ℕ) (o : Option Item) (item : Item)
+    → IsInside a → s < a.shape.members → k ≡ slice_index a.items.counts s
+    → o ≡ item_in k (slot_of a.shape.window a.rows s k) → o ≡ Some item → t
+    ≡ taken a.items s item → Shown a.rows w t s
     → record (view_of a) { rows = w; counts = t.counts; items = t.items } ≡ received (view_of a) s
 received_after a w t s k o item inside within count from some took after =
     let what : item ≡ unwrap_or (ready_item (view_of a) s) Null =
-    ap (λ (x : Option Item). unwrap_or x Null) (sym some ∙ from ∙ ap (λ (n : ℕ). item_in n (slot_of a.shape.window a.rows s n)) count) in
-    gained_after a a.rows w t s item a.sent.items inside within took after ∙ ap (λ (x : Item). gained (view_of a) s x) what
+    ap (λ (x : Option Item). unwrap_or x Null)
+    (sym some ∙ from ∙ ap (λ (n : ℕ). item_in n (slot_of a.shape.window a.rows s n)) count) in
+    gained_after a a.rows w t s item a.sent.items inside within took after
+    ∙ ap (λ (x : Item). gained (view_of a) s x) what
 
 -- ---- what was put
 
@@ -74,7 +94,9 @@ pub record IsPut (a : Inside) (m k : ℕ) (x : Item) (w : Words) (t : Held) : Ty
   pub took : t ≡ taken a.items m x
 
 -- the message that was read
-pub message_read : (a : Inside) (i : ℕ) (read bytes : List ℕ) → IsInside a → may_send (view_of a) ≡ true → i ≡ next_index (view_of a) → read ≡ slice_index_or a.messages.items i read → bytes ≡ read
+message_read : (a : Inside) (i : ℕ) (read bytes : List ℕ) → IsInside a → may_send (view_of a)
+    ≡ true → i ≡ next_index (view_of a) → read ≡ slice_index_or a.messages.items i read → bytes
+    ≡ read
     → Text bytes ≡ next_message (view_of a)
 message_read a i read bytes inside may next there same =
     let s = sending (view_of a) inside.form may in
@@ -82,46 +104,71 @@ message_read a i read bytes inside may next there same =
     ap (λ (x : List ℕ). Text x) (same ∙ here ∙ ap (λ (j : ℕ). get_or a.messages.items j []) next)
 
 -- there is room for it, and its slot is free
-pub room_left : (a : Inside) (m : ℕ) → IsInside a → may_send (view_of a) ≡ true → m ≡ a.rows.me → slice_index a.items.counts m < a.items.most
+pub room_left : (a : Inside) (m : ℕ) → IsInside a → may_send (view_of a) ≡ true → m ≡ a.rows.me
+    → slice_index a.items.counts m < a.items.most
 room_left a m inside may mine =
     let s = sending (view_of a) inside.form may in
     rw mine (omega (arith, s.room, inside.most))
 
-pub slot_left : (a : Inside) (m k : ℕ) → IsInside a → may_send (view_of a) ≡ true → m ≡ a.rows.me → k ≡ slice_index a.items.counts m → IsFree a.shape.window a.rows a.members k
+-- a member that may send has a free slot for its next item
+pub slot_left : (a : Inside) (m k : ℕ) → IsInside a → may_send (view_of a) ≡ true → m
+    ≡ a.rows.me → k ≡ slice_index a.items.counts m → IsFree a.shape.window a.rows a.members k
 slot_left a m k inside may mine count =
-    subst (λ (n : ℕ). IsFree a.shape.window a.rows a.members n) (sym (count ∙ ap (λ (i : ℕ). slice_index a.items.counts i) mine)) (slot_free (view_of a) inside.form may)
+    subst (λ (n : ℕ). IsFree a.shape.window a.rows a.members n)
+    (sym (count ∙ ap (λ (i : ℕ). slice_index a.items.counts i) mine))
+    (slot_free (view_of a) inside.form may)
 
-pub put_is : (a : Inside) (now : Replica) (m k i : ℕ) (read bytes : List ℕ) (w : Words) (t : Held) → view_of a ≡ now → IsInside a → may_send now ≡ true → m ≡ a.rows.me
-    → k ≡ slice_index a.items.counts m → i ≡ next_index now → read ≡ slice_index_or a.messages.items i read → bytes ≡ read
-    → w ≡ with_item a.shape.window a.rows k (Text bytes) → t ≡ taken a.items m (Text bytes) → IsPut a m k (Text bytes) w t
+-- these fields are those of the member's next message as it is put
+pub put_is : (a : Inside) (now : Replica) (m k i : ℕ) (read bytes : List ℕ) (w : Words) (t : Held)
+    → view_of a ≡ now → IsInside a → may_send now ≡ true → m ≡ a.rows.me
+    → k ≡ slice_index a.items.counts m → i ≡ next_index now → read
+    ≡ slice_index_or a.messages.items i read → bytes ≡ read
+    → w ≡ with_item a.shape.window a.rows k (Text bytes) → t ≡ taken a.items m (Text bytes)
+    → IsPut a m k (Text bytes) w t
 put_is a now m k i read bytes w t same inside may mine count next there equal put took = record {
   me = mine;
   count = count;
-  item = message_read a i read bytes inside (ap may_send same ∙ may) (next ∙ ap next_index (sym same)) there equal;
+  item = message_read a i read bytes inside (ap may_send same ∙ may)
+      (next ∙ ap next_index (sym same)) there equal;
   rows = put;
   took = took;
 }
 
-rows_are : (a : Inside) (m k : ℕ) (item : Item) (rows : Words) (t : Held) → IsPut a m k item rows t → rows ≡ with_item a.shape.window a.rows (count (view_of a) (me (view_of a))) (next_message (view_of a))
+rows_are : (a : Inside) (m k : ℕ) (item : Item) (rows : Words) (t : Held) → IsPut a m k item rows t
+    → rows ≡ with_item a.shape.window a.rows (count (view_of a) (me (view_of a)))
+    (next_message (view_of a))
 rows_are a m k item rows t p =
     p.rows ∙ ap (λ (x : Item). with_item a.shape.window a.rows k x) p.item
-    ∙ ap (λ (n : ℕ). with_item a.shape.window a.rows n (next_message (view_of a))) (p.count ∙ ap (λ (i : ℕ). slice_index a.items.counts i) p.me)
+    ∙ ap (λ (n : ℕ). with_item a.shape.window a.rows n (next_message (view_of a)))
+    (p.count ∙ ap (λ (i : ℕ). slice_index a.items.counts i) p.me)
 
-pub put_shows : (a : Inside) (m k : ℕ) (item : Item) (rows : Words) (t : Held) → IsInside a → may_send (view_of a) ≡ true → IsPut a m k item rows t
-    → (own rows (recv_column m) ≤ recv_word (slice_index t.counts m) false) × (own rows RECEIVED_COLUMN ≤ front t)
+-- after a put neither the member's own count nor its front falls
+pub put_shows : (a : Inside) (m k : ℕ) (item : Item) (rows : Words) (t : Held) → IsInside a
+    → may_send (view_of a) ≡ true → IsPut a m k item rows t
+    → (own rows (recv_column m) ≤ recv_word (slice_index t.counts m) false)
+    × (own rows RECEIVED_COLUMN ≤ front t)
 put_shows a m k item rows t inside may p =
     let r : Replica = view_of a in
     let f = inside.form in
     let n = putting r f may in
     let within : m < a.shape.members = omega (arith, p.me, n.sender) in
     let there = rows_are a m k item rows t p in
-    let recv : own rows (recv_column (me r)) ≡ recv_word (count r (me r)) false = ap (λ (w : Words). own w (recv_column (me r))) there ∙ n.kept (recv_column (me r)) (omega (arith, n.sender)) ∙ f.recv (me r) n.sender in
-    let mine : own rows (recv_column m) ≡ recv_word (count r m) false = subst (λ (i : ℕ). own rows (recv_column i) ≡ recv_word (count r i) false) (sym p.me) recv in
-    let received : own rows RECEIVED_COLUMN ≡ own a.rows RECEIVED_COLUMN = ap (λ (w : Words). own w RECEIVED_COLUMN) there ∙ n.kept RECEIVED_COLUMN (omega arith) in
-    let new : slice_index t.counts m ≡ count r m + 1 = ap (λ (h : Held). slice_index h.counts m) p.took ∙ counted a m (count r m + 1) inside within in
+    let recv : own rows (recv_column (me r))
+    ≡ recv_word (count r (me r)) false = ap (λ (w : Words). own w (recv_column (me r))) there
+    ∙ n.kept (recv_column (me r)) (omega (arith, n.sender)) ∙ f.recv (me r) n.sender in
+    let mine : own rows (recv_column m)
+    ≡ recv_word (count r m) false =
+    subst (λ (i : ℕ). own rows (recv_column i) ≡ recv_word (count r i) false) (sym p.me) recv in
+    let received : own rows RECEIVED_COLUMN
+    ≡ own a.rows RECEIVED_COLUMN = ap (λ (w : Words). own w RECEIVED_COLUMN) there
+    ∙ n.kept RECEIVED_COLUMN (omega arith) in
+    let new : slice_index t.counts m ≡ count r m + 1 = ap (λ (h : Held). slice_index h.counts m) p.took
+    ∙ counted a m (count r m + 1) inside within in
     (omega (arith, mine, new), omega (arith, received, front_after a t m item inside within p.took))
 
-pub sent_after : (a : Inside) (w : Words) (m k i : ℕ) (item : Item) (rows : Words) (t : Held) (puts : List SentItem) → IsInside a → may_send (view_of a) ≡ true → IsPut a m k item rows t
+-- these fields are those of the replica that has sent its next message
+pub sent_after : (a : Inside) (w : Words) (m k i : ℕ) (item : Item) (rows : Words) (t : Held)
+    (puts : List SentItem) → IsInside a → may_send (view_of a) ≡ true → IsPut a m k item rows t
     → i ≡ next_index (view_of a) → puts ≡ a.sent.items ++ Index i ∷ [] → Shown rows w t m
     → record (view_of a) { rows = w; counts = t.counts; items = t.items; sent = puts } ≡ sent (view_of a)
 sent_after a w m k i item rows t puts inside may p next put after =
@@ -129,14 +176,27 @@ sent_after a w m k i item rows t puts inside may p next put after =
     let within : m < a.shape.members = omega (arith, p.me, (putting r inside.form may).sender) in
     gained_after a rows w t m item puts inside within p.took after
     ∙ ap (λ (x : Words). gained (record r { rows = x; sent = puts }) m item) (rows_are a m k item rows t p)
-    ∙ ap (λ (xs : List SentItem). gained (record r { rows = with_item a.shape.window a.rows (count r (me r)) (next_message r); sent = xs }) m item) (put ∙ ap (λ (j : ℕ). a.sent.items ++ Index j ∷ []) next)
-    ∙ ap (λ (j : ℕ). gained (record r { rows = with_item a.shape.window a.rows (count r (me r)) (next_message r); sent = r.sent ++ Index (next_index r) ∷ [] }) j item) p.me
-    ∙ ap (λ (x : Item). gained (record r { rows = with_item a.shape.window a.rows (count r (me r)) (next_message r); sent = r.sent ++ Index (next_index r) ∷ [] }) (me r) x) p.item
+    ∙ ap (λ (xs : List SentItem). gained
+    (record r { rows = with_item a.shape.window a.rows (count r (me r)) (next_message r); sent = xs }) m
+    item) (put ∙ ap (λ (j : ℕ). a.sent.items ++ Index j ∷ []) next)
+    ∙ ap (λ (j : ℕ). gained (record r {
+      rows = with_item a.shape.window a.rows (count r (me r)) (next_message r);
+      sent = r.sent
+          ++ Index (next_index r) ∷ [];
+    }) j item) p.me
+    ∙ ap (λ (x : Item). gained (record r {
+      rows = with_item a.shape.window a.rows (count r (me r)) (next_message r);
+      sent = r.sent
+          ++ Index (next_index r) ∷ [];
+    }) (me r) x) p.item
 
 -- ---- the fields keep their invariant
 
-pub items_kept : (a : Inside) (rows : Words) (t : Held) (s : ℕ) (item : Item) (puts : _) → IsInside a → t ≡ taken a.items s item → length a.messages.items ≤ vec_capacity puts
-    → HasForm (view_of (record a { rows = rows; items = t; sent = puts })) → IsInside (record a { rows = rows; items = t; sent = puts })
+-- a taken item leaves the replica in good order inside, where its form is kept
+pub items_kept : (a : Inside) (rows : Words) (t : Held) (s : ℕ) (item : Item) (puts : _) → IsInside a
+    → t ≡ taken a.items s item → length a.messages.items ≤ vec_capacity puts
+    → HasForm (view_of (record a { rows = rows; items = t; sent = puts }))
+    → IsInside (record a { rows = rows; items = t; sent = puts })
 items_kept a rows t s item puts inside took room form = record {
   form = form;
   members = ap (λ (h : Held). h.members) took ∙ inside.members;

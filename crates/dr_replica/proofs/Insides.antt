@@ -9,9 +9,9 @@ use Rattle.dr_rows.specs.Words.{Words, own, seen}
 use Rattle.dr_words.specs.declared.column.TheConstants.{RECEIVED_COLUMN}
 use Rattle.dr_words.specs.Grown.{Grown}
 use Rattle.dr_machine.specs.Effects.{entries_of}
-use Rattle.dr_machine.specs.Replica as replica
-use Rattle.dr_machine.specs.Replica.{Replica, delivered, least_seen, may_deliver}
-use Rattle.dr_machine.specs.Form.{HasForm}
+use Rattle.dr_program.specs.Replica as replica
+use Rattle.dr_program.specs.Replica.{Replica, delivered, least_seen, may_deliver}
+use Rattle.dr_program.specs.Form.{HasForm}
 use Rattle.dr_replica.specs.Items as items
 use Rattle.dr_replica.specs.Items.{Held}
 use Rattle.dr_replica.specs.History as histories
@@ -23,9 +23,12 @@ use Rattle.dr_replica.specs.declared.spot.Spot.{Spot}
 use Rattle.dr_replica.specs.declared.replica.Replica.TheInside.{Inside}
 
 -- where items, history and what was put stay as they are, only the form is left
-pub state_kept : (a : Inside) (rows : Words) (logged durable turns acts : ℕ) (end : Option End) → IsInside a
-    → HasForm (view_of (record a { rows = rows; logged = logged; durable = durable; turns = turns; acts = acts; end = end }))
-    → IsInside (record a { rows = rows; logged = logged; durable = durable; turns = turns; acts = acts; end = end })
+pub state_kept : (a : Inside) (rows : Words) (logged durable turns acts : ℕ) (end : Option End)
+    → IsInside a
+    → HasForm (view_of
+    (record a { rows = rows; logged = logged; durable = durable; turns = turns; acts = acts; end = end }))
+    → IsInside (record a
+    { rows = rows; logged = logged; durable = durable; turns = turns; acts = acts; end = end })
 state_kept a rows logged durable turns acts end inside form = record {
   form = form;
   members = inside.members;
@@ -42,17 +45,22 @@ state_kept a rows logged durable turns acts end inside form = record {
 pub form_to : (new q : Replica) → new ≡ q → HasForm q → HasForm new
 form_to new q to form = subst HasForm (sym to) form
 
-pub grown_to : (old new v q : Replica) → v ≡ old → new ≡ q → Grown v.roster v.rows.words q.rows.words v.rows.frozen q.rows.frozen
+-- words that grew in the views have grown in the replicas
+pub grown_to : (old new v q : Replica) → v ≡ old → new ≡ q
+    → Grown v.roster v.rows.words q.rows.words v.rows.frozen q.rows.frozen
     → Grown old.roster old.rows.words new.rows.words old.rows.frozen new.rows.frozen
 grown_to old new v q from to grown =
     subst (λ (o : Replica). Grown o.roster o.rows.words new.rows.words o.rows.frozen new.rows.frozen) from
-    (subst (λ (n : Replica). Grown v.roster v.rows.words n.rows.words v.rows.frozen n.rows.frozen) (sym to) grown)
+    (subst (λ (n : Replica). Grown v.roster v.rows.words n.rows.words v.rows.frozen n.rows.frozen)
+    (sym to) grown)
 
+-- what the replica may do, its view may do
 pub may_of : (f : Replica → Bool) (v now : Replica) → v ≡ now → f now ≡ true → f v ≡ true
 may_of f v now same may = ap f same ∙ may
 
 -- ---- delivery
 
+-- the next place to deliver is a spot of the view's members
 pub next_is_spot : (a : Inside) → IsInside a → IsSpot (length a.items.members) a.next
 next_is_spot a inside = subst (λ (ms : List ℕ). IsSpot (length ms) a.next) (sym inside.members) inside.next
 
@@ -60,36 +68,62 @@ least_start : (xs : List ℕ) (a : ℕ) → fold min a xs ≤ a
 least_start [] a = omega arith
 least_start (x ∷ xs) a = omega (arith, least_start xs (min a x))
 
-least_each : (f : ℕ → ℕ) (xs : List ℕ) (a i : ℕ) → i < length xs → fold min a (map f xs) ≤ f (get_or xs i 0)
+least_each : (f : ℕ → ℕ) (xs : List ℕ) (a i : ℕ) → i < length xs → fold min a (map f xs)
+    ≤ f (get_or xs i 0)
 least_each f [] a i l = absurd (omega arith)
 least_each f (x ∷ xs) a zero l = omega (arith, least_start (map f xs) (min a (f x)))
 least_each f (x ∷ xs) a (suc i) l = least_each f xs (min a (f x)) i (omega arith)
 
 -- a place that may be delivered is before the own front
-pub next_held : (r : Replica) → HasForm r → may_deliver r ≡ true → (r.next < front_of (map (slice_index r.counts) (replica.view_of r))) × (r.next + 1 < 2 ^ 64)
+next_held : (r : Replica) → HasForm r → may_deliver r ≡ true
+    → (r.next < front_of (map (slice_index r.counts) (replica.view_of r))) × (r.next + 1 < 2 ^ 64)
 next_held r f may =
-    let seen_by_all : r.next < least_seen r RECEIVED_COLUMN = ltb-true r.next (least_seen r RECEIVED_COLUMN) (and_parts (nat_lt r.next (least_seen r RECEIVED_COLUMN)) (nat_lt (length r.history) r.room) may).0 in
-    let at = member_somewhere r.members (replica.me r) (omega (arith, f.rows.present, f.rows.few)) f.present in
-    let least = least_each (λ (i : ℕ). seen r.rows i RECEIVED_COLUMN) (replica.view_of r) (2 ^ 64 - 1) at.0 at.1 in
-    let mine : seen r.rows (get_or (replica.view_of r) at.0 0) RECEIVED_COLUMN ≡ own r.rows RECEIVED_COLUMN = ap (λ (i : ℕ). seen r.rows i RECEIVED_COLUMN) at.2 in
-    let most = least_start (map (λ (i : ℕ). seen r.rows i RECEIVED_COLUMN) (replica.view_of r)) (2 ^ 64 - 1) in
+    let seen_by_all : r.next < least_seen r RECEIVED_COLUMN =
+    ltb-true r.next (least_seen r RECEIVED_COLUMN)
+    (and_parts (nat_lt r.next (least_seen r RECEIVED_COLUMN)) (nat_lt (length r.history) r.room) may).0 in
+    let at = member_somewhere r.members (replica.me r)
+    (omega (arith, f.rows.present, f.rows.few)) f.present in
+    let least = least_each (λ (i : ℕ). seen r.rows i RECEIVED_COLUMN) (replica.view_of r)
+    (2 ^ 64 - 1) at.0 at.1 in
+    let mine : seen r.rows (get_or (replica.view_of r) at.0 0) RECEIVED_COLUMN
+    ≡ own r.rows RECEIVED_COLUMN = ap (λ (i : ℕ). seen r.rows i RECEIVED_COLUMN) at.2 in
+    let most = least_start (map (λ (i : ℕ). seen r.rows i RECEIVED_COLUMN) (replica.view_of r))
+    (2 ^ 64 - 1) in
     (omega (arith, seen_by_all, least, mine, f.received), omega (arith, seen_by_all, most))
 
-pub next_before : (a : Inside) (now : Replica) → view_of a ≡ now → IsInside a → may_deliver now ≡ true → (a.next.place < items.front a.items) × (a.next.place + 1 < 2 ^ 64)
+-- a member that may deliver has its next place below the front, and can count one more
+pub next_before : (a : Inside) (now : Replica) → view_of a ≡ now → IsInside a → may_deliver now
+    ≡ true → (a.next.place < items.front a.items) × (a.next.place + 1 < 2 ^ 64)
 next_before a now same inside may =
-    let held = next_held (view_of a) inside.form (may_of may_deliver (view_of a) now same may) in
-    (subst (λ (ms : List ℕ). a.next.place < front_of (map (slice_index a.items.counts) ms)) (sym inside.members) held.0, held.1)
+    let held = next_held (view_of a) inside.form (may_of may_deliver (view_of a) now same may) in (
+      subst (λ (ms : List ℕ). a.next.place < front_of (map (slice_index a.items.counts) ms))
+          (sym inside.members) held.0,
+      held.1,
+    )
 
-pub delivered_after : (a : Inside) (n : Spot) (h : Kept) (s : ℕ) (item : Item) → IsInside a → s ≡ items.sender_at a.items a.next.place → item ≡ items.item_at a.items a.next.place
-    → h ≡ histories.delivered a.history s item → n.place ≡ a.next.place + 1 → view_of (record a { next = n; history = h }) ≡ delivered (view_of a)
+-- these fields are those of the replica that has delivered the item at its next place
+pub delivered_after : (a : Inside) (n : Spot) (h : Kept) (s : ℕ) (item : Item) → IsInside a → s
+    ≡ items.sender_at a.items a.next.place → item ≡ items.item_at a.items a.next.place
+    → h ≡ histories.delivered a.history s item → n.place ≡ a.next.place + 1
+    → view_of (record a { next = n; history = h }) ≡ delivered (view_of a)
 delivered_after a n h s item inside sender what after next =
     let p : ℕ = a.next.place in
-    let who : s ≡ replica.sender_at (view_of a) p = sender ∙ ap (λ (ms : List ℕ). slice_index ms (p % length ms)) inside.members in
+    let who : s ≡ replica.sender_at (view_of a) p = sender
+    ∙ ap (λ (ms : List ℕ). slice_index ms (p % length ms)) inside.members in
     let which : item ≡ replica.item_at (view_of a) p =
     what
-    ∙ ap (λ (ms : List ℕ). slice_index_or a.items.items (p / length ms * a.items.roster + slice_index ms (p % length ms)) Null) inside.members
-    ∙ ap (λ (m : ℕ). slice_index_or a.items.items (p / length (replica.view_of (view_of a)) * m + replica.sender_at (view_of a) p) Null) inside.roster in
+    ∙ ap (λ (ms : List ℕ). slice_index_or a.items.items
+    (p / length ms * a.items.roster + slice_index ms (p % length ms)) Null) inside.members
+    ∙ ap (λ (m : ℕ). slice_index_or a.items.items
+    (p / length (replica.view_of (view_of a)) * m + replica.sender_at (view_of a) p) Null) inside.roster
+    in
     ap (λ (k : Kept). view_of (record a { next = n; history = k })) after
-    ∙ ap (λ (m : ℕ). record (view_of a) { next = m; history = a.history.entries ++ entries_of a.history.entries s item }) next
-    ∙ ap (λ (i : ℕ). record (view_of a) { next = p + 1; history = a.history.entries ++ entries_of a.history.entries i item }) who
-    ∙ ap (λ (x : Item). record (view_of a) { next = p + 1; history = a.history.entries ++ entries_of a.history.entries (replica.sender_at (view_of a) p) x }) which
+    ∙ ap (λ (m : ℕ). record (view_of a)
+    { next = m; history = a.history.entries ++ entries_of a.history.entries s item }) next
+    ∙ ap (λ (i : ℕ). record (view_of a)
+    { next = p + 1; history = a.history.entries ++ entries_of a.history.entries i item }) who
+    ∙ ap (λ (x : Item). record (view_of a) {
+      next = p + 1;
+      history = a.history.entries
+          ++ entries_of a.history.entries (replica.sender_at (view_of a) p) x;
+    }) which

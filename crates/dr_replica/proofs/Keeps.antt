@@ -1,5 +1,5 @@
 -- Each act of a replica keeps its form, and its words grow.
-use Rattle.std.proofs.Common.{◌≡◌, ◌≢◌, ℕ, ◌+◌, ◌*◌, ◌^◌, ◌<◌, ◌≤◌, ◌⊎◌, inl, inr, true, List, [], ◌∷◌, ◌++◌, length, map, get_or, set, slice_index, Option, Some, is_some, unwrap_or, not, nat_lt, ◌&&◌, ◌==◌, length-append, refl, sym, ap, subst, ◌∙◌, arith}
+use Rattle.std.proofs.Common.{◌≡◌, ◌≢◌, ℕ, ◌+◌, ◌*◌, ◌^◌, ◌<◌, ◌≤◌, ◌⊎◌, inl, inr, true, List, [], ◌∷◌, ◌++◌, length, map, get_or, set, slice_index, Option, Some, is_some, unwrap_or, not, nat_lt, ◌&&◌, ◌==◌, length-append, refl, sym, ap, subst, ◌∙◌, arith, false}
 use Rattle.std.proofs.lemmas.Bool.{cases_eq, cases_lt, and_parts, ltb-true, eqb-false, not-true}
 use Rattle.std.proofs.lemmas.Bool.Decides.{nat_tests}
 use Rattle.std.proofs.lemmas.List.{length-set, length_push, get_or-set_same, get_or-set_other, get_or_past}
@@ -27,26 +27,51 @@ use Rattle.dr_words.specs.Grown.{HasGrown, Grown}
 use Rattle.dr_words.specs.Packing.{ring_tag}
 use Rattle.dr_words.proofs.Order.{Grown_trans}
 use Rattle.dr_history.specs.History.{messages_in}
+use Rattle.dr_words.proofs.Bits.{has_zero}
+use Rattle.dr_program.specs.Acts.{may, taken}
 use Rattle.dr_machine.specs.Effects.{one_more, entries_of}
-use Rattle.dr_machine.specs.Replica.{Replica, me, count, greatest, view_of, is_other, least_seen, sender_at, item_at, may_append, may_deliver, may_receive, may_send, ready_item, next_index, gained, acted, beaten, ended, reported, appended, delivered, published, marked, looked, pushed, received, sent}
-use Rattle.dr_machine.specs.Form.{HasForm}
+use Rattle.dr_machine.specs.declared.event.Act.{Act}
+use Rattle.dr_machine.specs.declared.event.Act.TheVariants as acts
+use Rattle.dr_program.specs.Replica.{Replica, me, count, greatest, view_of, is_other, least_seen, sender_at, item_at, may_append, may_deliver, may_receive, may_send, ready_item, next_index, gained, acted, beaten, ended, reported, appended, delivered, published, marked, looked, pushed, received, sent}
+use Rattle.dr_program.specs.Form.{HasForm}
 use Rattle.dr_replica.proofs.Members.{some_member}
 use Rattle.dr_replica.proofs.Tables.{IsTable, free_in_form, done_in_form, free_grown, table_looked, table_set, own_written, own_left, own_seen, looked_grown, set_grown}
 use Rattle.dr_replica.proofs.Puts.{message_more, table_put, put_left, put_tags, put_grown}
 use Rattle.dr_replica.proofs.Gains.{counts_bounded, front_rises, shown, table_shown, shown_left, shown_recv, shown_received, shown_grown}
 
-pub table_of : (r : Replica) → HasForm r → IsTable r.roster r.window r.rows
-table_of r f = record { rows = f.rows; members = f.members; columns = f.columns; words = f.words; unfrozen = f.unfrozen }
+-- so far no row is frozen
+pub unfrozen : (r : Replica) → HasForm r → (i : ℕ) → is_frozen r.rows i ≡ false
+unfrozen r f i = f.frozen i ∙ has_zero i
+
+-- the rows of a replica in form
+table_of : (r : Replica) → HasForm r → IsTable r.roster r.window r.rows
+table_of r f = record {
+  rows = f.rows;
+  members = f.members;
+  columns = f.columns;
+  words = f.words;
+  unfrozen = unfrozen r f;
+}
 
 -- its own number is one of the roster, and so is that of each member of its view
-pub me_within : (r : Replica) → HasForm r → me r < r.roster
+me_within : (r : Replica) → HasForm r → me r < r.roster
 me_within r f = omega (arith, f.rows.present, f.members)
 
 -- ---- what only counts on
 
-pub rest_keeps : (r : Replica) (next logged durable turns acts : ℕ) (history : List Entry) (end : Option End) → HasForm r
-    → r.logged ≤ logged → logged ≤ length history → length history ≤ r.room → r.acts ≤ acts → acts < 2 ^ 64
-    → HasForm (record r { next = next; history = history; logged = logged; durable = durable; turns = turns; acts = acts; end = end })
+rest_keeps : (r : Replica) (next logged durable turns acts : ℕ) (history : List Entry)
+    (end : Option End) → HasForm r
+    → r.logged ≤ logged → logged ≤ length history → length history ≤ r.room → r.acts ≤ acts
+    → acts < 2 ^ 64
+    → HasForm (record r {
+      next = next;
+      history = history;
+      logged = logged;
+      durable = durable;
+      turns = turns;
+      acts = acts;
+      end = end;
+    })
 rest_keeps r next logged durable turns acts history end f more within room rises small = record {
   rows = f.rows;
   members = f.members;
@@ -54,7 +79,7 @@ rest_keeps r next logged durable turns acts history end f more within room rises
   words = f.words;
   some_slot = f.some_slot;
   most_slots = f.most_slots;
-  unfrozen = f.unfrozen;
+  frozen = f.frozen;
   bank = f.bank;
   roster = f.roster;
   present = f.present;
@@ -84,11 +109,13 @@ rest_keeps r next logged durable turns acts history end f more within room rises
 -- words that leave what the form says of the own ones
 pub record KeepsWords (r : Replica) (words sent : List (List ℕ)) : Type 0 where
   pub table : IsTable r.roster r.window (record r.rows { words = words; sent = sent })
-  pub kept : (c : ℕ) → c ≢ BEAT_COLUMN → c ≢ LOGGED_COLUMN → c ≢ DONE_COLUMN → own (record r.rows { words = words; sent = sent }) c ≡ own r.rows c
+  pub kept : (c : ℕ) → c ≢ BEAT_COLUMN → c ≢ LOGGED_COLUMN → c ≢ DONE_COLUMN
+      → own (record r.rows { words = words; sent = sent }) c ≡ own r.rows c
   pub beat : own (record r.rows { words = words; sent = sent }) BEAT_COLUMN ≤ r.acts
   pub published : own (record r.rows { words = words; sent = sent }) LOGGED_COLUMN ≤ r.logged
 
-pub words_keep : (r : Replica) (words sent : List (List ℕ)) → HasForm r → KeepsWords r words sent → HasForm (record r { rows = record r.rows { words = words; sent = sent } })
+words_keep : (r : Replica) (words sent : List (List ℕ)) → HasForm r → KeepsWords r words sent
+    → HasForm (record r { rows = record r.rows { words = words; sent = sent } })
 words_keep r words sent f w = record {
   rows = w.table.rows;
   members = w.table.members;
@@ -96,7 +123,7 @@ words_keep r words sent f w = record {
   words = w.table.words;
   some_slot = f.some_slot;
   most_slots = f.most_slots;
-  unfrozen = w.table.unfrozen;
+  frozen = λ i. w.table.unfrozen i ∙ sym (has_zero i);
   bank = f.bank;
   roster = f.roster;
   present = f.present;
@@ -104,12 +131,16 @@ words_keep r words sent f w = record {
   bounded = f.bounded;
   few = f.few;
   items = f.items;
-  recv = λ s lt. w.kept (recv_column s) (λ e. omega arith) (λ e. omega arith) (λ e. omega arith) ∙ f.recv s lt;
-  received = w.kept RECEIVED_COLUMN (λ e. omega arith) (λ e. omega arith) (λ e. omega arith) ∙ f.received;
+  recv = λ s lt. w.kept (recv_column s) (λ e. omega arith) (λ e. omega arith) (λ e. omega arith)
+      ∙ f.recv s lt;
+  received = w.kept RECEIVED_COLUMN (λ e. omega arith) (λ e. omega arith) (λ e. omega arith)
+      ∙ f.received;
   beat = w.beat;
   acts = f.acts;
   published = w.published;
-  ring = λ k part lt. subst (λ (x : ℕ). ring_tag x ≤ count r (me r)) (sym (w.kept (slot_column r.roster r.window k + part) (λ e. omega arith) (λ e. omega arith) (λ e. omega arith))) (f.ring k part lt);
+  ring = λ k part lt. subst (λ (x : ℕ). ring_tag x ≤ count r (me r))
+      (sym (w.kept (slot_column r.roster r.window k + part) (λ e. omega arith) (λ e. omega arith)
+      (λ e. omega arith))) (f.ring k part lt);
   messages = f.messages;
   short = f.short;
   bytes = f.bytes;
@@ -122,18 +153,23 @@ words_keep r words sent f w = record {
 }
 
 -- an own word of the beat, the logged and the done column
-pub own_keeps : (r : Replica) (c v : ℕ) → HasForm r → (c ≡ BEAT_COLUMN) ⊎ ((c ≡ LOGGED_COLUMN) ⊎ (c ≡ DONE_COLUMN)) → IsInForm r.roster c v
-    → (c ≡ BEAT_COLUMN → v ≤ r.acts) → (c ≡ LOGGED_COLUMN → v ≤ r.logged) → HasForm (record r { rows = with_own r.rows c v })
+own_keeps : (r : Replica) (c v : ℕ) → HasForm r → (c ≡ BEAT_COLUMN)
+    ⊎ ((c ≡ LOGGED_COLUMN) ⊎ (c ≡ DONE_COLUMN)) → IsInForm r.roster c v
+    → (c ≡ BEAT_COLUMN → v ≤ r.acts) → (c ≡ LOGGED_COLUMN → v ≤ r.logged)
+    → HasForm (record r { rows = with_own r.rows c v })
 own_keeps r c v f which is beat logged =
     words_keep r (with_own r.rows c v).words r.rows.sent f record {
       table = table_set r.roster r.window r.rows c v (table_of r f) low is;
       kept = λ d p q s. own_left r.rows c v d (λ e. other d p q s e which);
       beat = elim (cases_eq c BEAT_COLUMN) [
-        | inl same ↦ let new = own_written r.roster r.window r.rows c v (table_of r f) low in subst (λ (x : ℕ). own (with_own r.rows c v) x ≤ r.acts) same (omega (arith, new, beat same))
+        | inl same ↦ let new = own_written r.roster r.window r.rows c v (table_of r f) low in
+            subst (λ (x : ℕ). own (with_own r.rows c v) x ≤ r.acts) same (omega (arith, new, beat same))
         | inr apart ↦ omega (arith, own_left r.rows c v BEAT_COLUMN (λ e. apart (sym e)), f.beat)
       ];
       published = elim (cases_eq c LOGGED_COLUMN) [
-        | inl same ↦ let new = own_written r.roster r.window r.rows c v (table_of r f) low in subst (λ (x : ℕ). own (with_own r.rows c v) x ≤ r.logged) same (omega (arith, new, logged same))
+        | inl same ↦ let new = own_written r.roster r.window r.rows c v (table_of r f) low in
+            subst (λ (x : ℕ). own (with_own r.rows c v) x ≤ r.logged) same
+            (omega (arith, new, logged same))
         | inr apart ↦ omega (arith, own_left r.rows c v LOGGED_COLUMN (λ e. apart (sym e)), f.published)
       ];
     }
@@ -141,7 +177,8 @@ own_keeps r c v f which is beat logged =
     low : c < columns_of r.roster r.window
     low = elim which [ inl e ↦ omega arith | inr (inl e) ↦ omega arith | inr (inr e) ↦ omega arith ]
 
-    other : (d : ℕ) → d ≢ BEAT_COLUMN → d ≢ LOGGED_COLUMN → d ≢ DONE_COLUMN → d ≡ c → (c ≡ BEAT_COLUMN) ⊎ ((c ≡ LOGGED_COLUMN) ⊎ (c ≡ DONE_COLUMN)) → ⊥
+    other : (d : ℕ) → d ≢ BEAT_COLUMN → d ≢ LOGGED_COLUMN → d ≢ DONE_COLUMN → d ≡ c
+        → (c ≡ BEAT_COLUMN) ⊎ ((c ≡ LOGGED_COLUMN) ⊎ (c ≡ DONE_COLUMN)) → ⊥
     other d p q s e (inl b) = p (e ∙ b)
     other d p q s e (inr (inl l)) = q (e ∙ l)
     other d p q s e (inr (inr m)) = s (e ∙ m)
@@ -152,86 +189,134 @@ own_keeps r c v f which is beat logged =
 pub acted_keeps : (r : Replica) → HasForm r → HasForm (acted r)
 acted_keeps r f =
     let acts : ℕ = one_more 64 r.acts in
-    let counted = rest_keeps r r.next r.logged r.durable r.turns acts r.history r.end f (omega arith) f.logged f.room (omega (arith, f.acts)) (omega arith) in
-    own_keeps (record r { acts = acts }) BEAT_COLUMN acts counted (inl refl) (free_in_form r.roster BEAT_COLUMN acts (omega arith) (λ e. omega arith) (λ e. omega arith)) (λ e. omega arith) (λ e. absurd (omega arith))
+    let counted = rest_keeps r r.next r.logged r.durable r.turns acts r.history r.end f
+    (omega arith) f.logged f.room (omega (arith, f.acts)) (omega arith) in
+    own_keeps (record r { acts = acts }) BEAT_COLUMN acts counted (inl refl)
+    (free_in_form r.roster BEAT_COLUMN acts (omega arith) (λ e. omega arith) (λ e. omega arith))
+    (λ e. omega arith) (λ e. absurd (omega arith))
 
-pub acted_grown : (r : Replica) → HasForm r → Grown r.roster r.rows.words (acted r).rows.words r.rows.frozen (acted r).rows.frozen
+acted_grown : (r : Replica) → HasForm r
+    → Grown r.roster r.rows.words (acted r).rows.words r.rows.frozen (acted r).rows.frozen
 acted_grown r f =
     let acts : ℕ = one_more 64 r.acts in
-    set_grown r.roster r.window r.rows BEAT_COLUMN acts (table_of r f) (omega arith) (free_grown r.roster BEAT_COLUMN (own r.rows BEAT_COLUMN) acts (omega arith) (λ e. omega arith) (omega (arith, f.beat, f.acts)))
+    set_grown r.roster r.window r.rows BEAT_COLUMN acts (table_of r f) (omega arith)
+    (free_grown r.roster BEAT_COLUMN (own r.rows BEAT_COLUMN) acts (omega arith) (λ e. omega arith)
+    (omega (arith, f.beat, f.acts)))
 
-pub beaten_keeps : (r : Replica) → HasForm r → HasForm (acted (beaten r))
-beaten_keeps r f = acted_keeps (beaten r) (rest_keeps r r.next r.logged r.durable (one_more 32 r.turns) r.acts r.history r.end f (omega arith) f.logged f.room (omega arith) f.acts)
+beaten_keeps : (r : Replica) → HasForm r → HasForm (acted (beaten r))
+beaten_keeps r f = acted_keeps (beaten r)
+    (rest_keeps r r.next r.logged r.durable (one_more 32 r.turns) r.acts r.history r.end f
+    (omega arith) f.logged f.room (omega arith) f.acts)
 
-pub beaten_grown : (r : Replica) → HasForm r → Grown r.roster r.rows.words (acted (beaten r)).rows.words r.rows.frozen (acted (beaten r)).rows.frozen
+beaten_grown : (r : Replica) → HasForm r
+    → Grown r.roster r.rows.words (acted (beaten r)).rows.words r.rows.frozen (acted (beaten r)).rows.frozen
 beaten_grown r f = acted_grown r f
 
-pub ended_keeps : (r : Replica) (end : End) → HasForm r → HasForm (acted (ended r end))
-ended_keeps r end f = acted_keeps (ended r end) (rest_keeps r r.next r.logged r.durable r.turns r.acts r.history (Some end) f (omega arith) f.logged f.room (omega arith) f.acts)
+ended_keeps : (r : Replica) (end : End) → HasForm r → HasForm (acted (ended r end))
+ended_keeps r end f = acted_keeps (ended r end)
+    (rest_keeps r r.next r.logged r.durable r.turns r.acts r.history (Some end) f
+    (omega arith) f.logged f.room (omega arith) f.acts)
 
-pub ended_grown : (r : Replica) (end : End) → HasForm r → Grown r.roster r.rows.words (acted (ended r end)).rows.words r.rows.frozen (acted (ended r end)).rows.frozen
+ended_grown : (r : Replica) (end : End) → HasForm r
+    → Grown r.roster r.rows.words (acted (ended r end)).rows.words r.rows.frozen
+    (acted (ended r end)).rows.frozen
 ended_grown r end f = acted_grown r f
 
-pub reported_keeps : (r : Replica) → HasForm r → HasForm (acted (reported r))
-reported_keeps r f = acted_keeps (reported r) (rest_keeps r r.next r.logged (least_seen r LOGGED_COLUMN) r.turns r.acts r.history r.end f (omega arith) f.logged f.room (omega arith) f.acts)
+reported_keeps : (r : Replica) → HasForm r → HasForm (acted (reported r))
+reported_keeps r f = acted_keeps (reported r)
+    (rest_keeps r r.next r.logged (least_seen r LOGGED_COLUMN) r.turns r.acts r.history r.end f
+    (omega arith) f.logged f.room (omega arith) f.acts)
 
-pub reported_grown : (r : Replica) → HasForm r → Grown r.roster r.rows.words (acted (reported r)).rows.words r.rows.frozen (acted (reported r)).rows.frozen
+reported_grown : (r : Replica) → HasForm r
+    → Grown r.roster r.rows.words (acted (reported r)).rows.words r.rows.frozen
+    (acted (reported r)).rows.frozen
 reported_grown r f = acted_grown r f
 
+-- an append keeps a replica in form
 pub appended_keeps : (r : Replica) → HasForm r → may_append r ≡ true → HasForm (appended r)
-appended_keeps r f may = rest_keeps r r.next (r.logged + 1) r.durable r.turns r.acts r.history r.end f (omega arith) (grind (arith, nat_tests, may)) f.room (omega arith) f.acts
+appended_keeps r f may = rest_keeps r r.next (r.logged + 1) r.durable r.turns r.acts r.history r.end f
+    (omega arith) (grind (arith, nat_tests, may)) f.room (omega arith) f.acts
 
 -- an item gives one entry at most
 one_entry : (history : List Entry) (s : ℕ) (item : Item) → length (entries_of history s item) ≤ 1
 one_entry history s Null = omega arith
 one_entry history s (Text bytes) = omega arith
 
+-- a delivery keeps a replica in form
 pub delivered_keeps : (r : Replica) → HasForm r → may_deliver r ≡ true → HasForm (acted (delivered r))
 delivered_keeps r f may =
     let new : List Entry = entries_of r.history (sender_at r r.next) (item_at r r.next) in
     let one = one_entry r.history (sender_at r r.next) (item_at r r.next) in
     let more = length-append r.history new in
-    let room : length r.history < r.room = ltb-true (length r.history) r.room (and_parts (nat_lt r.next (least_seen r RECEIVED_COLUMN)) (nat_lt (length r.history) r.room) may).1 in
-    acted_keeps (delivered r) (rest_keeps r (r.next + 1) r.logged r.durable r.turns r.acts (r.history ++ new) r.end f (omega arith) (omega (arith, more, f.logged)) (omega (arith, more, one, room)) (omega arith) f.acts)
+    let room : length r.history < r.room =
+    ltb-true (length r.history) r.room
+    (and_parts (nat_lt r.next (least_seen r RECEIVED_COLUMN)) (nat_lt (length r.history) r.room) may).1 in
+    acted_keeps (delivered r) (rest_keeps r (r.next + 1) r.logged r.durable r.turns r.acts
+    (r.history ++ new) r.end f (omega arith) (omega (arith, more, f.logged))
+    (omega (arith, more, one, room)) (omega arith) f.acts)
 
-pub delivered_grown : (r : Replica) → HasForm r → Grown r.roster r.rows.words (acted (delivered r)).rows.words r.rows.frozen (acted (delivered r)).rows.frozen
+-- no word falls by a delivery
+pub delivered_grown : (r : Replica) → HasForm r
+    → Grown r.roster r.rows.words (acted (delivered r)).rows.words r.rows.frozen
+    (acted (delivered r)).rows.frozen
 delivered_grown r f = acted_grown r f
 
 -- ---- own words of their own
 
+-- publishing keeps a replica in form
 pub published_form : (r : Replica) → HasForm r → HasForm (published r)
-published_form r f = own_keeps r LOGGED_COLUMN r.logged f (inr (inl refl)) (free_in_form r.roster LOGGED_COLUMN r.logged (omega arith) (λ e. omega arith) (λ e. omega arith)) (λ e. absurd (omega arith)) (λ e. omega arith)
+published_form r f = own_keeps r LOGGED_COLUMN r.logged f (inr (inl refl))
+    (free_in_form r.roster LOGGED_COLUMN r.logged (omega arith) (λ e. omega arith) (λ e. omega arith))
+    (λ e. absurd (omega arith)) (λ e. omega arith)
 
+-- the act of publishing keeps a replica in form
 pub published_keeps : (r : Replica) → HasForm r → HasForm (acted (published r))
 published_keeps r f = acted_keeps (published r) (published_form r f)
 
-pub published_grown : (r : Replica) → HasForm r → Grown r.roster r.rows.words (acted (published r)).rows.words r.rows.frozen (acted (published r)).rows.frozen
+-- no word falls by the act of publishing
+pub published_grown : (r : Replica) → HasForm r
+    → Grown r.roster r.rows.words (acted (published r)).rows.words r.rows.frozen
+    (acted (published r)).rows.frozen
 published_grown r f =
-    Grown_trans r.roster r.rows.words (published r).rows.words (acted (published r)).rows.words r.rows.frozen r.rows.frozen r.rows.frozen
-    (set_grown r.roster r.window r.rows LOGGED_COLUMN r.logged (table_of r f) (omega arith) (free_grown r.roster LOGGED_COLUMN (own r.rows LOGGED_COLUMN) r.logged (omega arith) (λ e. omega arith) f.published))
+    Grown_trans r.roster r.rows.words (published r).rows.words
+    (acted (published r)).rows.words r.rows.frozen r.rows.frozen r.rows.frozen
+    (set_grown r.roster r.window r.rows LOGGED_COLUMN r.logged (table_of r f) (omega arith)
+    (free_grown r.roster LOGGED_COLUMN (own r.rows LOGGED_COLUMN) r.logged (omega arith)
+    (λ e. omega arith) f.published))
     (acted_grown (published r) (published_form r f))
 
+-- marking keeps a replica in form
 pub marked_form : (r : Replica) → HasForm r → HasForm (marked r)
-marked_form r f = own_keeps r DONE_COLUMN 1 f (inr (inr refl)) (done_in_form r.roster 1 (omega arith)) (λ e. absurd (omega arith)) (λ e. absurd (omega arith))
+marked_form r f = own_keeps r DONE_COLUMN 1 f (inr (inr refl)) (done_in_form r.roster 1 (omega arith))
+    (λ e. absurd (omega arith)) (λ e. absurd (omega arith))
 
+-- the act of marking keeps a replica in form
 pub marked_keeps : (r : Replica) → HasForm r → HasForm (acted (marked r))
 marked_keeps r f = acted_keeps (marked r) (marked_form r f)
 
-pub marked_grown : (r : Replica) → HasForm r → Grown r.roster r.rows.words (acted (marked r)).rows.words r.rows.frozen (acted (marked r)).rows.frozen
+-- no word falls by the act of marking
+pub marked_grown : (r : Replica) → HasForm r
+    → Grown r.roster r.rows.words (acted (marked r)).rows.words r.rows.frozen (acted (marked r)).rows.frozen
 marked_grown r f =
-    Grown_trans r.roster r.rows.words (marked r).rows.words (acted (marked r)).rows.words r.rows.frozen r.rows.frozen r.rows.frozen
-    (set_grown r.roster r.window r.rows DONE_COLUMN 1 (table_of r f) (omega arith) (free_grown r.roster DONE_COLUMN (own r.rows DONE_COLUMN) 1 (omega arith) (λ e. omega arith) ((f.words (me r) DONE_COLUMN).done refl)))
+    Grown_trans r.roster r.rows.words (marked r).rows.words
+    (acted (marked r)).rows.words r.rows.frozen r.rows.frozen r.rows.frozen
+    (set_grown r.roster r.window r.rows DONE_COLUMN 1 (table_of r f) (omega arith)
+    (free_grown r.roster DONE_COLUMN (own r.rows DONE_COLUMN) 1 (omega arith) (λ e. omega arith)
+    ((f.words (me r) DONE_COLUMN).done refl)))
     (acted_grown (marked r) (marked_form r f))
 
 -- ---- looks and pushes
 
 -- another member of the view is one of the roster, and not itself
-pub other_apart : (r : Replica) (i : ℕ) → HasForm r → is_other r i ≡ true → (has r.members i ≡ true) × (i < r.roster) × (i ≢ me r)
+other_apart : (r : Replica) (i : ℕ) → HasForm r → is_other r i ≡ true
+    → (has r.members i ≡ true) × (i < r.roster) × (i ≢ me r)
 other_apart r i f other =
     let both = and_parts (has r.members i) (not (i == me r)) other in
     (both.0, f.roster i both.0, λ e. eqb-false i (me r) (not-true (i == me r) both.1) e)
 
-pub looked_keeps : (r : Replica) (i c v : ℕ) → HasForm r → is_other r i ≡ true → c < columns_of r.roster r.window → IsInForm r.roster c v → HasForm (looked r i c v)
+-- a look at another row's word that is in form keeps a replica in form
+pub looked_keeps : (r : Replica) (i c v : ℕ) → HasForm r → is_other r i ≡ true → c
+    < columns_of r.roster r.window → IsInForm r.roster c v → HasForm (looked r i c v)
 looked_keeps r i c v f other column is =
     let apart = other_apart r i f other in
     words_keep r (rows.looked r.rows i c v).words r.rows.sent f record {
@@ -241,10 +326,14 @@ looked_keeps r i c v f other column is =
       published = omega (arith, own_seen r.rows i c v LOGGED_COLUMN apart.2, f.published);
     }
 
-pub looked_rises : (r : Replica) (i c v : ℕ) → HasForm r → is_other r i ≡ true → c < columns_of r.roster r.window → HasGrown r.roster c (seen r.rows i c) v
+-- no word falls by a look at a word that has grown since it was seen
+pub looked_rises : (r : Replica) (i c v : ℕ) → HasForm r → is_other r i ≡ true → c
+    < columns_of r.roster r.window → HasGrown r.roster c (seen r.rows i c) v
     → Grown r.roster r.rows.words (looked r i c v).rows.words r.rows.frozen (looked r i c v).rows.frozen
-looked_rises r i c v f other column grown = looked_grown r.roster r.window r.rows i c v (table_of r f) (other_apart r i f other).1 column grown
+looked_rises r i c v f other column grown =
+    looked_grown r.roster r.window r.rows i c v (table_of r f) (other_apart r i f other).1 column grown
 
+-- a push to a member of the roster keeps a replica in form
 pub pushed_keeps : (r : Replica) (j c : ℕ) → HasForm r → j < r.roster → HasForm (pushed r j c)
 pushed_keeps r j c f within =
     words_keep r r.rows.words (rows.pushed r.rows j c).sent f record {
@@ -253,7 +342,7 @@ pushed_keeps r j c f within =
         members = f.members;
         columns = f.columns;
         words = f.words;
-        unfrozen = f.unfrozen;
+        unfrozen = unfrozen r f;
       };
       kept = λ d p q s. refl;
       beat = f.beat;
@@ -271,12 +360,15 @@ pub record IsPutting (r : Replica) (s : ℕ) (words : List (List ℕ)) (puts : L
   pub table : IsTable r.roster r.window (record r.rows { words = words })
   pub kept : (c : ℕ) → c < 6 + 2 * r.roster → own (record r.rows { words = words }) c ≡ own r.rows c
   -- the ring and what is put are up to the new count
-  pub ring : (k part : ℕ) → part < 17 → ring_tag (own (record r.rows { words = words }) (slot_column r.roster r.window k + part)) ≤ get_or (set r.counts s (count r s + 1)) (me r) 0
+  pub ring : (k part : ℕ) → part < 17
+      → ring_tag (own (record r.rows { words = words }) (slot_column r.roster r.window k + part))
+      ≤ get_or (set r.counts s (count r s + 1)) (me r) 0
   pub put : length puts ≡ get_or (set r.counts s (count r s + 1)) (me r) 0
   pub named : messages_in puts ≡ length puts
   pub left : r.base + length puts ≤ length r.messages
 
-pub gained_keeps : (r : Replica) (s : ℕ) (item : Item) (words : List (List ℕ)) (puts : List SentItem) → HasForm r → IsPutting r s words puts
+gained_keeps : (r : Replica) (s : ℕ) (item : Item) (words : List (List ℕ)) (puts : List SentItem)
+    → HasForm r → IsPutting r s words puts
     → HasForm (gained (record r { rows = record r.rows { words = words }; sent = puts }) s item)
 gained_keeps r s item words puts f p =
     let w : Words = record r.rows { words = words } in
@@ -286,7 +378,8 @@ gained_keeps r s item words puts f p =
     let within : s < length r.counts = omega (arith, p.sender, f.counts) in
     let few : k ≤ 4096 = omega (arith, p.room, f.few) in
     let t = table_shown r.roster r.window w s k front p.table p.sender few in
-    let low : (c : ℕ) → c < 6 + 2 * r.roster → c ≢ RECEIVED_COLUMN → c ≢ recv_column s → own (shown w s k front) c ≡ own r.rows c =
+    let low : (c : ℕ) → c < 6 + 2 * r.roster → c ≢ RECEIVED_COLUMN → c ≢ recv_column s
+    → own (shown w s k front) c ≡ own r.rows c =
     λ c l a b. shown_left w s k front c a b ∙ p.kept c l in
     record {
       rows = t.rows;
@@ -295,7 +388,7 @@ gained_keeps r s item words puts f p =
       words = t.words;
       some_slot = f.some_slot;
       most_slots = f.most_slots;
-      unfrozen = t.unfrozen;
+      frozen = λ i. t.unfrozen i ∙ sym (has_zero i);
       bank = f.bank;
       roster = f.roster;
       present = f.present;
@@ -304,14 +397,23 @@ gained_keeps r s item words puts f p =
       few = f.few;
       items = length-set r.items (count r s * r.roster + s) item ∙ f.items;
       recv = λ j l. elim (cases_eq j s) [
-        | inl same ↦ let set = get_or-set_same r.counts s k 0 within in rw (same, set) (shown_recv r.roster r.window w s k front p.table p.sender)
-        | inr other ↦ let kept = get_or-set_other r.counts s j k 0 other in rw kept (low (recv_column j) (omega arith) (λ e. omega arith) (λ e. other (omega arith)) ∙ f.recv j l)
+        | inl same ↦ let set = get_or-set_same r.counts s k 0 within in
+            rw (same, set) (shown_recv r.roster r.window w s k front p.table p.sender)
+        | inr other ↦ let kept = get_or-set_other r.counts s j k 0 other in
+            rw kept (low (recv_column j) (omega arith) (λ e. omega arith) (λ e. other (omega arith))
+            ∙ f.recv j l)
       ];
       received = shown_received r.roster r.window w s k front p.table p.sender few;
       beat = omega (arith, low BEAT_COLUMN (omega arith) (λ e. omega arith) (λ e. omega arith), f.beat);
       acts = f.acts;
-      published = omega (arith, low LOGGED_COLUMN (omega arith) (λ e. omega arith) (λ e. omega arith), f.published);
-      ring = λ i part l. let kept = shown_left w s k front (slot_column r.roster r.window i + part) (λ e. omega arith) (λ e. omega (arith, p.sender)) in rw kept (p.ring i part l);
+      published = omega (
+        arith,
+        low LOGGED_COLUMN (omega arith) (λ e. omega arith) (λ e. omega arith),
+        f.published,
+      );
+      ring = λ i part l. let kept =
+          shown_left w s k front (slot_column r.roster r.window i + part) (λ e. omega arith)
+          (λ e. omega (arith, p.sender)) in rw kept (p.ring i part l);
       messages = f.messages;
       short = f.short;
       bytes = f.bytes;
@@ -323,26 +425,35 @@ gained_keeps r s item words puts f p =
       small = f.small;
     }
 
-gained_grown : (r : Replica) (s : ℕ) (item : Item) (words : List (List ℕ)) (puts : List SentItem) → HasForm r → IsPutting r s words puts
-    → Grown r.roster words (gained (record r { rows = record r.rows { words = words }; sent = puts }) s item).rows.words r.rows.frozen r.rows.frozen
+gained_grown : (r : Replica) (s : ℕ) (item : Item) (words : List (List ℕ)) (puts : List SentItem)
+    → HasForm r → IsPutting r s words puts
+    → Grown r.roster words (gained
+    (record r { rows = record r.rows { words = words }; sent = puts }) s item).rows.words r.rows.frozen
+    r.rows.frozen
 gained_grown r s item words puts f p =
     let w : Words = record r.rows { words = words } in
     let k : ℕ = count r s + 1 in
     let within : s < length r.counts = omega (arith, p.sender, f.counts) in
     let some = some_member r.members (me r) (omega (arith, f.rows.present, f.rows.few)) f.present in
     let rises = front_rises (view_of r) r.counts s k some within (omega arith) in
-    shown_grown r.roster r.window w s (count r s) k (front_of (map (slice_index (set r.counts s k)) (view_of r))) p.table p.sender (omega (arith, p.room, f.few))
+    shown_grown r.roster r.window w s (count r s) k
+    (front_of (map (slice_index (set r.counts s k)) (view_of r))) p.table p.sender
+    (omega (arith, p.room, f.few))
     (p.kept (recv_column s) (omega (arith, p.sender)) ∙ f.recv s p.sender) (omega arith)
     (omega (arith, p.kept RECEIVED_COLUMN (omega arith), f.received, rises))
 
 -- ---- receiving
 
-pub receiving : (r : Replica) (s : ℕ) → HasForm r → may_receive r s ≡ true → IsPutting r s r.rows.words r.sent
+receiving : (r : Replica) (s : ℕ) → HasForm r → may_receive r s ≡ true
+    → IsPutting r s r.rows.words r.sent
 receiving r s f may =
-    let parts = and_parts (is_other r s) (is_some (ready_item r s) && nat_lt (count r s) (greatest r.totals)) may in
+    let parts = and_parts (is_other r s)
+    (is_some (ready_item r s) && nat_lt (count r s) (greatest r.totals)) may in
     let apart = other_apart r s f parts.0 in
-    let room = ltb-true (count r s) (greatest r.totals) (and_parts (is_some (ready_item r s)) (nat_lt (count r s) (greatest r.totals)) parts.1).1 in
-    let mine : get_or (set r.counts s (count r s + 1)) (me r) 0 ≡ count r (me r) = get_or-set_other r.counts s (me r) (count r s + 1) 0 (λ e. apart.2 (sym e)) in
+    let room = ltb-true (count r s) (greatest r.totals)
+    (and_parts (is_some (ready_item r s)) (nat_lt (count r s) (greatest r.totals)) parts.1).1 in
+    let mine : get_or (set r.counts s (count r s + 1)) (me r) 0
+    ≡ count r (me r) = get_or-set_other r.counts s (me r) (count r s + 1) 0 (λ e. apart.2 (sym e)) in
     record {
       sender = apart.1;
       room = room;
@@ -354,15 +465,24 @@ receiving r s f may =
       left = f.left;
     }
 
-pub received_form : (r : Replica) (s : ℕ) → HasForm r → may_receive r s ≡ true → HasForm (received r s)
-received_form r s f may = gained_keeps r s (unwrap_or (ready_item r s) Null) r.rows.words r.sent f (receiving r s f may)
+-- receiving an item that may be received keeps a replica in form
+pub received_form : (r : Replica) (s : ℕ) → HasForm r → may_receive r s ≡ true
+    → HasForm (received r s)
+received_form r s f may = gained_keeps r s (unwrap_or (ready_item r s) Null) r.rows.words r.sent f
+    (receiving r s f may)
 
-pub received_keeps : (r : Replica) (s : ℕ) → HasForm r → may_receive r s ≡ true → HasForm (acted (received r s))
+-- the act of receiving keeps a replica in form
+pub received_keeps : (r : Replica) (s : ℕ) → HasForm r → may_receive r s ≡ true
+    → HasForm (acted (received r s))
 received_keeps r s f may = acted_keeps (received r s) (received_form r s f may)
 
-pub received_grown : (r : Replica) (s : ℕ) → HasForm r → may_receive r s ≡ true → Grown r.roster r.rows.words (acted (received r s)).rows.words r.rows.frozen (acted (received r s)).rows.frozen
+-- no word falls by the act of receiving
+pub received_grown : (r : Replica) (s : ℕ) → HasForm r → may_receive r s ≡ true
+    → Grown r.roster r.rows.words (acted (received r s)).rows.words r.rows.frozen
+    (acted (received r s)).rows.frozen
 received_grown r s f may =
-    Grown_trans r.roster r.rows.words (received r s).rows.words (acted (received r s)).rows.words r.rows.frozen r.rows.frozen r.rows.frozen
+    Grown_trans r.roster r.rows.words (received r s).rows.words
+    (acted (received r s)).rows.words r.rows.frozen r.rows.frozen r.rows.frozen
     (gained_grown r s (unwrap_or (ready_item r s) Null) r.rows.words r.sent f (receiving r s f may))
     (acted_grown (received r s) (received_form r s f may))
 
@@ -379,62 +499,109 @@ pub record IsSending (r : Replica) : Type 0 where
   pub room : count r (me r) < greatest r.totals
 
 -- nobody has more than the greatest number
-pub totals_most : (totals : List ℕ) (i : ℕ) → get_or totals i 0 ≤ greatest totals
+totals_most : (totals : List ℕ) (i : ℕ) → get_or totals i 0 ≤ greatest totals
 totals_most totals i =
     elim (cases_lt i (length totals)) [
       | inl within ↦ count_max totals 0 i within
       | inr past ↦ omega (arith, get_or_past totals i 0 past)
     ]
 
+-- what a member may send has its ranges
 pub sending : (r : Replica) → HasForm r → may_send r ≡ true → IsSending r
 sending r f may =
     let i : ℕ = next_index r in
-    let message : i < length r.messages = ltb-true i (length r.messages) (and_parts (nat_lt i (length r.messages)) (is_free r.window r.rows r.members (count r (me r))) may).0 in
+    let message : i < length r.messages =
+    ltb-true i (length r.messages)
+    (and_parts (nat_lt i (length r.messages))
+    (is_free r.window r.rows r.members (count r (me r))) may).0 in
     let there = slice_get-get_or r.messages i [] message in
-    let most : length r.messages ≤ greatest r.totals = omega (arith, f.messages, totals_most r.totals (me r)) in
+    let most : length r.messages ≤ greatest r.totals =
+    omega (arith, f.messages, totals_most r.totals (me r)) in
     record {
       message = message;
       item = (f.short i (get_or r.messages i []) there, f.bytes i (get_or r.messages i []) there);
       room = omega (arith, message, most, f.put, f.named);
     }
 
+-- a member that may send puts its next message in words of its own
 pub putting : (r : Replica) → HasForm r → may_send r ≡ true
-    → IsPutting r (me r) (with_item r.window r.rows (count r (me r)) (next_message r)).words (r.sent ++ Index (next_index r) ∷ [])
+    → IsPutting r (me r) (with_item r.window r.rows (count r (me r)) (next_message r)).words
+    (r.sent ++ Index (next_index r) ∷ [])
 putting r f may =
     let s = sending r f may in
     let k : ℕ = count r (me r) in
-    let mine : get_or (set r.counts (me r) (k + 1)) (me r) 0 ≡ k + 1 = get_or-set_same r.counts (me r) (k + 1) 0 (omega (arith, me_within r f, f.counts)) in
+    let mine : get_or (set r.counts (me r) (k + 1)) (me r) 0
+    ≡ k + 1 = get_or-set_same r.counts (me r) (k + 1) 0 (omega (arith, me_within r f, f.counts)) in
     let more = length_push r.sent (Index (next_index r)) in
     record {
       sender = me_within r f;
       room = s.room;
       table = table_put r.roster r.window r.rows k (next_message r) (table_of r f) f.some_slot s.item;
-      kept = λ c l. put_left r.roster r.window r.rows k (next_message r) c (table_of r f) f.some_slot s.item l;
-      ring = λ i part l. rw mine (put_tags r.roster r.window r.rows k (next_message r) (slot_column r.roster r.window i + part) (table_of r f) f.some_slot s.item (f.ring i part l));
+      kept = λ c l. put_left r.roster r.window r.rows k (next_message r) c
+          (table_of r f) f.some_slot s.item l;
+      ring = λ i part l. rw mine (put_tags r.roster r.window r.rows k (next_message r)
+          (slot_column r.roster r.window i + part) (table_of r f) f.some_slot s.item (f.ring i part l));
       put = more ∙ ap (λ (n : ℕ). n + 1) f.put ∙ sym mine;
       named = omega (arith, message_more r.sent (next_index r), more, f.named);
       left = omega (arith, more, s.message, f.named);
     }
 
+-- sending a message that may be sent keeps a replica in form
 pub sent_form : (r : Replica) → HasForm r → may_send r ≡ true → HasForm (sent r)
 sent_form r f may =
-    gained_keeps r (me r) (next_message r) (with_item r.window r.rows (count r (me r)) (next_message r)).words (r.sent ++ Index (next_index r) ∷ []) f (putting r f may)
+    gained_keeps r (me r) (next_message r)
+    (with_item r.window r.rows (count r (me r)) (next_message r)).words
+    (r.sent ++ Index (next_index r) ∷ []) f (putting r f may)
 
+-- the act of sending keeps a replica in form
 pub sent_keeps : (r : Replica) → HasForm r → may_send r ≡ true → HasForm (acted (sent r))
 sent_keeps r f may = acted_keeps (sent r) (sent_form r f may)
 
-pub sent_grown : (r : Replica) → HasForm r → may_send r ≡ true → Grown r.roster r.rows.words (acted (sent r)).rows.words r.rows.frozen (acted (sent r)).rows.frozen
+-- no word falls by the act of sending
+pub sent_grown : (r : Replica) → HasForm r → may_send r ≡ true
+    → Grown r.roster r.rows.words (acted (sent r)).rows.words r.rows.frozen (acted (sent r)).rows.frozen
 sent_grown r f may =
     let s = sending r f may in
     let words : List (List ℕ) = (with_item r.window r.rows (count r (me r)) (next_message r)).words in
-    Grown_trans r.roster r.rows.words (sent r).rows.words (acted (sent r)).rows.words r.rows.frozen r.rows.frozen r.rows.frozen
+    Grown_trans r.roster r.rows.words (sent r).rows.words
+    (acted (sent r)).rows.words r.rows.frozen r.rows.frozen r.rows.frozen
     (Grown_trans r.roster r.rows.words words (sent r).rows.words r.rows.frozen r.rows.frozen r.rows.frozen
-    (put_grown r.roster r.window r.rows (count r (me r)) (next_message r) (table_of r f) f.some_slot s.item (λ part lt. f.ring (count r (me r)) part lt))
-    (gained_grown r (me r) (next_message r) words (r.sent ++ Index (next_index r) ∷ []) f (putting r f may)))
+    (put_grown r.roster r.window r.rows (count r (me r)) (next_message r) (table_of r f) f.some_slot s.item
+    (λ part lt. f.ring (count r (me r)) part lt))
+    (gained_grown r (me r) (next_message r) words (r.sent ++ Index (next_index r) ∷ []) f
+    (putting r f may)))
     (acted_grown (sent r) (sent_form r f may))
 
 -- the slot of the item that it sends is free
-pub slot_free : (r : Replica) → HasForm r → may_send r ≡ true → IsFree r.window r.rows r.members (count r (me r))
+pub slot_free : (r : Replica) → HasForm r → may_send r ≡ true
+    → IsFree r.window r.rows r.members (count r (me r))
 slot_free r f may =
-    let free = and_parts (nat_lt (next_index r) (length r.messages)) (is_free r.window r.rows r.members (count r (me r))) may in
-    IsFree-from_test r.window r.rows r.members (count r (me r)) f.rows.few (subst (λ (n : ℕ). IsInRoster n r.members) (sym f.members) f.roster) free.1
+    let free = and_parts (nat_lt (next_index r) (length r.messages))
+    (is_free r.window r.rows r.members (count r (me r))) may in
+    IsFree-from_test r.window r.rows r.members (count r (me r)) f.rows.few
+    (subst (λ (n : ℕ). IsInRoster n r.members) (sym f.members) f.roster) free.1
+
+-- ---- every act
+
+-- each act that a replica may take keeps it in form
+pub taken_keeps : (r : Replica) (a : Act) → HasForm r → may r a ≡ true → HasForm (taken r a)
+taken_keeps r acts.Beat f m = beaten_keeps r f
+taken_keeps r (acts.Receive s) f m =
+    received_keeps r s f (and_parts (nat_lt s r.roster) (may_receive r s) m).1
+taken_keeps r acts.Send f m = sent_keeps r f m
+taken_keeps r acts.Deliver f m = delivered_keeps r f m
+taken_keeps r acts.Publish f m = published_keeps r f
+taken_keeps r acts.Report f m = reported_keeps r f
+taken_keeps r acts.Mark f m = marked_keeps r f
+taken_keeps r (acts.Halt end) f m = ended_keeps r end f
+taken_keeps r (acts.Crash end) f m = ended_keeps r end f
+
+-- no word falls by an act that a replica may take
+pub taken_grown : (r : Replica) (a : Act) → HasForm r → may r a ≡ true
+    → Grown r.roster r.rows.words (taken r a).rows.words r.rows.frozen (taken r a).rows.frozen
+taken_grown r (acts.Receive s) f m =
+    received_grown r s f (and_parts (nat_lt s r.roster) (may_receive r s) m).1
+taken_grown r acts.Send f m = sent_grown r f m
+taken_grown r acts.Publish f m = published_grown r f
+taken_grown r acts.Mark f m = marked_grown r f
+taken_grown r a f m = acted_grown r f

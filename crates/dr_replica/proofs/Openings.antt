@@ -8,10 +8,10 @@ use Rattle.dr_history.proofs.NumberedLemmas.{messages_from-View}
 use Rattle.dr_rows.specs.Words.{Words, begun, with_own}
 use Rattle.dr_words.specs.declared.column.TheConstants.{LOGGED_COLUMN}
 use Rattle.dr_words.specs.Columns.{columns_of}
-use Rattle.dr_machine.specs.declared.setup.Setup.{Setup}
-use Rattle.dr_machine.specs.Replica.{begun_replica, first_entries_of, greatest}
-use Rattle.dr_machine.specs.Form.{CanBegin, HasForm}
-use Rattle.dr_machine.proofs.OpeningForm.{begun_in_form, greatest_within, product_within}
+use Rattle.dr_program.specs.declared.setup.Setup.{Setup}
+use Rattle.dr_program.specs.Replica.{begun_replica, first_entries_of, greatest}
+use Rattle.dr_program.specs.Form.{CanBegin, HasForm}
+use Rattle.dr_program.proofs.OpeningForm.{begun_in_form, greatest_within, product_within}
 use Rattle.dr_replica.specs.Items.{Held, none_held}
 use Rattle.dr_replica.specs.History.{Kept}
 use Rattle.dr_replica.specs.Inside.{IsInside, view_of}
@@ -25,14 +25,19 @@ use Rattle.dr_replica.proofs.Members.{some_member}
 pub few_messages_each : (s : Setup) → CanBegin s → greatest s.totals ≤ 4096
 few_messages_each s can = greatest_within s.totals 0 4096 (omega arith) can.few
 
-pub small_room : (s : Setup) (most : ℕ) → CanBegin s → most ≡ greatest s.totals → length s.start + s.shape.banks + most * s.shape.members < 2 ^ 32
+-- the history of a member that can begin, with all messages and a View for each bank, has fewer
+-- than 2 ^ 32 entries
+pub small_room : (s : Setup) (most : ℕ) → CanBegin s → most ≡ greatest s.totals
+    → length s.start + s.shape.banks + most * s.shape.members < 2 ^ 32
 small_room s most can is =
     let few : most ≤ 4096 = omega (arith, is, few_messages_each s can) in
     let product = product_within most s.shape.members few s.shape.most_members in
     omega (arith, product, can.start, can.banks, s.shape.most_members)
 
+-- a member that can begin has at least one member in its view
 pub someone : (s : Setup) → CanBegin s → 0 < length (members_of s.members)
-someone s can = some_member s.members s.me (omega (arith, can.roster s.me can.present, s.shape.most_members)) can.present
+someone s can = some_member s.members s.me
+    (omega (arith, can.roster s.me can.present, s.shape.most_members)) can.present
 
 -- the fields, as they were made
 pub record AreBegun (a : Inside) (s : Setup) (fresh : Words) (top : ℕ) : Type 0 where
@@ -48,32 +53,49 @@ pub record AreBegun (a : Inside) (s : Setup) (fresh : Words) (top : ℕ) : Type 
   pub base : a.base ≡ length (messages_from s.me a.history.entries)
   pub sent : a.sent.items ≡ []
   pub next : a.next ≡ first_spot
-  pub history : a.history ≡ record { roster = s.shape.members; entries = first_entries_of s; room = length s.start + s.shape.banks + top * s.shape.members }
+  pub history : a.history ≡ record {
+    roster = s.shape.members;
+    entries = first_entries_of s;
+    room = length s.start + s.shape.banks + top * s.shape.members;
+  }
   pub logged : a.logged ≡ length a.history.entries
   pub durable : a.durable ≡ length a.history.entries
   pub turns : a.turns ≡ 0
   pub acts : a.acts ≡ 0
   pub end : a.end ≡ None
 
-pub begun_view : (a : Inside) (s : Setup) (first : Words) (most : ℕ) → AreBegun a s first most → view_of a ≡ begun_replica s
+-- the fields as they were made are those of the replica that begins
+pub begun_view : (a : Inside) (s : Setup) (first : Words) (most : ℕ) → AreBegun a s first most
+    → view_of a ≡ begun_replica s
 begun_view a s first most b =
     let entries : a.history.entries ≡ first_entries_of s = ap (λ (h : Kept). h.entries) b.history in
     let room : a.history.room ≡ length s.start + s.shape.banks + greatest s.totals * s.shape.members =
-    ap (λ (h : Kept). h.room) b.history ∙ ap (λ (n : ℕ). length s.start + s.shape.banks + n * s.shape.members) b.most in
-    let items : a.items ≡ none_held s.members s.shape.members (greatest s.totals) = b.items ∙ ap (λ (n : ℕ). none_held s.members s.shape.members n) b.most in
+    ap (λ (h : Kept). h.room) b.history
+    ∙ ap (λ (n : ℕ). length s.start + s.shape.banks + n * s.shape.members) b.most in
+    let items : a.items ≡ none_held s.members s.shape.members (greatest s.totals) = b.items
+    ∙ ap (λ (n : ℕ). none_held s.members s.shape.members n) b.most in
     let count : ℕ = length (first_entries_of s) in
-    let rows : a.rows ≡ with_own (begun s.shape.members (columns_of s.shape.members s.shape.window) s.me) LOGGED_COLUMN count =
+    let rows : a.rows ≡ with_own (begun s.shape.members (columns_of s.shape.members s.shape.window) s.me)
+    LOGGED_COLUMN count =
     b.rows ∙ ap (λ (w : Words). with_own w LOGGED_COLUMN (length a.history.entries)) b.first
-    ∙ ap (λ (es : List Entry). with_own (begun s.shape.members (columns_of s.shape.members s.shape.window) s.me) LOGGED_COLUMN (length es)) entries in
+    ∙ ap (λ (es : List Entry). with_own
+    (begun s.shape.members (columns_of s.shape.members s.shape.window) s.me) LOGGED_COLUMN (length es))
+    entries in
     let base : a.base ≡ length (messages_from s.me s.start) =
-    b.base ∙ ap (λ (es : List Entry). length (messages_from s.me es)) entries ∙ ap length (messages_from-View s.me s.start s.age 0 s.members) in
+    b.base ∙ ap (λ (es : List Entry). length (messages_from s.me es)) entries
+    ∙ ap length (messages_from-View s.me s.start s.age 0 s.members) in
     let logged : a.logged ≡ count = b.logged ∙ ap length entries in
     let durable : a.durable ≡ count = b.durable ∙ ap length entries in
-    let shape = b.shape in let messages = b.messages in let totals = b.totals in let view = b.view in let members = b.members in let sent = b.sent in
-    let next : a.next.place ≡ 0 = ap (λ (n : Spot). n.place) b.next in let turns = b.turns in let acts = b.acts in let end = b.end in
+    let shape = b.shape in let messages = b.messages in let totals = b.totals in let view = b.view in
+    let members = b.members in let sent = b.sent in
+    let next : a.next.place ≡ 0 = ap (λ (n : Spot). n.place) b.next in let turns = b.turns in
+    let acts = b.acts in let end = b.end in
     cc
 
-pub begun_inside : (a : Inside) (s : Setup) (first : Words) (most : ℕ) → CanBegin s → AreBegun a s first most → length a.messages.items ≤ vec_capacity a.sent → a.past.items ≡ [] → 1 ≤ vec_capacity a.past → IsInside a
+-- the fields as they were made are in good order inside
+pub begun_inside : (a : Inside) (s : Setup) (first : Words) (most : ℕ) → CanBegin s
+    → AreBegun a s first most → length a.messages.items ≤ vec_capacity a.sent → a.past.items ≡ []
+    → 1 ≤ vec_capacity a.past → IsInside a
 begun_inside a s first most can b sent past end = record {
   form = subst HasForm (sym (begun_view a s first most b)) (begun_in_form s can);
   members = ap (λ (h : Held). h.members) b.items ∙ sym (ap members_of b.members);

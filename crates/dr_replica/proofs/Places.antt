@@ -7,7 +7,7 @@ use Rattle.dr_entry.specs.declared.entry.Item.{Item}
 use Rattle.dr_entry.specs.declared.entry.Item.TheVariants.{Null}
 use Rattle.dr_history.specs.Members.{members_of}
 use Rattle.dr_words.specs.Masks.{IsInRoster}
-use Rattle.dr_machine.proofs.OpeningForm.{front_of_none}
+use Rattle.dr_program.proofs.OpeningForm.{front_of_none}
 use Rattle.dr_replica.proofs.Members.{few_members, roster_members}
 use Rattle.dr_history.specs.Places.{place_of, is_held, AllHeldBelow, front_of}
 use Rattle.dr_history.proofs.Fronts.{front_is, front_only, front_held}
@@ -28,27 +28,37 @@ below_product p n q some h =
     omega (arith, parts, rest, whole)
 
 -- a place that is held is one of an item that its member has
-pub held_item : (counts members : List ℕ) (p : ℕ) → 0 < length members → is_held (map (slice_index counts) members) p ≡ true
+held_item : (counts members : List ℕ) (p : ℕ) → 0 < length members
+    → is_held (map (slice_index counts) members) p ≡ true
     → p / length members < get_or counts (get_or members (p % length members) 0) 0
 held_item counts members p some held =
     let long = length-map members (slice_index counts) in
-    let there : p / length (map (slice_index counts) members) < get_or (map (slice_index counts) members) (p % length (map (slice_index counts) members)) 0 = ltb-true _ _ held in
+    let there : p / length (map (slice_index counts) members)
+    < get_or (map (slice_index counts) members) (p % length (map (slice_index counts) members)) 0 =
+    ltb-true _ _ held in
     let at : p / length members < get_or (map (slice_index counts) members) (p % length members) 0 =
     subst (λ (n : ℕ). p / n < get_or (map (slice_index counts) members) (p % n) 0) long there in
-    let which = get_or-map (slice_index counts) members (p % length members) 0 0 (mod_below p (length members) some) in
+    let which = get_or-map (slice_index counts) members (p % length members) 0 0
+    (mod_below p (length members) some) in
     omega (arith, at, which)
 
-pub held_read : (counts members : List ℕ) (s : Spot) (m c : ℕ) → IsSpot (length members) s → m ≡ get_or members s.rank 0 → c ≡ get_or counts m 0
+-- the item at a spot is held exactly where its number is below its member's count
+pub held_read : (counts members : List ℕ) (s : Spot) (m c : ℕ) → IsSpot (length members) s → m
+    ≡ get_or members s.rank 0 → c ≡ get_or counts m 0
     → nat_lt s.number c ≡ is_held (map (slice_index counts) members) s.place
 held_read counts members s m c is at count =
     let number = spot_number (length members) s is in
     let rank = spot_rank (length members) s is in
     let which = get_or-map (slice_index counts) members s.rank 0 0 is.rank in
-    let test : nat_lt s.number c ≡ nat_lt (s.place / length members) (get_or (map (slice_index counts) members) (s.place % length members) 0) = cc in
-    subst (λ (n : ℕ). nat_lt s.number c ≡ nat_lt (s.place / n) (get_or (map (slice_index counts) members) (s.place % n) 0)) (sym (length-map members (slice_index counts))) test
+    let test : nat_lt s.number c ≡ nat_lt (s.place / length members)
+    (get_or (map (slice_index counts) members) (s.place % length members) 0) = cc in
+    subst (λ (n : ℕ). nat_lt s.number c
+    ≡ nat_lt (s.place / n) (get_or (map (slice_index counts) members) (s.place % n) 0))
+    (sym (length-map members (slice_index counts))) test
 
 -- so it isn't beyond all items
-pub held_small : (counts members : List ℕ) (p : ℕ) → 0 < length members → ((i : ℕ) → get_or counts i 0 < 2 ^ 32)
+pub held_small : (counts members : List ℕ) (p : ℕ) → 0 < length members
+    → ((i : ℕ) → get_or counts i 0 < 2 ^ 32)
     → is_held (map (slice_index counts) members) p ≡ true → p < length members * 2 ^ 32
 held_small counts members p some small held =
     let item = held_item counts members p some held in
@@ -56,44 +66,63 @@ held_small counts members p some small held =
     below_product p (length members) (2 ^ 32) some (omega (arith, item, fits))
 
 -- the first place that isn't held is the front
-pub front_reached : (counts : List ℕ) (p : ℕ) → 0 < length counts → AllHeldBelow counts p → is_held counts p ≡ false → p ≡ front_of counts
-front_reached counts p some all gap = front_only counts p some (IsFront-least counts p some (λ q below. is_held-below counts p q some all below) gap)
+pub front_reached : (counts : List ℕ) (p : ℕ) → 0 < length counts → AllHeldBelow counts p
+    → is_held counts p ≡ false → p ≡ front_of counts
+front_reached counts p some all gap =
+    front_only counts p some (IsFront-least counts p some
+    (λ q below. is_held-below counts p q some all below) gap)
 
 -- an item before the front has its place
-pub item_within : (h : Held) (p : ℕ) → IsHeld h → p < front h → p / length h.members * h.roster + sender_at h p < length h.items
+item_within : (h : Held) (p : ℕ) → IsHeld h → p < front h
+    → p / length h.members * h.roster + sender_at h p < length h.items
 item_within h p is before =
     let n : ℕ = length h.members in
-    let some : 0 < length (counts_of h) = omega (arith, length-map h.members (slice_index h.counts), is.some) in
+    let some : 0 < length (counts_of h) =
+    omega (arith, length-map h.members (slice_index h.counts), is.some) in
     let item = held_item h.counts h.members p is.some (front_held (counts_of h) p before) in
     let most = is.bounded (sender_at h p) in
     let sender = is.members (p % n) (mod_below p n is.some) in
     let place = mul-add-lt (p / n) h.roster (sender_at h p) h.most (omega (arith, item, most)) sender in
     omega (arith, place, is.items)
 
-pub few_items : (h : Held) → IsHeld h → length h.items ≤ 65536
-few_items h is = let product = mul-le h.most h.roster 4096 16 is.most is.roster in omega (arith, product, is.items)
+few_items : (h : Held) → IsHeld h → length h.items ≤ 65536
+few_items h is = let product = mul-le h.most h.roster 4096 16 is.most is.roster in
+    omega (arith, product, is.items)
 
 -- the item that was read there is the one of the place
-pub item_number : (a : Inside) (now : Held) (s : Spot) → held_of a ≡ now → IsSpot (length now.members) s → s.number ≡ s.place / length a.members.items
-item_number a now s same is = subst (λ (h : Held). s.number ≡ s.place / length h.members) (sym same) (spot_number (length now.members) s is)
+pub item_number : (a : Inside) (now : Held) (s : Spot) → held_of a ≡ now
+    → IsSpot (length now.members) s → s.number ≡ s.place / length a.members.items
+item_number a now s same is =
+    subst (λ (h : Held). s.number ≡ s.place / length h.members) (sym same)
+    (spot_number (length now.members) s is)
 
-pub item_place : (a : Inside) (now : Held) (p k r s : ℕ) → held_of a ≡ now → AreItems a → p < front now → k ≡ p / length a.members.items → r ≡ a.roster → s ≡ sender_at now p
+-- an item below the front has a place in the list
+pub item_place : (a : Inside) (now : Held) (p k r s : ℕ) → held_of a ≡ now → AreItems a → p
+    < front now → k ≡ p / length a.members.items → r ≡ a.roster → s ≡ sender_at now p
     → (k * r + s < length a.items.items) × (length a.items.items ≤ 65536)
 item_place a now p k r s same are before number roster sender =
-    let there = item_within (held_of a) p are.form (subst (λ (h : Held). p < front h) (sym same) before) in
-    (rw (number, roster, sender ∙ ap (λ (h : Held). sender_at h p) (sym same)) there, few_items (held_of a) are.form)
+    let there = item_within (held_of a) p are.form (subst (λ (h : Held). p < front h) (sym same) before) in (
+      rw (number, roster, sender ∙ ap (λ (h : Held). sender_at h p) (sym same)) there,
+      few_items (held_of a) are.form,
+    )
 
-pub item_read : (a : Inside) (now : Held) (p k r s : ℕ) (x : Item) → held_of a ≡ now → AreItems a → p < front now → k ≡ p / length a.members.items → r ≡ a.roster → s ≡ sender_at now p
+-- the item read at its place in the list is the one at that place
+pub item_read : (a : Inside) (now : Held) (p k r s : ℕ) (x : Item) → held_of a ≡ now → AreItems a
+    → p < front now → k ≡ p / length a.members.items → r ≡ a.roster → s ≡ sender_at now p
     → x ≡ slice_index_or a.items.items (k * r + s) x → x ≡ item_at now p
 item_read a now p k r s x same are before number roster sender read =
     let there = item_place a now p k r s same are before number roster sender in
-    let here : x ≡ slice_index_or a.items.items (k * r + s) Null = get_or_read a.items.items (k * r + s) x there.0 read Null in
-    here ∙ ap (λ (i : ℕ). slice_index_or a.items.items i Null) (ap (λ (m : ℕ). m * r + s) number ∙ ap (λ (m : ℕ). p / length a.members.items * m + s) roster
-    ∙ ap (λ (m : ℕ). p / length a.members.items * a.roster + m) (sender ∙ ap (λ (h : Held). sender_at h p) (sym same)))
+    let here : x ≡ slice_index_or a.items.items (k * r + s) Null =
+    get_or_read a.items.items (k * r + s) x there.0 read Null in
+    here ∙ ap (λ (i : ℕ). slice_index_or a.items.items i Null)
+    (ap (λ (m : ℕ). m * r + s) number ∙ ap (λ (m : ℕ). p / length a.members.items * m + s) roster
+    ∙ ap (λ (m : ℕ). p / length a.members.items * a.roster + m)
+    (sender ∙ ap (λ (h : Held). sender_at h p) (sym same)))
     ∙ ap (λ (h : Held). item_at h p) same
 
 -- the counts stay above the old front, and an item more has its place
-pub taken_held : (h : Held) (s : ℕ) (item : Item) → IsHeld h → s < h.roster → get_or h.counts s 0 < h.most → IsHeld (taken h s item)
+taken_held : (h : Held) (s : ℕ) (item : Item) → IsHeld h → s < h.roster → get_or h.counts s 0
+    < h.most → IsHeld (taken h s item)
 taken_held h s item is sender room = record {
   roster = is.roster;
   some = is.some;
@@ -101,14 +130,18 @@ taken_held h s item is sender room = record {
   members = is.members;
   most = is.most;
   counts = length-set h.counts s (get_or h.counts s 0 + 1) ∙ is.counts;
-  bounded = counts_bounded h.counts s (get_or h.counts s 0 + 1) h.most (omega (arith, is.counts)) (omega (arith, room)) is.bounded;
+  bounded = counts_bounded h.counts s (get_or h.counts s 0 + 1) h.most (omega (arith, is.counts))
+      (omega (arith, room)) is.bounded;
   items = length-set h.items (get_or h.counts s 0 * h.roster + s) item ∙ is.items;
 }
 
-pub place_within : (h : Held) (s : ℕ) → IsHeld h → s < h.roster → get_or h.counts s 0 < h.most → get_or h.counts s 0 * h.roster + s < length h.items
-place_within h s is sender room = let place = mul-add-lt (get_or h.counts s 0) h.roster s h.most room sender in omega (arith, place, is.items)
+place_within : (h : Held) (s : ℕ) → IsHeld h → s < h.roster → get_or h.counts s 0 < h.most
+    → get_or h.counts s 0 * h.roster + s < length h.items
+place_within h s is sender room = let place =
+    mul-add-lt (get_or h.counts s 0) h.roster s h.most room sender in omega (arith, place, is.items)
 
-pub still_held : (h : Held) (s : ℕ) → IsHeld h → s < h.roster → AllHeldBelow (map (slice_index (set h.counts s (get_or h.counts s 0 + 1))) h.members) (front h)
+still_held : (h : Held) (s : ℕ) → IsHeld h → s < h.roster
+    → AllHeldBelow (map (slice_index (set h.counts s (get_or h.counts s 0 + 1))) h.members) (front h)
 still_held h s is sender =
     let counts : List ℕ = set h.counts s (get_or h.counts s 0 + 1) in
     let old = length-map h.members (slice_index h.counts) in
@@ -116,20 +149,25 @@ still_held h s is sender =
     let held = (front_is (counts_of h) (omega (arith, old, is.some))).held in
     λ rank k within below.
     let lt : rank < length h.members = omega (arith, within, new) in
-    let place : place_of (length (counts_of h)) rank k < front h = subst (λ (n : ℕ). place_of n rank k < front h) (new ∙ sym old) below in
+    let place : place_of (length (counts_of h)) rank k
+    < front h = subst (λ (n : ℕ). place_of n rank k < front h) (new ∙ sym old) below in
     let before = held rank k (omega (arith, lt, old)) place in
     omega (
       arith,
       before,
       get_or-map (slice_index h.counts) h.members rank 0 0 lt,
       get_or-map (slice_index counts) h.members rank 0 0 lt,
-      counts_rise h.counts s (get_or h.counts s 0 + 1) (get_or h.members rank 0) (omega (arith, sender, is.counts)) (omega arith),
+      counts_rise h.counts s (get_or h.counts s 0 + 1) (get_or h.members rank 0)
+          (omega (arith, sender, is.counts)) (omega arith),
     )
 
 -- ---- the fields of the items
 
-pub begun_items : (a : Inside) (view : ℕ) → a.members.items ≡ members_of view → a.counts.items ≡ replicate a.roster 0 → a.items.items ≡ replicate (a.most * a.roster) Null
-    → a.front ≡ first_spot → a.roster ≤ 16 → IsInRoster a.roster view → 0 < length (members_of view) → a.most ≤ 4096 → AreItems a
+-- no items held yet are items in good order inside
+pub begun_items : (a : Inside) (view : ℕ) → a.members.items ≡ members_of view → a.counts.items
+    ≡ replicate a.roster 0 → a.items.items ≡ replicate (a.most * a.roster) Null
+    → a.front ≡ first_spot → a.roster ≤ 16 → IsInRoster a.roster view → 0
+    < length (members_of view) → a.most ≤ 4096 → AreItems a
 begun_items a view members counts items zero few roster some most = record {
   form = record {
     roster = few;
@@ -148,14 +186,23 @@ begun_items a view members counts items zero few roster some most = record {
     none : (n i : ℕ) → get_or (replicate n 0) i 0 ≤ 0
     none n i = elim (cases_lt i n) [
       | inl within ↦ omega (arith, get_or-replicate {A = ℕ} n i 0 0 within)
-      | inr past ↦ omega (arith, get_or_past (replicate {A = ℕ} n 0) i 0 (omega (arith, length-replicate {A = ℕ} n 0)))
+      | inr past ↦ omega (
+        arith,
+        get_or_past (replicate {A = ℕ} n 0) i 0 (omega (arith, length-replicate {A = ℕ} n 0)),
+      )
     ]
 
 -- the new counts are above the old front
-pub taken_above : (a : Inside) (now : Held) (members counts : List ℕ) (s e f x : ℕ) → held_of a ≡ now → AreItems a → s < now.roster → e ≡ s → f ≡ s
-    → x ≡ slice_index_or a.counts.items e x → members ≡ a.members.items → counts ≡ set a.counts.items f (x + 1) → AllHeldBelow (map (slice_index counts) members) a.front.place
+pub taken_above : (a : Inside) (now : Held) (members counts : List ℕ) (s e f x : ℕ) → held_of a
+    ≡ now → AreItems a → s < now.roster → e ≡ s → f ≡ s
+    → x ≡ slice_index_or a.counts.items e x → members ≡ a.members.items → counts
+    ≡ set a.counts.items f (x + 1) → AllHeldBelow (map (slice_index counts) members) a.front.place
 taken_above a now members counts s e f x same are within from at read who new =
     let mine : s < a.roster = subst (λ (h : Held). s < h.roster) (sym same) within in
-    let here : x ≡ get_or a.counts.items s 0 = subst (λ (i : ℕ). x ≡ slice_index_or a.counts.items i x → x ≡ get_or a.counts.items s 0) (sym from) (λ r. get_or_read a.counts.items s x (omega (arith, mine, are.form.counts)) r 0) read in
-    let counts_are : counts ≡ set a.counts.items s (get_or a.counts.items s 0 + 1) = new ∙ ap (λ (i : ℕ). set a.counts.items i (x + 1)) at ∙ ap (λ (n : ℕ). set a.counts.items s (n + 1)) here in
+    let here : x ≡ get_or a.counts.items s 0 =
+    subst (λ (i : ℕ). x ≡ slice_index_or a.counts.items i x → x ≡ get_or a.counts.items s 0)
+    (sym from) (λ r. get_or_read a.counts.items s x (omega (arith, mine, are.form.counts)) r 0) read in
+    let counts_are : counts ≡ set a.counts.items s (get_or a.counts.items s 0 + 1) = new
+    ∙ ap (λ (i : ℕ). set a.counts.items i (x + 1)) at
+    ∙ ap (λ (n : ℕ). set a.counts.items s (n + 1)) here in
     rw (counts_are, who, are.front) (still_held (held_of a) s are.form mine)

@@ -4,22 +4,29 @@ use Rattle.dr_history.proofs.PlaceLemmas.{place_of-div, place_of-mod}
 use Rattle.dr_replica.specs.declared.spot.Spot.{Spot}
 use Rattle.dr_replica.specs.Spots.{IsSpot, first_spot}
 
+-- the first spot is a spot of any members
 pub first_is_spot : (ranks : ℕ) → 0 < ranks → IsSpot ranks first_spot
 first_is_spot ranks some = record { rank = some; place = omega arith }
 
 -- the next place
-pub next_is_spot : (ranks : ℕ) (s : Spot) → IsSpot ranks s → s.rank + 1 < ranks → IsSpot ranks (record { place = s.place + 1; rank = s.rank + 1; number = s.number })
+next_is_spot : (ranks : ℕ) (s : Spot) → IsSpot ranks s → s.rank + 1 < ranks
+    → IsSpot ranks (record { place = s.place + 1; rank = s.rank + 1; number = s.number })
 next_is_spot ranks s is more = record { rank = more; place = omega (arith, is.place) }
 
-pub round_is_spot : (ranks : ℕ) (s : Spot) → IsSpot ranks s → s.rank + 1 ≡ ranks → IsSpot ranks (record { place = s.place + 1; rank = 0; number = s.number + 1 })
-round_is_spot ranks s is last = record { rank = omega (arith, last); place = omega (arith, is.place, last, one_more s.number ranks) }
+round_is_spot : (ranks : ℕ) (s : Spot) → IsSpot ranks s → s.rank + 1 ≡ ranks
+    → IsSpot ranks (record { place = s.place + 1; rank = 0; number = s.number + 1 })
+round_is_spot ranks s is last =
+    record { rank = omega (arith, last); place = omega (arith, is.place, last, one_more s.number ranks) }
   where
     one_more : (k n : ℕ) → (k + 1) * n ≡ k * n + n
     one_more k n = omega arith
 
 -- the rank and the number of the place
 pub spot_rank : (ranks : ℕ) (s : Spot) → IsSpot ranks s → s.rank ≡ s.place % ranks
-spot_rank ranks s is = sym (ap (λ (p : ℕ). p % ranks) is.place ∙ place_of-mod ranks s.rank s.number is.rank)
+spot_rank ranks s is = sym (ap (λ (p : ℕ). p % ranks) is.place
+    ∙ place_of-mod ranks s.rank s.number is.rank)
 
+-- the number of a spot is its place divided by the ranks
 pub spot_number : (ranks : ℕ) (s : Spot) → IsSpot ranks s → s.number ≡ s.place / ranks
-spot_number ranks s is = sym (ap (λ (p : ℕ). p / ranks) is.place ∙ place_of-div ranks s.rank s.number is.rank)
+spot_number ranks s is = sym (ap (λ (p : ℕ). p / ranks) is.place
+    ∙ place_of-div ranks s.rank s.number is.rank)

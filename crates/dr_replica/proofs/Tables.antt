@@ -15,7 +15,8 @@ use Rattle.dr_words.proofs.Order.{HasGrown_refl}
 -- ---- words in form, and words that have grown
 
 -- a word of the beat, the received and the logged column is in form whatever it is
-pub free_in_form : (members column word : ℕ) → column < 5 → column ≢ SUSPECTED_COLUMN → column ≢ DONE_COLUMN → IsInForm members column word
+pub free_in_form : (members column word : ℕ) → column < 5 → column ≢ SUSPECTED_COLUMN
+    → column ≢ DONE_COLUMN → IsInForm members column word
 free_in_form members column word low other another = record {
   suspected = λ e. absurd (other e);
   done = λ e. absurd (another e);
@@ -30,6 +31,7 @@ free_in_form members column word low other another = record {
     apart (inl e) = absurd (omega arith)
     apart (inr t) = absurd (omega (arith, t.2))
 
+-- 0 and 1 are in the form of the done word
 pub done_in_form : (members word : ℕ) → word ≤ 1 → IsInForm members DONE_COLUMN word
 done_in_form members word small = record {
   suspected = λ e. absurd (omega arith);
@@ -45,7 +47,9 @@ done_in_form members word small = record {
     apart (inl e) = absurd (omega arith)
     apart (inr t) = absurd (omega (arith, t.2))
 
-pub recv_in_form : (members sender word : ℕ) → sender < members → word < 2 ^ 33 → IsInForm members (recv_column sender) word
+-- a number below 2 ^ 33 is in the form of a receive word
+pub recv_in_form : (members sender word : ℕ) → sender < members → word < 2 ^ 33
+    → IsInForm members (recv_column sender) word
 recv_in_form members sender word within small = record {
   suspected = λ e. absurd (omega arith);
   done = λ e. absurd (omega arith);
@@ -60,14 +64,18 @@ recv_in_form members sender word within small = record {
     apart (inl e) = absurd (omega arith)
     apart (inr t) = absurd (omega (arith, t.2))
 
-pub free_grown : (members column old new : ℕ) → column < 5 → column ≢ SUSPECTED_COLUMN → old ≤ new → HasGrown members column old new
+-- of the five first columns, a number that doesn't fall has grown save the suspects
+pub free_grown : (members column old new : ℕ) → column < 5 → column ≢ SUSPECTED_COLUMN → old
+    ≤ new → HasGrown members column old new
 free_grown members column old new low other le = record {
   number = le;
   suspected = λ e. absurd (other e);
   final = λ s lt e f. absurd (omega arith);
 }
 
-pub recv_grown : (members sender old new : ℕ) → old ≤ new → HasGrown members (recv_column sender) (recv_word old false) (recv_word new false)
+-- a receive word has grown where its count doesn't fall
+pub recv_grown : (members sender old new : ℕ) → old ≤ new
+    → HasGrown members (recv_column sender) (recv_word old false) (recv_word new false)
 recv_grown members sender old new le = record {
   number = omega arith;
   suspected = λ e. absurd (omega arith);
@@ -77,8 +85,10 @@ recv_grown members sender old new le = record {
 -- ---- a write
 
 -- a word is as before the write, or is the one that was written to its column
-pub written_either : (n k : ℕ) (rows : List (List ℕ)) (i c v j d : ℕ) → IsGrid n k rows → i < n → c < k
-    → (word_at (with_word rows i c v) j d ≡ word_at rows j d) ⊎ ((j ≡ i) × (d ≡ c) × (word_at (with_word rows i c v) j d ≡ v))
+written_either : (n k : ℕ) (rows : List (List ℕ)) (i c v j d : ℕ) → IsGrid n k rows → i < n
+    → c < k
+    → (word_at (with_word rows i c v) j d ≡ word_at rows j d)
+    ⊎ ((j ≡ i) × (d ≡ c) × (word_at (with_word rows i c v) j d ≡ v))
 written_either n k rows i c v j d grid h g =
     elim (cases_eq d c) [
       | inr apart ↦ inl (with_word-column rows i c v j d apart)
@@ -88,22 +98,28 @@ written_either n k rows i c v j d grid h g =
       ]
     ]
 
-pub written_in_form : (n k m : ℕ) (rows : List (List ℕ)) (i c v : ℕ) → IsGrid n k rows → i < n → c < k → AllInForm m rows → IsInForm m c v → AllInForm m (with_word rows i c v)
+written_in_form : (n k m : ℕ) (rows : List (List ℕ)) (i c v : ℕ) → IsGrid n k rows → i < n
+    → c < k → AllInForm m rows → IsInForm m c v → AllInForm m (with_word rows i c v)
 written_in_form n k m rows i c v grid h g form is j d =
     elim (written_either n k rows i c v j d grid h g) [
       | inl kept ↦ subst (λ (x : ℕ). IsInForm m d x) (sym kept) (form j d)
-      | inr (_, column, new) ↦ subst (λ (x : ℕ). IsInForm m d x) (sym new) (subst (λ (e : ℕ). IsInForm m e v) (sym column) is)
+      | inr (_, column, new) ↦ subst (λ (x : ℕ). IsInForm m d x) (sym new)
+          (subst (λ (e : ℕ). IsInForm m e v) (sym column) is)
     ]
 
-pub written_grown : (n k m : ℕ) (rows : List (List ℕ)) (frozen : List Bool) (i c v : ℕ) → IsGrid n k rows → i < n → c < k
-    → get_or frozen i false ≡ false → HasGrown m c (word_at rows i c) v → Grown m rows (with_word rows i c v) frozen frozen
+written_grown : (n k m : ℕ) (rows : List (List ℕ)) (frozen : List Bool) (i c v : ℕ)
+    → IsGrid n k rows → i < n → c < k
+    → get_or frozen i false ≡ false → HasGrown m c (word_at rows i c) v
+    → Grown m rows (with_word rows i c v) frozen frozen
 written_grown n k m rows frozen i c v grid h g alive grown = record {
   words = λ j d. elim (written_either n k rows i c v j d grid h g) [
-    | inl kept ↦ subst (λ (x : ℕ). HasGrown m d (word_at rows j d) x) (sym kept) (HasGrown_refl m d (word_at rows j d))
+    | inl kept ↦ subst (λ (x : ℕ). HasGrown m d (word_at rows j d) x) (sym kept)
+        (HasGrown_refl m d (word_at rows j d))
     | inr (row, column, new) ↦ rw (new, row, column) grown
   ];
   frozen = λ row f. f;
-  still = λ row f. with_word-row rows i c v row (λ e. absurd (cc (ap (λ (x : ℕ). get_or frozen x false) e, f, alive)));
+  still = λ row f. with_word-row rows i c v row
+      (λ e. absurd (cc (ap (λ (x : ℕ). get_or frozen x false) e, f, alive)));
 }
 
 -- ---- the rows of a member
@@ -116,34 +132,51 @@ pub record IsTable (n window : ℕ) (w : Words) : Type 0 where
   pub words : AllInForm w.members w.words
   pub unfrozen : (i : ℕ) → is_frozen w i ≡ false
 
-pub table_looked : (n window : ℕ) (w : Words) (i c v : ℕ) → IsTable n window w → i < n → c < columns_of n window → IsInForm n c v → IsTable n window (looked w i c v)
+-- the rows remain a table when a word in form is taken over by a look
+pub table_looked : (n window : ℕ) (w : Words) (i c v : ℕ) → IsTable n window w → i < n → c
+    < columns_of n window → IsInForm n c v → IsTable n window (looked w i c v)
 table_looked n window w i c v t row column is =
     let within : i < w.members = omega (arith, t.members) in
     record {
       rows = IsWords-looked w i c v t.rows within;
       members = t.members;
       columns = t.columns;
-      words = written_in_form w.members w.columns w.members w.words i c v t.rows.rows within (omega (arith, t.columns)) t.words (subst (λ (m : ℕ). IsInForm m c v) (sym t.members) is);
+      words = written_in_form w.members w.columns w.members w.words i c v t.rows.rows within
+          (omega (arith, t.columns)) t.words (subst (λ (m : ℕ). IsInForm m c v) (sym t.members) is);
       unfrozen = t.unfrozen;
     }
 
-pub table_set : (n window : ℕ) (w : Words) (c v : ℕ) → IsTable n window w → c < columns_of n window → IsInForm n c v → IsTable n window (with_own w c v)
-table_set n window w c v t column is = table_looked n window w w.me c v t (omega (arith, t.rows.present, t.members)) column is
+-- the rows remain a table when an own word in form is set
+pub table_set : (n window : ℕ) (w : Words) (c v : ℕ) → IsTable n window w → c < columns_of n window
+    → IsInForm n c v → IsTable n window (with_own w c v)
+table_set n window w c v t column is =
+    table_looked n window w w.me c v t (omega (arith, t.rows.present, t.members)) column is
 
 -- the own words after a write
-pub own_written : (n window : ℕ) (w : Words) (c v : ℕ) → IsTable n window w → c < columns_of n window → own (with_own w c v) c ≡ v
-own_written n window w c v t column = with_word-same w.members w.columns w.words w.me c v t.rows.rows t.rows.present (omega (arith, t.columns))
+pub own_written : (n window : ℕ) (w : Words) (c v : ℕ) → IsTable n window w → c
+    < columns_of n window → own (with_own w c v) c ≡ v
+own_written n window w c v t column =
+    with_word-same w.members w.columns w.words w.me c v t.rows.rows t.rows.present (omega (arith, t.columns))
 
+-- setting an own word leaves the others
 pub own_left : (w : Words) (c v d : ℕ) → d ≢ c → own (with_own w c v) d ≡ own w d
 own_left w c v d apart = with_word-column w.words w.me c v w.me d apart
 
+-- a look at another row leaves the own words
 pub own_seen : (w : Words) (i c v d : ℕ) → i ≢ w.me → own (looked w i c v) d ≡ own w d
-own_seen w i c v d other = ap (λ (row : List ℕ). get_or row d 0) (with_word-row w.words i c v w.me (λ e. other (sym e)))
+own_seen w i c v d other = ap (λ (row : List ℕ). get_or row d 0)
+    (with_word-row w.words i c v w.me (λ e. other (sym e)))
 
 -- they grow where the word does
-pub looked_grown : (n window : ℕ) (w : Words) (i c v : ℕ) → IsTable n window w → i < n → c < columns_of n window → HasGrown n c (seen w i c) v → Grown n w.words (looked w i c v).words w.frozen w.frozen
+pub looked_grown : (n window : ℕ) (w : Words) (i c v : ℕ) → IsTable n window w → i < n → c
+    < columns_of n window → HasGrown n c (seen w i c) v
+    → Grown n w.words (looked w i c v).words w.frozen w.frozen
 looked_grown n window w i c v t row column grown =
-    written_grown w.members w.columns n w.words w.frozen i c v t.rows.rows (omega (arith, t.members)) (omega (arith, t.columns)) (t.unfrozen i) grown
+    written_grown w.members w.columns n w.words w.frozen i c v t.rows.rows (omega (arith, t.members))
+    (omega (arith, t.columns)) (t.unfrozen i) grown
 
-pub set_grown : (n window : ℕ) (w : Words) (c v : ℕ) → IsTable n window w → c < columns_of n window → HasGrown n c (own w c) v → Grown n w.words (with_own w c v).words w.frozen w.frozen
-set_grown n window w c v t column grown = looked_grown n window w w.me c v t (omega (arith, t.rows.present, t.members)) column grown
+-- no word falls where an own word grows
+pub set_grown : (n window : ℕ) (w : Words) (c v : ℕ) → IsTable n window w → c < columns_of n window
+    → HasGrown n c (own w c) v → Grown n w.words (with_own w c v).words w.frozen w.frozen
+set_grown n window w c v t column grown =
+    looked_grown n window w w.me c v t (omega (arith, t.rows.present, t.members)) column grown

@@ -2,8 +2,8 @@
 use Rattle.std.specs.Prelude.{◌≡◌, ℕ, ◌<◌, ◌≤◌, [], length, slice_index, vec_capacity}
 use Rattle.dr_history.specs.Order.{messages_from}
 use Rattle.dr_history.specs.Members.{members_of}
-use Rattle.dr_machine.specs.Replica.{Replica, greatest}
-use Rattle.dr_machine.specs.Form.{HasForm}
+use Rattle.dr_program.specs.Replica.{Replica, greatest}
+use Rattle.dr_program.specs.Form.{HasForm}
 use Rattle.dr_replica.specs.Items.{Held, IsHeld, front}
 use Rattle.dr_replica.specs.Spots.{IsSpot}
 use Rattle.dr_replica.specs.History.{Kept, IsKept}
@@ -12,7 +12,13 @@ use Rattle.dr_replica.specs.declared.history.History.TheInside as history
 use Rattle.dr_replica.specs.declared.replica.Replica.TheInside as replica
 
 abbrev pub held_of : items.Inside → Held
-held_of a = record { members = a.members.items; roster = a.roster; most = a.most; counts = a.counts.items; items = a.items.items }
+held_of a = record {
+  members = a.members.items;
+  roster = a.roster;
+  most = a.most;
+  counts = a.counts.items;
+  items = a.items.items;
+}
 
 -- the front is kept beside the counts
 pub record AreItems (a : items.Inside) : Type 0 where
@@ -27,7 +33,8 @@ kept_of a = record { roster = length a.messages.items; entries = a.entries.items
 pub record IsHistory (a : history.Inside) : Type 0 where
   pub form : IsKept (kept_of a)
   pub room : a.room ≤ vec_capacity a.entries
-  pub messages : (s : ℕ) → s < length a.messages.items → slice_index a.messages.items s ≡ length (messages_from s a.entries.items)
+  pub messages : (s : ℕ) → s < length a.messages.items → slice_index a.messages.items s
+      ≡ length (messages_from s a.entries.items)
 
 abbrev pub view_of : replica.Inside → Replica
 view_of a = record {

@@ -5,7 +5,8 @@ use Rattle.dr_entry.specs.declared.entry.Item.TheVariants.{Null}
 use Rattle.dr_history.specs.Members.{members_of}
 use Rattle.dr_history.specs.Places.{front_of}
 
--- the view's members, ascending; the number of members of the roster; the greatest number of items of a member; by member
+-- the view's members, ascending; the number of members of the roster; the greatest number of items of a
+-- member; by member
 -- how many items it has of it; and the items, of which item k of member s stands at k times the roster plus s
 pub record Held : Type 0 where
   pub members : List ℕ

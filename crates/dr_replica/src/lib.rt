@@ -11,6 +11,3 @@ mod replica;
 mod spot;
 
 pub use replica::Replica;
-
-#[cfg(test)]
-mod tests;

@@ -39,7 +39,7 @@ pub struct Replica {
 }
 
 impl Model for Replica {
-    ghost use Rattle.dr_machine.specs.Replica as machine;
+    ghost use Rattle.dr_program.specs.Replica as machine;
 
     ghost Value = { machine.Replica };
 

@@ -14,7 +14,8 @@ default_past : {A : Type 0} (xs : List A) (i : ℕ) (d : A) → length xs ≤ i 
 default_past xs i d l = sym (unwrap_or-slice_get xs i d) ∙ ap (λ o. unwrap_or o d) (slice_get_past xs i l)
 
 -- each list is short, where all are, and there is none behind them
-few_at : (lists : List (List (List ℕ))) (s n : ℕ) → All (λ list. length list ≤ n) lists → length (get_or lists s []) ≤ n
+few_at : (lists : List (List (List ℕ))) (s n : ℕ) → All (λ list. length list ≤ n) lists
+    → length (get_or lists s []) ≤ n
 few_at lists s n few = by (cases_lt s (length lists))
   where
     by : (s < length lists) ⊎ (length lists ≤ s) → length (get_or lists s []) ≤ n
@@ -22,13 +23,17 @@ few_at lists s n few = by (cases_lt s (length lists))
     by (inr l) = rw (default_past lists s [] l) (omega arith)
 
 -- what holds of all messages holds of each
-each_at : (P : List ℕ → Type 0) (lists : List (List (List ℕ))) (s i : ℕ) (bytes : List ℕ) → All (All P) lists
+each_at : (P : List ℕ → Type 0) (lists : List (List (List ℕ))) (s i : ℕ) (bytes : List ℕ)
+    → All (All P) lists
     → slice_get (get_or lists s []) i ≡ Some bytes → P bytes
 each_at P lists s i bytes all e = by (cases_lt s (length lists))
   where
     by : (s < length lists) ⊎ (length lists ≤ s) → P bytes
-    by (inl l) = subst P (get_or_from_slice_get (get_or lists s []) i bytes [] e) (all s [] l i [] (slice_get_within (get_or lists s []) i bytes e))
-    by (inr l) = let none : slice_get {X = List ℕ} [] i ≡ Some bytes = subst (λ xs. slice_get xs i ≡ Some bytes) (default_past lists s [] l) e in absurd (omega (arith, slice_get_within {A = List ℕ} [] i bytes none))
+    by (inl l) = subst P (get_or_from_slice_get (get_or lists s []) i bytes [] e)
+        (all s [] l i [] (slice_get_within (get_or lists s []) i bytes e))
+    by (inr l) = let none : slice_get {X = List ℕ} [] i
+        ≡ Some bytes = subst (λ xs. slice_get xs i ≡ Some bytes) (default_past lists s [] l) e in
+        absurd (omega (arith, slice_get_within {A = List ℕ} [] i bytes none))
 
 -- each byte is one
 byte_at : (bytes : List ℕ) (k : ℕ) → All (λ byte. byte < 256) bytes → slice_index bytes k < 256
@@ -52,11 +57,13 @@ first_group script ranges = record {
   most_slots = ranges.most_slots;
   messages = λ s. few_at script.messages s 4096 ranges.few;
   short = λ s i bytes e. each_at (λ b. length b ≤ 64) script.messages s i bytes ranges.short e;
-  bytes = λ s i bytes e k. byte_at bytes k (each_at (All (λ byte. byte < 256)) script.messages s i bytes ranges.bytes e);
-  start = omega arith;
+  bytes = λ s i bytes e k. byte_at bytes k
+      (each_at (All (λ byte. byte < 256)) script.messages s i bytes ranges.bytes e);
+  age = omega arith;
   sound = record {
     entries = λ i e there. absurd (omega (arith, slice_get_within [] i e there));
     later = λ v is. absurd (no_view v is);
     whole = ap (λ (n : ℕ). 2 ^ n - 1) (sym ranges.lists);
+    present = ap (λ (n : ℕ). 2 ^ n - 1) (sym ranges.lists);
   };
 }

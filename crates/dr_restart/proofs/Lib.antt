@@ -1,4 +1,4 @@
-mod Crashes
+mod Faults
 mod Groups
 pub mod Setups
 mod Totals

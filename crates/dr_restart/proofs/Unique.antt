@@ -4,19 +4,38 @@ use Rattle.std.specs.Prelude.{Some, slice_get}
 use Rattle.std.specs.Coded.{le_prop}
 use Rattle.dr_words.specs.declared.shape.Shape.{Shape}
 use Rattle.dr_script.specs.declared.script.Script.{Script}
-use Rattle.dr_machine.specs.declared.setup.Setup.{Setup}
+use Rattle.dr_program.specs.declared.setup.Setup.{Setup}
 use Rattle.dr_machine.specs.Group.{Group}
-use Rattle.dr_machine.proofs.Opening.{setup_is, setup_of}
+use Rattle.dr_program.proofs.Opening.{setup_is, setup_of}
 use Rattle.dr_restart.specs.declared.start.Start.{Start}
 use Rattle.dr_restart.specs.Groups.{group_of}
 use Rattle.dr_restart.specs.Setups.{AreSetupsOf, IsSetupOf}
 
 -- two shapes with the same numbers
-same_shape : (a b : Shape) → a.members ≡ b.members → a.window ≡ b.window → a.banks ≡ b.banks → a ≡ b
+same_shape : (a b : Shape) → a.members ≡ b.members → a.window ≡ b.window → a.banks ≡ b.banks
+    → a ≡ b
 same_shape a b members window banks = subst
-    (λ n. (p : 1 ≤ n) (q : n ≤ 16) → a ≡ record { members = n; window = b.window; banks = b.banks; some_member = p; most_members = q; some_slot = b.some_slot; most_slots = b.most_slots })
+    (λ n. (p : 1 ≤ n) (q : n ≤ 16) → a
+    ≡ record {
+      members = n;
+      window = b.window;
+      banks = b.banks;
+      some_member = p;
+      most_members = q;
+      some_slot = b.some_slot;
+      most_slots = b.most_slots;
+    })
     members (λ p q. subst
-    (λ n. (s : 1 ≤ n) (t : n ≤ 8) → a ≡ record { members = a.members; window = n; banks = b.banks; some_member = p; most_members = q; some_slot = s; most_slots = t })
+    (λ n. (s : 1 ≤ n) (t : n ≤ 8) → a
+    ≡ record {
+      members = a.members;
+      window = n;
+      banks = b.banks;
+      some_member = p;
+      most_members = q;
+      some_slot = s;
+      most_slots = t;
+    })
     window (λ s t. λ z. record {
       members = a.members;
       window = a.window;
@@ -28,20 +47,30 @@ same_shape a b members window banks = subst
     }) b.some_slot b.most_slots)
     b.some_member b.most_members
 
-same_setup : (script : Script) (start : Start) (nth m : ℕ) (s t : Setup) → IsSetupOf script start nth m s → IsSetupOf script start nth m t → s ≡ t
+same_setup : (script : Script) (start : Start) (nth m : ℕ) (s t : Setup)
+    → IsSetupOf script start nth m s → IsSetupOf script start nth m t → s ≡ t
 same_setup script start nth m s t one other =
     setup_is g script.turns m s one.setup
-    ∙ (ap (λ shape. setup_of g script.turns m shape s.crashes) shapes
-    ∙ (ap (λ crashes. setup_of g script.turns m t.shape crashes) (one.crashes ∙ sym other.crashes)
-    ∙ sym (setup_is g script.turns m t other.setup)))
+    ∙ (ap (λ shape. setup_of g script.turns m shape s) shapes
+    ∙ (same ∙ sym (setup_is g script.turns m t other.setup)))
   where
     g : Group
     g = group_of script start
 
-    shapes : s.shape ≡ t.shape
-    shapes = same_shape s.shape t.shape (one.setup.members ∙ sym other.setup.members) (one.setup.window ∙ sym other.setup.window) (one.setup.banks ∙ sym other.setup.banks)
+    same : setup_of g script.turns m t.shape s ≡ setup_of g script.turns m t.shape t
+    same = λ z. record (setup_of g script.turns m t.shape s) {
+      patience = (one.patience ∙ sym other.patience) z;
+      crashes = (one.crashes ∙ sym other.crashes) z;
+      suspicions = (one.suspicions ∙ sym other.suspicions) z;
+    }
 
-same_lists : (xs ys : List Setup) → length xs ≡ length ys → ((m : ℕ) (x y : Setup) → slice_get xs m ≡ Some x → slice_get ys m ≡ Some y → x ≡ y) → xs ≡ ys
+    shapes : s.shape ≡ t.shape
+    shapes = same_shape s.shape t.shape (one.setup.members ∙ sym other.setup.members)
+        (one.setup.window ∙ sym other.setup.window) (one.setup.banks ∙ sym other.setup.banks)
+
+same_lists : (xs ys : List Setup) → length xs ≡ length ys
+    → ((m : ℕ) (x y : Setup) → slice_get xs m ≡ Some x → slice_get ys m ≡ Some y → x ≡ y)
+    → xs ≡ ys
 same_lists [] [] long same = refl
 same_lists [] (y ∷ ys) long same = absurd (omega (arith, long))
 same_lists (x ∷ xs) [] long same = absurd (omega (arith, long))
@@ -49,6 +78,9 @@ same_lists (x ∷ xs) (y ∷ ys) long same =
     let rest : xs ≡ ys = same_lists xs ys (omega (arith, long)) (λ m. same (suc m)) in
     ap (λ s. s ∷ xs) (same 0 x y refl refl) ∙ ap (λ l. y ∷ l) rest
 
-pub same_setups : (script : Script) (start : Start) (nth : ℕ) (xs ys : List Setup) → AreSetupsOf script start nth xs → AreSetupsOf script start nth ys → xs ≡ ys
+-- a script and a start give one list of setups for an age
+pub same_setups : (script : Script) (start : Start) (nth : ℕ) (xs ys : List Setup)
+    → AreSetupsOf script start nth xs → AreSetupsOf script start nth ys → xs ≡ ys
 same_setups script start nth xs ys ones others =
-    same_lists xs ys (ones.all ∙ sym others.all) (λ m s t here there. same_setup script start nth m s t (ones.each m s here) (others.each m t there))
+    same_lists xs ys (ones.all ∙ sym others.all)
+    (λ m s t here there. same_setup script start nth m s t (ones.each m s here) (others.each m t there))

@@ -4,9 +4,10 @@ use Rattle.dr_script.specs.declared.script.Fault.{Fault}
 use Rattle.dr_script.specs.declared.script.Script.{Script}
 use Rattle.dr_script.specs.declared.script.What.{What}
 use Rattle.dr_script.specs.declared.script.What.TheVariants.{Crash, Suspect}
-use Rattle.dr_machine.specs.declared.setup.CrashPoint.{CrashPoint}
-use Rattle.dr_machine.specs.declared.setup.Setup.{Setup}
-use Rattle.dr_machine.specs.Program.{Program, IsSetup, begun_program}
+use Rattle.dr_program.specs.declared.setup.CrashPoint.{CrashPoint}
+use Rattle.dr_program.specs.declared.setup.Setup.{Setup}
+use Rattle.dr_program.specs.declared.setup.Suspicion.{Suspicion}
+use Rattle.dr_program.specs.Program.{Program, IsSetup, begun_program}
 use Rattle.dr_restart.specs.declared.start.Start.{Start}
 use Rattle.dr_restart.specs.Groups.{group_of}
 
@@ -23,13 +24,30 @@ crash_of nth me fault = if (fault.age == nth) && (fault.member == me) then point
 abbrev pub crashes_of : List Fault → ℕ → ℕ → List CrashPoint
 crashes_of faults nth me = filter_map (crash_of nth me) faults
 
+-- the suspicion of what happens to a member, where it is one
+abbrev pub suspicion_in : What → Option Suspicion
+suspicion_in (Crash turn push) = None
+suspicion_in (Suspect turn other) = Some (record { turn = turn; other = other })
+
+-- the suspicion that a fault is to a member in that age
+abbrev pub suspicion_of : ℕ → ℕ → Fault → Option Suspicion
+suspicion_of nth me fault = if (fault.age == nth)
+    && (fault.member == me) then suspicion_in fault.what else None
+
+-- the suspicions that the member has in that age, in the order of the faults
+abbrev pub suspicions_of : List Fault → ℕ → ℕ → List Suspicion
+suspicions_of faults nth me = filter_map (suspicion_of nth me) faults
+
 -- the setup of a member in the age that is number nth of the run, from 0
 pub record IsSetupOf (script : Script) (start : Start) (nth me : ℕ) (s : Setup) : Type 0 where
   pub setup : IsSetup (group_of script start) script.turns me s
+  pub patience : s.patience ≡ script.patience
   pub crashes : s.crashes ≡ crashes_of script.faults nth me
+  pub suspicions : s.suspicions ≡ suspicions_of script.faults nth me
 
 -- the setups of the first n members, ascending
-pub record AreFirstSetupsOf (script : Script) (start : Start) (nth n : ℕ) (setups : List Setup) : Type 0 where
+pub record AreFirstSetupsOf (script : Script) (start : Start) (nth n : ℕ)
+    (setups : List Setup) : Type 0 where
   pub all : length setups ≡ n
   pub each : (m : ℕ) (s : Setup) → slice_get setups m ≡ Some s → IsSetupOf script start nth m s
 
@@ -40,4 +58,5 @@ AreSetupsOf script start nth setups = AreFirstSetupsOf script start nth script.m
 -- the program as that age opens
 abbrev pub IsBegun : Script → Start → ℕ → Program → Type 0
 IsBegun script start nth p =
-    (setups : List Setup) × AreSetupsOf script start nth setups × (p ≡ begun_program (group_of script start) setups)
+    (setups : List Setup) × AreSetupsOf script start nth setups
+    × (p ≡ begun_program (group_of script start) setups)

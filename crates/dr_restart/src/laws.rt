@@ -1,8 +1,8 @@
 //! Laws of setups.
 ghost use Rattle.std.specs.Prelude.{◌≡◌, ℕ, ◌+◌, List, [], ◌∷◌, ◌++◌, length};
 ghost use Rattle.dr_script.specs.declared.script.Script.{Script};
-ghost use Rattle.dr_machine.specs.declared.setup.Setup.{Setup};
-ghost use Rattle.dr_machine.specs.Program.{AreSetups};
+ghost use Rattle.dr_program.specs.declared.setup.Setup.{Setup};
+ghost use Rattle.dr_program.specs.Program.{AreSetups};
 ghost use Rattle.dr_restart.specs.declared.start.Start.{Start};
 ghost use Rattle.dr_restart.specs.Groups.{group_of};
 ghost use Rattle.dr_restart.specs.Setups.{AreFirstSetupsOf, AreSetupsOf, IsSetupOf};
@@ -16,7 +16,9 @@ pub fn setups_are_of_the_group()
         → AreFirstSetupsOf script start nth n setups → IsSetupOf script start nth n s
         → AreFirstSetupsOf script start nth (n + 1) (setups ++ s ∷ []) }
     ensures one { (script : Script) (start : Start) (nth : ℕ) (setups others : List Setup)
-        → AreSetupsOf script start nth setups → AreSetupsOf script start nth others → setups ≡ others }
-    ensures all { (script : Script) (start : Start) (nth : ℕ) (setups : List Setup) → length script.messages ≡ script.members
+        → AreSetupsOf script start nth setups → AreSetupsOf script start nth others → setups
+        ≡ others }
+    ensures all { (script : Script) (start : Start) (nth : ℕ) (setups : List Setup)
+        → length script.messages ≡ script.members
         → AreSetupsOf script start nth setups → AreSetups (group_of script start) script.turns setups }
 {}

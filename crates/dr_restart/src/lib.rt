@@ -10,6 +10,3 @@ pub use copies::{copy_entries, copy_messages};
 pub use laws::setups_are_of_the_group;
 pub use setup::{setup_of, shape_of};
 pub use start::{Start, first_start};
-
-#[cfg(test)]
-mod tests;

@@ -2,12 +2,12 @@
 ghost use Rattle.std.specs.Prelude.{◌≡◌, ◌≤◌, ◌<◌, All, IfOk, [], length, map, slice_index_or};
 ghost use Rattle.std.specs.List.{range_with_len};
 ghost use Rattle.dr_script.specs.Ranges.{HasGroupRanges};
-ghost use Rattle.dr_restart.specs.Setups.{IsSetupOf, crash_of, crashes_of};
+ghost use Rattle.dr_restart.specs.Setups.{IsSetupOf, crash_of, crashes_of, suspicion_of, suspicions_of};
 
 use crate::copies::{copy_entries, copy_messages};
 use crate::start::Start;
 use dr_entry::{MAX_MEMBERS, Message, Seq};
-use dr_machine::{CrashPoint, Setup};
+use dr_program::{CrashPoint, Setup, Suspicion};
 use dr_script::{Fault, Script, What};
 use dr_words::{Mask, Shape};
 use std::alloc::{AllocError, Global};
@@ -49,10 +49,12 @@ pub fn setup_of(
         age: start.age,
         members: Mask::of(start.members),
         turns: script.turns,
+        patience: script.patience,
         start: copy_entries(alloc, &start.entries)?,
         messages: copy_messages(alloc, &lists[usize::from(me)])?,
         totals: totals_of(lists),
         crashes: crashes_of(alloc, script.faults.as_slice(), nth, me)?,
+        suspicions: suspicions_of(alloc, script.faults.as_slice(), nth, me)?,
     })
 }
 
@@ -94,6 +96,36 @@ fn crash_of(fault: &Fault, nth: u8, me: u8) -> Option<CrashPoint>
     match fault.what {
         What::Crash { turn, push } if fault.age == nth && fault.member == me => {
             Some(CrashPoint { turn, push })
+        }
+        _ => None,
+    }
+}
+
+/// The suspicions that the member `me` has in the age `nth`, in the order of the faults.
+fn suspicions_of(
+    alloc: Global,
+    faults: &[Fault],
+    nth: u8,
+    me: u8,
+) -> Result<Seq<Suspicion>, AllocError>
+    ensures { IfOk result (λ suspicions. suspicions ≡ suspicions_of faults.now nth me) }
+{
+    let mut suspicions = Vec::new(alloc);
+    for fault in faults {
+        if let Some(suspicion) = suspicion_of(fault, nth, me) {
+            suspicions.push(suspicion)?;
+        }
+    }
+    Ok(Seq::of(suspicions))
+}
+
+/// The suspicion that a fault is to the member `me` in the age `nth`.
+fn suspicion_of(fault: &Fault, nth: u8, me: u8) -> Option<Suspicion>
+    ensures { result ≡ suspicion_of nth me fault.now }
+{
+    match fault.what {
+        What::Suspect { turn, other } if fault.age == nth && fault.member == me => {
+            Some(Suspicion { turn, other })
         }
         _ => None,
     }

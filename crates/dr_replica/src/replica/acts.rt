@@ -1,30 +1,57 @@
 //! What a replica does.
 ghost use Rattle.std.specs.Prelude.{◌≡◌, ◌<◌, ◌≤◌, ◌+◌, ◌^◌, false, slice_index, true};
-ghost use Rattle.dr_machine.specs.Form.{HasForm};
-ghost use Rattle.dr_machine.specs.Replica.{acted, appended, beaten, delivered, ended, is_other, looked, marked, may_append, may_deliver, may_mark, may_publish, may_receive, may_report, may_send, published, pushed, received, reported, sent};
+ghost use Rattle.dr_program.specs.Form.{HasForm};
+ghost use Rattle.dr_program.specs.Acts.{done, may, taken};
+ghost use Rattle.dr_program.specs.Replica.{acted, appended, delivered, is_other, looked, marked, may_append, may_deliver, may_receive, may_send, published, pushed, received, reported, sent};
+ghost use Rattle.dr_program.specs.Steps.{NoWordFell};
 ghost use Rattle.dr_replica.specs.Items.{front};
 ghost use Rattle.dr_ring.specs.Slots.{HasShape};
 ghost use Rattle.dr_rows.specs.Words.{own, seen, with_own};
 ghost use Rattle.dr_words.specs.Columns.{recv_column};
 ghost use Rattle.dr_words.specs.Form.{IsInForm};
-ghost use Rattle.dr_words.specs.Grown.{Grown, HasGrown};
+ghost use Rattle.dr_words.specs.Grown.{HasGrown};
 ghost use Rattle.dr_words.specs.Packing.{recv_word};
 
 use super::Replica;
 use crate::items::Items;
 use dr_entry::{End, Item, SentItem};
+use dr_machine::Act;
 use dr_ring::{put, ready};
 use dr_rows::Rows;
 use dr_words::{BEAT_COLUMN, DONE_COLUMN, LOGGED_COLUMN, RECEIVED_COLUMN, Shape, pack_recv};
 
 impl Replica {
-    /// It begins a turn.
-    pub fn beat(&mut self)
-        ensures after { self.new ≡ acted (beaten self.old) }
-        ensures grown { Grown self.old.roster self.old.rows.words self.new.rows.words self.old.rows.frozen self.new.rows.frozen }
+    /// Whether it may do an act, where it has no end.
+    #[inline(always)]
+    pub fn may(&self, act: Act) -> bool
+        ensures { result ≡ may self.now act }
+    {
+        match act {
+            Act::Beat => true,
+            Act::Receive { sender } => sender < self.shape.members && self.may_receive(sender),
+            Act::Send => self.may_send(),
+            Act::Deliver => self.may_deliver(),
+            Act::Publish => self.may_publish(),
+            Act::Report => self.may_report(),
+            Act::Mark => self.may_mark(),
+            Act::Halt { end } => matches!(end, End::Done) && self.all_done(),
+            Act::Crash { end } => matches!(
+                end,
+                End::Crashed | End::DiskFault | End::LogFull { .. } | End::Spent { .. }
+            ),
+        }
+    }
+
+    /// Does an act.
+    #[inline(always)]
+    pub fn take(&mut self, act: Act)
+        requires { may self.old act ≡ true }
+        ensures after { self.new ≡ taken self.old act }
+        ensures grown { NoWordFell self.old self.new }
         ensures form { HasForm self.new }
     {
-        self.turns = self.turns.saturating_add(1);
+        let _ = self.me();
+        self.carry_out(act);
         self.stamp();
     }
 
@@ -38,33 +65,69 @@ impl Replica {
         requires in_form { IsInForm self.old.roster column word }
         requires grown { HasGrown self.old.roster column (seen self.old.rows row column) word }
         ensures after { self.new ≡ looked self.old row column word }
-        ensures grown { Grown self.old.roster self.old.rows.words self.new.rows.words self.old.rows.frozen self.new.rows.frozen }
+        ensures grown { NoWordFell self.old self.new }
         ensures form { HasForm self.new }
     {
         self.rows.look(row, column, word);
     }
 
+    /// The next entry of its history went on its log.
+    #[inline]
+    pub fn append(&mut self)
+        requires { may_append self.old ≡ true }
+        ensures after { self.new ≡ appended self.old }
+        ensures grown { NoWordFell self.old self.new }
+        ensures form { HasForm self.new }
+    {
+        self.logged += 1;
+    }
+
+    /// Its own word of a column was pushed to the member `to`.
+    #[inline]
+    pub fn push(&mut self, to: u8, column: usize)
+        requires to { to < self.old.roster }
+        requires column { column < self.old.rows.columns }
+        ensures after { self.new ≡ pushed self.old to column }
+        ensures grown { NoWordFell self.old self.new }
+        ensures form { HasForm self.new }
+    {
+        self.rows.pushed(to, column);
+    }
+
+    /// Does what an act is for.
+    #[inline(always)]
+    fn carry_out(&mut self, act: Act)
+        requires { may self.old act ≡ true }
+        ensures { self.new ≡ done self.old act }
+    {
+        match act {
+            Act::Beat => self.turns = self.turns.saturating_add(1),
+            Act::Receive { sender } => self.receive(sender),
+            Act::Send => self.send(),
+            Act::Deliver => self.deliver(),
+            Act::Publish => self.publish(),
+            Act::Report => self.report(),
+            Act::Mark => self.mark(),
+            Act::Halt { end } | Act::Crash { end } => self.end = Some(end),
+        }
+    }
+
     /// It takes the next item of a sender.
-    pub fn receive(&mut self, sender: u8)
+    fn receive(&mut self, sender: u8)
         requires sender { sender < self.old.roster }
         requires may { may_receive self.old sender ≡ true }
-        ensures after { self.new ≡ acted (received self.old sender) }
-        ensures grown { Grown self.old.roster self.old.rows.words self.new.rows.words self.old.rows.frozen self.new.rows.frozen }
-        ensures form { HasForm self.new }
+        ensures { self.new ≡ received self.old sender }
     {
         let count = self.items.count(sender);
         let item = ready(&self.rows, &self.shape, sender, count).unwrap();
         self.items.take(sender, item);
         show_items(&mut self.rows, &self.shape, &self.items, sender);
-        self.stamp();
     }
 
     /// It puts its next message.
-    pub fn send(&mut self)
+    fn send(&mut self)
         requires { may_send self.old ≡ true }
-        ensures after { self.new ≡ acted (sent self.old) }
-        ensures grown { Grown self.old.roster self.old.rows.words self.new.rows.words self.old.rows.frozen self.new.rows.frozen }
-        ensures form { HasForm self.new }
+        ensures { self.new ≡ sent self.old }
     {
         let me = self.rows.me();
         let index = self.next_index();
@@ -79,89 +142,44 @@ impl Replica {
         self.sent.push(SentItem::Index(index as u32)).unwrap();
         self.items.take(me, item);
         show_items(&mut self.rows, &self.shape, &self.items, me);
-        self.stamp();
     }
 
     /// It delivers its next place.
-    pub fn deliver(&mut self)
+    fn deliver(&mut self)
         requires { may_deliver self.old ≡ true }
-        ensures after { self.new ≡ acted (delivered self.old) }
-        ensures grown { Grown self.old.roster self.old.rows.words self.new.rows.words self.old.rows.frozen self.new.rows.frozen }
-        ensures form { HasForm self.new }
+        ensures { self.new ≡ delivered self.old }
     {
         let sender = self.items.sender_at(self.next);
         self.history.deliver(sender, self.items.item_at(self.next));
         self.next.step(self.items.members().len());
-        self.stamp();
-    }
-
-    /// The next entry of its history went on its log.
-    #[inline]
-    pub fn append(&mut self)
-        requires { may_append self.old ≡ true }
-        ensures after { self.new ≡ appended self.old }
-        ensures grown { Grown self.old.roster self.old.rows.words self.new.rows.words self.old.rows.frozen self.new.rows.frozen }
-        ensures form { HasForm self.new }
-    {
-        self.logged += 1;
     }
 
     /// Its logged word follows its log.
-    pub fn publish(&mut self)
-        requires { may_publish self.old ≡ true }
-        ensures after { self.new ≡ acted (published self.old) }
-        ensures grown { Grown self.old.roster self.old.rows.words self.new.rows.words self.old.rows.frozen self.new.rows.frozen }
-        ensures form { HasForm self.new }
+    #[inline(always)]
+    fn publish(&mut self)
+        ensures { self.new ≡ published self.old }
     {
         self.rows.set_own(LOGGED_COLUMN, self.logged as u64);
-        self.stamp();
     }
 
     /// It reports as durable what every member of its view is seen to have logged.
-    pub fn report(&mut self)
-        requires { may_report self.old ≡ true }
-        ensures after { self.new ≡ acted (reported self.old) }
-        ensures grown { Grown self.old.roster self.old.rows.words self.new.rows.words self.old.rows.frozen self.new.rows.frozen }
-        ensures form { HasForm self.new }
+    #[inline(always)]
+    fn report(&mut self)
+        ensures { self.new ≡ reported self.old }
     {
         self.durable = self.least_seen(LOGGED_COLUMN);
-        self.stamp();
     }
 
     /// It says that it holds everything, durably.
-    pub fn mark(&mut self)
-        requires { may_mark self.old ≡ true }
-        ensures after { self.new ≡ acted (marked self.old) }
-        ensures grown { Grown self.old.roster self.old.rows.words self.new.rows.words self.old.rows.frozen self.new.rows.frozen }
-        ensures form { HasForm self.new }
+    #[inline(always)]
+    fn mark(&mut self)
+        ensures { self.new ≡ marked self.old }
     {
         self.rows.set_own(DONE_COLUMN, 1);
-        self.stamp();
-    }
-
-    /// It ends.
-    pub fn finish(&mut self, end: End)
-        ensures after { self.new ≡ acted (ended self.old end) }
-        ensures grown { Grown self.old.roster self.old.rows.words self.new.rows.words self.old.rows.frozen self.new.rows.frozen }
-        ensures form { HasForm self.new }
-    {
-        self.end = Some(end);
-        self.stamp();
-    }
-
-    /// Its own word of a column was pushed to the member `to`.
-    #[inline]
-    pub fn push(&mut self, to: u8, column: usize)
-        requires to { to < self.old.roster }
-        requires column { column < self.old.rows.columns }
-        ensures after { self.new ≡ pushed self.old to column }
-        ensures grown { Grown self.old.roster self.old.rows.words self.new.rows.words self.old.rows.frozen self.new.rows.frozen }
-        ensures form { HasForm self.new }
-    {
-        self.rows.pushed(to, column);
     }
 
     /// An act is done: it counts, and its own beat word says so.
+    #[inline(always)]
     fn stamp(&mut self)
         ensures { self.new ≡ acted self.old }
     {

@@ -1,9 +1,11 @@
 //! What a replica may do.
 ghost use Rattle.std.specs.Prelude.{◌≡◌, ◌<◌};
-ghost use Rattle.dr_machine.specs.Replica.{all_done, holds_all, is_other, least_seen, may_append, may_deliver, may_mark, may_publish, may_receive, may_report, may_send, next_index};
+ghost use Rattle.dr_program.specs.Replica.{all_done, holds_all, is_other, least_seen, may_append, may_deliver, may_mark, may_publish, may_receive, may_report, may_send, next_index};
+ghost use Rattle.dr_program.specs.Steps.{allows, has_cell};
 ghost use Rattle.dr_rows.specs.Words.{changed};
 
 use super::Replica;
+use dr_machine::Step;
 use dr_ring::{free, is_ready};
 use dr_words::{DONE_COLUMN, LOGGED_COLUMN, RECEIVED_COLUMN};
 
@@ -17,7 +19,29 @@ impl Replica {
         self.members.has(member) && member != self.rows.me()
     }
 
+    /// Whether it may take a step, where it has no end.
+    #[inline(always)]
+    pub fn allows(&self, step: Step) -> bool
+        ensures { result ≡ allows self.now step }
+    {
+        match step {
+            Step::Do(act) => self.may(act),
+            Step::Look { row, column } => self.has_cell(row, column),
+            Step::Push { to, column } => self.has_cell(to, column),
+            Step::Append => self.may_append(),
+        }
+    }
+
+    /// Whether this is another member of the view, and a column of its row.
+    #[inline(always)]
+    fn has_cell(&self, row: u8, column: usize) -> bool
+        ensures { result ≡ has_cell self.now row column }
+    {
+        row < self.shape.members && self.is_other(row) && column < self.shape.columns()
+    }
+
     /// Whether an item of the sender is there to be taken.
+    #[inline(always)]
     pub fn may_receive(&self, sender: u8) -> bool
         requires { sender < self.now.roster }
         ensures { result ≡ may_receive self.now sender }

@@ -1,15 +1,15 @@
 //! How a replica begins and how it is told at its end.
 ghost use Rattle.std.specs.Prelude.{◌≡◌, IfOk};
-ghost use Rattle.dr_machine.specs.Form.{CanBegin, HasForm};
-ghost use Rattle.dr_machine.specs.Program.{member_end};
-ghost use Rattle.dr_machine.specs.Replica.{begun_replica, greatest};
+ghost use Rattle.dr_program.specs.Form.{CanBegin, HasForm};
+ghost use Rattle.dr_program.specs.Program.{member_end};
+ghost use Rattle.dr_program.specs.Replica.{begun_replica, greatest};
 
 use super::Replica;
 use crate::history::History;
 use crate::items::Items;
 use crate::spot::Spot;
 use dr_entry::{End, Entry, MemberEnd, Seq, ViewSent};
-use dr_machine::Setup;
+use dr_program::Setup;
 use dr_rows::Rows;
 use dr_words::LOGGED_COLUMN;
 use std::alloc::{AllocError, Global};

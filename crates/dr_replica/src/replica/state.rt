@@ -1,8 +1,8 @@
 //! What is known of a replica.
 ghost use Rattle.std.specs.Prelude.{◌≡◌, ◌<◌, length, slice_get, Some, true};
 ghost use Rattle.dr_machine.specs.Effects.{one_more};
-ghost use Rattle.dr_machine.specs.Form.{HasForm};
-ghost use Rattle.dr_machine.specs.Replica.{count, me, may_append};
+ghost use Rattle.dr_program.specs.Form.{HasForm};
+ghost use Rattle.dr_program.specs.Replica.{count, me, may_append};
 ghost use Rattle.dr_rows.specs.Words.{own, seen};
 
 use super::Replica;

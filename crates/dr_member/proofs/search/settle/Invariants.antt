@@ -1,13 +1,16 @@
-use Rattle.std.proofs.Common.{◌≡◌}
-use Rattle.dr_machine.specs.Running.{members, columns, settled}
-use Rattle.dr_member.specs.Search.{IsUnderway, left, standing}
+use Rattle.std.proofs.Common.{◌≡◌, None}
+use Rattle.dr_program.specs.Running.{members, columns, settled}
+use Rattle.dr_turn.specs.Search.{IsUnderway, left}
+use Rattle.dr_member.specs.Search.{standing}
 use Rattle.dr_member.proofs.search.settle.Given as goal
 
 abbrev pub decreases-loop-place : goal.decreases-loop-place
-decreases-loop-place l = left (members (standing l.replica l.fate l.place)) (columns (standing l.replica l.fate l.place)) l.place
+decreases-loop-place l = left (members (standing l.replica l.fate l.place))
+    (columns (standing l.replica l.fate l.place)) l.place
 
 abbrev pub invariant-loop-place : goal.invariant-loop-place
 invariant-loop-place l = record {
   same : settled (standing l.replica l.fate l.place) ≡ settled (standing l.replica l.fate l.fn.from);
   underway : IsUnderway (standing l.replica l.fate l.place);
+  none : l.replica.end ≡ None;
 }

@@ -19,17 +19,27 @@ overflow_add-counts c =
       c.requires.few,
     )
 
-more : (c : goal.Joined-entry) → take (c.loop-entry.entry-index + 1) c.args.entries.now ≡ take c.loop-entry.entry-index c.args.entries.now ++ c.entry-item.result ∷ []
-more c = take_more c.args.entries.now c.loop-entry.entry-index c.entry-item.result c.loop-entry-test.true ∙ ap (λ (e : Entry). take c.loop-entry.entry-index c.args.entries.now ++ e ∷ []) (sym c.entry-item.is)
+more : (c : goal.Joined-entry) → take (c.loop-entry.entry-index + 1) c.args.entries.now
+    ≡ take c.loop-entry.entry-index c.args.entries.now ++ c.entry-item.result ∷ []
+more c = take_more c.args.entries.now c.loop-entry.entry-index c.entry-item.result c.loop-entry-test.true
+    ∙ ap (λ (e : Entry). take c.loop-entry.entry-index c.args.entries.now ++ e ∷ [])
+    (sym c.entry-item.is)
 
 pub loop-entry-preserved : goal.loop-entry-preserved
 loop-entry-preserved c = record {
   counts = elim c.match-entry.branch [
-    | in-Msg+then-sender-counts w ↦ counted_message c.loop-entry.counts c.match-entry.counts _ _ c.entry-item.result w.in-Msg.sender w.from-sender.result w.in-Msg.index w.in-Msg.bytes
-        c.loop-entry.invariant.counts (more c) w.in-Msg.is w.from-sender.ensures w.if-sender-counts.true w.counts-is
-    | in-Msg+else-sender-counts w ↦ passed_message c.loop-entry.counts c.match-entry.counts _ _ c.entry-item.result w.in-Msg.sender w.from-sender.result w.in-Msg.index w.in-Msg.bytes
-        c.loop-entry.invariant.counts (more c) w.in-Msg.is w.from-sender.ensures w.if-sender-counts.false w.counts-is
-    | in_default w ↦ counted_view c.loop-entry.counts c.match-entry.counts _ _ c.entry-item.result w.in_default.field-0 w.in_default.field-1 w.in_default.field-2
+    | in-Msg+then-sender-counts w ↦
+        counted_message c.loop-entry.counts c.match-entry.counts _ _ c.entry-item.result w.in-Msg.sender
+        w.from-sender.result w.in-Msg.index w.in-Msg.bytes
+        c.loop-entry.invariant.counts
+        (more c) w.in-Msg.is w.from-sender.ensures w.if-sender-counts.true w.counts-is
+    | in-Msg+else-sender-counts w ↦
+        passed_message c.loop-entry.counts c.match-entry.counts _ _ c.entry-item.result w.in-Msg.sender
+        w.from-sender.result w.in-Msg.index w.in-Msg.bytes
+        c.loop-entry.invariant.counts
+        (more c) w.in-Msg.is w.from-sender.ensures w.if-sender-counts.false w.counts-is
+    | in_default w ↦ counted_view c.loop-entry.counts c.match-entry.counts _ _ c.entry-item.result
+        w.in_default.field-0 w.in_default.field-1 w.in_default.field-2
         c.loop-entry.invariant.counts (more c) w.in_default.is w.counts-is
   ];
   long = omega (arith, c.match-entry.auto.counts, c.loop-entry.invariant.long);
@@ -37,4 +47,6 @@ loop-entry-preserved c = record {
 
 pub returns : goal.returns
 returns c s l =
-    c.loop-entry.invariant.counts s (omega (arith, l, c.loop-entry.auto.counts)) ∙ ap (λ (es : List Entry). length (messages_from s es)) (take_all c.loop-entry.entry-index c.args.entries.now c.loop-entry-test.false)
+    c.loop-entry.invariant.counts s (omega (arith, l, c.loop-entry.auto.counts))
+    ∙ ap (λ (es : List Entry). length (messages_from s es))
+    (take_all c.loop-entry.entry-index c.args.entries.now c.loop-entry-test.false)

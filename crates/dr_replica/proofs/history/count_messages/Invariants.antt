@@ -4,6 +4,7 @@ use Rattle.dr_replica.proofs.history.count_messages.Given as goal
 
 abbrev pub invariant-loop-entry : goal.invariant-loop-entry
 invariant-loop-entry l = record {
-  counts : (s : ℕ) → s < length l.counts → slice_index l.counts s ≡ length (messages_from s (take l.entry-index l.entries));
+  counts : (s : ℕ) → s < length l.counts → slice_index l.counts s
+      ≡ length (messages_from s (take l.entry-index l.entries));
   long : length l.counts ≡ length l.fn.counts;
 }

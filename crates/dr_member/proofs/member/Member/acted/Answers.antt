@@ -1,22 +1,64 @@
-use Rattle.dr_member.proofs.Answers.{IsAnswer, acts_now}
-use Rattle.dr_member.proofs.Indices.{act_keeps}
+use Rattle.std.proofs.Common.{ℕ, sym, ◌∙◌}
+use Rattle.dr_words.specs.Columns.{columns_of}
+use Rattle.dr_machine.specs.declared.step.Step.TheVariants.{Do}
+use Rattle.dr_program.specs.Turn.{part_of}
+use Rattle.dr_program.specs.Running.{goes}
+use Rattle.dr_member.specs.Inside.{view_of}
 use Rattle.dr_member.specs.Search.{standing}
+use Rattle.dr_member.proofs.Answers.{IsAnswer, IsTaken, answer_at, is_answer, is_done}
+use Rattle.dr_member.proofs.Moves.{act_taken, acted_limit, acted_timely, inside_after}
 use Rattle.dr_member.proofs.member.Member.acted.Goals as goal
 
-answer : (c : goal.After-self-1) → IsAnswer c.args.self.now (standing c.act-place.new.replica c.act-place.new.fate c.settle-self-inside.result)
-answer c = acts_now _ _ _ _ c.self.view_is c.act-place.ensures.done c.settle-self-inside.ensures
+known : (c : goal.After-settle-arg-in-Do-1) (word : ℕ)
+    → IsTaken word (view_of c.self.inside)
+    (Do c.in-Do.act) c.take.new.self c.note.new.self c.goes-from.result
+known c word =
+    act_taken word c.args.self.now c.self.inside c.take.new.self c.note.new.self c.goes-from.result
+    c.in-Do.act c.turns.result c.self.view_is c.self.invariant c.requires
+    (sym c.step_at.ensures ∙ c.in-Do.is) c.take.ensures.after c.take.ensures.form c.take.ensures.grown
+    (c.goes-from.ensures
+    ∙ (λ z. goes (c.shape.ensures.members z)
+    (columns_of (c.shape.ensures.members z) (c.shape.ensures.window z))
+    (part_of c.self.inside.place) c.self.inside.place))
+    c.note.ensures
+
+answer : (c : goal.After-self-1) (word : ℕ)
+    → IsAnswer word c.args.self.now (standing c.take.new.self c.note.new.self c.settle-self-inside.result)
+answer c word = answer_at word _ c.args.self.now _ c.self.view_is
+    (is_answer word _ _ _ _ _ c.settle-self-inside.result
+    (act_taken word c.args.self.now c.self.inside c.take.new.self c.note.new.self c.goes-from.result
+    c.in-Do.act c.turns.result c.self.view_is c.self.invariant c.requires
+    (sym c.step_at.ensures ∙ c.in-Do.is) c.take.ensures.after c.take.ensures.form c.take.ensures.grown
+    (c.goes-from.ensures
+    ∙ (λ z. goes (c.shape.ensures.members z)
+    (columns_of (c.shape.ensures.members z) (c.shape.ensures.window z))
+    (part_of c.self.inside.place) c.self.inside.place))
+    c.note.ensures) c.settle-self-inside.ensures)
+
+pub settle-self-inside-requires-clause-underway : goal.settle-self-inside-requires-clause-underway
+settle-self-inside-requires-clause-underway c = (is_done 0 _ _ _ _ _ (known c 0)).underway
+
+pub settle-self-inside-requires-clause-fate : goal.settle-self-inside-requires-clause-fate
+settle-self-inside-requires-clause-fate c =
+    acted_timely c.self.inside c.take.new.self c.note.new.self c.in-Do.act c.turns.result c.self.invariant
+    c.take.ensures.after c.note.ensures c.turns.ensures
 
 pub invariant_of-self : goal.invariant_of-self
-invariant_of-self c = record {
-  form = (answer c).form;
-  bases = act_keeps _ _ _ c.act-place.ensures.after c.self.invariant.bases;
-}
+invariant_of-self c =
+    inside_after c.self.inside c.take.new.self c.note.new.self c.settle-self-inside.result 0
+    (Do c.in-Do.act) c.self.invariant c.take.ensures.after (answer c 0).form
+    (acted_timely c.self.inside c.take.new.self c.note.new.self c.in-Do.act c.turns.result c.self.invariant
+    c.take.ensures.after c.note.ensures c.turns.ensures)
+    (acted_limit c.self.inside c.note.new.self c.in-Do.act c.turns.result c.note.ensures)
 
-pub returns-clause-form : goal.returns-clause-form
-returns-clause-form c = (answer c).form
+pub returns-in-Do-clause-after : goal.returns-in-Do-clause-after
+returns-in-Do-clause-after c = λ word. (answer c word).after
 
-pub returns-clause-falls : goal.returns-clause-falls
-returns-clause-falls c = (answer c).falls
+pub returns-in-Do-clause-form : goal.returns-in-Do-clause-form
+returns-in-Do-clause-form c = (answer c 0).form
 
-pub returns-clause-keeps : goal.returns-clause-keeps
-returns-clause-keeps c = (answer c).keeps
+pub returns-in-Do-clause-falls : goal.returns-in-Do-clause-falls
+returns-in-Do-clause-falls c = (answer c 0).done.fewer
+
+pub returns-in-Do-clause-keeps : goal.returns-in-Do-clause-keeps
+returns-in-Do-clause-keeps c = (answer c 0).done.still

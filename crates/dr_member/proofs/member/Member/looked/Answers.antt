@@ -1,48 +1,102 @@
-use Rattle.std.proofs.Common.{◌≡◌, refl, ap, ◌+◌, arith}
-use Rattle.dr_machine.specs.declared.place.Place.TheVariants.{Look}
-use Rattle.dr_machine.specs.Replica.{Replica}
-use Rattle.dr_machine.specs.Running.{after_look}
+use Rattle.std.proofs.Common.{refl, ◌+◌, ◌<◌, arith}
 use Rattle.dr_words.specs.Columns.{columns_of}
-use Rattle.dr_member.specs.Search.{look_from, standing}
-use Rattle.dr_member.proofs.Answers.{IsAnswer, looks_within, looks_past}
-use Rattle.dr_member.proofs.Indices.{columns_kept, look_keeps}
+use Rattle.dr_machine.specs.declared.step.Step.TheVariants.{Look}
+use Rattle.dr_member.specs.Search.{standing}
+use Rattle.dr_member.proofs.Answers.{IsAnswer, answer_at, is_answer, is_done}
+use Rattle.dr_member.proofs.Moves.{IsLooked, columns_after, inside_after, is_looked, look_due_at, look_taken, looked_timely, looked_within}
 use Rattle.dr_member.proofs.member.Member.looked.Goals as goal
 
-within : (c : goal.After-look) → (standing c.look.new.self c.self.inside.fate (Look c.in-Look.row (c.in-Look.column + 1)) ≡ after_look c.args.self.now c.args.word)
-    × IsAnswer c.args.self.now (standing c.look.new.self c.self.inside.fate (Look c.in-Look.row (c.in-Look.column + 1)))
-within c = looks_within c.args.self.now c.self.inside.replica c.look.new.self c.self.inside.fate c.self.inside.place c.in-Look.row c.in-Look.column c.args.word
-    c.self.inside.replica.roster c.self.inside.replica.window c.self.view_is c.in-Look.is c.look.ensures.after c.self.invariant.form c.look.ensures.form c.look.ensures.grown
-    refl refl (omega (arith, columns_kept c.self.inside.bases _ _ _ _ c.self.invariant.bases.are))
+known : (c : goal.After-look)
+    → IsLooked c.self.inside.replica c.look.new.self c.self.inside.fate c.self.inside.place c.args.word
+known c = is_looked c.args.self.now c.self.inside c.look.new.self c.args.word c.self.view_is
+    c.self.invariant c.requires c.look.ensures.after c.look.ensures.form c.look.ensures.grown
 
-past : (c : goal.After-self-else-next-columns-1) → IsAnswer c.args.self.now (standing c.look-else-next-columns.new.self c.self.inside.fate c.settle_look-self-inside.result)
-past c = looks_past c.args.self.now c.self.inside.replica c.look-else-next-columns.new.self c.self.inside.fate c.self.inside.place (look_from c.look-else-next-columns.new.self.roster (columns_of c.look-else-next-columns.new.self.roster c.look-else-next-columns.new.self.window) c.in-Look.row (c.in-Look.column + 1)) c.settle_look-self-inside.result
-    c.in-Look.row c.in-Look.column c.args.word c.look-else-next-columns.new.self.roster c.look-else-next-columns.new.self.window c.self.view_is c.in-Look.is c.look-else-next-columns.ensures.after
-    c.self.invariant.form c.look-else-next-columns.ensures.form c.look-else-next-columns.ensures.grown (ap (λ (x : Replica). x.roster) c.look-else-next-columns.ensures.after) (ap (λ (x : Replica). x.window) c.look-else-next-columns.ensures.after)
-    refl c.settle_look-self-inside.ensures
+within : (c : goal.After-look)
+    → IsAnswer c.args.word c.args.self.now
+    (standing c.look.new.self c.self.inside.fate
+    (record c.self.inside.place { column = c.self.inside.place.column + 1 }))
+within c = looked_within c.args.self.now c.self.inside.replica c.look.new.self c.self.inside.fate
+    c.self.inside.place c.args.word c.self.view_is (known c) inner
+  where
+    inner : c.self.inside.place.column + 1 < columns_of c.look.new.self.roster c.look.new.self.window
+    inner = omega (
+      arith,
+      c.if-next-self.true,
+      columns_after c.self.inside c.look.new.self c.args.word
+          (Look c.self.inside.place.row c.self.inside.place.column) c.self.invariant c.look.ensures.after,
+    )
 
-pub invariant_of-self-else-next-columns : goal.invariant_of-self-else-next-columns
-invariant_of-self-else-next-columns c = record {
-  form = (past c).form;
-  bases = look_keeps _ _ _ _ _ _ c.look-else-next-columns.ensures.after c.self.invariant.bases;
-}
+past : (c : goal.After-self-else-next-self-1)
+    → IsAnswer c.args.word c.args.self.now
+    (standing c.look-else-next-self.new.self c.self.inside.fate c.settle_from-self-inside.result)
+past c = answer_at c.args.word _ c.args.self.now _ c.self.view_is
+    (is_answer c.args.word _ _ _ _ _ c.settle_from-self-inside.result
+    (look_taken c.self.inside.replica c.look-else-next-self.new.self c.self.inside.fate c.self.inside.place
+    c.args.word
+    (is_looked c.args.self.now c.self.inside c.look-else-next-self.new.self c.args.word c.self.view_is
+    c.self.invariant c.requires
+    c.look-else-next-self.ensures.after c.look-else-next-self.ensures.form
+    c.look-else-next-self.ensures.grown)) c.settle_from-self-inside.ensures)
+
+pub look-requires-clause-in_form : goal.look-requires-clause-in_form
+look-requires-clause-in_form c =
+    (look_due_at c.args.self.now c.self.inside c.args.word c.self.view_is c.self.invariant
+    c.requires).seen.form
+
+pub look-requires-clause-grown : goal.look-requires-clause-grown
+look-requires-clause-grown c =
+    (look_due_at c.args.self.now c.self.inside c.args.word c.self.view_is c.self.invariant
+    c.requires).seen.grown
+
+pub look-requires-else-next-self-clause-in_form : goal.look-requires-else-next-self-clause-in_form
+look-requires-else-next-self-clause-in_form c =
+    (look_due_at c.args.self.now c.self.inside c.args.word c.self.view_is c.self.invariant
+    c.requires).seen.form
+
+pub look-requires-else-next-self-clause-grown : goal.look-requires-else-next-self-clause-grown
+look-requires-else-next-self-clause-grown c =
+    (look_due_at c.args.self.now c.self.inside c.args.word c.self.view_is c.self.invariant
+    c.requires).seen.grown
+
+pub settle_from-self-inside-requires-clause-underway : goal.settle_from-self-inside-requires-clause-underway
+settle_from-self-inside-requires-clause-underway c = (is_done c.args.word _ _ _ _ _
+    (look_taken c.self.inside.replica c.look-else-next-self.new.self c.self.inside.fate c.self.inside.place
+    c.args.word
+    (is_looked c.args.self.now c.self.inside c.look-else-next-self.new.self c.args.word c.self.view_is
+    c.self.invariant c.requires
+    c.look-else-next-self.ensures.after c.look-else-next-self.ensures.form
+    c.look-else-next-self.ensures.grown))).underway
 
 pub invariant_of-self : goal.invariant_of-self
-invariant_of-self c = record {
-  form = (within c).1.form;
-  bases = look_keeps _ _ _ _ _ _ c.look.ensures.after c.self.invariant.bases;
-}
+invariant_of-self c = inside_after c.self.inside c.look.new.self c.self.inside.fate
+    (record c.self.inside.place { column = c.self.inside.place.column + 1 }) c.args.word
+    (Look c.self.inside.place.row c.self.inside.place.column) c.self.invariant c.look.ensures.after
+    (within c).form
+    (looked_timely c.self.inside c.look.new.self _ _ c.args.word c.self.invariant c.look.ensures.after) refl
 
-pub returns-then-next-columns-clause-after : goal.returns-then-next-columns-clause-after
-returns-then-next-columns-clause-after c = (within c).0
+pub invariant_of-self-else-next-self : goal.invariant_of-self-else-next-self
+invariant_of-self-else-next-self c =
+    inside_after c.self.inside c.look-else-next-self.new.self c.self.inside.fate
+    c.settle_from-self-inside.result c.args.word
+    (Look c.self.inside.place.row c.self.inside.place.column) c.self.invariant
+    c.look-else-next-self.ensures.after (past c).form
+    (looked_timely c.self.inside c.look-else-next-self.new.self _ _ c.args.word c.self.invariant
+    c.look-else-next-self.ensures.after) refl
 
-pub returns-then-next-columns-clause-falls : goal.returns-then-next-columns-clause-falls
-returns-then-next-columns-clause-falls c = (within c).1.falls
+pub returns-then-next-self-clause-after : goal.returns-then-next-self-clause-after
+returns-then-next-self-clause-after c = (within c).after
 
-pub returns-else-next-columns-clause-form : goal.returns-else-next-columns-clause-form
-returns-else-next-columns-clause-form c = (past c).form
+pub returns-then-next-self-clause-form : goal.returns-then-next-self-clause-form
+returns-then-next-self-clause-form c = (within c).form
 
-pub returns-else-next-columns-clause-falls : goal.returns-else-next-columns-clause-falls
-returns-else-next-columns-clause-falls c = (past c).falls
+pub returns-then-next-self-clause-falls : goal.returns-then-next-self-clause-falls
+returns-then-next-self-clause-falls c = (within c).done.fewer
 
-pub returns-then-next-columns-clause-form : goal.returns-then-next-columns-clause-form
-returns-then-next-columns-clause-form c = (within c).1.form
+pub returns-else-next-self-clause-after : goal.returns-else-next-self-clause-after
+returns-else-next-self-clause-after c = (past c).after
+
+pub returns-else-next-self-clause-form : goal.returns-else-next-self-clause-form
+returns-else-next-self-clause-form c = (past c).form
+
+pub returns-else-next-self-clause-falls : goal.returns-else-next-self-clause-falls
+returns-else-next-self-clause-falls c = (past c).done.fewer

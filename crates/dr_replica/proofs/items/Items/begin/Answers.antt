@@ -3,4 +3,5 @@ use Rattle.dr_replica.proofs.Places.{begun_items}
 use Rattle.dr_replica.proofs.items.Items.begin.Goals as goal
 
 pub invariant_of-result : goal.invariant_of-result
-invariant_of-result c = begun_items _ c.args.view (search rules) (search rules) (search rules) c.first.ensures c.requires.roster c.requires.members c.requires.some c.requires.most
+invariant_of-result c = begun_items _ c.args.view (search rules) (search rules)
+    (search rules) c.first.ensures c.requires.roster c.requires.members c.requires.some c.requires.most

@@ -1,8 +1,8 @@
 use Rattle.std.proofs.Common.{ℕ, List, length, None, refl, rules, sym, ap, subst, ◌∙◌, arith}
 use Rattle.dr_entry.specs.declared.entry.Entry.{Entry}
 use Rattle.dr_rows.specs.Words.{begun, with_own}
-use Rattle.dr_machine.specs.Form.{HasForm}
-use Rattle.dr_machine.proofs.OpeningForm.{begun_in_form}
+use Rattle.dr_program.specs.Form.{HasForm}
+use Rattle.dr_program.proofs.OpeningForm.{begun_in_form}
 use Rattle.dr_replica.specs.declared.replica.Replica.TheInside.{Inside}
 use Rattle.dr_replica.proofs.Openings.{AreBegun, few_messages_each, small_room, someone, begun_view, begun_inside}
 use Rattle.dr_replica.proofs.replica.Replica.begin.Goals as goal
@@ -17,7 +17,8 @@ pub begin-requires-2-clause-some : goal.begin-requires-2-clause-some
 begin-requires-2-clause-some c = someone c.args.setup c.requires
 
 pub begin-requires-2-clause-most : goal.begin-requires-2-clause-most
-begin-requires-2-clause-most c = omega (arith, c.greatest-most.ensures, few_messages_each c.args.setup c.requires)
+begin-requires-2-clause-most c =
+    omega (arith, c.greatest-most.ensures, few_messages_each c.args.setup c.requires)
 
 -- the fields, as they are made
 abbrev fields : After-first → Inside
@@ -47,15 +48,24 @@ made c = record {
   messages = c.into_vec-messages.ensures;
   totals = refl;
   most = c.greatest-most.ensures;
-  first = c.in_ok-rows.ensures.begun ∙ ap (λ (k : ℕ). begun c.args.setup.shape.members k c.args.setup.me) c.columns.ensures;
-  rows = c.set_own.ensures.after ∙ ap (λ (es : List Entry). with_own c.in_ok-rows.rows 3 (length es)) c.entries-logged.ensures.entries;
+  first = c.in_ok-rows.ensures.begun
+      ∙ ap (λ (k : ℕ). begun c.args.setup.shape.members k c.args.setup.me) c.columns.ensures;
+  rows = c.set_own.ensures.after
+      ∙ ap (λ (es : List Entry). with_own c.in_ok-rows.rows 3 (length es))
+      c.entries-logged.ensures.entries;
   view = refl;
   members = refl;
   items = c.in_ok-begin.ensures.begun;
   base = c.messages_from.ensures;
   sent = c.in_ok-with_capacity.ensures.items;
   next = c.first.ensures;
-  history = cc (c.in_ok-history.ensures.begun, c.as_slice.ensures, c.from.ensures, c.from-2.ensures, c.bits.ensures);
+  history = cc (
+    c.in_ok-history.ensures.begun,
+    c.as_slice.ensures,
+    c.from.ensures,
+    c.from-2.ensures,
+    c.bits.ensures,
+  );
   logged = ap length c.entries-logged.ensures.entries;
   durable = ap length c.entries-logged.ensures.entries;
   turns = refl;
@@ -70,7 +80,9 @@ invariant_of-result c =
 
 pub returns-clause-form : goal.returns-clause-form
 returns-clause-form c =
-    subst HasForm (sym (begun_view (fields at) c.args.setup c.in_ok-rows.rows c.greatest-most.result (made at))) (begun_in_form c.args.setup c.requires)
+    subst HasForm (sym
+    (begun_view (fields at) c.args.setup c.in_ok-rows.rows c.greatest-most.result (made at)))
+    (begun_in_form c.args.setup c.requires)
   where
     at : After-first
     at = (goal.at.returns-clause-form c).After-first

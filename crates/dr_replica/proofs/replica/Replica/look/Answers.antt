@@ -3,37 +3,47 @@ use Rattle.dr_rows.specs.Words.{Words, seen}
 use Rattle.dr_words.specs.Columns.{columns_of}
 use Rattle.dr_words.specs.Form.{IsInForm}
 use Rattle.dr_words.specs.Grown.{HasGrown}
-use Rattle.dr_machine.specs.Replica.{Replica, is_other, looked}
-use Rattle.dr_machine.specs.Form.{HasForm}
+use Rattle.dr_program.specs.Replica.{Replica, is_other, looked}
+use Rattle.dr_program.specs.Form.{HasForm}
 use Rattle.dr_replica.specs.Inside.{view_of}
 use Rattle.dr_replica.proofs.Keeps.{looked_keeps, looked_rises}
 use Rattle.dr_replica.proofs.Insides.{state_kept, grown_to}
 use Rattle.dr_replica.proofs.replica.Replica.look.Goals as goal
 
-there : (c : goal.After-look) → view_of (record c.self.inside { rows = c.look.new.self }) ≡ looked (view_of c.self.inside) c.args.row c.args.column c.args.word
+there : (c : goal.After-look) → view_of (record c.self.inside { rows = c.look.new.self })
+    ≡ looked (view_of c.self.inside) c.args.row c.args.column c.args.word
 there c = ap (λ (w : Words). record (view_of c.self.inside) { rows = w }) c.look.ensures.after
 
 other : (c : goal.After-look) → is_other (view_of c.self.inside) c.args.row ≡ true
 other c = ap (λ (r : Replica). is_other r c.args.row) c.self.view_is ∙ c.requires.other
 
-column : (c : goal.After-look) → c.args.column < columns_of c.self.inside.shape.members c.self.inside.shape.window
-column c = subst (λ (n : ℕ). c.args.column < n) c.self.invariant.form.columns (subst (λ (r : Replica). c.args.column < r.rows.columns) (sym c.self.view_is) c.requires.column)
+column : (c : goal.After-look) → c.args.column
+    < columns_of c.self.inside.shape.members c.self.inside.shape.window
+column c = subst (λ (n : ℕ). c.args.column < n) c.self.invariant.form.columns
+    (subst (λ (r : Replica). c.args.column < r.rows.columns) (sym c.self.view_is) c.requires.column)
 
 form : (c : goal.After-look) → HasForm (looked (view_of c.self.inside) c.args.row c.args.column c.args.word)
 form c =
-    looked_keeps (view_of c.self.inside) c.args.row c.args.column c.args.word c.self.invariant.form (other c) (column c)
-    (subst (λ (r : Replica). IsInForm r.roster c.args.column c.args.word) (sym c.self.view_is) c.requires.in_form)
+    looked_keeps (view_of c.self.inside) c.args.row c.args.column c.args.word c.self.invariant.form
+    (other c) (column c)
+    (subst (λ (r : Replica). IsInForm r.roster c.args.column c.args.word)
+    (sym c.self.view_is) c.requires.in_form)
 
 pub invariant_of-self : goal.invariant_of-self
 invariant_of-self c =
     let a = c.self.inside in
-    state_kept a c.look.new.self a.logged a.durable a.turns a.acts a.end c.self.invariant (subst HasForm (sym (there c)) (form c))
+    state_kept a c.look.new.self a.logged a.durable a.turns a.acts a.end c.self.invariant
+    (subst HasForm (sym (there c)) (form c))
 
 pub returns-clause-grown : goal.returns-clause-grown
 returns-clause-grown c =
-    grown_to c.args.self.now (view_of (record c.self.inside { rows = c.look.new.self })) (view_of c.self.inside) (looked (view_of c.self.inside) c.args.row c.args.column c.args.word) c.self.view_is (there c)
-    (looked_rises (view_of c.self.inside) c.args.row c.args.column c.args.word c.self.invariant.form (other c) (column c)
-    (subst (λ (r : Replica). HasGrown r.roster c.args.column (seen r.rows c.args.row c.args.column) c.args.word) (sym c.self.view_is) c.requires.grown))
+    grown_to c.args.self.now (view_of (record c.self.inside { rows = c.look.new.self }))
+    (view_of c.self.inside) (looked (view_of c.self.inside) c.args.row c.args.column c.args.word)
+    c.self.view_is (there c)
+    (looked_rises (view_of c.self.inside) c.args.row c.args.column c.args.word c.self.invariant.form
+    (other c) (column c)
+    (subst (λ (r : Replica). HasGrown r.roster c.args.column
+    (seen r.rows c.args.row c.args.column) c.args.word) (sym c.self.view_is) c.requires.grown))
 
 pub returns-clause-form : goal.returns-clause-form
 returns-clause-form c = subst HasForm (sym (there c)) (form c)

@@ -1,6 +1,6 @@
 use Rattle.std.proofs.Common.{◌≡◌, ◌<◌, true, sym, ap, subst, ◌∙◌}
-use Rattle.dr_machine.specs.Replica.{Replica, acted, may_receive, received}
-use Rattle.dr_machine.specs.Form.{HasForm}
+use Rattle.dr_program.specs.Replica.{Replica, acted, may_receive, received}
+use Rattle.dr_program.specs.Form.{HasForm}
 use Rattle.dr_replica.specs.Inside.{view_of}
 use Rattle.dr_replica.proofs.Keeps.{received_form, received_keeps, received_grown}
 use Rattle.dr_replica.proofs.Insides.{form_to, grown_to, may_of}
@@ -9,33 +9,30 @@ use Rattle.dr_replica.proofs.replica.Replica.receive.Goals as goal
 
 pub show_items-requires-clause-received : goal.show_items-requires-clause-received
 show_items-requires-clause-received c =
-    front_after c.self.inside c.take.new.self c.args.sender c.unwrap-item.result c.self.invariant (subst (λ (r : Replica). c.args.sender < r.roster) (sym c.self.view_is) c.requires.sender) c.take.ensures
+    front_after c.self.inside c.take.new.self c.args.sender c.unwrap-item.result c.self.invariant
+    (subst (λ (r : Replica). c.args.sender < r.roster) (sym c.self.view_is) c.requires.sender)
+    c.take.ensures
 
-there : (c : goal.After-show_items) → view_of (record c.self.inside { rows = c.show_items.new.rows; items = c.take.new.self }) ≡ received (view_of c.self.inside) c.args.sender
+there : (c : goal.After-show_items)
+    → view_of (record c.self.inside { rows = c.show_items.new.rows; items = c.take.new.self })
+    ≡ received (view_of c.self.inside) c.args.sender
 there c =
-    received_after c.self.inside c.show_items.new.rows c.take.new.self c.args.sender c.count-count.result c.ready.result c.unwrap-item.result c.self.invariant
-    (subst (λ (r : Replica). c.args.sender < r.roster) (sym c.self.view_is) c.requires.sender) c.count-count.ensures.count c.ready.ensures.item c.unwrap-item.ensures c.take.ensures c.show_items.ensures
+    received_after c.self.inside c.show_items.new.rows c.take.new.self c.args.sender c.count-count.result
+    c.ready.result c.unwrap-item.result c.self.invariant
+    (subst (λ (r : Replica). c.args.sender < r.roster) (sym c.self.view_is) c.requires.sender)
+    c.count-count.ensures.count c.ready.ensures.item c.unwrap-item.ensures c.take.ensures
+    c.show_items.ensures
 
 may : (c : goal.After-show_items) → may_receive (view_of c.self.inside) c.args.sender ≡ true
-may c = may_of (λ (r : Replica). may_receive r c.args.sender) (view_of c.self.inside) c.args.self.now c.self.view_is c.requires.may
+may c = may_of (λ (r : Replica). may_receive r c.args.sender)
+    (view_of c.self.inside) c.args.self.now c.self.view_is c.requires.may
 
 pub invariant_of-self : goal.invariant_of-self
 invariant_of-self c =
-    items_kept c.self.inside c.show_items.new.rows c.take.new.self c.args.sender c.unwrap-item.result c.self.inside.sent c.self.invariant c.take.ensures c.self.invariant.sent
-    (subst HasForm (sym (there c)) (received_form (view_of c.self.inside) c.args.sender c.self.invariant.form (may c)))
+    items_kept c.self.inside c.show_items.new.rows c.take.new.self c.args.sender c.unwrap-item.result
+    c.self.inside.sent c.self.invariant c.take.ensures c.self.invariant.sent
+    (subst HasForm (sym (there c))
+    (received_form (view_of c.self.inside) c.args.sender c.self.invariant.form (may c)))
 
-after : (c : goal.After-stamp) → c.stamp.new.self ≡ acted (received (view_of c.self.inside) c.args.sender)
-after c =
-    c.stamp.ensures
-    ∙ ap acted (received_after c.self.inside c.show_items.new.rows c.take.new.self c.args.sender c.count-count.result c.ready.result c.unwrap-item.result c.self.invariant
-    (subst (λ (r : Replica). c.args.sender < r.roster) (sym c.self.view_is) c.requires.sender) c.count-count.ensures.count c.ready.ensures.item c.unwrap-item.ensures c.take.ensures c.show_items.ensures)
-
-pub returns-clause-grown : goal.returns-clause-grown
-returns-clause-grown c =
-    grown_to c.args.self.now c.stamp.new.self (view_of c.self.inside) (acted (received (view_of c.self.inside) c.args.sender)) c.self.view_is (after c)
-    (received_grown (view_of c.self.inside) c.args.sender c.self.invariant.form (may_of (λ (r : Replica). may_receive r c.args.sender) (view_of c.self.inside) c.args.self.now c.self.view_is c.requires.may))
-
-pub returns-clause-form : goal.returns-clause-form
-returns-clause-form c =
-    form_to c.stamp.new.self (acted (received (view_of c.self.inside) c.args.sender)) (after c)
-    (received_keeps (view_of c.self.inside) c.args.sender c.self.invariant.form (may_of (λ (r : Replica). may_receive r c.args.sender) (view_of c.self.inside) c.args.self.now c.self.view_is c.requires.may))
+pub returns : goal.returns
+returns c = there c ∙ ap (λ (r : Replica). received r c.args.sender) c.self.view_is

@@ -1,6 +1,6 @@
 use Rattle.std.proofs.Common.{◌≡◌, sym, subst}
-use Rattle.dr_machine.specs.Replica.{acted}
-use Rattle.dr_machine.specs.Form.{HasForm}
+use Rattle.dr_program.specs.Replica.{acted}
+use Rattle.dr_program.specs.Form.{HasForm}
 use Rattle.dr_replica.specs.Inside.{view_of}
 use Rattle.dr_replica.proofs.Keeps.{acted_keeps}
 use Rattle.dr_replica.proofs.Insides.{state_kept}
@@ -9,6 +9,8 @@ use Rattle.dr_replica.proofs.replica.Replica.stamp.Goals as goal
 pub invariant_of-self : goal.invariant_of-self
 invariant_of-self c =
     let a = c.self.inside in
-    let after : view_of (record a { rows = c.set_own.new.self; acts = c.saturating_add-self-inside.result }) ≡ acted (view_of a) = cc (c.set_own.ensures.after) in
-    state_kept a c.set_own.new.self a.logged a.durable a.turns c.saturating_add-self-inside.result a.end c.self.invariant
+    let after : view_of (record a { rows = c.set_own.new.self; acts = c.saturating_add-self-inside.result })
+    ≡ acted (view_of a) = cc (c.set_own.ensures.after) in
+    state_kept a c.set_own.new.self a.logged a.durable a.turns c.saturating_add-self-inside.result a.end
+    c.self.invariant
     (subst HasForm (sym after) (acted_keeps (view_of a) c.self.invariant.form))

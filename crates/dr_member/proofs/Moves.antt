@@ -1,0 +1,351 @@
+-- What a running member is after each kind of deed, in the terms of the code's fields.
+use Rattle.std.proofs.Common.{◌≡◌, refl, sym, ap, ◌∙◌, subst, ℕ, ◌+◌, ◌^◌, ◌<◌, ◌≤◌, ◌&&◌, Bool, true, false, nat_lt, arith}
+use Rattle.std.proofs.lemmas.Bool.Decides.{nat_tests}
+use Rattle.dr_rows.specs.Words.{changed}
+use Rattle.dr_words.specs.Columns.{columns_of}
+use Rattle.dr_machine.specs.Effects.{one_more}
+use Rattle.dr_machine.specs.declared.event.Act.{Act}
+use Rattle.dr_machine.specs.declared.step.Step.{Step}
+use Rattle.dr_machine.specs.declared.step.Step.TheVariants as steps
+use Rattle.dr_program.specs.declared.place.Part.{Part}
+use Rattle.dr_program.specs.declared.place.Part.TheVariants as parts
+use Rattle.dr_program.specs.declared.place.Place.{Place}
+use Rattle.dr_program.specs.Acts.{taken}
+use Rattle.dr_program.specs.Replica.{Replica, appended, is_other, looked, me, pushed}
+use Rattle.dr_program.specs.Steps.{NoWordFell, has_cell, stepped}
+use Rattle.dr_program.specs.Turn.{columns_in, part_of}
+use Rattle.dr_program.specs.Running.{Running, goes, next_deed, next_step, settled}
+use Rattle.dr_program.specs.Reading.{step_of_member}
+use Rattle.dr_program.specs.Sight.{MaySee}
+use Rattle.dr_program.specs.Form.{HasForm, IsRunningMember}
+use Rattle.dr_turn.specs.Search.{IsUnderway}
+use Rattle.dr_member.specs.declared.fate.Fate.{Fate}
+use Rattle.dr_member.specs.declared.member.Member.TheInside.{Inside}
+use Rattle.dr_member.specs.Deeds.{is_act, is_append, is_push}
+use Rattle.dr_member.specs.Fate.{IsTimely, fate_after}
+use Rattle.dr_member.specs.Inside.{IsInside, view_of}
+use Rattle.dr_member.specs.Search.{from_column, standing}
+use Rattle.dr_member.proofs.Answers.{IsAnswer, IsFateAfter, IsTaken, answer_at, fate_of_act, fate_stays, is_answer, is_done, look_applies, push_applies, pushes_searched, stays}
+use Rattle.dr_member.proofs.Crashes.{some_at_push, timely_act, timely_push}
+use Rattle.dr_member.proofs.Dues.{IsLookDue, IsPushDue, append_due, deed_due, look_due, push_due}
+use Rattle.dr_member.proofs.Indices.{columns_kept, deeds_keep_bases}
+use Rattle.dr_member.proofs.Passing.{from_here}
+
+-- ---- rows
+
+all_three : (a b d : Bool) → a ≡ true → b ≡ true → d ≡ true → (a && (b && d)) ≡ true
+all_three true true d e f h = h
+all_three false b d e f h = absurd (cc)
+all_three true false d e f h = absurd (cc)
+
+cell_test : (replica : Replica) (i c : ℕ) → i < replica.roster → is_other replica i ≡ true
+    → c < columns_of replica.roster replica.window → has_cell replica i c ≡ true
+cell_test replica i c row other column =
+    all_three (nat_lt i replica.roster) (is_other replica i)
+    (nat_lt c (columns_of replica.roster replica.window)) (grind (arith, nat_tests, row)) other
+    (grind (arith, nat_tests, column))
+
+-- the place behind a look or a push
+behind : (replica q : Replica) (p : Place) (part : Part) → part_of p ≡ part → q.roster
+    ≡ replica.roster
+    → q.window ≡ replica.window
+    → goes replica.roster (columns_of replica.roster replica.window) part p ≡ from_column replica.roster
+    (columns_of replica.roster replica.window) p (p.column + 1)
+    → from_column q.roster (columns_of q.roster q.window) p (p.column + 1) ≡ goes replica.roster
+    (columns_of replica.roster replica.window) (part_of p) p
+behind replica q p part at roster window is =
+    (λ z. from_column (roster z) (columns_of (roster z) (window z)) p (p.column + 1))
+    ∙ sym (ap (λ x. goes replica.roster (columns_of replica.roster replica.window) x p) at ∙ is)
+
+-- ---- looks
+
+-- what is known once a look was done
+pub record IsLooked (replica q : Replica) (fate : Fate) (p : Place) (word : ℕ) : Type 0 where
+  pub running : IsRunningMember (standing replica fate p)
+  pub due : IsLookDue (standing replica fate p) word
+  pub fits : fate.limit < 2 ^ 32
+  pub after : q ≡ looked replica p.row p.column word
+  pub form : HasForm q
+  pub grown : NoWordFell replica q
+
+-- a replica that has looked took its look, and stands at the next column
+pub look_taken : (replica q : Replica) (fate : Fate) (p : Place) (word : ℕ)
+    → IsLooked replica q fate p word
+    → IsTaken word (standing replica fate p) (steps.Look p.row p.column) q fate
+    (from_column q.roster (columns_of q.roster q.window) p (p.column + 1))
+look_taken replica q fate p word l = record {
+  running = l.running;
+  fits = l.fits;
+  none = l.due.none;
+  due = l.due.step;
+  replica = l.after;
+  form = l.form;
+  grown = l.grown;
+  place = behind replica q p parts.Look l.due.at (ap (λ (x : Replica). x.roster) l.after)
+      (ap (λ (x : Replica). x.window) l.after) refl;
+  told = fate_stays replica fate p (steps.Look p.row p.column) refl;
+}
+
+-- within a row the search stays at the next column
+pub looked_within : (now : Running) (replica q : Replica) (fate : Fate) (p : Place) (word : ℕ)
+    → standing replica fate p ≡ now → IsLooked replica q fate p word
+    → p.column + 1 < columns_of q.roster q.window
+    → IsAnswer word now (standing q fate (record p { column = p.column + 1 }))
+looked_within now replica q fate p word view l within =
+    answer_at word (standing replica fate p) now (standing q fate next) view
+    (is_answer word (standing replica fate p) (steps.Look p.row p.column) q fate
+    (from_column q.roster (columns_of q.roster q.window) p (p.column + 1)) next
+    (look_taken replica q fate p word l)
+    (stays (standing q fate next) (look_applies (standing q fate next) next l.due.at cell)
+    ∙ ap (λ (x : Place). settled (standing q fate x)) (sym here)))
+  where
+    next : Place
+    next = record p { column = p.column + 1 }
+
+    here : from_column q.roster (columns_of q.roster q.window) p (p.column + 1) ≡ record p {
+      column =
+          p.column + 1;
+    }
+    here = from_here q.roster (columns_of q.roster q.window) p (p.column + 1)
+        (omega (arith, within, ap (columns_in (columns_of q.roster q.window)) l.due.at))
+
+    cell : has_cell q p.row (p.column + 1) ≡ true
+    cell = cell_test q p.row (p.column + 1)
+        (omega (arith, ap (λ (x : Replica). x.roster) l.after, l.due.cell.row))
+        (ap (λ (x : Replica). is_other x p.row) l.after ∙ l.due.cell.other) within
+
+-- ---- pushes
+
+-- the fate with so many more pushes of this turn
+abbrev pub counted : Fate → ℕ → Fate
+counted fate n = record fate { pushes = n }
+
+-- what is known once a push was done, and the next changed column sought
+pub record IsPushed (replica q : Replica) (fate : Fate) (p : Place) (n t : ℕ) : Type 0 where
+  pub running : IsRunningMember (standing replica fate p)
+  pub due : IsPushDue (standing replica fate p)
+  pub timely : IsTimely fate replica.turns
+  pub fits : fate.limit < 2 ^ 32
+  pub after : q ≡ pushed replica p.row p.column
+  pub form : HasForm q
+  pub grown : NoWordFell replica q
+  pub pushes : n ≡ one_more 32 fate.pushes
+  pub unchanged : (x : ℕ) → p.column + 1 ≤ x → x < t → changed q.rows p.row x ≡ false
+  pub above : p.column + 1 ≤ t
+  pub within : t ≤ columns_of q.roster q.window
+
+-- a replica that has pushed took its push, and stands at the next column
+pub push_taken : (replica q : Replica) (fate : Fate) (p : Place) (n t word : ℕ)
+    → IsPushed replica q fate p n t
+    → IsTaken word (standing replica fate p) (steps.Push p.row p.column) q (counted fate n)
+    (from_column q.roster (columns_of q.roster q.window) p (p.column + 1))
+push_taken replica q fate p n t word l = record {
+  running = l.running;
+  fits = l.fits;
+  none = l.due.none;
+  due = l.due.step;
+  replica = l.after;
+  form = l.form;
+  grown = l.grown;
+  place = behind replica q p parts.Push l.due.at (ap (λ (x : Replica). x.roster) l.after)
+      (ap (λ (x : Replica). x.window) l.after) refl;
+  told = record { limit = refl; patience = refl; crashes = refl; suspicions = refl; pushes = l.pushes };
+}
+
+-- the search from the next column goes by the columns up to t
+pub push_searched : (replica q : Replica) (fate : Fate) (p : Place) (n t : ℕ)
+    → IsPushed replica q fate p n t
+    → IsUnderway (standing q (counted fate n) (from_column q.roster (columns_of q.roster q.window) p t))
+    × (settled (standing q (counted fate n) (from_column q.roster (columns_of q.roster q.window) p t))
+    ≡ settled (standing q (counted fate n)
+    (from_column q.roster (columns_of q.roster q.window) p (p.column + 1))))
+push_searched replica q fate p n t l =
+    pushes_searched q (counted fate n) p (p.column + 1) t l.due.at (ap (λ (x : Replica). x.end) l.after
+    ∙ l.due.none)
+    (is_done 0 _ _ _ _ _ (push_taken replica q fate p n t 0 l)).underway l.unchanged l.above l.within
+
+-- a member that pushed and then settled stands where the answer says
+pub pushed_past : (now : Running) (replica q : Replica) (fate : Fate) (p s : Place) (n t word : ℕ)
+    → standing replica fate p ≡ now → IsPushed replica q fate p n t
+    → standing q (counted fate n) s ≡ settled
+    (standing q (counted fate n) (from_column q.roster (columns_of q.roster q.window) p t))
+    → IsAnswer word now (standing q (counted fate n) s)
+pushed_past now replica q fate p s n t word view l e =
+    answer_at word (standing replica fate p) now (standing q (counted fate n) s) view
+    (is_answer word (standing replica fate p) (steps.Push p.row p.column) q (counted fate n)
+    (from_column q.roster (columns_of q.roster q.window) p (p.column + 1)) s
+    (push_taken replica q fate p n t word l)
+    (e ∙ (push_searched replica q fate p n t l).1))
+
+-- it stays at the next changed column, where there is one
+pub pushed_within : (now : Running) (replica q : Replica) (fate : Fate) (p : Place) (n t word : ℕ)
+    → standing replica fate p ≡ now → IsPushed replica q fate p n t
+    → t < columns_of q.roster q.window → changed q.rows p.row t ≡ true
+    → IsAnswer word now (standing q (counted fate n) (record p { column = t }))
+pushed_within now replica q fate p n t word view l within word_changed =
+    pushed_past now replica q fate p next n t word view l
+    (stays x (push_applies x next l.due.at other word_changed
+    (cell_test q p.row t
+    (omega (arith, ap (λ (y : Replica). y.roster) l.after, l.due.cell.row)) other within))
+    ∙ ap (λ (y : Place). settled (standing q (counted fate n) y)) (sym here))
+  where
+    next : Place
+    next = record p { column = t }
+
+    x : Running
+    x = standing q (counted fate n) next
+
+    here : from_column q.roster (columns_of q.roster q.window) p t ≡ record p { column = t }
+    here = from_here q.roster (columns_of q.roster q.window) p t
+        (omega (arith, within, ap (columns_in (columns_of q.roster q.window)) l.due.at))
+
+    other : is_other q p.row ≡ true
+    other = ap (λ (y : Replica). is_other y p.row) l.after ∙ l.due.cell.other
+
+-- and what it keeps of its script stays timely
+pub pushed_timely : (replica q : Replica) (fate : Fate) (p : Place) (n t : ℕ)
+    → IsPushed replica q fate p n t → IsTimely (counted fate n) q.turns
+pushed_timely replica q fate p n t l =
+    subst (λ (x : Replica). IsTimely (counted fate n) x.turns) (sym l.after)
+    (subst (λ (x : ℕ). IsTimely (counted fate x) replica.turns) (sym l.pushes)
+    (timely_push fate replica.turns l.timely (some_at_push fate replica.turns l.timely ∙ l.due.later)))
+
+-- ---- the code's fields after a step
+
+-- a step leaves the member in good order inside
+pub inside_after : (a : Inside) (q : Replica) (fate : Fate) (place : Place) (word : ℕ) (s : Step)
+    → IsInside a → q ≡ stepped word a.replica s
+    → IsRunningMember (standing q fate place) → IsTimely fate q.turns → fate.limit ≡ a.fate.limit
+    → IsInside (record { replica = q; place = place; fate = fate; bases = a.bases })
+inside_after a q fate place word s is e form timely limit =
+    record {
+      form = form;
+      fate = timely;
+      limit = omega (arith, limit, is.limit);
+      bases =
+          deeds_keep_bases a.bases word a.replica q s e is.bases;
+    }
+
+-- of a look
+pub look_due_at : (now : Running) (a : Inside) (word : ℕ) → view_of a ≡ now → IsInside a
+    → MaySee now (step_of_member now) word → IsLookDue (view_of a) word
+look_due_at now a word view is may =
+    look_due (view_of a) word is.form
+    (subst (λ (x : Running). MaySee x (step_of_member x) word) (sym view) may)
+
+-- a member that sees a word looks at it so
+pub is_looked : (now : Running) (a : Inside) (q : Replica) (word : ℕ) → view_of a ≡ now → IsInside a
+    → MaySee now (step_of_member now) word
+    → q ≡ looked a.replica a.place.row a.place.column word → HasForm q → NoWordFell a.replica q
+    → IsLooked a.replica q a.fate a.place word
+is_looked now a q word view is may after form grown = record {
+  running = is.form;
+  due = look_due_at now a word view is may;
+  fits = is.limit;
+  after = after;
+  form = form;
+  grown = grown;
+}
+
+-- a look leaves the fate timely
+pub looked_timely : (a : Inside) (q : Replica) (i c word : ℕ) → IsInside a → q
+    ≡ looked a.replica i c word
+    → IsTimely a.fate q.turns
+looked_timely a q i c word is e = subst (λ (x : Replica). IsTimely a.fate x.turns) (sym e) is.fate
+
+-- of an act
+pub act_taken : (word : ℕ) (now : Running) (a : Inside) (q : Replica) (fate : Fate) (from : Place)
+    (act : Act) (turn : ℕ) → view_of a ≡ now → IsInside a
+    → is_act (next_deed now) ≡ true → next_step (view_of a) ≡ steps.Do act → q
+    ≡ taken a.replica act
+    → HasForm q → NoWordFell a.replica q
+    → from ≡ goes a.replica.roster (columns_of a.replica.roster a.replica.window)
+    (part_of a.place) a.place
+    → fate ≡ fate_after a.fate act turn
+    → IsTaken word (view_of a) (steps.Do act) q fate from
+act_taken word now a q fate from act turn view is acts due after form grown place told = record {
+  running = is.form;
+  fits = is.limit;
+  none = (deed_due is_act (λ end. refl) (view_of a)
+      (subst (λ (x : Running). is_act (next_deed x) ≡ true) (sym view) acts)).0;
+  due = due;
+  replica = after;
+  form = form;
+  grown = grown;
+  place = place;
+  told = subst (IsFateAfter (view_of a) (steps.Do act)) (sym told)
+      (fate_of_act a.replica a.fate a.place act turn);
+}
+
+-- an act leaves the fate timely
+pub acted_timely : (a : Inside) (q : Replica) (fate : Fate) (act : Act) (turn : ℕ) → IsInside a
+    → q ≡ taken a.replica act → fate ≡ fate_after a.fate act turn → turn ≡ q.turns
+    → IsTimely fate q.turns
+acted_timely a q fate act turn is after told same =
+    subst (λ (x : Fate). IsTimely x q.turns)
+    (sym (told ∙ ap (fate_after a.fate act) (same ∙ ap (λ (x : Replica). x.turns) after)))
+    (subst (λ (x : ℕ). IsTimely (fate_after a.fate act (taken a.replica act).turns) x)
+    (sym (ap (λ (x : Replica). x.turns) after)) (timely_act a.fate a.replica act is.fate))
+
+-- an act leaves the limit
+pub acted_limit : (a : Inside) (fate : Fate) (act : Act) (turn : ℕ) → fate ≡ fate_after a.fate act turn
+    → fate.limit ≡ a.fate.limit
+acted_limit a fate act turn told = ap (λ (x : Fate). x.limit) told
+    ∙ (fate_of_act a.replica a.fate a.place act turn).limit
+
+-- of an append
+pub append_taken : (word : ℕ) (now : Running) (a : Inside) (q : Replica) (from : Place) → view_of a
+    ≡ now
+    → IsInside a
+    → is_append (next_deed now) ≡ true → q ≡ appended a.replica → HasForm q
+    → NoWordFell a.replica q
+    → from ≡ goes a.replica.roster (columns_of a.replica.roster a.replica.window)
+    (part_of a.place) a.place
+    → IsTaken word (view_of a) steps.Append q a.fate from
+append_taken word now a q from view is append after form grown place =
+    let due = append_due (view_of a) is.form
+    (subst (λ (x : Running). is_append (next_deed x) ≡ true) (sym view) append) in record {
+      running = is.form;
+      fits = is.limit;
+      none = due.none;
+      due = due.step;
+      replica = after;
+      form = form;
+      grown = grown;
+      place = place;
+      told = fate_stays a.replica a.fate a.place steps.Append refl;
+    }
+
+-- an append leaves the fate timely
+pub appended_timely : (a : Inside) (q : Replica) → IsInside a → q ≡ appended a.replica
+    → IsTimely a.fate q.turns
+appended_timely a q is e = subst (λ (x : Replica). IsTimely a.fate x.turns) (sym e) is.fate
+
+-- of a push, where t is the next changed column
+pub is_pushed : (now : Running) (a : Inside) (q : Replica) (n t : ℕ) → view_of a ≡ now → IsInside a
+    → is_push (next_deed now) ≡ true
+    → q ≡ pushed a.replica a.place.row a.place.column → HasForm q → NoWordFell a.replica q
+    → n ≡ one_more 32 a.fate.pushes
+    → ((x : ℕ) → a.place.column + 1 ≤ x → x < t → changed q.rows a.place.row x ≡ false)
+    → a.place.column + 1 ≤ t → t ≤ columns_of q.roster q.window
+    → IsPushed a.replica q a.fate a.place n t
+is_pushed now a q n t view is push after form grown pushes unchanged above within = record {
+  running = is.form;
+  due = push_due (view_of a) is.form
+      (subst (λ (x : Running). is_push (next_deed x) ≡ true) (sym view) push);
+  timely = is.fate;
+  fits = is.limit;
+  after = after;
+  form = form;
+  grown = grown;
+  pushes = pushes;
+  unchanged = unchanged;
+  above = above;
+  within = within;
+}
+
+-- the kept number of columns is that of the replica after a step
+pub columns_after : (a : Inside) (q : Replica) (word : ℕ) (s : Step) → IsInside a
+    → q ≡ stepped word a.replica s → a.bases.columns ≡ columns_of q.roster q.window
+columns_after a q word s is e = columns_kept a.bases q.roster q.window q.view (me q)
+    (deeds_keep_bases a.bases word a.replica q s e is.bases).are

@@ -1,0 +1,20 @@
+use Rattle.std.proofs.Common.{◌≡◌, sym, ap, ◌∙◌, true, false}
+use Rattle.dr_program.specs.Running.{crashes_now, push_or_crash, step_at}
+use Rattle.dr_member.specs.Search.{standing}
+use Rattle.dr_member.proofs.search.step_at.Goals as goal
+
+pub returns-in-Push : goal.returns-in-Push
+returns-in-Push c =
+    let r = standing c.args.replica.now c.args.fate.now c.args.place in
+    let now : crashes_now r ≡ true =
+    cc (c.crashes_now.ensures c.args.replica.now c.args.place c.requires.fate) in
+    ap (λ b. push_or_crash b c.args.place.row c.args.place.column) (sym now)
+    ∙ ap (λ x. step_at r x c.args.place.row c.args.place.column) (sym c.in-Push.is ∙ c.part_of.ensures)
+
+pub returns-in-Push-2 : goal.returns-in-Push-2
+returns-in-Push-2 c =
+    let r = standing c.args.replica.now c.args.fate.now c.args.place in
+    let later : crashes_now r ≡ false =
+    cc (c.crashes_now.ensures c.args.replica.now c.args.place c.requires.fate) in
+    ap (λ b. push_or_crash b c.args.place.row c.args.place.column) (sym later)
+    ∙ ap (λ x. step_at r x c.args.place.row c.args.place.column) (sym c.in-Push-2.is ∙ c.part_of.ensures)

@@ -1,0 +1,47 @@
+-- What no step changes of a replica.
+use Rattle.std.proofs.Common.{◌≡◌, refl, ap, ◌∙◌, ℕ, List, slice_index}
+use Rattle.dr_machine.specs.declared.event.Act.TheVariants as acts
+use Rattle.dr_machine.specs.declared.step.Step.{Step}
+use Rattle.dr_machine.specs.declared.step.Step.TheVariants.{Do}
+use Rattle.dr_machine.specs.Group.{Group}
+use Rattle.dr_program.specs.Replica.{Replica, me}
+use Rattle.dr_program.specs.Steps.{stepped}
+use Rattle.dr_program.specs.Form.{IsOf}
+
+-- what a replica was told as its age opened
+pub record Told : Type 0 where
+  pub number : ℕ
+  pub roster : ℕ
+  pub window : ℕ
+  pub banks : ℕ
+  pub messages : List (List ℕ)
+  pub totals : List ℕ
+  pub room : ℕ
+
+abbrev pub told : Replica → Told
+told r = record {
+  number = me r;
+  roster = r.roster;
+  window = r.window;
+  banks = r.banks;
+  messages = r.messages;
+  totals = r.totals;
+  room = r.room;
+}
+
+-- a step leaves it, whatever it sees
+pub step_told : (word : ℕ) (r : Replica) (s : Step) → told (stepped word r s) ≡ told r
+step_told word r (Do acts.Mark) = refl
+step_told word r (Do a) = refl
+step_told word r s = refl
+
+-- a replica that was told the same is still that of the member
+pub of_told : (g : Group) (m : ℕ) (r q : Replica) → told q ≡ told r → IsOf g m r → IsOf g m q
+of_told g m r q same of = record {
+  number = ap (λ (t : Told). t.number) same ∙ of.number;
+  members = ap (λ (t : Told). t.roster) same ∙ of.members;
+  window = ap (λ (t : Told). t.window) same ∙ of.window;
+  banks = ap (λ (t : Told). t.banks) same ∙ of.banks;
+  messages = ap (λ (t : Told). t.messages) same ∙ of.messages;
+  totals = λ s. ap (λ (t : Told). slice_index t.totals s) same ∙ of.totals s;
+}

@@ -1,0 +1,186 @@
+-- The world by members: what it has of each of them, and the table.
+use Rattle.std.proofs.Common.{◌≡◌, ◌≢◌, refl, sym, ap, ◌∙◌, ℕ, ◌<◌, ◌==◌, inl, inr, List, length, if◌then◌else◌, arith}
+use Rattle.std.proofs.Math.Path.{fun_ext}
+use Rattle.std.specs.Prelude.{Option, Some, None, slice_get, slice_set, take, nat_lt, []}
+use Rattle.std.proofs.lemmas.Bool.{cases_eq, cases_lt}
+use Rattle.std.proofs.lemmas.List.{get_or-set_same, get_or-set_other, length-set}
+use Rattle.std.proofs.lemmas.Option.{slice_get-get_or, slice_get_past}
+use Rattle.dr_entry.specs.declared.entry.Entry.{Entry}
+use Rattle.dr_entry.specs.declared.entry.Item.{Item}
+use Rattle.dr_entry.specs.declared.entry.Item.TheVariants.{Null}
+use Rattle.dr_entry.specs.declared.end.End.{End}
+use Rattle.dr_entry.specs.declared.end.SentItem.{SentItem}
+use Rattle.dr_entry.specs.declared.record.Value.{Value}
+use Rattle.dr_entry.specs.declared.record.Vote.{Vote}
+use Rattle.dr_rows.specs.Words.{own, seen}
+use Rattle.dr_machine.specs.Group.{Group, roster}
+use Rattle.dr_machine.specs.World.{World, opening_world}
+use Rattle.dr_program.specs.Replica.{Replica, me, count, item, suspects, promise, tag, value, committed, pending, votes}
+use Rattle.dr_program.specs.Reading.{world_of, word_of, in_view}
+
+-- all that the world has of one member
+pub record Holding : Type 0 where
+  pub view : ℕ
+  pub own : ℕ → ℕ → ℕ
+  pub count : ℕ → ℕ → ℕ
+  pub item : ℕ → ℕ → Item
+  pub sent : ℕ → List SentItem
+  pub history : List Entry
+  pub log : List Entry
+  pub votes : List Vote
+  pub durable : ℕ
+  pub acts : ℕ
+  pub members : ℕ
+  pub suspects : ℕ
+  pub promise : ℕ
+  pub tag : ℕ
+  pub value : Value
+  pub committed : Option Value
+  pub pending : Option Vote
+  pub next : ℕ
+  pub base : ℕ
+  pub seen : ℕ → ℕ → ℕ
+  pub turns : ℕ
+  pub end : Option End
+
+abbrev pub held : World → ℕ → Holding
+held w m = record {
+  view = w.past.view m;
+  own = w.past.own m;
+  count = w.past.count m;
+  sent = w.past.sent m;
+  history = w.past.history m;
+  log = w.past.log m;
+  votes = w.past.votes m;
+  durable = w.past.durable m;
+  acts = w.past.acts m;
+  members = w.members m;
+  suspects = w.suspects m;
+  promise = w.promise m;
+  tag = w.tag m;
+  value = w.value m;
+  committed = w.committed m;
+  pending = w.pending m;
+  item = w.item m;
+  next = w.next m;
+  base = w.base m;
+  seen = w.seen m;
+  turns = w.turns m;
+  end = w.end m;
+}
+
+-- the world in which each member has this
+abbrev pub gathered : (ℕ → Holding) → (ℕ → ℕ → ℕ → ℕ → ℕ) → World
+gathered h table = record {
+  past = record {
+    view = λ m. (h m).view;
+    own = λ m. (h m).own;
+    count = λ m. (h m).count;
+    sent = λ m. (h m).sent;
+    history = λ m. (h m).history;
+    log = λ m. (h m).log;
+    votes = λ m. (h m).votes;
+    durable = λ m. (h m).durable;
+    acts = λ m. (h m).acts;
+  };
+  members = λ m. (h m).members;
+  suspects = λ m. (h m).suspects;
+  promise = λ m. (h m).promise;
+  tag = λ m. (h m).tag;
+  value = λ m. (h m).value;
+  committed = λ m. (h m).committed;
+  pending = λ m. (h m).pending;
+  item = λ m. (h m).item;
+  next = λ m. (h m).next;
+  base = λ m. (h m).base;
+  seen = λ m. (h m).seen;
+  turns = λ m. (h m).turns;
+  end = λ m. (h m).end;
+  table = table;
+}
+
+-- worlds in which each member has the same, with the same table, are one
+pub same_worlds : (w v : World) → ((m : ℕ) → held w m ≡ held v m) → w.table ≡ v.table → w ≡ v
+same_worlds w v members table =
+    let holdings : held w ≡ held v = fun_ext members in
+    λ z. gathered (holdings z) (table z)
+
+-- what replica r has
+abbrev pub holding_of : Group → Replica → Holding
+holding_of g r =
+    record {
+      view = r.view;
+      own = λ v c. in_view r v (own r.rows c) 0;
+      count = λ v s. in_view r v (count r s) 0;
+      item = λ s k. if nat_lt s (roster g) then item r s k else Null;
+      sent = λ v. in_view r v r.sent [];
+      history = r.history;
+      log = take r.logged r.history;
+      votes = votes r;
+      durable = r.durable;
+      acts = r.acts;
+      members = r.members;
+      suspects = suspects r;
+      promise = promise r;
+      tag = tag r;
+      value = value r;
+      committed = committed r;
+      pending = pending r;
+      next = r.next;
+      base = r.base;
+      seen = λ i c. if i == me r then 0 else seen r.rows i c;
+      turns = r.turns;
+      end = r.end;
+    }
+
+-- the world has of a member what its replica has
+pub held_of : (g : Group) (rs : List Replica) (table : List ℕ) (m : ℕ) (r : Replica) → slice_get rs m
+    ≡ Some r
+    → held (world_of g rs table) m ≡ holding_of g r
+held_of g rs table m r e = rw e refl
+
+-- and of a number that no replica has, what the opening has
+pub held_past : (g : Group) (rs : List Replica) (table : List ℕ) (m : ℕ) → slice_get rs m ≡ None
+    → held (world_of g rs table) m ≡ held (opening_world g) m
+held_past g rs table m e = rw e refl
+
+-- the same where two lists have the same replica
+pub held_same : (g : Group) (rs qs : List Replica) (table cells : List ℕ) (m : ℕ) → slice_get rs m
+    ≡ slice_get qs m
+    → held (world_of g rs table) m ≡ held (world_of g qs cells) m
+held_same g rs qs table cells m e = rw e refl
+
+-- the replica that was set, and the others
+pub replica_set : {X : Type 0} (rs : List X) (m : ℕ) (r : X) → m < length rs
+    → slice_get (slice_set rs m r) m ≡ Some r
+replica_set rs m r within =
+    slice_get-get_or (slice_set rs m r) m r (omega (arith, length-set rs m r, within))
+    ∙ ap Some (get_or-set_same rs m r r within)
+
+-- and the others stay
+pub replica_kept : {X : Type 0} (rs : List X) (m k : ℕ) (r : X) → k ≢ m
+    → slice_get (slice_set rs m r) k ≡ slice_get rs k
+replica_kept rs m k r other = elim (cases_lt k (length rs)) [
+  | inl within ↦ slice_get-get_or (slice_set rs m r) k r (omega (arith, length-set rs m r))
+      ∙ ap Some (get_or-set_other rs m k r r other) ∙ sym (slice_get-get_or rs k r within)
+  | inr past ↦ slice_get_past (slice_set rs m r) k (omega (arith, length-set rs m r))
+      ∙ sym (slice_get_past rs k past)
+]
+
+-- the world after a change of member m alone, that leaves of it what stands in `after`
+pub record Changes (w v : World) (m : ℕ) (after : Holding) : Type 0 where
+  pub others : (k : ℕ) → k ≢ m → held v k ≡ held w k
+  pub here : held v m ≡ after
+
+-- where one replica is replaced, the world is the one in which it alone is changed
+pub changed_world : (g : Group) (rs : List Replica) (table cells : List ℕ) (m : ℕ) (r : Replica)
+    (v : World) → m < length rs
+    → Changes (world_of g rs table) v m (holding_of g r) → word_of g cells ≡ v.table
+    → world_of g (slice_set rs m r) cells ≡ v
+changed_world g rs table cells m r v within changes cell =
+    same_worlds (world_of g (slice_set rs m r) cells) v (λ k. elim (cases_eq k m) [
+      | inl same ↦ rw same (held_of g (slice_set rs m r) cells m r (replica_set rs m r within)
+          ∙ sym changes.here)
+      | inr other ↦ held_same g (slice_set rs m r) rs cells table k (replica_kept rs m k r other)
+          ∙ sym (changes.others k other)
+    ]) cell

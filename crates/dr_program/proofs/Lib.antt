@@ -1,0 +1,6 @@
+pub mod Runs
+pub mod Fixed
+pub mod Holdings
+pub mod OwnWords
+pub mod Opening
+pub mod OpeningForm

@@ -1,0 +1,192 @@
+-- A program as its age opens.
+use Rattle.std.proofs.Common.{◌≡◌, refl, ap, ◌∙◌, ℕ, zero, suc, ◌+◌, ◌*◌, ◌<◌, ◌≤◌, ◌==◌, ◌&&◌, if◌then◌else◌, inl, inr, List, [], ◌∷◌, length, replicate, map, arith}
+use Rattle.std.proofs.Math.Path.{fun_ext}
+use Rattle.std.proofs.Math.Seq.{take-length}
+use Rattle.std.specs.Prelude.{Option, Some, None, nat_lt, slice_get, slice_index_or, option_map}
+use Rattle.std.specs.List.{range_with_len}
+use Rattle.std.proofs.lemmas.Bool.{cases_lt, cases_eq}
+use Rattle.std.proofs.lemmas.Bool.Decides.{nat_tests}
+use Rattle.std.proofs.lemmas.List.{get_or-replicate, get_or_past, length-replicate}
+use Rattle.std.proofs.lemmas.Option.{slice_get_within}
+use Rattle.dr_entry.specs.declared.entry.Item.TheVariants.{Null}
+use Rattle.dr_history.specs.History.{messages_of}
+use Rattle.dr_history.specs.Order.{first_entries}
+use Rattle.dr_rows.specs.Words.{Words, begun, own, seen, with_own}
+use Rattle.dr_rows.proofs.WordsLemmas.{IsWords-begun, IsFresh-begun}
+use Rattle.dr_words.specs.declared.column.TheConstants.{LOGGED_COLUMN}
+use Rattle.dr_words.specs.declared.shape.Shape.{Shape}
+use Rattle.dr_words.specs.Columns.{columns_of}
+use Rattle.dr_words.specs.Layout.{words_of, word_index_of}
+use Rattle.dr_program.specs.declared.setup.Setup.{Setup}
+use Rattle.dr_machine.specs.Group.{Group, IsGroup, banks, roster, columns}
+use Rattle.dr_machine.specs.World.{opening_world}
+use Rattle.dr_program.specs.Replica.{Replica, begun_replica}
+use Rattle.dr_program.specs.Running.{Running, begun_running}
+use Rattle.dr_program.specs.Program.{IsSetup, AreSetups, begun_program}
+use Rattle.dr_program.specs.Reading.{world, world_of, word_of}
+use Rattle.dr_program.proofs.Holdings.{held, holding_of, held_of, held_past, same_worlds}
+use Rattle.dr_program.proofs.OwnWords.{both_same, own_with, seen_with, same_number, other_number}
+
+-- ---- the setup of a member, with what another one says of faults
+
+abbrev pub setup_of : Group → ℕ → ℕ → Shape → Setup → Setup
+setup_of g limit m shape told = record {
+  shape = shape;
+  me = m;
+  age = g.opening.age;
+  members = g.opening.members;
+  turns = limit;
+  start = g.opening.start;
+  messages = messages_of g.opening m;
+  totals = map (λ i. length (messages_of g.opening i)) (range_with_len 0 16);
+  patience = told.patience;
+  crashes = told.crashes;
+  suspicions = told.suspicions;
+}
+
+-- a setup is that of the group
+pub setup_is : (g : Group) (limit m : ℕ) (s : Setup) → IsSetup g limit m s → s
+    ≡ setup_of g limit m s.shape s
+setup_is g limit m s is = λ z. record {
+  shape = s.shape;
+  me = is.me z;
+  age = is.age z;
+  members = is.view z;
+  turns = is.turns z;
+  start = is.start z;
+  messages = is.messages z;
+  totals = is.totals z;
+  patience = s.patience;
+  crashes = s.crashes;
+  suspicions = s.suspicions;
+}
+
+-- the shape is the group's
+pub record IsShape (g : Group) (shape : Shape) : Type 0 where
+  pub members : shape.members ≡ roster g
+  pub window : shape.window ≡ g.window
+  pub banks : shape.banks ≡ banks g
+
+-- and so is its shape
+pub shape_is : (g : Group) (limit m : ℕ) (s : Setup) → IsSetup g limit m s → IsShape g s.shape
+shape_is g limit m s is = record { members = is.members; window = is.window; banks = is.banks }
+
+-- ---- the world
+
+-- every element of a list of copies is the copy, also past its end
+pub copy_at : {X : Type 0} (n : ℕ) (x : X) (i : ℕ) → slice_index_or (replicate n x) i x ≡ x
+copy_at n x i =
+    elim (cases_lt i n) [
+      | inl within ↦ get_or-replicate n i x x within
+      | inr past ↦ get_or_past (replicate n x) i x (omega (arith, length-replicate n x))
+    ]
+
+-- the rows as the age opens
+abbrev pub first_rows : ℕ → ℕ → ℕ → ℕ → Words
+first_rows n k m logged = with_own (begun n k m) LOGGED_COLUMN logged
+
+-- the own words as the age opens
+pub first_own : (n k m logged c : ℕ) → n ≤ 16 → k ≤ 1024 → m < n → LOGGED_COLUMN < k
+    → own (first_rows n k m logged) c ≡ (if c == LOGGED_COLUMN then logged else 0)
+first_own n k m logged c few narrow within wide =
+    own_with (begun n k m) LOGGED_COLUMN logged c (IsWords-begun n k m few narrow within) wide
+    ∙ ap (λ x. if c == LOGGED_COLUMN then logged else x) ((IsFresh-begun n k m).zero m c)
+
+first_seen : (n k m logged i c : ℕ) → (if i == m then 0 else seen (first_rows n k m logged) i c) ≡ 0
+first_seen n k m logged i c =
+    elim (cases_eq i m) [
+      | inl same ↦ rw (same, same_number m) refl
+      | inr other ↦ rw (other_number i m other)
+          (seen_with (begun n k m) LOGGED_COLUMN logged i c other ∙ (IsFresh-begun n k m).zero i c)
+    ]
+
+-- the width of rows of a group
+pub wide : (g : Group) (shape : Shape) → IsGroup g → IsShape g shape → (shape.members ≤ 16)
+    × (LOGGED_COLUMN < columns_of shape.members shape.window)
+    × (columns_of shape.members shape.window ≤ 1024)
+wide g shape is of = (
+  omega (arith, is.most_members, of.members),
+  omega arith,
+  omega (arith, is.most_members, is.most_slots, of.members, of.window),
+)
+
+-- what a member has as its age opens
+begun_own : (g : Group) (limit m : ℕ) (shape : Shape) (told : Setup) → IsGroup g → IsShape g shape
+    → m < roster g
+    → (holding_of g (begun_replica (setup_of g limit m shape told))).own ≡ (opening_world g).past.own m
+begun_own g limit m shape told is of within = fun_ext λ v. fun_ext λ c.
+    let bounds = wide g shape is of in
+    let word = first_own shape.members (columns_of shape.members shape.window) m
+    (length (first_entries g.opening)) c bounds.0 bounds.2 (omega (arith, within, of.members)) bounds.1 in
+    ap (λ x. if v == 0 then x else 0) word
+    ∙ begun_word (roster g) m v c (length (first_entries g.opening)) within
+  where
+    begun_word : (n m v c logged : ℕ) → m < n
+        → (if v == 0 then (if c == LOGGED_COLUMN then logged else 0) else 0)
+        ≡ (if nat_lt m n && (v == 0 && c == LOGGED_COLUMN) then logged else 0)
+    begun_word n m v c logged within = grind (arith, nat_tests, within)
+
+begun_holding : (g : Group) (limit m : ℕ) (shape : Shape) (told : Setup) → IsGroup g → IsShape g shape
+    → m < roster g
+    → holding_of g (begun_replica (setup_of g limit m shape told)) ≡ held (opening_world g) m
+begun_holding g limit m shape told is of within =
+    let r : Replica = begun_replica (setup_of g limit m shape told) in
+    let own : (holding_of g r).own
+    ≡ (opening_world g).past.own m = begun_own g limit m shape told is of within in
+    let count : (holding_of g r).count
+    ≡ (opening_world g).past.count m =
+    fun_ext λ v. fun_ext λ s. ap (λ x. if v == 0 then x else 0) (copy_at {X = ℕ} shape.members 0 s)
+    ∙ both_same {X = ℕ} (v == 0) 0 in
+    let item : (holding_of g r).item ≡ (opening_world g).item m = fun_ext λ s. fun_ext λ k.
+    ap (λ x. if nat_lt s (roster g) then x else Null) (copy_at _ Null (k * shape.members + s))
+    ∙ both_same (nat_lt s (roster g)) Null in
+    let sent : (holding_of g r).sent
+    ≡ (opening_world g).past.sent m = fun_ext λ v. both_same (v == 0) [] in
+    let log : (holding_of g r).log ≡ (opening_world g).past.log m = take-length (first_entries g.opening) in
+    let seen : (holding_of g r).seen ≡ (opening_world g).seen m = fun_ext λ i. fun_ext λ c.
+    first_seen shape.members (columns_of shape.members shape.window) m
+    (length (first_entries g.opening)) i c in
+    λ z. record (held (opening_world g) m)
+    { own = own z; count = count z; item = item z; sent = sent z; log = log z; seen = seen z }
+
+-- no word of the table is set
+empty_table : (g : Group) (n : ℕ) → word_of g (replicate n 0) ≡ (opening_world g).table
+empty_table g n = fun_ext λ v. fun_ext λ j. fun_ext λ i. fun_ext λ c.
+    rw (copy_at {X = ℕ} n 0 (word_index_of (roster g) g.window v j i c))
+    (both_same ((nat_lt v (banks g) && nat_lt j (roster g))
+    && (nat_lt i (roster g) && nat_lt c (columns g))) 0)
+
+-- the replicas as the age opens
+abbrev begun_replicas : List Setup → List Replica
+begun_replicas setups = map (λ (r : Running). r.replica) (map begun_running setups)
+
+begun_get : (setups : List Setup) (m : ℕ) → slice_get (begun_replicas setups) m
+    ≡ option_map begun_replica (slice_get setups m)
+begun_get [] m = refl
+begun_get (s ∷ setups) zero = refl
+begun_get (s ∷ setups) (suc m) = begun_get setups m
+
+begun_member : (g : Group) (limit : ℕ) (setups : List Setup) (table : List ℕ) (m : ℕ) → IsGroup g
+    → AreSetups g limit setups
+    → held (world_of g (begun_replicas setups) table) m ≡ held (opening_world g) m
+begun_member g limit setups table m is are = by (slice_get setups m) refl
+  where
+    by : (o : Option Setup) → slice_get setups m ≡ o
+        → held (world_of g (begun_replicas setups) table) m ≡ held (opening_world g) m
+    by None e = held_past g (begun_replicas setups) table m
+        (begun_get setups m ∙ ap (option_map begun_replica) e)
+    by (Some s) e =
+        let within : m < roster g = omega (arith, slice_get_within setups m s e, are.all) in
+        held_of g (begun_replicas setups) table m (begun_replica s)
+        (begun_get setups m ∙ ap (option_map begun_replica) e)
+        ∙ ap (λ x. holding_of g (begun_replica x)) (setup_is g limit m s (are.each m s e))
+        ∙ begun_holding g limit m s.shape s is (shape_is g limit m s (are.each m s e)) within
+
+-- a program begins in the world as the age opens
+pub begins_at_the_opening : (g : Group) (limit : ℕ) (setups : List Setup) → IsGroup g
+    → AreSetups g limit setups
+    → world g (begun_program g setups) ≡ opening_world g
+begins_at_the_opening g limit setups is are =
+    same_worlds (world g (begun_program g setups)) (opening_world g)
+    (λ m. begun_member g limit setups (replicate (words_of (roster g) g.window (banks g)) 0) m is are)
+    (empty_table g (words_of (roster g) g.window (banks g)))

@@ -1,0 +1,99 @@
+-- The form that replicas and running members always have, and what ties them to a group.
+use Rattle.std.specs.Prelude.{◌≡◌, ℕ, ◌+◌, ◌*◌, ◌^◌, ◌<◌, ◌≤◌, true, false, List, length, map, slice_index, slice_get, None, Some}
+use Rattle.dr_entry.specs.declared.limits.TheConstants.{MAX_MESSAGES, MAX_MESSAGE_LENGTH}
+use Rattle.dr_history.specs.Members.{has}
+use Rattle.dr_history.specs.Places.{front_of}
+use Rattle.dr_history.specs.History.{messages_of, messages_in}
+use Rattle.dr_history.specs.Order.{messages_from}
+use Rattle.dr_ring.specs.Slots.{slot_column}
+use Rattle.dr_rows.specs.Words.{IsWords, own, is_frozen}
+use Rattle.dr_words.specs.declared.column.TheConstants.{BEAT_COLUMN, RECEIVED_COLUMN, LOGGED_COLUMN, PIECES}
+use Rattle.dr_words.specs.Columns.{columns_of, recv_column}
+use Rattle.dr_words.specs.Form.{AllInForm}
+use Rattle.dr_words.specs.Masks.{IsInRoster}
+use Rattle.dr_words.specs.Packing.{recv_word, ring_tag}
+use Rattle.dr_program.specs.declared.setup.Setup.{Setup}
+use Rattle.dr_program.specs.Turn.{IsIn, part_of, turn_begins}
+use Rattle.dr_machine.specs.Group.{Group, banks, roster}
+use Rattle.dr_program.specs.Replica.{Replica, me, count, greatest, is_wedged, suspects, view_of}
+use Rattle.dr_program.specs.Running.{Running, members, columns, applies}
+
+-- what a replica begins with has its ranges
+pub record CanBegin (s : Setup) : Type 0 where
+  -- there are as many banks as members; View 0 is of the roster, and the member is one of it
+  pub banks : s.shape.banks ≡ s.shape.members
+  pub roster : IsInRoster s.shape.members s.members
+  pub present : has s.members s.me ≡ true
+  -- nobody has too many messages, and the member has as many as it is told, of a length that a message may
+  -- have
+  pub few : (i : ℕ) → slice_index s.totals i ≤ MAX_MESSAGES
+  pub messages : length s.messages ≡ slice_index s.totals s.me
+  pub short : (i : ℕ) (bytes : List ℕ) → slice_get s.messages i ≡ Some bytes → length bytes
+      ≤ MAX_MESSAGE_LENGTH
+  pub bytes : (i : ℕ) (bytes : List ℕ) → slice_get s.messages i ≡ Some bytes → (k : ℕ)
+      → slice_index bytes k < 256
+  -- the start has no more messages of the member than the script, and isn't too long
+  pub base : length (messages_from s.me s.start) ≤ length s.messages
+  pub start : length s.start < 2 ^ 31
+
+-- the form that a replica always has
+pub record HasForm (r : Replica) : Type 0 where
+  -- its rows are of the group's shape, and each word of them is in form
+  pub rows : IsWords r.rows
+  pub members : r.rows.members ≡ r.roster
+  pub columns : r.rows.columns ≡ columns_of r.roster r.window
+  pub words : AllInForm r.rows.members r.rows.words
+  pub some_slot : 1 ≤ r.window
+  pub most_slots : r.window ≤ 8
+  -- the rows of those whom it suspects are frozen
+  pub frozen : (i : ℕ) → is_frozen r.rows i ≡ has (suspects r) i
+  -- its view is of the roster, has a bank, and it is a member of it
+  pub bank : r.view < r.banks
+  pub roster : IsInRoster r.roster r.members
+  pub present : has r.members (me r) ≡ true
+  -- it counts the items of each member, and no more than anyone has messages, with a place for each
+  pub counts : length r.counts ≡ r.roster
+  pub bounded : (s : ℕ) → count r s ≤ greatest r.totals
+  pub few : greatest r.totals ≤ MAX_MESSAGES
+  pub items : length r.items ≡ greatest r.totals * r.roster
+  -- its own words follow what it has
+  pub recv : (s : ℕ) → s < r.roster → own r.rows (recv_column s) ≡ recv_word (count r s) (is_wedged r)
+  pub received : own r.rows RECEIVED_COLUMN ≡ front_of (map (slice_index r.counts) (view_of r))
+  pub beat : own r.rows BEAT_COLUMN ≤ r.acts
+  pub acts : r.acts < 2 ^ 64
+  pub published : own r.rows LOGGED_COLUMN ≤ r.logged
+  -- no word of its ring is of an item that it hasn't put
+  pub ring : (k part : ℕ) → part < PIECES
+      → ring_tag (own r.rows (slot_column r.roster r.window k + part)) ≤ count r (me r)
+  -- it has put its messages from the first one of the view on, and nothing else
+  pub messages : length r.messages ≡ slice_index r.totals (me r)
+  pub short : (i : ℕ) (bytes : List ℕ) → slice_get r.messages i ≡ Some bytes → length bytes
+      ≤ MAX_MESSAGE_LENGTH
+  pub bytes : (i : ℕ) (bytes : List ℕ) → slice_get r.messages i ≡ Some bytes → (k : ℕ)
+      → slice_index bytes k < 256
+  pub put : length r.sent ≡ count r (me r)
+  pub named : messages_in r.sent ≡ length r.sent
+  pub left : r.base + length r.sent ≤ length r.messages
+  -- its log is a front of its history, for which there is room
+  pub logged : r.logged ≤ length r.history
+  pub room : length r.history ≤ r.room
+  pub small : r.room < 2 ^ 32
+
+-- the replica is that of member m of the group
+pub record IsOf (g : Group) (m : ℕ) (r : Replica) : Type 0 where
+  pub number : me r ≡ m
+  pub members : r.roster ≡ roster g
+  pub window : r.window ≡ g.window
+  pub banks : r.banks ≡ banks g
+  pub messages : r.messages ≡ messages_of g.opening m
+  pub totals : (s : ℕ) → slice_index r.totals s ≡ length (messages_of g.opening s)
+
+-- the form that a running member always has
+pub record IsRunningMember (r : Running) : Type 0 where
+  pub replica : HasForm r.replica
+  -- it stands at a place of its turn at which there is something to do, unless it has ended
+  pub place : IsIn (members r) (columns r) r.place
+  pub due : r.replica.end ≡ None → applies r r.place ≡ true
+  -- its turns don't exceed the limit, and before a turn one more is left
+  pub turns : r.replica.turns ≤ r.limit
+  pub left : r.replica.end ≡ None → part_of r.place ≡ turn_begins → r.replica.turns < r.limit

@@ -1,0 +1,10 @@
+pub mod Replica
+pub mod Acts
+pub mod Steps
+pub mod Turn
+pub mod Running
+pub mod Program
+pub mod Reading
+pub mod Sight
+pub mod Form
+pub mod Schedule

@@ -1,0 +1,128 @@
+-- A program: the members of a group as they run, over the words of one table, and its runs.
+use Rattle.std.specs.Prelude.{◌≡◌, ℕ, IsTrue, All, List, [], ◌∷◌, length, map, fold, replicate, slice_get, slice_set, Option, None, Some, is_some, unwrap_or}
+use Rattle.dr_entry.specs.declared.limits.TheConstants.{MAX_MEMBERS}
+use Rattle.std.specs.List.{range_with_len}
+use Rattle.dr_entry.specs.declared.end.AgeEnd.{AgeEnd}
+use Rattle.dr_entry.specs.declared.end.MemberEnd.{MemberEnd}
+use Rattle.dr_entry.specs.declared.end.End.{End}
+use Rattle.dr_entry.specs.declared.end.End.TheVariants as ends
+use Rattle.dr_words.specs.Layout.{words_of}
+use Rattle.dr_history.specs.History.{messages_of}
+use Rattle.dr_history.specs.declared.opening.Opening.{Opening}
+use Rattle.dr_program.specs.declared.outcome.Outcome.{Outcome}
+use Rattle.dr_program.specs.declared.outcome.Outcome.TheVariants as outcomes
+use Rattle.dr_program.specs.declared.setup.Setup.{Setup}
+use Rattle.dr_machine.specs.declared.step.Step.{Step}
+use Rattle.dr_machine.specs.declared.step.Step.TheVariants.{Append}
+use Rattle.dr_machine.specs.Group.{Group, banks, roster}
+use Rattle.dr_program.specs.Replica.{Replica}
+use Rattle.dr_program.specs.Running.{Running, begun_running, next_step, after_step}
+use Rattle.dr_program.specs.Steps.{sight, stored}
+
+-- A program has a place for each member of the roster, at its number; whoever is absent stands there as one
+-- that has ended
+-- before its first deed.
+pub record Program : Type 0 where
+  -- the members, by number
+  pub members : List Running
+  -- the table's words, by index
+  pub table : List ℕ
+
+-- an element of a run: a member takes its next deed, and where that is an append, it goes so
+pub record Move : Type 0 where
+  -- the member's number
+  pub member : ℕ
+  pub outcome : Outcome
+
+-- the next deed of member m, where an append goes well
+abbrev pub ok : ℕ → Move
+ok m = record { member = m; outcome = outcomes.Ok }
+
+-- all appends of a run go well
+abbrev pub AllOk : List Move → Type 0
+AllOk es = All (λ (e : Move). e.outcome ≡ outcomes.Ok) es
+
+-- what the next step of a member sees in the table
+abbrev pub next_sight : List ℕ → Running → ℕ
+next_sight table r = sight table r.replica (next_step r)
+
+-- a member after the append that is due, by its outcome
+abbrev pub appended_as : Outcome → Running → Running
+appended_as outcomes.Ok r = after_step 0 r
+
+-- a member after the step that is due, with the word that it sees: after an append by its outcome
+abbrev pub after_deed : ℕ → Outcome → Running → Step → Running
+after_deed word outcome r Append = appended_as outcome r
+after_deed word outcome r s = after_step word r
+
+-- the program after its member r, with this end, has made this move
+abbrev pub went : Program → Running → Move → Option End → Program
+went p r e None = record {
+  members = slice_set p.members e.member (after_deed (next_sight p.table r) e.outcome r (next_step r));
+  table = stored p.table r.replica (next_step r);
+}
+went p r e (Some end) = p
+
+-- the program after this move of a member, if there is such a member
+abbrev pub moved_by : Program → Option Running → Move → Program
+moved_by p None e = p
+moved_by p (Some r) e = went p r e r.replica.end
+
+-- the program after a move: its member, unless it has ended, has taken its next deed
+abbrev pub step_of : Program → Move → Program
+step_of p e = moved_by p (slice_get p.members e.member) e
+
+-- the program after these moves, one after the other
+unfoldable pub ran : Program → List Move → Program
+ran p es = fold step_of p es
+
+-- the program comes of some such moves
+abbrev pub IsRanFrom : Program → Program → Type 0
+IsRanFrom begun p = (es : List Move) × (p ≡ ran begun es)
+
+-- the setup of member m of the group, where members take at most so many turns
+pub record IsSetup (g : Group) (limit m : ℕ) (s : Setup) : Type 0 where
+  pub members : s.shape.members ≡ roster g
+  pub window : s.shape.window ≡ g.window
+  pub banks : s.shape.banks ≡ banks g
+  pub me : s.me ≡ m
+  pub age : s.age ≡ g.opening.age
+  pub view : s.members ≡ g.opening.members
+  pub turns : s.turns ≡ limit
+  pub start : s.start ≡ g.opening.start
+  pub messages : s.messages ≡ messages_of g.opening m
+  pub totals : s.totals ≡ map (λ i. length (messages_of g.opening i)) (range_with_len 0 MAX_MEMBERS)
+
+-- the setups of all members of the group, ascending
+pub record AreSetups (g : Group) (turns : ℕ) (setups : List Setup) : Type 0 where
+  pub all : length setups ≡ roster g
+  pub each : (m : ℕ) (s : Setup) → slice_get setups m ≡ Some s → IsSetup g turns m s
+
+-- the program as the age opens, with these setups
+abbrev pub begun_program : Group → List Setup → Program
+begun_program g setups = record {
+  members = map begun_running setups;
+  table = replicate (words_of (roster g) g.window (banks g)) 0;
+}
+
+-- all members have ended
+abbrev pub AllEnded : Program → Type 0
+AllEnded p = All (λ (r : Running). IsTrue (is_some r.replica.end)) p.members
+
+-- how a member ended
+abbrev pub member_end : Replica → MemberEnd
+member_end r = record {
+  end = unwrap_or r.end ends.Done;
+  turns = r.turns;
+  sent = record { number = r.view; items = r.sent } ∷ [];
+  history = r.history;
+  logged = r.logged;
+  durable = r.durable;
+}
+
+abbrev pub end_of : Running → MemberEnd
+end_of r = member_end r.replica
+
+-- how the age ended
+abbrev pub age_of : Opening → Program → AgeEnd
+age_of o p = record { age = o.age; start = o.start; members = map end_of p.members }

@@ -1,0 +1,87 @@
+-- The world that replicas and a table are.
+use Rattle.std.specs.Option.{option_map_or}
+use Rattle.std.specs.Prelude.{ℕ, ◌&&◌, ◌==◌, nat_lt, if◌then◌else◌, List, [], map, take, slice_index, slice_get, Option, None, Some}
+use Rattle.dr_entry.specs.declared.entry.Item.TheVariants.{Null}
+use Rattle.dr_rows.specs.Words.{own, seen}
+use Rattle.dr_words.specs.Layout.{word_index_of}
+use Rattle.dr_entry.specs.declared.end.End.{End}
+use Rattle.dr_machine.specs.declared.step.Step.{Step}
+use Rattle.dr_machine.specs.declared.step.Step.TheVariants as steps
+use Rattle.dr_machine.specs.Group.{Group, banks, roster, columns}
+use Rattle.dr_machine.specs.World.{World, opening_world}
+use Rattle.dr_program.specs.declared.outcome.Outcome.{Outcome}
+use Rattle.dr_program.specs.declared.outcome.Outcome.TheVariants as outcomes
+use Rattle.dr_program.specs.Replica.{Replica, me, count, item, suspects, promise, tag, value, committed, pending, votes}
+use Rattle.dr_program.specs.Running.{Running, next_step}
+use Rattle.dr_program.specs.Program.{Program}
+
+-- what member m has of something, and at the opening's where there is no such member
+abbrev pub of_member : {A : Type 0} → List Replica → (Replica → A) → (ℕ → A) → ℕ → A
+of_member rs f opening m = option_map_or f (slice_get rs m) (opening m)
+
+-- what replica r has in the view numbered v: nothing but in its own
+abbrev pub in_view : {A : Type 0} → Replica → ℕ → A → A → A
+in_view r v x none = if v == r.view then x else none
+
+-- the word of a bank, a copy, a row and a column of the table
+abbrev pub word_of : Group → List ℕ → ℕ → ℕ → ℕ → ℕ → ℕ
+word_of g table v j i c =
+    if (nat_lt v (banks g) && nat_lt j (roster g)) && (nat_lt i (roster g) && nat_lt c (columns g))
+    then slice_index table (word_index_of (roster g) g.window v j i c) else 0
+
+-- the world of these replicas and this table
+abbrev pub world_of : Group → List Replica → List ℕ → World
+world_of g rs table =
+    let o = opening_world g in record {
+      past = record {
+        view = of_member rs (λ r. r.view) o.past.view;
+        own = of_member rs (λ r v c. in_view r v (own r.rows c) 0) o.past.own;
+        count = of_member rs (λ r v s. in_view r v (count r s) 0) o.past.count;
+        sent = of_member rs (λ r v. in_view r v r.sent []) o.past.sent;
+        history = of_member rs (λ r. r.history) o.past.history;
+        log = of_member rs (λ r. take r.logged r.history) o.past.log;
+        votes = of_member rs votes o.past.votes;
+        durable = of_member rs (λ r. r.durable) o.past.durable;
+        acts = of_member rs (λ r. r.acts) o.past.acts;
+      };
+      members = of_member rs (λ r. r.members) o.members;
+      suspects = of_member rs suspects o.suspects;
+      promise = of_member rs promise o.promise;
+      tag = of_member rs tag o.tag;
+      value = of_member rs value o.value;
+      committed = of_member rs committed o.committed;
+      pending = of_member rs pending o.pending;
+      item = of_member rs (λ r s k. if nat_lt s (roster g) then item r s k else Null) o.item;
+      next = of_member rs (λ r. r.next) o.next;
+      base = of_member rs (λ r. r.base) o.base;
+      seen = of_member rs (λ r i c. if i == me r then 0 else seen r.rows i c) o.seen;
+      turns = of_member rs (λ r. r.turns) o.turns;
+      end = of_member rs (λ r. r.end) o.end;
+      table = word_of g table;
+    }
+
+-- the world of a program
+abbrev pub world : Group → Program → World
+world g p = world_of g (map (λ (r : Running). r.replica) p.members) p.table
+
+-- the step that is due to a running member, unless it has ended
+abbrev pub step_due : Running → Option End → Option Step
+step_due r None = Some (next_step r)
+step_due r (Some end) = None
+
+abbrev pub step_of_member : Running → Option Step
+step_of_member r = step_due r r.replica.end
+
+-- the step of the machine that an append comes to, by its outcome
+abbrev pub append_by : Outcome → Option Step
+append_by outcomes.Ok = Some steps.Append
+
+-- the step of the machine that a due step comes to: an append by its outcome, any other as it is
+abbrev pub comes_to : Option Step → Outcome → Option Step
+comes_to None outcome = None
+comes_to (Some steps.Append) outcome = append_by outcome
+comes_to (Some s) outcome = Some s
+
+-- the step of the machine that the next deed of a running member comes to, where an append has this outcome
+abbrev pub step_by : Running → Outcome → Option Step
+step_by r outcome = comes_to (step_of_member r) outcome

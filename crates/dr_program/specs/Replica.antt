@@ -1,0 +1,266 @@
+-- A replica: what one member has and has seen, and what each of its acts makes of it. Lists go by the
+-- members' numbers.
+use Rattle.std.specs.Prelude.{ℕ, ◌+◌, ◌*◌, ◌-◌, ◌^◌, ◌/◌, ◌%◌, ◌==◌, ◌&&◌, Bool, not, nat_lt, min, max, List, [], ◌∷◌, ◌++◌, length, map, fold, replicate, slice_index, slice_index_or, slice_set, unwrap_or, is_some, Option, None, Some, true, false}
+use Rattle.std.specs.List.{list_all}
+use Rattle.dr_entry.specs.declared.entry.Entry.{Entry}
+use Rattle.dr_entry.specs.declared.entry.Entry.TheVariants.{View}
+use Rattle.dr_entry.specs.declared.entry.Item.{Item}
+use Rattle.dr_entry.specs.declared.entry.Item.TheVariants.{Null, Text}
+use Rattle.dr_entry.specs.declared.end.End.{End}
+use Rattle.dr_entry.specs.declared.end.End.TheVariants.{Done, Crashed, DiskFault, LogFull, Spent}
+use Rattle.dr_entry.specs.declared.end.SentItem.{SentItem}
+use Rattle.dr_entry.specs.declared.end.SentItem.TheVariants.{Index}
+use Rattle.dr_history.specs.Members.{has, members_of}
+use Rattle.dr_history.specs.Places.{front_of}
+use Rattle.dr_history.specs.History.{messages_in}
+use Rattle.dr_history.specs.Order.{messages_from}
+use Rattle.dr_ring.specs.Slots.{is_free, item_in, slot_of, with_item}
+use Rattle.dr_rows.specs.Words as rows
+use Rattle.dr_rows.specs.Words.{Words, begun, seen, own}
+use Rattle.dr_words.specs.declared.column.TheConstants.{BEAT_COLUMN, RECEIVED_COLUMN, LOGGED_COLUMN, DONE_COLUMN}
+use Rattle.dr_words.specs.Columns.{columns_of, recv_column}
+use Rattle.dr_words.specs.Packing.{recv_word}
+use Rattle.dr_program.specs.declared.setup.Setup.{Setup}
+use Rattle.dr_entry.specs.declared.record.Value.{Value}
+use Rattle.dr_entry.specs.declared.record.Vote.{Vote}
+use Rattle.dr_machine.specs.World.{no_value}
+use Rattle.dr_machine.specs.Effects.{entries_of, one_more}
+
+pub record Replica : Type 0 where
+  -- the numbers of members, of slots and of banks, the script's messages of this member, and the numbers of
+  -- those of all
+  pub roster : ℕ
+  pub window : ℕ
+  pub banks : ℕ
+  pub messages : List (List ℕ)
+  pub totals : List ℕ
+  -- its own words, those that it has seen, and those that it has pushed
+  pub rows : Words
+  -- the number of its view, and the view's members as a mask
+  pub view : ℕ
+  pub members : ℕ
+  -- how many items of each member it has in this view; item k of member s stands at k times the roster plus
+  -- s, a null where it has none
+  pub counts : List ℕ
+  pub items : List Item
+  -- the index of the first message that it puts in this view, and what it has put
+  pub base : ℕ
+  pub sent : List SentItem
+  -- the next place that it delivers, what it has delivered, and how many entries it has room for
+  pub next : ℕ
+  pub history : List Entry
+  pub room : ℕ
+  -- how many entries it has logged, and how many it knows to be durable
+  pub logged : ℕ
+  pub durable : ℕ
+  -- its turns, its acts, and how it ended
+  pub turns : ℕ
+  pub acts : ℕ
+  pub end : Option End
+
+-- the greatest number of messages of a member
+abbrev pub greatest : List ℕ → ℕ
+greatest totals = fold max 0 totals
+
+-- what a history begins with, by a setup
+abbrev pub first_entries_of : Setup → List Entry
+first_entries_of s = s.start ++ View s.age 0 s.members ∷ []
+
+-- a replica as its age opens
+abbrev pub begun_replica : Setup → Replica
+begun_replica s =
+    let n = s.shape.members in
+    let first = first_entries_of s in record {
+      roster = n;
+      window = s.shape.window;
+      banks = s.shape.banks;
+      messages = s.messages;
+      totals = s.totals;
+      rows = rows.with_own (begun n (columns_of n s.shape.window) s.me) LOGGED_COLUMN (length first);
+      view = 0;
+      members = s.members;
+      counts = replicate n 0;
+      items = replicate (greatest s.totals * n) Null;
+      base = length (messages_from s.me s.start);
+      sent = [];
+      next = 0;
+      history = first;
+      room = length s.start + s.shape.banks + greatest s.totals * n;
+      logged = length first;
+      durable = length first;
+      turns = 0;
+      acts = 0;
+      end = None;
+    }
+
+-- ---- what it knows
+
+-- its own number, and the members of its view, ascending
+abbrev pub me : Replica → ℕ
+me r = r.rows.me
+
+abbrev pub view_of : Replica → List ℕ
+view_of r = members_of r.members
+
+-- i is another member of its view
+abbrev pub is_other : Replica → ℕ → Bool
+is_other r i = has r.members i && not (i == me r)
+
+-- how many items of s it has, and item k of s
+abbrev pub count : Replica → ℕ → ℕ
+count r s = slice_index r.counts s
+
+abbrev pub item : Replica → ℕ → ℕ → Item
+item r s k = slice_index_or r.items (k * r.roster + s) Null
+
+-- whom it suspects, its promise, the tag and the value that it has accepted, the value that it has
+-- committed, the vote that it has
+-- logged and not yet acted on, and the votes on its log: so far nobody suspects, and so nobody votes
+abbrev pub suspects : Replica → ℕ
+suspects r = 0
+
+-- who suspects somebody is wedged: it puts and takes no more items in its view
+abbrev pub is_wedged : Replica → Bool
+is_wedged r = not (suspects r == 0)
+
+abbrev pub promise : Replica → ℕ
+promise r = 0
+
+abbrev pub tag : Replica → ℕ
+tag r = 0
+
+abbrev pub value : Replica → Value
+value r = no_value
+
+abbrev pub committed : Replica → Option Value
+committed r = None
+
+abbrev pub pending : Replica → Option Vote
+pending r = None
+
+abbrev pub votes : Replica → List Vote
+votes r = []
+
+-- the least word of a column over the rows of its view
+abbrev pub least_seen : Replica → ℕ → ℕ
+least_seen r c = fold min (2 ^ 64 - 1) (map (λ i. seen r.rows i c) (view_of r))
+
+-- the next item of s, where all words that it needs are seen
+abbrev pub ready_item : Replica → ℕ → Option Item
+ready_item r s = item_in (count r s) (slot_of r.window r.rows s (count r s))
+
+-- the index of the next message that it puts
+abbrev pub next_index : Replica → ℕ
+next_index r = r.base + messages_in r.sent
+
+-- its history has as many messages of each member of its view as the script
+abbrev pub holds_all : Replica → Bool
+holds_all r = list_all (λ s. length (messages_from s r.history) == slice_index r.totals s) (view_of r)
+
+-- every row of its view shows done
+abbrev pub all_done : Replica → Bool
+all_done r = list_all (λ i. seen r.rows i DONE_COLUMN == 1) (view_of r)
+
+-- ---- what it may do
+
+-- an item of s is there to be taken, and s has not yet sent as many as anyone has messages
+abbrev pub may_receive : Replica → ℕ → Bool
+may_receive r s = is_other r s && (is_some (ready_item r s) && nat_lt (count r s) (greatest r.totals))
+
+-- a message is left, and the slot of its item is free
+abbrev pub may_send : Replica → Bool
+may_send r = nat_lt (next_index r) (length r.messages) && is_free r.window r.rows r.members (count r (me r))
+
+-- every row of the view shows that the next place was received, and there is room for an entry
+abbrev pub may_deliver : Replica → Bool
+may_deliver r = nat_lt r.next (least_seen r RECEIVED_COLUMN) && nat_lt (length r.history) r.room
+
+abbrev pub may_append : Replica → Bool
+may_append r = nat_lt r.logged (length r.history)
+
+abbrev pub may_publish : Replica → Bool
+may_publish r = nat_lt (own r.rows LOGGED_COLUMN) r.logged
+
+abbrev pub may_report : Replica → Bool
+may_report r = nat_lt r.durable (least_seen r LOGGED_COLUMN)
+
+abbrev pub may_mark : Replica → Bool
+may_mark r = (own r.rows DONE_COLUMN == 0) && (holds_all r && (r.durable == length r.history))
+
+-- the end Done, and the ends that come over a member at any time
+abbrev pub is_done : End → Bool
+is_done Done = true
+is_done end = false
+
+abbrev pub is_fault : End → Bool
+is_fault Crashed = true
+is_fault DiskFault = true
+is_fault (LogFull len) = true
+is_fault (Spent turns) = true
+is_fault end = false
+
+-- ---- what it does
+
+-- an act: the number of acts rises by one, and the own beat word takes it
+abbrev pub acted : Replica → Replica
+acted r = record r { acts = one_more 64 r.acts; rows = rows.with_own r.rows BEAT_COLUMN (one_more 64 r.acts) }
+
+abbrev pub beaten : Replica → Replica
+beaten r = record r { turns = one_more 32 r.turns }
+
+abbrev pub looked : Replica → ℕ → ℕ → ℕ → Replica
+looked r i c word = record r { rows = rows.looked r.rows i c word }
+
+abbrev pub pushed : Replica → ℕ → ℕ → Replica
+pushed r j c = record r { rows = rows.pushed r.rows j c }
+
+-- it has one item more of s: the recv word of s and the received word follow
+abbrev pub gained : Replica → ℕ → Item → Replica
+gained r s item =
+    let k = count r s in
+    let counts = slice_set r.counts s (k + 1) in record r {
+      counts = counts;
+      items = slice_set r.items (k * r.roster + s) item;
+      rows = rows.with_own (rows.with_own r.rows (recv_column s) (recv_word (k + 1) false)) RECEIVED_COLUMN
+          (front_of (map (slice_index counts) (view_of r)));
+    }
+
+abbrev pub received : Replica → ℕ → Replica
+received r s = gained r s (unwrap_or (ready_item r s) Null)
+
+-- it puts an item: its pieces stand in the slot
+abbrev pub put : Replica → SentItem → Item → Replica
+put r name item = gained (record r
+    { rows = with_item r.window r.rows (count r (me r)) item; sent = r.sent ++ name ∷ [] }) (me r) item
+
+abbrev pub sent : Replica → Replica
+sent r = put r (Index (next_index r)) (Text (slice_index_or r.messages (next_index r) []))
+
+-- the sender of a place of its view, and the item there
+abbrev pub sender_at : Replica → ℕ → ℕ
+sender_at r p = slice_index (view_of r) (p % length (view_of r))
+
+abbrev pub item_at : Replica → ℕ → Item
+item_at r p = item r (sender_at r p) (p / length (view_of r))
+
+abbrev pub delivered : Replica → Replica
+delivered r = record r {
+  history = r.history ++ entries_of r.history (sender_at r r.next) (item_at r r.next);
+  next = r.next + 1;
+}
+
+-- the next entry of the history goes on the log
+abbrev pub appended : Replica → Replica
+appended r = record r { logged = r.logged + 1 }
+
+abbrev pub published : Replica → Replica
+published r = record r { rows = rows.with_own r.rows LOGGED_COLUMN r.logged }
+
+abbrev pub reported : Replica → Replica
+reported r = record r { durable = least_seen r LOGGED_COLUMN }
+
+abbrev pub marked : Replica → Replica
+marked r = record r { rows = rows.with_own r.rows DONE_COLUMN 1 }
+
+abbrev pub ended : Replica → End → Replica
+ended r end = record r { end = Some end }

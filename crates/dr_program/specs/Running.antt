@@ -1,0 +1,164 @@
+-- A running member: a replica that goes through its turn, place by place, and does at each what there is to
+-- do.
+use Rattle.std.specs.Prelude.{ℕ, zero, suc, ◌-◌, ◌==◌, ◌&&◌, ◌||◌, Bool, true, if◌then◌else◌, List, length, slice_index_or, Option, None, Some, is_some}
+use Rattle.std.specs.List.{list_any}
+use Rattle.dr_entry.specs.declared.entry.Entry.TheVariants.{View}
+use Rattle.dr_entry.specs.declared.record.Record.TheVariants as records
+use Rattle.dr_entry.specs.declared.end.End.{End}
+use Rattle.dr_entry.specs.declared.end.End.TheVariants as ends
+use Rattle.dr_rows.specs.Words.{own, changed}
+use Rattle.dr_words.specs.Columns.{columns_of}
+use Rattle.dr_program.specs.declared.setup.CrashPoint.{CrashPoint}
+use Rattle.dr_program.specs.declared.setup.Setup.{Setup}
+use Rattle.dr_program.specs.declared.setup.Suspicion.{Suspicion}
+use Rattle.dr_program.specs.declared.place.Place.{Place}
+use Rattle.dr_program.specs.declared.place.Part.{Part}
+use Rattle.dr_program.specs.declared.place.Part.TheVariants as parts
+use Rattle.dr_program.specs.declared.place.TheConstants.{TURN}
+use Rattle.dr_machine.specs.declared.event.Act.TheVariants as acts
+use Rattle.dr_machine.specs.declared.step.Step.{Step}
+use Rattle.dr_machine.specs.declared.step.Step.TheVariants as steps
+use Rattle.dr_program.specs.Turn.{part_of, after, places_in}
+use Rattle.dr_program.specs.Steps.{allows, stepped, index_in}
+use Rattle.dr_program.specs.declared.deed.Deed.{Deed}
+use Rattle.dr_program.specs.declared.deed.Deed.TheVariants as deeds
+use Rattle.dr_machine.specs.Effects.{one_more}
+use Rattle.dr_program.specs.Replica.{Replica, begun_replica, me, is_other}
+
+pub record Running : Type 0 where
+  -- the replica
+  pub replica : Replica
+  -- where it stands in its turn
+  pub place : Place
+  -- after how many turns it ends, and after how many without news of a member it suspects that one, where
+  -- this isn't 0
+  pub limit : ℕ
+  pub patience : ℕ
+  -- where it crashes, and whom it suspects in which turn, by its script
+  pub crashes : List CrashPoint
+  pub suspicions : List Suspicion
+  -- how many pushes it has done in this turn
+  pub pushes : ℕ
+
+-- a member as its age opens, before its first deed
+abbrev pub begun_running : Setup → Running
+begun_running s = record {
+  replica = begun_replica s;
+  place = record { part = length TURN - 1; row = 0; column = 0 };
+  limit = s.turns;
+  patience = s.patience;
+  crashes = s.crashes;
+  suspicions = s.suspicions;
+  pushes = 0;
+}
+
+-- a crash point names this turn, and just this push of it
+abbrev pub is_in_turn : ℕ → CrashPoint → Bool
+is_in_turn turn c = c.turn == turn
+
+abbrev pub is_at_push : ℕ → ℕ → CrashPoint → Bool
+is_at_push turn push c = (c.turn == turn) && (c.push == push)
+
+-- whether it crashes just before its next push, and whether it crashes in this turn
+abbrev pub crashes_now : Running → Bool
+crashes_now r = list_any (is_at_push r.replica.turns r.pushes) r.crashes
+
+abbrev pub crashes_in_turn : Running → Bool
+crashes_in_turn r = list_any (is_in_turn r.replica.turns) r.crashes
+
+-- a push, or the end of a member that crashes just before it
+abbrev pub push_or_crash : Bool → ℕ → ℕ → Step
+push_or_crash crashes i c = if crashes then steps.Do (acts.Crash ends.Crashed) else steps.Push i c
+
+-- the step that is due at a part of the turn, in a row and a column of it
+abbrev pub step_at : Running → Part → ℕ → ℕ → Step
+step_at r parts.Look i c = steps.Look i c
+step_at r parts.Receive i c = steps.Do (acts.Receive i)
+step_at r parts.Append i c = steps.Append
+step_at r parts.Push i c = push_or_crash (crashes_now r) i c
+step_at r parts.Crash i c = steps.Do (acts.Crash ends.Crashed)
+step_at r parts.Done i c = steps.Do (acts.Halt ends.Done)
+step_at r parts.Spent i c = steps.Do (acts.Crash (ends.Spent r.replica.turns))
+step_at r (parts.Do a) i c = steps.Do a
+
+-- what a part asks besides what its step does
+abbrev pub asks : Running → Part → ℕ → ℕ → Bool
+asks r parts.Push i c = is_other r.replica i && changed r.replica.rows i c
+asks r parts.Crash i c = crashes_in_turn r
+asks r parts.Spent i c = r.replica.turns == r.limit
+asks r part i c = true
+
+-- the step that is due at a place, and whether there is something to do there
+abbrev pub step_of : Running → Place → Step
+step_of r p = step_at r (part_of p) p.row p.column
+
+abbrev pub applies : Running → Place → Bool
+applies r p = asks r (part_of p) p.row p.column && allows r.replica (step_of r p)
+
+-- the numbers of members and of columns
+abbrev pub members : Running → ℕ
+members r = r.replica.roster
+
+abbrev pub columns : Running → ℕ
+columns r = columns_of r.replica.roster r.replica.window
+
+-- the member at the next place
+abbrev pub moved : Running → Running
+moved r = record r { place = after (members r) (columns r) r.place }
+
+-- on to the first place, from here on, at which there is something to do, over at most so many places; a
+-- member that has ended stays
+unfoldable pub settle : ℕ → Running → Running
+settle zero r = r
+settle (suc k) r = if is_some r.replica.end || applies r r.place then r else settle k (moved r)
+
+-- the member at the first place, from here on, at which there is something to do
+abbrev pub settled : Running → Running
+settled r = settle (places_in (members r) (columns r) TURN) r
+
+-- where the member stands after a deed of a part: each deed of some is done once, publishing goes back, and
+-- others may be repeated
+abbrev pub goes : ℕ → ℕ → Part → Place → Place
+goes n k parts.Look p = after n k p
+goes n k parts.Append p = after n k p
+goes n k (parts.Do acts.Publish) p = record p { part = p.part - 1 }
+goes n k parts.Push p = after n k p
+goes n k (parts.Do acts.Beat) p = after n k p
+goes n k part p = p
+
+-- the pushes of the turn after a step
+abbrev pub pushes_after : ℕ → Step → ℕ
+pushes_after pushes (steps.Push j c) = one_more 32 pushes
+pushes_after pushes (steps.Do acts.Beat) = 0
+pushes_after pushes s = pushes
+
+-- the member after a step, with the word that it saw, before and after the search
+abbrev pub took : ℕ → Running → Step → Running
+took word r s = record r {
+  replica = stepped word r.replica s;
+  place = goes (members r) (columns r) (part_of r.place) r.place;
+  pushes = pushes_after r.pushes s;
+}
+
+abbrev pub next_step : Running → Step
+next_step r = step_of r r.place
+
+abbrev pub after_step : ℕ → Running → Running
+after_step word r = settled (took word r (next_step r))
+
+-- the deed that a step is: what is done to the table or to the log
+abbrev pub deed_of : Running → Step → Deed
+deed_of r (steps.Do a) = deeds.Act (index_in r.replica (me r.replica) (me r.replica) 0)
+    (one_more 64 r.replica.acts)
+deed_of r (steps.Look i c) = deeds.Look (index_in r.replica (me r.replica) i c)
+deed_of r (steps.Push j c) = deeds.Push (index_in r.replica j (me r.replica) c) (own r.replica.rows c)
+deed_of r steps.Append = deeds.Append
+    (records.Entry (slice_index_or r.replica.history r.replica.logged (View 0 0 0)))
+
+-- the next deed of the member
+abbrev pub deed : Running → Option End → Deed
+deed r None = deed_of r (next_step r)
+deed r (Some end) = deeds.Rest end
+
+abbrev pub next_deed : Running → Deed
+next_deed r = deed r r.replica.end

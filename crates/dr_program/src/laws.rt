@@ -1,0 +1,26 @@
+//! Laws of programs.
+ghost use Rattle.std.specs.Prelude.{◌≡◌, ℕ, ◌<◌, ◌≤◌, List, ◌++◌};
+ghost use Rattle.dr_program.specs.declared.setup.Setup.{Setup};
+ghost use Rattle.dr_machine.specs.Group.{Group, IsGroup, roster};
+ghost use Rattle.dr_machine.specs.World.{opening_world};
+ghost use Rattle.dr_program.specs.Running.{begun_running};
+ghost use Rattle.dr_program.specs.Program.{Program, Move, ran, IsSetup, AreSetups, begun_program};
+ghost use Rattle.dr_program.specs.Reading.{world};
+ghost use Rattle.dr_program.specs.Form.{CanBegin, IsRunningMember, IsOf};
+
+/// A program may take more deeds after others.
+pub fn deeds_follow_one_another()
+    ensures { (p : Program) (a b : List Move) → ran p (a ++ b) ≡ ran (ran p a) b }
+{}
+
+/// A program begins in the world as the age opens, with members that have their form; and each of
+/// its members can begin.
+pub fn programs_begin_at_the_opening()
+    ensures world { (g : Group) (turns : ℕ) (setups : List Setup) → IsGroup g → AreSetups g turns setups
+        → world g (begun_program g setups) ≡ opening_world g }
+    ensures form { (g : Group) (turns m : ℕ) (s : Setup) → IsGroup g → 1 ≤ turns → m < roster g
+        → IsSetup g turns m s
+        → IsRunningMember (begun_running s) × IsOf g m (begun_running s).replica }
+    ensures begin { (g : Group) (turns m : ℕ) (s : Setup) → IsGroup g → m < roster g
+        → IsSetup g turns m s → CanBegin s }
+{}

@@ -1,0 +1,53 @@
+use dr_machine::Act;
+
+/// A part of a turn: one deed, or one for each member, or one for each member and column.
+#[derive(Clone, Copy, Debug, PartialEq, Eq)]
+pub enum Part {
+    /// The looks at the words of the other members.
+    Look,
+    /// The next items of the senders are taken.
+    Receive,
+    /// An act of the member's own.
+    Do(Act),
+    /// The next entry goes on the log.
+    Append,
+    /// The pushes of the own words to the other members.
+    Push,
+    /// The end of a member that was to crash in this turn, behind its last push.
+    Crash,
+    /// The end of a member that is done.
+    Done,
+    /// The end of a member whose turns are spent.
+    Spent,
+}
+
+/// The number of parts of a turn.
+pub const PARTS: usize = 13;
+
+/// The parts of a turn, in their order. With the last one the next turn begins.
+pub static TURN: [Part; PARTS] = [
+    Part::Look,
+    Part::Receive,
+    Part::Do(Act::Send),
+    Part::Do(Act::Deliver),
+    Part::Append,
+    Part::Do(Act::Publish),
+    Part::Do(Act::Report),
+    Part::Do(Act::Mark),
+    Part::Push,
+    Part::Crash,
+    Part::Done,
+    Part::Spent,
+    Part::Do(Act::Beat),
+];
+
+/// Where a member stands in its turn: the number of the part, and in it a row and a column.
+#[derive(Clone, Copy, Debug, PartialEq, Eq)]
+pub struct Place {
+    /// The number of the part.
+    pub part: u8,
+    /// A member, where the part has a deed for each.
+    pub row: u8,
+    /// A column, where the part has a deed for each of them.
+    pub column: usize,
+}

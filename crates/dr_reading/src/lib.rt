@@ -1,7 +1,0 @@
-//! Programs read as the machine: the tests of a replica are the guards of events, its acts are their
-//! effects, and each deed of a running member is an event.
-#![tactic(auto)]
-
-mod laws;
-
-pub use laws::{acts_are_effects, deeds_are_events, tests_are_guards};

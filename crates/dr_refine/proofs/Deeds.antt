@@ -1,0 +1,193 @@
+-- The next deed of a running member is a step of the machine.
+use Rattle.std.proofs.Common.{◌≡◌, refl, sym, ap, ◌∙◌, subst, ℕ, zero, suc, ◌||◌, Bool, true, false, inl, if◌then◌else◌, List, [], ◌∷◌, ◌++◌, map}
+use Rattle.std.specs.Prelude.{Option, Some, None, is_some, slice_get, slice_set, option_map}
+use Rattle.std.proofs.lemmas.Option.{slice_get-map, same_Some}
+use Rattle.std.proofs.lemmas.Bool.{and_parts}
+use Rattle.dr_entry.specs.declared.end.End.{End}
+use Rattle.dr_machine.specs.declared.step.Step.{Step}
+use Rattle.dr_machine.specs.declared.step.Step.TheVariants.{Do, Append}
+use Rattle.dr_machine.specs.Events.{event_of}
+use Rattle.dr_machine.specs.Events as events
+use Rattle.dr_machine.specs.Group.{Group, IsGroup}
+use Rattle.dr_machine.specs.World.{World, opening_world}
+use Rattle.dr_machine.specs.Acts.{CanTake, effect_of}
+use Rattle.dr_machine.specs.Run.{Happens, IsReached}
+use Rattle.dr_program.specs.Replica.{Replica}
+use Rattle.dr_program.specs.declared.outcome.Outcome.{Outcome}
+use Rattle.dr_program.specs.declared.outcome.Outcome.TheVariants as outcomes
+use Rattle.dr_program.specs.Steps.{allows, stored}
+use Rattle.dr_program.specs.Running.{Running, applies, asks, moved, next_step, settle, settled, took}
+use Rattle.dr_program.specs.Turn.{part_of}
+use Rattle.dr_program.specs.Program.{Program, Move, after_deed, moved_by, next_sight, step_of, went}
+use Rattle.dr_program.specs.Reading.{comes_to, step_by, step_due, world, world_of}
+use Rattle.dr_machine.proofs.Events.{member_of_event, step_of_event}
+use Rattle.dr_machine.proofs.Runs.{run_on}
+use Rattle.dr_program.proofs.Runs.{after_ok}
+use Rattle.dr_refine.specs.Programs.{IsMember, IsProgram}
+use Rattle.dr_refine.proofs.Tests.{step_effect, step_guard}
+
+-- ---- on to the next place
+
+-- the search for the next place leaves the replica
+pub settle_replica : (n : ℕ) (r : Running) → (settle n r).replica ≡ r.replica
+unfolding settle
+settle_replica zero r = refl
+settle_replica (suc n) r = by (is_some r.replica.end || applies r r.place) (settle_replica n (moved r))
+  where
+    by : (b : Bool) → (settle n (moved r)).replica ≡ r.replica
+        → ◌≡◌ {A = Replica} (if b then r else settle n (moved r)).replica r.replica
+    by true e = refl
+    by false e = e
+
+-- the replicas of a program's members
+abbrev pub replicas : List Running → List Replica
+replicas rs = map (λ (r : Running). r.replica) rs
+
+replicas_set : (rs : List Running) (m : ℕ) (r : Running) (q : Replica) → r.replica ≡ q
+    → replicas (slice_set rs m r) ≡ slice_set (replicas rs) m q
+replicas_set [] m r q e = refl
+replicas_set (x ∷ rs) zero r q e = ap (λ p. p ∷ replicas rs) e
+replicas_set (x ∷ rs) (suc m) r q e = ap (λ ps. x.replica ∷ ps) (replicas_set rs m r q e)
+
+-- the world after a deed that leaves the member as r, before it goes on to its next place
+pub settled_world : (g : Group) (rs : List Running) (cells : List ℕ) (m : ℕ) (r : Running)
+    → world g (record { members = slice_set rs m (settled r); table = cells })
+    ≡ world_of g (slice_set (replicas rs) m r.replica) cells
+settled_world g rs cells m r =
+    ap (λ qs. world_of g qs cells) (replicas_set rs m (settled r) r.replica (settle_replica _ r))
+
+-- ---- the member of the replicas
+
+-- a member of a program is one of its group
+pub program_member : (g : Group) (p : Program) (m : ℕ) (r : Running) → IsGroup g → IsProgram g p
+    → slice_get p.members m ≡ Some r
+    → IsMember g (replicas p.members) p.table m r.replica
+program_member g p m r group is there = record {
+  group = group;
+  cells = is.table;
+  there = slice_get-map (λ (x : Running). x.replica) p.members m
+      ∙ ap (option_map (λ (x : Running). x.replica)) there;
+  form = (is.form m r there).replica;
+  of = is.of m r there;
+}
+
+-- ---- deeds
+
+-- the step may come, and the move is its effect
+abbrev pub IsStep : Group → Program → Move → Step → Type 0
+IsStep g p e s = CanTake g (world g p) e.member s
+    × (world g (step_of p e) ≡ effect_of g (world g p) e.member s)
+
+-- what a member without an end is due to do, it may do
+pub due_allowed : (r : Running) → applies r r.place ≡ true → allows r.replica (next_step r) ≡ true
+due_allowed r due = (and_parts (asks r (part_of r.place) r.place.row r.place.column)
+    (allows r.replica (next_step r)) due).1
+
+-- the program after a move of a member without an end
+pub step_is : (p : Program) (e : Move) (r : Running) → slice_get p.members e.member ≡ Some r
+    → r.replica.end ≡ None
+    → step_of p e ≡ record {
+      members = slice_set p.members e.member (after_deed (next_sight p.table r) e.outcome r (next_step r));
+      table = stored p.table r.replica (next_step r);
+    }
+step_is p e r there unended = ap (λ o. moved_by p o e) there ∙ ap (went p r e) unended
+
+deed_step : (g : Group) (p : Program) (m : ℕ) (r : Running) → IsGroup g → IsProgram g p
+    → slice_get p.members m ≡ Some r → r.replica.end ≡ None
+    → IsStep g p (record { member = m; outcome = outcomes.Ok }) (next_step r)
+deed_step g p m r group is there unended =
+    let member = program_member g p m r group is there in
+    let may = due_allowed r ((is.form m r there).due unended) in (
+      ((step_guard g (replicas p.members) p.table m r.replica (next_step r) member unended).0 may).0,
+      ap (world g) (step_is p (record { member = m; outcome = outcomes.Ok }) r there unended)
+          ∙ ap (λ x. world g (record
+          { members = slice_set p.members m x; table = stored p.table r.replica (next_step r) }))
+          (after_ok p.table r (next_step r))
+          ∙ settled_world g p.members (stored p.table r.replica (next_step r)) m
+          (took (next_sight p.table r) r (next_step r))
+          ∙ step_effect g (replicas p.members) p.table m r.replica (next_step r) member may,
+    )
+
+-- the step that a due one comes to, where the append goes well
+came_ok : (s : Step) → comes_to (Some s) outcomes.Ok ≡ Some s
+came_ok Append = refl
+came_ok (Do a) = refl
+came_ok s = refl
+
+-- by the outcome
+outcome_step : (g : Group) (p : Program) (m : ℕ) (r : Running) (o : Outcome) (s : Step) → IsGroup g
+    → IsProgram g p → slice_get p.members m ≡ Some r
+    → r.replica.end ≡ None → comes_to (Some (next_step r)) o ≡ Some s
+    → IsStep g p (record { member = m; outcome = o }) s
+outcome_step g p m r outcomes.Ok s group is there unended came =
+    subst (IsStep g p (record { member = m; outcome = outcomes.Ok }))
+    (same_Some (next_step r) s (sym (came_ok (next_step r)) ∙ came))
+    (deed_step g p m r group is there unended)
+
+-- the deed of a member is the step of its place
+pub deed_is_step : (g : Group) (p : Program) (e : Move) (r : Running) (s : Step) → IsGroup g
+    → IsProgram g p
+    → slice_get p.members e.member ≡ Some r → step_by r e.outcome ≡ Some s → IsStep g p e s
+deed_is_step g p e r s group is there named = by r.replica.end refl named
+  where
+    by : (o : Option End) → r.replica.end ≡ o → comes_to (step_due r o) e.outcome ≡ Some s
+        → IsStep g p e s
+    by None unended came = outcome_step g p e.member r e.outcome s group is there unended came
+    by (Some x) ended came = absurd (cc)
+
+-- a member at rest changes nothing
+pub rest_changes_nothing : (p : Program) (e : Move) (r : Running) → slice_get p.members e.member
+    ≡ Some r → is_some r.replica.end ≡ true → step_of p e ≡ p
+rest_changes_nothing p e r there rests = by r.replica.end refl rests
+  where
+    by : (o : Option End) → r.replica.end ≡ o → is_some o ≡ true → step_of p e ≡ p
+    by None ended t = absurd (cc)
+    by (Some x) ended t = ap (λ o. moved_by p o e) there ∙ ap (went p r e) ended
+
+-- an append always comes to an event, so far
+came_to_some : (s : Step) (o : Outcome) → comes_to (Some s) o ≡ None → ⊥
+came_to_some Append outcomes.Ok e = absurd (cc)
+came_to_some (Do a) o e = absurd (cc)
+came_to_some s o e = absurd (cc)
+
+-- a move that is no step leaves the world
+pub no_step_no_change : (g : Group) (p : Program) (e : Move) (r : Running) → slice_get p.members e.member
+    ≡ Some r → step_by r e.outcome ≡ None
+    → world g (step_of p e) ≡ world g p
+no_step_no_change g p e r there named = by r.replica.end refl named
+  where
+    by : (o : Option End) → r.replica.end ≡ o → comes_to (step_due r o) e.outcome ≡ None
+        → world g (step_of p e) ≡ world g p
+    by None unended none = absurd (came_to_some (next_step r) e.outcome none)
+    by (Some x) ended none = ap (world g) (rest_changes_nothing p e r there (ap is_some ended))
+
+-- a step of a member is an event
+happens_to : (g : Group) (w after : World) (m : ℕ) (s : Step) → CanTake g w m s → after
+    ≡ effect_of g w m s → Happens g w (event_of m s) after
+happens_to g w after m s can e = inl
+    (subst (λ k. CanTake g w k (events.step_of (event_of m s))
+    × (after ≡ effect_of g w k (events.step_of (event_of m s))))
+    (sym (member_of_event m s))
+    (subst (λ x. CanTake g w m x × (after ≡ effect_of g w m x)) (sym (step_of_event m s)) (can, e)))
+
+-- the world after a move is reached, where the world before it is
+pub step_reached : (g : Group) (p : Program) (e : Move) → IsGroup g → IsProgram g p
+    → IsReached g (world g p) → IsReached g (world g (step_of p e))
+step_reached g p e group is (es, run) = by (slice_get p.members e.member) refl
+  where
+    after : World
+    after = world g (step_of p e)
+
+    named : (r : Running) → slice_get p.members e.member ≡ Some r → (x : Option Step)
+        → step_by r e.outcome ≡ x → IsReached g (world g (step_of p e))
+    named r there None none = subst (IsReached g) (sym (no_step_no_change g p e r there none)) (es, run)
+    named r there (Some s) some =
+        let happened = deed_is_step g p e r s group is there some in (
+          es ++ event_of e.member s ∷ [],
+          run_on g (opening_world g) (world g p) after es (event_of e.member s ∷ []) run
+              (after, happens_to g (world g p) after e.member s happened.0 happened.1, refl),
+        )
+
+    by : (o : Option Running) → slice_get p.members e.member ≡ o → IsReached g (world g (step_of p e))
+    by None none = subst (λ q. IsReached g (world g q)) (sym (ap (λ x. moved_by p x e) none)) (es, run)
+    by (Some r) there = named r there (step_by r e.outcome) refl

@@ -1,0 +1,435 @@
+-- A replica may act exactly where the event may come.
+use Rattle.std.proofs.Common.{◌≡◌, ◌≢◌, refl, sym, ap, ◌∙◌, ◌↔◌, subst, ℕ, ◌+◌, ◌-◌, ◌*◌, ◌^◌, ◌<◌, ◌≤◌, ◌==◌, ◌&&◌, inl, inr, not, Bool, true, max, List, length, map, fold, slice_index, arith, le_trans}
+use Rattle.std.proofs.Math.Path.{fun_ext}
+use Rattle.dr_entry.specs.declared.entry.Item.{Item}
+use Rattle.std.specs.Prelude.{Option, Some, None, nat_lt, is_some, IsSome}
+use Rattle.std.specs.List.{list_all}
+use Rattle.std.proofs.lemmas.Bool.{and_from, and_parts, eqb-true}
+use Rattle.std.proofs.lemmas.Bool.Decides.{nat_tests}
+use Rattle.std.proofs.lemmas.List.{length-take-le, length-map}
+use Rattle.std.proofs.Math.Nat.{mul-le-mul}
+use Rattle.dr_history.proofs.MemberLemmas.{length_members_below}
+use Rattle.dr_words.proofs.Bits.{has_zero}
+use Rattle.dr_entry.specs.declared.end.End.{End}
+use Rattle.dr_entry.specs.declared.end.End.TheVariants.{Done}
+use Rattle.dr_history.specs.Members.{has, members_below, members_of}
+use Rattle.dr_history.specs.Places.{front_of, is_held}
+use Rattle.dr_history.specs.History.{messages_in}
+use Rattle.dr_history.specs.Order.{messages_from}
+use Rattle.dr_history.proofs.Fronts.{first_within}
+use Rattle.dr_ring.specs.Slots.{IsFree, is_free, IsReady, slot_of, slot_column}
+use Rattle.dr_ring.proofs.Freedom.{is_free-true, IsFree-from_test}
+use Rattle.dr_ring.proofs.Readiness.{ready_test}
+use Rattle.dr_rows.specs.Words.{own, seen}
+use Rattle.dr_words.specs.declared.column.TheConstants.{RECEIVED_COLUMN, LOGGED_COLUMN, DONE_COLUMN}
+use Rattle.dr_words.specs.Columns.{recv_column}
+use Rattle.dr_words.specs.Masks.{IsInRoster}
+use Rattle.dr_machine.proofs.Presence.{is_present}
+use Rattle.dr_machine.specs.Group.{Group, roster, columns}
+use Rattle.dr_machine.specs.World.{World, count_of, shown}
+use Rattle.dr_machine.specs.Guards as guards
+use Rattle.dr_machine.specs.Guards.{IsRunning, MayChoose, IsOther, IsFault, CanBeat, CanLook, CanPush, CanSend, CanReceive, CanDeliver, CanAppend, CanPublish, CanReport, CanMark, CanHalt, CanCrash, HasRoom, seen_slot}
+use Rattle.dr_program.specs.Replica.{Replica, me, view_of, is_other, count, greatest, least_seen, ready_item, next_index, holds_all, all_done, may_receive, may_send, may_deliver, may_append, may_publish, may_report, may_mark}
+use Rattle.dr_program.specs.Reading.{world_of}
+use Rattle.dr_program.proofs.Holdings.{Holding, held_of}
+use Rattle.dr_program.proofs.OpeningForm.{fold_max_within}
+use Rattle.dr_program.proofs.OwnWords.{same_number, other_number}
+use Rattle.dr_refine.specs.Programs.{IsMember}
+use Rattle.dr_refine.proofs.Members.{fits, inside, shown_seen, own_shown}
+use Rattle.dr_words.proofs.Tests.{all_members, each_member}
+use Rattle.dr_refine.proofs.Views.{below_least}
+
+-- ---- the member
+
+-- a replica without an end is a member without one
+pub running : (g : Group) (rs : List Replica) (table : List ℕ) (m : ℕ) (r : Replica)
+    → IsMember g rs table m r → r.end ≡ None → IsRunning g (world_of g rs table) m
+running g rs table m r is alive = record {
+  present = is_present g m is.group (inside g m r.rows r.view (fits g rs table m r is));
+  running = ap (λ h. h.end) (held_of g rs table m r is.there) ∙ alive;
+}
+
+-- and may take an event of its own choice
+pub may_choose : (g : Group) (rs : List Replica) (table : List ℕ) (m : ℕ) (r : Replica)
+    → IsMember g rs table m r → r.end ≡ None → MayChoose g (world_of g rs table) m
+may_choose g rs table m r is alive = record {
+  alive = running g rs table m r is alive;
+  idle = ap (λ h. h.pending) (held_of g rs table m r is.there);
+}
+
+-- so far it suspects nobody
+unsuspecting : (g : Group) (rs : List Replica) (table : List ℕ) (m : ℕ) (r : Replica)
+    → IsMember g rs table m r → (world_of g rs table).suspects m ≡ 0
+unsuspecting g rs table m r is = ap (λ h. h.suspects) (held_of g rs table m r is.there)
+
+-- the members of its view
+pub members_are : (g : Group) (rs : List Replica) (table : List ℕ) (m : ℕ) (r : Replica)
+    → IsMember g rs table m r → (world_of g rs table).members m ≡ r.members
+members_are g rs table m r is = ap (λ h. h.members) (held_of g rs table m r is.there)
+
+-- another member of the view
+pub other_member : (g : Group) (rs : List Replica) (table : List ℕ) (m : ℕ) (r : Replica) (i : ℕ)
+    → IsMember g rs table m r
+    → (is_other r i ≡ true) ↔ IsOther (world_of g rs table) m i
+other_member g rs table m r i is = (
+  λ e. let two = and_parts (has r.members i) (not (i == me r)) e in record {
+    member = ap (λ x. has x i) (members_are g rs table m r is) ∙ two.0;
+    other = λ same. differs i (me r) two.1 (same ∙ sym is.of.number);
+  },
+  λ o. and_from (has r.members i) (not (i == me r))
+      (ap (λ x. has x i) (sym (members_are g rs table m r is)) ∙ o.member)
+      (ap not (other_number i (me r) (λ same. o.other (same ∙ is.of.number)))),
+)
+  where
+    differs : (a b : ℕ) → not (a == b) ≡ true → a ≡ b → ⊥
+    differs a b e same = absurd (grind (arith, e, same))
+
+-- it is of the roster
+pub other_within : (g : Group) (rs : List Replica) (table : List ℕ) (m : ℕ) (r : Replica) (i : ℕ)
+    → IsMember g rs table m r → is_other r i ≡ true → i < roster g
+other_within g rs table m r i is e =
+    let within : i < r.roster = is.form.roster i (and_parts (has r.members i) (not (i == me r)) e).0 in
+    omega (arith, within, is.of.members)
+
+-- a number is below the least word over the view exactly where it is below the word of each row
+below_each : (g : Group) (rs : List Replica) (table : List ℕ) (m : ℕ) (r : Replica) (c x : ℕ)
+    → IsMember g rs table m r → nat_lt x (least_seen r c) ≡ true
+    → (i : ℕ) → has ((world_of g rs table).members m) i ≡ true → x
+    < shown (world_of g rs table) m i c
+below_each g rs table m r c x is e i member =
+    let tests = and_parts (nat_lt x (2 ^ 64 - 1))
+    (list_all (λ k. nat_lt x (seen r.rows k c)) (members_of r.members))
+    (sym (below_least x (2 ^ 64 - 1) (λ k. seen r.rows k c) (members_of r.members)) ∙ e) in
+    let here : nat_lt x (seen r.rows i c)
+    ≡ true = each_member (λ k. nat_lt x (seen r.rows k c)) r.roster r.members
+    (omega (arith, is.of.members, is.group.most_members)) is.form.roster tests.1 i
+    (ap (λ k. has k i) (sym (members_are g rs table m r is)) ∙ member) in
+    rw (shown_seen g rs table m r i c is.there is.of.number) (grind (arith, nat_tests, here))
+
+each_below : (g : Group) (rs : List Replica) (table : List ℕ) (m : ℕ) (r : Replica) (c x : ℕ)
+    → IsMember g rs table m r → own r.rows c ≤ 2 ^ 64 - 1
+    → ((i : ℕ) → has ((world_of g rs table).members m) i ≡ true → x
+    < shown (world_of g rs table) m i c) → nat_lt x (least_seen r c) ≡ true
+each_below g rs table m r c x is small each =
+    let here : (i : ℕ) → has r.members i ≡ true → x < seen r.rows i c =
+    λ i member. rw (shown_seen g rs table m r i c is.there is.of.number) at
+    (each i (ap (λ k. has k i) (members_are g rs table m r is) ∙ member)) in
+    below_least x (2 ^ 64 - 1) (λ k. seen r.rows k c) (members_of r.members)
+    ∙ and_from _ _ (grind (arith, nat_tests, here (me r) is.form.present, small))
+    (all_members (λ k. nat_lt x (seen r.rows k c)) r.members
+    (λ i member. grind (arith, nat_tests, here i member)))
+
+-- ---- the bounds of own words
+
+front_within : (counts : List ℕ) → front_of counts ≤ length counts * fold max 0 counts
+unfolding front_of
+front_within counts = let l =
+    first_within (λ p. not (is_held counts p)) 0 (length counts * fold max 0 counts) in omega (arith, l)
+
+received_small : (r : Replica) → ((s : ℕ) → count r s ≤ 4096)
+    → front_of (map (slice_index r.counts) (view_of r)) ≤ 65536
+unfolding members_of
+received_small r bounded =
+    let counts : List ℕ = map (slice_index r.counts) (members_below r.members 16) in
+    let len : length counts ≤ 16 =
+    rw (length-map (members_below r.members 16) (slice_index r.counts)) (length_members_below r.members 16) in
+    le_trans (front_within counts)
+    (mul-le-mul len (fold_max_within (slice_index r.counts) (members_below r.members 16) 0 4096
+    (omega arith) bounded))
+
+-- ---- deliveries and reports
+
+-- it delivers exactly where that may come, and it has room
+pub deliver_guard : (g : Group) (rs : List Replica) (table : List ℕ) (m : ℕ) (r : Replica)
+    → IsMember g rs table m r → r.end ≡ None
+    → (may_deliver r ≡ true) ↔ (CanDeliver g (world_of g rs table) m × (length r.history < r.room))
+deliver_guard g rs table m r is alive =
+    let next : (world_of g rs table).next m
+    ≡ r.next = ap (λ h. h.next) (held_of g rs table m r is.there) in (
+      λ e. let two = and_parts (nat_lt r.next (least_seen r RECEIVED_COLUMN))
+          (nat_lt (length r.history) r.room) e in (
+            record {
+              may = may_choose g rs table m r is alive;
+              unwedged = unsuspecting g rs table m r is;
+              received = λ i member. rw next
+                  (below_each g rs table m r RECEIVED_COLUMN r.next is two.0 i member);
+            },
+            grind (arith, nat_tests, two.1),
+          ),
+      λ can. and_from _ _
+          (each_below g rs table m r RECEIVED_COLUMN r.next is
+          (omega (arith, is.form.received, received_small r (λ s. le_trans (is.form.bounded s) is.form.few)))
+          (λ i member. rw next at (can.0.received i member)))
+          (grind (arith, nat_tests, can.1)),
+    )
+
+-- it reports exactly where that may come
+pub report_guard : (g : Group) (rs : List Replica) (table : List ℕ) (m : ℕ) (r : Replica)
+    → IsMember g rs table m r → r.end ≡ None
+    → (may_report r ≡ true) ↔ CanReport g (world_of g rs table) m
+report_guard g rs table m r is alive =
+    let durable : (world_of g rs table).past.durable m
+    ≡ r.durable = ap (λ h. h.durable) (held_of g rs table m r is.there) in (
+      λ e. record {
+        may = may_choose g rs table m r is alive;
+        logged = λ i member. rw durable (below_each g rs table m r LOGGED_COLUMN r.durable is e i member);
+      },
+      λ can. each_below g rs table m r LOGGED_COLUMN r.durable is
+          (omega (arith, is.form.published, is.form.logged, is.form.room, is.form.small))
+          (λ i member. rw durable at (can.logged i member)),
+    )
+
+-- ---- appends and publications
+
+-- it appends exactly where that may come
+pub append_guard : (g : Group) (rs : List Replica) (table : List ℕ) (m : ℕ) (r : Replica)
+    → IsMember g rs table m r → r.end ≡ None
+    → (may_append r ≡ true) ↔ CanAppend g (world_of g rs table) m
+append_guard g rs table m r is alive =
+    let was = held_of g rs table m r is.there in
+    let log : length ((world_of g rs table).past.log m) ≡ r.logged = ap (λ h. length h.log) was
+    ∙ length-take-le r.logged r.history is.form.logged in
+    let history : length ((world_of g rs table).past.history m)
+    ≡ length r.history = ap (λ h. length h.history) was in (
+      λ e. record {
+        may = may_choose g rs table m r is alive;
+        behind = rw (log, history) (grind (arith, nat_tests, e));
+      },
+      λ can. let behind = rw (log, history) at can.behind in grind (arith, nat_tests, behind),
+    )
+
+-- it publishes exactly where that may come
+pub publish_guard : (g : Group) (rs : List Replica) (table : List ℕ) (m : ℕ) (r : Replica)
+    → IsMember g rs table m r → r.end ≡ None
+    → (may_publish r ≡ true) ↔ CanPublish g (world_of g rs table) m
+publish_guard g rs table m r is alive =
+    let was = held_of g rs table m r is.there in
+    let log : length ((world_of g rs table).past.log m) ≡ r.logged = ap (λ h. length h.log) was
+    ∙ length-take-le r.logged r.history is.form.logged in
+    let word = own_shown g rs table m r LOGGED_COLUMN is.there in (
+      λ e. record {
+        may = may_choose g rs table m r is alive;
+        behind = rw (log, word) (grind (arith, nat_tests, e));
+      },
+      λ can. let behind = rw (log, word) at can.behind in grind (arith, nat_tests, behind),
+    )
+
+-- ---- marks and ends
+
+-- it marks exactly where that may come
+pub mark_guard : (g : Group) (rs : List Replica) (table : List ℕ) (m : ℕ) (r : Replica)
+    → IsMember g rs table m r → r.end ≡ None
+    → (may_mark r ≡ true) ↔ CanMark g (world_of g rs table) m
+mark_guard g rs table m r is alive =
+    let w : World = world_of g rs table in
+    let was = held_of g rs table m r is.there in
+    let history : w.past.history m ≡ r.history = ap (λ h. h.history) was in
+    let durable : w.past.durable m ≡ r.durable = ap (λ h. h.durable) was in
+    let word = own_shown g rs table m r DONE_COLUMN is.there in
+    let members = members_are g rs table m r is in
+    let whole : ℕ → Bool = λ s. length (messages_from s r.history) == slice_index r.totals s in (
+      λ e. let two = and_parts (own r.rows DONE_COLUMN == 0)
+          (holds_all r && (r.durable == length r.history)) e in
+          let three = and_parts (holds_all r) (r.durable == length r.history) two.1 in record {
+            may = may_choose g rs table m r is alive;
+            unwedged = unsuspecting g rs table m r is;
+            unmarked = rw word (grind (arith, two.0));
+            whole = λ s member. rw (history, ← is.of.totals s)
+                (eqb-true (length (messages_from s r.history)) (slice_index r.totals s)
+                (each_member whole r.roster r.members
+                (omega (arith, is.of.members, is.group.most_members)) is.form.roster three.0 s
+                (ap (λ x. has x s) (sym members) ∙ member)));
+            durable = rw (durable, history) (grind (arith, three.1));
+          },
+      λ can. let unmarked = rw word at can.unmarked in
+          let durably = rw (durable, history) at can.durable in
+          and_from _ _ (grind (arith, unmarked)) (and_from _ _
+          (all_members whole r.members (λ s member. let here =
+          rw (history, ← is.of.totals s) at (can.whole s (ap (λ x. has x s) members ∙ member)) in
+          grind (arith, here)))
+          (grind (arith, durably))),
+    )
+
+-- it halts exactly where that may come
+pub halt_guard : (g : Group) (rs : List Replica) (table : List ℕ) (m : ℕ) (r : Replica)
+    → IsMember g rs table m r → r.end ≡ None
+    → (all_done r ≡ true) ↔ CanHalt g (world_of g rs table) m Done
+halt_guard g rs table m r is alive =
+    let members = members_are g rs table m r is in
+    let done : ℕ → Bool = λ i. seen r.rows i DONE_COLUMN == 1 in (
+      λ e. record {
+        may = may_choose g rs table m r is alive;
+        done = refl;
+        unwedged = unsuspecting g rs table m r is;
+        all = λ i member. rw (shown_seen g rs table m r i DONE_COLUMN is.there is.of.number)
+            (let here : done i ≡ true = each_member done r.roster r.members
+            (omega (arith, is.of.members, is.group.most_members)) is.form.roster e i
+            (ap (λ x. has x i) (sym members) ∙ member) in grind (arith, here));
+      },
+      λ can. all_members done r.members (λ i member.
+          let here = rw (shown_seen g rs table m r i DONE_COLUMN is.there is.of.number) at
+          (can.all i (ap (λ x. has x i) members ∙ member)) in grind (arith, here)),
+    )
+
+-- it crashes exactly where that may come
+pub crash_guard : (g : Group) (rs : List Replica) (table : List ℕ) (m : ℕ) (r : Replica) (end : End)
+    → IsMember g rs table m r → r.end ≡ None
+    → IsFault end ↔ CanCrash g (world_of g rs table) m end
+crash_guard g rs table m r end is alive =
+    (λ fault. record { alive = running g rs table m r is alive; fault = fault }, λ can. can.fault)
+
+-- ---- turns, looks and pushes
+
+-- it may always begin a turn
+pub beat_guard : (g : Group) (rs : List Replica) (table : List ℕ) (m : ℕ) (r : Replica)
+    → IsMember g rs table m r → r.end ≡ None
+    → CanBeat g (world_of g rs table) m
+beat_guard = may_choose
+
+-- it looks exactly where that may come
+pub look_guard : (g : Group) (rs : List Replica) (table : List ℕ) (m : ℕ) (r : Replica) (i c : ℕ)
+    → IsMember g rs table m r → r.end ≡ None → c < columns g
+    → (is_other r i ≡ true) ↔ CanLook g (world_of g rs table) m i c
+look_guard g rs table m r i c is alive within =
+    let other = other_member g rs table m r i is in (
+      λ e. record {
+        may = may_choose g rs table m r is alive;
+        row = other.0 e;
+        unsuspected = ap (λ k. has k i) (unsuspecting g rs table m r is) ∙ has_zero i;
+        column = within;
+      },
+      λ can. other.1 can.row,
+    )
+
+-- it pushes exactly where that may come
+pub push_guard : (g : Group) (rs : List Replica) (table : List ℕ) (m : ℕ) (r : Replica) (j c : ℕ)
+    → IsMember g rs table m r → r.end ≡ None → c < columns g
+    → (is_other r j ≡ true) ↔ CanPush g (world_of g rs table) m j c
+push_guard g rs table m r j c is alive within =
+    let other = other_member g rs table m r j is in (
+      λ e. record { may = may_choose g rs table m r is alive; copy = other.0 e; column = within },
+      λ can. other.1 can.copy,
+    )
+
+-- ---- messages and items
+
+-- the index of its next message
+pub next_is : (g : Group) (rs : List Replica) (table : List ℕ) (m : ℕ) (r : Replica)
+    → IsMember g rs table m r → guards.next_index (world_of g rs table) m ≡ next_index r
+next_is g rs table m r is =
+    let show : Holding → ℕ = λ h. h.base + messages_in (h.sent h.view) in
+    ap show (held_of g rs table m r is.there) ∙ rw (same_number r.view) refl
+
+-- its count of a sender
+pub count_is : (g : Group) (rs : List Replica) (table : List ℕ) (m : ℕ) (r : Replica) (s : ℕ)
+    → IsMember g rs table m r → count_of (world_of g rs table) m s ≡ count r s
+count_is g rs table m r s is =
+    let show : Holding → ℕ = λ h. h.count h.view s in
+    ap show (held_of g rs table m r is.there) ∙ rw (same_number r.view) refl
+
+-- the seen word of another row
+pub seen_is : (g : Group) (rs : List Replica) (table : List ℕ) (m : ℕ) (r : Replica) (i c : ℕ)
+    → IsMember g rs table m r → i ≢ m → (world_of g rs table).seen m i c ≡ seen r.rows i c
+seen_is g rs table m r i c is other =
+    ap (λ h. h.seen i c) (held_of g rs table m r is.there)
+    ∙ rw (other_number i (me r) (λ e. other (e ∙ is.of.number))) refl
+
+-- it sends exactly where that may come
+pub send_guard : (g : Group) (rs : List Replica) (table : List ℕ) (m : ℕ) (r : Replica)
+    → IsMember g rs table m r → r.end ≡ None
+    → (may_send r ≡ true) ↔ CanSend g (world_of g rs table) m
+send_guard g rs table m r is alive = (
+  λ e. let two = and_parts (nat_lt (next_index r) (length r.messages))
+      (is_free r.window r.rows r.members (count r (me r))) e in record {
+        may = may_choose g rs table m r is alive;
+        unwedged = unsuspecting g rs table m r is;
+        left = rw (next, ← is.of.messages) (grind (arith, nat_tests, two.0));
+        room = rw counts (room_from
+            (IsFree-from_test r.window r.rows r.members (count r m) is.form.rows.few roster_is
+            (subst free is.of.number two.1)));
+      },
+  λ can. let left = rw (next, ← is.of.messages) at can.left in
+      and_from _ _ (grind (arith, nat_tests, left))
+      (subst free (sym is.of.number)
+      (is_free-true r.window r.rows r.members (count r m) (room_to (rw counts at can.room)))),
+)
+  where
+    free : ℕ → Type 0
+    free = λ n. is_free r.window r.rows r.members (count r n) ≡ true
+
+    w : World
+    w = world_of g rs table
+
+    next : guards.next_index w m ≡ next_index r
+    next = next_is g rs table m r is
+
+    counts : count_of w m m ≡ count r m
+    counts = count_is g rs table m r m is
+
+    members : w.members m ≡ r.members
+    members = members_are g rs table m r is
+
+    roster_is : IsInRoster r.rows.members r.members
+    roster_is = rw is.form.members is.form.roster
+
+    room_from : IsFree r.window r.rows r.members (count r m) → HasRoom g w m (count r m)
+    room_from (inl early) = inl (rw is.of.window at early)
+    room_from (inr received) = inr (λ i other.
+        rw (seen_is g rs table m r i (recv_column m) is other.other, ← is.of.window)
+        (rw is.of.number at (received i (ap (λ x. has x i) (sym members) ∙ other.member)
+        (λ e. other.other (e ∙ is.of.number)))))
+
+    room_to : HasRoom g w m (count r m) → IsFree r.window r.rows r.members (count r m)
+    room_to (inl early) = inl (rw is.of.window early)
+    room_to (inr received) = inr (λ i member other.
+        let apart : i ≢ m = λ e. other (e ∙ sym is.of.number) in
+        rw is.of.number (rw (seen_is g rs table m r i (recv_column m) is apart, ← is.of.window)
+        at (received i (record { member = ap (λ x. has x i) members ∙ member; other = apart }))))
+
+some_test : (o : Option Item) → (is_some o ≡ true) ↔ IsSome o
+some_test None = (λ e. absurd (cc), λ s. absurd (cc))
+some_test (Some x) = (λ e. refl, λ s. refl)
+
+-- the slot of the next item of another member, as it is seen
+pub slot_is : (g : Group) (rs : List Replica) (table : List ℕ) (m : ℕ) (r : Replica) (s k : ℕ)
+    → IsMember g rs table m r → s ≢ m
+    → seen_slot g (world_of g rs table) m s k ≡ slot_of r.window r.rows s k
+slot_is g rs table m r s k is other = fun_ext λ part.
+    seen_is g rs table m r s (slot_column (roster g) g.window k + part) is other
+    ∙ ap (λ n. seen r.rows s (slot_column n g.window k + part)) (sym (is.form.members ∙ is.of.members))
+    ∙ ap (λ window. seen r.rows s (slot_column r.rows.members window k + part)) (sym is.of.window)
+
+-- it receives exactly where that may come, and fewer were taken than anyone has messages
+pub receive_guard : (g : Group) (rs : List Replica) (table : List ℕ) (m : ℕ) (r : Replica) (s : ℕ)
+    → IsMember g rs table m r → r.end ≡ None
+    → (may_receive r s ≡ true) ↔ (CanReceive g (world_of g rs table) m s
+    × (count r s < greatest r.totals))
+receive_guard g rs table m r s is alive =
+    let w : World = world_of g rs table in
+    let counts = count_is g rs table m r s is in
+    let other = other_member g rs table m r s is in (
+      λ e. let two = and_parts (is_other r s)
+          (is_some (ready_item r s) && nat_lt (count r s) (greatest r.totals)) e in
+          let three = and_parts (is_some (ready_item r s)) (nat_lt (count r s) (greatest r.totals)) two.1 in
+          let sender : IsOther w m s = other.0 two.0 in
+          let ready : IsReady (count r s) (slot_of r.window r.rows s (count r s)) =
+          (ready_test (count r s) (slot_of r.window r.rows s (count r s))).0
+          ((some_test (ready_item r s)).0 three.0) in (
+            record {
+              may = may_choose g rs table m r is alive;
+              unwedged = unsuspecting g rs table m r is;
+              sender = sender;
+              ready = subst (λ k. IsReady k (seen_slot g w m s k)) (sym counts)
+                  (subst (IsReady (count r s)) (sym (slot_is g rs table m r s (count r s) is sender.other))
+                  ready);
+            },
+            grind (arith, nat_tests, three.1),
+          ),
+      λ can. let ready : IsReady (count r s) (slot_of r.window r.rows s (count r s)) =
+          subst (IsReady (count r s)) (slot_is g rs table m r s (count r s) is can.0.sender.other)
+          (subst (λ k. IsReady k (seen_slot g w m s k)) counts can.0.ready) in
+          and_from _ _ (other.1 can.0.sender)
+          (and_from _ _ ((some_test (ready_item r s)).1
+          ((ready_test (count r s) (slot_of r.window r.rows s (count r s))).1 ready))
+          (grind (arith, nat_tests, can.1))),
+    )

@@ -1,0 +1,44 @@
+-- Replicas and programs of a group, in their form.
+use Rattle.std.specs.Prelude.{◌≡◌, ℕ, ◌<◌, List, length, slice_get, slice_set, Some}
+use Rattle.dr_words.specs.declared.column.TheConstants.{BEAT_COLUMN}
+use Rattle.dr_words.specs.Layout.{words_of, word_index_of}
+use Rattle.dr_machine.specs.Group.{Group, IsGroup, banks, roster}
+use Rattle.dr_machine.specs.Effects.{one_more}
+use Rattle.dr_machine.specs.declared.event.Act.TheVariants.{Receive, Deliver}
+use Rattle.dr_machine.specs.declared.step.Step.{Step}
+use Rattle.dr_machine.specs.declared.step.Step.TheVariants.{Do}
+use Rattle.dr_program.specs.Replica.{Replica, count, greatest}
+use Rattle.dr_program.specs.Running.{Running}
+use Rattle.dr_program.specs.Program.{Program}
+use Rattle.dr_program.specs.Form.{HasForm, IsOf, IsRunningMember}
+
+-- the table has a word for each bank, copy, row and column
+abbrev pub IsTable : Group → List ℕ → Type 0
+IsTable g table = length table ≡ words_of (roster g) g.window (banks g)
+
+-- the table after an act of member m, with replica r before it: the own beat word takes the number of acts
+abbrev pub acted_table : Group → List ℕ → ℕ → Replica → List ℕ
+acted_table g table m r = slice_set table (word_index_of (roster g) g.window r.view m m BEAT_COLUMN)
+    (one_more 64 r.acts)
+
+-- of these replicas and this table of a group, member m has replica r, in form
+pub record IsMember (g : Group) (rs : List Replica) (table : List ℕ) (m : ℕ) (r : Replica) : Type 0 where
+  pub group : IsGroup g
+  pub cells : IsTable g table
+  pub there : slice_get rs m ≡ Some r
+  pub form : HasForm r
+  pub of : IsOf g m r
+
+-- a program of the group: as many members as the roster, each in form and that of its number, and the whole
+-- table
+pub record IsProgram (g : Group) (p : Program) : Type 0 where
+  pub all : length p.members ≡ roster g
+  pub form : (m : ℕ) (r : Running) → slice_get p.members m ≡ Some r → IsRunningMember r
+  pub of : (m : ℕ) (r : Running) → slice_get p.members m ≡ Some r → IsOf g m r.replica
+  pub table : IsTable g p.table
+
+-- a replica has room for what a step adds: for an item of a sender, and for an entry
+abbrev pub HasRoomFor : Replica → Step → Type 0
+HasRoomFor r (Do (Receive s)) = count r s < greatest r.totals
+HasRoomFor r (Do Deliver) = length r.history < r.room
+HasRoomFor r s = Unit {0}

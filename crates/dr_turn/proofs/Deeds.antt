@@ -1,0 +1,479 @@
+-- Each deed of a running member is done once and for all: it has fewer left then.
+use Rattle.std.proofs.Common.{◌≡◌, refl, sym, ap, ◌∙◌, subst, ℕ, zero, suc, ◌+◌, ◌-◌, ◌*◌, ◌^◌, ◌<◌, ◌≤◌, ◌&&◌, ◌||◌, not, Bool, true, false, nat_lt, length, le_trans, suc-le-suc, arith}
+use Rattle.std.specs.Prelude.{Option, Some, None, drop, slice_index_or}
+use Rattle.std.proofs.Math.Nat.{min-eq_left, min-le_left}
+use Rattle.std.proofs.lemmas.Bool.{and_parts}
+use Rattle.std.proofs.lemmas.Bool.Decides.{nat_tests}
+use Rattle.dr_entry.specs.declared.end.End.{End}
+use Rattle.dr_entry.specs.declared.end.End.TheVariants as ends
+use Rattle.dr_words.specs.Columns.{columns_of}
+use Rattle.dr_machine.specs.declared.event.Act.TheVariants as acts
+use Rattle.dr_machine.specs.declared.step.Step.{Step}
+use Rattle.dr_machine.specs.declared.step.Step.TheVariants as steps
+use Rattle.dr_program.specs.declared.place.Part.{Part}
+use Rattle.dr_program.specs.declared.place.Part.TheVariants as parts
+use Rattle.dr_program.specs.declared.place.Place.{Place}
+use Rattle.dr_program.specs.declared.place.TheConstants.{TURN}
+use Rattle.dr_program.specs.Acts.{may}
+use Rattle.dr_machine.specs.Effects.{one_more}
+use Rattle.dr_program.specs.Turn.{after, is_beat, IsIn, part_of, places_in, rows_in, columns_in, turn_begins}
+use Rattle.dr_program.specs.Replica.{Replica}
+use Rattle.dr_program.specs.Steps.{NoWordFell, allows, stepped}
+use Rattle.dr_program.specs.Running.{Running, members, columns, asks, step_at, settled, goes, pushes_after, took, next_step, crashes_now, push_or_crash, after_step}
+use Rattle.dr_program.specs.Form.{HasForm, IsOf, IsRunningMember}
+use Rattle.dr_program.proofs.Fixed.{Told, told, step_told, of_told}
+use Rattle.dr_turn.specs.Search.{left, IsUnderway}
+use Rattle.dr_turn.specs.Work.{tasks, work, deeds_of, left_to, deeds_left, HasGrownTo, IsDone}
+use Rattle.dr_turn.proofs.Fewer.{NoneRises, fewer_here, fewer_turns, sum_falls, sum_keeps}
+use Rattle.dr_turn.proofs.Order.{after_beat, beat_last, after_in, all_below, each_below, from_part, left_falls, left_small, left_some}
+use Rattle.dr_turn.proofs.Search.{part_before, settle_less, settle_only, settled_running, settled_underway, some_column, some_member}
+use Rattle.dr_turn.proofs.Tasks.{risen, received_less, sent_less, delivered_less, reported_less, published_less, marked_less, sender_within, me_within, none_rises}
+
+-- ---- the work
+
+-- by how much a step lowers the work, at least
+abbrev Lowers : Step → ℕ → ℕ → Type 0
+Lowers (steps.Do acts.Beat) old new = new ≤ old
+Lowers (steps.Do acts.Publish) old new = new + 1 < old
+Lowers (steps.Do (acts.Halt end)) old new = new ≤ old
+Lowers (steps.Do (acts.Crash end)) old new = new ≤ old
+Lowers (steps.Do a) old new = new < old
+Lowers s old new = new ≤ old
+
+no_task : Replica → ℕ
+no_task r = 0
+
+-- the task with this number is less by so much
+less_by : (word : ℕ) (r : Replica) (s : Step) (i by : ℕ) → NoneRises r (stepped word r s) tasks
+    → i < length tasks
+    → slice_index_or tasks i no_task (stepped word r s) + by ≤ slice_index_or tasks i no_task r
+    → work (stepped word r s) + by ≤ work r
+unfolding work
+less_by word r s i by none within less = sum_falls r (stepped word r s) tasks i by no_task none within less
+
+no_more : (word : ℕ) (r : Replica) (s : Step) → NoneRises r (stepped word r s) tasks
+    → work (stepped word r s) ≤ work r
+unfolding work
+no_more word r s none = sum_keeps r (stepped word r s) tasks none
+
+one_less : (a b : ℕ) → a < b → a + 1 ≤ b
+one_less a b h = omega arith
+
+above : (a b : ℕ) → a + 1 ≤ b → a < b
+above a b h = omega arith
+
+lowers_task : (word : ℕ) (r : Replica) (s : Step) → HasForm r → allows r s ≡ true
+    → HasForm (stepped word r s) → NoneRises r (stepped word r s) tasks
+    → Lowers s (work r) (work (stepped word r s))
+lowers_task word r (steps.Do acts.Beat) f may form none = no_more word r (steps.Do acts.Beat) none
+lowers_task word r (steps.Do (acts.Receive s)) f may form none =
+    above _ _ (less_by word r (steps.Do (acts.Receive s)) 0 1 none (omega arith)
+    (one_less _ _ (received_less r s (sender_within r s f may) form)))
+lowers_task word r (steps.Do acts.Send) f may form none =
+    above _ _ (less_by word r (steps.Do acts.Send) 0 1 none (omega arith)
+    (one_less _ _ (sent_less r (me_within r f) form)))
+lowers_task word r (steps.Do acts.Deliver) f may form none =
+    above _ _ (less_by word r (steps.Do acts.Deliver) 1 1 none (omega arith)
+    (one_less _ _ (delivered_less r may)))
+lowers_task word r (steps.Do acts.Publish) f may form none =
+    two _ _ (less_by word r (steps.Do acts.Publish) 2 2 none (omega arith) (published_less r f may))
+  where
+    two : (a b : ℕ) → a + 2 ≤ b → a + 1 < b
+    two a b h = omega arith
+lowers_task word r (steps.Do acts.Report) f may form none =
+    above _ _ (less_by word r (steps.Do acts.Report) 3 1 none (omega arith)
+    (one_less _ _ (reported_less r may)))
+lowers_task word r (steps.Do acts.Mark) f may form none =
+    above _ _ (less_by word r (steps.Do acts.Mark) 4 1 none (omega arith)
+    (one_less _ _ (marked_less r f may)))
+lowers_task word r (steps.Do (acts.Halt end)) f may form none = no_more word r (steps.Do (acts.Halt end)) none
+lowers_task word r (steps.Do (acts.Crash end)) f may form none =
+    no_more word r (steps.Do (acts.Crash end)) none
+lowers_task word r (steps.Look i c) f may form none = no_more word r (steps.Look i c) none
+lowers_task word r s f may form none = no_more word r s none
+
+-- an allowed step lowers the work that it does
+pub lowers : (word : ℕ) (r : Replica) (s : Step) → HasForm r → allows r s ≡ true
+    → HasForm (stepped word r s) → NoWordFell r (stepped word r s)
+    → Lowers s (work r) (work (stepped word r s))
+lowers word r s f may form grown =
+    lowers_task word r s f may form
+    (none_rises word r s f may form (risen r (stepped word r s)
+    (ap (λ (t : Told). t.number) (step_told word r s)) grown))
+
+-- ---- deeds
+
+lower : (r x : Running) → r.replica.end ≡ None → x.replica.end ≡ r.replica.end
+    → left_to x None < left_to r None → deeds_left x < deeds_left r
+lower r x none same h = subst (λ o. left_to x o < deeds_left r) (sym (same ∙ none))
+    (subst (λ o. left_to x None < left_to r o) (sym none) h)
+
+some_deed : (turns places here work : ℕ) → 0 < here → 0 < deeds_of turns places here work
+unfolding deeds_of
+some_deed turns places here work h = omega arith
+
+-- an end
+over : (r x : Running) → r.replica.end ≡ None → IsUnderway r → (o : Option End) → x.replica.end
+    ≡ o
+    → left_to x o ≡ 0 → deeds_left x < deeds_left r
+over r x none u o e zero_left =
+    let some : 0 < left_to r None =
+    some_deed (r.limit - r.replica.turns) (places_in (members r) (columns r) TURN)
+    (left (members r) (columns r) r.place) (work r.replica)
+    (left_some (members r) (columns r) r.place u.place) in
+    subst (λ n. n < deeds_left r) (sym (ap (left_to x) e ∙ zero_left))
+    (subst (λ o. 0 < left_to r o) (sym none) some)
+
+-- the member after the deed of this part
+abbrev does_at : ℕ → Running → Part → Running
+does_at word r part = record r {
+  replica = stepped word r.replica (step_at r part r.place.row r.place.column);
+  place = goes (members r) (columns r) part r.place;
+  pushes = pushes_after r.pushes (step_at r part r.place.row r.place.column);
+}
+
+-- what is known before a deed, and of the replica after it
+record IsDue (word : ℕ) (r : Running) (part : Part) : Type 0 where
+  at : part_of r.place ≡ part
+  underway : IsUnderway r
+  none : r.replica.end ≡ None
+  allowed : allows r.replica (step_at r part r.place.row r.place.column) ≡ true
+  form : HasForm (does_at word r part).replica
+
+-- the place before that of publishing is that of an append
+abbrev is_publish : Part → Bool
+is_publish (parts.Do acts.Publish) = true
+is_publish part = false
+
+abbrev is_append : Part → Bool
+is_append parts.Append = true
+is_append part = false
+
+append_test : (part : Part) → is_append part ≡ true → part ≡ parts.Append
+append_test parts.Append e = refl
+append_test part e = absurd (cc)
+
+append_before : (i : ℕ) → i < length TURN → is_publish (slice_index_or TURN i turn_begins)
+    ≡ true
+    → (1 ≤ i) × (slice_index_or TURN (i - 1) turn_begins ≡ parts.Append)
+unfolding all_below
+append_before i l e =
+    let test = each_below (length TURN) i
+    (λ j. not (is_publish (slice_index_or TURN j turn_begins))
+    || (nat_lt 0 j && is_append (slice_index_or TURN (j - 1) turn_begins))) refl l in
+    let both = and_parts (nat_lt 0 i) (is_append (slice_index_or TURN (i - 1) turn_begins))
+    (implied _ _ test e) in
+    (grind (arith, nat_tests, both.0), append_test _ both.1)
+  where
+    implied : (a b : Bool) → (not a || b) ≡ true → a ≡ true → b ≡ true
+    implied true b t e = t
+    implied false b t e = absurd (cc)
+
+published_at : (word : ℕ) (r : Running) → IsDue word r (parts.Do acts.Publish)
+    → (1 ≤ r.place.part) × (slice_index_or TURN (r.place.part - 1) turn_begins
+    ≡ parts.Append) × (r.place.row < 1) × (r.place.column < 1)
+published_at word r d =
+    let i = d.underway.place in
+    let b = append_before r.place.part i.part (ap is_publish d.at) in (
+      b.0,
+      b.1,
+      subst (λ x. r.place.row < rows_in (members r) x) d.at i.row,
+      subst
+          (λ x. r.place.column < columns_in (columns r) x) d.at i.column,
+    )
+
+-- and there is one place more left there
+one : (n k : ℕ) (x part : Part) → x ≡ part → rows_in n part * columns_in k part ≡ 1
+    → rows_in n x * columns_in k x ≡ 1
+one n k x part e h = rw e h
+
+no_row : (row c : ℕ) → row < 1 → row * c ≡ 0
+no_row zero c l = omega arith
+no_row (suc row) c l = absurd (omega (arith, l))
+
+back : (n k : ℕ) (p : Place) → 1 ≤ p.part → p.part < length TURN → part_of p
+    ≡ parts.Do acts.Publish → slice_index_or TURN (p.part - 1) turn_begins ≡ parts.Append
+    → p.row < 1 → p.column < 1 → left n k (record p { part = p.part - 1 }) ≤ left n k p + 1
+unfolding left
+back n k p some inside here before a b =
+    let x = from_part n k p.part (p.part + 1) TURN turn_begins (omega arith) inside in
+    let same : places_in n k (drop (p.part - 1 + 1) TURN)
+    ≡ places_in n k (drop p.part TURN) = ap (λ i. places_in n k (drop i TURN)) (omega (arith, some)) in
+    let size = one n k (part_of p) (parts.Do acts.Publish) here refl in
+    let size' = one n k (slice_index_or TURN (p.part - 1) turn_begins) parts.Append before refl in
+    omega (
+      arith,
+      x,
+      same,
+      size,
+      size',
+      no_row p.row (columns_in k (part_of p)) a,
+      no_row p.row (columns_in k (slice_index_or TURN (p.part - 1) turn_begins)) a,
+    )
+
+-- the member stands in its turn
+goes_in : (word : ℕ) (r : Running) (part : Part) → IsDue word r part
+    → IsIn (members r) (columns r) (goes (members r) (columns r) part r.place)
+goes_in word r parts.Look d = after_in _ _ r.place (some_member r d.underway.replica)
+    (some_column r) d.underway.place
+goes_in word r parts.Append d = after_in _ _ r.place (some_member r d.underway.replica)
+    (some_column r) d.underway.place
+goes_in word r parts.Push d = after_in _ _ r.place (some_member r d.underway.replica)
+    (some_column r) d.underway.place
+goes_in word r (parts.Do acts.Beat) d = after_in _ _ r.place (some_member r d.underway.replica)
+    (some_column r) d.underway.place
+goes_in word r (parts.Do acts.Publish) d = let at = published_at word r d in
+    let there = at.1 in record {
+      part = omega (arith, d.underway.place.part);
+      row = subst (λ x. r.place.row < rows_in (members r) x) (sym there) at.2;
+      column = subst (λ x. r.place.column < columns_in (columns r) x) (sym there) at.3;
+    }
+goes_in word r part d = d.underway.place
+
+-- its turns are within the limit
+before : (r : Running) (part : Part) → part_of r.place ≡ turn_begins → IsUnderway r
+    → r.replica.end ≡ None → r.replica.turns < r.limit
+before r part at u none = u.left none at
+
+one_more_at_most : (a : ℕ) → one_more 32 a ≤ a + 1
+one_more_at_most a = min-le_left (a + 1) 4294967295
+
+one_turn : (a b : ℕ) → a < b → b < 2 ^ 32 → one_more 32 a ≡ a + 1
+one_turn a b h g = min-eq_left (omega arith)
+
+turned : (word : ℕ) (r : Running) (part : Part) → IsDue word r part
+    → (does_at word r part).replica.turns ≤ r.limit
+turned word r (parts.Do acts.Beat) d =
+    let l = d.underway.left d.none d.at in omega (arith, one_more_at_most r.replica.turns, l)
+turned word r parts.Push d = by (crashes_now r)
+  where
+    by : (b : Bool) → (stepped word r.replica
+        (push_or_crash b r.place.row r.place.column)).turns
+        ≤ r.limit
+    by true = d.underway.turns
+    by false = d.underway.turns
+turned word r part d = d.underway.turns
+
+-- before a turn one more is left
+differs : (a b : Part) → a ≡ b → is_beat b ≡ false → a ≡ turn_begins → ⊥
+differs a b same other is = absurd (cc (ap is_beat same, ap is_beat is, other))
+
+left_behind : (r : Running) → IsUnderway r → is_beat (part_of r.place) ≡ false
+    → part_of (after (members r) (columns r) r.place) ≡ turn_begins → part_of r.place
+    ≡ parts.Spent
+left_behind r u other begins =
+    after_beat (members r) (columns r) r.place
+    (after_in _ _ r.place (some_member r u.replica) (some_column r) u.place) other (ap is_beat begins)
+
+-- a turn that begins leads to its first part
+pub first_part : (r : Running) → IsUnderway r → part_of r.place ≡ turn_begins
+    → part_of (after (members r) (columns r) r.place) ≡ parts.Look
+first_part r u at = ap (λ (p : Place). part_of (after (members r) (columns r) p)) same
+  where
+    row : r.place.row < 1
+    row = subst (λ x. r.place.row < rows_in (members r) x) at u.place.row
+
+    column : r.place.column < 1
+    column = subst (λ x. r.place.column < columns_in (columns r) x) at u.place.column
+
+    last : r.place.part ≡ length TURN - 1
+    last = let e = beat_last r.place.part u.place.part (ap is_beat at) in omega (arith, e)
+
+    none : (n : ℕ) → n < 1 → n ≡ 0
+    none n l = omega arith
+
+    same : r.place ≡ record { part = length TURN - 1; row = 0; column = 0 }
+    same = λ z. record { part = last z; row = none r.place.row row z; column = none r.place.column column z }
+
+unturned : (word : ℕ) (r : Running) (part : Part) → IsDue word r part
+    → (does_at word r part).replica.end ≡ None
+    → part_of (goes (members r) (columns r) part r.place) ≡ turn_begins
+    → (does_at word r part).replica.turns < r.limit
+unturned word r parts.Look d none begins =
+    absurd (cc (sym d.at ∙ left_behind r d.underway (ap is_beat d.at) begins))
+unturned word r parts.Append d none begins =
+    absurd (cc (sym d.at ∙ left_behind r d.underway (ap is_beat d.at) begins))
+unturned word r parts.Push d none begins =
+    absurd (cc (sym d.at ∙ left_behind r d.underway (ap is_beat d.at) begins))
+unturned word r (parts.Do acts.Beat) d none begins =
+    absurd (cc (sym (first_part r d.underway d.at) ∙ begins))
+unturned word r (parts.Do acts.Publish) d none begins = absurd (cc (sym (published_at word r d).1 ∙ begins))
+unturned word r (parts.Do (acts.Halt end)) d none begins = absurd (cc)
+unturned word r (parts.Do (acts.Crash end)) d none begins = absurd (cc)
+unturned word r parts.Crash d none begins = absurd (cc)
+unturned word r parts.Done d none begins = absurd (cc)
+unturned word r parts.Spent d none begins = absurd (cc)
+unturned word r part d none begins = absurd (cc (sym d.at ∙ begins))
+
+-- a push, or the crash in its place, leaves fewer deeds
+fewer_push : (word : ℕ) (r : Running) → IsDue word r parts.Push
+    → Lowers (step_at r parts.Push r.place.row r.place.column) (work r.replica)
+    (work (does_at word r parts.Push).replica)
+    → deeds_left (does_at word r parts.Push) < deeds_left r
+fewer_push word r d less = by (crashes_now r) less
+  where
+    by : (b : Bool) → Lowers (push_or_crash b r.place.row r.place.column) (work r.replica)
+        (work (stepped word r.replica
+        (push_or_crash b r.place.row r.place.column)))
+        → deeds_left (record r {
+          replica = stepped word r.replica
+              (push_or_crash b r.place.row r.place.column);
+          place = after (members r) (columns r) r.place;
+          pushes = pushes_after r.pushes
+              (push_or_crash b r.place.row r.place.column);
+        }) < deeds_left r
+    by true l = over r
+        (record r {
+          replica = stepped word r.replica (steps.Do (acts.Crash ends.Crashed));
+          place =
+              after (members r) (columns r) r.place;
+          pushes = r.pushes;
+        }) d.none d.underway
+        (Some ends.Crashed) refl refl
+    by false l = lower r
+        (record r {
+          replica = stepped word r.replica (steps.Push r.place.row r.place.column);
+          place =
+              after (members r) (columns r) r.place;
+          pushes = one_more 32 r.pushes;
+        }) d.none refl
+        (fewer_here (r.limit - r.replica.turns) _ _ _ _ _
+        (omega (
+          arith,
+          l,
+          left_falls (members r) (columns r) r.place d.underway.place
+              (part_before (members r) (columns r) r.place d.underway.place (ap is_beat d.at)),
+        )))
+
+fewer : (word : ℕ) (r : Running) (part : Part) → r.limit < 2 ^ 32 → IsDue word r part
+    → Lowers (step_at r part r.place.row r.place.column) (work r.replica)
+    (work (does_at word r part).replica)
+    → deeds_left (does_at word r part) < deeds_left r
+fewer word r parts.Look fits d less =
+    lower r (does_at word r parts.Look) d.none refl
+    (fewer_here (r.limit - r.replica.turns) _ _ _ _ _
+    (omega (
+      arith,
+      less,
+      left_falls (members r) (columns r) r.place d.underway.place
+          (part_before (members r) (columns r) r.place d.underway.place (ap is_beat d.at)),
+    )))
+fewer word r parts.Append fits d less = lower r (does_at word r parts.Append) d.none refl
+    (fewer_here (r.limit - r.replica.turns) _ _ _ _ _
+    (omega (
+      arith,
+      less,
+      left_falls (members r) (columns r) r.place d.underway.place
+          (part_before (members r) (columns r) r.place d.underway.place (ap is_beat d.at)),
+    )))
+fewer word r parts.Push fits d less = fewer_push word r d less
+fewer word r (parts.Do acts.Publish) fits d less = let at = published_at word r d in
+    lower r (does_at word r (parts.Do acts.Publish)) d.none refl
+    (fewer_here (r.limit - r.replica.turns) _ _ _ _ _
+    (omega (
+      arith,
+      less,
+      back (members r)
+          (columns r) r.place at.0 d.underway.place.part d.at at.1 at.2 at.3,
+    )))
+fewer word r (parts.Do (acts.Halt end)) fits d less =
+    over r (does_at word r (parts.Do (acts.Halt end))) d.none d.underway (Some end) refl refl
+fewer word r (parts.Do (acts.Crash end)) fits d less =
+    over r (does_at word r (parts.Do (acts.Crash end))) d.none d.underway (Some end) refl refl
+fewer word r parts.Crash fits d less = over r (does_at word r parts.Crash) d.none d.underway
+    (Some ends.Crashed) refl refl
+fewer word r parts.Done fits d less = over r (does_at word r parts.Done) d.none d.underway
+    (Some ends.Done) refl refl
+fewer word r parts.Spent fits d less = over r (does_at word r parts.Spent) d.none d.underway
+    (Some (ends.Spent r.replica.turns)) refl refl
+fewer word r (parts.Do acts.Beat) fits d less = let l = d.underway.left d.none d.at in
+    lower r (does_at word r turn_begins) d.none refl
+    (fewer_turns (r.limit - r.replica.turns) (r.limit - one_more 32 r.replica.turns)
+    (places_in (members r) (columns r) TURN) _ _ _ _
+    (omega (arith, one_turn r.replica.turns r.limit l fits, l))
+    (left_small (members r) (columns r) (goes (members r) (columns r) turn_begins r.place)
+    (goes_in word r turn_begins d)) less)
+fewer word r part fits d less =
+    lower r (does_at word r part) d.none refl
+    (fewer_here (r.limit - r.replica.turns) _ _ _ _ _ (omega (arith, less)))
+
+-- ---- every deed
+
+-- where it stands, by what its replica says of the shape
+place_in : (word : ℕ) (r : Running) (part : Part) → IsDue word r part → (q : Replica)
+    → told q ≡ told r.replica → IsIn q.roster (columns_of q.roster q.window)
+    (goes (members r) (columns r) part r.place)
+place_in word r part d q f =
+    subst (λ (w : ℕ). IsIn q.roster (columns_of q.roster w) (goes (members r) (columns r) part r.place))
+    (sym (ap (λ (t : Told). t.window) f))
+    (subst (λ (n : ℕ). IsIn n (columns_of n r.replica.window)
+    (goes (members r) (columns r) part r.place)) (sym (ap (λ (t : Told). t.roster) f))
+    (goes_in word r part d))
+
+-- it is underway behind the deed
+goes_on : (word : ℕ) (r : Running) (part : Part) → IsDue word r part → IsUnderway (does_at word r part)
+goes_on word r part d = record {
+  replica = d.form;
+  place = place_in word r part d (does_at word r part).replica
+      (step_told word r.replica (step_at r part r.place.row r.place.column));
+  turns = turned word r part d;
+  left = unturned word r part d;
+}
+
+does : (word : ℕ) (r : Running) (part : Part) → r.limit < 2 ^ 32 → IsDue word r part
+    → HasGrownTo r (does_at word r part) → IsDone r (does_at word r part)
+does word r part fits d grown =
+    record {
+      underway = goes_on word r part d;
+      grown = grown;
+      fewer = fewer word r part fits d
+          (lowers word r.replica (step_at r part r.place.row r.place.column) d.underway.replica d.allowed
+          d.form grown);
+      still = λ g m. of_told g m r.replica (does_at word r part).replica
+          (step_told word r.replica (step_at r part r.place.row r.place.column));
+    }
+
+-- the search keeps what a deed has done
+settled_done : (r y : Running) → IsDone r y → IsDone r (settled y)
+settled_done r y d = record {
+  underway = settled_underway y d.underway;
+  grown = subst (λ (q : Replica). NoWordFell r.replica q) (sym same) d.grown;
+  fewer = le_trans (suc-le-suc (settle_less _ y d.underway)) d.fewer;
+  still = λ g m o. subst (IsOf g m) (sym same) (d.still g m o);
+}
+  where
+    same : (settled y).replica ≡ y.replica
+    same = ap (λ (z : Running). z.replica) (settle_only (places_in (members y) (columns y) TURN) y)
+
+deed_due : (word : ℕ) (r : Running) → IsRunningMember r → r.replica.end ≡ None
+    → HasForm (took word r (next_step r)).replica → IsDue word r (part_of r.place)
+deed_due word r m none form = record {
+  at = refl;
+  underway = record { replica = m.replica; place = m.place; turns = m.turns; left = m.left };
+  none = none;
+  allowed = (and_parts (asks r (part_of r.place) r.place.row r.place.column)
+      (allows r.replica (next_step r)) (m.due none)).1;
+  form = form;
+}
+
+-- a running member stays one, where its replica keeps its form
+pub deeds_keep_form : (word : ℕ) (r : Running) → IsRunningMember r → r.replica.end ≡ None
+    → HasForm (took word r (next_step r)).replica → IsRunningMember (after_step word r)
+deeds_keep_form word r m none form =
+    settled_running _ (goes_on word r (part_of r.place) (deed_due word r m none form))
+
+-- a deed is done after which the replica has its form and no word has fallen
+pub deed_done : (word : ℕ) (r : Running) → IsRunningMember r → r.limit < 2 ^ 32 → r.replica.end
+    ≡ None
+    → HasForm (took word r (next_step r)).replica → HasGrownTo r (took word r (next_step r))
+    → IsDone r (took word r (next_step r))
+deed_done word r m fits none form grown =
+    does word r (part_of r.place) fits (deed_due word r m none form) grown
+
+-- after such a deed the member is a running member, and the deed is done
+pub deeds_keep : (word : ℕ) (r : Running) → IsRunningMember r → r.limit < 2 ^ 32 → r.replica.end
+    ≡ None
+    → HasForm (took word r (next_step r)).replica → HasGrownTo r (took word r (next_step r))
+    → IsRunningMember (after_step word r) × IsDone r (after_step word r)
+deeds_keep word r m fits none form grown =
+    (deeds_keep_form word r m none form, settled_done r _ (deed_done word r m fits none form grown))

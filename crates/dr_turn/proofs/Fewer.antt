@@ -1,0 +1,62 @@
+-- Each deed of a running member lowers the number of deeds that are left to it.
+use Rattle.std.proofs.Common.{ℕ, zero, suc, ◌+◌, ◌-◌, ◌<◌, ◌≤◌, List, [], ◌∷◌, length, slice_index, slice_set, sum_by, le_refl, arith}
+use Rattle.std.specs.Prelude.{⊤, slice_index_or}
+use Rattle.std.proofs.lemmas.Nat.{mul-add-lt}
+use Rattle.std.proofs.lemmas.List.Sums.{sum_by-set}
+use Rattle.dr_program.specs.Replica.{Replica}
+use Rattle.dr_turn.specs.Work.{deeds_of, sum_of}
+
+-- ---- a sum of tasks
+
+-- each task is no more for q than for r
+abbrev pub NoneRises : Replica → Replica → List (Replica → ℕ) → Type 0
+NoneRises r q [] = ⊤
+NoneRises r q (task ∷ tasks) = (task q ≤ task r) × NoneRises r q tasks
+
+-- where no task rises, their sum doesn't
+pub sum_keeps : (r q : Replica) (tasks : List (Replica → ℕ)) → NoneRises r q tasks
+    → sum_of tasks q ≤ sum_of tasks r
+unfolding sum_of
+sum_keeps r q [] none = le_refl 0
+sum_keeps r q (task ∷ tasks) none = omega (arith, none.0, sum_keeps r q tasks none.1)
+
+-- where one of them is less by so much, the sum is
+pub sum_falls : (r q : Replica) (tasks : List (Replica → ℕ)) (i by : ℕ) (other : Replica → ℕ)
+    → NoneRises r q tasks → i < length tasks
+    → slice_index_or tasks i other q + by ≤ slice_index_or tasks i other r
+    → sum_of tasks q + by ≤ sum_of tasks r
+unfolding sum_of
+sum_falls r q [] i by other none within less = absurd (omega arith)
+sum_falls r q (task ∷ tasks) zero by other none within less = let here : task q + by ≤ task r = less in
+    omega (arith, here, sum_keeps r q tasks none.1)
+sum_falls r q (task ∷ tasks) (suc i) by other none within less =
+    omega (arith, none.0, sum_falls r q tasks i by other none.1 (omega arith) less)
+
+-- a count that rises lowers the sum of what is left up to the greatest
+pub items_less : (most : ℕ) (counts : List ℕ) (s : ℕ) → s < length counts → slice_index counts s
+    < most
+    → sum_by (λ count. most - count) (slice_set counts s (slice_index counts s + 1)) < sum_by
+    (λ count. most - count) counts
+items_less most counts s within below =
+    omega (arith, sum_by-set (λ (count : ℕ). most - count) counts s (slice_index counts s + 1) 0 within)
+
+-- ---- the search
+
+-- fewer places and work together, with the same turns, are fewer deeds
+pub fewer_here : (turns places here here' todo todo' : ℕ) → here' + todo' < here + todo
+    → deeds_of turns places here' todo' < deeds_of turns places here todo
+unfolding deeds_of
+fewer_here turns places here here' todo todo' h = omega arith
+
+-- no more places, with the same turns and work, are no more deeds
+pub no_more_here : (turns places here here' todo : ℕ) → here' ≤ here
+    → deeds_of turns places here' todo ≤ deeds_of turns places here todo
+unfolding deeds_of
+no_more_here turns places here here' todo h = omega arith
+
+-- a turn fewer is worth all the places of one
+pub fewer_turns : (turns turns' places here' here todo todo' : ℕ) → turns' < turns → here' ≤ places
+    → todo' ≤ todo → deeds_of turns' places here' todo' < deeds_of turns places here todo
+unfolding deeds_of
+fewer_turns turns turns' places here' here todo todo' a b c =
+    omega (arith, mul-add-lt turns' (places + 1) places turns a (omega arith))

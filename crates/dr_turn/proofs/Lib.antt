@@ -1,0 +1,6 @@
+pub mod Order
+pub mod Fewer
+pub mod Tasks
+pub mod Search
+pub mod Staying
+pub mod Deeds

@@ -1,0 +1,176 @@
+-- The order of a turn: each place but the last has more places left than the one after it.
+use Rattle.std.proofs.Common.{◌≡◌, ◌≢◌, refl, sym, ap, ℕ, zero, suc, ◌+◌, ◌-◌, ◌*◌, ◌<◌, ◌≤◌, ◌==◌, ◌&&◌, ◌||◌, not, inl, inr, Bool, true, false, if◌then◌else◌, nat_lt, List, [], ◌∷◌, length, drop, arith}
+use Rattle.std.specs.Prelude.{slice_index_or}
+use Rattle.std.proofs.lemmas.Nat.{mul-add-lt}
+use Rattle.std.proofs.lemmas.Bool.{and_parts, cases_eq}
+use Rattle.std.proofs.lemmas.Bool.Decides.{nat_tests}
+use Rattle.dr_program.specs.declared.place.Part.{Part}
+use Rattle.dr_program.specs.declared.place.Part.TheVariants as parts
+use Rattle.dr_program.specs.declared.place.Place.{Place}
+use Rattle.dr_program.specs.declared.place.TheConstants.{TURN}
+use Rattle.dr_program.specs.Turn.{after, columns_in, is_beat, IsIn, part_of, places_in, rows_in, turn_begins}
+use Rattle.dr_turn.specs.Search.{left}
+
+-- the places of a part
+abbrev size : ℕ → ℕ → Part → ℕ
+size n k p = rows_in n p * columns_in k p
+
+-- the parts from a number on are the one there and those behind it
+pub from_part : (n k i j : ℕ) (ps : List Part) (d : Part) → j ≡ suc i → i < length ps
+    → places_in n k (drop i ps) ≡ size n k (slice_index_or ps i d) + places_in n k (drop j ps)
+unfolding places_in
+from_part n k i j [] d e l = absurd (omega arith)
+from_part n k zero j (p ∷ ps) d e l = rw e refl
+from_part n k (suc i) j (p ∷ ps) d e l = rw e (from_part n k i (suc i) ps d refl (omega arith))
+
+few_places : (n k i : ℕ) (ps : List Part) → places_in n k (drop i ps) ≤ places_in n k ps
+unfolding places_in
+few_places n k zero ps = omega arith
+few_places n k (suc i) [] = omega arith
+few_places n k (suc i) (p ∷ ps) = omega (arith, few_places n k i ps)
+
+-- a place of a turn is one of its part's
+within : (rows columns row column : ℕ) → row < rows → column < columns
+    → row * columns + column < rows * columns
+within rows columns row column a b = omega (arith, mul-add-lt row columns column rows a b)
+
+-- a turn has enough places
+pub left_small : (n k : ℕ) (p : Place) → IsIn n k p → left n k p ≤ places_in n k TURN
+unfolding left
+left_small n k p is = omega (
+  arith,
+  from_part n k p.part (p.part + 1) TURN turn_begins (omega arith) is.part,
+  few_places n k p.part TURN,
+)
+
+-- at each place of a turn some places are left
+pub left_some : (n k : ℕ) (p : Place) → IsIn n k p → 0 < left n k p
+unfolding left
+left_some n k p is =
+    omega (arith, within (rows_in n (part_of p)) (columns_in k (part_of p)) p.row p.column is.row is.column)
+
+falls : (n k : ℕ) (p : Place) (x y z : Bool) → nat_lt (p.column + 1) (columns_in k (part_of p)) ≡ x
+    → nat_lt (p.row + 1) (rows_in n (part_of p)) ≡ y → nat_lt (p.part + 1) (length TURN) ≡ z
+    → IsIn n k p → p.part + 1 < length TURN
+    → left n k (if x then record p { column = p.column + 1 } else
+    (if y then record p { row = p.row + 1; column = 0 } else record {
+      part =
+          if z then p.part + 1 else 0;
+      row = 0;
+      column = 0;
+    })) < left n k p
+unfolding left
+falls n k p true y z a b c is more =
+    omega (arith, within (rows_in n (part_of p)) (columns_in k (part_of p)) p.row p.column is.row is.column)
+falls n k p false true z a b c is more =
+    let columns = columns_in k (part_of p) in
+    omega (arith, within (rows_in n (part_of p)) columns p.row p.column is.row is.column, is.column)
+falls n k p false false true a b c is more =
+    omega (
+      arith,
+      from_part n k (p.part + 1) (p.part + 1 + 1) TURN turn_begins (omega arith) more,
+      within (rows_in n (part_of p)) (columns_in k (part_of p)) p.row p.column is.row is.column,
+    )
+falls n k p false false false a b c is more = absurd (grind (arith, nat_tests, more))
+
+-- before the last part, the next place has fewer places left
+pub left_falls : (n k : ℕ) (p : Place) → IsIn n k p → p.part + 1 < length TURN
+    → left n k (after n k p) < left n k p
+left_falls n k p is more = falls n k p _ _ _ refl refl refl is more
+
+-- each part has a place
+some_place : (n k : ℕ) (p : Part) → 0 < n → 0 < k → (0 < rows_in n p) × (0 < columns_in k p)
+some_place n k parts.Look a b = (a, b)
+some_place n k parts.Receive a b = (a, omega arith)
+some_place n k parts.Push a b = (a, b)
+some_place n k p a b = (omega arith, omega arith)
+
+comes : (n k : ℕ) (p : Place) (x y z : Bool) → nat_lt (p.column + 1) (columns_in k (part_of p)) ≡ x
+    → nat_lt (p.row + 1) (rows_in n (part_of p)) ≡ y → nat_lt (p.part + 1) (length TURN) ≡ z
+    → 0 < n → 0 < k → IsIn n k p
+    → IsIn n k (if x then record p { column = p.column + 1 } else
+    (if y then record p { row = p.row + 1; column = 0 } else record {
+      part =
+          if z then p.part + 1 else 0;
+      row = 0;
+      column = 0;
+    }))
+comes n k p true y z a b c some wide is =
+    record { part = is.part; row = is.row; column = grind (arith, nat_tests, a) }
+comes n k p false true z a b c some wide is =
+    record {
+      part = is.part;
+      row = grind (arith, nat_tests, b);
+      column =
+          (some_place n k (part_of p) some wide).1;
+    }
+comes n k p false false true a b c some wide is = record {
+  part = grind (arith, nat_tests, c);
+  row = (some_place n k (slice_index_or TURN (p.part + 1) turn_begins) some wide).0;
+  column = (some_place n k (slice_index_or TURN (p.part + 1) turn_begins) some wide).1;
+}
+comes n k p false false false a b c some wide is = record {
+  part = omega arith;
+  row = (some_place n k (slice_index_or TURN 0 turn_begins) some wide).0;
+  column = (some_place n k (slice_index_or TURN 0 turn_begins) some wide).1;
+}
+
+-- the place after one of a turn is one of a turn
+pub after_in : (n k : ℕ) (p : Place) → 0 < n → 0 < k → IsIn n k p → IsIn n k (after n k p)
+after_in n k p some wide is = comes n k p _ _ _ refl refl refl some wide is
+
+-- the order comes to a part only from the part before it, or from a place of its own
+arrives : (n k t : ℕ) (p : Place) (x y z : Bool)
+    → (if x then record p { column = p.column + 1 } else
+    (if y then record p { row = p.row + 1; column = 0 } else record {
+      part =
+          if z then p.part + 1 else 0;
+      row = 0;
+      column = 0;
+    })).part ≡ t
+    → 0 < t → t ≢ p.part → p.part + 1 ≡ t
+arrives n k t p true y z e some other = absurd (other (sym e))
+arrives n k t p false true z e some other = absurd (other (sym e))
+arrives n k t p false false true e some other = e
+arrives n k t p false false false e some other = absurd (omega (arith, e, some))
+
+-- ---- which part has which number
+
+-- a test that each number below n passes
+unfoldable pub all_below : ℕ → (ℕ → Bool) → Bool
+all_below zero test = true
+all_below (suc n) test = test n && all_below n test
+
+-- a test that all numbers below n pass is passed by each of them
+pub each_below : (n i : ℕ) (test : ℕ → Bool) → all_below n test ≡ true → i < n → test i ≡ true
+unfolding all_below
+each_below zero i test e l = absurd (omega arith)
+each_below (suc n) i test e l = elim (cases_eq i n) [
+  | inl same ↦ rw same (and_parts (test n) (all_below n test) e).0
+  | inr other ↦ each_below n i test (and_parts (test n) (all_below n test) e).1 (omega arith)
+]
+
+-- the turn begins at the last part alone
+pub beat_last : (i : ℕ) → i < length TURN → is_beat (slice_index_or TURN i turn_begins)
+    ≡ true → i + 1 ≡ length TURN
+unfolding all_below
+beat_last i l e = grind (
+  arith,
+  each_below (length TURN) i (λ j. not (is_beat (slice_index_or TURN j turn_begins))
+      || (j + 1 == length TURN)) refl l,
+  e,
+)
+
+-- so before a turn the member was at the place of the end with no turn left
+pub after_beat : (n k : ℕ) (p : Place) → IsIn n k (after n k p) → is_beat (part_of p) ≡ false
+    → is_beat (part_of (after n k p)) ≡ true → part_of p ≡ parts.Spent
+after_beat n k p is other e =
+    let last = beat_last (after n k p).part is.part e in
+    let before : p.part + 1 ≡ length TURN - 1 =
+    arrives n k (length TURN - 1) p (nat_lt (p.column + 1) (columns_in k (part_of p)))
+    (nat_lt (p.row + 1) (rows_in n (part_of p))) (nat_lt (p.part + 1) (length TURN))
+    (omega (arith, last)) (omega arith)
+    (λ (same : length TURN - 1 ≡ p.part). absurd
+    (cc (ap (λ i. is_beat (slice_index_or TURN i turn_begins)) same, other))) in
+    let at : p.part ≡ length TURN - 2 = omega (arith, before) in
+    ap (λ i. slice_index_or TURN i turn_begins) at

@@ -1,0 +1,186 @@
+-- The tasks of a replica: which of its deeds lowers each, and that no deed raises any.
+use Rattle.std.proofs.Common.{◌≡◌, sym, subst, ◌∙◌, ℕ, ◌+◌, ◌-◌, ◌^◌, ◌<◌, ◌≤◌, ◌==◌, nat_lt, true, min, fold, List, [], ◌∷◌, length, slice_index, map, le_trans, le_refl, arith}
+use Rattle.std.proofs.Math.Nat.{min-le_left}
+use Rattle.std.proofs.lemmas.Bool.{and_parts, ltb-true}
+use Rattle.std.proofs.lemmas.Bool.Decides.{nat_tests}
+use Rattle.std.proofs.lemmas.List.{get_or-set_same}
+use Rattle.dr_machine.specs.declared.event.Act.TheVariants as acts
+use Rattle.dr_machine.specs.declared.step.Step.{Step}
+use Rattle.dr_machine.specs.declared.step.Step.TheVariants.{Do, Append}
+use Rattle.dr_rows.specs.Words.{own, seen, with_own}
+use Rattle.dr_rows.proofs.Grids.{with_word-same, with_word-column}
+use Rattle.dr_words.specs.declared.column.TheConstants.{BEAT_COLUMN, RECEIVED_COLUMN, LOGGED_COLUMN, DONE_COLUMN}
+use Rattle.dr_program.specs.Acts.{may}
+use Rattle.dr_program.specs.Replica.{Replica, me, greatest, view_of, least_seen, may_deliver, may_mark, may_publish, may_receive, may_report, acted, received, sent, delivered, published, reported, marked}
+use Rattle.dr_program.specs.Steps.{NoWordFell, allows, stepped}
+use Rattle.dr_program.specs.Form.{HasForm}
+use Rattle.dr_turn.specs.Work.{items_left, places_left, log_left, reports_left, mark_left, tasks}
+use Rattle.dr_turn.proofs.Fewer.{NoneRises, items_less}
+
+-- ---- the own words
+
+-- no own word has fallen
+pub record HasRisen (r q : Replica) : Type 0 where
+  pub rise : (c : ℕ) → own r.rows c ≤ own q.rows c
+
+minus_le : (a b c : ℕ) → b ≤ c → a - c ≤ a - b
+minus_le a b c h = omega arith
+
+minus_less : (most a b : ℕ) → a < b → b ≤ most → most - b < most - a
+minus_less most a b h g = omega arith
+
+-- where no word fell, the words have risen
+pub risen : (r q : Replica) → me q ≡ me r → NoWordFell r q → HasRisen r q
+risen r q same grown =
+    record {
+      rise = λ c. subst (λ (i : ℕ). own r.rows c ≤ seen q.rows i c) (sym same)
+          (grown.words (me r) c).number;
+    }
+
+-- ---- items
+
+-- a received item leaves fewer items to come
+pub received_less : (r : Replica) (s : ℕ) → s < length r.counts → HasForm (acted (received r s))
+    → items_left (acted (received r s)) < items_left r
+unfolding items_left
+received_less r s within form = items_less (greatest r.totals) r.counts s within below
+  where
+    below : slice_index r.counts s < greatest r.totals
+    below = omega (arith, form.bounded s, get_or-set_same r.counts s (slice_index r.counts s + 1) 0 within)
+
+-- a sent item leaves fewer items to come
+pub sent_less : (r : Replica) → me r < length r.counts → HasForm (acted (sent r))
+    → items_left (acted (sent r)) < items_left r
+unfolding items_left
+sent_less r within form = items_less (greatest r.totals) r.counts (me r) within below
+  where
+    below : slice_index r.counts (me r) < greatest r.totals
+    below = omega (
+      arith,
+      form.bounded (me r),
+      get_or-set_same r.counts (me r)
+          (slice_index r.counts (me r) + 1) 0 within,
+    )
+
+-- a member receives only from members of its roster
+pub sender_within : (r : Replica) (s : ℕ) → HasForm r → may r (acts.Receive s) ≡ true → s
+    < length r.counts
+sender_within r s f is =
+    omega (arith, f.counts, ltb-true s r.roster (and_parts (nat_lt s r.roster) (may_receive r s) is).0)
+
+-- a member is one of its roster
+pub me_within : (r : Replica) → HasForm r → me r < length r.counts
+me_within r f = omega (arith, f.counts, f.members, f.rows.present)
+
+items_keep : (word : ℕ) (r : Replica) (s : Step) → HasForm r → allows r s ≡ true
+    → HasForm (stepped word r s) → items_left (stepped word r s) ≤ items_left r
+unfolding items_left
+items_keep word r (Do (acts.Receive s)) f is form =
+    omega (arith, received_less r s (sender_within r s f is) form)
+items_keep word r (Do acts.Send) f is form = omega (arith, sent_less r (me_within r f) form)
+items_keep word r (Do a) f is form = le_refl _
+items_keep word r s f is form = le_refl _
+
+-- ---- places
+
+-- a least word fits 64 bits
+fold_min : (most : ℕ) (words : List ℕ) → fold min most words ≤ most
+fold_min most [] = le_refl most
+fold_min most (x ∷ xs) = le_trans (fold_min (min most x) xs) (min-le_left most x)
+
+least_fits : (r : Replica) (c : ℕ) → least_seen r c ≤ 2 ^ 64 - 1
+least_fits r c = fold_min (2 ^ 64 - 1) (map (λ i. seen r.rows i c) (view_of r))
+
+-- a delivery leaves fewer places to deliver
+pub delivered_less : (r : Replica) → may_deliver r ≡ true → places_left (acted (delivered r))
+    < places_left r
+unfolding places_left
+delivered_less r is =
+    let below = ltb-true r.next (least_seen r RECEIVED_COLUMN)
+    (and_parts (nat_lt r.next (least_seen r RECEIVED_COLUMN)) _ is).0 in
+    minus_less (2 ^ 64) r.next (r.next + 1) (omega arith) (omega (arith, below, least_fits r RECEIVED_COLUMN))
+
+places_keep : (word : ℕ) (r : Replica) (s : Step) → allows r s ≡ true
+    → places_left (stepped word r s) ≤ places_left r
+unfolding places_left
+places_keep word r (Do acts.Deliver) is = omega (arith, delivered_less r is)
+places_keep word r (Do a) is = le_refl _
+places_keep word r s is = le_refl _
+
+-- ---- the log
+
+-- an own word that was set before the stamp
+stamped_own : (r : Replica) (c word : ℕ) → HasForm r → 0 < c → c < r.rows.columns
+    → own (acted (record r { rows = with_own r.rows c word })).rows c ≡ word
+stamped_own r c word form above within =
+    with_word-column (with_own r.rows c word).words r.rows.me BEAT_COLUMN _ r.rows.me c
+    (λ (e : c ≡ BEAT_COLUMN). absurd (omega arith))
+    ∙ with_word-same r.rows.members r.rows.columns r.rows.words r.rows.me c word form.rows.rows
+    form.rows.present within
+
+-- publishing leaves the log's work smaller by two at least
+pub published_less : (r : Replica) → HasForm r → may_publish r ≡ true
+    → log_left (acted (published r)) + 2 ≤ log_left r
+unfolding log_left
+published_less r form is = omega (arith, now, ltb-true (own r.rows LOGGED_COLUMN) r.logged is)
+  where
+    now : own (acted (published r)).rows LOGGED_COLUMN ≡ r.logged
+    now = stamped_own r LOGGED_COLUMN r.logged form (omega arith) (omega (arith, form.columns))
+
+log_keeps : (word : ℕ) (r : Replica) (s : Step) → HasForm r → allows r s ≡ true
+    → HasRisen r (stepped word r s) → log_left (stepped word r s) ≤ log_left r
+unfolding log_left
+log_keeps word r Append form is rise = omega (arith, ltb-true r.logged (length r.history) is, form.room)
+log_keeps word r (Do acts.Report) form is rise = omega (arith, rise.rise LOGGED_COLUMN)
+log_keeps word r (Do a) form is rise = omega (arith, rise.rise LOGGED_COLUMN)
+log_keeps word r s form is rise = omega (arith, rise.rise LOGGED_COLUMN)
+
+-- ---- reports
+
+-- a report leaves fewer entries to report
+pub reported_less : (r : Replica) → may_report r ≡ true → reports_left (acted (reported r))
+    < reports_left r
+unfolding reports_left
+reported_less r is =
+    minus_less (2 ^ 64) r.durable (least_seen r LOGGED_COLUMN)
+    (ltb-true r.durable (least_seen r LOGGED_COLUMN) is) (omega (arith, least_fits r LOGGED_COLUMN))
+
+reports_keep : (word : ℕ) (r : Replica) (s : Step) → allows r s ≡ true
+    → reports_left (stepped word r s) ≤ reports_left r
+unfolding reports_left
+reports_keep word r (Do acts.Report) is = omega (arith, reported_less r is)
+reports_keep word r (Do a) is = le_refl _
+reports_keep word r s is = le_refl _
+
+-- ---- the mark
+
+-- after marking, the mark is no more to set
+pub marked_less : (r : Replica) → HasForm r → may_mark r ≡ true → mark_left (acted (marked r))
+    < mark_left r
+unfolding mark_left
+marked_less r form is = omega (arith, now, unmarked (and_parts (own r.rows DONE_COLUMN == 0) _ is).0)
+  where
+    now : own (acted (marked r)).rows DONE_COLUMN ≡ 1
+    now = stamped_own r DONE_COLUMN 1 form (omega arith) (omega (arith, form.columns))
+
+    unmarked : (own r.rows DONE_COLUMN == 0) ≡ true → own r.rows DONE_COLUMN ≡ 0
+    unmarked e = grind (arith, nat_tests)
+
+mark_keeps : (word : ℕ) (r : Replica) (s : Step) → HasRisen r (stepped word r s)
+    → mark_left (stepped word r s) ≤ mark_left r
+unfolding mark_left
+mark_keeps word r s rise = minus_le 1 _ _ (rise.rise DONE_COLUMN)
+
+-- ---- all of them
+
+-- no step raises any of the tasks
+pub none_rises : (word : ℕ) (r : Replica) (s : Step) → HasForm r → allows r s ≡ true
+    → HasForm (stepped word r s) → HasRisen r (stepped word r s)
+    → NoneRises r (stepped word r s) tasks
+none_rises word r s f is form rise = (
+  items_keep word r s f is form,
+  (
+    places_keep word r s is,
+    (log_keeps word r s f is rise, (reports_keep word r s is, (mark_keeps word r s rise, tt))),
+  ),
+)

@@ -1,0 +1,30 @@
+//! Laws of the turn.
+ghost use Rattle.std.specs.Prelude.{◌≡◌, ℕ, ◌^◌, ◌<◌, ◌≤◌, None, is_some, true};
+ghost use Rattle.dr_program.specs.Form.{HasForm, IsRunningMember};
+ghost use Rattle.dr_program.specs.Running.{Running, after_step, applies, next_step, settled, took};
+ghost use Rattle.dr_turn.specs.Search.{IsUnderway, Passed};
+ghost use Rattle.dr_turn.specs.Work.{HasGrownTo, IsDone, deeds_left};
+
+/// The search leads to the first place of the turn, from where the member stands, at which there is
+/// something to do. It changes nothing else, and leaves no more deeds to do. A member that has ended
+/// stays where it is.
+pub fn the_search_goes_to_the_next_place()
+    ensures first { (r : Running) → Passed r r.place (settled r).place }
+    ensures due { (r : Running) → IsUnderway r → r.replica.end ≡ None
+        → applies (settled r) (settled r).place ≡ true }
+    ensures rests { (r : Running) → is_some r.replica.end ≡ true → settled r ≡ r }
+    ensures form { (r : Running) → IsUnderway r → IsRunningMember (settled r) }
+    ensures only { (r : Running) → settled r ≡ record r { place = (settled r).place } }
+    ensures less { (r : Running) → IsUnderway r → deeds_left (settled r) ≤ deeds_left r }
+{}
+
+/// A running member stays one over each of its deeds, where its replica keeps its form. Where also no
+/// word falls and its turns are 32 bits, it then has fewer deeds to do.
+pub fn deeds_keep_members()
+    ensures form { (word : ℕ) (r : Running) → IsRunningMember r → r.replica.end ≡ None
+        → HasForm (took word r (next_step r)).replica → IsRunningMember (after_step word r) }
+    ensures done { (word : ℕ) (r : Running) → IsRunningMember r → r.limit < 2 ^ 32 → r.replica.end
+        ≡ None
+        → HasForm (took word r (next_step r)).replica → HasGrownTo r (took word r (next_step r))
+        → IsDone r (after_step word r) }
+{}
