@@ -8,7 +8,7 @@ use Rattle.dr_entry.specs.declared.end.AgeEnd.{AgeEnd}
 use Rattle.dr_script.specs.declared.script.Script.{Script}
 use Rattle.dr_history.specs.Agreement.{EndsAgreed}
 use Rattle.dr_restart.specs.Groups.{first_group_of, first_start_of}
-use Rattle.dr_ends.specs.Ended.{HaveEnded}
+use Rattle.dr_program_laws.specs.Ended.{HaveEnded}
 use Rattle.dr_restart.specs.Setups.{crashes_of}
 use Rattle.dr_sim.specs.Simulated.{IsSimulated}
 
@@ -21,7 +21,8 @@ is_spent _ = false
 abbrev pub some_spent : List AgeEnd → Bool
 some_spent ages = list_any (λ (a : AgeEnd). list_any (λ (m : MemberEnd). is_spent m.end) a.members) ages
 
--- the age is the run of the script, by its schedule, from the first start on; its histories agree, and each member has ended as it should
+-- the age is the run of the script, by its schedule, from the first start on; its histories agree, and each
+-- member has ended as it should
 pub record IsRunOf (s : Script) (a : AgeEnd) : Type 0 where
   pub run : IsSimulated s (first_start_of s) 0 a
   pub agreed : EndsAgreed (first_group_of s).opening a.members

@@ -22,10 +22,12 @@ first_length lists = length (slice_index_or lists 0 [])
 abbrev pub are_alike : {A : Type 0} → List (List A) → Bool
 are_alike lists = list_all (λ xs. length xs == first_length lists) lists
 
--- whether a script uses only what is built: no patience, one age, no suspicion, and as many messages of each member
+-- whether a script uses only what is built: no patience, one age, no suspicion, and as many messages of
+-- each member
 abbrev pub is_built : Script → Bool
 is_built s =
-    (s.patience == 0) && (s.ages == 1) && list_all (λ (f : Fault). is_crash f.what) s.faults && are_alike s.messages
+    (s.patience == 0) && (s.ages == 1) && list_all (λ (f : Fault). is_crash f.what) s.faults
+    && are_alike s.messages
 
 -- the script to run, where a text is one that can be run
 abbrev pub runnable : Reading → Option Script

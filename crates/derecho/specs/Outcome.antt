@@ -9,9 +9,8 @@ use Rattle.dr_restart.specs.Groups.{first_start_of}
 use Rattle.dr_script.specs.Reading.{reading_of}
 use Rattle.dr_sim.specs.Simulated.{IsSimulated}
 use Rattle.dr_text.specs.declared.last.Last.{Last}
-use Rattle.dr_text.specs.declared.last.Last.TheVariants.{Done, Usage, TooLong, NotJson, Rule, NotBuilt, SourceFault, Unfinished}
+use Rattle.dr_text.specs.declared.last.Last.TheVariants.{Done, Usage, TooLong, NotJson, Rule, NotBuilt, SourceFault, DiskFault, Damaged, Foreign, Disagree, AgesUsedUp, Unfinished, NoMajority, LogFull}
 use Rattle.dr_text.specs.Report.{report_text}
-use Rattle.derecho.specs.declared.status.TheConstants.{DONE, USAGE, SCRIPT_REFUSED, READ_FAULT, WRITE_FAULT, UNFINISHED, OUT_OF_MEMORY}
 use Rattle.derecho.specs.Words.{IsCommand}
 use Rattle.derecho.specs.Built.{runnable, refusal}
 use Rattle.derecho.specs.Reading.{WasRead}
@@ -22,7 +21,8 @@ use Rattle.derecho.specs.Ages.{some_spent, RanAlone}
 abbrev pub last_of_run : List AgeEnd → Last
 last_of_run ages = if some_spent ages then Unfinished else Done
 
--- what the bytes ask for: no age and a refusal where they are no script that can be run, and else the run of that script
+-- what the bytes ask for: no age and a refusal where they are no script that can be run, and else the run
+-- of that script
 abbrev pub IsRunOver : List ℕ → List AgeEnd → Last → Type 0
 IsRunOver bytes ages last =
     MatchOption
@@ -30,8 +30,10 @@ IsRunOver bytes ages last =
     ((last ≡ refusal (reading_of bytes)) × (ages ≡ []))
     (λ s. (last ≡ last_of_run ages) × RanAlone s ages)
 
--- the last line that is due, with its ages: the usage where the words are no command, a fault where the source failed, and else what the bytes that were read ask for
-abbrev pub IsDue : List (String Global) → Option (List ℕ) → Option (List ℕ) → ℕ → ℕ → List AgeEnd → Last → Type 0
+-- the last line that is due, with its ages: the usage where the words are no command, a fault where the
+-- source failed, and else what the bytes that were read ask for
+abbrev pub IsDue : List (String Global) → Option (List ℕ) → Option (List ℕ) → ℕ → ℕ
+    → List AgeEnd → Last → Type 0
 IsDue words old new before after ages last =
     ((¬ IsCommand words) × (last ≡ Usage) × (ages ≡ []) × Loses old new [])
     ⊎ (IsCommand words × (last ≡ SourceFault) × (ages ≡ []) × Rose before after)
@@ -39,41 +41,50 @@ IsDue words old new before after ages last =
 
 -- the status of a last line
 abbrev pub status_of : Last → ℕ
-status_of Done = DONE
-status_of Usage = USAGE
-status_of TooLong = SCRIPT_REFUSED
-status_of NotJson = SCRIPT_REFUSED
-status_of (Rule rule path) = SCRIPT_REFUSED
-status_of NotBuilt = SCRIPT_REFUSED
-status_of SourceFault = READ_FAULT
-status_of Unfinished = UNFINISHED
+status_of Done = 0
+status_of Usage = 2
+status_of TooLong = 3
+status_of NotJson = 3
+status_of (Rule rule path) = 3
+status_of NotBuilt = 3
+status_of SourceFault = 4
+status_of (DiskFault member) = 6
+status_of (Damaged member at) = 7
+status_of (Foreign member place) = 7
+status_of (Disagree a b place) = 7
+status_of AgesUsedUp = 7
+status_of Unfinished = 8
+status_of NoMajority = 9
+status_of (LogFull member) = 11
 
 -- the whole text was written, with the status of its last line, or a front part of it, where the sink failed
-abbrev pub Wrote : Option (List ℕ) → Option (List ℕ) → ℕ → ℕ → ℕ → List AgeEnd → Last → Type 0
+abbrev pub Wrote : Option (List ℕ) → Option (List ℕ) → ℕ → ℕ → ℕ → List AgeEnd → Last
+    → Type 0
 Wrote old new before after status ages last =
     ((status ≡ status_of last) × Gains old new (report_text ages last))
-    ⊎ ((status ≡ WRITE_FAULT) × Rose before after × WroteFront old new (report_text ages last))
+    ⊎ ((status ≡ 5) × Rose before after × WroteFront old new (report_text ages last))
 
 -- memory was wanting: there is no age, and nothing was written
 abbrev pub GaveUp : Option (List ℕ) → Option (List ℕ) → ℕ → List AgeEnd → Type 0
-GaveUp old new status ages = (status ≡ OUT_OF_MEMORY) × (ages ≡ []) × Gains old new []
+GaveUp old new status ages = (status ≡ 10) × (ages ≡ []) × Gains old new []
 
 -- the status comes exactly where the fact holds, but that a write fault and want of memory come before it
 pub record Exactly (status due : ℕ) (P : Type 0) : Type 0 where
   pub only : status ≡ due → P
-  pub unless : P → (status ≡ due) ⊎ (status ≡ WRITE_FAULT) ⊎ (status ≡ OUT_OF_MEMORY)
+  pub unless : P → (status ≡ due) ⊎ (status ≡ 5) ⊎ (status ≡ 10)
 
 -- the source may have been left before its end: it failed, or memory was wanting
 abbrev pub MayBeUnread : ℕ → ℕ → ℕ → Type 0
 MayBeUnread before after status =
-    (status ≡ READ_FAULT) ⊎ (status ≡ OUT_OF_MEMORY) ⊎ ((status ≡ WRITE_FAULT) × Rose before after)
+    (status ≡ 4) ⊎ (status ≡ 10) ⊎ ((status ≡ 5) × Rose before after)
 
--- the source was read to its end or to the limit, and what was read decides: it is no script that can be run, is refused and has no age, or the ages are the one run of that script
+-- the source was read to its end or to the limit, and what was read decides: it is no script that can be
+-- run, is refused and has no age, or the ages are the one run of that script
 abbrev pub RanRead : Option (List ℕ) → Option (List ℕ) → ℕ → List AgeEnd → Type 0
 RanRead old new status ages =
     (bytes : List ℕ)
     × WasRead old new bytes
     × MatchOption
     (runnable (reading_of bytes))
-    ((ages ≡ []) × ((status ≡ SCRIPT_REFUSED) ⊎ (status ≡ WRITE_FAULT)))
-    (λ s. ((a : AgeEnd) × (ages ≡ a ∷ []) × IsSimulated s (first_start_of s) 0 a) × (status ≢ SCRIPT_REFUSED))
+    ((ages ≡ []) × ((status ≡ 3) ⊎ (status ≡ 5)))
+    (λ s. ((a : AgeEnd) × (ages ≡ a ∷ []) × IsSimulated s (first_start_of s) 0 a) × (status ≢ 3))

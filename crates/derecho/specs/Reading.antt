@@ -3,14 +3,13 @@ use Rattle.std.specs.Prelude.{◌≡◌, ℕ, ◌<◌, ◌≤◌, List, length, 
 use Rattle.dr_io.specs.Source.{Loses, IsUsedUp}
 use Rattle.dr_script.specs.declared.script.Script.{Script}
 use Rattle.dr_script.specs.Reading.{reading_of}
-use Rattle.derecho.specs.declared.reading.TheConstants.{READ_LIMIT}
 use Rattle.derecho.specs.Built.{runnable}
 
--- these bytes were read from the front of what was left: all of it, or as many as the limit
+-- these bytes were read from the front of what was left: all of it, or one byte more than a script may have
 pub record WasRead (old new : Option (List ℕ)) (bytes : List ℕ) : Type 0 where
   pub lost : Loses old new bytes
-  pub end : length bytes < READ_LIMIT → IsUsedUp new
-  pub limit : length bytes ≤ READ_LIMIT
+  pub end : length bytes < 1048577 → IsUsedUp new
+  pub limit : length bytes ≤ 1048577
 
 -- what was read is this script, which can be run
 abbrev pub IsScript : Option (List ℕ) → Option (List ℕ) → Script → Type 0

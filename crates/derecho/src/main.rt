@@ -10,7 +10,10 @@ mod words;
 mod writing;
 
 use dr_io::{InputSource, OutputSink};
-pub use status::{DONE, OUT_OF_MEMORY, READ_FAULT, SCRIPT_REFUSED, UNFINISHED, USAGE, WRITE_FAULT};
+pub use status::{
+    DISK_FAULT, DONE, LOG_FULL, LOGS_REFUSED, NO_MAJORITY, OUT_OF_MEMORY, READ_FAULT,
+    SCRIPT_REFUSED, UNFINISHED, USAGE, WRITE_FAULT,
+};
 use std::alloc::Global;
 use std::io::ErrorKind;
 use std::process::ExitCode;

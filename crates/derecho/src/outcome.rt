@@ -76,7 +76,8 @@ fn simulate(alloc: Global, script: &Script) -> Result<Outcome, AllocError>
 
 /// What the last line says behind an age with these members.
 fn last_of(members: &[MemberEnd]) -> Last
-    ensures { result ≡ (if list_any (λ m. is_spent m.end) members.now then Last.Unfinished else Last.Done) }
+    ensures { result ≡ (if list_any
+        (λ m. is_spent m.end) members.now then Last.Unfinished else Last.Done) }
 {
     if some_spent(members) {
         Last::Unfinished

@@ -13,8 +13,20 @@ pub const READ_FAULT: u8 = 4;
 /// The sink failed.
 pub const WRITE_FAULT: u8 = 5;
 
+/// The disk of a member failed.
+pub const DISK_FAULT: u8 = 6;
+
+/// The logs are not those of a run that can go on.
+pub const LOGS_REFUSED: u8 = 7;
+
 /// A member had spent all its turns.
 pub const UNFINISHED: u8 = 8;
 
+/// A member ended without a majority of its view.
+pub const NO_MAJORITY: u8 = 9;
+
 /// Memory was wanting.
 pub const OUT_OF_MEMORY: u8 = 10;
+
+/// A log would have grown beyond its limit.
+pub const LOG_FULL: u8 = 11;

@@ -2,7 +2,7 @@ ghost use Rattle.std.specs.Prelude.{◌≡◌, ◌≢◌, ◌⊎◌, ◌≤◌, 
 ghost use Rattle.dr_entry.specs.declared.end.AgeEnd.{AgeEnd};
 ghost use Rattle.dr_script.specs.declared.script.Script.{Script};
 ghost use Rattle.dr_text.specs.declared.last.Last.{Last};
-ghost use Rattle.dr_ends.specs.Ended.{HaveEnded};
+ghost use Rattle.dr_program_laws.specs.Ended.{HaveEnded};
 ghost use Rattle.dr_history.specs.Agreement.{EndsAgreed};
 ghost use Rattle.dr_io.specs.Faults.{Rose};
 ghost use Rattle.dr_io.specs.Sink.{Gains};
@@ -16,7 +16,8 @@ ghost use Rattle.derecho.specs.Outcome.{Exactly, GaveUp, IsDue, MayBeUnread, Ran
 
 use crate::outcome::{Outcome, outcome_of};
 use crate::status::{
-    DONE, OUT_OF_MEMORY, READ_FAULT, SCRIPT_REFUSED, UNFINISHED, USAGE, WRITE_FAULT,
+    DISK_FAULT, DONE, LOG_FULL, LOGS_REFUSED, NO_MAJORITY, OUT_OF_MEMORY, READ_FAULT,
+    SCRIPT_REFUSED, UNFINISHED, USAGE, WRITE_FAULT,
 };
 use crate::writing::write_all;
 use dr_entry::{AgeEnd, Seq};
@@ -50,34 +51,32 @@ pub fn derecho<R: Threads + Sync, S: Source, K: Sink>(
         → MayBeUnread (S.faults source.old) (S.faults source.new) result.status
         ⊎ RanRead (S.left source.old) (S.left source.new) result.status result.ages }
     ensures agreed { All (λ a. (s : Script) × IsScript (S.left source.old) (S.left source.new) s
-        × IsSimulated s (first_start_of s) 0 a × EndsAgreed (first_group_of s).opening a.members) result.ages }
+        × IsSimulated s (first_start_of s) 0 a × EndsAgreed (first_group_of s).opening a.members)
+        result.ages }
     ensures ended { All (λ a. (s : Script) × IsScript (S.left source.old) (S.left source.new) s
         × IsSimulated s (first_start_of s) 0 a
         × HaveEnded (first_group_of s).opening s.turns (crashes_of s.faults 0) a.members) result.ages }
     ensures one_age { length result.ages ≤ 1 }
 
     // The text: the report of these ages, with the last line that is due.
-    ensures written { result.status ≢ OUT_OF_MEMORY → (last : Last)
+    ensures written { result.status ≢ 10 → (last : Last)
         × IsDue words.now (S.left source.old) (S.left source.new)
         (S.faults source.old) (S.faults source.new) result.ages last
         × Wrote (K.held sink.old) (K.held sink.new)
         (K.faults sink.old) (K.faults sink.new) result.status result.ages last }
-    ensures given_up { result.status ≡ OUT_OF_MEMORY
+    ensures given_up { result.status ≡ 10
         → (result.ages ≡ []) × Gains (K.held sink.old) (K.held sink.new) [] }
 
-    // Where each status comes. DONE is left where none of these does.
-    ensures statuses { Contains (DONE ∷ USAGE ∷ SCRIPT_REFUSED ∷ READ_FAULT ∷ WRITE_FAULT
-        ∷ UNFINISHED ∷ OUT_OF_MEMORY ∷ []) result.status }
-    ensures usage { Exactly result.status USAGE (¬ IsCommand words.now) }
-    ensures refused { result.status ≡ SCRIPT_REFUSED
-        → IsNoScript (S.left source.old) (S.left source.new) }
-    ensures read_fault { result.status ≡ READ_FAULT
-        → Rose (S.faults source.old) (S.faults source.new) }
-    ensures write_fault { result.status ≡ WRITE_FAULT
-        → Rose (K.faults sink.old) (K.faults sink.new) }
-    ensures unfinished { Exactly result.status UNFINISHED (IsTrue (some_spent result.ages)) }
-    ensures ran { result.ages ≢ [] → (result.status ≡ DONE) ⊎ (result.status ≡ UNFINISHED)
-        ⊎ (result.status ≡ WRITE_FAULT) }
+    // Where each status comes: 2 for words, 3 for a script, 4 for a read, 5 for a write, 8 for turns that
+    // were spent, 10 for memory, and else 0.
+    ensures statuses { Contains (0 ∷ 2 ∷ 3 ∷ 4 ∷ 5 ∷ 8 ∷ 10 ∷ []) result.status }
+    ensures usage { Exactly result.status 2 (¬ IsCommand words.now) }
+    ensures refused { result.status ≡ 3 → IsNoScript (S.left source.old) (S.left source.new) }
+    ensures read_fault { result.status ≡ 4 → Rose (S.faults source.old) (S.faults source.new) }
+    ensures write_fault { result.status ≡ 5 → Rose (K.faults sink.old) (K.faults sink.new) }
+    ensures unfinished { Exactly result.status 8 (IsTrue (some_spent result.ages)) }
+    ensures ran { result.ages ≢ [] → (result.status ≡ 0) ⊎ (result.status ≡ 8)
+        ⊎ (result.status ≡ 5) }
 {
     match outcome_of(alloc, words, source) {
         Ok(outcome) => finish(alloc, outcome, sink),
@@ -123,6 +122,12 @@ fn status_of(last: &Last) -> u8
         Last::Usage => USAGE,
         Last::TooLong | Last::NotJson | Last::Rule { .. } | Last::NotBuilt => SCRIPT_REFUSED,
         Last::SourceFault => READ_FAULT,
+        Last::DiskFault { .. } => DISK_FAULT,
+        Last::Damaged { .. } | Last::Foreign { .. } | Last::Disagree { .. } | Last::AgesUsedUp => {
+            LOGS_REFUSED
+        }
         Last::Unfinished => UNFINISHED,
+        Last::NoMajority => NO_MAJORITY,
+        Last::LogFull { .. } => LOG_FULL,
     }
 }

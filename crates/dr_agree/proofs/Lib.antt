@@ -1,6 +1,1 @@
-pub mod Agreeing
-mod Completion
-mod Histories
-mod Items
-pub mod Reached
 mod Runs

@@ -1,35 +1,31 @@
 -- Runs of the executable world.
-use Rattle.std.proofs.Common.{◌≡◌, sym, ap, ◌∙◌, subst, ℕ, ◌<◌, ◌⊎◌, List, map, arith}
-use Rattle.std.specs.Prelude.{Some, slice_get}
-use Rattle.std.specs.List.{range_with_len}
-use Rattle.std.proofs.lemmas.List.FromFn.{get_or-map-range_with_len, length-map-range_with_len}
-use Rattle.std.proofs.lemmas.Option.{slice_get-get_or}
+use Rattle.std.proofs.Common.{◌≡◌, subst, ℕ, ◌<◌, ◌⊎◌, List}
 use Rattle.dr_entry.specs.declared.entry.Entry.{Entry}
 use Rattle.dr_history.specs.History.{IsPrefixOf}
 use Rattle.dr_script.specs.declared.script.Script.{Script}
 use Rattle.dr_restart.specs.declared.start.Start.{Start}
 use Rattle.dr_restart.specs.Groups.{group_of}
 use Rattle.dr_machine.specs.declared.event.Event.{Event}
-use Rattle.dr_machine.specs.Group.{Group, roster}
+use Rattle.dr_machine.proofs.Presence.{is_present}
+use Rattle.dr_machine.specs.Group.{Group, IsGroup, roster}
 use Rattle.dr_machine.specs.World.{World, opening_world}
 use Rattle.dr_machine.specs.Run.{Run, WorldAgreed}
 use Rattle.dr_world.specs.Held.{Held, its_group, its_world}
 
 -- a run from a world that has opened is one of its group from the opening
-pub from_opening : (script : Script) (start : Start) (h k : Held) (events : List Event) → h.script ≡ script → h.start ≡ start
-    → its_world h ≡ opening_world (group_of script start) → Run (its_group h) (its_world h) events (its_world k)
+pub from_opening : (script : Script) (start : Start) (h k : Held) (events : List Event) → h.script
+    ≡ script → h.start ≡ start
+    → its_world h ≡ opening_world (group_of script start)
+    → Run (its_group h) (its_world h) events (its_world k)
     → Run (group_of script start) (opening_world (group_of script start)) events (its_world k)
 from_opening script start h k events same likewise opening run =
     subst (λ w. Run (group_of script start) w events (its_world k)) opening
     (subst (λ g. Run g (its_world h) events (its_world k)) (λ z. group_of (same z) (likewise z)) run)
 
-history_at : (g : Group) (w : World) (m : ℕ) → m < roster g → slice_get (map w.past.history (range_with_len 0 (roster g))) m ≡ Some (w.past.history m)
-history_at g w m within =
-    slice_get-get_or (map w.past.history (range_with_len 0 (roster g))) m (w.past.history m) (omega (arith, within, length-map-range_with_len w.past.history 0 (roster g)))
-    ∙ ap Some (get_or-map-range_with_len w.past.history 0 (roster g) m m (w.past.history m) within (omega arith))
-
 -- of two histories that agree one is a prefix of the other
-pub either_prefix : (g : Group) (w : World) (i j : ℕ) (one other : List Entry) → WorldAgreed g w → i < roster g → j < roster g
-    → one ≡ w.past.history i → other ≡ w.past.history j → IsPrefixOf one other ⊎ IsPrefixOf other one
-either_prefix g w i j one other agrees here there is likewise =
-    agrees.prefix i j one other (history_at g w i here ∙ ap Some (sym is)) (history_at g w j there ∙ ap Some (sym likewise))
+pub either_prefix : (g : Group) (w : World) (i j : ℕ) (one other : List Entry) → IsGroup g
+    → WorldAgreed g w → i < roster g → j < roster g
+    → one ≡ w.past.history i → other ≡ w.past.history j → IsPrefixOf one other
+    ⊎ IsPrefixOf other one
+either_prefix g w i j one other group agrees here there is likewise =
+    rw (is, likewise) (agrees.prefix i j (is_present g i group here) (is_present g j group there))

@@ -9,14 +9,14 @@ ghost use Rattle.dr_restart.specs.Groups.{group_of};
 ghost use Rattle.dr_world.specs.Held.{its_group, its_world};
 
 use dr_entry::Entry;
-use dr_history::is_prefix;
+use dr_oracle::is_prefix;
 use dr_restart::Start;
 use dr_script::Script;
 use dr_world::{Event, World};
 use std::alloc::{AllocError, Global};
 
 /// Runs the group of a script from a start through these events, whatever they are: those that may
-/// not come change nothing. In the world after them the histories agree, and no slot holds a later item
+/// not come change nothing. In the world after them the members agree, and no slot holds a later item
 /// than the one that a member waits for there.
 ///
 /// # Errors
@@ -42,9 +42,9 @@ pub fn agreed_run(
     Ok(world)
 }
 
-/// Whether the histories of a world agree. It compares each two of them, whether one is a prefix of
-/// the other; that each of them is in order needs no test, since a [`World`] is always one that events
-/// lead to. It takes no memory.
+/// Whether the members of a world agree. It compares each two histories, whether one is a prefix of
+/// the other; the rest needs no test, since a [`World`] is always one that events lead to. It takes no
+/// memory.
 pub fn agree(world: &World) -> bool
     ensures { IsTrue result ↔ WorldAgreed (its_group world.now) (its_world world.now) }
 {

@@ -1,7 +1,7 @@
 ghost use Rattle.std.specs.Prelude.{◌≡◌, ◌<◌, ◌≤◌, All, IfOk, length};
 ghost use Rattle.dr_script.specs.Ranges.{HasRanges};
 
-use dr_entry::{AgeEnd, Entry, MAX_MESSAGE, MemberEnd, Message, Seq};
+use dr_entry::{AgeEnd, Entry, MAX_MESSAGE_LENGTH, MemberEnd, Message, Seq};
 use dr_restart::first_start;
 use dr_script::{Schedule, Script};
 use dr_sim::sim_age;
@@ -90,7 +90,7 @@ fn numbered(me: u8, index: u32) -> Message
     ensures bytes { All (λ byte. byte < 256) result }
 {
     let first = ((31 * u32::from(me) + 7 * (index % 26)) % 26) as usize;
-    message_of(&LETTERS[first..first + MAX_MESSAGE])
+    message_of(&LETTERS[first..first + MAX_MESSAGE_LENGTH])
 }
 
 /// The message of these bytes.

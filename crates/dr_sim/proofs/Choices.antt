@@ -3,59 +3,76 @@ use Rattle.std.proofs.Common.{◌≡◌, ◌≢◌, refl, sym, ap, ◌∙◌, su
 use Rattle.std.specs.Prelude.{Option, Some, None, slice_get}
 use Rattle.std.specs.List.{range_with_len, filter, remove}
 use Rattle.std.proofs.lemmas.Bool.{cases_eq}
-use Rattle.std.proofs.lemmas.List.Elements.{filter_agree, filter-append}
-use Rattle.dr_machine.specs.Running.{Running, next_deed}
-use Rattle.dr_machine.specs.Program.{Program, answered, deed_of, step_of, ran, AllEnded}
-use Rattle.dr_machine.specs.Schedule.{has_ended, next_state, choice_of, going, AreChosen, IsSeeded}
-use Rattle.dr_machine.proofs.Holdings.{replica_kept}
-use Rattle.dr_machine.proofs.Runs.{ran_on}
+use Rattle.std.proofs.lemmas.List.Elements.{All-append, All-nil, filter_agree, filter-append}
+use Rattle.dr_entry.specs.declared.end.End.{End}
+use Rattle.dr_script.specs.declared.script.Schedule.TheVariants.{Seed}
+use Rattle.dr_program.specs.declared.outcome.Outcome.TheVariants as outcomes
+use Rattle.dr_program.specs.Running.{Running, next_step}
+use Rattle.dr_program.specs.Program.{AllEnded, AllOk, Move, Program, after_deed, moved_by, next_sight, ok, ran, step_of, went}
+use Rattle.dr_program.specs.Schedule.{has_ended, next_state, choice_of, going, AreChosen}
+use Rattle.dr_program.proofs.Holdings.{replica_kept}
+use Rattle.dr_sim.specs.Simulated.{HasRun}
 use Rattle.dr_sim.proofs.Ranges.{count_more, passes, none_pass, one_fails}
-use Rattle.dr_sim.proofs.Turns.{each_ended}
+use Rattle.dr_sim.proofs.Turns.{each_ended, one_well, ran_more}
 
 -- ---- the choices
 
 -- the state of the generator after so many choices
-pub state_after : ℕ → List ℕ → ℕ
+pub state_after : ℕ → List Move → ℕ
 state_after x [] = x
-state_after x (m ∷ ms) = state_after (next_state x) ms
+state_after x (e ∷ es) = state_after (next_state x) es
 
-state_more : (x : ℕ) (ms : List ℕ) (m : ℕ) → state_after x (ms ++ m ∷ []) ≡ next_state (state_after x ms)
+state_more : (x : ℕ) (es : List Move) (e : Move) → state_after x (es ++ e ∷ [])
+    ≡ next_state (state_after x es)
 unfolding state_after
-state_more x [] m = refl
-state_more x (k ∷ ks) m = state_more (next_state x) ks m
+state_more x [] e = refl
+state_more x (k ∷ ks) e = state_more (next_state x) ks e
 
 -- the member is the next choice from this state on
 pub record IsChoice (x : ℕ) (p : Program) (m : ℕ) : Type 0 where
   pub some : 0 < length (going p)
   pub choice : m ≡ slice_index (going p) (choice_of (next_state x) (length (going p)))
 
-chosen_more : (x : ℕ) (p : Program) (ms : List ℕ) (m : ℕ) → AreChosen x p ms → IsChoice (state_after x ms) (ran p ms) m → AreChosen x p (ms ++ m ∷ [])
+chosen_more : (x : ℕ) (p : Program) (es : List Move) (e : Move) → AreChosen x p es
+    → IsChoice (state_after x es) (ran p es) e.member → AreChosen x p (es ++ e ∷ [])
 unfolding state_after ran
-chosen_more x p [] m are next = (next.some, next.choice, tt)
-chosen_more x p (k ∷ ks) m are next = (are.0, are.1, chosen_more (next_state x) (step_of p k) ks m are.2 next)
+chosen_more x p [] e are next = (next.some, next.choice, tt)
+chosen_more x p (k ∷ ks) e are next =
+    (are.0, are.1, chosen_more (next_state x) (step_of p k) ks e are.2 next)
 
--- these have been chosen, and have taken their deeds
+-- these have been chosen, and have taken their deeds, whose appends went well
 pub record HasChosen (seed : ℕ) (begun : Program) (x : ℕ) (p : Program) : Type 0 where
-  pub chosen : List ℕ
+  pub chosen : List Move
   pub are : AreChosen seed begun chosen
+  pub well : AllOk chosen
   pub state : x ≡ state_after seed chosen
   pub taken : p ≡ ran begun chosen
 
+-- before the first choice the state is the seed
 pub nothing_chosen : (seed x : ℕ) (p : Program) → x ≡ seed → HasChosen seed p x p
 unfolding state_after ran
-nothing_chosen seed x p e = record { chosen = []; are = tt; state = e; taken = refl }
+nothing_chosen seed x p e = record {
+  chosen = [];
+  are = tt;
+  well = All-nil (λ (e : Move). e.outcome ≡ outcomes.Ok);
+  state = e;
+  taken = refl;
+}
 
-ran_one : (p : Program) (m : ℕ) → ran p (m ∷ []) ≡ step_of p m
-unfolding ran
-ran_one p m = refl
-
-pub chosen_again : (seed : ℕ) (begun : Program) (x y : ℕ) (p q : Program) (m : ℕ) → HasChosen seed begun x p → IsChoice x p m → y ≡ next_state x → q ≡ step_of p m
+-- one more choice goes on from what was chosen so far
+pub chosen_again : (seed : ℕ) (begun : Program) (x y : ℕ) (p q : Program) (m : ℕ)
+    → HasChosen seed begun x p → IsChoice x p m → y ≡ next_state x → q ≡ step_of p (ok m)
     → HasChosen seed begun y q
 chosen_again seed begun x y p q m has next advanced step = record {
-  chosen = has.chosen ++ m ∷ [];
-  are = chosen_more seed begun has.chosen m has.are (subst (λ (v : Program). IsChoice (state_after seed has.chosen) v m) has.taken (subst (λ s. IsChoice s p m) has.state next));
-  state = advanced ∙ ap next_state has.state ∙ sym (state_more seed has.chosen m);
-  taken = step ∙ ap (λ (v : Program). step_of v m) has.taken ∙ sym (ran_on begun has.chosen (m ∷ []) ∙ ran_one (ran begun has.chosen) m);
+  chosen = has.chosen ++ ok m ∷ [];
+  are = chosen_more seed begun has.chosen (ok m) has.are
+      (subst (λ (v : Program). IsChoice (state_after seed has.chosen) v m) has.taken
+      (subst (λ s. IsChoice s p m) has.state next));
+  well = All-append (λ (e : Move). e.outcome ≡ outcomes.Ok) has.chosen (ok m ∷ []) has.well
+      (one_well (ok m) refl);
+  state = advanced ∙ ap next_state has.state ∙ sym (state_more seed has.chosen (ok m));
+  taken = step ∙ ap (λ (v : Program). step_of v (ok m)) has.taken
+      ∙ sym (ran_more begun has.chosen (ok m));
 }
 
 -- ---- who goes on
@@ -68,54 +85,79 @@ not_ended : (b : Bool) → not b ≡ true → b ≡ false
 not_ended b e = grind arith
 
 -- whoever is chosen has not ended
-chosen_goes : (p : Program) (j : ℕ) → j < length (going p) → has_ended (slice_get p.members (slice_index (going p) j)) ≡ false
+chosen_goes : (p : Program) (j : ℕ) → j < length (going p)
+    → has_ended (slice_get p.members (slice_index (going p) j)) ≡ false
 chosen_goes p j within = not_ended _ (passes (goes p) (range_with_len 0 (length p.members)) j within)
 
 -- where nobody is left to be chosen, all have ended
 nobody_goes : (p : Program) → length (going p) ≡ 0 → AllEnded p
-nobody_goes p none = each_ended p (λ k within. ended _ (none_pass (goes p) 0 (length p.members) k none (omega arith) (omega arith)))
+nobody_goes p none = each_ended p
+    (λ k within. ended _ (none_pass (goes p) 0 (length p.members) k none (omega arith) (omega arith)))
   where
     ended : (b : Bool) → not b ≡ false → b ≡ true
     ended b e = grind arith
 
--- a deed of member m leaves whether the others have ended
-others_go : (p : Program) (m k : ℕ) → k ≢ m → goes (step_of p m) k ≡ goes p k
-others_go p m k other = by (slice_get p.members m)
+-- a move of member m leaves whether the others have ended
+others_go : (p : Program) (e : Move) (k : ℕ) → k ≢ e.member → goes (step_of p e) k ≡ goes p k
+others_go p e k other = by (slice_get p.members e.member)
   where
-    by : (o : Option Running) → goes (deed_of p o m) k ≡ goes p k
-    by None = refl
-    by (Some r) = ap (λ o. not (has_ended o)) (replica_kept p.members m k (answered p.table (next_deed r) r) other)
+    at : (r : Running) (o : Option End) → goes (went p r e o) k ≡ goes p k
+    at r None = ap (λ o. not (has_ended o))
+        (replica_kept p.members e.member k
+        (after_deed (next_sight p.table r) e.outcome r (next_step r)) other)
+    at r (Some end) = refl
 
-pub going_on : (p q : Program) (m : ℕ) → q ≡ step_of p m → length q.members ≡ length p.members → has_ended (slice_get p.members m) ≡ false → has_ended (slice_get q.members m) ≡ false
+    by : (o : Option Running) → goes (moved_by p o e) k ≡ goes p k
+    by None = refl
+    by (Some r) = at r r.replica.end
+
+-- where the chosen member has not ended, the members that go on are the same
+pub going_on : (p q : Program) (m : ℕ) → q ≡ step_of p (ok m) → length q.members
+    ≡ length p.members → has_ended (slice_get p.members m) ≡ false
+    → has_ended (slice_get q.members m) ≡ false
     → going q ≡ going p
 going_on p q m step same before after =
-    ap (λ n. filter (goes q) (range_with_len 0 n)) same ∙ filter_agree (goes q) (goes p) each (range_with_len 0 (length p.members))
+    ap (λ n. filter (goes q) (range_with_len 0 n)) same
+    ∙ filter_agree (goes q) (goes p) each (range_with_len 0 (length p.members))
   where
     each : (k : ℕ) → goes q k ≡ goes p k
     each k = elim (cases_eq k m) [
       | inl here ↦ ap (goes q) here ∙ ap not after ∙ sym (ap (goes p) here ∙ ap not before)
-      | inr other ↦ ap (λ (v : Program). goes v k) step ∙ others_go p m k other
+      | inr other ↦ ap (λ (v : Program). goes v k) step ∙ others_go p (ok m) k other
     ]
 
-pub one_has_ended : (p q : Program) (m j : ℕ) → q ≡ step_of p m → length q.members ≡ length p.members → j < length (going p) → m ≡ slice_index (going p) j
+-- where the chosen member has ended, the others go on
+pub one_has_ended : (p q : Program) (m j : ℕ) → q ≡ step_of p (ok m) → length q.members
+    ≡ length p.members → j < length (going p) → m ≡ slice_index (going p) j
     → has_ended (slice_get q.members m) ≡ true → going q ≡ remove (going p) j
 one_has_ended p q m j step same within at after =
     ap (λ n. filter (goes q) (range_with_len 0 n)) same
-    ∙ one_fails (goes p) (goes q) m 0 (length p.members) j (ap not after) (λ k other. ap (λ (v : Program). goes v k) step ∙ others_go p m k other) within at
+    ∙ one_fails (goes p) (goes q) m 0 (length p.members) j (ap not after)
+    (λ k other. ap (λ (v : Program). goes v k) step ∙ others_go p (ok m) k other) within at
 
 -- the list of them, as it is made
-going_more : (p : Program) (m : ℕ) → filter (goes p) (range_with_len 0 (m + 1)) ≡ filter (goes p) (range_with_len 0 m) ++ cond (goes p m) (m ∷ []) []
-going_more p m = ap (filter (goes p)) (count_more m) ∙ filter-append (goes p) (range_with_len 0 m) (m ∷ [])
+going_more : (p : Program) (m : ℕ) → filter (goes p) (range_with_len 0 (m + 1))
+    ≡ filter (goes p) (range_with_len 0 m) ++ cond (goes p m) (m ∷ []) []
+going_more p m = ap (filter (goes p)) (count_more m)
+    ∙ filter-append (goes p) (range_with_len 0 m) (m ∷ [])
 
-pub found_one : (p : Program) (m : ℕ) (xs ys : List ℕ) → xs ≡ filter (goes p) (range_with_len 0 m) → has_ended (slice_get p.members m) ≡ false → ys ≡ xs ++ m ∷ []
+-- a member that has not ended is found behind those before it
+pub found_one : (p : Program) (m : ℕ) (xs ys : List ℕ) → xs ≡ filter (goes p) (range_with_len 0 m)
+    → has_ended (slice_get p.members m) ≡ false → ys ≡ xs ++ m ∷ []
     → ys ≡ filter (goes p) (range_with_len 0 (m + 1))
 found_one p m xs ys found going more =
-    more ∙ ap (λ zs. zs ++ m ∷ []) found ∙ sym (going_more p m ∙ ap (λ b. filter (goes p) (range_with_len 0 m) ++ cond (not b) (m ∷ []) []) going)
+    more ∙ ap (λ zs. zs ++ m ∷ []) found
+    ∙ sym (going_more p m ∙ ap (λ b. filter (goes p) (range_with_len 0 m)
+    ++ cond (not b) (m ∷ []) []) going)
 
-pub found_none : (p : Program) (m : ℕ) (xs : List ℕ) → xs ≡ filter (goes p) (range_with_len 0 m) → has_ended (slice_get p.members m) ≡ true
+-- a member that has ended is not found
+pub found_none : (p : Program) (m : ℕ) (xs : List ℕ) → xs ≡ filter (goes p) (range_with_len 0 m)
+    → has_ended (slice_get p.members m) ≡ true
     → xs ≡ filter (goes p) (range_with_len 0 (m + 1))
 found_none p m xs found ended =
-    found ∙ sym (append-nil (filter (goes p) (range_with_len 0 m))) ∙ sym (going_more p m ∙ ap (λ b. filter (goes p) (range_with_len 0 m) ++ cond (not b) (m ∷ []) []) ended)
+    found ∙ sym (append-nil (filter (goes p) (range_with_len 0 m)))
+    ∙ sym (going_more p m ∙ ap (λ b. filter (goes p) (range_with_len 0 m)
+    ++ cond (not b) (m ∷ []) []) ended)
 
 -- ---- the choice that the code makes
 
@@ -129,13 +171,19 @@ pub record IsPicked (x : ℕ) (p : Program) (j m : ℕ) : Type 0 where
 below_some : (x n : ℕ) → 0 < n → x % n < n
 below_some x n some = omega (arith, some)
 
-pub picked : (x : ℕ) (p : Program) (xs ys : List ℕ) (n j : ℕ) → xs ≡ going p → ys ≡ xs → n ≡ length xs → (n == 0) ≡ false → j ≡ choice_of (next_state x) n
+-- a member among those that go on is picked by the next state
+pub picked : (x : ℕ) (p : Program) (xs ys : List ℕ) (n j : ℕ) → xs ≡ going p → ys ≡ xs → n
+    ≡ length xs → (n == 0) ≡ false → j ≡ choice_of (next_state x) n
     → IsPicked x p j (slice_index ys j)
 picked x p xs ys n j listed same counted left chosen = record {
-  within = subst (λ k. k < length (going p)) (sym place) (below_some (next_state x / 2 ^ 33) (length (going p)) some);
+  within = subst (λ k. k < length (going p)) (sym place)
+      (below_some (next_state x / 2 ^ 33) (length (going p)) some);
   choice = record { some = some; choice = (λ z. slice_index ((same ∙ listed) z) (place z)) };
   place = ap (λ zs. slice_index zs j) (same ∙ listed);
-  goes = subst (λ m. has_ended (slice_get p.members m) ≡ false) (sym (ap (λ zs. slice_index zs j) (same ∙ listed))) (chosen_goes p j (subst (λ k. k < length (going p)) (sym place) (below_some (next_state x / 2 ^ 33) (length (going p)) some)));
+  goes = subst (λ m. has_ended (slice_get p.members m) ≡ false)
+      (sym (ap (λ zs. slice_index zs j) (same ∙ listed)))
+      (chosen_goes p j (subst (λ k. k < length (going p)) (sym place)
+      (below_some (next_state x / 2 ^ 33) (length (going p)) some)));
 }
   where
     count : n ≡ length (going p)
@@ -151,8 +199,18 @@ picked x p xs ys n j listed same counted left chosen = record {
     place = chosen ∙ ap (choice_of (next_state x)) (counted ∙ ap length listed)
 
 -- once nobody is left, the run is one of the seed
-pub seeded : (seed : ℕ) (begun : Program) (x : ℕ) (p : Program) (xs : List ℕ) → HasChosen seed begun x p → xs ≡ going p → (length xs == 0) ≡ true → IsSeeded seed begun p
-seeded seed begun x p xs has listed none = record { chosen = has.chosen; are = has.are; ran = has.taken; ended = nobody_goes p (ap length (sym listed) ∙ zero_is (length xs) none) }
+pub seeded : (seed : ℕ) (begun : Program) (x : ℕ) (p : Program) (xs : List ℕ)
+    → HasChosen seed begun x p → xs ≡ going p → (length xs == 0) ≡ true
+    → HasRun (Seed seed) begun p
+seeded seed begun x p xs has listed none = (
+  has.chosen,
+  record {
+    chosen = has.are;
+    ran = has.taken;
+    ended = nobody_goes p (ap length (sym listed) ∙ zero_is (length xs) none);
+  },
+  has.well,
+)
   where
     zero_is : (n : ℕ) → (n == 0) ≡ true → n ≡ 0
     zero_is n e = grind (arith, e)

@@ -1,7 +1,7 @@
-pub mod Sight
-pub mod Steps
-pub mod Ranges
-pub mod Turns
-pub mod Choices
-pub mod Beginning
-pub mod Courses
+mod Ranges
+mod Deeds
+mod Steps
+mod Beginning
+mod Turns
+mod Choices
+mod Courses

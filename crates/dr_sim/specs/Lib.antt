@@ -1,3 +1,4 @@
+pub mod Deeds
 pub mod Sound
 pub mod Inside
 pub mod Simulated

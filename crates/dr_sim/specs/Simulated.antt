@@ -4,10 +4,10 @@ use Rattle.dr_entry.specs.declared.end.AgeEnd.{AgeEnd}
 use Rattle.dr_script.specs.declared.script.Script.{Script}
 use Rattle.dr_script.specs.declared.script.Schedule.{Schedule}
 use Rattle.dr_script.specs.declared.script.Schedule.TheVariants.{Lockstep, Seed}
-use Rattle.dr_machine.specs.declared.setup.Setup.{Setup}
-use Rattle.dr_machine.specs.Running.{Running, begun_running}
-use Rattle.dr_machine.specs.Program.{Program, age_of}
-use Rattle.dr_machine.specs.Schedule.{IsLockstep, IsSeeded}
+use Rattle.dr_program.specs.declared.setup.Setup.{Setup}
+use Rattle.dr_program.specs.Running.{Running, begun_running}
+use Rattle.dr_program.specs.Program.{AllOk, Move, Program, age_of}
+use Rattle.dr_program.specs.Schedule.{IsLockstep, IsSeeded}
 use Rattle.dr_restart.specs.declared.start.Start.{Start}
 use Rattle.dr_restart.specs.Groups.{group_of}
 use Rattle.dr_restart.specs.Setups.{AreFirstSetupsOf, IsBegun}
@@ -18,12 +18,17 @@ pub record HaveBegun (script : Script) (start : Start) (nth n : ℕ) (members : 
   pub are : AreFirstSetupsOf script start nth n setups
   pub begun : members ≡ map begun_running setups
 
--- the program has run by the schedule until all its members had ended
-abbrev pub HasRun : Schedule → Program → Program → Type 0
-HasRun Lockstep begun p = IsLockstep begun p
-HasRun (Seed seed) begun p = IsSeeded seed begun p
+-- the program has run by the schedule until all its members had ended, by these moves
+abbrev pub IsRunBy : Schedule → Program → List Move → Program → Type 0
+IsRunBy Lockstep begun es p = IsLockstep begun es p
+IsRunBy (Seed seed) begun es p = IsSeeded seed begun es p
 
--- the age is that of the script's program, which begins from the start, with the faults of the age that is number nth of the run, and runs by the script's schedule
+-- it has, by some moves, whose appends all went well
+abbrev pub HasRun : Schedule → Program → Program → Type 0
+HasRun schedule begun p = (es : List Move) × IsRunBy schedule begun es p × AllOk es
+
+-- the age is that of the script's program, which begins from the start, with the faults of the age that is
+-- number nth of the run, and runs by the script's schedule
 abbrev pub IsSimulated : Script → Start → ℕ → AgeEnd → Type 0
 IsSimulated script start nth age =
     (begun p : Program)

@@ -1,9 +1,9 @@
 //! An age, from its opening to the ends of all members.
 ghost use Rattle.std.specs.Prelude.{◌≡◌, ◌≤◌, IfOk, IsTrue, All, [], is_some, length, map, vec_capacity};
-ghost use Rattle.dr_ends.specs.Ended.{HaveEnded};
+ghost use Rattle.dr_program_laws.specs.Ended.{HaveEnded};
 ghost use Rattle.dr_history.specs.Agreement.{EndsAgreed};
 ghost use Rattle.dr_machine.specs.Group.{Group, IsGroup};
-ghost use Rattle.dr_machine.specs.Program.{Program, age_of, end_of};
+ghost use Rattle.dr_program.specs.Program.{Program, age_of, end_of};
 ghost use Rattle.dr_restart.specs.Groups.{group_of};
 ghost use Rattle.dr_restart.specs.Setups.{crashes_of};
 ghost use Rattle.dr_script.specs.Ranges.{HasRanges};

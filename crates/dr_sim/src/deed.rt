@@ -1,25 +1,22 @@
-ghost use Rattle.std.specs.Prelude.{◌≡◌, ℕ, ◌<◌, ◌≤◌, ◌↔◌, All, IsTrue, false, is_some, length};
-ghost use Rattle.dr_machine.specs.Form.{IsRunningMember};
+ghost use Rattle.std.specs.Prelude.{◌≡◌, ℕ, ◌<◌, ◌≤◌, ◌↔◌, All, IsTrue, None, false, is_some, length};
 ghost use Rattle.dr_machine.specs.Group.{Group};
-ghost use Rattle.dr_machine.specs.Program.{Program, answered, stored};
-ghost use Rattle.dr_machine.specs.Running.{next_deed};
+ghost use Rattle.dr_program.specs.Program.{Program};
 ghost use Rattle.dr_member.specs.Deeds.{table_size};
-ghost use Rattle.dr_member.specs.Work.{deeds_left};
-ghost use Rattle.dr_sim.specs.Sound.{IsAmong, IsSomewhere, SeesWell, TookTurn, with_member};
+ghost use Rattle.dr_turn.specs.Work.{deeds_left};
+ghost use Rattle.dr_sim.specs.Deeds.{SeesWell, member_after, table_after};
+ghost use Rattle.dr_sim.specs.Sound.{IsAmong, IsSomewhere, TookTurn, with_member};
 
-use dr_machine::Deed;
-use dr_member::Member;
+use dr_member::{Deed, Member};
 
-/// The member takes its next deed, over the words of the table. Where it has ended nothing happens.
+/// The member takes its next deed, over the words of the table; an append goes well. Where it has
+/// ended nothing happens.
 #[inline(always)]
 pub fn take(member: &mut Member, table: &mut [u64])
-    requires form { IsRunningMember member.old }
     requires size { table_size member.old ≤ length table.old }
-    requires sight { SeesWell table.old member.old (next_deed member.old) }
-    ensures member { member.new ≡ answered table.old (next_deed member.old) member.old }
-    ensures table { table.new ≡ stored table.old (next_deed member.old) }
-    ensures form { IsRunningMember member.new }
-    ensures falls { is_some member.old.replica.end ≡ false → deeds_left member.new < deeds_left member.old }
+    requires sight { SeesWell table.old member.old }
+    ensures member { member.new ≡ member_after table.old member.old }
+    ensures table { table.new ≡ table_after table.old member.old }
+    ensures falls { member.old.replica.end ≡ None → deeds_left member.new < deeds_left member.old }
 {
     match member.next() {
         Deed::Look(index) => member.looked(table[index]),

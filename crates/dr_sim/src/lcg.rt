@@ -1,5 +1,5 @@
-ghost use Rattle.std.specs.Prelude.{◌≡◌, ◌≢◌};
-ghost use Rattle.dr_machine.specs.Schedule.{choice_of, next_state};
+ghost use Rattle.std.specs.Prelude.{◌≡◌, ◌≢◌, ◌%◌};
+ghost use Rattle.dr_program.specs.Schedule.{choice_of, next_state};
 
 use std::marker::Model;
 
@@ -31,7 +31,18 @@ impl Lcg {
     }
 
     /// The next choice among `n`: a number below it. The generator goes on to its next state first.
-    pub fn choose(&mut self, n: u32) -> u32
+    pub fn choose(&mut self, n: u64) -> u64
+        requires { n ≢ 0 }
+        ensures state { self.new ≡ next_state self.old }
+        ensures choice { result ≡ choice_of (next_state self.old) n }
+    {
+        self.state = self.state.wrapping_mul(MULTIPLIER).wrapping_add(INCREMENT);
+        remainder((self.state >> 33) as u32, n)
+    }
+
+    /// The next choice among a few: as [`Lcg::choose`], by a division of 32 bits alone.
+    #[inline(always)]
+    pub(crate) fn choose_few(&mut self, n: u32) -> u32
         requires { n ≢ 0 }
         ensures state { self.new ≡ next_state self.old }
         ensures choice { result ≡ choice_of (next_state self.old) n }
@@ -41,14 +52,13 @@ impl Lcg {
     }
 }
 
-#[cfg(test)]
-mod tests {
-    use super::*;
-
-    #[test]
-    fn the_first_choice_from_7_among_three_is_2(rt: HostRuntime) {
-        let mut lcg = Lcg::new(7);
-        assert_eq!(rt; lcg.choose(3), 2);
-        assert_eq!(rt; lcg.state, 9098160460397411210);
+/// The remainder of a number of 32 bits by another, which is mostly as short.
+fn remainder(number: u32, by: u64) -> u64
+    requires { by ≢ 0 }
+    ensures { result ≡ number % by }
+{
+    match u32::try_from(by) {
+        Ok(by) => u64::from(number % by),
+        Err(_) => u64::from(number),
     }
 }

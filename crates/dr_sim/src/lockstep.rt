@@ -1,9 +1,10 @@
 ghost use Rattle.std.specs.Prelude.{◌<◌, length};
 ghost use Rattle.std.specs.List.{range_with_len};
 ghost use Rattle.dr_machine.specs.Group.{Group};
-ghost use Rattle.dr_machine.specs.Program.{AllEnded};
-ghost use Rattle.dr_machine.specs.Schedule.{IsLockstep, TakeTurns};
-ghost use Rattle.dr_sim.specs.Sound.{IsSound, all_left};
+ghost use Rattle.dr_program.specs.Program.{AllEnded};
+ghost use Rattle.dr_script.specs.declared.script.Schedule.TheVariants.{Lockstep};
+ghost use Rattle.dr_sim.specs.Simulated.{HasRun};
+ghost use Rattle.dr_sim.specs.Sound.{IsSound, TookTurns, all_left};
 
 use crate::simulation::Simulation;
 
@@ -14,7 +15,7 @@ impl Simulation {
     pub fn run_lockstep(&mut self)
         ghost group: { Group }
         requires { IsSound group self.old }
-        ensures run { IsLockstep self.old self.new }
+        ensures run { HasRun Lockstep self.old self.new }
         ensures sound { IsSound group self.new }
     {
         while !self.all_ended() {
@@ -26,7 +27,7 @@ impl Simulation {
     fn take_round(&mut self)
         ghost group: { Group }
         requires { IsSound group self.old }
-        ensures turns { TakeTurns (range_with_len 0 (length self.old.members)) self.old self.new }
+        ensures turns { TookTurns (range_with_len 0 (length self.old.members)) self.old self.new }
         ensures sound { IsSound group self.new }
         ensures falls { ¬ AllEnded self.old → all_left self.new < all_left self.old }
     {

@@ -1,12 +1,14 @@
 ghost use Rattle.std.specs.Prelude.{◌≡◌, ◌≤◌, length};
 ghost use Rattle.dr_machine.specs.Group.{Group};
-ghost use Rattle.dr_machine.specs.Schedule.{IsSeeded, going};
+ghost use Rattle.dr_program.specs.Schedule.{going};
+ghost use Rattle.dr_script.specs.declared.script.Schedule.TheVariants.{Seed};
+ghost use Rattle.dr_sim.specs.Simulated.{HasRun};
 ghost use Rattle.dr_sim.specs.Sound.{IsSound};
 
 use crate::lcg::Lcg;
 use crate::simulation::Simulation;
 use arrayvec::ArrayVec;
-use dr_history::MAX_MEMBERS;
+use dr_entry::MAX_MEMBERS;
 
 impl Simulation {
     /// Runs the members to their ends, one deed at a time: each is of the member that the generator of
@@ -15,13 +17,13 @@ impl Simulation {
     pub fn run_seeded(&mut self, seed: u64)
         ghost group: { Group }
         requires { IsSound group self.old }
-        ensures run { IsSeeded seed self.old self.new }
+        ensures run { HasRun (Seed seed) self.old self.new }
         ensures sound { IsSound group self.new }
     {
         let mut lcg = Lcg::new(seed);
         let mut going = self.going();
         while !going.is_empty() {
-            let at = lcg.choose(going.len() as u32) as usize;
+            let at = lcg.choose_few(going.len() as u32) as usize;
             let m = going[at];
             self.take_deed(m);
             if self.has_ended(m) {

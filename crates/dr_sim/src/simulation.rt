@@ -1,11 +1,11 @@
 ghost use Rattle.std.specs.Prelude.{◌≡◌, ◌<◌, ◌↔◌, IfOk, IsTrue, true, false, length, slice_get};
 ghost use Rattle.dr_machine.specs.Group.{Group, IsGroup};
-ghost use Rattle.dr_machine.specs.Program.{AllEnded, Program, step_of};
-ghost use Rattle.dr_machine.specs.Schedule.{IsTurn, has_ended};
+ghost use Rattle.dr_program.specs.Program.{AllEnded, Program, ok, step_of};
+ghost use Rattle.dr_program.specs.Schedule.{has_ended};
 ghost use Rattle.dr_restart.specs.Groups.{group_of};
 ghost use Rattle.dr_restart.specs.Setups.{IsBegun};
 ghost use Rattle.dr_script.specs.Ranges.{HasRanges};
-ghost use Rattle.dr_sim.specs.Sound.{IsSound, all_left};
+ghost use Rattle.dr_sim.specs.Sound.{IsSound, TookTurn, all_left};
 
 use crate::deed::{all_ended, take, take_turn};
 use crate::opening::members_of;
@@ -24,7 +24,7 @@ pub struct Simulation {
 }
 
 impl Model for Simulation {
-    ghost use Rattle.dr_machine.specs.Program.{Program};
+    ghost use Rattle.dr_program.specs.Program.{Program};
 
     ghost Value = { Program };
 
@@ -86,13 +86,13 @@ impl Simulation {
         all_ended(&self.members)
     }
 
-    /// Member `m`, which has not ended, takes its next deed.
+    /// Member `m`, which has not ended, takes its next deed; an append goes well.
     #[inline(always)]
     pub fn take_deed(&mut self, m: usize)
         ghost group: { Group }
         requires sound { IsSound group self.old }
         requires going { has_ended (slice_get self.old.members m) ≡ false }
-        ensures step { self.new ≡ step_of self.old m }
+        ensures step { self.new ≡ step_of self.old (ok m) }
         ensures sound { IsSound group self.new }
         ensures falls { all_left self.new < all_left self.old }
     {
@@ -105,9 +105,7 @@ impl Simulation {
         ghost group: { Group }
         requires sound { IsSound group self.old }
         requires going { has_ended (slice_get self.old.members m) ≡ false }
-        ensures turn { IsTurn m self.old self.new }
-        ensures sound { IsSound group self.new }
-        ensures falls { all_left self.new < all_left self.old }
+        ensures { TookTurn group self.old m self.new }
     {
         take_turn(&mut self.members[m], self.table.as_mut_slice());
     }

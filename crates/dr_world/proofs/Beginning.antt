@@ -4,16 +4,16 @@ use Rattle.std.specs.Prelude.{Option, Some, None, option_map, slice_get}
 use Rattle.std.proofs.lemmas.List.{length-map, length-replicate, map-append}
 use Rattle.std.proofs.lemmas.Option.{slice_get-map, slice_get_within, same_Some}
 use Rattle.std.proofs.lemmas.Simd.{map-map}
-use Rattle.dr_machine.specs.declared.setup.Setup.{Setup}
-use Rattle.dr_machine.specs.Group.{Group, IsGroup, roster}
+use Rattle.dr_program.specs.declared.setup.Setup.{Setup}
+use Rattle.dr_machine.specs.Group.{Group, IsGroup, roster, banks}
 use Rattle.dr_machine.specs.World.{opening_world}
-use Rattle.dr_machine.specs.Replica.{Replica, begun_replica, greatest}
-use Rattle.dr_machine.specs.Running.{Running, begun_running}
-use Rattle.dr_machine.specs.Program.{AreSetups, IsSetup}
-use Rattle.dr_machine.specs.Reading.{world_of}
-use Rattle.dr_machine.specs.Form.{HasForm, IsOf}
-use Rattle.dr_machine.proofs.Opening.{begins_at_the_opening}
-use Rattle.dr_machine.proofs.OpeningForm.{begins_in_form}
+use Rattle.dr_program.specs.Replica.{Replica, begun_replica, greatest}
+use Rattle.dr_program.specs.Running.{Running, begun_running}
+use Rattle.dr_program.specs.Program.{AreSetups, IsSetup}
+use Rattle.dr_program.specs.Reading.{world_of}
+use Rattle.dr_program.specs.Form.{HasForm, IsOf}
+use Rattle.dr_program.proofs.Opening.{begins_at_the_opening}
+use Rattle.dr_program.proofs.OpeningForm.{begins_in_form}
 use Rattle.dr_script.specs.declared.script.Script.{Script}
 use Rattle.dr_restart.specs.declared.start.Start.{Start}
 use Rattle.dr_restart.specs.Groups.{group_of}
@@ -26,7 +26,8 @@ use Rattle.dr_world.specs.Begun.{HaveBegun}
 -- ---- the replicas that begin
 
 -- the same setup with another limit of turns, of which a replica knows nothing
-with_one_turn : (g : Group) (limit m : ℕ) (s : Setup) → IsSetup g limit m s → IsSetup g 1 m (record s { turns = 1 })
+with_one_turn : (g : Group) (limit m : ℕ) (s : Setup) → IsSetup g limit m s
+    → IsSetup g 1 m (record s { turns = 1 })
 with_one_turn g limit m s is = record {
   members = is.members;
   window = is.window;
@@ -40,52 +41,73 @@ with_one_turn g limit m s is = record {
   totals = is.totals;
 }
 
-begins : (g : Group) (limit m : ℕ) (s : Setup) → IsGroup g → IsSetup g limit m s → m < roster g → HasForm (begun_replica s) × IsOf g m (begun_replica s)
+begins : (g : Group) (limit m : ℕ) (s : Setup) → IsGroup g → IsSetup g limit m s → m < roster g
+    → HasForm (begun_replica s) × IsOf g m (begun_replica s)
 begins g limit m s is setup within =
-    let begun = begins_in_form g 1 m (record s { turns = 1 }) is (omega arith) (with_one_turn g limit m s setup) within in
+    let begun = begins_in_form g 1 m (record s { turns = 1 }) is (omega arith)
+    (with_one_turn g limit m s setup) within in
     (begun.0.replica, begun.1)
 
 begun_room : (g : Group) (limit m : ℕ) (s : Setup) → IsSetup g limit m s
-    → length g.opening.start + roster g + greatest (begun_replica s).totals * roster g ≤ (begun_replica s).room
+    → length g.opening.start + banks g + greatest (begun_replica s).totals * roster g
+    ≤ (begun_replica s).room
 begun_room g limit m s setup =
-    let product : greatest s.totals * s.shape.members ≡ greatest s.totals * roster g = ap (λ n. greatest s.totals * n) setup.members in
+    let product : greatest s.totals * s.shape.members
+    ≡ greatest s.totals * roster g = ap (λ n. greatest s.totals * n) setup.members in
     omega (arith, product, setup.banks, ap length setup.start)
 
 -- each replica has begun with the setup of its number
-begun_at : (g : Group) (limit : ℕ) (setups : List Setup) → AreSetups g limit setups → (P : Replica → Type 0) (m : ℕ) (r : Replica)
-    → slice_get (map begun_replica setups) m ≡ Some r → ((s : Setup) → IsSetup g limit m s → m < roster g → P (begun_replica s)) → P r
-begun_at g limit setups are P m r there begins = by (slice_get setups m) refl (sym (slice_get-map begun_replica setups m) ∙ there)
+begun_at : (g : Group) (limit : ℕ) (setups : List Setup) → AreSetups g limit setups
+    → (P : Replica → Type 0) (m : ℕ) (r : Replica)
+    → slice_get (map begun_replica setups) m ≡ Some r
+    → ((s : Setup) → IsSetup g limit m s → m < roster g → P (begun_replica s)) → P r
+begun_at g limit setups are P m r there begins =
+    by (slice_get setups m) refl (sym (slice_get-map begun_replica setups m) ∙ there)
   where
     by : (o : Option Setup) → slice_get setups m ≡ o → option_map begun_replica o ≡ Some r → P r
     by None e is = absurd (cc)
-    by (Some s) e is = subst P (same_Some (begun_replica s) r is) (begins s (are.each m s e) (omega (arith, slice_get_within setups m s e, are.all)))
+    by (Some s) e is = subst P (same_Some (begun_replica s) r is)
+        (begins s (are.each m s e) (omega (arith, slice_get_within setups m s e, are.all)))
 
-pub begun_members : (g : Group) (limit : ℕ) (setups : List Setup) → IsGroup g → AreSetups g limit setups → AreMembers g (map begun_replica setups)
+-- replicas that have begun are the members of the group
+pub begun_members : (g : Group) (limit : ℕ) (setups : List Setup) → IsGroup g
+    → AreSetups g limit setups → AreMembers g (map begun_replica setups)
 begun_members g limit setups is are = record {
   all = length-map setups begun_replica ∙ are.all;
-  form = λ m r there. begun_at g limit setups are HasForm m r there (λ s setup within. (begins g limit m s is setup within).0);
-  of = λ m r there. begun_at g limit setups are (IsOf g m) m r there (λ s setup within. (begins g limit m s is setup within).1);
-  room = λ m r there. begun_at g limit setups are (λ q. length g.opening.start + roster g + greatest q.totals * roster g ≤ q.room) m r there
+  form = λ m r there. begun_at g limit setups are HasForm m r there
+      (λ s setup within. (begins g limit m s is setup within).0);
+  of = λ m r there. begun_at g limit setups are (IsOf g m) m r there
+      (λ s setup within. (begins g limit m s is setup within).1);
+  room = λ m r there. begun_at g limit setups are
+      (λ q. length g.opening.start + banks g + greatest q.totals * roster g ≤ q.room) m r there
       (λ s setup within. begun_room g limit m s setup);
 }
 
-replicas_begun : (setups : List Setup) → map (λ (x : Running). x.replica) (map begun_running setups) ≡ map begun_replica setups
+replicas_begun : (setups : List Setup) → map (λ (x : Running). x.replica) (map begun_running setups)
+    ≡ map begun_replica setups
 replicas_begun setups = map-map _ _ setups
 
 -- their world is the opening's
 pub begun_world : (g : Group) (limit : ℕ) (setups : List Setup) → IsGroup g → AreSetups g limit setups
-    → world_of g (map begun_replica setups) (replicate (words_of (roster g) g.window (roster g)) 0) ≡ opening_world g
+    → world_of g (map begun_replica setups) (replicate (words_of (roster g) g.window (banks g)) 0)
+    ≡ opening_world g
 begun_world g limit setups is are =
-    ap (λ rs. world_of g rs (replicate (words_of (roster g) g.window (roster g)) 0)) (sym (replicas_begun setups))
+    ap (λ rs. world_of g rs (replicate (words_of (roster g) g.window (banks g)) 0))
+    (sym (replicas_begun setups))
     ∙ begins_at_the_opening g limit setups is are
 
 -- ---- one by one
 
-pub begun_none : (script : Script) (start : Start) (rs : List Replica) → rs ≡ [] → HaveBegun script start 0 rs
+-- no member has begun
+pub begun_none : (script : Script) (start : Start) (rs : List Replica) → rs ≡ []
+    → HaveBegun script start 0 rs
 begun_none script start rs empty = ([], none script start 0, empty)
 
-pub begun_more : (script : Script) (start : Start) (n : ℕ) (rs qs : List Replica) (s : Setup) (r : Replica) → HaveBegun script start n rs
-    → IsSetupOf script start 0 n s → r ≡ begun_replica s → qs ≡ rs ++ r ∷ [] → HaveBegun script start (n + 1) qs
+-- one member more has begun
+pub begun_more : (script : Script) (start : Start) (n : ℕ) (rs qs : List Replica) (s : Setup)
+    (r : Replica) → HaveBegun script start n rs
+    → IsSetupOf script start 0 n s → r ≡ begun_replica s → qs ≡ rs ++ r ∷ []
+    → HaveBegun script start (n + 1) qs
 begun_more script start n rs qs s r so_far setup begins pushed = (
   so_far.0 ++ s ∷ [],
   more script start 0 n so_far.0 s so_far.1 setup,
@@ -98,10 +120,16 @@ begun_more script start n rs qs s r so_far setup begins pushed = (
 abbrev begun_held : Script → Start → List Setup → Held
 begun_held script start setups =
     let n = roster (group_of script start) in
-    record { script = script; start = start; replicas = map begun_replica setups; table = replicate (words_of n script.window n) 0 }
+    record {
+      script = script;
+      start = start;
+      replicas = map begun_replica setups;
+      table = replicate (words_of n script.window n) 0;
+    }
 
 -- the replicas of all members, over a table of zeros, are a group in its opening world
-pub opened : (script : Script) (start : Start) (h : Held) (k : ℕ) → h.script ≡ script → h.start ≡ start → IsGroup (group_of script start)
+pub opened : (script : Script) (start : Start) (h : Held) (k : ℕ) → h.script ≡ script → h.start
+    ≡ start → IsGroup (group_of script start)
     → script.members ≡ roster (group_of script start) → HaveBegun script start script.members h.replicas
     → k ≡ words_of script.members script.window script.members → h.table ≡ replicate k 0
     → IsHeld h × (its_world h ≡ opening_world (group_of script start))
@@ -110,7 +138,7 @@ opened script start h k same likewise is all begun words zeros =
       record {
         group = is;
         members = begun_members g script.turns begun.0 is told;
-        table = length-replicate (words_of (roster g) g.window (roster g)) 0;
+        table = length-replicate (words_of (roster g) g.window (banks g)) 0;
         reached = ([], begun_world g script.turns begun.0 is told);
       },
       begun_world g script.turns begun.0 is told,
@@ -122,7 +150,8 @@ opened script start h k same likewise is all begun words zeros =
     told : AreSetups (group_of script start) script.turns begun.0
     told = are_setups script start 0 begun.0 (sym all) begun.1
 
-    cells : h.table ≡ replicate (words_of (roster (group_of script start)) script.window (roster (group_of script start))) 0
+    cells : h.table ≡ replicate (words_of (roster (group_of script start)) script.window
+        (roster (group_of script start))) 0
     cells = zeros ∙ ap (λ i. replicate i 0) (words ∙ ap (λ i. words_of i script.window i) all)
 
     held : h ≡ begun_held script start begun.0

@@ -1,87 +1,56 @@
 -- What is held stays the members of the group, in a world that is reached.
-use Rattle.std.proofs.Common.{◌≡◌, refl, sym, ap, ◌∙◌, subst, ℕ, ◌+◌, ◌*◌, ◌<◌, ◌≤◌, ◌⊎◌, inl, inr, true, false, not, List, [], ◌∷◌, length, take, slice_index, get_or, arith}
+use Rattle.std.proofs.Common.{◌≡◌, refl, sym, ap, ◌∙◌, subst, ℕ, ◌+◌, ◌*◌, ◌<◌, ◌≤◌, ◌⊎◌, inl, inr, true, false, not, List, [], ◌∷◌, length, take, get_or, arith}
 use Rattle.std.specs.Prelude.{Some, is_some, slice_get, slice_set}
-use Rattle.std.proofs.lemmas.Bool.{cases_eq}
+use Rattle.std.proofs.lemmas.Bool.{and_parts, cases_eq}
 use Rattle.std.proofs.lemmas.List.{length-set, take_more}
 use Rattle.std.proofs.lemmas.Option.{slice_get_within, same_Some}
 use Rattle.dr_restart.specs.Groups.{group_of}
 use Rattle.dr_words.specs.Layout.{words_of}
 use Rattle.dr_words.proofs.Order.{HasGrown_refl}
 use Rattle.dr_machine.specs.declared.event.Event.{Event}
-use Rattle.dr_machine.specs.declared.event.Event.TheVariants.{Beat, Look, Push, Send, Receive, Deliver, Append, Publish, Report, Mark, Halt, Crash}
-use Rattle.dr_machine.specs.Group.{Group, roster}
+use Rattle.dr_machine.specs.declared.step.Step.{Step}
+use Rattle.dr_machine.specs.Events.{member_of, step_of}
+use Rattle.dr_machine.specs.Group.{Group, roster, banks}
 use Rattle.dr_machine.specs.World.{World}
-use Rattle.dr_machine.specs.Guards.{Guard}
-use Rattle.dr_machine.specs.Effects.{effect}
+use Rattle.dr_machine.specs.Acts.{Guard, effect}
 use Rattle.dr_machine.specs.Run.{Happens, Run, WordsGrew}
-use Rattle.dr_machine.specs.Replica.{Replica, me, greatest}
-use Rattle.dr_machine.specs.Form.{HasForm, IsOf}
-use Rattle.dr_machine.proofs.Runs.{run_on}
-use Rattle.dr_machine.proofs.Holdings.{replica_set, replica_kept}
-use Rattle.dr_told.proofs.Faithfulness.{words_grew}
-use Rattle.dr_reading.proofs.Views.{parts}
+use Rattle.dr_program.specs.Replica.{Replica, greatest}
+use Rattle.dr_program.specs.Form.{HasForm, IsOf}
+use Rattle.dr_machine.proofs.Runs.{reached_more, run_on}
+use Rattle.dr_program.proofs.Fixed.{Told, told, step_told, of_told}
+use Rattle.dr_program.proofs.Holdings.{replica_set, replica_kept}
+use Rattle.dr_faithful.proofs.Faithfulness.{words_grew}
+use Rattle.dr_refine.proofs.Steps.{stored_length}
 use Rattle.dr_world.specs.Held.{Held, its_group, its_world, AreMembers, IsHeld}
-use Rattle.dr_world.specs.Steps.{member_of, allows, may_take, taken, stored}
-use Rattle.dr_world.proofs.Bounds.{reached_more}
+use Rattle.dr_program.specs.Steps.{allows, may_take, sight, stepped_over, stored}
 use Rattle.dr_world.proofs.Guarding.{take_test, of_roster}
 use Rattle.dr_world.proofs.Effects.{after, take_effect}
 
 -- ---- what no event changes of a replica
 
-pub record Told : Type 0 where
-  pub number : ℕ
-  pub roster : ℕ
-  pub window : ℕ
-  pub banks : ℕ
-  pub messages : List (List ℕ)
-  pub totals : List ℕ
-  pub view : ℕ
-  pub members : ℕ
-  pub room : ℕ
-
-abbrev told : Replica → Told
-told r = record { number = me r; roster = r.roster; window = r.window; banks = r.banks; messages = r.messages; totals = r.totals; view = r.view; members = r.members; room = r.room }
-
-taken_told : (table : List ℕ) (r : Replica) (e : Event) → told (taken table r e) ≡ told r
-taken_told table r (Beat m) = refl
-taken_told table r (Look m i c) = refl
-taken_told table r (Push m j c) = refl
-taken_told table r (Send m) = refl
-taken_told table r (Receive m s) = refl
-taken_told table r (Deliver m) = refl
-taken_told table r (Append m) = refl
-taken_told table r (Publish m) = refl
-taken_told table r (Report m) = refl
-taken_told table r (Mark m) = refl
-taken_told table r (Halt m end) = refl
-taken_told table r (Crash m end) = refl
-
-of_told : (g : Group) (m : ℕ) (r q : Replica) → told q ≡ told r → IsOf g m r → IsOf g m q
-of_told g m r q same of = record {
-  number = ap (λ t. t.number) same ∙ of.number;
-  members = ap (λ t. t.roster) same ∙ of.members;
-  window = ap (λ t. t.window) same ∙ of.window;
-  banks = ap (λ t. t.banks) same ∙ of.banks;
-  messages = ap (λ t. t.messages) same ∙ of.messages;
-  totals = λ s. ap (λ t. slice_index t.totals s) same ∙ of.totals s;
-  view = ap (λ t. t.view) same ∙ of.view;
-  whole = ap (λ t. t.members) same ∙ of.whole;
-}
-
-room_told : (g : Group) (r q : Replica) → told q ≡ told r → length g.opening.start + roster g + greatest r.totals * roster g ≤ r.room
-    → length g.opening.start + roster g + greatest q.totals * roster g ≤ q.room
-room_told g r q same room = subst (λ (t : Told). length g.opening.start + roster g + greatest t.totals * roster g ≤ t.room) (sym same) room
+room_told : (g : Group) (r q : Replica) → told q ≡ told r
+    → length g.opening.start + banks g + greatest r.totals * roster g ≤ r.room
+    → length g.opening.start + banks g + greatest q.totals * roster g ≤ q.room
+room_told g r q same room = subst
+    (λ (t : Told). length g.opening.start + banks g + greatest t.totals * roster g ≤ t.room)
+    (sym same) room
 
 -- ---- the members
 
-set_cases : (rs : List Replica) (m k : ℕ) (q x : Replica) → m < length rs → slice_get (slice_set rs m q) k ≡ Some x
+set_cases : (rs : List Replica) (m k : ℕ) (q x : Replica) → m < length rs
+    → slice_get (slice_set rs m q) k ≡ Some x
     → ((k ≡ m) × (q ≡ x)) ⊎ (slice_get rs k ≡ Some x)
 set_cases rs m k q x within there = elim (cases_eq k m) [
-  | inl same ↦ inl (same, same_Some q x (sym (replica_set rs m q within) ∙ ap (slice_get (slice_set rs m q)) (sym same) ∙ there))
+  | inl same ↦ inl (
+    same,
+    same_Some q x (sym (replica_set rs m q within) ∙ ap (slice_get (slice_set rs m q)) (sym same)
+        ∙ there),
+  )
   | inr other ↦ inr (sym (replica_kept rs m k q other) ∙ there)
 ]
 
-members_kept : (g : Group) (rs : List Replica) (m : ℕ) (r q : Replica) → AreMembers g rs → slice_get rs m ≡ Some r → HasForm q → told q ≡ told r
+members_kept : (g : Group) (rs : List Replica) (m : ℕ) (r q : Replica) → AreMembers g rs
+    → slice_get rs m ≡ Some r → HasForm q → told q ≡ told r
     → AreMembers g (slice_set rs m q)
 members_kept g rs m r q are there form same = record {
   all = length-set rs m q ∙ are.all;
@@ -93,62 +62,68 @@ members_kept g rs m r q are there form same = record {
     within : m < length rs
     within = slice_get_within rs m r there
 
-    by_form : (k : ℕ) (x : Replica) → ((k ≡ m) × (q ≡ x)) ⊎ (slice_get rs k ≡ Some x) → HasForm x
+    by_form : (k : ℕ) (x : Replica) → ((k ≡ m) × (q ≡ x)) ⊎ (slice_get rs k ≡ Some x)
+        → HasForm x
     by_form k x (inl here) = subst HasForm here.1 form
     by_form k x (inr other) = are.form k x other
 
-    by_of : (k : ℕ) (x : Replica) → ((k ≡ m) × (q ≡ x)) ⊎ (slice_get rs k ≡ Some x) → IsOf g k x
-    by_of k x (inl here) = subst (IsOf g k) here.1 (subst (λ i. IsOf g i q) (sym here.0) (of_told g m r q same (are.of m r there)))
+    by_of : (k : ℕ) (x : Replica) → ((k ≡ m) × (q ≡ x)) ⊎ (slice_get rs k ≡ Some x)
+        → IsOf g k x
+    by_of k x (inl here) = subst (IsOf g k) here.1
+        (subst (λ i. IsOf g i q) (sym here.0) (of_told g m r q same (are.of m r there)))
     by_of k x (inr other) = are.of k x other
 
     by_room : (k : ℕ) (x : Replica) → ((k ≡ m) × (q ≡ x)) ⊎ (slice_get rs k ≡ Some x)
-        → length g.opening.start + roster g + greatest x.totals * roster g ≤ x.room
-    by_room k x (inl here) = subst (λ (y : Replica). length g.opening.start + roster g + greatest y.totals * roster g ≤ y.room) here.1 (room_told g r q same (are.room m r there))
+        → length g.opening.start + banks g + greatest x.totals * roster g ≤ x.room
+    by_room k x (inl here) = subst
+        (λ (y : Replica). length g.opening.start + banks g + greatest y.totals * roster g ≤ y.room)
+        here.1 (room_told g r q same (are.room m r there))
     by_room k x (inr other) = are.room k x other
 
-stored_length : (table : List ℕ) (r : Replica) (e : Event) → length (stored table r e) ≡ length table
-stored_length table r (Beat m) = length-set table _ _
-stored_length table r (Look m i c) = refl
-stored_length table r (Push m j c) = length-set table _ _
-stored_length table r (Send m) = length-set table _ _
-stored_length table r (Receive m s) = length-set table _ _
-stored_length table r (Deliver m) = length-set table _ _
-stored_length table r (Append m) = refl
-stored_length table r (Publish m) = length-set table _ _
-stored_length table r (Report m) = length-set table _ _
-stored_length table r (Mark m) = length-set table _ _
-stored_length table r (Halt m end) = length-set table _ _
-stored_length table r (Crash m end) = length-set table _ _
-
-pub stored_within : (table : List ℕ) (r : Replica) (e : Event) (n : ℕ) → length table ≡ n → length (stored table r e) ≡ n
-stored_within table r e n is = stored_length table r e ∙ is
+-- the table keeps its length
+pub stored_within : (table : List ℕ) (r : Replica) (s : Step) (n : ℕ) → length table ≡ n
+    → length (stored table r s) ≡ n
+stored_within table r s n is = stored_length table r s ∙ is
 
 -- ---- a step
 
-pub allowed : (r : Replica) (e : Event) → may_take r e ≡ true → allows r e ≡ true
-allowed r e may = (parts (not (is_some r.end)) (allows r e) may).1
+-- a step that may be taken is allowed
+pub allowed : (r : Replica) (e : Event) → may_take r (step_of e) ≡ true → allows r (step_of e) ≡ true
+allowed r e may = (and_parts (not (is_some r.end)) (allows r (step_of e)) may).1
 
 -- an event that the replica of its member may take happens
-pub taken_happens : (h : Held) (e : Event) (r : Replica) → IsHeld h → slice_get h.replicas (member_of e) ≡ Some r → may_take r e ≡ true
-    → Guard (its_group h) (its_world h) e × (its_world (after h e r) ≡ effect (its_group h) (its_world h) e)
-taken_happens h e r is there may = ((take_test h e r is there).0 may, take_effect h e r is there (allowed r e may))
+pub taken_happens : (h : Held) (e : Event) (r : Replica) → IsHeld h → slice_get h.replicas (member_of e)
+    ≡ Some r → may_take r (step_of e) ≡ true
+    → Guard (its_group h) (its_world h) e
+    × (its_world (after h e r) ≡ effect (its_group h) (its_world h) e)
+taken_happens h e r is there may =
+    ((take_test h e r is there).0 may, take_effect h e r is there (allowed r e may))
 
-pub taken_held : (h : Held) (e : Event) (r : Replica) → IsHeld h → slice_get h.replicas (member_of e) ≡ Some r → may_take r e ≡ true
-    → HasForm (taken (stored h.table r e) r e) → IsHeld (after h e r)
+-- what is held after an event is held
+pub taken_held : (h : Held) (e : Event) (r : Replica) → IsHeld h → slice_get h.replicas (member_of e)
+    ≡ Some r → may_take r (step_of e) ≡ true
+    → HasForm (stepped_over (stored h.table r (step_of e)) r (step_of e)) → IsHeld (after h e r)
 taken_held h e r is there may form = record {
   group = is.group;
-  members = members_kept (its_group h) h.replicas (member_of e) r (taken (stored h.table r e) r e) is.members there form (taken_told (stored h.table r e) r e);
-  table = stored_length h.table r e ∙ is.table;
-  reached = reached_more (its_group h) (its_world h) (its_world (after h e r)) e is.reached (inl (taken_happens h e r is there may));
+  members = members_kept (its_group h) h.replicas (member_of e) r
+      (stepped_over (stored h.table r (step_of e)) r (step_of e)) is.members there form
+      (step_told (sight (stored h.table r (step_of e)) r (step_of e)) r (step_of e));
+  table = stored_length h.table r (step_of e) ∙ is.table;
+  reached = reached_more (its_group h) (its_world h) (its_world (after h e r)) e is.reached
+      (inl (taken_happens h e r is there may));
 }
 
 -- an event that it may not take can't come, nor can one of a number that nobody has
-pub refused : (h : Held) (e : Event) (r : Replica) → IsHeld h → slice_get h.replicas (member_of e) ≡ Some r → may_take r e ≡ false
+pub refused : (h : Held) (e : Event) (r : Replica) → IsHeld h → slice_get h.replicas (member_of e)
+    ≡ Some r → may_take r (step_of e) ≡ false
     → ¬ Guard (its_group h) (its_world h) e
 refused h e r is there not_may can = let may = (take_test h e r is there).1 can in absurd (cc)
 
-pub nobody : (h : Held) (e : Event) → IsHeld h → length h.replicas ≤ member_of e → ¬ Guard (its_group h) (its_world h) e
-nobody h e is past can = absurd (omega (arith, of_roster (its_group h) (its_world h) e can, is.members.all, past))
+-- nobody has an event beyond the roster
+pub nobody : (h : Held) (e : Event) → IsHeld h → length h.replicas ≤ member_of e
+    → ¬ Guard (its_group h) (its_world h) e
+nobody h e is past can = absurd
+    (omega (arith, of_roster (its_group h) (its_world h) e is.group can, is.members.all, past))
 
 -- words that stay have grown
 pub same_grew : (g : Group) (w : World) → WordsGrew g w w
@@ -158,20 +133,26 @@ same_grew g w = record {
   seen = λ m i c e. HasGrown_refl (roster g) c (w.seen m i c);
 }
 
-pub taken_grew : (h : Held) (e : Event) (r : Replica) → IsHeld h → slice_get h.replicas (member_of e) ≡ Some r → may_take r e ≡ true
+-- the words grow
+pub taken_grew : (h : Held) (e : Event) (r : Replica) → IsHeld h → slice_get h.replicas (member_of e)
+    ≡ Some r → may_take r (step_of e) ≡ true
     → WordsGrew (its_group h) (its_world h) (its_world (after h e r))
 taken_grew h e r is there may =
     let happens = taken_happens h e r is there may in
-    subst (WordsGrew (its_group h) (its_world h)) (sym happens.1) (words_grew (its_group h) (its_world h) e is.group is.reached happens.0)
+    subst (WordsGrew (its_group h) (its_world h)) (sym happens.1)
+    (words_grew (its_group h) (its_world h) e is.group is.reached happens.0)
 
 -- ---- as the program finds them
 
 -- two reads of one place
-pub may_still : (rs : List Replica) (m : ℕ) (e : Event) (x r : Replica) → slice_get rs m ≡ Some x → slice_get rs m ≡ Some r → may_take x e ≡ true → may_take r e ≡ true
-may_still rs m e x r one other may = subst (λ (y : Replica). may_take y e ≡ true) (same_Some x r (sym one ∙ other)) may
+pub may_still : (rs : List Replica) (m : ℕ) (e : Event) (x r : Replica) → slice_get rs m ≡ Some x
+    → slice_get rs m ≡ Some r → may_take x (step_of e) ≡ true → may_take r (step_of e) ≡ true
+may_still rs m e x r one other may =
+    subst (λ (y : Replica). may_take y (step_of e) ≡ true) (same_Some x r (sym one ∙ other)) may
 
 -- the table has the words of the shape that its replicas know
-pub words_within : (h : Held) (m : ℕ) (r : Replica) → IsHeld h → slice_get h.replicas m ≡ Some r → length h.table ≡ words_of r.roster r.window r.banks
+pub words_within : (h : Held) (m : ℕ) (r : Replica) → IsHeld h → slice_get h.replicas m ≡ Some r
+    → length h.table ≡ words_of r.roster r.window r.banks
 words_within h m r is there =
     let of : IsOf (its_group h) m r = is.members.of m r there in
     is.table
@@ -180,8 +161,10 @@ words_within h m r is there =
     ∙ ap (words_of r.roster r.window) (sym of.banks)
 
 -- an event that was refused
-pub refused_event : (h now : Held) (e : Event) → h ≡ now → (¬ Guard (its_group h) (its_world h) e) → Happens (its_group now) (its_world now) e (its_world now)
-refused_event h now e same not_now = inr (subst (λ (v : Held). ¬ Guard (its_group v) (its_world v) e) same not_now, refl)
+pub refused_event : (h now : Held) (e : Event) → h ≡ now → (¬ Guard (its_group h) (its_world h) e)
+    → Happens (its_group now) (its_world now) e (its_world now)
+refused_event h now e same not_now =
+    inr (subst (λ (v : Held). ¬ Guard (its_group v) (its_world v) e) same not_now, refl)
 
 -- an event that was taken at the replica of its member
 pub record Took (h : Held) (e : Event) (after : Held) : Type 0 where
@@ -190,8 +173,10 @@ pub record Took (h : Held) (e : Event) (after : Held) : Type 0 where
   pub held : IsHeld after
   pub grew : WordsGrew (its_group h) (its_world h) (its_world after)
 
-pub took : (h : Held) (e : Event) (m : ℕ) (r q : Replica) (cells : List ℕ) → IsHeld h → m ≡ member_of e → slice_get h.replicas m ≡ Some r → may_take r e ≡ true
-    → cells ≡ stored h.table r e → q ≡ taken cells r e → HasForm q
+-- so an event happens
+pub took : (h : Held) (e : Event) (m : ℕ) (r q : Replica) (cells : List ℕ) → IsHeld h → m
+    ≡ member_of e → slice_get h.replicas m ≡ Some r → may_take r (step_of e) ≡ true
+    → cells ≡ stored h.table r (step_of e) → q ≡ stepped_over cells r (step_of e) → HasForm q
     → Took h e (record h { replicas = slice_set h.replicas m q; table = cells })
 took h e m r q cells is number there may stores takes form =
     subst (Took h e) (sym same) (record {
@@ -204,21 +189,30 @@ took h e m r q cells is number there may stores takes form =
     at : slice_get h.replicas (member_of e) ≡ Some r
     at = ap (slice_get h.replicas) (sym number) ∙ there
 
-    replica : q ≡ taken (stored h.table r e) r e
-    replica = takes ∙ ap (λ t. taken t r e) stores
+    replica : q ≡ stepped_over (stored h.table r (step_of e)) r (step_of e)
+    replica = takes ∙ ap (λ t. stepped_over t r (step_of e)) stores
 
     same : record h { replicas = slice_set h.replicas m q; table = cells } ≡ after h e r
     same = λ z. record h { replicas = slice_set h.replicas (number z) (replica z); table = stores z }
 
-    happens : Guard (its_group h) (its_world h) e × (its_world (after h e r) ≡ effect (its_group h) (its_world h) e)
+    happens : Guard (its_group h) (its_world h) e
+        × (its_world (after h e r) ≡ effect (its_group h) (its_world h) e)
     happens = taken_happens h e r is at may
 
 -- one event more of a list
-pub ran_more : (first old new : Held) (events : List Event) (i : ℕ) (d : Event) → old.script ≡ first.script → old.start ≡ first.start
+pub ran_more : (first old new : Held) (events : List Event) (i : ℕ) (d : Event) → old.script
+    ≡ first.script → old.start ≡ first.start
     → i < length events → Happens (its_group old) (its_world old) (get_or events i d) (its_world new)
-    → Run (its_group first) (its_world first) (take i events) (its_world old) → Run (its_group first) (its_world first) (take (i + 1) events) (its_world new)
+    → Run (its_group first) (its_world first) (take i events) (its_world old)
+    → Run (its_group first) (its_world first) (take (i + 1) events) (its_world new)
 ran_more first old new events i d script start within happens run =
     let same : its_group old ≡ its_group first = λ z. group_of (script z) (start z) in
-    subst (λ es. Run (its_group first) (its_world first) es (its_world new)) (sym (take_more events i d within))
-    (run_on (its_group first) (its_world first) (its_world old) (its_world new) (take i events) (get_or events i d ∷ []) run
-    (its_world new, subst (λ g. Happens g (its_world old) (get_or events i d) (its_world new)) same happens, refl))
+    subst (λ es. Run (its_group first) (its_world first) es (its_world new))
+    (sym (take_more events i d within))
+    (run_on (its_group first) (its_world first) (its_world old) (its_world new) (take i events)
+    (get_or events i d ∷ []) run (
+      its_world new,
+      subst (λ g. Happens g (its_world old) (get_or events i d) (its_world new)) same
+          happens,
+      refl,
+    ))

@@ -3,13 +3,13 @@ use Rattle.std.specs.Prelude.{◌≡◌, ℕ, ◌+◌, ◌*◌, ◌≤◌, List,
 use Rattle.dr_script.specs.declared.script.Script.{Script}
 use Rattle.dr_restart.specs.declared.start.Start.{Start}
 use Rattle.dr_restart.specs.Groups.{group_of}
-use Rattle.dr_machine.specs.Group.{Group, IsGroup, roster}
+use Rattle.dr_machine.specs.Group.{Group, IsGroup, roster, banks}
 use Rattle.dr_machine.specs.World.{World}
-use Rattle.dr_machine.specs.Replica.{Replica, greatest}
-use Rattle.dr_machine.specs.Reading.{world_of}
-use Rattle.dr_machine.specs.Form.{HasForm, IsOf}
+use Rattle.dr_program.specs.Replica.{Replica, greatest}
+use Rattle.dr_program.specs.Reading.{world_of}
+use Rattle.dr_program.specs.Form.{HasForm, IsOf}
 use Rattle.dr_machine.specs.Run.{IsReached}
-use Rattle.dr_reading.specs.Programs.{IsTable}
+use Rattle.dr_refine.specs.Programs.{IsTable}
 
 -- a script and the start of an age, a replica for each member, and the words of the table
 pub record Held : Type 0 where
@@ -32,7 +32,7 @@ pub record AreMembers (g : Group) (rs : List Replica) : Type 0 where
   pub form : (m : ℕ) (r : Replica) → slice_get rs m ≡ Some r → HasForm r
   pub of : (m : ℕ) (r : Replica) → slice_get rs m ≡ Some r → IsOf g m r
   pub room : (m : ℕ) (r : Replica) → slice_get rs m ≡ Some r
-      → length g.opening.start + roster g + greatest r.totals * roster g ≤ r.room
+      → length g.opening.start + banks g + greatest r.totals * roster g ≤ r.room
 
 -- the members of a group, in a world that some events lead to
 pub record IsHeld (h : Held) : Type 0 where

@@ -12,6 +12,3 @@ mod world;
 
 pub use dr_machine::Event;
 pub use world::World;
-
-#[cfg(test)]
-mod tests;

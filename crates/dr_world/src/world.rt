@@ -1,6 +1,6 @@
 ghost use Rattle.std.specs.Prelude.{◌≡◌, ◌↔◌, ◌<◌, IfOk, IsTrue, Some, false, slice_get};
 ghost use Rattle.dr_machine.specs.Group.{IsGroup, roster};
-ghost use Rattle.dr_machine.specs.Guards.{Guard};
+ghost use Rattle.dr_machine.specs.Acts.{Guard};
 ghost use Rattle.dr_machine.specs.Run.{Happens, IsReached, Run, WordsGrew};
 ghost use Rattle.dr_machine.specs.World.{count_of, opening_world};
 ghost use Rattle.dr_script.specs.Ranges.{HasGroupRanges};
@@ -8,7 +8,7 @@ ghost use Rattle.dr_restart.specs.Groups.{group_of};
 ghost use Rattle.dr_world.specs.Held.{AreMembers, its_group, its_world};
 
 use crate::opening::{copy_script, replicas_of};
-use crate::steps::{may_take, member_of, store, take};
+use crate::steps::{may_take, store, take};
 use dr_entry::{Entry, SentItem};
 use dr_machine::Event;
 use dr_replica::Replica;
@@ -70,7 +70,7 @@ impl World {
         ensures start { self.new.start ≡ self.old.start }
         ensures grown { WordsGrew (its_group self.old) (its_world self.old) (its_world self.new) }
     {
-        let m = usize::from(member_of(event));
+        let m = usize::from(event.member());
         if m >= self.replicas.len() || !may_take(&self.replicas[m], event) {
             return false;
         }

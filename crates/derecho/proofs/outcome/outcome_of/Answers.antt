@@ -17,5 +17,6 @@ returns-in-Ok g c = record {
       c.judge.result
       (search rules)
       c.in-Ok.ensures.bytes
-      (subst (λ bytes. IfOk c.judge.result (λ (o : Outcome). IsRunOver bytes o.ages o.last)) c.deref.ensures.value c.judge.ensures);
+      (subst (λ bytes. IfOk c.judge.result (λ (o : Outcome). IsRunOver bytes o.ages o.last))
+      c.deref.ensures.value c.judge.ensures);
 }

@@ -1,23 +1,39 @@
 -- The clauses say in each case what the last line that was due and what was written of it say.
 use Rattle.dr_history.specs.Agreement.{EndsAgreed}
 use Rattle.dr_restart.specs.Groups.{first_group_of}
-use Rattle.dr_ends.specs.Ended.{HaveEnded}
+use Rattle.dr_program_laws.specs.Ended.{HaveEnded}
 use Rattle.dr_restart.specs.Setups.{crashes_of}
 use Rattle.derecho.proofs.Course.{Course, course_of, written_of, all_ages, at_most_one, statuses_with_ages, known_status, usage_of, refused_of, read_fault_of, unfinished_of, read_of}
 use Rattle.derecho.proofs.top.derecho.Goals as goal
 
 course : (g : Rattle.derecho.proofs.top.derecho.Given.Over) (c : goal.After-finish g)
-    → Course c.args.words.now (g.S.Source.left c.args.source.now) (g.S.Source.left c.outcome_of.new.source) (g.S.Source.faults c.args.source.now) (g.S.Source.faults c.outcome_of.new.source) c.finish.result.status c.finish.result.ages
-course g c = course_of c.args.words.now (g.S.Source.left c.args.source.now) (g.S.Source.left c.outcome_of.new.source) (g.K.Sink.held c.args.sink.now) (g.K.Sink.held c.finish.new.sink) (g.S.Source.faults c.args.source.now) (g.S.Source.faults c.outcome_of.new.source) (g.K.Sink.faults c.args.sink.now) (g.K.Sink.faults c.finish.new.sink) c.finish.result.status c.in-Ok.outcome.ages c.finish.result.ages c.in-Ok.outcome.last c.in-Ok.ensures.due c.finish.ensures
+    → Course c.args.words.now (g.S.Source.left c.args.source.now)
+    (g.S.Source.left c.outcome_of.new.source) (g.S.Source.faults c.args.source.now)
+    (g.S.Source.faults c.outcome_of.new.source) c.finish.result.status c.finish.result.ages
+course g c = course_of c.args.words.now (g.S.Source.left c.args.source.now)
+    (g.S.Source.left c.outcome_of.new.source) (g.K.Sink.held c.args.sink.now)
+    (g.K.Sink.held c.finish.new.sink) (g.S.Source.faults c.args.source.now)
+    (g.S.Source.faults c.outcome_of.new.source) (g.K.Sink.faults c.args.sink.now)
+    (g.K.Sink.faults c.finish.new.sink) c.finish.result.status c.in-Ok.outcome.ages c.finish.result.ages
+    c.in-Ok.outcome.last c.in-Ok.ensures.due c.finish.ensures
 
 pub returns-in-Ok-clause-written : goal.returns-in-Ok-clause-written
-returns-in-Ok-clause-written g c = written_of c.args.words.now (g.S.Source.left c.args.source.now) (g.S.Source.left c.outcome_of.new.source) (g.K.Sink.held c.args.sink.now) (g.K.Sink.held c.finish.new.sink) (g.S.Source.faults c.args.source.now) (g.S.Source.faults c.outcome_of.new.source) (g.K.Sink.faults c.args.sink.now) (g.K.Sink.faults c.finish.new.sink) c.finish.result.status c.in-Ok.outcome.ages c.finish.result.ages c.in-Ok.outcome.last c.in-Ok.ensures.due c.finish.ensures
+returns-in-Ok-clause-written g c =
+    written_of c.args.words.now (g.S.Source.left c.args.source.now)
+    (g.S.Source.left c.outcome_of.new.source) (g.K.Sink.held c.args.sink.now)
+    (g.K.Sink.held c.finish.new.sink) (g.S.Source.faults c.args.source.now)
+    (g.S.Source.faults c.outcome_of.new.source) (g.K.Sink.faults c.args.sink.now)
+    (g.K.Sink.faults c.finish.new.sink) c.finish.result.status c.in-Ok.outcome.ages c.finish.result.ages
+    c.in-Ok.outcome.last c.in-Ok.ensures.due c.finish.ensures
 
 pub returns-in-Ok-clause-agreed : goal.returns-in-Ok-clause-agreed
-returns-in-Ok-clause-agreed g c = all_ages (λ s a. EndsAgreed (first_group_of s).opening a.members) (course g c) (λ s a run. run.agreed)
+returns-in-Ok-clause-agreed g c =
+    all_ages (λ s a. EndsAgreed (first_group_of s).opening a.members) (course g c) (λ s a run. run.agreed)
 
 pub returns-in-Ok-clause-ended : goal.returns-in-Ok-clause-ended
-returns-in-Ok-clause-ended g c = all_ages (λ s a. HaveEnded (first_group_of s).opening s.turns (crashes_of s.faults 0) a.members) (course g c) (λ s a run. run.ended)
+returns-in-Ok-clause-ended g c =
+    all_ages (λ s a. HaveEnded (first_group_of s).opening s.turns (crashes_of s.faults 0) a.members)
+    (course g c) (λ s a run. run.ended)
 
 pub returns-in-Ok-clause-read : goal.returns-in-Ok-clause-read
 returns-in-Ok-clause-read g c = read_of (course g c)

@@ -1,8 +1,8 @@
 use Rattle.std.proofs.Common.{◌<◌, refl, arith}
 use Rattle.dr_machine.specs.Group.{roster}
 use Rattle.dr_world.specs.Held.{its_group, its_world}
-use Rattle.dr_agree.proofs.Agreeing.{agreed}
-use Rattle.dr_agree.proofs.Reached.{known}
+use Rattle.dr_world_laws.proofs.Agreeing.{agreed}
+use Rattle.dr_world_laws.proofs.Reached.{known}
 use Rattle.dr_agree.proofs.Runs.{either_prefix}
 use Rattle.dr_agree.proofs.run.agree.Goals as goal
 
@@ -12,14 +12,21 @@ returns-then-not-is_either_prefix c =
     let w = its_world c.args.world.now in (
       λ t. absurd (cc),
       λ agrees.
-          let i : c.loop-i.i < roster g = omega (arith, c.loop-i-test.true, c.members-members.ensures.members) in
-          let j : c.loop-j.j < roster g = omega (arith, c.loop-j-test.true, c.members-members.ensures.members) in
-          let is = c.is_either_prefix.ensures.1 (either_prefix g w c.loop-i.i c.loop-j.j c.history.result.now c.history-in-loop-j.result.now agrees i j c.history.ensures c.history-in-loop-j.ensures) in
+          let i : c.loop-i.i < roster g =
+          omega (arith, c.loop-i-test.true, c.members-members.ensures.members) in
+          let j : c.loop-j.j < roster g =
+          omega (arith, c.loop-j-test.true, c.members-members.ensures.members) in
+          let is = c.is_either_prefix.ensures.1
+          (either_prefix g w c.loop-i.i c.loop-j.j c.history.result.now c.history-in-loop-j.result.now
+          c.members-members.ensures.group agrees i j c.history.ensures c.history-in-loop-j.ensures) in
           absurd (cc (is, c.if-not-is_either_prefix.true)),
     )
 
 pub returns : goal.returns
 returns c =
     let g = its_group c.args.world.now in
-    let w = its_world c.args.world.now in
-    (λ _. agreed g w c.members-members.ensures.group (known g w c.members-members.ensures.group c.members-members.ensures.reached), λ _. refl)
+    let w = its_world c.args.world.now in (
+      λ _. agreed g w c.members-members.ensures.group
+          (known g w c.members-members.ensures.group c.members-members.ensures.reached),
+      λ _. refl,
+    )

@@ -2,9 +2,9 @@ use Rattle.std.proofs.Common.{◌∙◌}
 use Rattle.dr_restart.specs.Groups.{group_of}
 use Rattle.dr_machine.specs.Run.{IsReached}
 use Rattle.dr_world.specs.Held.{its_world}
-use Rattle.dr_told.proofs.Faithfulness.{no_later}
-use Rattle.dr_agree.proofs.Agreeing.{agreed}
-use Rattle.dr_agree.proofs.Reached.{known}
+use Rattle.dr_faithful.proofs.Faithfulness.{no_later}
+use Rattle.dr_world_laws.proofs.Agreeing.{agreed}
+use Rattle.dr_world_laws.proofs.Reached.{known}
 use Rattle.dr_agree.proofs.Runs.{from_opening}
 use Rattle.dr_agree.proofs.run.agreed_run.Goals as goal
 
@@ -12,8 +12,10 @@ pub returns : goal.returns
 returns c =
     let g = group_of c.args.script.now c.args.start.now in
     let w = its_world c.run.new.self in
-    let run = from_opening c.args.script.now c.args.start.now c.in_ok-world.world c.run.new.self c.args.events.now
-    c.in_ok-world.ensures.script c.in_ok-world.ensures.start c.in_ok-world.ensures.opening c.run.ensures.run in
+    let run = from_opening c.args.script.now c.args.start.now c.in_ok-world.world c.run.new.self
+    c.args.events.now
+    c.in_ok-world.ensures.script c.in_ok-world.ensures.start c.in_ok-world.ensures.opening c.run.ensures.run
+    in
     let reached : IsReached g w = (c.args.events.now, run) in
     record {
       run = run;

@@ -1,5 +1,5 @@
 use Rattle.std.proofs.Common.{◌≡◌, ◌≤◌, length, map, vec_capacity}
-use Rattle.dr_machine.specs.Program.{end_of}
+use Rattle.dr_program.specs.Program.{end_of}
 use Rattle.dr_sim.proofs.age.ends_of.Given as goal
 
 abbrev pub invariant-loop-member : goal.invariant-loop-member

@@ -1,5 +1,5 @@
 use Rattle.std.proofs.Common.{◌≡◌}
-use Rattle.dr_machine.specs.Schedule.{going}
+use Rattle.dr_program.specs.Schedule.{going}
 use Rattle.dr_sim.specs.Sound.{IsSound, all_left}
 use Rattle.dr_sim.proofs.Choices.{HasChosen}
 use Rattle.dr_sim.proofs.simulation.Simulation.run_seeded.Given as goal

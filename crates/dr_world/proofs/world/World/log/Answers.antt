@@ -4,5 +4,7 @@ use Rattle.dr_world.proofs.world.World.log.Goals as goal
 
 pub slice_bounds-result-end : goal.slice_bounds-result-end
 slice_bounds-result-end c =
-    let form = c.replica-replica.ensures.members.form c.args.m c.replica-replica.result.now c.replica-replica.ensures.replica in
-    sym (length-take-le c.logged.result c.history.result.now (omega (arith, form.logged, c.logged.ensures, ap length c.history.ensures)))
+    let form = c.replica-replica.ensures.members.form c.args.m c.replica-replica.result.now
+    c.replica-replica.ensures.replica in
+    sym (length-take-le c.logged.result c.history.result.now
+    (omega (arith, form.logged, c.logged.ensures, ap length c.history.ensures)))

@@ -14,8 +14,10 @@ both : (c : goal.In_ok-vec) → let w = held_of (record {
   table = c.in_ok-vec.field-0;
 }) in IsHeld w × (its_world w ≡ opening_world (group_of c.args.script.now c.args.start.now))
 both c = opened c.args.script.now c.args.start.now _ c.words.result
-    c.in_ok-copy_script.ensures c.in_ok-copy.ensures c.requires.group (sym c.requires.ranges.lists) c.in_ok-replicas_of.ensures
-    (c.words.ensures ∙ (λ z. words_of (c.shape_of.ensures.members z) (c.shape_of.ensures.window z) (c.shape_of.ensures.banks z)))
+    c.in_ok-copy_script.ensures c.in_ok-copy.ensures c.requires.group
+    (sym c.requires.ranges.lists) c.in_ok-replicas_of.ensures
+    (c.words.ensures ∙ (λ z. words_of (c.shape_of.ensures.members z) (c.shape_of.ensures.window z)
+    (c.shape_of.ensures.banks z)))
     (c.in_ok-vec.ensures.items_if_clones_equal (λ y e. e))
 
 pub invariant_of-result : goal.invariant_of-result

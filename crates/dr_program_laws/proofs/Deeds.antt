@@ -1,0 +1,246 @@
+-- A deed leads a member from where it stands so to where it does again.
+use Rattle.std.proofs.Common.{◌≡◌, refl, sym, ap, ◌∙◌, subst, ℕ, ◌-◌, Bool, true, false, ◌==◌, ◌||◌, not, List, length, arith}
+use Rattle.std.specs.Prelude.{Any, None, slice_index_or}
+use Rattle.std.specs.List.{list_any}
+use Rattle.std.proofs.lemmas.Bool.{and_parts}
+use Rattle.std.proofs.lemmas.Bool.Decides.{nat_tests}
+use Rattle.std.proofs.lemmas.List.Folds.{Any-from_list_any}
+use Rattle.dr_machine.specs.declared.event.Act.TheVariants as acts
+use Rattle.dr_program.specs.declared.outcome.Outcome.{Outcome}
+use Rattle.dr_program.specs.declared.outcome.Outcome.TheVariants as outcomes
+use Rattle.dr_program.specs.declared.setup.CrashPoint.{CrashPoint}
+use Rattle.dr_program.specs.declared.setup.Setup.{Setup}
+use Rattle.dr_program.specs.declared.place.Part.{Part}
+use Rattle.dr_program.specs.declared.place.Part.TheVariants as parts
+use Rattle.dr_program.specs.declared.place.TheConstants.{TURN}
+use Rattle.dr_program.specs.Form.{IsRunningMember}
+use Rattle.dr_program.specs.Program.{after_deed, next_sight}
+use Rattle.dr_program.specs.Running.{Running, asks, begun_running, columns, crashes_now, is_at_push, is_in_turn, members, next_step, push_or_crash, pushes_after, step_at, goes}
+use Rattle.dr_program.specs.Steps.{allows, stepped}
+use Rattle.dr_program.specs.Turn.{after, part_of, turn_begins}
+use Rattle.dr_program.proofs.Runs.{after_ok}
+use Rattle.dr_turn.specs.Search.{IsUnderway}
+use Rattle.dr_turn.proofs.Deeds.{first_part}
+use Rattle.dr_turn.proofs.Order.{all_below, each_below}
+use Rattle.dr_program_laws.specs.Ended.{IsBeforeCrash}
+use Rattle.dr_program_laws.proofs.Standing.{IsProper, Stands, goes_on, is_crash, is_late, next_turn, settled_stands}
+
+-- ---- crash points
+
+named_at_push : (points : List CrashPoint) (turns push : ℕ) → list_any (is_at_push turns push) points
+    ≡ true → Any (λ (c : CrashPoint). c.turn ≡ turns) points
+named_at_push points turns push e = by (Any-from_list_any (is_at_push turns push) points e)
+  where
+    by : Any (λ (c : CrashPoint). is_at_push turns push c ≡ true) points
+        → Any (λ (c : CrashPoint). c.turn ≡ turns) points
+    by (k, c, within, there, is) = (k, c, within, there, grind (arith, nat_tests, is))
+
+named_in_turn : (points : List CrashPoint) (turns : ℕ) → list_any (is_in_turn turns) points ≡ true
+    → Any (λ (c : CrashPoint). c.turn ≡ turns) points
+named_in_turn points turns e = by (Any-from_list_any (is_in_turn turns) points e)
+  where
+    by : Any (λ (c : CrashPoint). is_in_turn turns c ≡ true) points
+        → Any (λ (c : CrashPoint). c.turn ≡ turns) points
+    by (k, c, within, there, is) = (k, c, within, there, grind (arith, nat_tests, is))
+
+spent_at : (limit turns : ℕ) → (turns == limit) ≡ true → turns ≡ limit
+spent_at limit turns e = grind (arith, nat_tests, e)
+
+-- ---- parts of the turn
+
+-- what is known of a member as its deed is due
+record IsDue (r : Running) (part : Part) : Type 0 where
+  at : part_of r.place ≡ part
+  member : IsRunningMember r
+  none : r.replica.end ≡ None
+  asked : asks r part r.place.row r.place.column ≡ true
+
+-- each end that a part comes to, but by the part of its own, is a fault of the turn
+abbrev is_end : Part → Bool
+is_end (parts.Do (acts.Halt end)) = true
+is_end (parts.Do (acts.Crash end)) = true
+is_end part = false
+
+no_end : (r : Running) (part : Part) → IsDue r part → is_end part ≡ true → ⊥
+unfolding all_below
+no_end r part d e =
+    absurd (cc (
+      each_below (length TURN) r.place.part
+          (λ i. not (is_end (slice_index_or TURN i turn_begins))) refl d.member.place.part,
+      ap is_end d.at,
+      e,
+    ))
+
+-- the part before the one that goes back
+abbrev goes_back : Part → Bool
+goes_back (parts.Do acts.Publish) = true
+goes_back part = false
+
+early_before : (r : Running) (part : Part) → IsDue r part → goes_back part ≡ true
+    → is_late (slice_index_or TURN (r.place.part - 1) turn_begins) ≡ false
+unfolding all_below
+early_before r part d e =
+    let back : goes_back (slice_index_or TURN r.place.part turn_begins)
+    ≡ true = ap goes_back d.at ∙ e in
+    implied _ _ (each_below (length TURN) r.place.part
+    (λ i. not (goes_back (slice_index_or TURN i turn_begins))
+    || not (is_late (slice_index_or TURN (i - 1) turn_begins))) refl d.member.place.part) back
+  where
+    implied : (a b : Bool) → (not a || not b) ≡ true → a ≡ true → b ≡ false
+    implied true true t e = absurd (cc)
+    implied true false t e = refl
+    implied false b t e = absurd (cc)
+
+-- ---- one deed
+
+-- the member is ahead of its crash at the next place, where its part is not the end of one that was to crash
+onward : (limit : ℕ) (points : List CrashPoint) (r : Running) (part : Part) → IsDue r part
+    → is_crash part ≡ false → Stands limit points r
+    → is_late (part_of (after (members r) (columns r) r.place)) ≡ true
+    → IsBeforeCrash points r.replica.turns
+onward limit points r part d other v late =
+    goes_on limit points r v (λ here. absurd (cc (ap is_crash d.at, here, other))) late
+
+-- the member after the deed of this part
+abbrev done_at : ℕ → Running → Part → Running
+done_at word r part = record r {
+  replica = stepped word r.replica (step_at r part r.place.row r.place.column);
+  place = goes (members r) (columns r) part r.place;
+  pushes = pushes_after r.pushes (step_at r part r.place.row r.place.column);
+}
+
+-- a push, or the crash in its place, leaves a member standing as it should
+push_keeps : (limit : ℕ) (points : List CrashPoint) (word : ℕ) (r : Running) → IsDue r parts.Push
+    → Stands limit points r → Stands limit points (done_at word r parts.Push)
+push_keeps limit points word r d v = by (crashes_now r) refl
+  where
+    by : (b : Bool) → crashes_now r ≡ b
+        → Stands limit points (record r {
+          replica = stepped word r.replica
+              (push_or_crash b r.place.row r.place.column);
+          place = after (members r) (columns r) r.place;
+          pushes = pushes_after r.pushes
+              (push_or_crash b r.place.row r.place.column);
+        })
+    by true e = record {
+      limited = v.limited;
+      planned = v.planned;
+      later = v.later;
+      ahead = onward limit points r parts.Push d refl v;
+      proper = named_at_push points r.replica.turns r.pushes
+          (ap (list_any (is_at_push r.replica.turns r.pushes)) (sym v.planned) ∙ e);
+    }
+    by false e = record {
+      limited = v.limited;
+      planned = v.planned;
+      later = v.later;
+      ahead = onward limit points r parts.Push d refl v;
+      proper = v.proper;
+    }
+
+-- so does a beat, with which a turn begins
+beat_keeps : (limit : ℕ) (points : List CrashPoint) (word : ℕ) (r : Running)
+    → IsDue r (parts.Do acts.Beat) → Stands limit points r
+    → Stands limit points (done_at word r (parts.Do acts.Beat))
+beat_keeps limit points word r d v = record {
+  limited = v.limited;
+  planned = v.planned;
+  later = next_turn points r.replica.turns (v.ahead (ap is_late d.at));
+  ahead = λ late. absurd (cc (ap is_late (first_part r underway d.at), late));
+  proper = subst (IsProper limit points _) (sym d.none) tt;
+}
+  where
+    underway : IsUnderway r
+    underway = record {
+      replica = d.member.replica;
+      place = d.member.place;
+      turns = d.member.turns;
+      left = d.member.left;
+    }
+
+deed_keeps : (limit : ℕ) (points : List CrashPoint) (word : ℕ) (r : Running) (part : Part)
+    → IsDue r part → Stands limit points r → Stands limit points (done_at word r part)
+deed_keeps limit points word r parts.Look d v =
+    record {
+      limited = v.limited;
+      planned = v.planned;
+      later = v.later;
+      ahead = onward limit points r parts.Look d refl v;
+      proper = v.proper;
+    }
+deed_keeps limit points word r parts.Append d v =
+    record {
+      limited = v.limited;
+      planned = v.planned;
+      later = v.later;
+      ahead = onward limit points r parts.Append d refl v;
+      proper = v.proper;
+    }
+deed_keeps limit points word r parts.Push d v = push_keeps limit points word r d v
+deed_keeps limit points word r (parts.Do acts.Beat) d v = beat_keeps limit points word r d v
+deed_keeps limit points word r (parts.Do acts.Publish) d v =
+    record {
+      limited = v.limited;
+      planned = v.planned;
+      later = v.later;
+      ahead = λ late. absurd (cc (early_before r (parts.Do acts.Publish) d refl, late));
+      proper = v.proper;
+    }
+deed_keeps limit points word r (parts.Do (acts.Halt end)) d v =
+    absurd (no_end r (parts.Do (acts.Halt end)) d refl)
+deed_keeps limit points word r (parts.Do (acts.Crash end)) d v =
+    absurd (no_end r (parts.Do (acts.Crash end)) d refl)
+deed_keeps limit points word r parts.Crash d v = record {
+  limited = v.limited;
+  planned = v.planned;
+  later = v.later;
+  ahead = v.ahead;
+  proper = named_in_turn points r.replica.turns
+      (ap (list_any (is_in_turn r.replica.turns)) (sym v.planned) ∙ d.asked);
+}
+deed_keeps limit points word r parts.Done d v =
+    record {
+      limited = v.limited;
+      planned = v.planned;
+      later = v.later;
+      ahead = v.ahead;
+      proper = v.ahead (ap is_late d.at);
+    }
+deed_keeps limit points word r parts.Spent d v =
+    let last : r.replica.turns ≡ limit = spent_at r.limit r.replica.turns d.asked ∙ v.limited in
+    record {
+      limited = v.limited;
+      planned = v.planned;
+      later = v.later;
+      ahead = v.ahead;
+      proper = (last, last, v.ahead (ap is_late d.at));
+    }
+deed_keeps limit points word r part d v =
+    record { limited = v.limited; planned = v.planned; later = v.later; ahead = v.ahead; proper = v.proper }
+
+-- the member's next deed, however its append goes
+pub deed_stands : (limit : ℕ) (points : List CrashPoint) (table : List ℕ) (o : Outcome) (r : Running)
+    → IsRunningMember r → r.replica.end ≡ None → Stands limit points r
+    → Stands limit points (after_deed (next_sight table r) o r (next_step r))
+deed_stands limit points table outcomes.Ok r member none v =
+    subst (Stands limit points) (sym (after_ok table r (next_step r)))
+    (settled_stands limit points (done_at (next_sight table r) r (part_of r.place))
+    (deed_keeps limit points (next_sight table r) r (part_of r.place) (record {
+      at = refl;
+      member = member;
+      none = none;
+      asked = (and_parts (asks r (part_of r.place) r.place.row r.place.column)
+          (allows r.replica (next_step r)) (member.due none)).0;
+    }) v))
+
+-- ---- the beginning
+
+-- a member that has begun stands as its setup lets it
+pub begins : (s : Setup) → Stands s.turns s.crashes (begun_running s)
+begins s = record {
+  limited = refl;
+  planned = refl;
+  later = λ k d within some. omega arith;
+  ahead = λ late k d within some. some;
+  proper = tt;
+}

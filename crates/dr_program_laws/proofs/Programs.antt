@@ -1,0 +1,77 @@
+-- The members of a program stand so after any deeds.
+use Rattle.std.proofs.Common.{◌≡◌, refl, sym, ap, ◌∙◌, subst, ℕ, ◌≤◌, inl, inr, List, [], ◌∷◌}
+use Rattle.std.specs.Prelude.{Option, None, Some, is_some, slice_get, slice_set, option_map}
+use Rattle.std.proofs.lemmas.Bool.{cases_eq}
+use Rattle.std.proofs.lemmas.Option.{slice_get-map, slice_get_within, same_Some}
+use Rattle.dr_entry.specs.declared.end.End.{End}
+use Rattle.dr_machine.specs.Group.{Group, IsGroup}
+use Rattle.dr_machine.specs.Run.{IsReached}
+use Rattle.dr_program.specs.declared.setup.Setup.{Setup}
+use Rattle.dr_program.specs.Program.{AreSetups, Move, Program, after_deed, begun_program, moved_by, next_sight, ran, step_of}
+use Rattle.dr_program.specs.Reading.{world}
+use Rattle.dr_program.specs.Running.{Running, begun_running, next_step}
+use Rattle.dr_program.specs.Steps.{stored}
+use Rattle.dr_program.proofs.Holdings.{replica_set, replica_kept}
+use Rattle.dr_refine.specs.Programs.{IsProgram}
+use Rattle.dr_refine.proofs.Deeds.{rest_changes_nothing, step_is}
+use Rattle.dr_refine.proofs.Steps.{begun_is_program}
+use Rattle.dr_program_laws.proofs.Deeds.{begins, deed_stands}
+use Rattle.dr_program_laws.proofs.Keeping.{begun_reached, move_kept}
+use Rattle.dr_program_laws.proofs.Standing.{Stands}
+
+-- each member stands as its setup wants
+abbrev pub AllStand : List Setup → Program → Type 0
+AllStand setups p = (m : ℕ) (s : Setup) (r : Running) → slice_get setups m ≡ Some s
+    → slice_get p.members m ≡ Some r → Stands s.turns s.crashes r
+
+begun_stands : (g : Group) (setups : List Setup) → AllStand setups (begun_program g setups)
+begun_stands g setups m s r there is =
+    let same : option_map begun_running (Some s) ≡ Some r = ap (option_map begun_running) (sym there)
+    ∙ (sym (slice_get-map begun_running setups m) ∙ is) in
+    subst (Stands s.turns s.crashes) (same_Some (begun_running s) r same) (begins s)
+
+-- one member is replaced by one that stands as its setup wants
+replaced_stands : (setups : List Setup) (p : Program) (m : ℕ) (x y : Running) (table : List ℕ)
+    → AllStand setups p → slice_get p.members m ≡ Some x
+    → ((s : Setup) → slice_get setups m ≡ Some s → Stands s.turns s.crashes y)
+    → AllStand setups (record { members = slice_set p.members m y; table = table })
+replaced_stands setups p m x y table all at stands k s r there is = elim (cases_eq k m) [
+  | inl same ↦ subst (Stands s.turns s.crashes)
+      (same_Some y r (sym (replica_set p.members m y (slice_get_within p.members m x at))
+      ∙ rw same at is)) (stands s (rw same at there))
+  | inr other ↦ all k s r there (sym (replica_kept p.members m k y other) ∙ is)
+]
+
+move_stands : (g : Group) (setups : List Setup) (p : Program) (e : Move) → IsProgram g p
+    → AllStand setups p → AllStand setups (step_of p e)
+move_stands g setups p e is all = by (slice_get p.members e.member) refl
+  where
+    at : (r : Running) → slice_get p.members e.member ≡ Some r → (o : Option End) → r.replica.end
+        ≡ o → AllStand setups (step_of p e)
+    at r there (Some x) ended = subst (AllStand setups)
+        (sym (rest_changes_nothing p e r there (ap is_some ended))) all
+    at r there None unended =
+        subst (AllStand setups) (sym (step_is p e r there unended))
+        (replaced_stands setups p e.member r (after_deed (next_sight p.table r) e.outcome r (next_step r))
+        (stored p.table r.replica (next_step r)) all there
+        (λ s setup. deed_stands s.turns s.crashes p.table e.outcome r (is.form e.member r there) unended
+        (all e.member s r setup there)))
+
+    by : (o : Option Running) → slice_get p.members e.member ≡ o → AllStand setups (step_of p e)
+    by None none = subst (AllStand setups) (sym (ap (λ o. moved_by p o e) none)) all
+    by (Some r) there = at r there r.replica.end refl
+
+ran_stands : (g : Group) (setups : List Setup) (p : Program) (es : List Move) → IsGroup g
+    → IsProgram g p → IsReached g (world g p) → AllStand setups p → AllStand setups (ran p es)
+unfolding ran
+ran_stands g setups p [] group is run all = all
+ran_stands g setups p (e ∷ es) group is run all =
+    let kept = move_kept g p e group is run in
+    ran_stands g setups (step_of p e) es group kept.0 kept.1 (move_stands g setups p e is all)
+
+-- after any moves each member stands as its setup lets it
+pub all_stand : (g : Group) (turns : ℕ) (setups : List Setup) (es : List Move) → IsGroup g → 1
+    ≤ turns → AreSetups g turns setups → AllStand setups (ran (begun_program g setups) es)
+all_stand g turns setups es group some are =
+    ran_stands g setups (begun_program g setups) es group (begun_is_program g turns setups group some are)
+    (begun_reached g turns setups group are) (begun_stands g setups)

@@ -1,0 +1,111 @@
+-- The ends of a program's members in the world that it is.
+use Rattle.std.proofs.Common.{◌≡◌, refl, sym, ap, ◌∙◌, subst, ℕ, ◌<◌, ◌≤◌, ◌==◌, if◌then◌else◌, All, List, [], length, map, take, arith}
+use Rattle.std.specs.Prelude.{Option, None, Some, slice_get, option_map}
+use Rattle.std.specs.Option.{option_map_or}
+use Rattle.std.proofs.lemmas.List.{length-map}
+use Rattle.std.proofs.lemmas.Option.{get_or_from_slice_get, slice_get-map}
+use Rattle.std.proofs.lemmas.Bool.Decides.{nat_tests}
+use Rattle.dr_entry.specs.declared.end.MemberEnd.{MemberEnd}
+use Rattle.dr_history.specs.History.{items_in, sent_of}
+use Rattle.dr_history.specs.Agreement.{EndsAgreed, accounts_of}
+use Rattle.dr_history_laws.proofs.Lists.{slice_get-some}
+use Rattle.dr_machine.specs.Group.{Group, IsGroup, roster}
+use Rattle.dr_machine.specs.World.{opening_world}
+use Rattle.dr_program.specs.Replica.{Replica}
+use Rattle.dr_program.specs.Running.{Running}
+use Rattle.dr_program.specs.Program.{Program, end_of}
+use Rattle.dr_program.specs.Reading.{in_view, of_member, world}
+use Rattle.dr_machine.specs.Run.{IsReached}
+use Rattle.dr_refine.specs.Programs.{IsProgram}
+use Rattle.dr_world_laws.proofs.Agreeing.{AreAccounts, agreed-by}
+use Rattle.dr_world_laws.proofs.Reached.{known}
+use mathlib.Core.Path.{fun_ext}
+
+-- the ends of the members
+abbrev pub ends_of : Program → List MemberEnd
+ends_of p = map end_of p.members
+
+-- the replicas of the members
+abbrev pub replicas_of : Program → List Replica
+replicas_of p = map (λ (r : Running). r.replica) p.members
+
+-- what a member of the program has of something, in the world
+pub of_there : {A : Type 0} (p : Program) (f : Replica → A) (opening : ℕ → A) (m : ℕ) (r : Running)
+    → slice_get p.members m ≡ Some r
+    → of_member (replicas_of p) f opening m ≡ f r.replica
+of_there p f opening m r there =
+    ap (λ o. option_map_or f o (opening m))
+    (slice_get-map (λ (x : Running). x.replica) p.members m
+    ∙ ap (option_map (λ (x : Running). x.replica)) there)
+
+-- ---- what was sent
+
+same_test : (a b : ℕ) → (a == b) ≡ (b == a)
+same_test a b = grind (arith, nat_tests)
+
+sent_there : (r : Running) (v : ℕ) → in_view r.replica v r.replica.sent [] ≡ items_in v (end_of r).sent
+sent_there r v = ap (λ b. if b then r.replica.sent else []) (same_test v r.replica.view)
+
+-- what was sent in the world of a program is what the ends of its members say
+pub world_sent : (g : Group) (p : Program) → (world g p).past.sent ≡ sent_of (ends_of p)
+world_sent g p = fun_ext λ m. fun_ext λ v. by m v (slice_get p.members m) refl
+  where
+    by : (m v : ℕ) (o : Option Running) → slice_get p.members m ≡ o → (world g p).past.sent m v
+        ≡ sent_of (ends_of p) m v
+    by m v None e = rw (
+      slice_get-map (λ (x : Running). x.replica) p.members m,
+      slice_get-map end_of p.members m,
+      e,
+    ) refl
+    by m v (Some r) e = rw (
+      slice_get-map (λ (x : Running). x.replica) p.members m,
+      slice_get-map end_of p.members m,
+      e,
+    ) (sent_there r v)
+
+-- ---- what else they have done
+
+-- what the end of a member tells
+of_end : {A : Type 0} (p : Program) (f : MemberEnd → A) (none : A) (m : ℕ) (r : Running)
+    → slice_get p.members m ≡ Some r
+    → option_map_or f (slice_get (ends_of p) m) none ≡ f (end_of r)
+of_end p f none m r there = ap (λ o. option_map_or f o none)
+    (slice_get-map end_of p.members m ∙ ap (option_map end_of) there)
+
+-- the ends tell what the members have done in the world
+are_accounts : (g : Group) (p : Program) → length p.members ≡ roster g
+    → AreAccounts g (world g p) (accounts_of (ends_of p))
+are_accounts g p all = record {
+  sent = sym (world_sent g p);
+  history = λ m l. let x = at m l in
+      of_end p (λ e. e.history) [] m x.0 x.1
+      ∙ sym (of_there p (λ r. r.history) (opening_world g).past.history m x.0 x.1);
+  log = λ m l. let x = at m l in
+      of_end p (λ e. take e.logged e.history) [] m x.0 x.1
+      ∙ sym (of_there p (λ r. take r.logged r.history) (opening_world g).past.log m x.0 x.1);
+  durable = λ m l. let x = at m l in
+      of_end p (λ e. e.durable) 0 m x.0 x.1
+      ∙ sym (of_there p (λ r. r.durable) (opening_world g).past.durable m x.0 x.1);
+}
+  where
+    at : (m : ℕ) → m < roster g → (r : Running) × (slice_get p.members m ≡ Some r)
+    at m l = slice_get-some p.members m (omega (arith, l, all))
+
+-- nobody has logged more than it has delivered
+all_told : (g : Group) (p : Program) → IsProgram g p
+    → All (λ (e : MemberEnd). e.logged ≤ length e.history) (ends_of p)
+all_told g p program k none within =
+    let x = slice_get-some p.members k (omega (arith, within, length-map p.members end_of)) in
+    let told = get_or_from_slice_get (ends_of p) k (end_of x.0) none
+    (slice_get-map end_of p.members k ∙ ap (option_map end_of) x.1) in
+    subst (λ (e : MemberEnd). e.logged ≤ length e.history) (sym told)
+    (program.form k x.0 x.1).replica.logged
+
+-- so the members agree, as their ends tell
+pub ends_agreed : (g : Group) (p : Program) → IsGroup g → IsProgram g p → IsReached g (world g p)
+    → EndsAgreed g.opening (ends_of p)
+ends_agreed g p is program run = record {
+  told = all_told g p program;
+  agreed = agreed-by g (world g p) (accounts_of (ends_of p)) is (known g (world g p) is run)
+      (are_accounts g p program.all);
+}

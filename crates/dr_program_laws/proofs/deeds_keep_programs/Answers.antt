@@ -1,0 +1,11 @@
+use Rattle.dr_program_laws.proofs.Keeping.{deeds_kept, move_kept, sees}
+use Rattle.dr_program_laws.proofs.deeds_keep_programs.Goals as goal
+
+pub returns-clause-deeds : goal.returns-clause-deeds
+returns-clause-deeds c = deeds_kept
+
+pub returns-clause-deed : goal.returns-clause-deed
+returns-clause-deed c = move_kept
+
+pub returns-clause-sight : goal.returns-clause-sight
+returns-clause-sight c = sees

@@ -1,0 +1,86 @@
+//! What is certain of a program of a group, in whatever order its members take their deeds: it stays in
+//! worlds that are reached, the histories of its members agree, and each member ends as it should.
+//!
+//! That histories agree comes from `dr_world_laws`, for every world that is reached; this crate says it of
+//! the
+//! ends of a program's members. `docs/PROOFS.md` shows how.
+#![tactic(auto)]
+
+ghost use Rattle.std.specs.Prelude.{◌≡◌, ℕ, ◌≤◌, List, length, map, slice_get, Some};
+ghost use Rattle.dr_history.specs.Agreement.{EndsAgreed};
+ghost use Rattle.dr_machine.specs.declared.step.Step.TheVariants.{Look};
+ghost use Rattle.dr_machine.specs.Group.{Group, IsGroup};
+ghost use Rattle.dr_machine.specs.Run.{IsReached};
+ghost use Rattle.dr_program.specs.declared.setup.CrashPoint.{CrashPoint};
+ghost use Rattle.dr_program.specs.declared.setup.Setup.{Setup};
+ghost use Rattle.dr_program.specs.Program.{AllEnded, AreSetups, IsRanFrom, Move, Program, begun_program, end_of, next_sight, ran, step_of};
+ghost use Rattle.dr_program.specs.Reading.{step_of_member, world};
+ghost use Rattle.dr_program.specs.Running.{Running};
+ghost use Rattle.dr_program.specs.Schedule.{IsLockstep, IsSeeded};
+ghost use Rattle.dr_program.specs.Sight.{MaySee};
+ghost use Rattle.dr_refine.specs.Programs.{IsProgram};
+ghost use Rattle.dr_restart.specs.declared.start.Start.{Start};
+ghost use Rattle.dr_restart.specs.Groups.{group_of};
+ghost use Rattle.dr_restart.specs.Setups.{IsBegun, crashes_of};
+ghost use Rattle.dr_script.specs.declared.script.Script.{Script};
+ghost use Rattle.dr_program_laws.specs.Ended.{HaveEnded};
+
+/// Deeds keep a program: whatever deeds its members have taken, and in whatever order, it is one of its
+/// group still, in a world that is reached. A look then finds a word that its member may see.
+pub fn deeds_keep_programs()
+    ensures deeds { (g : Group) (turns : ℕ) (setups : List Setup) (p : Program)
+        → IsGroup g → 1 ≤ turns → AreSetups g turns setups
+        → IsRanFrom (begun_program g setups) p → IsProgram g p × IsReached g (world g p) }
+    ensures deed { (g : Group) (p : Program) (e : Move) → IsGroup g → IsProgram g p
+        → IsReached g (world g p)
+        → IsProgram g (step_of p e) × IsReached g (world g (step_of p e)) }
+    ensures sight { (g : Group) (p : Program) (m : ℕ) (r : Running) (i c : ℕ)
+        → IsGroup g → IsProgram g p → IsReached g (world g p)
+        → slice_get p.members m ≡ Some r → step_of_member r ≡ Some (Look i c)
+        → MaySee r (step_of_member r) (next_sight p.table r) }
+{}
+
+/// The program of an age begins as one of its group, in a world that is reached. Each schedule takes the
+/// deeds that it names, one after the other.
+pub fn ages_take_deeds()
+    ensures form { (script : Script) (start : Start) (nth : ℕ) (begun : Program)
+        → IsGroup (group_of script start) → length script.messages ≡ script.members → 1
+        ≤ script.turns → IsBegun script start nth begun
+        → IsProgram (group_of script start) begun }
+    ensures reached { (script : Script) (start : Start) (nth : ℕ) (begun : Program)
+        → IsGroup (group_of script start) → length script.messages ≡ script.members
+        → IsBegun script start nth begun
+        → IsReached (group_of script start) (world (group_of script start) begun) }
+    ensures lockstep { (begun : Program) (es : List Move) (p : Program) → IsLockstep begun es p → p
+        ≡ ran begun es }
+    ensures seeded { (seed : ℕ) (begun : Program) (es : List Move) (p : Program)
+        → IsSeeded seed begun es p → p ≡ ran begun es }
+{}
+
+/// Whenever the members of a program stop, whatever deeds they took, what they have delivered agrees.
+pub fn ends_agree()
+    ensures { (g : Group) (turns : ℕ) (setups : List Setup) (p : Program)
+        → IsGroup g → 1 ≤ turns → AreSetups g turns setups
+        → IsRanFrom (begun_program g setups) p → EndsAgreed g.opening (map end_of p.members) }
+{}
+
+/// Members that have all ended have ended as they should, each by its setup: done, with everything, or
+/// with all turns spent, or crashed where its setup says. It holds whatever deeds they took, and in whatever
+/// order.
+pub fn members_end_as_they_should()
+    ensures { (g : Group) (turns : ℕ) (setups : List Setup) (points : ℕ → List CrashPoint) (p : Program)
+        → IsGroup g → 1 ≤ turns → AreSetups g turns setups
+        → ((m : ℕ) (s : Setup) → slice_get setups m ≡ Some s → s.crashes ≡ points m)
+        → IsRanFrom (begun_program g setups) p → AllEnded p
+        → HaveEnded g.opening turns points (map end_of p.members) }
+{}
+
+/// So it is in each age of a script, with the crashes that it gives for this age.
+pub fn members_end_as_their_script_says()
+    ensures { (script : Script) (start : Start) (nth : ℕ) (begun p : Program)
+        → IsGroup (group_of script start) → length script.messages ≡ script.members → 1
+        ≤ script.turns
+        → IsBegun script start nth begun → IsRanFrom begun p → AllEnded p
+        → HaveEnded (group_of script start).opening script.turns (crashes_of script.faults nth)
+        (map end_of p.members) }
+{}

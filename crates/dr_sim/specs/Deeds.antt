@@ -1,0 +1,31 @@
+-- The deeds that a simulation takes.
+use Rattle.std.specs.Prelude.{◌≡◌, ℕ, List, Option, None, Some}
+use Rattle.dr_entry.specs.declared.end.End.{End}
+use Rattle.dr_machine.specs.declared.step.Step.TheVariants.{Look}
+use Rattle.dr_program.specs.declared.outcome.Outcome.TheVariants.{Ok}
+use Rattle.dr_program.specs.Program.{after_deed, next_sight}
+use Rattle.dr_program.specs.Reading.{step_of_member}
+use Rattle.dr_program.specs.Running.{Running, next_step}
+use Rattle.dr_program.specs.Sight.{MaySee}
+use Rattle.dr_program.specs.Steps.{stored}
+
+-- where the next deed is a look, the member may see the word that stands there
+abbrev pub SeesWell : List ℕ → Running → Type 0
+SeesWell table r = (i c : ℕ) → step_of_member r ≡ Some (Look i c)
+    → MaySee r (step_of_member r) (next_sight table r)
+
+-- a member with this end after its next deed over the words of a table, where an append goes well
+abbrev pub went_well : List ℕ → Running → Option End → Running
+went_well table r None = after_deed (next_sight table r) Ok r (next_step r)
+went_well table r (Some end) = r
+
+abbrev pub member_after : List ℕ → Running → Running
+member_after table r = went_well table r r.replica.end
+
+-- the words of the table after the next deed of a member with this end
+abbrev pub stores : List ℕ → Running → Option End → List ℕ
+stores table r None = stored table r.replica (next_step r)
+stores table r (Some end) = table
+
+abbrev pub table_after : List ℕ → Running → List ℕ
+table_after table r = stores table r r.replica.end

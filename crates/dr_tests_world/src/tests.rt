@@ -1,0 +1,45 @@
+use dr_agree::{agree, agreed_run};
+use dr_entry::Entry;
+use dr_restart::first_start;
+use dr_script::read_script;
+use dr_world::Event;
+use std::test::Fail;
+
+/// Three members with one message each, and one slot.
+const SCRIPT: &[u8] = br#"{"members":3,"window":1,"turns":12,"patience":0,"ages":1,
+    "messages":[["a"],["b"],["c"]],"faults":[],"schedule":"lockstep"}"#;
+
+/// Member 0 puts its message, and member 1 takes it, by the head and the first body word of the slot.
+const SENT: [Event; 6] = [
+    Event::Send { m: 0 },
+    Event::Push { m: 0, j: 1, c: 12 },
+    Event::Push { m: 0, j: 1, c: 13 },
+    Event::Look { m: 1, i: 0, c: 12 },
+    Event::Look { m: 1, i: 0, c: 13 },
+    Event::Receive { m: 1, s: 0 },
+];
+
+/// Member 1 has the item of member 0, and may not deliver it before it knows that all others have it.
+#[test]
+fn an_item_that_one_member_took_is_not_delivered(rt: HostRuntime) -> Result<(), Fail> {
+    let script = read_script(rt.alloc(), SCRIPT)?;
+    let start = first_start(rt.alloc(), &script);
+    let mut world = agreed_run(rt.alloc(), &script, &start, &SENT)?;
+    assert!(rt; world.members() == 3);
+    assert!(rt; world.received(1, 0) == 1);
+    assert!(rt; !world.step(&Event::Deliver { m: 1 }));
+    for m in 0..world.members() {
+        assert!(rt;
+            matches!(
+                world.history(m),
+                [Entry::View {
+                    age: 0,
+                    number: 0,
+                    members: 7
+                }]
+            )
+        );
+    }
+    assert!(rt; agree(&world));
+    Ok(())
+}
