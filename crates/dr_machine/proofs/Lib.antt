@@ -1,3 +1,4 @@
 pub mod Runs
+pub mod Sending
 pub mod Presence
 pub mod Events

@@ -8,14 +8,15 @@ use Rattle.dr_machine.specs.declared.event.Event.{Event}
 use Rattle.dr_machine.specs.Events.{member_of, step_of}
 use Rattle.dr_machine.specs.Group.{Group}
 use Rattle.dr_machine.specs.World.{World}
-use Rattle.dr_machine.specs.Guards.{CanBeat, CanLook, CanPush, CanSend, CanReceive, CanDeliver, CanAppend, CanPublish, CanReport, CanMark, CanHalt, CanCrash}
-use Rattle.dr_machine.specs.Effects.{stamped, beats, looks, pushes, sends, receives, delivers, appends, publishes, reports, marks, ends}
+use Rattle.dr_machine.specs.Guards.{CanBeat, CanLook, CanPush, CanSend, CanNull, CanReceive, CanDeliver, CanAppend, CanPublish, CanReport, CanMark, CanHalt, CanCrash}
+use Rattle.dr_machine.specs.Effects.{stamped, beats, looks, pushes, sends, nulls, receives, delivers, appends, publishes, reports, marks, ends}
 
 -- the act may come
 abbrev pub CanDo : Group → World → ℕ → Act → Type 0
 CanDo g w m acts.Beat = CanBeat g w m
 CanDo g w m (acts.Receive s) = CanReceive g w m s
 CanDo g w m acts.Send = CanSend g w m
+CanDo g w m acts.Null = CanNull g w m
 CanDo g w m acts.Deliver = CanDeliver g w m
 CanDo g w m acts.Publish = CanPublish g w m
 CanDo g w m acts.Report = CanReport g w m
@@ -39,6 +40,7 @@ abbrev pub does : Group → World → ℕ → Act → World
 does g w m acts.Beat = beats w m
 does g w m (acts.Receive s) = receives g w m s
 does g w m acts.Send = sends g w m
+does g w m acts.Null = nulls g w m
 does g w m acts.Deliver = delivers w m
 does g w m acts.Publish = publishes w m
 does g w m acts.Report = reports w m

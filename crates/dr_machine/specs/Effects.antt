@@ -6,6 +6,7 @@ use Rattle.dr_entry.specs.declared.entry.Item.{Item}
 use Rattle.dr_entry.specs.declared.entry.Item.TheVariants.{Null, Text}
 use Rattle.dr_entry.specs.declared.end.End.{End}
 use Rattle.dr_entry.specs.declared.end.SentItem.{SentItem}
+use Rattle.dr_entry.specs.declared.end.SentItem.TheVariants as sent_items
 use Rattle.dr_entry.specs.declared.end.SentItem.TheVariants.{Index}
 use Rattle.dr_history.specs.Places.{front_of}
 use Rattle.dr_history.specs.History.{messages_of}
@@ -92,6 +93,9 @@ abbrev pub sends : Group → World → ℕ → World
 sends g w m =
     let index = next_index w m in
     puts g w m (Index index) (Text (slice_index_or (messages_of g.opening m) index []))
+
+abbrev pub nulls : Group → World → ℕ → World
+nulls g w m = puts g w m sent_items.Null Null
 
 -- the next item of s, as m has seen it
 abbrev pub next_item : Group → World → ℕ → ℕ → Item

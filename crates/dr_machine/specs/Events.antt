@@ -5,7 +5,7 @@ use Rattle.dr_machine.specs.declared.event.Act.TheVariants as acts
 use Rattle.dr_machine.specs.declared.step.Step.{Step}
 use Rattle.dr_machine.specs.declared.step.Step.TheVariants as steps
 use Rattle.dr_machine.specs.declared.event.Event.{Event}
-use Rattle.dr_machine.specs.declared.event.Event.TheVariants.{Beat, Look, Push, Send, Receive, Deliver, Append, Publish, Report, Mark, Halt, Crash}
+use Rattle.dr_machine.specs.declared.event.Event.TheVariants.{Beat, Look, Push, Send, Null, Receive, Deliver, Append, Publish, Report, Mark, Halt, Crash}
 
 -- the member that an event is of
 abbrev pub member_of : Event → ℕ
@@ -13,6 +13,7 @@ member_of (Beat m) = m
 member_of (Look m i c) = m
 member_of (Push m j c) = m
 member_of (Send m) = m
+member_of (Null m) = m
 member_of (Receive m s) = m
 member_of (Deliver m) = m
 member_of (Append m) = m
@@ -28,6 +29,7 @@ step_of (Beat m) = steps.Do acts.Beat
 step_of (Look m i c) = steps.Look i c
 step_of (Push m j c) = steps.Push j c
 step_of (Send m) = steps.Do acts.Send
+step_of (Null m) = steps.Do acts.Null
 step_of (Receive m s) = steps.Do (acts.Receive s)
 step_of (Deliver m) = steps.Do acts.Deliver
 step_of (Append m) = steps.Append
@@ -42,6 +44,7 @@ abbrev pub event_of : ℕ → Step → Event
 event_of m (steps.Do acts.Beat) = Beat m
 event_of m (steps.Do (acts.Receive s)) = Receive m s
 event_of m (steps.Do acts.Send) = Send m
+event_of m (steps.Do acts.Null) = Null m
 event_of m (steps.Do acts.Deliver) = Deliver m
 event_of m (steps.Do acts.Publish) = Publish m
 event_of m (steps.Do acts.Report) = Report m

@@ -1,5 +1,5 @@
 -- When each event may come.
-use Rattle.std.specs.Prelude.{◌≡◌, ◌≢◌, ⊤, ℕ, ◌+◌, ◌-◌, ◌<◌, ◌⊎◌, true, false, length, None}
+use Rattle.std.specs.Prelude.{◌≡◌, ◌≢◌, ⊤, ℕ, ◌+◌, ◌-◌, ◌<◌, ◌≤◌, ◌⊎◌, true, false, length, None}
 use Rattle.dr_entry.specs.declared.end.End.{End}
 use Rattle.dr_entry.specs.declared.end.End.TheVariants.{Done, Crashed, Suspected, Excluded, NoMajority, DiskFault, LogFull, Spent}
 use Rattle.dr_history.specs.Members.{has}
@@ -70,6 +70,18 @@ pub record CanSend (g : Group) (w : World) (m : ℕ) : Type 0 where
   -- a message is left
   pub left : next_index w m < length (messages_of g.opening m)
   pub room : HasRoom g w m (count_of w m m)
+
+-- m has more items of some sender than it has put itself
+abbrev pub IsBehind : World → ℕ → Type 0
+IsBehind w m = (s : ℕ) × (count_of w m m < count_of w m s)
+
+pub record CanNull (g : Group) (w : World) (m : ℕ) : Type 0 where
+  pub may : MayChoose g w m
+  pub unwedged : IsUnwedged w m
+  -- no message is left
+  pub none_left : length (messages_of g.opening m) ≤ next_index w m
+  pub room : HasRoom g w m (count_of w m m)
+  pub behind : IsBehind w m
 
 -- the words that m has seen of the slot of item k in the row of s
 abbrev pub seen_slot : Group → World → ℕ → ℕ → ℕ → ℕ → ℕ

@@ -13,6 +13,8 @@ pub enum Act {
     Receive { sender: u8 },
     /// It puts its next message.
     Send,
+    /// It fills its next place with a null.
+    Null,
     /// It delivers its next place.
     Deliver,
     /// Its logged word follows its log.
@@ -39,6 +41,8 @@ pub enum Event {
     Push { m: u8, j: u8, c: usize },
     /// It puts its next message.
     Send { m: u8 },
+    /// It fills its next place with a null.
+    Null { m: u8 },
     /// It takes the next item of member `s`.
     Receive { m: u8, s: u8 },
     /// It delivers its next place.
@@ -67,6 +71,7 @@ impl Event {
             | Event::Look { m, .. }
             | Event::Push { m, .. }
             | Event::Send { m }
+            | Event::Null { m }
             | Event::Receive { m, .. }
             | Event::Deliver { m }
             | Event::Append { m }
@@ -87,6 +92,7 @@ impl Event {
             Event::Look { i, c, .. } => Step::Look { row: i, column: c },
             Event::Push { j, c, .. } => Step::Push { to: j, column: c },
             Event::Send { .. } => Step::Do(Act::Send),
+            Event::Null { .. } => Step::Do(Act::Null),
             Event::Receive { s, .. } => Step::Do(Act::Receive { sender: s }),
             Event::Deliver { .. } => Step::Do(Act::Deliver),
             Event::Append { .. } => Step::Append,
