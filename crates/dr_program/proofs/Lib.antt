@@ -4,3 +4,4 @@ pub mod Holdings
 pub mod OwnWords
 pub mod Opening
 pub mod OpeningForm
+pub mod Least

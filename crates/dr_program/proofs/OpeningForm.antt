@@ -1,6 +1,6 @@
 -- The members of a program as its age opens have their form.
 use Rattle.std.proofs.Common.{◌≡◌, ◌≢◌, refl, sym, ap, ◌∙◌, subst, ℕ, zero, suc, ◌+◌, ◌*◌, ◌<◌, ◌≤◌, ◌⊎◌, inl, inr, false, max, List, [], ◌∷◌, ◌++◌, length, replicate, map, fold, take, if◌then◌else◌, arith, length-append, add-one}
-use Rattle.std.specs.Prelude.{Option, Some, None, nat_lt, slice_get, slice_index, slice_index_or}
+use Rattle.std.specs.Prelude.{Option, Some, None, nat_lt, slice_get, slice_index}
 use Rattle.std.specs.List.{range_with_len}
 use Rattle.std.proofs.lemmas.Bool.{cases_lt, cases_eq}
 use Rattle.std.proofs.lemmas.List.{length-replicate, get_or_past, take_more}
@@ -206,8 +206,11 @@ begun_in_form s can =
       short = can.short;
       bytes = can.bytes;
       put = sym (none s.me);
-      named = refl;
-      left = omega (arith, can.base);
+      order = record {
+        index = λ k l. absurd (omega (arith, l));
+        left = omega (arith, can.base);
+        nulls = λ l. absurd (omega (arith, l));
+      };
       logged = omega arith;
       room = omega (arith, one, can.banks, inside);
       small = let product = product_within (greatest r.totals) n most few in

@@ -2,13 +2,14 @@
 use Rattle.std.specs.Prelude.{◌&&◌, nat_lt, Bool, true}
 use Rattle.dr_machine.specs.declared.event.Act.{Act}
 use Rattle.dr_machine.specs.declared.event.Act.TheVariants as acts
-use Rattle.dr_program.specs.Replica.{Replica, is_done, is_fault, all_done, may_receive, may_send, may_deliver, may_publish, may_report, may_mark, acted, beaten, received, sent, delivered, published, reported, marked, ended}
+use Rattle.dr_program.specs.Replica.{Replica, is_done, is_fault, all_done, may_receive, may_send, may_null, may_deliver, may_publish, may_report, may_mark, acted, beaten, received, sent, nulled, delivered, published, reported, marked, ended}
 
 -- whether it may do the act, where it has no end
 abbrev pub may : Replica → Act → Bool
 may r acts.Beat = true
 may r (acts.Receive s) = nat_lt s r.roster && may_receive r s
 may r acts.Send = may_send r
+may r acts.Null = may_null r
 may r acts.Deliver = may_deliver r
 may r acts.Publish = may_publish r
 may r acts.Report = may_report r
@@ -21,6 +22,7 @@ abbrev pub done : Replica → Act → Replica
 done r acts.Beat = beaten r
 done r (acts.Receive s) = received r s
 done r acts.Send = sent r
+done r acts.Null = nulled r
 done r acts.Deliver = delivered r
 done r acts.Publish = published r
 done r acts.Report = reported r

@@ -1,9 +1,9 @@
 -- The form that replicas and running members always have, and what ties them to a group.
-use Rattle.std.specs.Prelude.{◌≡◌, ℕ, ◌+◌, ◌*◌, ◌^◌, ◌<◌, ◌≤◌, true, false, List, length, map, slice_index, slice_get, None, Some}
+use Rattle.std.specs.Prelude.{◌≡◌, ℕ, ◌+◌, ◌*◌, ◌^◌, ◌<◌, ◌≤◌, true, List, length, map, slice_index, slice_get, None, Some}
 use Rattle.dr_entry.specs.declared.limits.TheConstants.{MAX_MESSAGES, MAX_MESSAGE_LENGTH}
 use Rattle.dr_history.specs.Members.{has}
 use Rattle.dr_history.specs.Places.{front_of}
-use Rattle.dr_history.specs.History.{messages_of, messages_in}
+use Rattle.dr_history.specs.History.{messages_of}
 use Rattle.dr_history.specs.Order.{messages_from}
 use Rattle.dr_ring.specs.Slots.{slot_column}
 use Rattle.dr_rows.specs.Words.{IsWords, own, is_frozen}
@@ -15,6 +15,7 @@ use Rattle.dr_words.specs.Packing.{recv_word, ring_tag}
 use Rattle.dr_program.specs.declared.setup.Setup.{Setup}
 use Rattle.dr_program.specs.Turn.{IsIn, part_of, turn_begins}
 use Rattle.dr_machine.specs.Group.{Group, banks, roster}
+use Rattle.dr_machine.specs.Sending.{IsPut}
 use Rattle.dr_program.specs.Replica.{Replica, me, count, greatest, is_wedged, suspects, view_of}
 use Rattle.dr_program.specs.Running.{Running, members, columns, applies}
 
@@ -65,15 +66,15 @@ pub record HasForm (r : Replica) : Type 0 where
   -- no word of its ring is of an item that it hasn't put
   pub ring : (k part : ℕ) → part < PIECES
       → ring_tag (own r.rows (slot_column r.roster r.window k + part)) ≤ count r (me r)
-  -- it has put its messages from the first one of the view on, and nothing else
+  -- it has its script's messages
   pub messages : length r.messages ≡ slice_index r.totals (me r)
   pub short : (i : ℕ) (bytes : List ℕ) → slice_get r.messages i ≡ Some bytes → length bytes
       ≤ MAX_MESSAGE_LENGTH
   pub bytes : (i : ℕ) (bytes : List ℕ) → slice_get r.messages i ≡ Some bytes → (k : ℕ)
       → slice_index bytes k < 256
+  -- it has put them one by one from the first one of the view on, and then nulls
   pub put : length r.sent ≡ count r (me r)
-  pub named : messages_in r.sent ≡ length r.sent
-  pub left : r.base + length r.sent ≤ length r.messages
+  pub order : IsPut r.base (length r.messages) r.sent
   -- its log is a front of its history, for which there is room
   pub logged : r.logged ≤ length r.history
   pub room : length r.history ≤ r.room

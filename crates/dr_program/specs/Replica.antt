@@ -1,7 +1,7 @@
 -- A replica: what one member has and has seen, and what each of its acts makes of it. Lists go by the
 -- members' numbers.
 use Rattle.std.specs.Prelude.{ℕ, ◌+◌, ◌*◌, ◌-◌, ◌^◌, ◌/◌, ◌%◌, ◌==◌, ◌&&◌, Bool, not, nat_lt, min, max, List, [], ◌∷◌, ◌++◌, length, map, fold, replicate, slice_index, slice_index_or, slice_set, unwrap_or, is_some, Option, None, Some, true, false}
-use Rattle.std.specs.List.{list_all}
+use Rattle.std.specs.List.{list_all, list_any}
 use Rattle.dr_entry.specs.declared.entry.Entry.{Entry}
 use Rattle.dr_entry.specs.declared.entry.Entry.TheVariants.{View}
 use Rattle.dr_entry.specs.declared.entry.Item.{Item}
@@ -9,6 +9,7 @@ use Rattle.dr_entry.specs.declared.entry.Item.TheVariants.{Null, Text}
 use Rattle.dr_entry.specs.declared.end.End.{End}
 use Rattle.dr_entry.specs.declared.end.End.TheVariants.{Done, Crashed, DiskFault, LogFull, Spent}
 use Rattle.dr_entry.specs.declared.end.SentItem.{SentItem}
+use Rattle.dr_entry.specs.declared.end.SentItem.TheVariants as sent_items
 use Rattle.dr_entry.specs.declared.end.SentItem.TheVariants.{Index}
 use Rattle.dr_history.specs.Members.{has, members_of}
 use Rattle.dr_history.specs.Places.{front_of}
@@ -171,6 +172,16 @@ may_receive r s = is_other r s && (is_some (ready_item r s) && nat_lt (count r s
 abbrev pub may_send : Replica → Bool
 may_send r = nat_lt (next_index r) (length r.messages) && is_free r.window r.rows r.members (count r (me r))
 
+-- it has more items of some sender than it has put itself
+abbrev pub is_behind : Replica → Bool
+is_behind r = list_any (nat_lt (count r (me r))) r.counts
+
+-- no message is left, it is behind, and the slot of its next item is free
+abbrev pub may_null : Replica → Bool
+may_null r =
+    not (nat_lt (next_index r) (length r.messages))
+    && (is_behind r && is_free r.window r.rows r.members (count r (me r)))
+
 -- every row of the view shows that the next place was received, and there is room for an entry
 abbrev pub may_deliver : Replica → Bool
 may_deliver r = nat_lt r.next (least_seen r RECEIVED_COLUMN) && nat_lt (length r.history) r.room
@@ -235,6 +246,9 @@ put r name item = gained (record r
 
 abbrev pub sent : Replica → Replica
 sent r = put r (Index (next_index r)) (Text (slice_index_or r.messages (next_index r) []))
+
+abbrev pub nulled : Replica → Replica
+nulled r = put r sent_items.Null Null
 
 -- the sender of a place of its view, and the item there
 abbrev pub sender_at : Replica → ℕ → ℕ

@@ -22,13 +22,14 @@ pub enum Part {
 }
 
 /// The number of parts of a turn.
-pub const PARTS: usize = 13;
+pub const PARTS: usize = 14;
 
 /// The parts of a turn, in their order. With the last one the next turn begins.
 pub static TURN: [Part; PARTS] = [
     Part::Look,
     Part::Receive,
     Part::Do(Act::Send),
+    Part::Do(Act::Null),
     Part::Do(Act::Deliver),
     Part::Append,
     Part::Do(Act::Publish),
