@@ -134,13 +134,12 @@ begun g is = record {
       left = omega (arith, start_messages g.opening s is.sound);
       nulls = λ l. absurd (omega (arith, l));
     };
-    named = λ s v. refl;
   };
   counts = record {
     recv = λ m v s l. grind arith;
     unfinished = λ m s l e. grind arith;
     received = λ m v. rw (front_of_none (members_of g.opening.members)) (grind arith);
-    few = λ m v s. omega arith;
+    few = λ m v s. (0, omega arith);
   };
   words = tell g;
   logs = record {

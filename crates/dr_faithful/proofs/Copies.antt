@@ -1,5 +1,5 @@
 -- A look and a push: the words go from the owner to the table, and from there to another member.
-use Rattle.std.proofs.Common.{refl, subst, sym, ℕ, ◌<◌, ◌≡◌, ◌≢◌}
+use Rattle.std.proofs.Common.{ℕ, ◌≢◌}
 use Rattle.dr_machine.specs.Effects.{looks, pushes}
 use Rattle.dr_machine.specs.Group.{Group, roster}
 use Rattle.dr_machine.specs.Run.{WordsGrew}

@@ -3,12 +3,14 @@ use Rattle.std.proofs.Common.{ap, arith, inl, inr, length, refl, suc, sym, ℕ, 
 use Rattle.std.proofs.lemmas.Bool.{cases_lt}
 use Rattle.std.proofs.Math.Nat.{div-add-mod, mul-le-mul_left, mul-suc}
 use Rattle.std.proofs.lemmas.Nat.{mod_below}
+use Rattle.dr_entry.specs.declared.end.SentItem.{SentItem}
+use Rattle.dr_entry.specs.declared.end.SentItem.TheVariants.{Index, Null}
 use Rattle.dr_history.specs.Members.{has}
 use Rattle.dr_machine.proofs.Runs.{reached}
 use Rattle.dr_machine.specs.Acts.{CanDo, CanTake, Guard, does, effect, effect_of}
-use Rattle.dr_machine.specs.Effects.{appends, stamped}
+use Rattle.dr_machine.specs.Effects.{appends, puts, stamped}
 use Rattle.dr_machine.specs.Group.{Group, IsGroup, IsPresent, roster}
-use Rattle.dr_machine.specs.Guards.{IsOther}
+use Rattle.dr_machine.specs.Guards.{IsOther, IsRunning, next_index}
 use Rattle.dr_machine.specs.Run.{IsReached, NoLaterItem, PastGrew, WordsGrew}
 use Rattle.dr_machine.specs.World.{World, count_of}
 use Rattle.dr_machine.specs.declared.event.Event.{Event}
@@ -23,11 +25,11 @@ use Rattle.dr_faithful.proofs.Begin.{begun}
 use Rattle.dr_faithful.proofs.Copies.{look_grew, look_keeps, push_grew, push_keeps}
 use Rattle.dr_faithful.proofs.Pieces.{sent_item, tag_of_piece}
 use Rattle.dr_faithful.proofs.Receipts.{receive_grew, receive_keeps, receive_past}
-use Rattle.dr_faithful.proofs.Sends.{send_grew, send_keeps, send_past}
+use Rattle.dr_faithful.proofs.Puts.{may_message, may_null, put_grew, put_keeps, put_past}
 use Rattle.dr_faithful.proofs.Stamps.{stamp_grew, stamp_keeps, stamp_past}
 use Rattle.dr_faithful.proofs.Pasts.{past_on, past_same, same_past}
 use Rattle.dr_faithful.specs.Faithful.{Faithful}
-use Rattle.dr_faithful.specs.Tells.{TellsPiece, Views, item_sent, part_column}
+use Rattle.dr_faithful.specs.Tells.{TellsPiece, Views, item_named, item_sent, part_column}
 use Rattle.dr_words.proofs.Order.{HasGrown_same, HasGrown_trans}
 use Rattle.dr_words.specs.Packing.{ring_tag}
 
@@ -39,7 +41,9 @@ act_keeps : (g : Group) (V : Views) (w : World) (m : ℕ) (a : Act) → IsGroup 
     → Faithful g V w → Faithful g V (does g w m a)
 act_keeps g V w m acts.Beat is can f = beat_keeps g V w m f
 act_keeps g V w m (acts.Receive s) is can f = receive_keeps g V w m s is can f
-act_keeps g V w m acts.Send is can f = send_keeps g V w m is can f
+act_keeps g V w m acts.Send is can f =
+    put_keeps g V w m (Index (next_index w m)) is (may_message g V w m can f) f
+act_keeps g V w m acts.Null is can f = put_keeps g V w m Null is (may_null g V w m can f) f
 act_keeps g V w m acts.Deliver is can f = deliver_keeps g V w m can f
 act_keeps g V w m acts.Publish is can f = publish_keeps g V w m f
 act_keeps g V w m acts.Report is can f = report_keeps g V w m is can f
@@ -95,13 +99,16 @@ act_stays g w m a i = refl
 
 does_grow : (g : Group) (V : Views) (w : World) (m : ℕ) (a : Act) → IsGroup g → CanDo g w m a
     → Faithful g V w → WordsGrew g w (does g w m a)
-does_grow g V w m acts.Send is can f = send_grew g V w m is can f
+does_grow g V w m acts.Send is can f =
+    put_grew g V w m (Index (next_index w m)) is (may_message g V w m can f) f
+does_grow g V w m acts.Null is can f = put_grew g V w m Null is (may_null g V w m can f) f
 does_grow g V w m (acts.Receive s) is can f = receive_grew g V w m s is can f
 does_grow g V w m acts.Publish is can f = publish_grew g V w m f
 does_grow g V w m acts.Mark is can f = mark_grew g V w m f
 does_grow g V w m a is can f = same_words g w (does g w m a) refl refl refl
 
-grew : (g : Group) (V : Views) (w : World) (m : ℕ) (s : Step) → IsGroup g → CanTake g w m s
+-- the words grow at every step
+pub grew : (g : Group) (V : Views) (w : World) (m : ℕ) (s : Step) → IsGroup g → CanTake g w m s
     → Faithful g V w → WordsGrew g w (effect_of g w m s)
 grew g V w m (Do a) is can f =
     act_grew g V w (does g w m a) m (act_stays g w m a) (does_grow g V w m a is can f)
@@ -115,10 +122,22 @@ pub words_grew : (g : Group) (w : World) (e : Event) → IsGroup g → IsReached
     → WordsGrew g w (effect g w e)
 words_grew g w e is r can = grew g (whole g) w (member_of e) (step_of e) is can (faithful g w is r)
 
+-- a step puts an item of some name, or leaves what is sent as it is
+pub puts_or_leaves : (g : Group) (w : World) (m : ℕ) (s : Step) → CanTake g w m s
+    → ((name : SentItem) × IsRunning g w m
+    × (effect_of g w m s ≡ stamped (puts g w m name (item_named g m name)) m))
+    ⊎ ((effect_of g w m s).past.sent ≡ w.past.sent)
+puts_or_leaves g w m (Do acts.Send) can = inl (Index (next_index w m), can.may.alive, refl)
+puts_or_leaves g w m (Do acts.Null) can = inl (Null, can.may.alive, refl)
+puts_or_leaves g w m (Do a) can = inr refl
+puts_or_leaves g w m s can = inr refl
+
 -- what an act makes only grow
 does_past : (g : Group) (V : Views) (w : World) (m : ℕ) (a : Act) → IsGroup g → CanDo g w m a
     → Faithful g V w → PastGrew w.past (does g w m a).past
-does_past g V w m acts.Send is can f = send_past g V w m is can f
+does_past g V w m acts.Send is can f =
+    put_past g V w m (Index (next_index w m)) is (may_message g V w m can f) f
+does_past g V w m acts.Null is can f = put_past g V w m Null is (may_null g V w m can f) f
 does_past g V w m (acts.Receive s) is can f = receive_past g V w m s is can f
 does_past g V w m acts.Deliver is can f = deliver_past w m
 does_past g V w m acts.Report is can f = report_past g V w m can f

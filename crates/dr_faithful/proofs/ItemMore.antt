@@ -2,7 +2,7 @@
 use Rattle.std.proofs.Common.{ap, arith, false, inl, inr, le_of_eq, le_trans, length, map, subst, sym, true, ℕ, ◌+◌, ◌<◌, ◌∙◌, ◌≡◌, ◌≢◌, ◌≤◌, ◌⊎◌}
 use Rattle.std.proofs.lemmas.Bool.{cases_eq}
 use Rattle.dr_entry.specs.declared.entry.Item.{Item}
-use Rattle.dr_history.specs.History.{IsPrefixOf, Sent}
+use Rattle.dr_history.specs.History.{IsPrefixOf, Sent, messages_of}
 use Rattle.dr_history.specs.Members.{has, members_of}
 use Rattle.dr_history.specs.Places.{front_of}
 use Rattle.dr_machine.proofs.Presence.{in_roster}
@@ -143,14 +143,14 @@ pub record MayGain (g : Group) (V : Views) (w : World) (m s : ℕ) (x : Item) (r
   -- what was put stays, and the item is among it
   pub grew : (a u : ℕ) → IsPrefixOf (w.past.sent a u) (sent a u)
   pub item : x ≡ item_sent g sent s (w.past.view m) (count_of w m s)
-  pub few : count_of w m s < 4096
+  pub few : (t : ℕ) × (count_of w m s < length (messages_of g.opening t))
   -- the row is as before but for words of the ring, and these rise
   pub low : (c : ℕ) → c < head_column (roster g) 0 → row c ≡ own_word w m c
   pub high : (c : ℕ) → own_word w m c ≤ row c
   pub ring : (slot part : ℕ) → slot < g.window → part < 17
       → TellsPiece g (length (sent m (w.past.view m))) (item_sent g sent m (w.past.view m)) slot part
       (row (part_column g slot part))
-  pub named : AreSent g w.past.view w.base sent (more w.past.count m (w.past.view m) s)
+  pub order : AreSent g w.past.view w.base sent (more w.past.count m (w.past.view m) s)
 
 -- below the ring, or in it
 low_or_high : (n c : ℕ) → (c < head_column n 0) ⊎ (head_column n 0 ≤ c)
@@ -273,9 +273,9 @@ counts_gained g V w m s x row sent may f = record {
         by (inr d) = ap is_final (other b l d) ∙ f.counts.unfinished m b l may.unwedged
 
     few : (a u b : ℕ) → IsMore w.past.count m (w.past.view m) s a u b
-        → more w.past.count m (w.past.view m) s a u b ≤ 4096
-    few a u b (inl t) = omega (arith, t.3, may.few)
-    few a u b (inr e) = omega (arith, e, f.counts.few a u b)
+        → (t : ℕ) × (more w.past.count m (w.past.view m) s a u b ≤ length (messages_of g.opening t))
+    few a u b (inl t) = (may.few.0, omega (arith, t.3, may.few.1))
+    few a u b (inr e) = let old = f.counts.few a u b in (old.0, omega (arith, e, old.1))
 
 -- what only grows has grown
 pub past_gained : (g : Group) (V : Views) (w : World) (m s : ℕ) (x : Item) (row : ℕ → ℕ)
@@ -358,9 +358,9 @@ words_gained g V w m s x row sent may f = record {
     grew = past_gained g V w m s x row sent may
 
 form_gained : (g : Group) (V : Views) (w : World) (m s : ℕ) (x : Item) (row : ℕ → ℕ) (sent : Sent)
-    → MayGain g V w m s x row sent → Faithful g V w
+    → IsGroup g → MayGain g V w m s x row sent → Faithful g V w
     → AreInForm g (gained w m s x row sent).past.own w.table w.seen
-form_gained g V w m s x row sent may f = record {
+form_gained g V w m s x row sent is may f = record {
   in_own = at₂_case (λ a u r. (c : ℕ) → IsInForm (roster g) c (r c)) w.past.own m
       (w.past.view m) _ f.form.in_own
       (at_case (λ c z. IsInForm (roster g) c z)
@@ -368,7 +368,7 @@ form_gained g V w m s x row sent may f = record {
       (λ c d. at_case (λ c z. IsInForm (roster g) c z) row (recv_column s)
       (recv_word (count_of w m s + 1) false) (λ c d. plain c (low_or_high (roster g) c))
       (form_recv (roster g) s (count_of w m s + 1) (f.views.within (w.past.view m) s may.sender)
-      (omega (arith, may.few))) c)
+      (omega (arith, may.few.1, is.messages may.few.0))) c)
       (form_free (roster g) 2 _ (inl (omega arith, omega arith))));
   in_table = f.form.in_table;
   in_seen = f.form.in_seen;
@@ -389,7 +389,7 @@ gain_keeps g V w m s x row sent is may f = record {
   views = f.views;
   items = items_kept g V w.past.view w.past.count w.item w.past.sent sent m s x may.source may.grew may.item
       f.sent.all f.items;
-  sent = may.named;
+  sent = may.order;
   counts = counts_gained g V w m s x row sent may f;
   words = words_gained g V w m s x row sent may f;
   logs = f.logs;
@@ -400,5 +400,5 @@ gain_keeps g V w m s x row sent is may f = record {
   };
   old = old_later g w.past.view w.past.own (gained w m s x row sent).past.own w.table w.seen
       (own_gained g V w m s x row sent is may f) f.old;
-  form = form_gained g V w m s x row sent may f;
+  form = form_gained g V w m s x row sent is may f;
 }

@@ -1,17 +1,17 @@
-mod Writes
+pub mod Writes
 mod Forms
 mod Lists
-mod Pieces
-mod Pasts
+pub mod Pieces
+pub mod Pasts
 mod Begin
 mod OwnWords
 mod Stamps
-mod Shown
+pub mod Shown
 mod Copies
 mod Acts
 mod Fronts
 mod CountMore
 mod ItemMore
 mod Receipts
-mod Sends
+pub mod Puts
 pub mod Faithfulness

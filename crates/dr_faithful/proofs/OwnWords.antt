@@ -1,5 +1,5 @@
 -- One own word that rises, in a column below those of the counts: what else its member's words tell stays.
-use Rattle.std.proofs.Common.{List, arith, subst, sym, ℕ, ◌<◌, ◌≢◌}
+use Rattle.std.proofs.Common.{List, arith, sym, ℕ, ◌<◌, ◌≢◌}
 use Rattle.dr_entry.specs.declared.entry.Entry.{Entry}
 use Rattle.dr_machine.specs.Group.{Group, roster}
 use Rattle.dr_machine.specs.Writes.{at₃}

@@ -1,5 +1,5 @@
 -- What only grows has grown, and what is told of it stays told.
-use Rattle.std.proofs.Common.{List, [], append-nil, append_assoc, arith, inl, inr, le_of_eq, le_refl, le_trans, length, length-append, map, refl, slice_index_or, subst, sym, take, ap, get_or, zero, ℕ, ◌++◌, ◌+◌, ◌<◌, ◌∙◌, ◌∷◌, ◌≡◌, ◌≤◌, ◌⊎◌}
+use Rattle.std.proofs.Common.{List, [], append-nil, append_assoc, arith, inl, le_of_eq, le_refl, le_trans, length, length-append, map, refl, slice_index_or, subst, sym, take, ap, get_or, ℕ, ◌++◌, ◌<◌, ◌∙◌, ◌∷◌, ◌≡◌, ◌≤◌}
 use Rattle.std.proofs.lemmas.List.{get_or_append_left, get_or-map, length-map}
 use Rattle.dr_entry.specs.declared.entry.Entry.{Entry}
 use Rattle.dr_entry.specs.declared.end.SentItem.{SentItem}

@@ -3,7 +3,7 @@ use Rattle.std.proofs.Common.{List, [], get_or, slice_get, slice_index_or, Bool,
 use Rattle.std.specs.Prelude.{◌⊎◌}
 use Rattle.std.specs.List.{list_all, range_with_len}
 use Rattle.dr_entry.specs.declared.entry.Item.{Item}
-use Rattle.dr_entry.specs.declared.entry.Item.TheVariants.{Null, Text}
+use Rattle.dr_entry.specs.declared.entry.Item.TheVariants.{Text}
 use Rattle.dr_entry.specs.declared.end.SentItem.{SentItem}
 use Rattle.dr_entry.specs.declared.end.SentItem.TheVariants as sent_items
 use Rattle.dr_history.specs.History.{Sent, messages_of}

@@ -62,6 +62,7 @@ receive_may : (g : Group) (V : Views) (w : World) (m s : ℕ) → IsGroup g → 
     → MayGain g V w m s (next_item g w m s) (w.past.own m (w.past.view m)) w.past.sent
 receive_may g V w m s is can f =
     let taken = receive_words g V w m s is can f in
+    let put = f.counts.few s (w.past.view m) s in
     record {
       present = can.may.alive.present;
       unwedged = can.unwedged;
@@ -69,15 +70,14 @@ receive_may g V w m s is can f =
       source = inr (can.sender.other, taken.0);
       grew = λ a u. prefix_refl (w.past.sent a u);
       item = taken.1;
-      few = le_trans taken.0 (f.counts.few s (w.past.view m) s);
+      few = (put.0, le_trans taken.0 put.1);
       low = λ c l. refl;
       high = λ c. le_refl (own_word w m c);
       ring = λ slot part l p. (f.words.own m (w.past.view m) (part_column g slot part)).ring slot part l p
           refl;
-      named = record {
+      order = record {
         all = λ a v. f.sent.all a v ∙ sym (own_same w.past.count m (w.past.view m) s a v can.sender.other);
         put = f.sent.put;
-        named = f.sent.named;
       };
     }
 

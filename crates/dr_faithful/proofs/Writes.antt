@@ -40,11 +40,6 @@ pub at₃_column : {A : Type 0} (f : ℕ → ℕ → ℕ → A) (a b c : ℕ) (v
     → k ≢ c → at₃ f a b c v i j k ≡ f i j k
 at₃_column f a b c v i j k d = grind arith
 
--- the same of four arguments
-pub at₄_column : {A : Type 0} (f : ℕ → ℕ → ℕ → ℕ → A) (a b c d : ℕ) (v : A)
-    (i j k l : ℕ) → l ≢ d → at₄ f a b c d v i j k l ≡ f i j k l
-at₄_column f a b c d v i j k l e = grind arith
-
 -- two functions written at the same arguments
 pub at₂_both : {A B : Type 0} (P : ℕ → ℕ → A → B → Type 0) (f : ℕ → ℕ → A)
     (h : ℕ → ℕ → B) (a b : ℕ) (x : A) (y : B)

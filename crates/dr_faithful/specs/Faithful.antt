@@ -1,16 +1,13 @@
 -- What is true of every world that is reached: each word tells the truth of its owner, and each item is as
 -- its sender put it.
 -- V gives the members of each view, as a mask, by the view's number.
-use Rattle.std.specs.Prelude.{◌≡◌, ◌≢◌, ℕ, ◌+◌, ◌^◌, ◌<◌, ◌≤◌, true, false, List, length, map, slice_get, Option, None, Some}
-use Rattle.dr_entry.specs.declared.limits.TheConstants.{MAX_MESSAGES}
+use Rattle.std.specs.Prelude.{◌≡◌, ◌≢◌, ℕ, ◌+◌, ◌^◌, ◌<◌, ◌≤◌, true, false, List, length, map, Option, None}
 use Rattle.dr_entry.specs.declared.entry.Entry.{Entry}
 use Rattle.dr_entry.specs.declared.entry.Item.{Item}
-use Rattle.dr_entry.specs.declared.end.SentItem.{SentItem}
-use Rattle.dr_entry.specs.declared.end.SentItem.TheVariants.{Index}
 use Rattle.dr_entry.specs.declared.record.Vote.{Vote}
 use Rattle.dr_history.specs.Members.{has, members_of}
 use Rattle.dr_history.specs.Places.{front_of}
-use Rattle.dr_history.specs.History.{IsPrefixOf, Sent, messages_in, messages_of}
+use Rattle.dr_history.specs.History.{IsPrefixOf, Sent, messages_of}
 use Rattle.dr_history.specs.Order.{first_entries, messages_from}
 use Rattle.dr_words.specs.declared.column.TheConstants.{RECEIVED_COLUMN}
 use Rattle.dr_words.specs.Columns.{recv_column}
@@ -18,6 +15,7 @@ use Rattle.dr_words.specs.Form.{IsInForm}
 use Rattle.dr_words.specs.Grown.{HasGrown}
 use Rattle.dr_words.specs.Packing.{recv_count, is_final}
 use Rattle.dr_machine.specs.Group.{Group, IsPresent, roster}
+use Rattle.dr_machine.specs.Sending.{IsPut}
 use Rattle.dr_machine.specs.World.{World}
 use Rattle.dr_faithful.specs.Tells.{Views, WordsTell, item_sent}
 
@@ -60,19 +58,10 @@ pub record AreItems (g : Group) (V : Views) (view : ℕ → ℕ) (count : Number
   pub window : (m v s : ℕ) → has (V v) m ≡ true → has (V v) s ≡ true → count s v s
       ≤ count m v s + g.window
 
--- what a member has put in a view: its messages, one by one from the first one on, and nulls once none is
--- left
-pub record IsPut (first total : ℕ) (items : List SentItem) : Type 0 where
-  pub index : (k : ℕ) → k < messages_in items → slice_get items k ≡ Some (Index (first + k))
-  pub left : first + messages_in items ≤ total
-  pub nulls : messages_in items < length items → first + messages_in items ≡ total
-
 -- each member has put its next messages of the script in its view
 pub record AreSent (g : Group) (view base : ℕ → ℕ) (sent : Sent) (count : Numbers) : Type 0 where
   pub all : (s v : ℕ) → length (sent s v) ≡ count s v s
   pub put : (s : ℕ) → IsPut (base s) (length (messages_of g.opening s)) (sent s (view s))
-  -- so far nobody puts a null
-  pub named : (s v : ℕ) → messages_in (sent s v) ≡ length (sent s v)
 
 -- the own words of a member say how many items it has
 pub record AreCounts (g : Group) (V : Views) (view suspects : ℕ → ℕ)
@@ -82,8 +71,8 @@ pub record AreCounts (g : Group) (V : Views) (view suspects : ℕ → ℕ)
   pub unfinished : (m s : ℕ) → s < roster g → suspects m ≡ 0
       → is_final (own m (view m) (recv_column s)) ≡ false
   pub received : (m v : ℕ) → own m v RECEIVED_COLUMN ≡ front_of (map (count m v) (members_of (V v)))
-  -- nobody has more items than a script has messages
-  pub few : (m v s : ℕ) → count m v s ≤ MAX_MESSAGES
+  -- nobody has more items of a sender than some member has messages
+  pub few : (m v s : ℕ) → (t : ℕ) × (count m v s ≤ length (messages_of g.opening t))
 
 -- the log of a member is a front of its history, and what it knows to be durable is on all logs
 pub record AreLogs (g : Group) (V : Views) (view : ℕ → ℕ) (acts durable : ℕ → ℕ)

@@ -1,0 +1,313 @@
+-- A member puts its next message, or a null: the pieces stand in a free slot.
+use Rattle.std.proofs.Common.{List, [], ap, arith, inl, inr, le_of_eq, le_trans, length, map, refl, slice_index, slice_index_or, subst, sym, true, ℕ, ◌%◌, ◌++◌, ◌+◌, ◌-◌, ◌<◌, ◌∙◌, ◌∷◌, ◌≡◌, ◌≢◌, ◌≤◌, ◌⊎◌}
+use Rattle.std.proofs.lemmas.Bool.{cases_lt}
+use Rattle.std.proofs.Math.Seq.{get_or-append_seam}
+use Rattle.std.proofs.lemmas.List.{length_push}
+use Rattle.std.proofs.lemmas.Nat.{mod_below}
+use Rattle.dr_entry.specs.declared.end.SentItem.{SentItem}
+use Rattle.dr_entry.specs.declared.end.SentItem.TheVariants.{Index, Null}
+use Rattle.dr_entry.specs.declared.entry.Item.{Item}
+use Rattle.dr_history.specs.History.{IsPrefixOf, Sent, messages_of}
+use Rattle.dr_history.specs.Members.{has}
+use Rattle.dr_history.specs.Places.{front_of}
+use Rattle.dr_machine.proofs.Presence.{in_roster}
+use Rattle.dr_machine.proofs.Sending.{next_message, next_null, only_messages}
+use Rattle.dr_machine.specs.Effects.{puts, row_with}
+use Rattle.dr_machine.specs.Group.{Group, IsGroup, IsPresent, roster}
+use Rattle.dr_machine.specs.Guards.{CanNull, CanSend, HasRoom, IsUnwedged, MayChoose, next_index}
+use Rattle.dr_machine.specs.Run.{PastGrew, WordsGrew}
+use Rattle.dr_machine.specs.World.{World, count_of, own_word, view_members}
+use Rattle.dr_machine.specs.Writes.{at, at₂, at₃}
+use Rattle.dr_ring.proofs.Items.{few_pieces}
+use Rattle.dr_ring.specs.Pieces.{pieces}
+use Rattle.dr_ring.specs.Slots.{slot_column}
+use Rattle.dr_faithful.proofs.CountMore.{more, new_count}
+use Rattle.dr_faithful.proofs.ItemMore.{MayGain, counted_row, gain_grew, gain_keeps, gained, past_gained}
+use Rattle.dr_faithful.proofs.Pasts.{item_kept, prefix_refl, prefix_short}
+use Rattle.dr_faithful.proofs.Pieces.{later, named_item, piece_le, sent_item}
+use Rattle.dr_faithful.proofs.Shown.{seen_le}
+use Rattle.dr_faithful.proofs.Writes.{at_same, at₂_both, at₂_case, at₂_read, at₂_twice}
+use Rattle.dr_machine.specs.Sending.{IsPut}
+use Rattle.dr_faithful.specs.Faithful.{AreSent, Faithful, Numbers}
+use Rattle.dr_faithful.specs.Tells.{TellsPiece, Views, item_named, item_sent, part_column}
+use Rattle.dr_words.specs.declared.column.TheConstants.{PIECES}
+use Rattle.dr_words.specs.Columns.{recv_column}
+use Rattle.dr_words.specs.Packing.{recv_count, ring_word}
+
+-- ---- the row
+
+-- a column of the new item's words, or one that is as before
+abbrev InItem : ℕ → ℕ → ℕ → Type 0
+InItem from n c = ((part : ℕ) × (part < n) × (from + part ≡ c)) ⊎ ((c < from) ⊎ (from + n ≤ c))
+
+in_item : (from n c : ℕ) → InItem from n c
+in_item from n c = by (cases_lt c from) (cases_lt c (from + n))
+  where
+    by : (c < from) ⊎ (from ≤ c) → (c < from + n) ⊎ (from + n ≤ c) → InItem from n c
+    by (inl l) b = inr (inl l)
+    by (inr l) (inr b) = inr (inr b)
+    by (inr l) (inl b) = inl (c - from, omega arith, omega arith)
+
+pub row_in : (row : ℕ → ℕ) (from k part : ℕ) (list : List ℕ) → part < length list
+    → row_with row from k list (from + part) ≡ ring_word k (slice_index list part)
+row_in row from k part list l =
+    let there : from + part - from ≡ part = omega arith in
+    rw there (grind (arith, l))
+
+row_out : (row : ℕ → ℕ) (from k c : ℕ) (list : List ℕ) → (c < from)
+    ⊎ (from + length list ≤ c) → row_with row from k list c ≡ row c
+row_out row from k c list (inl l) = grind arith
+row_out row from k c list (inr l) = grind arith
+
+-- two writes of own rows at one member
+row_twice : (own : Numbers) (m v : ℕ) (row : ℕ → ℕ) (then : (ℕ → ℕ) → ℕ → ℕ)
+    → at₂ (at₂ own m v row) m v (then (at₂ own m v row m v)) ≡ at₂ own m v (then row)
+row_twice own m v row then = at₂_twice own m v row (then (at₂ own m v row m v))
+    ∙ ap (λ r. at₂ own m v (then r)) (at₂_read own m v row)
+
+-- ---- what is put
+
+-- the row and the list of a member that puts the item of this name
+abbrev put_row : Group → World → ℕ → SentItem → ℕ → ℕ
+put_row g w m x = row_with (w.past.own m (w.past.view m)) (slot_column (roster g) g.window (count_of w m m))
+    (count_of w m m) (pieces (item_named g m x))
+
+abbrev sent_after : World → ℕ → SentItem → Sent
+sent_after w m x = at₂ w.past.sent m (w.past.view m) (w.past.sent m (w.past.view m) ++ x ∷ [])
+
+-- m may put it next
+pub record MayPut (g : Group) (w : World) (m : ℕ) (x : SentItem) : Type 0 where
+  pub may : MayChoose g w m
+  pub unwedged : IsUnwedged w m
+  pub room : HasRoom g w m (count_of w m m)
+  -- it follows what m has put
+  pub order : IsPut (w.base m) (length (messages_of g.opening m)) (w.past.sent m (w.past.view m) ++ x ∷ [])
+  -- and some member has more messages than m has items of its own
+  pub few : (t : ℕ) × (count_of w m m < length (messages_of g.opening t))
+
+-- a member that may send may put its next message
+pub may_message : (g : Group) (V : Views) (w : World) (m : ℕ) → CanSend g w m → Faithful g V w
+    → MayPut g w m (Index (next_index w m))
+may_message g V w m can f =
+    let items : List SentItem = w.past.sent m (w.past.view m) in
+    let total : ℕ = length (messages_of g.opening m) in record {
+      may = can.may;
+      unwedged = can.unwedged;
+      room = can.room;
+      order = next_message (w.base m) total items (f.sent.put m) can.left;
+      few = (
+        m,
+        omega (
+          arith,
+          can.left,
+          only_messages (w.base m) total items (f.sent.put m) can.left,
+          f.sent.all m (w.past.view m),
+        ),
+      );
+    }
+
+-- and one that may put a null may put it
+pub may_null : (g : Group) (V : Views) (w : World) (m : ℕ) → CanNull g w m → Faithful g V w
+    → MayPut g w m Null
+may_null g V w m can f =
+    let ahead = f.counts.few m (w.past.view m) can.behind.0 in record {
+      may = can.may;
+      unwedged = can.unwedged;
+      room = can.room;
+      order = next_null (w.base m) (length (messages_of g.opening m)) (w.past.sent m (w.past.view m))
+          (f.sent.put m) can.none_left;
+      few = (ahead.0, omega (arith, can.behind.1, ahead.1));
+    }
+
+puts_is : (g : Group) (w : World) (m : ℕ) (x : SentItem) → puts g w m x (item_named g m x)
+    ≡ gained w m m (item_named g m x) (put_row g w m x) (sent_after w m x)
+puts_is g w m x =
+    ap (λ (own : Numbers). record w {
+      past = record w.past {
+        count = more w.past.count m (w.past.view m) m;
+        own = own;
+        sent = sent_after w m x;
+      };
+      item = at₃ w.item m m (count_of w m m) (item_named g m x);
+    }) (row_twice w.past.own m (w.past.view m) (put_row g w m x)
+    (λ row. counted_row row m (count_of w m m)
+    (front_of (map (at (w.past.count m (w.past.view m)) m (count_of w m m + 1)) (view_members w m)))))
+
+-- ---- what may be gained
+
+-- what was put stays, and one more element stands behind it
+sent_grew : (w : World) (m : ℕ) (x : SentItem) (a u : ℕ)
+    → IsPrefixOf (w.past.sent a u) (sent_after w m x a u)
+sent_grew w m x = at₂_case (λ a u l. IsPrefixOf (w.past.sent a u) l) w.past.sent m (w.past.view m) _
+    (λ a u. prefix_refl (w.past.sent a u)) (x ∷ [], refl)
+
+-- the new element names the item
+names_item : (g : Group) (V : Views) (w : World) (m : ℕ) (x : SentItem) (k : ℕ) → Faithful g V w
+    → k ≡ count_of w m m
+    → item_sent g (sent_after w m x) m (w.past.view m) k ≡ item_named g m x
+names_item g V w m x k f e =
+    let v : ℕ = w.past.view m in
+    let before : List SentItem = w.past.sent m v in
+    ap (λ (l : List SentItem). item_named g m (slice_index_or l k Null))
+    (at₂_read w.past.sent m v (before ++ x ∷ []))
+    ∙ ap (λ i. item_named g m (slice_index_or (before ++ x ∷ []) i Null)) (e ∙ sym (f.sent.all m v))
+    ∙ ap (item_named g m) (get_or-append_seam before x [] Null)
+
+-- what each member has put is in order
+put_order : (g : Group) (V : Views) (w : World) (m : ℕ) (x : SentItem) → MayPut g w m x
+    → Faithful g V w
+    → AreSent g w.past.view w.base (sent_after w m x) (more w.past.count m (w.past.view m) m)
+put_order g V w m x can f = record {
+  all = λ a u. at₂_both (λ i j l c. length l ≡ c i) w.past.sent w.past.count m v _ _ f.sent.all
+      (length_push (w.past.sent m v) _ ∙ ap (λ k. k + 1) (f.sent.all m v)
+      ∙ sym (at_same (w.past.count m v) m (count_of w m m + 1))) a u;
+  put = λ a. at₂_case (λ i j l. j ≡ w.past.view i
+      → IsPut (w.base i) (length (messages_of g.opening i)) l) w.past.sent m v _
+      (λ i j e. subst (λ k. IsPut (w.base i) (length (messages_of g.opening i)) (w.past.sent i k)) (sym e)
+      (f.sent.put i))
+      (λ e. can.order) a (w.past.view a) refl;
+}
+  where
+    v : ℕ
+    v = w.past.view m
+
+-- where the words of the next item of m begin, and what they are
+abbrev slot_from : Group → World → ℕ → ℕ
+slot_from g w m = slot_column (roster g) g.window (count_of w m m)
+
+few_words : (g : Group) (m : ℕ) (x : SentItem) → IsGroup g → length (pieces (item_named g m x)) ≤ PIECES
+few_words g m x is = few_pieces (item_named g m x) (named_item g m x is)
+
+-- the words of the row rise
+put_high : (g : Group) (V : Views) (w : World) (m : ℕ) (x : SentItem) (c : ℕ) → IsGroup g
+    → Faithful g V w
+    → InItem (slot_from g w m) (length (pieces (item_named g m x))) c → own_word w m c
+    ≤ put_row g w m x c
+put_high g V w m x c is f (inr out) =
+    le_of_eq (sym (row_out (w.past.own m (w.past.view m)) (slot_from g w m) (count_of w m m) c
+    (pieces (item_named g m x)) out))
+put_high g V w m x c is f (inl t) =
+    subst (λ c. own_word w m c ≤ put_row g w m x c) t.2
+    (rw (row_in (w.past.own m v) (slot_from g w m) k t.0 (pieces (item_named g m x)) t.1)
+    (subst (λ n. own_word w m (slot_from g w m + t.0) ≤ ring_word n low) (f.sent.all m v) less))
+  where
+    v : ℕ
+    v = w.past.view m
+
+    k : ℕ
+    k = count_of w m m
+
+    low : ℕ
+    low = slice_index (pieces (item_named g m x)) t.0
+
+    told : TellsPiece g (length (w.past.sent m (w.past.view m))) (item_sent g w.past.sent m (w.past.view m))
+        (count_of w m m % g.window) t.0 (own_word w m (slot_from g w m + t.0))
+    told = (f.words.own m v (part_column g (k % g.window) t.0)).ring (k % g.window) t.0
+        (mod_below k g.window is.some_slot) (le_trans t.1 (few_words g m x is)) refl
+
+    less : own_word w m (slot_from g w m + t.0)
+        ≤ ring_word (length (w.past.sent m (w.past.view m)))
+        (slice_index (pieces (item_named g m x)) t.0)
+    less = piece_le g (length (w.past.sent m v)) (item_sent g w.past.sent m v) (k % g.window) t.0
+        (own_word w m (slot_from g w m + t.0)) low (λ i. sent_item g w.past.sent m v i is) told
+
+-- and tell of what was put
+put_ring : (g : Group) (V : Views) (w : World) (m : ℕ) (x : SentItem) (slot part : ℕ) → IsGroup g
+    → MayPut g w m x → Faithful g V w
+    → slot < g.window → part < PIECES
+    → InItem (slot_from g w m) (length (pieces (item_named g m x))) (part_column g slot part)
+    → TellsPiece g (length (sent_after w m x m (w.past.view m)))
+    (item_sent g (sent_after w m x) m (w.past.view m))
+    slot part (put_row g w m x (part_column g slot part))
+put_ring g V w m x slot part is can f l p (inl t) =
+    let k : ℕ = count_of w m m in
+    let list : List ℕ = pieces (item_named g m x) in
+    let in_slot = mod_below k g.window is.some_slot in
+    let short = few_words g m x is in
+    let here : part ≡ t.0 = omega (arith, t.1, t.2, short, in_slot, l, p) in
+    let there : k % g.window ≡ slot = omega (arith, t.1, t.2, short, in_slot, l, p) in
+    let named : item_sent g (sent_after w m x) m (w.past.view m) k
+    ≡ item_named g m x = names_item g V w m x k f refl in
+    inr (record {
+      number = k;
+      put = omega (
+        arith,
+        (put_order g V w m x can f).all m (w.past.view m),
+        new_count w.past.count m (w.past.view m) m,
+      );
+      place = there;
+      needed = subst (λ (i : Item). part < length (pieces i)) (sym named) (omega (arith, here, t.1));
+      made = ap (put_row g w m x) (sym t.2)
+          ∙ row_in (w.past.own m (w.past.view m)) (slot_from g w m) k t.0 list t.1
+          ∙ ap (λ i. ring_word k (slice_index list i)) (sym here)
+          ∙ ap (λ (i : Item). ring_word k (slice_index (pieces i) part)) (sym named);
+    })
+put_ring g V w m x slot part is can f l p (inr out) =
+    let v : ℕ = w.past.view m in
+    let c : ℕ = part_column g slot part in
+    subst (λ z. TellsPiece g (length (sent_after w m x m v)) (item_sent g (sent_after w m x) m v) slot part
+    z)
+    (sym (row_out (w.past.own m v) (slot_from g w m) (count_of w m m) c (pieces (item_named g m x)) out))
+    (later g (length (w.past.sent m v)) (length (sent_after w m x m v)) (item_sent g w.past.sent m v)
+    (item_sent g (sent_after w m x) m v) slot part (own_word w m c)
+    (prefix_short (w.past.sent m v) (sent_after w m x m v) (sent_grew w m x m v))
+    (λ i n. item_kept g w.past.sent (sent_after w m x) m v i (sent_grew w m x m v) n)
+    ((f.words.own m v c).ring slot part l p refl))
+
+-- no other member of the view is a window behind
+put_room : (g : Group) (V : Views) (w : World) (m i : ℕ) → IsGroup g → IsPresent g m → Faithful g V w
+    → has (V (w.past.view m)) i ≡ true → i ≢ m → HasRoom g w m (count_of w m m)
+    → count_of w m m + 1 ≤ w.past.count i (w.past.view m) m + g.window
+put_room g V w m i is present f h d (inl early) = omega arith
+put_room g V w m i is present f h d (inr received) =
+    let column : ℕ = recv_column m in
+    let shown : count_of w m m - g.window < recv_count (w.seen m i column) =
+    received i (record { member = ap (λ n. has n i) (f.views.own m) ∙ h; other = d }) in
+    let old : w.seen m i column ≤ w.past.own i (w.past.view m) column = seen_le g V w m i column f d in
+    omega (arith, shown, old, f.counts.recv i (w.past.view m) m (in_roster g m is present))
+
+-- so the member gains it
+put_gains : (g : Group) (V : Views) (w : World) (m : ℕ) (x : SentItem) → IsGroup g → MayPut g w m x
+    → Faithful g V w
+    → MayGain g V w m m (item_named g m x) (put_row g w m x) (sent_after w m x)
+put_gains g V w m x is can f =
+    let from : ℕ = slot_from g w m in
+    let list : List ℕ = pieces (item_named g m x) in
+    let present = can.may.alive.present in record {
+      present = present;
+      unwedged = can.unwedged;
+      sender = f.views.present m present;
+      source = inl (refl, λ i h d. put_room g V w m i is present f h d can.room);
+      grew = sent_grew w m x;
+      item = sym (names_item g V w m x (count_of w m m) f refl);
+      few = can.few;
+      low = λ c l. row_out (w.past.own m (w.past.view m)) from (count_of w m m) c list (inl (omega arith));
+      high = λ c. put_high g V w m x c is f (in_item from (length list) c);
+      ring = λ slot part l p. put_ring g V w m x slot part is can f l p
+          (in_item from (length list) (part_column g slot part));
+      order = put_order g V w m x can f;
+    }
+
+-- what only grows has grown
+pub put_past : (g : Group) (V : Views) (w : World) (m : ℕ) (x : SentItem) → IsGroup g
+    → MayPut g w m x → Faithful g V w → PastGrew w.past (puts g w m x (item_named g m x)).past
+put_past g V w m x is can f =
+    subst (λ (u : World). PastGrew w.past u.past) (sym (puts_is g w m x))
+    (past_gained g V w m m (item_named g m x) (put_row g w m x) (sent_after w m x)
+    (put_gains g V w m x is can f))
+
+-- the words grow
+pub put_grew : (g : Group) (V : Views) (w : World) (m : ℕ) (x : SentItem) → IsGroup g
+    → MayPut g w m x → Faithful g V w → WordsGrew g w (puts g w m x (item_named g m x))
+put_grew g V w m x is can f =
+    subst (λ (u : World). WordsGrew g w u) (sym (puts_is g w m x))
+    (gain_grew g V w m m (item_named g m x) (put_row g w m x) (sent_after w m x) is
+    (put_gains g V w m x is can f) f)
+
+-- and the members stay faithful
+pub put_keeps : (g : Group) (V : Views) (w : World) (m : ℕ) (x : SentItem) → IsGroup g
+    → MayPut g w m x → Faithful g V w → Faithful g V (puts g w m x (item_named g m x))
+put_keeps g V w m x is can f =
+    subst (λ (u : World). Faithful g V u) (sym (puts_is g w m x))
+    (gain_keeps g V w m m (item_named g m x) (put_row g w m x) (sent_after w m x) is
+    (put_gains g V w m x is can f) f)
