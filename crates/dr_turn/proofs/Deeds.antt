@@ -27,7 +27,7 @@ use Rattle.dr_turn.specs.Work.{tasks, work, deeds_of, left_to, deeds_left, HasGr
 use Rattle.dr_turn.proofs.Fewer.{NoneRises, fewer_here, fewer_turns, sum_falls, sum_keeps}
 use Rattle.dr_turn.proofs.Order.{after_beat, beat_last, after_in, all_below, each_below, from_part, left_falls, left_small, left_some}
 use Rattle.dr_turn.proofs.Search.{part_before, settle_less, settle_only, settled_running, settled_underway, some_column, some_member}
-use Rattle.dr_turn.proofs.Tasks.{risen, received_less, sent_less, delivered_less, reported_less, published_less, marked_less, sender_within, me_within, none_rises}
+use Rattle.dr_turn.proofs.Tasks.{risen, received_less, put_less, delivered_less, reported_less, published_less, marked_less, sender_within, me_within, none_rises}
 
 -- ---- the work
 
@@ -71,7 +71,10 @@ lowers_task word r (steps.Do (acts.Receive s)) f may form none =
     (one_less _ _ (received_less r s (sender_within r s f may) form)))
 lowers_task word r (steps.Do acts.Send) f may form none =
     above _ _ (less_by word r (steps.Do acts.Send) 0 1 none (omega arith)
-    (one_less _ _ (sent_less r (me_within r f) form)))
+    (one_less _ _ (put_less r _ _ (me_within r f) form)))
+lowers_task word r (steps.Do acts.Null) f may form none =
+    above _ _ (less_by word r (steps.Do acts.Null) 0 1 none (omega arith)
+    (one_less _ _ (put_less r _ _ (me_within r f) form)))
 lowers_task word r (steps.Do acts.Deliver) f may form none =
     above _ _ (less_by word r (steps.Do acts.Deliver) 1 1 none (omega arith)
     (one_less _ _ (delivered_less r may)))
@@ -141,7 +144,7 @@ record IsDue (word : ℕ) (r : Running) (part : Part) : Type 0 where
   form : HasForm (does_at word r part).replica
 
 -- the place before that of publishing is that of an append
-abbrev is_publish : Part → Bool
+abbrev pub is_publish : Part → Bool
 is_publish (parts.Do acts.Publish) = true
 is_publish part = false
 
@@ -238,7 +241,8 @@ before r part at u none = u.left none at
 one_more_at_most : (a : ℕ) → one_more 32 a ≤ a + 1
 one_more_at_most a = min-le_left (a + 1) 4294967295
 
-one_turn : (a b : ℕ) → a < b → b < 2 ^ 32 → one_more 32 a ≡ a + 1
+-- a turn more within a limit of 32 bits
+pub one_turn : (a b : ℕ) → a < b → b < 2 ^ 32 → one_more 32 a ≡ a + 1
 one_turn a b h g = min-eq_left (omega arith)
 
 turned : (word : ℕ) (r : Running) (part : Part) → IsDue word r part
@@ -265,10 +269,14 @@ left_behind r u other begins =
     after_beat (members r) (columns r) r.place
     (after_in _ _ r.place (some_member r u.replica) (some_column r) u.place) other (ap is_beat begins)
 
--- a turn that begins leads to its first part
-pub first_part : (r : Running) → IsUnderway r → part_of r.place ≡ turn_begins
-    → part_of (after (members r) (columns r) r.place) ≡ parts.Look
-first_part r u at = ap (λ (p : Place). part_of (after (members r) (columns r) p)) same
+-- a turn begins at the last place
+pub beat_place : (r : Running) → IsUnderway r → part_of r.place ≡ turn_begins → r.place
+    ≡ record { part = length TURN - 1; row = 0; column = 0 }
+beat_place r u at = λ z. record {
+  part = last z;
+  row = none r.place.row row z;
+  column = none r.place.column column z;
+}
   where
     row : r.place.row < 1
     row = subst (λ x. r.place.row < rows_in (members r) x) at u.place.row
@@ -282,8 +290,10 @@ first_part r u at = ap (λ (p : Place). part_of (after (members r) (columns r) p
     none : (n : ℕ) → n < 1 → n ≡ 0
     none n l = omega arith
 
-    same : r.place ≡ record { part = length TURN - 1; row = 0; column = 0 }
-    same = λ z. record { part = last z; row = none r.place.row row z; column = none r.place.column column z }
+-- a turn that begins leads to its first part
+pub first_part : (r : Running) → IsUnderway r → part_of r.place ≡ turn_begins
+    → part_of (after (members r) (columns r) r.place) ≡ parts.Look
+first_part r u at = ap (λ (p : Place). part_of (after (members r) (columns r) p)) (beat_place r u at)
 
 unturned : (word : ℕ) (r : Running) (part : Part) → IsDue word r part
     → (does_at word r part).replica.end ≡ None

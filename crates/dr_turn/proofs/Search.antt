@@ -34,7 +34,7 @@ pub applies_from : (r : Running) (p q : Place) → applies (record r { place = p
 applies_from r p q = same_at r p (part_of q) q.row q.column
 
 -- a turn may begin at any time
-beat_test : (part : Part) → is_beat part ≡ true → part ≡ turn_begins
+pub beat_test : (part : Part) → is_beat part ≡ true → part ≡ turn_begins
 beat_test (parts.Do acts.Beat) e = refl
 beat_test part e = absurd (cc)
 
@@ -123,7 +123,7 @@ awake None b e none = e
 awake (Some x) b e none = absurd (cc)
 
 -- what is passed by a member is passed by it wherever it stands
-passed_at : (r : Running) (x p q : Place) → Passed (record r { place = x }) p q → Passed r p q
+pub passed_at : (r : Running) (x p q : Place) → Passed (record r { place = x }) p q → Passed r p q
 passed_at r x _ _ (here p) = here p
 passed_at r x _ _ (on p q e s) =
     on p q (sym (applies_from r x p) ∙ e) (passed_at r x (after (members r) (columns r) p) q s)

@@ -1,9 +1,10 @@
 -- The tasks of a replica: which of its deeds lowers each, and that no deed raises any.
-use Rattle.std.proofs.Common.{◌≡◌, sym, subst, ◌∙◌, ℕ, ◌+◌, ◌-◌, ◌^◌, ◌<◌, ◌≤◌, ◌==◌, nat_lt, true, min, fold, List, [], ◌∷◌, length, slice_index, map, le_trans, le_refl, arith}
-use Rattle.std.proofs.Math.Nat.{min-le_left}
+use Rattle.std.proofs.Common.{◌≡◌, sym, subst, ◌∙◌, ℕ, ◌+◌, ◌-◌, ◌^◌, ◌<◌, ◌≤◌, ◌==◌, nat_lt, true, length, slice_index, le_refl, arith}
 use Rattle.std.proofs.lemmas.Bool.{and_parts, ltb-true}
 use Rattle.std.proofs.lemmas.Bool.Decides.{nat_tests}
 use Rattle.std.proofs.lemmas.List.{get_or-set_same}
+use Rattle.dr_entry.specs.declared.entry.Item.{Item}
+use Rattle.dr_entry.specs.declared.end.SentItem.{SentItem}
 use Rattle.dr_machine.specs.declared.event.Act.TheVariants as acts
 use Rattle.dr_machine.specs.declared.step.Step.{Step}
 use Rattle.dr_machine.specs.declared.step.Step.TheVariants.{Do, Append}
@@ -11,9 +12,10 @@ use Rattle.dr_rows.specs.Words.{own, seen, with_own}
 use Rattle.dr_rows.proofs.Grids.{with_word-same, with_word-column}
 use Rattle.dr_words.specs.declared.column.TheConstants.{BEAT_COLUMN, RECEIVED_COLUMN, LOGGED_COLUMN, DONE_COLUMN}
 use Rattle.dr_program.specs.Acts.{may}
-use Rattle.dr_program.specs.Replica.{Replica, me, greatest, view_of, least_seen, may_deliver, may_mark, may_publish, may_receive, may_report, acted, received, sent, delivered, published, reported, marked}
+use Rattle.dr_program.specs.Replica.{Replica, me, greatest, least_seen, may_deliver, may_mark, may_publish, may_receive, may_report, acted, received, put, delivered, published, reported, marked}
 use Rattle.dr_program.specs.Steps.{NoWordFell, allows, stepped}
 use Rattle.dr_program.specs.Form.{HasForm}
+use Rattle.dr_program.proofs.Least.{least_fits}
 use Rattle.dr_turn.specs.Work.{items_left, places_left, log_left, reports_left, mark_left, tasks}
 use Rattle.dr_turn.proofs.Fewer.{NoneRises, items_less}
 
@@ -48,11 +50,12 @@ received_less r s within form = items_less (greatest r.totals) r.counts s within
     below : slice_index r.counts s < greatest r.totals
     below = omega (arith, form.bounded s, get_or-set_same r.counts s (slice_index r.counts s + 1) 0 within)
 
--- a sent item leaves fewer items to come
-pub sent_less : (r : Replica) → me r < length r.counts → HasForm (acted (sent r))
-    → items_left (acted (sent r)) < items_left r
+-- an item that is put leaves fewer items to come
+pub put_less : (r : Replica) (name : SentItem) (item : Item) → me r < length r.counts
+    → HasForm (acted (put r name item))
+    → items_left (acted (put r name item)) < items_left r
 unfolding items_left
-sent_less r within form = items_less (greatest r.totals) r.counts (me r) within below
+put_less r name item within form = items_less (greatest r.totals) r.counts (me r) within below
   where
     below : slice_index r.counts (me r) < greatest r.totals
     below = omega (
@@ -77,19 +80,12 @@ items_keep : (word : ℕ) (r : Replica) (s : Step) → HasForm r → allows r s 
 unfolding items_left
 items_keep word r (Do (acts.Receive s)) f is form =
     omega (arith, received_less r s (sender_within r s f is) form)
-items_keep word r (Do acts.Send) f is form = omega (arith, sent_less r (me_within r f) form)
+items_keep word r (Do acts.Send) f is form = omega (arith, put_less r _ _ (me_within r f) form)
+items_keep word r (Do acts.Null) f is form = omega (arith, put_less r _ _ (me_within r f) form)
 items_keep word r (Do a) f is form = le_refl _
 items_keep word r s f is form = le_refl _
 
 -- ---- places
-
--- a least word fits 64 bits
-fold_min : (most : ℕ) (words : List ℕ) → fold min most words ≤ most
-fold_min most [] = le_refl most
-fold_min most (x ∷ xs) = le_trans (fold_min (min most x) xs) (min-le_left most x)
-
-least_fits : (r : Replica) (c : ℕ) → least_seen r c ≤ 2 ^ 64 - 1
-least_fits r c = fold_min (2 ^ 64 - 1) (map (λ i. seen r.rows i c) (view_of r))
 
 -- a delivery leaves fewer places to deliver
 pub delivered_less : (r : Replica) → may_deliver r ≡ true → places_left (acted (delivered r))
