@@ -32,14 +32,14 @@ use Rattle.dr_world_laws.proofs.Reached.{Known}
 abbrev first_laid : Group → World → ℕ → List Entry
 first_laid g w p = first_entries g.opening ++ laid g.opening w.past.sent (first_view g.opening) p
 
-history-first : (g : Group) (w : World) (m : ℕ) → Known g w → m < roster g → w.past.history m
+pub history-first : (g : Group) (w : World) (m : ℕ) → Known g w → m < roster g → w.past.history m
     ≡ first_laid g w (w.next m)
 history-first g w m y l = subst
     (λ n. w.past.history m ≡ first_entries g.opening
     ++ laid g.opening w.past.sent (view_numbered g (all_members g) n) (w.next m))
     (y.faithful.beginning.first m) (y.historic.history m l)
 
-held-first : (g : Group) (w : World) (m : ℕ) → Known g w → m < roster g
+pub held-first : (g : Group) (w : World) (m : ℕ) → Known g w → m < roster g
     → HeldBelow w.past.sent (first_view g.opening) (w.next m)
 held-first g w m y l = subst
     (λ n. HeldBelow w.past.sent (view_numbered g (all_members g) n) (w.next m))
@@ -47,7 +47,7 @@ held-first g w m y l = subst
 
 -- ---- agreement
 
-in-order : (g : Group) (w : World) (m : ℕ) → IsGroup g → Known g w → m < roster g
+pub in-order : (g : Group) (w : World) (m : ℕ) → IsGroup g → Known g w → m < roster g
     → InOrder g.opening w.past.sent (w.past.history m)
 in-order g w m is y l = subst (InOrder g.opening w.past.sent) (sym (history-first g w m y l)) (InOrder-laid
     g.opening w.past.sent (first_entries g.opening) (first_view g.opening) (w.next m)

@@ -2,6 +2,8 @@
 -- that has ended
 -- as done shows it.
 use Rattle.std.proofs.Common.{◌≡◌, ◌≢◌, refl, ap, sym, ◌∙◌, ◌⊎◌, inl, inr, subst, ℕ, ◌+◌, ◌*◌, ◌%◌, ◌<◌, arith, true, List, [], ◌∷◌, ◌++◌, length, Some, append-nil, length-append}
+use Rattle.std.specs.Prelude.{Option}
+use Rattle.std.proofs.lemmas.Bool.{cases_eq}
 use Rattle.std.proofs.lemmas.Option.{same_Some}
 use Rattle.dr_entry.specs.declared.entry.Item.{Item}
 use Rattle.dr_entry.specs.declared.end.End.{End}
@@ -13,7 +15,7 @@ use Rattle.dr_ring.specs.Slots.{slot_column}
 use Rattle.dr_words.specs.declared.column.TheConstants.{LOGGED_COLUMN, DONE_COLUMN}
 use Rattle.dr_machine.specs.declared.event.Event.{Event}
 use Rattle.dr_machine.specs.declared.event.Act.{Act}
-use Rattle.dr_machine.specs.declared.event.Act.TheVariants.{Send, Receive, Deliver, Publish, Report, Mark, Halt, Crash}
+use Rattle.dr_machine.specs.declared.event.Act.TheVariants.{Send, Null, Receive, Deliver, Publish, Report, Mark, Halt, Crash}
 use Rattle.dr_machine.specs.declared.step.Step.{Step}
 use Rattle.dr_machine.specs.declared.step.Step.TheVariants.{Do}
 use Rattle.dr_machine.specs.Events.{member_of, step_of}
@@ -22,7 +24,7 @@ use Rattle.dr_machine.specs.Acts.{CanDo, CanTake, Guard, does, effect, effect_of
 use Rattle.dr_machine.specs.Guards.{CanReport, CanMark, CanHalt, CanDeliver, IsFault}
 use Rattle.dr_machine.specs.Writes.{at, at₂, at₃}
 use Rattle.dr_machine.specs.World.{World, own_word, count_of, shown}
-use Rattle.dr_machine.specs.Effects.{stamped, beats, gains, row_with, puts, sends, receives, delivers, publishes, reports, marks, ends}
+use Rattle.dr_machine.specs.Effects.{stamped, gains, row_with, puts, delivers, reports, marks, ends}
 use Rattle.dr_faithful.specs.Faithful.{Faithful}
 use Rattle.dr_faithful.specs.Tells.{Views}
 use Rattle.dr_world_laws.proofs.Histories.{added}
@@ -186,12 +188,35 @@ halt_shows g V w m end f can l =
     shown_own w m 4 1 (can.all m
     (subst (λ x. has x m ≡ true) (sym (f.views.own m)) (f.views.present m (f.beginning.all m l))))
 
+-- an end that was written is the new one, or was there
+end_or_before : (end : ℕ → Option End) (m k : ℕ) (x y : End) → at end m (Some x) k ≡ Some y
+    → (x ≡ y) ⊎ (end k ≡ Some y)
+end_or_before end m k x y e = by (cases_eq k m)
+  where
+    by : (k ≡ m) ⊎ (k ≢ m) → (x ≡ y) ⊎ (end k ≡ Some y)
+    by (inl same) = inl (same_Some x y (grind (arith, e, same)))
+    by (inr other) = inr (grind (arith, e, other))
+
+-- who has ended as done after a step had ended so before it, or the step is such an end
+pub ended_so : (g : Group) (w : World) (m : ℕ) (s : Step) (k : ℕ) → CanTake g w m s
+    → (effect_of g w m s).end k ≡ Some Done → (w.end k ≡ Some Done) ⊎ ((end : End) × CanHalt g w m end)
+ended_so g w m (Do (Halt end)) k can e = inr (end, can)
+ended_so g w m (Do (Crash end)) k can e = by (end_or_before w.end m k end Done e)
+  where
+    by : (end ≡ Done) ⊎ (w.end k ≡ Some Done)
+        → (w.end k ≡ Some Done) ⊎ ((end : End) × CanHalt g w m end)
+    by (inl done) = absurd (subst IsFault done can.fault)
+    by (inr before) = inl before
+ended_so g w m (Do a) k can e = inl e
+ended_so g w m s k can e = inl e
+
 -- each act keeps it, and so does each step
 act_completes : (g : Group) (V : Views) (w : World) (m : ℕ) (a : Act) → Faithful g V w
     → ((m : ℕ) → CanDeliver g w m → m < roster g → own_word w m DONE_COLUMN ≡ 1 → added w m
     ≡ [])
     → CanDo g w m a → Complete g w → Complete g (does g w m a)
 act_completes g V w m Send f nothing can c = put_keeps g w m _ _ c
+act_completes g V w m Null f nothing can c = put_keeps g w m _ _ c
 act_completes g V w m (Receive s) f nothing can c = gain_keeps g w m s _ c
 act_completes g V w m Deliver f nothing can c = deliver_keeps g w m (nothing m can) c
 act_completes g V w m Publish f nothing can c =

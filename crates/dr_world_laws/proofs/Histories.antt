@@ -2,7 +2,9 @@
 use Rattle.std.proofs.Common.{◌≡◌, ◌≢◌, refl, ap, sym, ◌∙◌, ◌⊎◌, inl, inr, subst, ℕ, ◌+◌, ◌<◌, arith, List, [], ◌∷◌, ◌++◌, length, take, slice_get, option_to_list, append_assoc, append-nil}
 use Rattle.dr_entry.specs.declared.entry.Entry.{Entry}
 use Rattle.dr_entry.specs.declared.end.SentItem.{SentItem}
+use Rattle.dr_entry.specs.declared.end.SentItem.TheVariants as sent_items
 use Rattle.dr_entry.specs.declared.end.SentItem.TheVariants.{Index}
+use Rattle.dr_entry.specs.declared.entry.Item.{Item}
 use Rattle.std.proofs.lemmas.Bool.{cases_eq}
 use Rattle.dr_history.specs.declared.opening.Opening.{Opening}
 use Rattle.dr_history.specs.History.{IsPrefixOf, GroupView, Sent, messages_in}
@@ -12,7 +14,7 @@ use Rattle.dr_history_laws.proofs.LaidLemmas.{laid-next}
 use Rattle.dr_history_laws.proofs.SendingLemmas.{GoesOn-send}
 use Rattle.dr_history_laws.proofs.Steady.{laid-steady}
 use Rattle.dr_machine.specs.declared.event.Event.{Event}
-use Rattle.dr_machine.specs.declared.event.Act.TheVariants.{Send, Deliver}
+use Rattle.dr_machine.specs.declared.event.Act.TheVariants.{Send, Null, Deliver}
 use Rattle.dr_machine.specs.declared.step.Step.{Step}
 use Rattle.dr_machine.specs.declared.step.Step.TheVariants.{Do}
 use Rattle.dr_machine.specs.Events.{member_of, step_of}
@@ -21,7 +23,7 @@ use Rattle.dr_machine.specs.Acts.{CanTake, Guard, effect, effect_of}
 use Rattle.dr_machine.specs.Guards.{CanDeliver, CanSend, next_index}
 use Rattle.dr_machine.specs.Writes.{at, at₂}
 use Rattle.dr_machine.specs.World.{World, item_at_place}
-use Rattle.dr_machine.specs.Effects.{delivers, sends, stamped, entries_of, sender_at}
+use Rattle.dr_machine.specs.Effects.{delivers, puts, stamped, entries_of, sender_at}
 use Rattle.dr_faithful.specs.Tells.{Views}
 use Rattle.dr_world_laws.specs.Historic.{view_numbered, Heads, Historic}
 
@@ -100,29 +102,40 @@ goes_still o sent now h v same goes = record {
       (ap (λ xs. slice_get xs k) (sym (same s)) ∙ at);
 }
 
-send_goes : (g : Group) (V : Views) (H : Heads) (w : World) (m : ℕ) → AreBased g H w → CanSend g w m
+-- the message that m may put is the next one
+message_next : (g : Group) (V : Views) (H : Heads) (w : World) (m : ℕ) → AreBased g H w → CanSend g w m
+    → MayBeNext g.opening w.past.sent (H (w.past.view m)) (view_numbered g V (w.past.view m)) m
+    (Index (next_index w m))
+message_next g V H w m based can = record {
+  index = λ i e. let same : next_index w m ≡ i = cc in
+      omega (arith, same, based m can.may.alive.present);
+  scripted = λ i e. let same : next_index w m ≡ i = cc in omega (arith, same, can.left);
+}
+
+-- and a null may always be
+null_next : (g : Group) (V : Views) (H : Heads) (w : World) (m : ℕ)
+    → MayBeNext g.opening w.past.sent (H (w.past.view m)) (view_numbered g V (w.past.view m)) m
+    sent_items.Null
+null_next g V H w m = record { index = λ i e. absurd (cc); scripted = λ i e. absurd (cc) }
+
+put_goes : (g : Group) (V : Views) (H : Heads) (w : World) (m : ℕ) (name : SentItem) (item : Item)
+    → MayBeNext g.opening w.past.sent (H (w.past.view m)) (view_numbered g V (w.past.view m)) m name
     → Historic g V H w
-    → (v : ℕ) → GoesOn g.opening (stamped (sends g w m) m).past.sent (H v) (view_numbered g V v)
-send_goes g V H w m based can h v = by (cases_eq v u)
+    → (v : ℕ) → GoesOn g.opening (stamped (puts g w m name item) m).past.sent (H v)
+    (view_numbered g V v)
+put_goes g V H w m name item next h v = by (cases_eq v u)
   where
     u : ℕ
     u = w.past.view m
 
     items : List SentItem
-    items = w.past.sent m u ++ Index (next_index w m) ∷ []
+    items = w.past.sent m u ++ name ∷ []
 
     now : Sent
     now = at₂ w.past.sent m u items
 
-    next : MayBeNext g.opening w.past.sent (H u) (view_numbered g V u) m (Index (next_index w m))
-    next = record {
-      index = λ i e. let same : next_index w m ≡ i = cc in
-          omega (arith, same, based m can.may.alive.present);
-      scripted = λ i e. let same : next_index w m ≡ i = cc in omega (arith, same, can.left);
-    }
-
     here : GoesOn g.opening now (H u) (view_numbered g V u)
-    here = GoesOn-send g.opening w.past.sent now (H u) (view_numbered g V u) m (Index (next_index w m))
+    here = GoesOn-send g.opening w.past.sent now (H u) (view_numbered g V u) m name
         (h.goes u)
         (record {
           own = at₂_own w.past.sent m u items;
@@ -134,25 +147,29 @@ send_goes g V H w m based can h v = by (cases_eq v u)
     by (inr other) = goes_still g.opening w.past.sent now (H v) (view_numbered g V v)
         (λ s. at₂_view w.past.sent m u items s v other) (h.goes v)
 
-send_keeps : (g : Group) (V : Views) (H : Heads) (w : World) (m : ℕ) → AreHeld g V w → AreBased g H w
-    → CanSend g w m → Historic g V H w
-    → Historic g V H (stamped (sends g w m) m)
-send_keeps g V H w m held based can h = record {
+put_keeps : (g : Group) (V : Views) (H : Heads) (w : World) (m : ℕ) (name : SentItem) (item : Item)
+    → AreHeld g V w
+    → MayBeNext g.opening w.past.sent (H (w.past.view m)) (view_numbered g V (w.past.view m)) m name
+    → Historic g V H w → Historic g V H (stamped (puts g w m name item) m)
+put_keeps g V H w m name item held next h = record {
   history = λ k l. h.history k l ∙ ap (λ es. H (w.past.view k) ++ es) (sym (laid-steady
       g.opening w.past.sent now (view_numbered g V (w.past.view k)) (w.next k)
-      (λ s _. sent_more w.past.sent m (w.past.view m) (Index (next_index w m)) s (w.past.view k))
+      (λ s _. sent_more w.past.sent m (w.past.view m) name s (w.past.view k))
       (held k l)));
-  goes = send_goes g V H w m based can h;
+  goes = put_goes g V H w m name item next h;
 }
   where
     now : Sent
-    now = at₂ w.past.sent m (w.past.view m) (w.past.sent m (w.past.view m) ++ Index (next_index w m) ∷ [])
+    now = at₂ w.past.sent m (w.past.view m) (w.past.sent m (w.past.view m) ++ name ∷ [])
 
 -- each step keeps what the histories are made of
 step_keeps : (g : Group) (V : Views) (H : Heads) (w : World) (m : ℕ) (s : Step) → AreHeld g V w
     → AreBased g H w → ((m : ℕ) → CanDeliver g w m → AddsEntry g V w m)
     → CanTake g w m s → Historic g V H w → Historic g V H (effect_of g w m s)
-step_keeps g V H w m (Do Send) held based adds can h = send_keeps g V H w m held based can h
+step_keeps g V H w m (Do Send) held based adds can h =
+    put_keeps g V H w m (Index (next_index w m)) _ held (message_next g V H w m based can) h
+step_keeps g V H w m (Do Null) held based adds can h =
+    put_keeps g V H w m sent_items.Null _ held (null_next g V H w m) h
 step_keeps g V H w m (Do Deliver) held based adds can h = deliver_keeps g V H w m (adds m can) h
 step_keeps g V H w m (Do a) held based adds can h = record { history = h.history; goes = h.goes }
 step_keeps g V H w m s held based adds can h = record { history = h.history; goes = h.goes }

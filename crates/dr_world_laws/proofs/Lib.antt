@@ -1,6 +1,8 @@
 pub mod Agreeing
-mod Completion
+pub mod Completion
 mod Histories
 mod Items
+pub mod Remaining
+pub mod SentItems
 mod OneView
 pub mod Reached

@@ -14,6 +14,8 @@ ghost use Rattle.dr_machine.specs.Group.{Group, IsGroup, roster};
 ghost use Rattle.dr_machine.specs.World.{World, opening_world};
 ghost use Rattle.dr_machine.specs.Guards.{HoldsAll};
 ghost use Rattle.dr_machine.specs.Run.{Run, IsReached, WorldAgreed};
+ghost use Rattle.dr_history.specs.Order.{first_entries};
+ghost use Rattle.dr_history_laws.specs.Remaining.{remaining};
 ghost use Rattle.dr_world_laws.specs.Historic.{AreLaid, Heads, IsMerged};
 
 /// In every world that a group reaches its members agree: on their histories, on their logs, and on what
@@ -45,4 +47,12 @@ pub fn done_members_hold_all()
     ensures same { (g : Group) (w : World) (m k : ℕ) → IsGroup g → IsReached g w
         → m < roster g → w.end m ≡ Some Done → k < roster g → w.end k ≡ Some Done
         → w.past.history m ≡ w.past.history k }
+{}
+
+/// A member of a reached world that holds all messages has one history, which the script and the start alone
+/// determine: the start, View 0, and the merge of the messages that the start leaves.
+pub fn whole_histories_are_one()
+    ensures { (g : Group) (w : World) (m : ℕ) → IsGroup g → IsReached g w
+        → m < roster g → HoldsAll g w m
+        → w.past.history m ≡ first_entries g.opening ++ remaining g.opening }
 {}

@@ -1,0 +1,6 @@
+use Rattle.dr_world_laws.proofs.Reached.{known}
+use Rattle.dr_world_laws.proofs.Remaining.{holds-remaining}
+use Rattle.dr_world_laws.proofs.whole_histories_are_one.Goals as goal
+
+pub returns : goal.returns
+returns c = λ g w m is r l whole. holds-remaining g w m is (known g w is r) l whole
