@@ -92,7 +92,8 @@ pub step_is : (p : Program) (e : Move) (r : Running) → slice_get p.members e.m
     }
 step_is p e r there unended = ap (λ o. moved_by p o e) there ∙ ap (went p r e) unended
 
-deed_step : (g : Group) (p : Program) (m : ℕ) (r : Running) → IsGroup g → IsProgram g p
+-- a deed whose append goes well is the step that is due
+pub deed_step : (g : Group) (p : Program) (m : ℕ) (r : Running) → IsGroup g → IsProgram g p
     → slice_get p.members m ≡ Some r → r.replica.end ≡ None
     → IsStep g p (record { member = m; outcome = outcomes.Ok }) (next_step r)
 deed_step g p m r group is there unended =

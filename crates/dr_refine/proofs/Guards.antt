@@ -1,22 +1,19 @@
 -- A replica may act exactly where the event may come.
-use Rattle.std.proofs.Common.{◌≡◌, ◌≢◌, refl, sym, ap, ◌∙◌, ◌↔◌, subst, ℕ, ◌+◌, ◌-◌, ◌*◌, ◌^◌, ◌<◌, ◌≤◌, ◌==◌, ◌&&◌, inl, inr, not, Bool, true, max, List, length, map, fold, slice_index, arith, le_trans}
+use Rattle.std.proofs.Common.{◌≡◌, ◌≢◌, refl, sym, ap, ◌∙◌, ◌↔◌, subst, ℕ, ◌+◌, ◌-◌, ◌^◌, ◌<◌, ◌≤◌, ◌==◌, ◌&&◌, inl, inr, not, suc, Bool, true, List, [], ◌∷◌, length, slice_index, arith, le_trans}
 use Rattle.std.proofs.Math.Path.{fun_ext}
 use Rattle.dr_entry.specs.declared.entry.Item.{Item}
 use Rattle.std.specs.Prelude.{Option, Some, None, nat_lt, is_some, IsSome}
-use Rattle.std.specs.List.{list_all}
-use Rattle.std.proofs.lemmas.Bool.{and_from, and_parts, eqb-true}
+use Rattle.std.specs.List.{list_all, list_any}
+use Rattle.std.proofs.lemmas.Bool.{and_from, and_parts, cases_lt, eqb-true, ltb-true, or_cases}
 use Rattle.std.proofs.lemmas.Bool.Decides.{nat_tests}
-use Rattle.std.proofs.lemmas.List.{length-take-le, length-map}
-use Rattle.std.proofs.Math.Nat.{mul-le-mul}
-use Rattle.dr_history.proofs.MemberLemmas.{length_members_below}
+use Rattle.std.proofs.lemmas.List.{get_or_past, length-take-le}
+use Rattle.std.proofs.lemmas.List.Folds.{list_any_at}
 use Rattle.dr_words.proofs.Bits.{has_zero}
 use Rattle.dr_entry.specs.declared.end.End.{End}
 use Rattle.dr_entry.specs.declared.end.End.TheVariants.{Done}
-use Rattle.dr_history.specs.Members.{has, members_below, members_of}
-use Rattle.dr_history.specs.Places.{front_of, is_held}
+use Rattle.dr_history.specs.Members.{has, members_of}
 use Rattle.dr_history.specs.History.{messages_in}
 use Rattle.dr_history.specs.Order.{messages_from}
-use Rattle.dr_history.proofs.Fronts.{first_within}
 use Rattle.dr_ring.specs.Slots.{IsFree, is_free, IsReady, slot_of, slot_column}
 use Rattle.dr_ring.proofs.Freedom.{is_free-true, IsFree-from_test}
 use Rattle.dr_ring.proofs.Readiness.{ready_test}
@@ -28,11 +25,11 @@ use Rattle.dr_machine.proofs.Presence.{is_present}
 use Rattle.dr_machine.specs.Group.{Group, roster, columns}
 use Rattle.dr_machine.specs.World.{World, count_of, shown}
 use Rattle.dr_machine.specs.Guards as guards
-use Rattle.dr_machine.specs.Guards.{IsRunning, MayChoose, IsOther, IsFault, CanBeat, CanLook, CanPush, CanSend, CanReceive, CanDeliver, CanAppend, CanPublish, CanReport, CanMark, CanHalt, CanCrash, HasRoom, seen_slot}
-use Rattle.dr_program.specs.Replica.{Replica, me, view_of, is_other, count, greatest, least_seen, ready_item, next_index, holds_all, all_done, may_receive, may_send, may_deliver, may_append, may_publish, may_report, may_mark}
+use Rattle.dr_machine.specs.Guards.{IsRunning, MayChoose, IsOther, IsFault, CanBeat, CanLook, CanPush, CanSend, CanNull, CanReceive, CanDeliver, CanAppend, CanPublish, CanReport, CanMark, CanHalt, CanCrash, HasRoom, IsBehind, seen_slot}
+use Rattle.dr_program.specs.Replica.{Replica, me, is_other, count, greatest, least_seen, ready_item, next_index, holds_all, all_done, is_behind, may_receive, may_send, may_null, may_deliver, may_append, may_publish, may_report, may_mark}
 use Rattle.dr_program.specs.Reading.{world_of}
 use Rattle.dr_program.proofs.Holdings.{Holding, held_of}
-use Rattle.dr_program.proofs.OpeningForm.{fold_max_within}
+use Rattle.dr_program.proofs.Least.{received_small}
 use Rattle.dr_program.proofs.OwnWords.{same_number, other_number}
 use Rattle.dr_refine.specs.Programs.{IsMember}
 use Rattle.dr_refine.proofs.Members.{fits, inside, shown_seen, own_shown}
@@ -118,24 +115,6 @@ each_below g rs table m r c x is small each =
     ∙ and_from _ _ (grind (arith, nat_tests, here (me r) is.form.present, small))
     (all_members (λ k. nat_lt x (seen r.rows k c)) r.members
     (λ i member. grind (arith, nat_tests, here i member)))
-
--- ---- the bounds of own words
-
-front_within : (counts : List ℕ) → front_of counts ≤ length counts * fold max 0 counts
-unfolding front_of
-front_within counts = let l =
-    first_within (λ p. not (is_held counts p)) 0 (length counts * fold max 0 counts) in omega (arith, l)
-
-received_small : (r : Replica) → ((s : ℕ) → count r s ≤ 4096)
-    → front_of (map (slice_index r.counts) (view_of r)) ≤ 65536
-unfolding members_of
-received_small r bounded =
-    let counts : List ℕ = map (slice_index r.counts) (members_below r.members 16) in
-    let len : length counts ≤ 16 =
-    rw (length-map (members_below r.members 16) (slice_index r.counts)) (length_members_below r.members 16) in
-    le_trans (front_within counts)
-    (mul-le-mul len (fold_max_within (slice_index r.counts) (members_below r.members 16) 0 4096
-    (omega arith) bounded))
 
 -- ---- deliveries and reports
 
@@ -334,24 +313,17 @@ seen_is g rs table m r i c is other =
     ap (λ h. h.seen i c) (held_of g rs table m r is.there)
     ∙ rw (other_number i (me r) (λ e. other (e ∙ is.of.number))) refl
 
--- it sends exactly where that may come
-pub send_guard : (g : Group) (rs : List Replica) (table : List ℕ) (m : ℕ) (r : Replica)
-    → IsMember g rs table m r → r.end ≡ None
-    → (may_send r ≡ true) ↔ CanSend g (world_of g rs table) m
-send_guard g rs table m r is alive = (
-  λ e. let two = and_parts (nat_lt (next_index r) (length r.messages))
-      (is_free r.window r.rows r.members (count r (me r))) e in record {
-        may = may_choose g rs table m r is alive;
-        unwedged = unsuspecting g rs table m r is;
-        left = rw (next, ← is.of.messages) (grind (arith, nat_tests, two.0));
-        room = rw counts (room_from
-            (IsFree-from_test r.window r.rows r.members (count r m) is.form.rows.few roster_is
-            (subst free is.of.number two.1)));
-      },
-  λ can. let left = rw (next, ← is.of.messages) at can.left in
-      and_from _ _ (grind (arith, nat_tests, left))
-      (subst free (sym is.of.number)
-      (is_free-true r.window r.rows r.members (count r m) (room_to (rw counts at can.room)))),
+-- the slot of its next item is free exactly where the world says so
+room_guard : (g : Group) (rs : List Replica) (table : List ℕ) (m : ℕ) (r : Replica)
+    → IsMember g rs table m r
+    → (is_free r.window r.rows r.members (count r (me r)) ≡ true)
+    ↔ HasRoom g (world_of g rs table) m (count_of (world_of g rs table) m m)
+room_guard g rs table m r is = (
+  λ e. rw counts (room_from
+      (IsFree-from_test r.window r.rows r.members (count r m) is.form.rows.few roster_is
+      (subst free is.of.number e))),
+  λ room. subst free (sym is.of.number)
+      (is_free-true r.window r.rows r.members (count r m) (room_to (rw counts at room))),
 )
   where
     free : ℕ → Type 0
@@ -359,9 +331,6 @@ send_guard g rs table m r is alive = (
 
     w : World
     w = world_of g rs table
-
-    next : guards.next_index w m ≡ next_index r
-    next = next_is g rs table m r is
 
     counts : count_of w m m ≡ count r m
     counts = count_is g rs table m r m is
@@ -385,6 +354,77 @@ send_guard g rs table m r is alive = (
         let apart : i ≢ m = λ e. other (e ∙ sym is.of.number) in
         rw is.of.number (rw (seen_is g rs table m r i (recv_column m) is apart, ← is.of.window)
         at (received i (record { member = ap (λ x. has x i) members ∙ member; other = apart }))))
+
+-- it sends exactly where that may come
+pub send_guard : (g : Group) (rs : List Replica) (table : List ℕ) (m : ℕ) (r : Replica)
+    → IsMember g rs table m r → r.end ≡ None
+    → (may_send r ≡ true) ↔ CanSend g (world_of g rs table) m
+send_guard g rs table m r is alive = (
+  λ e. let two = and_parts (nat_lt (next_index r) (length r.messages))
+      (is_free r.window r.rows r.members (count r (me r))) e in record {
+        may = may_choose g rs table m r is alive;
+        unwedged = unsuspecting g rs table m r is;
+        left = rw (next_is g rs table m r is, ← is.of.messages) (grind (arith, nat_tests, two.0));
+        room = (room_guard g rs table m r is).0 two.1;
+      },
+  λ can. let left = rw (next_is g rs table m r is, ← is.of.messages) at can.left in
+      and_from _ _ (grind (arith, nat_tests, left)) ((room_guard g rs table m r is).1 can.room),
+)
+
+-- some number of a list is above k
+pub above_some : (k : ℕ) (xs : List ℕ) → list_any (nat_lt k) xs ≡ true → (s : ℕ) × (k < slice_index xs s)
+above_some k [] e = absurd (cc)
+above_some k (x ∷ xs) e = elim (or_cases (nat_lt k x) (list_any (nat_lt k) xs) e) [
+  | inl here ↦ (0, ltb-true k x here)
+  | inr there ↦ let t = above_some k xs there in (suc t.0, t.1)
+]
+
+-- it is behind exactly where the world says so
+behind_guard : (g : Group) (rs : List Replica) (table : List ℕ) (m : ℕ) (r : Replica)
+    → IsMember g rs table m r → (is_behind r ≡ true) ↔ IsBehind (world_of g rs table) m
+behind_guard g rs table m r is = (
+  λ e. let s = above_some (count r (me r)) r.counts e in (
+    s.0,
+    omega (arith, s.1, counts m, counts s.0, ap (count r) is.of.number),
+  ),
+  λ behind. let less : count r (me r) < count r behind.0 = omega (
+    arith,
+    behind.1,
+    counts m,
+    counts behind.0,
+    ap (count r) is.of.number,
+  ) in
+      list_any_at (nat_lt (count r (me r))) r.counts behind.0 0 (within behind.0 less)
+      (grind (arith, nat_tests, less)),
+)
+  where
+    counts : (s : ℕ) → count_of (world_of g rs table) m s ≡ count r s
+    counts s = count_is g rs table m r s is
+
+    within : (s : ℕ) → count r (me r) < count r s → s < length r.counts
+    within s less = elim (cases_lt s (length r.counts)) [
+      | inl inside ↦ inside
+      | inr past ↦ absurd (omega (arith, less, get_or_past r.counts s 0 past))
+    ]
+
+-- it puts a null exactly where that may come
+pub null_guard : (g : Group) (rs : List Replica) (table : List ℕ) (m : ℕ) (r : Replica)
+    → IsMember g rs table m r → r.end ≡ None
+    → (may_null r ≡ true) ↔ CanNull g (world_of g rs table) m
+null_guard g rs table m r is alive = (
+  λ e. let two = and_parts (not (nat_lt (next_index r) (length r.messages))) _ e in
+      let three = and_parts (is_behind r) _ two.1 in record {
+        may = may_choose g rs table m r is alive;
+        unwedged = unsuspecting g rs table m r is;
+        none_left = rw (next_is g rs table m r is, ← is.of.messages) (grind (arith, nat_tests, two.0));
+        room = (room_guard g rs table m r is).0 three.1;
+        behind = (behind_guard g rs table m r is).0 three.0;
+      },
+  λ can. let none = rw (next_is g rs table m r is, ← is.of.messages) at can.none_left in
+      and_from _ _ (grind (arith, nat_tests, none))
+      (and_from _ _ ((behind_guard g rs table m r is).1 can.behind)
+      ((room_guard g rs table m r is).1 can.room)),
+)
 
 some_test : (o : Option Item) → (is_some o ≡ true) ↔ IsSome o
 some_test None = (λ e. absurd (cc), λ s. absurd (cc))

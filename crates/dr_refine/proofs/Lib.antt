@@ -9,3 +9,4 @@ pub mod Puts
 pub mod Deeds
 pub mod Steps
 pub mod Tests
+pub mod Bounds

@@ -1,9 +1,9 @@
--- What a message that is put, and an item that is received, make of the world.
+-- What an item that is put, and one that is received, make of the world.
 use Rattle.std.proofs.Common.{◌≡◌, ◌≢◌, refl, sym, ap, ◌∙◌, subst, ℕ, ◌+◌, ◌-◌, ◌<◌, ◌≤◌, ◌==◌, ◌&&◌, ◌⊎◌, inl, inr, true, max, if◌then◌else◌, List, [], ◌∷◌, ◌++◌, length, map, fold, slice_index, slice_index_or, arith, length-append, length-take, length-drop, set-set}
 use Rattle.std.proofs.Math.Path.{fun_ext}
-use Rattle.std.specs.Prelude.{slice_set, nat_lt, nat_le, unwrap_or, take, drop, is_some}
+use Rattle.std.specs.Prelude.{slice_set, nat_lt, nat_le, not, unwrap_or, take, drop, is_some}
 use Rattle.std.specs.Int.{div_ceil}
-use Rattle.std.proofs.lemmas.Bool.{and_parts, cases_eq, cases_lt}
+use Rattle.std.proofs.lemmas.Bool.{and_parts, cases_eq, cases_lt, ltb-true}
 use Rattle.std.proofs.lemmas.Bool.Decides.{nat_tests}
 use Rattle.std.proofs.lemmas.List.{get_or_past, length-set, length-map}
 use Rattle.std.proofs.lemmas.List.Elements.{All-set}
@@ -12,6 +12,7 @@ use Rattle.std.proofs.lemmas.Option.{slice_get_within, slice_get-get_or}
 use Rattle.dr_entry.specs.declared.entry.Item.{Item}
 use Rattle.dr_entry.specs.declared.entry.Item.TheVariants.{Null, Text}
 use Rattle.dr_entry.specs.declared.end.SentItem.{SentItem}
+use Rattle.dr_entry.specs.declared.end.SentItem.TheVariants as sent_items
 use Rattle.dr_entry.specs.declared.end.SentItem.TheVariants.{Index}
 use Rattle.dr_history.proofs.Fronts.{count_max}
 use Rattle.dr_ring.specs.Pieces.{pieces, body_piece}
@@ -20,20 +21,21 @@ use Rattle.dr_ring.proofs.Writes.{HasSlot, HasSlot-from, own_set, own_left, othe
 use Rattle.dr_rows.specs.Words.{Words, IsWords, own, row_of}
 use Rattle.dr_words.specs.Columns.{columns_of}
 use Rattle.dr_words.specs.Packing.{ring_word}
+use Rattle.dr_machine.proofs.Sending.{only_messages}
 use Rattle.dr_machine.specs.Writes.{at, at₂}
 use Rattle.dr_machine.specs.Group.{Group, roster}
 use Rattle.dr_machine.specs.World.{World}
 use Rattle.dr_machine.specs.Guards as guards
 use Rattle.dr_machine.specs.Guards.{seen_slot}
-use Rattle.dr_machine.specs.Effects.{stamped, gains, puts, sends, receives, next_item, row_with}
-use Rattle.dr_program.specs.Replica.{Replica, me, count, item, gained, received, sent, greatest, next_index, ready_item, is_other, may_send, may_receive, acted}
+use Rattle.dr_machine.specs.Effects.{stamped, gains, puts, sends, nulls, receives, next_item, row_with}
+use Rattle.dr_program.specs.Replica.{Replica, me, count, item, gained, received, put, sent, nulled, greatest, next_index, ready_item, is_other, is_behind, may_send, may_null, may_receive, acted}
 use Rattle.dr_program.specs.Reading.{world_of}
 use Rattle.dr_program.proofs.Holdings.{Holding, held, holding_of, Changes, replica_set}
 use Rattle.dr_program.proofs.OwnWords.{same_number, other_number}
 use Rattle.dr_refine.specs.Programs.{IsMember, acted_table}
 use Rattle.dr_refine.proofs.Members.{Fits, fits, replaced, then_acted}
 use Rattle.dr_refine.proofs.Gains.{MayGain, fits_gained, gained_world, row_written, own_here, count_here}
-use Rattle.dr_refine.proofs.Guards.{other_member, other_within, count_is, next_is, slot_is}
+use Rattle.dr_refine.proofs.Guards.{above_some, other_member, other_within, count_is, next_is, slot_is}
 
 -- ---- received items
 
@@ -252,61 +254,35 @@ left_over : (g : Group) (rs : List Replica) (table : List ℕ) (m : ℕ) (r : Re
     → IsMember g rs table m r → next_index r < length r.messages → count r m < greatest r.totals
 left_over g rs table m r is left =
     let put : length r.sent ≡ count r m = is.form.put ∙ ap (count r) is.of.number in
-    let named = is.form.named in
-    let length_is = is.form.messages in
-    let bound = most r.totals (me r) in
-    omega (arith, left, put, named, length_is, bound)
+    let all = only_messages r.base (length r.messages) r.sent is.form.order left in
+    omega (arith, left, put, all, is.form.messages, most r.totals (me r))
 
 -- a message has no more pieces than a slot has words
 few_parts : (bytes : List ℕ) → length bytes ≤ 64 → length (pieces (Text bytes)) ≤ 17
 few_parts bytes short =
     omega (arith, short, length-map-range_with_len (body_piece bytes) 0 (div_ceil (length bytes) 4))
 
--- a message is put
-pub send_effect : (g : Group) (rs : List Replica) (table : List ℕ) (m : ℕ) (r : Replica)
-    → IsMember g rs table m r → may_send r ≡ true
-    → world_of g (slice_set rs m (acted (sent r))) (acted_table g table m r)
-    ≡ stamped (sends g (world_of g rs table) m) m
-send_effect g rs table m r is e =
-    then_acted g rs table m (sent r) (sends g w m) within (fits_gained g m p (me r) mid_fits) is.cells
+-- an item is put
+put_effect : (g : Group) (rs : List Replica) (table : List ℕ) (m : ℕ) (r : Replica) (name : SentItem)
+    (item : Item) → IsMember g rs table m r → length (pieces item) ≤ 17 → count r m < greatest r.totals
+    → world_of g (slice_set rs m (acted (put r name item))) (acted_table g table m r)
+    ≡ stamped (puts g (world_of g rs table) m name item) m
+put_effect g rs table m r name item is few below =
+    then_acted g rs table m (put r name item) (puts g w m name item) within
+    (fits_gained g m p (me r) mid_fits) is.cells
     (ap (λ qs. world_of g qs table) (sym (set-set rs m p (gained p (me r) item)))
     ∙ gained_world g (slice_set rs m p) table m p (me r) item (replica_set rs m p within) mid_fits may
-    ∙ ap (λ v. gains v m (me r) item) (placed_world g rs table m r (Index (next_index r)) item is slot few)
-    ∙ ap (λ s. gains (places g w m (Index (next_index r)) item) m s item) is.of.number
-    ∙ ap (λ i. puts g w m (Index i) (Text (slice_index_or r.messages i [])))
-    (sym (next_is g rs table m r is))
-    ∙ ap (λ (list : List (List ℕ)). puts g w m (Index (guards.next_index w m))
-    (Text (slice_index_or list (guards.next_index w m) []))) is.of.messages)
+    ∙ ap (λ v. gains v m (me r) item) (placed_world g rs table m r name item is slot few)
+    ∙ ap (λ s. gains (places g w m name item) m s item) is.of.number)
   where
     w : World
     w = world_of g rs table
 
-    item : Item
-    item = Text (slice_index_or r.messages (next_index r) [])
-
     p : Replica
-    p = placed r (Index (next_index r)) item
+    p = placed r name item
 
     within : m < length rs
     within = slice_get_within rs m r is.there
-
-    f : Fits g m r.rows r.view
-    f = fits g rs table m r is
-
-    left : next_index r < length r.messages
-    left = grind (
-      arith,
-      nat_tests,
-      (and_parts (nat_lt (next_index r) (length r.messages))
-          (is_free r.window r.rows r.members (count r (me r))) e).0,
-    )
-
-    short : length (slice_index_or r.messages (next_index r) []) ≤ 64
-    short = is.form.short (next_index r) (slice_index_or r.messages (next_index r) [])
-        (slice_get-get_or r.messages (next_index r) [] left)
-
-    few : length (pieces item) ≤ 17
-    few = few_parts (slice_index_or r.messages (next_index r) []) short
 
     slot : HasSlot r.window r.rows (count r (me r))
     slot = HasSlot-from r.window r.rows (count r (me r)) is.form.rows
@@ -314,7 +290,7 @@ send_effect g rs table m r is e =
         (is.form.columns ∙ ap (λ n. columns_of n r.window) (sym is.form.members))
 
     mid_fits : Fits g m p.rows p.view
-    mid_fits = fits_placed g m r (Index (next_index r)) item f slot few
+    mid_fits = fits_placed g m r name item (fits g rs table m r is) slot few
 
     may : MayGain g p (me r)
     may = record {
@@ -322,5 +298,41 @@ send_effect g rs table m r is e =
       counts = is.form.counts;
       items = is.form.items;
       sender = omega (arith, is.form.rows.present, is.form.members);
-      few = subst (λ k. count r k < greatest r.totals) (sym is.of.number) (left_over g rs table m r is left);
+      few = subst (λ k. count r k < greatest r.totals) (sym is.of.number) below;
     }
+
+-- a message is put
+pub send_effect : (g : Group) (rs : List Replica) (table : List ℕ) (m : ℕ) (r : Replica)
+    → IsMember g rs table m r → may_send r ≡ true
+    → world_of g (slice_set rs m (acted (sent r))) (acted_table g table m r)
+    ≡ stamped (sends g (world_of g rs table) m) m
+send_effect g rs table m r is e =
+    put_effect g rs table m r (Index (next_index r)) (Text (slice_index_or r.messages (next_index r) [])) is
+    (few_parts (slice_index_or r.messages (next_index r) []) short) (left_over g rs table m r is left)
+    ∙ ap (λ i. stamped (puts g w m (Index i) (Text (slice_index_or r.messages i []))) m)
+    (sym (next_is g rs table m r is))
+    ∙ ap (λ (list : List (List ℕ)). stamped (puts g w m (Index (guards.next_index w m))
+    (Text (slice_index_or list (guards.next_index w m) []))) m) is.of.messages
+  where
+    w : World
+    w = world_of g rs table
+
+    left : next_index r < length r.messages
+    left = ltb-true (next_index r) (length r.messages)
+        (and_parts (nat_lt (next_index r) (length r.messages))
+        (is_free r.window r.rows r.members (count r (me r))) e).0
+
+    short : length (slice_index_or r.messages (next_index r) []) ≤ 64
+    short = is.form.short (next_index r) (slice_index_or r.messages (next_index r) [])
+        (slice_get-get_or r.messages (next_index r) [] left)
+
+-- a null is put
+pub null_effect : (g : Group) (rs : List Replica) (table : List ℕ) (m : ℕ) (r : Replica)
+    → IsMember g rs table m r → may_null r ≡ true
+    → world_of g (slice_set rs m (acted (nulled r))) (acted_table g table m r)
+    ≡ stamped (nulls g (world_of g rs table) m) m
+null_effect g rs table m r is e =
+    let parts = and_parts (not (nat_lt (next_index r) (length r.messages))) _ e in
+    let ahead = above_some (count r (me r)) r.counts (and_parts (is_behind r) _ parts.1).0 in
+    put_effect g rs table m r sent_items.Null Null is (omega arith)
+    (omega (arith, ahead.1, is.form.bounded ahead.0, ap (count r) is.of.number))

@@ -1,5 +1,5 @@
 -- A replica that has no end and passes its test is one whose event may come, and the other way round.
-use Rattle.std.proofs.Common.{◌≡◌, refl, sym, ap, ◌∙◌, ◌↔◌, subst, ℕ, ◌<◌, ◌&&◌, not, true, List, arith, slice_index}
+use Rattle.std.proofs.Common.{◌≡◌, refl, sym, ap, ◌∙◌, ◌↔◌, subst, ℕ, ◌+◌, ◌*◌, ◌<◌, ◌≤◌, ◌&&◌, not, true, List, length, arith, slice_index}
 use Rattle.std.proofs.lemmas.Bool.Decides.{nat_tests}
 use Rattle.std.specs.Prelude.{Option, None, Some, is_some, nat_lt, slice_set}
 use Rattle.std.proofs.lemmas.Bool.{and_from, and_parts}
@@ -8,7 +8,8 @@ use Rattle.dr_entry.specs.declared.end.End.TheVariants.{Done, Crashed, DiskFault
 use Rattle.dr_words.specs.Columns.{columns_of}
 use Rattle.dr_machine.specs.declared.step.Step.{Step}
 use Rattle.dr_machine.specs.declared.step.Step.TheVariants as steps
-use Rattle.dr_machine.specs.Group.{Group, columns, roster}
+use Rattle.dr_machine.specs.Group.{Group, banks, columns, roster}
+use Rattle.dr_machine.specs.Run.{IsReached}
 use Rattle.dr_machine.specs.World.{World}
 use Rattle.dr_program.specs.Steps.{has_cell, allows, may_take, index_in, found, stepped_over, stored}
 use Rattle.dr_machine.specs.Acts.{CanDo, CanTake, effect_of}
@@ -16,18 +17,19 @@ use Rattle.dr_program.specs.Acts.{may, taken}
 use Rattle.dr_machine.specs.Guards.{IsRunning, IsFault}
 use Rattle.dr_machine.specs.declared.event.Act.{Act}
 use Rattle.dr_machine.specs.declared.event.Act.TheVariants as acts
-use Rattle.dr_program.specs.Replica.{Replica, is_other, all_done, is_done, is_fault, may_receive, me, looked, pushed}
+use Rattle.dr_program.specs.Replica.{Replica, greatest, is_other, all_done, is_done, is_fault, may_receive, me, looked, pushed}
 use Rattle.dr_program.specs.Reading.{world_of}
 use Rattle.dr_program.proofs.Holdings.{held_of}
 use Rattle.dr_refine.specs.Programs.{HasRoomFor, IsMember, acted_table}
-use Rattle.dr_refine.proofs.Guards.{other_within, beat_guard, look_guard, push_guard, send_guard, receive_guard, deliver_guard, append_guard, publish_guard, report_guard, mark_guard, halt_guard, crash_guard}
+use Rattle.dr_refine.proofs.Guards.{other_within, beat_guard, look_guard, push_guard, send_guard, null_guard, receive_guard, deliver_guard, append_guard, publish_guard, report_guard, mark_guard, halt_guard, crash_guard}
 use Rattle.dr_rows.specs.Words.{own}
 use Rattle.dr_words.specs.declared.column.TheConstants.{BEAT_COLUMN}
 use Rattle.dr_words.specs.Layout.{word_index_of}
 use Rattle.dr_machine.specs.Effects.{one_more}
 use Rattle.dr_refine.proofs.Acts.{append_effect, beat_effect, deliver_effect, publish_effect, report_effect, mark_effect, end_effect}
+use Rattle.dr_refine.proofs.Bounds.{deliver_bounded, receive_bounded}
 use Rattle.dr_refine.proofs.Looks.{look_effect, push_effect}
-use Rattle.dr_refine.proofs.Puts.{send_effect, receive_effect}
+use Rattle.dr_refine.proofs.Puts.{null_effect, send_effect, receive_effect}
 
 -- a running member has no end
 pub alive : (g : Group) (rs : List Replica) (table : List ℕ) (m : ℕ) (r : Replica)
@@ -64,6 +66,7 @@ act_guard g rs table m r (acts.Receive s) is unended = (
     sender_below s e = let within : s < r.roster = rw is.of.members (other_within g rs table m r s is e) in
         grind (arith, nat_tests, within)
 act_guard g rs table m r acts.Send is unended = with_nothing (send_guard g rs table m r is unended)
+act_guard g rs table m r acts.Null is unended = with_nothing (null_guard g rs table m r is unended)
 act_guard g rs table m r acts.Deliver is unended = deliver_guard g rs table m r is unended
 act_guard g rs table m r acts.Publish is unended = with_nothing (publish_guard g rs table m r is unended)
 act_guard g rs table m r acts.Report is unended = with_nothing (report_guard g rs table m r is unended)
@@ -154,12 +157,26 @@ act_effect g rs table m r acts.Beat is may = beat_effect g rs table m r is
 act_effect g rs table m r (acts.Receive s) is may =
     receive_effect g rs table m r s is (and_parts (nat_lt s r.roster) (may_receive r s) may).1
 act_effect g rs table m r acts.Send is may = send_effect g rs table m r is may
+act_effect g rs table m r acts.Null is may = null_effect g rs table m r is may
 act_effect g rs table m r acts.Deliver is may = deliver_effect g rs table m r is
 act_effect g rs table m r acts.Publish is may = publish_effect g rs table m r is
 act_effect g rs table m r acts.Report is may = report_effect g rs table m r is
 act_effect g rs table m r acts.Mark is may = mark_effect g rs table m r is
 act_effect g rs table m r (acts.Halt end) is may = end_effect g rs table m r end is
 act_effect g rs table m r (acts.Crash end) is may = end_effect g rs table m r end is
+
+-- ---- room
+
+-- the room for a step is there by itself
+pub has_room : (g : Group) (rs : List Replica) (table : List ℕ) (m : ℕ) (r : Replica) (s : Step)
+    → IsMember g rs table m r
+    → length g.opening.start + banks g + greatest r.totals * roster g ≤ r.room
+    → IsReached g (world_of g rs table) → CanTake g (world_of g rs table) m s → HasRoomFor r s
+has_room g rs table m r (steps.Do (acts.Receive s)) is room reached can =
+    receive_bounded g rs table m r s is reached can
+has_room g rs table m r (steps.Do acts.Deliver) is room reached can =
+    deliver_bounded g rs table m r is room reached can
+has_room g rs table m r s is room reached can = tt
 
 -- ---- words of the table
 

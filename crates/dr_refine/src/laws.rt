@@ -1,11 +1,11 @@
 //! Laws that tie replicas and running members to the machine.
-ghost use Rattle.std.specs.Prelude.{◌≡◌, ◌↔◌, ℕ, ◌≤◌, true, List, is_some, slice_get, slice_set, Some, None};
+ghost use Rattle.std.specs.Prelude.{◌≡◌, ◌↔◌, ℕ, ◌+◌, ◌*◌, ◌≤◌, true, List, length, is_some, slice_get, slice_set, Some, None};
 ghost use Rattle.dr_machine.specs.declared.step.Step.{Step};
 ghost use Rattle.dr_program.specs.declared.setup.Setup.{Setup};
-ghost use Rattle.dr_machine.specs.Group.{Group, IsGroup};
+ghost use Rattle.dr_machine.specs.Group.{Group, IsGroup, banks, roster};
 ghost use Rattle.dr_machine.specs.Acts.{CanTake, effect_of};
 ghost use Rattle.dr_machine.specs.Run.{IsReached};
-ghost use Rattle.dr_program.specs.Replica.{Replica};
+ghost use Rattle.dr_program.specs.Replica.{Replica, greatest};
 ghost use Rattle.dr_program.specs.Steps.{allows, may_take, stepped_over, stored};
 ghost use Rattle.dr_program.specs.Running.{Running, next_step};
 ghost use Rattle.dr_program.specs.Program.{Program, Move, AreSetups, after_deed, begun_program, next_sight, step_of};
@@ -20,6 +20,15 @@ pub fn tests_are_guards()
     ensures { (g : Group) (rs : List Replica) (table : List ℕ) (m : ℕ) (r : Replica) (s : Step)
         → IsMember g rs table m r
         → (may_take r s ≡ true) ↔ (CanTake g (world_of g rs table) m s × HasRoomFor r s) }
+{}
+
+/// In a reached world a member has the room that a step asks for, where its history has room for every
+/// message and every View: it never waits for room.
+pub fn room_is_there()
+    ensures { (g : Group) (rs : List Replica) (table : List ℕ) (m : ℕ) (r : Replica) (s : Step)
+        → IsMember g rs table m r
+        → length g.opening.start + banks g + greatest r.totals * roster g ≤ r.room
+        → IsReached g (world_of g rs table) → CanTake g (world_of g rs table) m s → HasRoomFor r s }
 {}
 
 /// What a step makes of a replica and of the table is the effect of the step on the world that they
