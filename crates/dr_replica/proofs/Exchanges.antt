@@ -1,26 +1,26 @@
 -- The fields after an item was taken or put.
-use Rattle.std.proofs.Common.{◌≡◌, ℕ, ◌+◌, ◌*◌, ◌<◌, ◌≤◌, true, false, List, [], ◌∷◌, ◌++◌, length, map, get_or, set, slice_index, slice_index_or, Option, Some, unwrap_or, sym, ap, subst, ◌∙◌, arith}
+use Rattle.std.proofs.Common.{◌≡◌, ℕ, ◌+◌, ◌*◌, ◌<◌, ◌≤◌, false, List, [], ◌∷◌, ◌++◌, length, map, get_or, set, slice_index, slice_index_or, Option, Some, unwrap_or, sym, ap, subst, ◌∙◌, arith, le_trans}
 use Rattle.std.specs.Prelude.{vec_capacity}
 use Rattle.std.proofs.lemmas.List.{get_or-set_same, get_or_read}
 use Rattle.dr_entry.specs.declared.entry.Item.{Item}
 use Rattle.dr_entry.specs.declared.entry.Item.TheVariants.{Null, Text}
 use Rattle.dr_entry.specs.declared.end.SentItem.{SentItem}
-use Rattle.dr_entry.specs.declared.end.SentItem.TheVariants.{Index}
 use Rattle.dr_history.specs.Members.{members_of}
 use Rattle.dr_history.specs.Places.{front_of}
-use Rattle.dr_ring.specs.Slots.{IsFree, item_in, slot_of, with_item}
+use Rattle.dr_ring.specs.Slots.{item_in, slot_of, with_item}
 use Rattle.dr_rows.specs.Words.{Words, own}
 use Rattle.dr_words.specs.declared.column.TheConstants.{RECEIVED_COLUMN}
 use Rattle.dr_words.specs.Columns.{recv_column}
 use Rattle.dr_words.specs.Packing.{recv_word}
-use Rattle.dr_program.specs.Replica.{Replica, me, count, next_index, ready_item, may_send, gained, received, sent}
+use Rattle.dr_program.specs.Replica.{Replica, me, count, greatest, least_seen, next_index, ready_item, gained, put, received}
 use Rattle.dr_program.specs.Form.{HasForm}
 use Rattle.dr_replica.specs.Items.{Held, front, taken}
 use Rattle.dr_replica.specs.Inside.{IsInside, view_of}
 use Rattle.dr_replica.specs.declared.replica.Replica.TheInside.{Inside}
 use Rattle.dr_replica.proofs.Members.{some_member}
 use Rattle.dr_replica.proofs.Gains.{front_rises, shown}
-use Rattle.dr_replica.proofs.Keeps.{next_message, putting, sending, slot_free}
+use Rattle.dr_replica.specs.Puts.{MayPut}
+use Rattle.dr_replica.proofs.Keeps.{message_to_send, putting}
 
 -- the words that follow an item more
 abbrev pub Shown : Words → Words → Held → ℕ → Type 0
@@ -85,72 +85,45 @@ received_after a w t s k o item inside within count from some took after =
 
 -- ---- what was put
 
--- the member, the count, the item and its words, as they were read
-pub record IsPut (a : Inside) (m k : ℕ) (x : Item) (w : Words) (t : Held) : Type 0 where
+-- the member, the count, and the words and items with the item put
+pub record WasPut (a : Inside) (m k : ℕ) (x : Item) (w : Words) (t : Held) : Type 0 where
   pub me : m ≡ a.rows.me
   pub count : k ≡ slice_index a.items.counts m
-  pub item : x ≡ next_message (view_of a)
   pub rows : w ≡ with_item a.shape.window a.rows k x
   pub took : t ≡ taken a.items m x
 
--- the message that was read
-message_read : (a : Inside) (i : ℕ) (read bytes : List ℕ) → IsInside a → may_send (view_of a)
-    ≡ true → i ≡ next_index (view_of a) → read ≡ slice_index_or a.messages.items i read → bytes
-    ≡ read
-    → Text bytes ≡ next_message (view_of a)
-message_read a i read bytes inside may next there same =
-    let s = sending (view_of a) inside.form may in
-    let here = get_or_read a.messages.items i read (omega (arith, next, s.message)) there [] in
-    ap (λ (x : List ℕ). Text x) (same ∙ here ∙ ap (λ (j : ℕ). get_or a.messages.items j []) next)
+-- the message that was read is the next one
+pub message_read : (a : Inside) (now : Replica) (i : ℕ) (read bytes : List ℕ) → view_of a ≡ now
+    → next_index now < length now.messages → i ≡ next_index now
+    → read ≡ slice_index_or a.messages.items i read → bytes ≡ read
+    → Text bytes ≡ message_to_send now
+message_read a now i read bytes same left next there equal =
+    let list : a.messages.items ≡ now.messages = ap (λ (r : Replica). r.messages) same in
+    let here = get_or_read a.messages.items i read (omega (arith, next, left, ap length list)) there [] in
+    ap (λ (x : List ℕ). Text x) (equal ∙ here
+    ∙ ap (λ (xs : List (List ℕ)). get_or xs i []) list
+    ∙ ap (λ (j : ℕ). get_or now.messages j []) next)
 
--- there is room for it, and its slot is free
-pub room_left : (a : Inside) (m : ℕ) → IsInside a → may_send (view_of a) ≡ true → m ≡ a.rows.me
-    → slice_index a.items.counts m < a.items.most
-room_left a m inside may mine =
-    let s = sending (view_of a) inside.form may in
-    rw mine (omega (arith, s.room, inside.most))
+-- there is room for it
+pub room_left : (a : Inside) (m : ℕ) (name : SentItem) (item : Item) → IsInside a
+    → MayPut (view_of a) name item → m ≡ a.rows.me → slice_index a.items.counts m < a.items.most
+room_left a m name item inside may mine = rw mine (omega (arith, may.room, inside.most))
 
--- a member that may send has a free slot for its next item
-pub slot_left : (a : Inside) (m k : ℕ) → IsInside a → may_send (view_of a) ≡ true → m
-    ≡ a.rows.me → k ≡ slice_index a.items.counts m → IsFree a.shape.window a.rows a.members k
-slot_left a m k inside may mine count =
-    subst (λ (n : ℕ). IsFree a.shape.window a.rows a.members n)
-    (sym (count ∙ ap (λ (i : ℕ). slice_index a.items.counts i) mine))
-    (slot_free (view_of a) inside.form may)
-
--- these fields are those of the member's next message as it is put
-pub put_is : (a : Inside) (now : Replica) (m k i : ℕ) (read bytes : List ℕ) (w : Words) (t : Held)
-    → view_of a ≡ now → IsInside a → may_send now ≡ true → m ≡ a.rows.me
-    → k ≡ slice_index a.items.counts m → i ≡ next_index now → read
-    ≡ slice_index_or a.messages.items i read → bytes ≡ read
-    → w ≡ with_item a.shape.window a.rows k (Text bytes) → t ≡ taken a.items m (Text bytes)
-    → IsPut a m k (Text bytes) w t
-put_is a now m k i read bytes w t same inside may mine count next there equal put took = record {
-  me = mine;
-  count = count;
-  item = message_read a i read bytes inside (ap may_send same ∙ may)
-      (next ∙ ap next_index (sym same)) there equal;
-  rows = put;
-  took = took;
-}
-
-rows_are : (a : Inside) (m k : ℕ) (item : Item) (rows : Words) (t : Held) → IsPut a m k item rows t
-    → rows ≡ with_item a.shape.window a.rows (count (view_of a) (me (view_of a)))
-    (next_message (view_of a))
+rows_are : (a : Inside) (m k : ℕ) (item : Item) (rows : Words) (t : Held) → WasPut a m k item rows t
+    → rows ≡ with_item a.shape.window a.rows (count (view_of a) (me (view_of a))) item
 rows_are a m k item rows t p =
-    p.rows ∙ ap (λ (x : Item). with_item a.shape.window a.rows k x) p.item
-    ∙ ap (λ (n : ℕ). with_item a.shape.window a.rows n (next_message (view_of a)))
+    p.rows ∙ ap (λ (n : ℕ). with_item a.shape.window a.rows n item)
     (p.count ∙ ap (λ (i : ℕ). slice_index a.items.counts i) p.me)
 
 -- after a put neither the member's own count nor its front falls
-pub put_shows : (a : Inside) (m k : ℕ) (item : Item) (rows : Words) (t : Held) → IsInside a
-    → may_send (view_of a) ≡ true → IsPut a m k item rows t
+pub put_shows : (a : Inside) (m k : ℕ) (name : SentItem) (item : Item) (rows : Words) (t : Held)
+    → IsInside a → MayPut (view_of a) name item → WasPut a m k item rows t
     → (own rows (recv_column m) ≤ recv_word (slice_index t.counts m) false)
     × (own rows RECEIVED_COLUMN ≤ front t)
-put_shows a m k item rows t inside may p =
+put_shows a m k name item rows t inside may p =
     let r : Replica = view_of a in
     let f = inside.form in
-    let n = putting r f may in
+    let n = putting r name item f may in
     let within : m < a.shape.members = omega (arith, p.me, n.sender) in
     let there = rows_are a m k item rows t p in
     let recv : own rows (recv_column (me r))
@@ -166,44 +139,42 @@ put_shows a m k item rows t inside may p =
     ∙ counted a m (count r m + 1) inside within in
     (omega (arith, mine, new), omega (arith, received, front_after a t m item inside within p.took))
 
--- these fields are those of the replica that has sent its next message
-pub sent_after : (a : Inside) (w : Words) (m k i : ℕ) (item : Item) (rows : Words) (t : Held)
-    (puts : List SentItem) → IsInside a → may_send (view_of a) ≡ true → IsPut a m k item rows t
-    → i ≡ next_index (view_of a) → puts ≡ a.sent.items ++ Index i ∷ [] → Shown rows w t m
-    → record (view_of a) { rows = w; counts = t.counts; items = t.items; sent = puts } ≡ sent (view_of a)
-sent_after a w m k i item rows t puts inside may p next put after =
+-- these fields are those of the replica that has put the item
+pub put_after : (a : Inside) (w : Words) (m k : ℕ) (name : SentItem) (item : Item) (rows : Words)
+    (t : Held) (puts : List SentItem) → IsInside a → MayPut (view_of a) name item
+    → WasPut a m k item rows t
+    → puts ≡ a.sent.items ++ name ∷ [] → Shown rows w t m
+    → record (view_of a) { rows = w; counts = t.counts; items = t.items; sent = puts }
+    ≡ put (view_of a) name item
+put_after a w m k name item rows t puts inside may p more after =
     let r : Replica = view_of a in
-    let within : m < a.shape.members = omega (arith, p.me, (putting r inside.form may).sender) in
+    let within : m < a.shape.members = omega (arith, p.me, (putting r name item inside.form may).sender) in
     gained_after a rows w t m item puts inside within p.took after
     ∙ ap (λ (x : Words). gained (record r { rows = x; sent = puts }) m item) (rows_are a m k item rows t p)
     ∙ ap (λ (xs : List SentItem). gained
-    (record r { rows = with_item a.shape.window a.rows (count r (me r)) (next_message r); sent = xs }) m
-    item) (put ∙ ap (λ (j : ℕ). a.sent.items ++ Index j ∷ []) next)
+    (record r { rows = with_item a.shape.window a.rows (count r (me r)) item; sent = xs }) m item) more
     ∙ ap (λ (j : ℕ). gained (record r {
-      rows = with_item a.shape.window a.rows (count r (me r)) (next_message r);
-      sent = r.sent
-          ++ Index (next_index r) ∷ [];
+      rows = with_item a.shape.window a.rows (count r (me r)) item;
+      sent = r.sent ++ name ∷ [];
     }) j item) p.me
-    ∙ ap (λ (x : Item). gained (record r {
-      rows = with_item a.shape.window a.rows (count r (me r)) (next_message r);
-      sent = r.sent
-          ++ Index (next_index r) ∷ [];
-    }) (me r) x) p.item
 
 -- ---- the fields keep their invariant
 
 -- a taken item leaves the replica in good order inside, where its form is kept
 pub items_kept : (a : Inside) (rows : Words) (t : Held) (s : ℕ) (item : Item) (puts : _) → IsInside a
-    → t ≡ taken a.items s item → length a.messages.items ≤ vec_capacity puts
+    → t ≡ taken a.items s item → greatest a.totals ≤ vec_capacity puts
     → HasForm (view_of (record a { rows = rows; items = t; sent = puts }))
+    → least_seen (view_of a) RECEIVED_COLUMN
+    ≤ least_seen (view_of (record a { rows = rows; items = t; sent = puts })) RECEIVED_COLUMN
     → IsInside (record a { rows = rows; items = t; sent = puts })
-items_kept a rows t s item puts inside took room form = record {
+items_kept a rows t s item puts inside took room form rise = record {
   form = form;
   members = ap (λ (h : Held). h.members) took ∙ inside.members;
   roster = ap (λ (h : Held). h.roster) took ∙ inside.roster;
   most = ap (λ (h : Held). h.most) took ∙ inside.most;
   messages = inside.messages;
   next = inside.next;
+  received = le_trans inside.received rise;
   sent = room;
   past = inside.past;
   end = inside.end;

@@ -1,11 +1,11 @@
 -- The fields keep their invariant.
-use Rattle.std.proofs.Common.{◌≡◌, ℕ, ◌+◌, ◌-◌, ◌*◌, ◌/◌, ◌%◌, ◌^◌, ◌<◌, ◌≤◌, Bool, true, nat_lt, zero, suc, min, fold, map, get_or, slice_index, slice_index_or, List, [], ◌∷◌, ◌++◌, length, Option, sym, ap, subst, ◌∙◌, arith}
+use Rattle.std.proofs.Common.{◌≡◌, ℕ, ◌+◌, ◌*◌, ◌/◌, ◌%◌, ◌^◌, ◌<◌, ◌≤◌, Bool, true, nat_lt, map, slice_index, slice_index_or, List, ◌++◌, length, Option, sym, ap, subst, ◌∙◌, arith, le_trans}
 use Rattle.std.proofs.lemmas.Bool.{and_parts, ltb-true}
 use Rattle.dr_entry.specs.declared.end.End.{End}
 use Rattle.dr_entry.specs.declared.entry.Item.{Item}
 use Rattle.dr_entry.specs.declared.entry.Item.TheVariants.{Null}
 use Rattle.dr_history.specs.Places.{front_of}
-use Rattle.dr_rows.specs.Words.{Words, own, seen}
+use Rattle.dr_rows.specs.Words.{Words}
 use Rattle.dr_words.specs.declared.column.TheConstants.{RECEIVED_COLUMN}
 use Rattle.dr_words.specs.Grown.{Grown}
 use Rattle.dr_machine.specs.Effects.{entries_of}
@@ -16,7 +16,7 @@ use Rattle.dr_replica.specs.Items as items
 use Rattle.dr_replica.specs.Items.{Held}
 use Rattle.dr_replica.specs.History as histories
 use Rattle.dr_replica.specs.History.{Kept}
-use Rattle.dr_replica.proofs.Members.{member_somewhere}
+use Rattle.dr_program.proofs.Least.{least_fits, least_of}
 use Rattle.dr_replica.specs.Inside.{IsInside, view_of}
 use Rattle.dr_replica.specs.Spots.{IsSpot}
 use Rattle.dr_replica.specs.declared.spot.Spot.{Spot}
@@ -27,15 +27,17 @@ pub state_kept : (a : Inside) (rows : Words) (logged durable turns acts : ℕ) (
     → IsInside a
     → HasForm (view_of
     (record a { rows = rows; logged = logged; durable = durable; turns = turns; acts = acts; end = end }))
+    → least_seen (view_of a) RECEIVED_COLUMN ≤ least_seen (record (view_of a) { rows = rows }) RECEIVED_COLUMN
     → IsInside (record a
     { rows = rows; logged = logged; durable = durable; turns = turns; acts = acts; end = end })
-state_kept a rows logged durable turns acts end inside form = record {
+state_kept a rows logged durable turns acts end inside form rise = record {
   form = form;
   members = inside.members;
   roster = inside.roster;
   most = inside.most;
   messages = inside.messages;
   next = inside.next;
+  received = le_trans inside.received rise;
   sent = inside.sent;
   past = inside.past;
   end = inside.end;
@@ -64,16 +66,6 @@ may_of f v now same may = ap f same ∙ may
 pub next_is_spot : (a : Inside) → IsInside a → IsSpot (length a.items.members) a.next
 next_is_spot a inside = subst (λ (ms : List ℕ). IsSpot (length ms) a.next) (sym inside.members) inside.next
 
-least_start : (xs : List ℕ) (a : ℕ) → fold min a xs ≤ a
-least_start [] a = omega arith
-least_start (x ∷ xs) a = omega (arith, least_start xs (min a x))
-
-least_each : (f : ℕ → ℕ) (xs : List ℕ) (a i : ℕ) → i < length xs → fold min a (map f xs)
-    ≤ f (get_or xs i 0)
-least_each f [] a i l = absurd (omega arith)
-least_each f (x ∷ xs) a zero l = omega (arith, least_start (map f xs) (min a (f x)))
-least_each f (x ∷ xs) a (suc i) l = least_each f xs (min a (f x)) i (omega arith)
-
 -- a place that may be delivered is before the own front
 next_held : (r : Replica) → HasForm r → may_deliver r ≡ true
     → (r.next < front_of (map (slice_index r.counts) (replica.view_of r))) × (r.next + 1 < 2 ^ 64)
@@ -81,15 +73,11 @@ next_held r f may =
     let seen_by_all : r.next < least_seen r RECEIVED_COLUMN =
     ltb-true r.next (least_seen r RECEIVED_COLUMN)
     (and_parts (nat_lt r.next (least_seen r RECEIVED_COLUMN)) (nat_lt (length r.history) r.room) may).0 in
-    let at = member_somewhere r.members (replica.me r)
-    (omega (arith, f.rows.present, f.rows.few)) f.present in
-    let least = least_each (λ (i : ℕ). seen r.rows i RECEIVED_COLUMN) (replica.view_of r)
-    (2 ^ 64 - 1) at.0 at.1 in
-    let mine : seen r.rows (get_or (replica.view_of r) at.0 0) RECEIVED_COLUMN
-    ≡ own r.rows RECEIVED_COLUMN = ap (λ (i : ℕ). seen r.rows i RECEIVED_COLUMN) at.2 in
-    let most = least_start (map (λ (i : ℕ). seen r.rows i RECEIVED_COLUMN) (replica.view_of r))
-    (2 ^ 64 - 1) in
-    (omega (arith, seen_by_all, least, mine, f.received), omega (arith, seen_by_all, most))
+    let mine = least_of r RECEIVED_COLUMN (replica.me r) (omega (arith, f.rows.present, f.rows.few)) f.present
+    in (
+      omega (arith, seen_by_all, mine, f.received),
+      omega (arith, seen_by_all, least_fits r RECEIVED_COLUMN),
+    )
 
 -- a member that may deliver has its next place below the front, and can count one more
 pub next_before : (a : Inside) (now : Replica) → view_of a ≡ now → IsInside a → may_deliver now

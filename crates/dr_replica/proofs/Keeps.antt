@@ -1,6 +1,7 @@
 -- Each act of a replica keeps its form, and its words grow.
-use Rattle.std.proofs.Common.{◌≡◌, ◌≢◌, ℕ, ◌+◌, ◌*◌, ◌^◌, ◌<◌, ◌≤◌, ◌⊎◌, inl, inr, true, List, [], ◌∷◌, ◌++◌, length, map, get_or, set, slice_index, Option, Some, is_some, unwrap_or, not, nat_lt, ◌&&◌, ◌==◌, length-append, refl, sym, ap, subst, ◌∙◌, arith, false}
-use Rattle.std.proofs.lemmas.Bool.{cases_eq, cases_lt, and_parts, ltb-true, eqb-false, not-true}
+use Rattle.std.proofs.Common.{◌≡◌, ◌≢◌, ℕ, ◌+◌, ◌*◌, ◌^◌, ◌<◌, ◌≤◌, ◌⊎◌, inl, inr, true, suc, List, [], ◌∷◌, ◌++◌, length, map, get_or, set, slice_index, Option, Some, is_some, unwrap_or, not, nat_lt, ◌&&◌, ◌==◌, length-append, refl, sym, ap, subst, ◌∙◌, arith, false}
+use Rattle.std.specs.List.{list_any}
+use Rattle.std.proofs.lemmas.Bool.{cases_eq, cases_lt, and_parts, ltb-true, eqb-false, not-true, or_cases}
 use Rattle.std.proofs.lemmas.Bool.Decides.{nat_tests}
 use Rattle.std.proofs.lemmas.List.{length-set, length_push, get_or-set_same, get_or-set_other, get_or_past}
 use Rattle.std.proofs.lemmas.Option.{slice_get-get_or}
@@ -9,14 +10,15 @@ use Rattle.dr_entry.specs.declared.entry.Item.{Item}
 use Rattle.dr_entry.specs.declared.entry.Item.TheVariants.{Null, Text}
 use Rattle.dr_entry.specs.declared.end.End.{End}
 use Rattle.dr_entry.specs.declared.end.SentItem.{SentItem}
+use Rattle.dr_entry.specs.declared.end.SentItem.TheVariants as sent_items
 use Rattle.dr_entry.specs.declared.end.SentItem.TheVariants.{Index}
 use Rattle.dr_history.specs.Members.{has}
+use Rattle.dr_history.specs.History.{messages_in}
 use Rattle.dr_history.specs.Places.{front_of}
 use Rattle.dr_history.proofs.Fronts.{count_max}
 use Rattle.dr_ring.specs.Slots.{slot_column, IsFree, is_free, with_item}
 use Rattle.dr_ring.proofs.Freedom.{IsFree-from_test}
 use Rattle.dr_words.specs.Masks.{IsInRoster}
-use Rattle.dr_ring.proofs.Items.{IsItem}
 use Rattle.dr_rows.specs.Words as rows
 use Rattle.dr_rows.specs.Words.{Words, IsWords, own, seen, with_own, is_frozen}
 use Rattle.dr_rows.proofs.WordsLemmas.{IsWords-pushed}
@@ -26,17 +28,19 @@ use Rattle.dr_words.specs.Form.{IsInForm}
 use Rattle.dr_words.specs.Grown.{HasGrown, Grown}
 use Rattle.dr_words.specs.Packing.{ring_tag}
 use Rattle.dr_words.proofs.Order.{Grown_trans}
-use Rattle.dr_history.specs.History.{messages_in}
 use Rattle.dr_words.proofs.Bits.{has_zero}
 use Rattle.dr_program.specs.Acts.{may, taken}
+use Rattle.dr_machine.proofs.Sending.{messages_within, next_message, next_null, only_messages}
+use Rattle.dr_machine.specs.Sending.{IsPut}
 use Rattle.dr_machine.specs.Effects.{one_more, entries_of}
 use Rattle.dr_machine.specs.declared.event.Act.{Act}
 use Rattle.dr_machine.specs.declared.event.Act.TheVariants as acts
-use Rattle.dr_program.specs.Replica.{Replica, me, count, greatest, view_of, is_other, least_seen, sender_at, item_at, may_append, may_deliver, may_receive, may_send, ready_item, next_index, gained, acted, beaten, ended, reported, appended, delivered, published, marked, looked, pushed, received, sent}
+use Rattle.dr_program.specs.Replica.{Replica, me, count, greatest, view_of, is_other, least_seen, sender_at, item_at, may_append, may_deliver, is_behind, may_receive, may_send, may_null, ready_item, next_index, gained, acted, beaten, ended, reported, appended, delivered, published, marked, looked, pushed, put, received}
 use Rattle.dr_program.specs.Form.{HasForm}
 use Rattle.dr_replica.proofs.Members.{some_member}
 use Rattle.dr_replica.proofs.Tables.{IsTable, free_in_form, done_in_form, free_grown, table_looked, table_set, own_written, own_left, own_seen, looked_grown, set_grown}
-use Rattle.dr_replica.proofs.Puts.{message_more, table_put, put_left, put_tags, put_grown}
+use Rattle.dr_replica.specs.Puts.{MayPut}
+use Rattle.dr_replica.proofs.Puts.{table_put, put_left, put_tags, put_grown}
 use Rattle.dr_replica.proofs.Gains.{counts_bounded, front_rises, shown, table_shown, shown_left, shown_recv, shown_received, shown_grown}
 
 -- so far no row is frozen
@@ -97,8 +101,7 @@ rest_keeps r next logged durable turns acts history end f more within room rises
   short = f.short;
   bytes = f.bytes;
   put = f.put;
-  named = f.named;
-  left = f.left;
+  order = f.order;
   logged = within;
   room = room;
   small = f.small;
@@ -145,8 +148,7 @@ words_keep r words sent f w = record {
   short = f.short;
   bytes = f.bytes;
   put = f.put;
-  named = f.named;
-  left = f.left;
+  order = f.order;
   logged = f.logged;
   room = f.room;
   small = f.small;
@@ -208,29 +210,15 @@ beaten_keeps r f = acted_keeps (beaten r)
     (rest_keeps r r.next r.logged r.durable (one_more 32 r.turns) r.acts r.history r.end f
     (omega arith) f.logged f.room (omega arith) f.acts)
 
-beaten_grown : (r : Replica) → HasForm r
-    → Grown r.roster r.rows.words (acted (beaten r)).rows.words r.rows.frozen (acted (beaten r)).rows.frozen
-beaten_grown r f = acted_grown r f
-
 ended_keeps : (r : Replica) (end : End) → HasForm r → HasForm (acted (ended r end))
 ended_keeps r end f = acted_keeps (ended r end)
     (rest_keeps r r.next r.logged r.durable r.turns r.acts r.history (Some end) f
     (omega arith) f.logged f.room (omega arith) f.acts)
 
-ended_grown : (r : Replica) (end : End) → HasForm r
-    → Grown r.roster r.rows.words (acted (ended r end)).rows.words r.rows.frozen
-    (acted (ended r end)).rows.frozen
-ended_grown r end f = acted_grown r f
-
 reported_keeps : (r : Replica) → HasForm r → HasForm (acted (reported r))
 reported_keeps r f = acted_keeps (reported r)
     (rest_keeps r r.next r.logged (least_seen r LOGGED_COLUMN) r.turns r.acts r.history r.end f
     (omega arith) f.logged f.room (omega arith) f.acts)
-
-reported_grown : (r : Replica) → HasForm r
-    → Grown r.roster r.rows.words (acted (reported r)).rows.words r.rows.frozen
-    (acted (reported r)).rows.frozen
-reported_grown r f = acted_grown r f
 
 -- an append keeps a replica in form
 pub appended_keeps : (r : Replica) → HasForm r → may_append r ≡ true → HasForm (appended r)
@@ -254,12 +242,6 @@ delivered_keeps r f may =
     acted_keeps (delivered r) (rest_keeps r (r.next + 1) r.logged r.durable r.turns r.acts
     (r.history ++ new) r.end f (omega arith) (omega (arith, more, f.logged))
     (omega (arith, more, one, room)) (omega arith) f.acts)
-
--- no word falls by a delivery
-pub delivered_grown : (r : Replica) → HasForm r
-    → Grown r.roster r.rows.words (acted (delivered r)).rows.words r.rows.frozen
-    (acted (delivered r)).rows.frozen
-delivered_grown r f = acted_grown r f
 
 -- ---- own words of their own
 
@@ -364,8 +346,7 @@ pub record IsPutting (r : Replica) (s : ℕ) (words : List (List ℕ)) (puts : L
       → ring_tag (own (record r.rows { words = words }) (slot_column r.roster r.window k + part))
       ≤ get_or (set r.counts s (count r s + 1)) (me r) 0
   pub put : length puts ≡ get_or (set r.counts s (count r s + 1)) (me r) 0
-  pub named : messages_in puts ≡ length puts
-  pub left : r.base + length puts ≤ length r.messages
+  pub order : IsPut r.base (length r.messages) puts
 
 gained_keeps : (r : Replica) (s : ℕ) (item : Item) (words : List (List ℕ)) (puts : List SentItem)
     → HasForm r → IsPutting r s words puts
@@ -418,8 +399,7 @@ gained_keeps r s item words puts f p =
       short = f.short;
       bytes = f.bytes;
       put = p.put;
-      named = p.named;
-      left = p.left;
+      order = p.order;
       logged = f.logged;
       room = f.room;
       small = f.small;
@@ -461,8 +441,7 @@ receiving r s f may =
       kept = λ c l. refl;
       ring = λ k part l. rw mine (f.ring k part l);
       put = f.put ∙ sym mine;
-      named = f.named;
-      left = f.left;
+      order = f.order;
     }
 
 -- receiving an item that may be received keeps a replica in form
@@ -486,17 +465,7 @@ received_grown r s f may =
     (gained_grown r s (unwrap_or (ready_item r s) Null) r.rows.words r.sent f (receiving r s f may))
     (acted_grown (received r s) (received_form r s f may))
 
--- ---- sending
-
--- the message that it sends next
-abbrev pub next_message : Replica → Item
-next_message r = Text (get_or r.messages (next_index r) [])
-
--- what it may send has its ranges
-pub record IsSending (r : Replica) : Type 0 where
-  pub message : next_index r < length r.messages
-  pub item : IsItem (next_message r)
-  pub room : count r (me r) < greatest r.totals
+-- ---- putting
 
 -- nobody has more than the greatest number
 totals_most : (totals : List ℕ) (i : ℕ) → get_or totals i 0 ≤ greatest totals
@@ -506,80 +475,108 @@ totals_most totals i =
       | inr past ↦ omega (arith, get_or_past totals i 0 past)
     ]
 
--- what a member may send has its ranges
-pub sending : (r : Replica) → HasForm r → may_send r ≡ true → IsSending r
+-- the message that it sends next
+abbrev pub message_to_send : Replica → Item
+message_to_send r = Text (get_or r.messages (next_index r) [])
+
+-- a message is left exactly where it has put fewer items than there are messages from its first one on
+pub message_left : (r : Replica) → HasForm r
+    → nat_lt (r.base + length r.sent) (length r.messages) ≡ nat_lt (next_index r) (length r.messages)
+message_left r f = elim (cases_lt (messages_in r.sent) (length r.sent)) [
+  | inl null ↦ grind (arith, nat_tests, null, f.order.nulls null)
+  | inr all ↦ ap (λ (n : ℕ). nat_lt (r.base + n) (length r.messages))
+      (omega (arith, all, messages_within r.sent))
+]
+
+-- the slot of its next item is free, where the test says so
+slot_free : (r : Replica) → HasForm r → is_free r.window r.rows r.members (count r (me r)) ≡ true
+    → IsFree r.window r.rows r.members (count r (me r))
+slot_free r f free =
+    IsFree-from_test r.window r.rows r.members (count r (me r)) f.rows.few
+    (subst (λ (n : ℕ). IsInRoster n r.members) (sym f.members) f.roster) free
+
+-- a member that may send may put its next message
+pub sending : (r : Replica) → HasForm r → may_send r ≡ true
+    → MayPut r (Index (next_index r)) (message_to_send r)
 sending r f may =
     let i : ℕ = next_index r in
-    let message : i < length r.messages =
-    ltb-true i (length r.messages)
-    (and_parts (nat_lt i (length r.messages))
-    (is_free r.window r.rows r.members (count r (me r))) may).0 in
-    let there = slice_get-get_or r.messages i [] message in
-    let most : length r.messages ≤ greatest r.totals =
-    omega (arith, f.messages, totals_most r.totals (me r)) in
+    let two = and_parts (nat_lt i (length r.messages))
+    (is_free r.window r.rows r.members (count r (me r))) may in
+    let left : i < length r.messages = ltb-true i (length r.messages) two.0 in
+    let there = slice_get-get_or r.messages i [] left in
+    let all = only_messages r.base (length r.messages) r.sent f.order left in
     record {
-      message = message;
-      item = (f.short i (get_or r.messages i []) there, f.bytes i (get_or r.messages i []) there);
-      room = omega (arith, message, most, f.put, f.named);
+      ranges = (f.short i (get_or r.messages i []) there, f.bytes i (get_or r.messages i []) there);
+      room = omega (arith, left, f.messages, totals_most r.totals (me r), f.put, all);
+      free = slot_free r f two.1;
+      order = next_message r.base (length r.messages) r.sent f.order left;
     }
 
--- a member that may send puts its next message in words of its own
-pub putting : (r : Replica) → HasForm r → may_send r ≡ true
-    → IsPutting r (me r) (with_item r.window r.rows (count r (me r)) (next_message r)).words
-    (r.sent ++ Index (next_index r) ∷ [])
-putting r f may =
-    let s = sending r f may in
+-- a number above one of the counts is none of the greatest
+behind_some : (k most : ℕ) (counts : List ℕ) → ((s : ℕ) → slice_index counts s ≤ most)
+    → list_any (nat_lt k) counts ≡ true → k < most
+behind_some k most [] bounded e = absurd (cc)
+behind_some k most (x ∷ xs) bounded e = elim (or_cases (nat_lt k x) (list_any (nat_lt k) xs) e) [
+  | inl here ↦ omega (arith, ltb-true k x here, bounded 0)
+  | inr there ↦ behind_some k most xs (λ s. bounded (suc s)) there
+]
+
+-- one that may put a null may put it
+pub filling : (r : Replica) → HasForm r → may_null r ≡ true → MayPut r sent_items.Null Null
+filling r f may =
+    let two = and_parts (not (nat_lt (next_index r) (length r.messages))) _ may in
+    let three = and_parts (is_behind r) _ two.1 in
+    record {
+      ranges = tt;
+      room = behind_some (count r (me r)) (greatest r.totals) r.counts f.bounded three.0;
+      free = slot_free r f three.1;
+      order = next_null r.base (length r.messages) r.sent f.order (grind (arith, nat_tests, two.0));
+    }
+
+-- what a member may put stands in words of its own
+pub putting : (r : Replica) (name : SentItem) (item : Item) → HasForm r → MayPut r name item
+    → IsPutting r (me r) (with_item r.window r.rows (count r (me r)) item).words (r.sent ++ name ∷ [])
+putting r name item f may =
     let k : ℕ = count r (me r) in
     let mine : get_or (set r.counts (me r) (k + 1)) (me r) 0
     ≡ k + 1 = get_or-set_same r.counts (me r) (k + 1) 0 (omega (arith, me_within r f, f.counts)) in
-    let more = length_push r.sent (Index (next_index r)) in
     record {
       sender = me_within r f;
-      room = s.room;
-      table = table_put r.roster r.window r.rows k (next_message r) (table_of r f) f.some_slot s.item;
-      kept = λ c l. put_left r.roster r.window r.rows k (next_message r) c
-          (table_of r f) f.some_slot s.item l;
-      ring = λ i part l. rw mine (put_tags r.roster r.window r.rows k (next_message r)
-          (slot_column r.roster r.window i + part) (table_of r f) f.some_slot s.item (f.ring i part l));
-      put = more ∙ ap (λ (n : ℕ). n + 1) f.put ∙ sym mine;
-      named = omega (arith, message_more r.sent (next_index r), more, f.named);
-      left = omega (arith, more, s.message, f.named);
+      room = may.room;
+      table = table_put r.roster r.window r.rows k item (table_of r f) f.some_slot may.ranges;
+      kept = λ c l. put_left r.roster r.window r.rows k item c (table_of r f) f.some_slot may.ranges l;
+      ring = λ i part l. rw mine (put_tags r.roster r.window r.rows k item
+          (slot_column r.roster r.window i + part) (table_of r f) f.some_slot may.ranges (f.ring i part l));
+      put = length_push r.sent name ∙ ap (λ (n : ℕ). n + 1) f.put ∙ sym mine;
+      order = may.order;
     }
 
--- sending a message that may be sent keeps a replica in form
-pub sent_form : (r : Replica) → HasForm r → may_send r ≡ true → HasForm (sent r)
-sent_form r f may =
-    gained_keeps r (me r) (next_message r)
-    (with_item r.window r.rows (count r (me r)) (next_message r)).words
-    (r.sent ++ Index (next_index r) ∷ []) f (putting r f may)
+-- putting it keeps a replica in form
+pub put_form : (r : Replica) (name : SentItem) (item : Item) → HasForm r → MayPut r name item
+    → HasForm (put r name item)
+put_form r name item f may =
+    gained_keeps r (me r) item (with_item r.window r.rows (count r (me r)) item).words
+    (r.sent ++ name ∷ []) f (putting r name item f may)
 
--- the act of sending keeps a replica in form
-pub sent_keeps : (r : Replica) → HasForm r → may_send r ≡ true → HasForm (acted (sent r))
-sent_keeps r f may = acted_keeps (sent r) (sent_form r f may)
+-- and so does the act of putting it
+pub put_keeps : (r : Replica) (name : SentItem) (item : Item) → HasForm r → MayPut r name item
+    → HasForm (acted (put r name item))
+put_keeps r name item f may = acted_keeps (put r name item) (put_form r name item f may)
 
--- no word falls by the act of sending
-pub sent_grown : (r : Replica) → HasForm r → may_send r ≡ true
-    → Grown r.roster r.rows.words (acted (sent r)).rows.words r.rows.frozen (acted (sent r)).rows.frozen
-sent_grown r f may =
-    let s = sending r f may in
-    let words : List (List ℕ) = (with_item r.window r.rows (count r (me r)) (next_message r)).words in
-    Grown_trans r.roster r.rows.words (sent r).rows.words
-    (acted (sent r)).rows.words r.rows.frozen r.rows.frozen r.rows.frozen
-    (Grown_trans r.roster r.rows.words words (sent r).rows.words r.rows.frozen r.rows.frozen r.rows.frozen
-    (put_grown r.roster r.window r.rows (count r (me r)) (next_message r) (table_of r f) f.some_slot s.item
+-- no word falls by it
+pub put_rises : (r : Replica) (name : SentItem) (item : Item) → HasForm r → MayPut r name item
+    → Grown r.roster r.rows.words (acted (put r name item)).rows.words r.rows.frozen
+    (acted (put r name item)).rows.frozen
+put_rises r name item f may =
+    let words : List (List ℕ) = (with_item r.window r.rows (count r (me r)) item).words in
+    Grown_trans r.roster r.rows.words (put r name item).rows.words
+    (acted (put r name item)).rows.words r.rows.frozen r.rows.frozen r.rows.frozen
+    (Grown_trans r.roster r.rows.words words (put r name item).rows.words r.rows.frozen r.rows.frozen
+    r.rows.frozen
+    (put_grown r.roster r.window r.rows (count r (me r)) item (table_of r f) f.some_slot may.ranges
     (λ part lt. f.ring (count r (me r)) part lt))
-    (gained_grown r (me r) (next_message r) words (r.sent ++ Index (next_index r) ∷ []) f
-    (putting r f may)))
-    (acted_grown (sent r) (sent_form r f may))
-
--- the slot of the item that it sends is free
-pub slot_free : (r : Replica) → HasForm r → may_send r ≡ true
-    → IsFree r.window r.rows r.members (count r (me r))
-slot_free r f may =
-    let free = and_parts (nat_lt (next_index r) (length r.messages))
-    (is_free r.window r.rows r.members (count r (me r))) may in
-    IsFree-from_test r.window r.rows r.members (count r (me r)) f.rows.few
-    (subst (λ (n : ℕ). IsInRoster n r.members) (sym f.members) f.roster) free.1
+    (gained_grown r (me r) item words (r.sent ++ name ∷ []) f (putting r name item f may)))
+    (acted_grown (put r name item) (put_form r name item f may))
 
 -- ---- every act
 
@@ -588,7 +585,8 @@ pub taken_keeps : (r : Replica) (a : Act) → HasForm r → may r a ≡ true →
 taken_keeps r acts.Beat f m = beaten_keeps r f
 taken_keeps r (acts.Receive s) f m =
     received_keeps r s f (and_parts (nat_lt s r.roster) (may_receive r s) m).1
-taken_keeps r acts.Send f m = sent_keeps r f m
+taken_keeps r acts.Send f m = put_keeps r _ _ f (sending r f m)
+taken_keeps r acts.Null f m = put_keeps r _ _ f (filling r f m)
 taken_keeps r acts.Deliver f m = delivered_keeps r f m
 taken_keeps r acts.Publish f m = published_keeps r f
 taken_keeps r acts.Report f m = reported_keeps r f
@@ -601,7 +599,8 @@ pub taken_grown : (r : Replica) (a : Act) → HasForm r → may r a ≡ true
     → Grown r.roster r.rows.words (taken r a).rows.words r.rows.frozen (taken r a).rows.frozen
 taken_grown r (acts.Receive s) f m =
     received_grown r s f (and_parts (nat_lt s r.roster) (may_receive r s) m).1
-taken_grown r acts.Send f m = sent_grown r f m
+taken_grown r acts.Send f m = put_rises r _ _ f (sending r f m)
+taken_grown r acts.Null f m = put_rises r _ _ f (filling r f m)
 taken_grown r acts.Publish f m = published_grown r f
 taken_grown r acts.Mark f m = marked_grown r f
 taken_grown r a f m = acted_grown r f

@@ -6,6 +6,7 @@ pub mod Places
 pub mod Histories
 pub mod Puts
 pub mod Keeps
+pub mod Received
 pub mod Insides
 pub mod Exchanges
 pub mod Openings

@@ -53,6 +53,7 @@ pub record AreBegun (a : Inside) (s : Setup) (fresh : Words) (top : ℕ) : Type 
   pub base : a.base ≡ length (messages_from s.me a.history.entries)
   pub sent : a.sent.items ≡ []
   pub next : a.next ≡ first_spot
+  pub received : a.received ≡ 0
   pub history : a.history ≡ record {
     roster = s.shape.members;
     entries = first_entries_of s;
@@ -94,7 +95,7 @@ begun_view a s first most b =
 
 -- the fields as they were made are in good order inside
 pub begun_inside : (a : Inside) (s : Setup) (first : Words) (most : ℕ) → CanBegin s
-    → AreBegun a s first most → length a.messages.items ≤ vec_capacity a.sent → a.past.items ≡ []
+    → AreBegun a s first most → most ≤ vec_capacity a.sent → a.past.items ≡ []
     → 1 ≤ vec_capacity a.past → IsInside a
 begun_inside a s first most can b sent past end = record {
   form = subst HasForm (sym (begun_view a s first most b)) (begun_in_form s can);
@@ -103,7 +104,8 @@ begun_inside a s first most can b sent past end = record {
   most = ap (λ (h : Held). h.most) b.items ∙ b.most ∙ ap greatest (sym b.totals);
   messages = ap (λ (h : Kept). h.roster) b.history ∙ ap (λ (x : _). x.members) (sym b.shape);
   next = rw (b.next, b.members) (first_is_spot (length (members_of s.members)) (someone s can));
-  sent = sent;
+  received = rw b.received (omega arith);
+  sent = rw (b.totals, ← b.most) sent;
   past = past;
   end = end;
 }

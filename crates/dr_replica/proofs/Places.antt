@@ -135,11 +135,6 @@ taken_held h s item is sender room = record {
   items = length-set h.items (get_or h.counts s 0 * h.roster + s) item ∙ is.items;
 }
 
-place_within : (h : Held) (s : ℕ) → IsHeld h → s < h.roster → get_or h.counts s 0 < h.most
-    → get_or h.counts s 0 * h.roster + s < length h.items
-place_within h s is sender room = let place =
-    mul-add-lt (get_or h.counts s 0) h.roster s h.most room sender in omega (arith, place, is.items)
-
 still_held : (h : Held) (s : ℕ) → IsHeld h → s < h.roster
     → AllHeldBelow (map (slice_index (set h.counts s (get_or h.counts s 0 + 1))) h.members) (front h)
 still_held h s is sender =

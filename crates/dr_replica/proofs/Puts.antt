@@ -1,12 +1,9 @@
 -- The words of a member that puts an item.
-use Rattle.std.proofs.Common.{◌≡◌, ℕ, ◌+◌, ◌-◌, ◌*◌, ◌<◌, ◌≤◌, inl, inr, List, [], ◌∷◌, ◌++◌, length, get_or, take, drop, map, refl, sym, ap, subst, ◌∙◌, arith, length-append, length-take, length-drop}
+use Rattle.std.proofs.Common.{◌≡◌, ℕ, ◌+◌, ◌-◌, ◌*◌, ◌<◌, ◌≤◌, inl, inr, List, [], ◌++◌, length, get_or, take, drop, map, sym, ap, subst, ◌∙◌, arith, length-append, length-take, length-drop}
 use Rattle.std.proofs.lemmas.Bool.{cases_lt}
 use Rattle.std.proofs.lemmas.List.{length-set, length-map}
 use Rattle.std.proofs.lemmas.List.Elements.{All-set}
-use Rattle.dr_entry.specs.declared.end.SentItem.{SentItem}
-use Rattle.dr_entry.specs.declared.end.SentItem.TheVariants.{Null, Index}
 use Rattle.dr_entry.specs.declared.entry.Item.{Item}
-use Rattle.dr_history.specs.History.{messages_in}
 use Rattle.dr_rows.specs.Words.{Words, own, row_of}
 use Rattle.dr_words.specs.Columns.{columns_of}
 use Rattle.dr_words.specs.Grown.{Grown}
@@ -18,13 +15,6 @@ use Rattle.dr_ring.proofs.Writes.{HasSlot, HasSlot-from, own_set}
 use Rattle.dr_ring.proofs.Writes as writes
 use Rattle.dr_ring.proofs.Growing.{pieces_grow, pieces_in_form}
 use Rattle.dr_replica.proofs.Tables.{IsTable}
-
--- a message more
-pub message_more : (xs : List SentItem) (i : ℕ) → messages_in (xs ++ Index i ∷ [])
-    ≡ messages_in xs + 1
-message_more [] i = refl
-message_more (Null ∷ xs) i = message_more xs i
-message_more (Index j ∷ xs) i = omega (arith, message_more xs i)
 
 -- a row stays as long as it is
 written_long : (row : List ℕ) (column : ℕ) (words : List ℕ) → column + length words ≤ length row

@@ -1,5 +1,5 @@
 -- A spot is a place, split.
-use Rattle.std.proofs.Common.{◌≡◌, ℕ, ◌+◌, ◌*◌, ◌/◌, ◌%◌, ◌<◌, sym, ap, ◌∙◌, arith}
+use Rattle.std.proofs.Common.{◌≡◌, ℕ, ◌+◌, ◌/◌, ◌%◌, ◌<◌, sym, ap, ◌∙◌, arith}
 use Rattle.dr_history.proofs.PlaceLemmas.{place_of-div, place_of-mod}
 use Rattle.dr_replica.specs.declared.spot.Spot.{Spot}
 use Rattle.dr_replica.specs.Spots.{IsSpot, first_spot}
@@ -12,14 +12,6 @@ first_is_spot ranks some = record { rank = some; place = omega arith }
 next_is_spot : (ranks : ℕ) (s : Spot) → IsSpot ranks s → s.rank + 1 < ranks
     → IsSpot ranks (record { place = s.place + 1; rank = s.rank + 1; number = s.number })
 next_is_spot ranks s is more = record { rank = more; place = omega (arith, is.place) }
-
-round_is_spot : (ranks : ℕ) (s : Spot) → IsSpot ranks s → s.rank + 1 ≡ ranks
-    → IsSpot ranks (record { place = s.place + 1; rank = 0; number = s.number + 1 })
-round_is_spot ranks s is last =
-    record { rank = omega (arith, last); place = omega (arith, is.place, last, one_more s.number ranks) }
-  where
-    one_more : (k n : ℕ) → (k + 1) * n ≡ k * n + n
-    one_more k n = omega arith
 
 -- the rank and the number of the place
 pub spot_rank : (ranks : ℕ) (s : Spot) → IsSpot ranks s → s.rank ≡ s.place % ranks

@@ -2,8 +2,9 @@
 use Rattle.std.specs.Prelude.{◌≡◌, ℕ, ◌<◌, ◌≤◌, [], length, slice_index, vec_capacity}
 use Rattle.dr_history.specs.Order.{messages_from}
 use Rattle.dr_history.specs.Members.{members_of}
-use Rattle.dr_program.specs.Replica.{Replica, greatest}
+use Rattle.dr_program.specs.Replica.{Replica, greatest, least_seen}
 use Rattle.dr_program.specs.Form.{HasForm}
+use Rattle.dr_words.specs.declared.column.TheConstants.{RECEIVED_COLUMN}
 use Rattle.dr_replica.specs.Items.{Held, IsHeld, front}
 use Rattle.dr_replica.specs.Spots.{IsSpot}
 use Rattle.dr_replica.specs.History.{Kept, IsKept}
@@ -68,7 +69,8 @@ pub record IsInside (a : replica.Inside) : Type 0 where
   pub most : a.items.most ≡ greatest a.totals
   pub messages : a.history.roster ≡ a.shape.members
   pub next : IsSpot (length (members_of a.members)) a.next
+  pub received : a.received ≤ least_seen (view_of a) RECEIVED_COLUMN
   -- there is room for what it has yet to put, and to tell how it ended
-  pub sent : length a.messages.items ≤ vec_capacity a.sent
+  pub sent : greatest a.totals ≤ vec_capacity a.sent
   pub past : a.past.items ≡ []
   pub end : 1 ≤ vec_capacity a.past

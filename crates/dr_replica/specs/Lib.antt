@@ -2,3 +2,4 @@ pub mod Items
 pub mod Spots
 pub mod History
 pub mod Inside
+pub mod Puts

@@ -1,4 +1,5 @@
 ghost use Rattle.std.specs.Prelude.{◌≡◌, ℕ, ◌<◌, ◌≤◌, IfOk, length, map, nat_lt, replicate, slice_index};
+ghost use Rattle.std.specs.List.{list_any};
 ghost use Rattle.dr_history.specs.Members.{has, members_of};
 ghost use Rattle.dr_history.specs.Places.{AllHeldBelow, front_of, is_held};
 ghost use Rattle.dr_replica.specs.Spots.{IsSpot};
@@ -7,6 +8,7 @@ ghost use Rattle.dr_words.specs.Masks.{IsInRoster};
 use crate::spot::Spot;
 use dr_entry::Item;
 use dr_history::members_of;
+use dr_order::null_due;
 use dr_words::Mask;
 use std::alloc::{AllocError, Global};
 use std::marker::Model;
@@ -80,6 +82,15 @@ impl Items {
         ensures bounded { result ≤ 4096 }
     {
         self.counts[usize::from(member)]
+    }
+
+    /// Whether there are more items of some member than of this one.
+    #[inline]
+    pub(crate) fn is_behind(&self, member: u8) -> bool
+        requires { member < self.now.roster }
+        ensures { result ≡ list_any (nat_lt (slice_index self.now.counts member)) self.now.counts }
+    {
+        null_due(self.counts.as_slice(), member)
     }
 
     /// Whether there is room for one item more of a member.

@@ -30,6 +30,9 @@ pub struct Replica {
     /// What it put in earlier views, with room for this one.
     past: Vec<ViewSent>,
     next: Spot,
+    /// Every member of the view was seen to have received the places below this one. That stays so, as
+    /// received words only rise; it is asked anew once the next place has come to it.
+    received: u64,
     history: History,
     logged: usize,
     durable: u64,

@@ -2,9 +2,10 @@
 ghost use Rattle.std.specs.Prelude.{◌≡◌, ◌<◌, ◌≤◌, ◌+◌, ◌^◌, false, slice_index, true};
 ghost use Rattle.dr_program.specs.Form.{HasForm};
 ghost use Rattle.dr_program.specs.Acts.{done, may, taken};
-ghost use Rattle.dr_program.specs.Replica.{acted, appended, delivered, is_other, looked, marked, may_append, may_deliver, may_receive, may_send, published, pushed, received, reported, sent};
+ghost use Rattle.dr_program.specs.Replica.{acted, appended, delivered, is_other, looked, marked, may_append, may_deliver, may_receive, may_send, published, put, pushed, received, reported, sent};
 ghost use Rattle.dr_program.specs.Steps.{NoWordFell};
 ghost use Rattle.dr_replica.specs.Items.{front};
+ghost use Rattle.dr_replica.specs.Puts.{MayPut};
 ghost use Rattle.dr_ring.specs.Slots.{HasShape};
 ghost use Rattle.dr_rows.specs.Words.{own, seen, with_own};
 ghost use Rattle.dr_words.specs.Columns.{recv_column};
@@ -30,6 +31,7 @@ impl Replica {
             Act::Beat => true,
             Act::Receive { sender } => sender < self.shape.members && self.may_receive(sender),
             Act::Send => self.may_send(),
+            Act::Null => self.may_null(),
             Act::Deliver => self.may_deliver(),
             Act::Publish => self.may_publish(),
             Act::Report => self.may_report(),
@@ -104,6 +106,7 @@ impl Replica {
             Act::Beat => self.turns = self.turns.saturating_add(1),
             Act::Receive { sender } => self.receive(sender),
             Act::Send => self.send(),
+            Act::Null => self.put(SentItem::Null, Item::Null),
             Act::Deliver => self.deliver(),
             Act::Publish => self.publish(),
             Act::Report => self.report(),
@@ -129,9 +132,18 @@ impl Replica {
         requires { may_send self.old ≡ true }
         ensures { self.new ≡ sent self.old }
     {
-        let me = self.rows.me();
         let index = self.next_index();
-        let item = Item::Text(self.messages[index].copy());
+        let message = self.messages[index].copy();
+        self.put(SentItem::Index(index as u32), Item::Text(message));
+    }
+
+    /// It puts an item under its name.
+    #[inline(always)]
+    fn put(&mut self, name: SentItem, item: Item)
+        requires { HasForm self.old → MayPut self.old name item }
+        ensures { self.new ≡ put self.old name item }
+    {
+        let me = self.rows.me();
         put(
             &mut self.rows,
             &self.shape,
@@ -139,7 +151,7 @@ impl Replica {
             self.items.count(me),
             &item,
         );
-        self.sent.push(SentItem::Index(index as u32)).unwrap();
+        self.sent.push(name).unwrap();
         self.items.take(me, item);
         show_items(&mut self.rows, &self.shape, &self.items, me);
     }
@@ -149,9 +161,21 @@ impl Replica {
         requires { may_deliver self.old ≡ true }
         ensures { self.new ≡ delivered self.old }
     {
+        self.ask_received();
         let sender = self.items.sender_at(self.next);
         self.history.deliver(sender, self.items.item_at(self.next));
         self.next.step(self.items.members().len());
+    }
+
+    /// Asks anew which places every member of the view is seen to have received, where the next place is
+    /// none of those that it knows of.
+    #[inline(always)]
+    fn ask_received(&mut self)
+        ensures { self.new ≡ self.old }
+    {
+        if self.next.place >= self.received {
+            self.received = self.least_seen(RECEIVED_COLUMN);
+        }
     }
 
     /// Its logged word follows its log.

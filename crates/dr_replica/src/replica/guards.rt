@@ -1,11 +1,14 @@
 //! What a replica may do.
-ghost use Rattle.std.specs.Prelude.{◌≡◌, ◌<◌};
-ghost use Rattle.dr_program.specs.Replica.{all_done, holds_all, is_other, least_seen, may_append, may_deliver, may_mark, may_publish, may_receive, may_report, may_send, next_index};
+ghost use Rattle.std.specs.Prelude.{◌≡◌, ◌<◌, length, nat_lt};
+ghost use Rattle.dr_program.specs.Replica.{all_done, count, holds_all, is_other, least_seen, me, may_append, may_deliver, may_mark, may_null, may_publish, may_receive, may_report, may_send, next_index};
 ghost use Rattle.dr_program.specs.Steps.{allows, has_cell};
+ghost use Rattle.dr_ring.specs.Slots.{is_free};
+ghost use Rattle.dr_words.specs.declared.column.TheConstants.{RECEIVED_COLUMN};
 ghost use Rattle.dr_rows.specs.Words.{changed};
 
 use super::Replica;
 use dr_machine::Step;
+use dr_pred::{LoggedFront, ReceivedFront, Watch};
 use dr_ring::{free, is_ready};
 use dr_words::{DONE_COLUMN, LOGGED_COLUMN, RECEIVED_COLUMN};
 
@@ -56,9 +59,15 @@ impl Replica {
     pub fn may_send(&self) -> bool
         ensures { result ≡ may_send self.now }
     {
-        let count = self.items.count(self.rows.me());
-        self.next_index() < self.messages.len()
-            && free(&self.rows, &self.shape, self.members, count)
+        self.has_message_left() && self.has_free_slot()
+    }
+
+    /// Whether it has no message left and more items of some sender than it has put, and the slot of
+    /// its next item is free.
+    pub fn may_null(&self) -> bool
+        ensures { result ≡ may_null self.now }
+    {
+        !self.has_message_left() && self.items.is_behind(self.rows.me()) && self.has_free_slot()
     }
 
     /// Whether every member of the view is seen to have received the next place, and there is room
@@ -66,7 +75,18 @@ impl Replica {
     pub fn may_deliver(&self) -> bool
         ensures { result ≡ may_deliver self.now }
     {
-        self.next.place < self.least_seen(RECEIVED_COLUMN) && self.history.has_room()
+        (self.next.place < self.received || self.is_received()) && self.history.has_room()
+    }
+
+    /// Whether every member of the view is seen to have received the next place.
+    fn is_received(&self) -> bool
+        ensures { result ≡ nat_lt self.now.next (least_seen self.now RECEIVED_COLUMN) }
+    {
+        let received = ReceivedFront {
+            members: self.members,
+            at: self.next.place,
+        };
+        received.holds(&self.rows)
     }
 
     /// Whether its history has an entry that isn't on its log.
@@ -89,7 +109,11 @@ impl Replica {
     pub fn may_report(&self) -> bool
         ensures { result ≡ may_report self.now }
     {
-        self.durable < self.least_seen(LOGGED_COLUMN)
+        let logged = LoggedFront {
+            members: self.members,
+            at: self.durable.saturating_add(1),
+        };
+        logged.holds(&self.rows)
     }
 
     /// Whether it holds everything, durably, and hasn't said so yet.
@@ -135,12 +159,36 @@ impl Replica {
         least
     }
 
-    /// The index of the next message that it puts.
+    /// The index of the next message that it puts, where one is left.
     #[inline]
     pub(super) fn next_index(&self) -> usize
+        requires { next_index self.now < length self.now.messages }
         ensures { result ≡ next_index self.now }
     {
         self.base as usize + self.sent.len()
+    }
+
+    /// Whether a message is left. It puts nulls only behind the last, so where one is left all that it
+    /// has put are messages.
+    #[inline]
+    fn has_message_left(&self) -> bool
+        ensures { result ≡ nat_lt (next_index self.now) (length self.now.messages) }
+    {
+        self.base as usize + self.sent.len() < self.messages.len()
+    }
+
+    /// Whether the slot of its next item is free.
+    #[inline]
+    fn has_free_slot(&self) -> bool
+        ensures { result ≡ is_free self.now.window self.now.rows self.now.members
+            (count self.now (me self.now)) }
+    {
+        free(
+            &self.rows,
+            &self.shape,
+            self.members,
+            self.items.count(self.rows.me()),
+        )
     }
 
     /// Whether its history has all messages of each member of its view.

@@ -34,6 +34,7 @@ fields c = record {
   sent = c.in_ok-with_capacity.field-0;
   past = c.in_ok-with_capacity-2.field-0;
   next = c.first.result;
+  received = 0;
   history = c.in_ok-history.history;
   logged = length c.entries-logged.result.now;
   durable = length c.entries-logged.result.now;
@@ -59,6 +60,7 @@ made c = record {
   base = c.messages_from.ensures;
   sent = c.in_ok-with_capacity.ensures.items;
   next = c.first.ensures;
+  received = refl;
   history = cc (
     c.in_ok-history.ensures.begun,
     c.as_slice.ensures,

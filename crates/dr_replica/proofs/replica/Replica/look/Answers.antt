@@ -1,9 +1,11 @@
-use Rattle.std.proofs.Common.{◌≡◌, ℕ, ◌<◌, true, sym, ap, subst, ◌∙◌}
+use Rattle.std.proofs.Common.{◌≡◌, ℕ, ◌<◌, ◌≤◌, true, refl, sym, ap, subst, ◌∙◌}
 use Rattle.dr_rows.specs.Words.{Words, seen}
 use Rattle.dr_words.specs.Columns.{columns_of}
 use Rattle.dr_words.specs.Form.{IsInForm}
-use Rattle.dr_words.specs.Grown.{HasGrown}
-use Rattle.dr_program.specs.Replica.{Replica, is_other, looked}
+use Rattle.dr_words.specs.Grown.{Grown, HasGrown}
+use Rattle.dr_words.specs.declared.column.TheConstants.{RECEIVED_COLUMN}
+use Rattle.dr_replica.proofs.Received.{grown_received}
+use Rattle.dr_program.specs.Replica.{Replica, is_other, least_seen, looked}
 use Rattle.dr_program.specs.Form.{HasForm}
 use Rattle.dr_replica.specs.Inside.{view_of}
 use Rattle.dr_replica.proofs.Keeps.{looked_keeps, looked_rises}
@@ -29,21 +31,31 @@ form c =
     (subst (λ (r : Replica). IsInForm r.roster c.args.column c.args.word)
     (sym c.self.view_is) c.requires.in_form)
 
+rises : (c : goal.After-look) → Grown c.self.inside.shape.members c.self.inside.rows.words
+    (looked (view_of c.self.inside) c.args.row c.args.column c.args.word).rows.words
+    c.self.inside.rows.frozen
+    (looked (view_of c.self.inside) c.args.row c.args.column c.args.word).rows.frozen
+rises c =
+    looked_rises (view_of c.self.inside) c.args.row c.args.column c.args.word c.self.invariant.form
+    (other c) (column c)
+    (subst (λ (r : Replica). HasGrown r.roster c.args.column
+    (seen r.rows c.args.row c.args.column) c.args.word) (sym c.self.view_is) c.requires.grown)
+
 pub invariant_of-self : goal.invariant_of-self
 invariant_of-self c =
     let a = c.self.inside in
     state_kept a c.look.new.self a.logged a.durable a.turns a.acts a.end c.self.invariant
     (subst HasForm (sym (there c)) (form c))
+    (subst (λ (w : Words). least_seen (view_of a) RECEIVED_COLUMN
+    ≤ least_seen (record (view_of a) { rows = w }) RECEIVED_COLUMN) (sym c.look.ensures.after)
+    (grown_received (view_of a) (looked (view_of a) c.args.row c.args.column c.args.word) _ _ refl (rises c)))
 
 pub returns-clause-grown : goal.returns-clause-grown
 returns-clause-grown c =
     grown_to c.args.self.now (view_of (record c.self.inside { rows = c.look.new.self }))
     (view_of c.self.inside) (looked (view_of c.self.inside) c.args.row c.args.column c.args.word)
     c.self.view_is (there c)
-    (looked_rises (view_of c.self.inside) c.args.row c.args.column c.args.word c.self.invariant.form
-    (other c) (column c)
-    (subst (λ (r : Replica). HasGrown r.roster c.args.column
-    (seen r.rows c.args.row c.args.column) c.args.word) (sym c.self.view_is) c.requires.grown))
+    (rises c)
 
 pub returns-clause-form : goal.returns-clause-form
 returns-clause-form c = subst HasForm (sym (there c)) (form c)

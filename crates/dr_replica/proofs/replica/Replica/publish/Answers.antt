@@ -1,10 +1,12 @@
-use Rattle.std.proofs.Common.{◌≡◌, sym, ap, subst, ◌∙◌}
+use Rattle.std.proofs.Common.{◌≡◌, ◌≤◌, sym, ap, subst, arith}
 use Rattle.dr_rows.specs.Words.{Words}
-use Rattle.dr_program.specs.Replica.{acted, published}
+use Rattle.dr_program.specs.Replica.{least_seen, published}
 use Rattle.dr_program.specs.Form.{HasForm}
 use Rattle.dr_replica.specs.Inside.{view_of}
-use Rattle.dr_replica.proofs.Keeps.{published_form, published_keeps, published_grown}
-use Rattle.dr_replica.proofs.Insides.{form_to, grown_to, state_kept}
+use Rattle.dr_replica.proofs.Keeps.{published_form}
+use Rattle.dr_replica.proofs.Insides.{state_kept}
+use Rattle.dr_replica.proofs.Received.{other_received}
+use Rattle.dr_words.specs.declared.column.TheConstants.{LOGGED_COLUMN, RECEIVED_COLUMN}
 use Rattle.dr_replica.proofs.replica.Replica.publish.Goals as goal
 
 pub invariant_of-self : goal.invariant_of-self
@@ -15,3 +17,6 @@ invariant_of-self c =
     c.set_own.ensures.after in
     state_kept a c.set_own.new.self a.logged a.durable a.turns a.acts a.end c.self.invariant
     (subst HasForm (sym there) (published_form (view_of a) c.self.invariant.form))
+    (subst (λ (w : Words). least_seen (view_of a) RECEIVED_COLUMN
+    ≤ least_seen (record (view_of a) { rows = w }) RECEIVED_COLUMN) (sym c.set_own.ensures.after)
+    (other_received (view_of a) LOGGED_COLUMN a.logged (λ e. absurd (omega arith))))

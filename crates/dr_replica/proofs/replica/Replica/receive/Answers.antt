@@ -1,9 +1,11 @@
-use Rattle.std.proofs.Common.{◌≡◌, ◌<◌, true, sym, ap, subst, ◌∙◌}
-use Rattle.dr_program.specs.Replica.{Replica, acted, may_receive, received}
+use Rattle.std.proofs.Common.{◌≡◌, ◌<◌, ◌≤◌, true, sym, ap, subst, ◌∙◌}
+use Rattle.dr_program.specs.Replica.{Replica, least_seen, may_receive, received}
 use Rattle.dr_program.specs.Form.{HasForm}
 use Rattle.dr_replica.specs.Inside.{view_of}
-use Rattle.dr_replica.proofs.Keeps.{received_form, received_keeps, received_grown}
-use Rattle.dr_replica.proofs.Insides.{form_to, grown_to, may_of}
+use Rattle.dr_replica.proofs.Keeps.{received_form}
+use Rattle.dr_replica.proofs.Received.{received_received}
+use Rattle.dr_words.specs.declared.column.TheConstants.{RECEIVED_COLUMN}
+use Rattle.dr_replica.proofs.Insides.{may_of}
 use Rattle.dr_replica.proofs.Exchanges.{front_after, received_after, items_kept}
 use Rattle.dr_replica.proofs.replica.Replica.receive.Goals as goal
 
@@ -33,6 +35,9 @@ invariant_of-self c =
     c.self.inside.sent c.self.invariant c.take.ensures c.self.invariant.sent
     (subst HasForm (sym (there c))
     (received_form (view_of c.self.inside) c.args.sender c.self.invariant.form (may c)))
+    (subst (λ (r : Replica). least_seen (view_of c.self.inside) RECEIVED_COLUMN
+    ≤ least_seen r RECEIVED_COLUMN) (sym (there c))
+    (received_received (view_of c.self.inside) c.args.sender c.self.invariant.form (may c)))
 
 pub returns : goal.returns
 returns c = there c ∙ ap (λ (r : Replica). received r c.args.sender) c.self.view_is

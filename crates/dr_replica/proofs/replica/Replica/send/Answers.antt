@@ -1,59 +1,35 @@
-use Rattle.std.proofs.Common.{◌≡◌, rules, sym, ap, subst, ◌∙◌, le_trans}
+use Rattle.std.proofs.Common.{◌≡◌, sym, subst, ◌∙◌, ap, ℕ, length, ◌<◌, nat_lt}
+use Rattle.std.proofs.lemmas.Bool.{and_parts, ltb-true}
+use Rattle.dr_entry.specs.declared.entry.Item.{Item}
 use Rattle.dr_entry.specs.declared.entry.Item.TheVariants.{Text}
-use Rattle.dr_program.specs.Replica.{acted, may_send, next_index, sent}
-use Rattle.dr_program.specs.Form.{HasForm}
-use Rattle.dr_replica.specs.Inside.{view_of}
-use Rattle.dr_replica.proofs.Keeps.{sent_form, sent_keeps, sent_grown}
-use Rattle.dr_replica.proofs.Insides.{form_to, grown_to, may_of}
-use Rattle.dr_replica.proofs.Exchanges.{put_is, room_left, slot_left, put_shows, sent_after, items_kept}
+use Rattle.dr_entry.specs.declared.end.SentItem.TheVariants.{Index}
+use Rattle.dr_program.specs.Replica.{next_index, put}
+use Rattle.dr_replica.specs.Puts.{MayPut}
+use Rattle.dr_replica.proofs.Exchanges.{message_read}
+use Rattle.dr_replica.proofs.Keeps.{message_to_send, sending}
 use Rattle.dr_replica.proofs.replica.Replica.send.Goals as goal
 
-pub put-requires-clause-free : goal.put-requires-clause-free
-put-requires-clause-free c =
-    slot_left c.self.inside c.me-me.result c.count.result c.self.invariant
-    (may_of may_send (view_of c.self.inside) c.args.self.now c.self.view_is c.requires)
-    c.me-me.ensures.me c.count.ensures.count
+pub put-requires : goal.put-requires
+put-requires c = λ form.
+    let now = c.args.self.now in
+    let left : next_index now < length now.messages =
+    ltb-true (next_index now) (length now.messages)
+    (and_parts (nat_lt (next_index now) (length now.messages)) _ c.requires).0 in
+    let read : Text c.copy-message.result ≡ message_to_send now =
+    message_read c.self.inside now c.next_index-index.result c.index.result.now c.copy-message.result
+    c.self.view_is left c.next_index-index.ensures c.index.ensures c.copy-message.ensures in
+    subst (λ (item : Item). MayPut now (Index c.next_index-index.result) item) (sym read)
+    (subst (λ (i : ℕ). MayPut now (Index i) (message_to_send now)) (sym c.next_index-index.ensures)
+    (sending now form c.requires))
 
-pub take-requires-clause-room : goal.take-requires-clause-room
-take-requires-clause-room c =
-    room_left c.self.inside c.me-me.result c.self.invariant
-    (may_of may_send (view_of c.self.inside) c.args.self.now c.self.view_is c.requires) c.me-me.ensures.me
-
-pub show_items-requires-clause-recv : goal.show_items-requires-clause-recv
-show_items-requires-clause-recv c =
-    let may = (may_of may_send (view_of c.self.inside) c.args.self.now c.self.view_is c.requires) in
-    let put = put_is c.self.inside c.args.self.now c.me-me.result c.count.result c.next_index-index.result
-    c.index.result.now c.copy.result c.put.new.rows c.take.new.self
-    c.self.view_is c.self.invariant c.requires c.me-me.ensures.me c.count.ensures.count
-    c.next_index-index.ensures c.index.ensures c.copy.ensures c.put.ensures.after c.take.ensures in
-    (put_shows c.self.inside c.me-me.result c.count.result
-    (Text c.copy.result) c.put.new.rows c.take.new.self c.self.invariant may put).0
-
-pub show_items-requires-clause-received : goal.show_items-requires-clause-received
-show_items-requires-clause-received c =
-    let may = (may_of may_send (view_of c.self.inside) c.args.self.now c.self.view_is c.requires) in
-    let put = put_is c.self.inside c.args.self.now c.me-me.result c.count.result c.next_index-index.result
-    c.index.result.now c.copy.result c.put.new.rows c.take.new.self
-    c.self.view_is c.self.invariant c.requires c.me-me.ensures.me c.count.ensures.count
-    c.next_index-index.ensures c.index.ensures c.copy.ensures c.put.ensures.after c.take.ensures in
-    (put_shows c.self.inside c.me-me.result c.count.result
-    (Text c.copy.result) c.put.new.rows c.take.new.self c.self.invariant may put).1
-
-pub invariant_of-self : goal.invariant_of-self
-invariant_of-self c =
-    let may = (may_of may_send (view_of c.self.inside) c.args.self.now c.self.view_is c.requires) in
-    let put = put_is c.self.inside c.args.self.now c.me-me.result c.count.result c.next_index-index.result
-    c.index.result.now c.copy.result c.put.new.rows c.take.new.self
-    c.self.view_is c.self.invariant c.requires c.me-me.ensures.me c.count.ensures.count
-    c.next_index-index.ensures c.index.ensures c.copy.ensures c.put.ensures.after c.take.ensures in
-    let there : view_of (record c.self.inside
-    { rows = c.show_items.new.rows; items = c.take.new.self; sent = c.push.new.self })
-    ≡ sent (view_of c.self.inside) =
-    sent_after c.self.inside c.show_items.new.rows c.me-me.result c.count.result c.next_index-index.result
-    (Text c.copy.result) c.put.new.rows c.take.new.self c.push.new.self.items c.self.invariant
-    may put (c.next_index-index.ensures ∙ ap next_index (sym c.self.view_is))
-    (search rules) c.show_items.ensures in
-    items_kept c.self.inside c.show_items.new.rows c.take.new.self c.me-me.result
-    (Text c.copy.result) c.push.new.self c.self.invariant c.take.ensures
-    (le_trans c.self.invariant.sent c.push.ensures.capacity)
-    (subst HasForm (sym there) (sent_form (view_of c.self.inside) c.self.invariant.form may))
+pub returns : goal.returns
+returns c =
+    let now = c.args.self.now in
+    let left : next_index now < length now.messages =
+    ltb-true (next_index now) (length now.messages)
+    (and_parts (nat_lt (next_index now) (length now.messages)) _ c.requires).0 in
+    let read : Text c.copy-message.result ≡ message_to_send now =
+    message_read c.self.inside now c.next_index-index.result c.index.result.now c.copy-message.result
+    c.self.view_is left c.next_index-index.ensures c.index.ensures c.copy-message.ensures in
+    c.put.ensures ∙ ap (λ (item : Item). put now (Index c.next_index-index.result) item) read
+    ∙ ap (λ (i : ℕ). put now (Index i) (message_to_send now)) c.next_index-index.ensures

@@ -1,0 +1,114 @@
+-- What every member of the view is seen to have received only rises; and what the watches tell of it.
+use Rattle.std.proofs.Common.{◌≡◌, ◌≢◌, ◌↔◌, refl, sym, ap, ◌∙◌, ℕ, ◌+◌, ◌-◌, ◌^◌, ◌<◌, ◌≤◌, Bool, true, false, List, min, nat_lt, le_of_eq, le_trans, arith}
+use Rattle.std.proofs.lemmas.Bool.{ltb-true}
+use Rattle.std.proofs.lemmas.Bool.Decides.{nat_tests}
+use Rattle.dr_entry.specs.declared.entry.Item.{Item}
+use Rattle.dr_entry.specs.declared.end.SentItem.{SentItem}
+use Rattle.dr_machine.specs.Effects.{one_more}
+use Rattle.dr_history.specs.Members.{has}
+use Rattle.dr_pred.specs.Group.{IsOfGroup}
+use Rattle.dr_pred.specs.Watches.{AllLogged, AllReceivedAbove}
+use Rattle.dr_program.proofs.Least.{below_least_seen, least_of, least_rises, received_small}
+use Rattle.dr_program.specs.Form.{HasForm}
+use Rattle.dr_program.specs.Replica.{Replica, acted, least_seen, may_receive, me, put, received}
+use Rattle.dr_replica.proofs.Keeps.{put_rises, received_grown}
+use Rattle.dr_replica.specs.Puts.{MayPut}
+use Rattle.dr_rows.proofs.Grids.{with_word-column}
+use Rattle.dr_rows.specs.Words.{with_own}
+use Rattle.dr_words.specs.declared.column.TheConstants.{BEAT_COLUMN, LOGGED_COLUMN, RECEIVED_COLUMN}
+use Rattle.dr_words.specs.Columns.{columns_of}
+use Rattle.dr_words.specs.Grown.{Grown}
+
+-- where no word falls, it doesn't
+pub grown_received : (r q : Replica) (old new : List Bool) → q.members ≡ r.members
+    → Grown r.roster r.rows.words q.rows.words old new
+    → least_seen r RECEIVED_COLUMN ≤ least_seen q RECEIVED_COLUMN
+grown_received r q old new same grown =
+    least_rises r q RECEIVED_COLUMN same (λ i. (grown.words i RECEIVED_COLUMN).number)
+
+-- nor by an own word of another column
+pub other_received : (r : Replica) (c word : ℕ) → RECEIVED_COLUMN ≢ c
+    → least_seen r RECEIVED_COLUMN ≤ least_seen (record r { rows = with_own r.rows c word }) RECEIVED_COLUMN
+other_received r c word apart =
+    least_rises r (record r { rows = with_own r.rows c word }) RECEIVED_COLUMN refl
+    (λ i. le_of_eq (sym (with_word-column r.rows.words r.rows.me c word i RECEIVED_COLUMN apart)))
+
+-- a stamp doesn't raise it
+unstamped : (r : Replica) → least_seen (acted r) RECEIVED_COLUMN ≤ least_seen r RECEIVED_COLUMN
+unstamped r =
+    least_rises (acted r) r RECEIVED_COLUMN refl
+    (λ i. le_of_eq (with_word-column r.rows.words r.rows.me BEAT_COLUMN (one_more 64 r.acts) i RECEIVED_COLUMN
+    (λ e. absurd (omega arith))))
+
+-- it doesn't fall where an item is put or received
+pub put_received : (r : Replica) (name : SentItem) (item : Item) → HasForm r → MayPut r name item
+    → least_seen r RECEIVED_COLUMN ≤ least_seen (put r name item) RECEIVED_COLUMN
+put_received r name item form may =
+    le_trans (grown_received r (acted (put r name item)) r.rows.frozen (acted (put r name item)).rows.frozen
+    refl (put_rises r name item form may)) (unstamped (put r name item))
+
+pub received_received : (r : Replica) (s : ℕ) → HasForm r → may_receive r s ≡ true
+    → least_seen r RECEIVED_COLUMN ≤ least_seen (received r s) RECEIVED_COLUMN
+received_received r s form may =
+    le_trans (grown_received r (acted (received r s)) r.rows.frozen (acted (received r s)).rows.frozen
+    refl (received_grown r s form may)) (unstamped (received r s))
+
+-- ---- what the watches tell
+
+-- two tests that hold in the same cases
+pub same_truth : (a b : Bool) → (a ≡ true → b ≡ true) → (b ≡ true → a ≡ true) → a ≡ b
+same_truth true b to from = sym (to refl)
+same_truth false true to from = from refl
+same_truth false false to from = refl
+
+-- a member of the view is one of 16
+few_members : (r : Replica) (i : ℕ) → HasForm r → has r.members i ≡ true → i < 16
+few_members r i form member = omega (arith, form.roster i member, form.members, form.rows.few)
+
+-- whether all have received the next place, by the watch and by the least word
+pub received_test : (r : Replica) (b : Bool) → HasForm r
+    → (b ≡ true) ↔ AllReceivedAbove r.members r.next r.rows
+    → b ≡ nat_lt r.next (least_seen r RECEIVED_COLUMN)
+received_test r b form told = same_truth b (nat_lt r.next (least_seen r RECEIVED_COLUMN))
+    (λ e. let all = told.0 e in
+    let small = received_small r (λ s. le_trans (form.bounded s) form.few) in
+    let below = below_least_seen r RECEIVED_COLUMN r.next
+    (omega (arith, all (me r) form.present, form.received, small)) all in
+    grind (arith, nat_tests, below))
+    (λ e. told.1 (λ i member.
+    let below = ltb-true r.next (least_seen r RECEIVED_COLUMN) e in
+    omega (arith, below, least_of r RECEIVED_COLUMN i (few_members r i form member) member)))
+
+-- whether all have logged more than is durable, by the watch of one entry more
+pub logged_test : (r : Replica) (more : ℕ) (b : Bool) → HasForm r → more ≡ min (r.durable + 1) (2 ^ 64 - 1)
+    → (b ≡ true) ↔ AllLogged r.members more r.rows
+    → b ≡ nat_lt r.durable (least_seen r LOGGED_COLUMN)
+logged_test r more b form next told = same_truth b (nat_lt r.durable (least_seen r LOGGED_COLUMN))
+    (λ e. let all = told.0 e in
+    let mine : more < 2 ^ 32 = omega (
+      arith,
+      all (me r) form.present,
+      form.published,
+      form.logged,
+      form.room,
+      form.small,
+    ) in
+    let one : more ≡ r.durable + 1 = omega (arith, mine, next) in
+    let below = below_least_seen r LOGGED_COLUMN r.durable (omega (arith, mine, one))
+    (λ i member. omega (arith, all i member, one)) in
+    grind (arith, nat_tests, below))
+    (λ e. told.1 (λ i member.
+    let below = ltb-true r.durable (least_seen r LOGGED_COLUMN) e in
+    omega (arith, below, next, least_of r LOGGED_COLUMN i (few_members r i form member) member)))
+
+-- the rows of a replica are those of a group
+pub is_of_group : (r : Replica) → HasForm r → IsOfGroup r.rows
+is_of_group r form = record {
+  window = r.window;
+  some_member = omega (arith, form.rows.present);
+  most_members = form.rows.few;
+  some_slot = form.some_slot;
+  most_slots = form.most_slots;
+  columns = form.columns ∙ ap (λ n. columns_of n r.window) (sym form.members);
+  form = form.words;
+}

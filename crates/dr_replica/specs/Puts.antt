@@ -1,0 +1,17 @@
+-- What a replica may put next.
+use Rattle.std.specs.Prelude.{◌<◌, [], ◌∷◌, ◌++◌, length}
+use Rattle.dr_entry.specs.declared.entry.Item.{Item}
+use Rattle.dr_entry.specs.declared.end.SentItem.{SentItem}
+use Rattle.dr_machine.specs.Sending.{IsPut}
+use Rattle.dr_program.specs.Replica.{Replica, me, count, greatest}
+use Rattle.dr_ring.proofs.Items.{IsItem}
+use Rattle.dr_ring.specs.Slots.{IsFree}
+
+-- it may put this item under this name
+pub record MayPut (r : Replica) (name : SentItem) (item : Item) : Type 0 where
+  -- the item has its ranges, there is room for one more, and its slot is free
+  pub ranges : IsItem item
+  pub room : count r (me r) < greatest r.totals
+  pub free : IsFree r.window r.rows r.members (count r (me r))
+  -- the name follows those of what it has put
+  pub order : IsPut r.base (length r.messages) (r.sent ++ name ∷ [])
