@@ -14,7 +14,7 @@ default_past : {A : Type 0} (xs : List A) (i : ℕ) (d : A) → length xs ≤ i 
 default_past xs i d l = sym (unwrap_or-slice_get xs i d) ∙ ap (λ o. unwrap_or o d) (slice_get_past xs i l)
 
 -- each list is short, where all are, and there is none behind them
-few_at : (lists : List (List (List ℕ))) (s n : ℕ) → All (λ list. length list ≤ n) lists
+pub few_at : (lists : List (List (List ℕ))) (s n : ℕ) → All (λ list. length list ≤ n) lists
     → length (get_or lists s []) ≤ n
 few_at lists s n few = by (cases_lt s (length lists))
   where

@@ -1,5 +1,5 @@
 mod Faults
-mod Groups
+pub mod Groups
 pub mod Setups
 mod Totals
 mod Unique
