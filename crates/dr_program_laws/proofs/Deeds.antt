@@ -1,11 +1,11 @@
 -- A deed leads a member from where it stands so to where it does again.
-use Rattle.std.proofs.Common.{◌≡◌, refl, sym, ap, ◌∙◌, subst, ℕ, ◌-◌, Bool, true, false, ◌==◌, ◌||◌, not, List, length, arith}
+use Rattle.std.proofs.Common.{◌≡◌, inl, inr, refl, sym, ap, ◌∙◌, subst, ℕ, ◌-◌, Bool, true, false, ◌==◌, ◌||◌, not, List, length, arith}
 use Rattle.std.specs.Prelude.{Any, None, slice_index_or}
 use Rattle.std.specs.List.{list_any}
 use Rattle.std.proofs.lemmas.Bool.{and_parts}
 use Rattle.std.proofs.lemmas.Bool.Decides.{nat_tests}
 use Rattle.std.proofs.lemmas.List.Folds.{Any-from_list_any}
-use Rattle.dr_machine.specs.declared.event.Act.TheVariants as acts
+use Rattle.dr_machine.specs.declared.event.Act.{Act}
 use Rattle.dr_program.specs.declared.outcome.Outcome.{Outcome}
 use Rattle.dr_program.specs.declared.outcome.Outcome.TheVariants as outcomes
 use Rattle.dr_program.specs.declared.setup.CrashPoint.{CrashPoint}
@@ -17,13 +17,16 @@ use Rattle.dr_program.specs.Form.{IsRunningMember}
 use Rattle.dr_program.specs.Program.{after_deed, next_sight}
 use Rattle.dr_program.specs.Running.{Running, asks, begun_running, columns, crashes_now, is_at_push, is_in_turn, members, next_step, push_or_crash, pushes_after, step_at, goes}
 use Rattle.dr_program.specs.Steps.{allows, stepped}
-use Rattle.dr_program.specs.Turn.{after, part_of, turn_begins}
+use Rattle.dr_program.specs.Turn.{after, is_beat, part_of, turn_begins}
 use Rattle.dr_program.proofs.Runs.{after_ok}
 use Rattle.dr_turn.specs.Search.{IsUnderway}
-use Rattle.dr_turn.proofs.Deeds.{first_part}
+use Rattle.dr_turn.proofs.Deeds.{first_part, is_publish}
+use Rattle.dr_program.specs.Acts.{taken}
+use Rattle.dr_turn.proofs.Search.{beat_test}
 use Rattle.dr_turn.proofs.Order.{all_below, each_below}
 use Rattle.dr_program_laws.specs.Ended.{IsBeforeCrash}
-use Rattle.dr_program_laws.proofs.Standing.{IsProper, Stands, goes_on, is_crash, is_late, next_turn, settled_stands}
+use Rattle.dr_program_laws.proofs.Acts.{goes_back_or_stays, is_end, no_end, taken_end, taken_turns}
+use Rattle.dr_program_laws.proofs.Standing.{IsNotPast, IsProper, Stands, goes_on, is_crash, is_late, next_turn, settled_stands}
 
 -- ---- crash points
 
@@ -55,35 +58,15 @@ record IsDue (r : Running) (part : Part) : Type 0 where
   none : r.replica.end ≡ None
   asked : asks r part r.place.row r.place.column ≡ true
 
--- each end that a part comes to, but by the part of its own, is a fault of the turn
-abbrev is_end : Part → Bool
-is_end (parts.Do (acts.Halt end)) = true
-is_end (parts.Do (acts.Crash end)) = true
-is_end part = false
-
-no_end : (r : Running) (part : Part) → IsDue r part → is_end part ≡ true → ⊥
-unfolding all_below
-no_end r part d e =
-    absurd (cc (
-      each_below (length TURN) r.place.part
-          (λ i. not (is_end (slice_index_or TURN i turn_begins))) refl d.member.place.part,
-      ap is_end d.at,
-      e,
-    ))
-
--- the part before the one that goes back
-abbrev goes_back : Part → Bool
-goes_back (parts.Do acts.Publish) = true
-goes_back part = false
-
-early_before : (r : Running) (part : Part) → IsDue r part → goes_back part ≡ true
+-- the part before the one that goes back is not late
+early_before : (r : Running) (part : Part) → IsDue r part → is_publish part ≡ true
     → is_late (slice_index_or TURN (r.place.part - 1) turn_begins) ≡ false
 unfolding all_below
 early_before r part d e =
-    let back : goes_back (slice_index_or TURN r.place.part turn_begins)
-    ≡ true = ap goes_back d.at ∙ e in
+    let back : is_publish (slice_index_or TURN r.place.part turn_begins)
+    ≡ true = ap is_publish d.at ∙ e in
     implied _ _ (each_below (length TURN) r.place.part
-    (λ i. not (goes_back (slice_index_or TURN i turn_begins))
+    (λ i. not (is_publish (slice_index_or TURN i turn_begins))
     || not (is_late (slice_index_or TURN (i - 1) turn_begins))) refl d.member.place.part) back
   where
     implied : (a b : Bool) → (not a || not b) ≡ true → a ≡ true → b ≡ false
@@ -140,8 +123,8 @@ push_keeps limit points word r d v = by (crashes_now r) refl
 
 -- so does a beat, with which a turn begins
 beat_keeps : (limit : ℕ) (points : List CrashPoint) (word : ℕ) (r : Running)
-    → IsDue r (parts.Do acts.Beat) → Stands limit points r
-    → Stands limit points (done_at word r (parts.Do acts.Beat))
+    → IsDue r turn_begins → Stands limit points r
+    → Stands limit points (done_at word r turn_begins)
 beat_keeps limit points word r d v = record {
   limited = v.limited;
   planned = v.planned;
@@ -157,6 +140,41 @@ beat_keeps limit points word r d v = record {
       turns = d.member.turns;
       left = d.member.left;
     }
+
+-- and so does each act of its own
+act_keeps : (limit : ℕ) (points : List CrashPoint) (word : ℕ) (r : Running) (a : Act)
+    → IsDue r (parts.Do a) → Stands limit points r → Stands limit points (done_at word r (parts.Do a))
+act_keeps limit points word r a d v = by (is_beat (parts.Do a)) refl
+  where
+    ended : (taken r.replica a).end ≡ r.replica.end
+    ended = taken_end r.replica a (sym (ap is_end d.at) ∙ no_end r.place.part d.member.place.part)
+
+    ahead : is_beat (parts.Do a) ≡ false
+        → is_late (part_of (goes (members r) (columns r) (parts.Do a) r.place)) ≡ true
+        → IsBeforeCrash points r.replica.turns
+    ahead other late = elim (goes_back_or_stays (members r) (columns r) a r.place other) [
+      | inl back ↦ absurd (cc (
+        early_before r (parts.Do a) d back.0,
+        sym (ap (λ p. is_late (part_of p)) back.1) ∙ late,
+      ))
+      | inr stays ↦ v.ahead (sym (ap (λ p. is_late (part_of p)) stays.1) ∙ late)
+    ]
+
+    stands : is_beat (parts.Do a) ≡ false → (taken r.replica a).turns ≡ r.replica.turns
+        → Stands limit points (done_at word r (parts.Do a))
+    stands other same = record {
+      limited = v.limited;
+      planned = v.planned;
+      later = subst (IsNotPast points) (sym same) v.later;
+      ahead = λ late. subst (IsBeforeCrash points) (sym same) (ahead other late);
+      proper = subst (IsProper limit points (taken r.replica a).turns) (sym ended)
+          (subst (λ n. IsProper limit points n r.replica.end) (sym same) v.proper);
+    }
+
+    by : (b : Bool) → is_beat (parts.Do a) ≡ b → Stands limit points (done_at word r (parts.Do a))
+    by true beat = subst (λ part. IsDue r part → Stands limit points (done_at word r part))
+        (sym (beat_test (parts.Do a) beat)) (λ due. beat_keeps limit points word r due v) d
+    by false other = stands other (taken_turns r.replica a other)
 
 deed_keeps : (limit : ℕ) (points : List CrashPoint) (word : ℕ) (r : Running) (part : Part)
     → IsDue r part → Stands limit points r → Stands limit points (done_at word r part)
@@ -177,19 +195,7 @@ deed_keeps limit points word r parts.Append d v =
       proper = v.proper;
     }
 deed_keeps limit points word r parts.Push d v = push_keeps limit points word r d v
-deed_keeps limit points word r (parts.Do acts.Beat) d v = beat_keeps limit points word r d v
-deed_keeps limit points word r (parts.Do acts.Publish) d v =
-    record {
-      limited = v.limited;
-      planned = v.planned;
-      later = v.later;
-      ahead = λ late. absurd (cc (early_before r (parts.Do acts.Publish) d refl, late));
-      proper = v.proper;
-    }
-deed_keeps limit points word r (parts.Do (acts.Halt end)) d v =
-    absurd (no_end r (parts.Do (acts.Halt end)) d refl)
-deed_keeps limit points word r (parts.Do (acts.Crash end)) d v =
-    absurd (no_end r (parts.Do (acts.Crash end)) d refl)
+deed_keeps limit points word r (parts.Do a) d v = act_keeps limit points word r a d v
 deed_keeps limit points word r parts.Crash d v = record {
   limited = v.limited;
   planned = v.planned;

@@ -1,21 +1,19 @@
 -- Members that have all ended have ended as they should.
-use Rattle.std.proofs.Common.{◌≡◌, refl, sym, ap, ◌∙◌, inl, inr, subst, ℕ, ◌<◌, ◌≤◌, List, ◌++◌, length, map, take, arith}
+use Rattle.std.proofs.Common.{◌≡◌, refl, sym, ap, ◌∙◌, inl, inr, subst, ℕ, ◌<◌, ◌≤◌, List, ◌++◌, length, take, arith}
 use Rattle.std.specs.Prelude.{IsTrue, Option, None, Some, is_some, option_map, slice_get, unwrap_or}
 use Rattle.std.proofs.lemmas.List.{length-map, length-take}
 use Rattle.std.proofs.lemmas.Option.{get_or_from_slice_get, slice_get_cases, slice_get-map, slice_get_within, same_Some}
 use Rattle.dr_entry.specs.declared.entry.Entry.{Entry}
 use Rattle.dr_entry.specs.declared.end.End.{End}
 use Rattle.dr_entry.specs.declared.end.End.TheVariants as ends
-use Rattle.dr_history.specs.History.{merge, messages_of}
 use Rattle.dr_history.specs.Agreement.{EndsAgreed}
 use Rattle.dr_history.specs.Order.{first_entries}
-use Rattle.dr_history_laws.specs.Laid.{first_view}
+use Rattle.dr_history_laws.specs.Remaining.{remaining}
 use Rattle.dr_program.specs.declared.setup.CrashPoint.{CrashPoint}
 use Rattle.dr_program.specs.declared.setup.Setup.{Setup}
 use Rattle.dr_machine.specs.Group.{Group, IsGroup, roster}
-use Rattle.dr_machine.specs.World.{World, opening_world}
+use Rattle.dr_machine.specs.World.{opening_world}
 use Rattle.dr_machine.proofs.Presence.{is_present}
-use Rattle.dr_faithful.specs.Faithful.{IsPut}
 use Rattle.dr_program.specs.Running.{Running}
 use Rattle.dr_program.specs.Program.{Program, AllEnded, AreSetups, IsRanFrom, begun_program, end_of}
 use Rattle.dr_program.specs.Reading.{world}
@@ -26,39 +24,27 @@ use Rattle.dr_restart.specs.declared.start.Start.{Start}
 use Rattle.dr_restart.specs.Groups.{group_of}
 use Rattle.dr_restart.specs.Setups.{IsBegun, crashes_of}
 use Rattle.dr_restart.proofs.Setups.{are_setups}
-use Rattle.dr_world_laws.proofs.Agreeing.{done-durable, done-merged}
+use Rattle.dr_world_laws.proofs.Agreeing.{done-durable, done-whole}
+use Rattle.dr_world_laws.proofs.Remaining.{holds-remaining}
 use Rattle.dr_world_laws.proofs.Reached.{Known, known}
 use Rattle.dr_program_laws.specs.Ended.{HasEnded, HaveEnded, IsBeforeCrash, IsDone}
-use Rattle.dr_program_laws.proofs.Merged.{merged_messages}
 use Rattle.dr_program_laws.proofs.Keeping.{deeds_kept}
 use Rattle.dr_program_laws.proofs.Programs.{AllStand, all_stand}
 use Rattle.dr_program_laws.proofs.Standing.{IsProper, Stands}
-use Rattle.dr_program_laws.proofs.Worlds.{ends_agreed, ends_of, of_there, world_sent}
+use Rattle.dr_program_laws.proofs.Worlds.{ends_agreed, ends_of, of_there}
 
 -- ---- a member that is done
 
 taken_within : (n : ℕ) (xs : List Entry) → length (take n xs) ≤ n
 taken_within n xs = omega (arith, length-take n xs)
 
--- nobody has sent more than its messages
-sends_its_own : (g : Group) (w : World) → Known g w → (s : ℕ) → length (w.past.sent s 0)
-    ≤ length (messages_of g.opening s)
-sends_its_own g w y s =
-    let put = subst (λ v. IsPut (w.base s) (length (messages_of g.opening s)) (w.past.sent s v))
-    (y.faithful.beginning.first s) (y.faithful.sent.put s) in
-    omega (arith, put.left, y.faithful.sent.named s 0)
-
-done_merged : (g : Group) (p : Program) (m : ℕ) (r : Running) → IsGroup g → Known g (world g p) → m
+done_history : (g : Group) (p : Program) (m : ℕ) (r : Running) → IsGroup g → Known g (world g p) → m
     < roster g → slice_get p.members m ≡ Some r → r.replica.end ≡ Some ends.Done
-    → r.replica.history ≡ first_entries g.opening
-    ++ merge g.opening (world g p).past.sent (first_view g.opening)
-    (map (λ s. length (messages_of g.opening s)) (first_view g.opening).members)
-done_merged g p m r is y within there end =
+    → r.replica.history ≡ first_entries g.opening ++ remaining g.opening
+done_history g p m r is y within there end =
     sym (of_there p (λ q. q.history) (opening_world g).past.history m r there)
-    ∙ (done-merged g (world g p) m is y within
-    (of_there p (λ q. q.end) (opening_world g).end m r there ∙ end)
-    ∙ ap (λ es. first_entries g.opening ++ es)
-    (merged_messages g.opening (world g p).past.sent (sends_its_own g (world g p) y)))
+    ∙ holds-remaining g (world g p) m is y within (done-whole g (world g p) m is y within
+    (of_there p (λ q. q.end) (opening_world g).end m r there ∙ end))
 
 done_durable : (g : Group) (p : Program) (m : ℕ) (r : Running) → Known g (world g p) → m < roster g
     → slice_get p.members m ≡ Some r → r.replica.end ≡ Some ends.Done
@@ -69,18 +55,17 @@ done_durable g p m r y within there end =
     (of_there p (λ q. q.end) (opening_world g).end m r there ∙ end)
     ∙ ap length (of_there p (λ q. q.history) (opening_world g).past.history m r there))
 
-done : (g : Group) (p : Program) (points : List CrashPoint) (m : ℕ) (r : Running) → IsGroup g
+pub done : (g : Group) (p : Program) (points : List CrashPoint) (m : ℕ) (r : Running) → IsGroup g
     → IsProgram g p → IsReached g (world g p)
     → slice_get p.members m ≡ Some r → r.replica.end ≡ Some ends.Done
-    → IsBeforeCrash points r.replica.turns → IsDone g.opening points (ends_of p) (end_of r)
+    → IsBeforeCrash points r.replica.turns → IsDone g.opening points (end_of r)
 done g p points m r is program run there end uncrashed = record {
-  end = ap (λ o. unwrap_or o ends.Done) end;
-  history = done_merged g p m r is y within there end
-      ∙ ap (λ sent. first_entries g.opening
-      ++ merge g.opening sent (first_view g.opening)
-      (map (λ s. length (messages_of g.opening s)) (first_view g.opening).members)) (world_sent g p);
-  logged = omega (arith, durable, all, (program.form m r there).replica.logged);
-  durable = durable;
+  complete = record {
+    end = ap (λ o. unwrap_or o ends.Done) end;
+    history = done_history g p m r is y within there end;
+    logged = omega (arith, durable, all, (program.form m r there).replica.logged);
+    durable = durable;
+  };
   uncrashed = uncrashed;
 }
   where
@@ -112,11 +97,11 @@ done g p points m r is program run there end uncrashed = record {
 has_ended : (g : Group) (p : Program) (limit : ℕ) (points : List CrashPoint) (m : ℕ) (r : Running)
     → IsGroup g → IsProgram g p → IsReached g (world g p)
     → slice_get p.members m ≡ Some r → IsTrue (is_some r.replica.end) → Stands limit points r
-    → HasEnded g.opening limit points (ends_of p) (end_of r)
+    → HasEnded g.opening limit points (end_of r)
 has_ended g p limit points m r is program run there ended v = by r.replica.end refl ended v.proper
   where
     by : (o : Option End) → r.replica.end ≡ o → IsTrue (is_some o)
-        → IsProper limit points r.replica.turns o → HasEnded g.opening limit points (ends_of p) (end_of r)
+        → IsProper limit points r.replica.turns o → HasEnded g.opening limit points (end_of r)
     by None e t so = absurd (cc)
     by (Some ends.Done) e t so = inl (done g p points m r is program run there e so)
     by (Some ends.Crashed) e t so =
@@ -135,7 +120,7 @@ pub have_ended : (g : Group) (turns : ℕ) (setups : List Setup) (points : ℕ �
     → IsRanFrom (begun_program g setups) p → AllEnded p → HaveEnded g.opening turns points (ends_of p)
 have_ended g turns setups points p is some are planned ran ended m e at =
     elim (slice_get_cases p.members m).1 [
-      | inl here ↦ subst (HasEnded g.opening turns (points m) (ends_of p))
+      | inl here ↦ subst (HasEnded g.opening turns (points m))
           (same_Some (end_of here.0) e
           (sym (slice_get-map end_of p.members m ∙ ap (option_map end_of) here.2)
           ∙ at)) (each here.0 here.1 here.2)
@@ -155,7 +140,7 @@ have_ended g turns setups points p is some are planned ran ended m e at =
         (subst (λ ps. Stands s.turns ps r) (planned m s there) v)
 
     each : (r : Running) → m < length p.members → slice_get p.members m ≡ Some r
-        → HasEnded g.opening turns (points m) (ends_of p) (end_of r)
+        → HasEnded g.opening turns (points m) (end_of r)
     each r within there = elim (slice_get_cases setups m).1 [
       | inl here ↦ has_ended g p turns (points m) m r is kept.0 kept.1 there
           (subst (λ (x : Running). IsTrue (is_some x.replica.end))

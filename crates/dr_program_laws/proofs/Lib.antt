@@ -1,9 +1,17 @@
 mod Sight
 pub mod Keeping
-mod Standing
+pub mod Standing
 mod Deeds
-mod Programs
-mod Merged
+pub mod Programs
 pub mod Worlds
 pub mod Ending
 pub mod Schedules
+pub mod Leaving
+pub mod Acts
+pub mod Before
+pub mod Sweeping
+pub mod Steadying
+pub mod Passing
+pub mod Resting
+pub mod Stepping
+pub mod Turning

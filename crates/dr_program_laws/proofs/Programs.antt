@@ -61,7 +61,7 @@ move_stands g setups p e is all = by (slice_get p.members e.member) refl
     by None none = subst (AllStand setups) (sym (ap (λ o. moved_by p o e) none)) all
     by (Some r) there = at r there r.replica.end refl
 
-ran_stands : (g : Group) (setups : List Setup) (p : Program) (es : List Move) → IsGroup g
+pub ran_stands : (g : Group) (setups : List Setup) (p : Program) (es : List Move) → IsGroup g
     → IsProgram g p → IsReached g (world g p) → AllStand setups p → AllStand setups (ran p es)
 unfolding ran
 ran_stands g setups p [] group is run all = all

@@ -23,11 +23,6 @@ use Rattle.dr_program_laws.specs.Ended.{IsBeforeCrash}
 abbrev pub IsNotPast : List CrashPoint → ℕ → Type 0
 IsNotPast points turns = All (λ (c : CrashPoint). 1 ≤ c.turn → turns ≤ c.turn) points
 
--- a member before its crash points is past none of them
-pub not_past : (points : List CrashPoint) (turns : ℕ) → IsBeforeCrash points turns
-    → IsNotPast points turns
-not_past points turns before = λ k d within some. omega (arith, before k d within some)
-
 -- a turn begins
 pub next_turn : (points : List CrashPoint) (turns : ℕ) → IsBeforeCrash points turns
     → IsNotPast points (min (turns + 1) 4294967295)

@@ -1,27 +1,31 @@
 -- How the members of an age are to end.
-use Rattle.std.specs.Prelude.{◌≡◌, ◌⊎◌, ℕ, ◌<◌, ◌≤◌, All, Any, List, ◌++◌, length, map, slice_get, Some}
+use Rattle.std.specs.Prelude.{◌≡◌, ◌⊎◌, ℕ, ◌<◌, ◌≤◌, All, Any, List, ◌++◌, length, slice_get, Some}
 use Rattle.dr_entry.specs.declared.end.End.TheVariants.{Done, Crashed, Spent}
 use Rattle.dr_entry.specs.declared.end.MemberEnd.{MemberEnd}
 use Rattle.dr_history.specs.declared.opening.Opening.{Opening}
-use Rattle.dr_history.specs.History.{merge, messages_of, sent_of}
 use Rattle.dr_history.specs.Order.{first_entries}
-use Rattle.dr_history_laws.specs.Laid.{first_view}
+use Rattle.dr_history_laws.specs.Remaining.{remaining}
 use Rattle.dr_program.specs.declared.setup.CrashPoint.{CrashPoint}
 
 -- no crash point names a turn from 1 up to this one
 abbrev pub IsBeforeCrash : List CrashPoint → ℕ → Type 0
 IsBeforeCrash points turns = All (λ (c : CrashPoint). 1 ≤ c.turn → turns < c.turn) points
 
--- a member has ended as done, before any crash: its history has all messages of the script behind the first
--- View, in the order
--- of the round robin, and all of it is logged and durable
-pub record IsDone (o : Opening) (points : List CrashPoint) (ends : List MemberEnd)
-    (e : MemberEnd) : Type 0 where
+-- a member has ended as done: its history is the start, View 0, and all messages that the start leaves, in
+-- the order of the round robin, and all of it is logged and durable
+pub record IsComplete (o : Opening) (e : MemberEnd) : Type 0 where
   pub end : e.end ≡ Done
-  pub history : e.history ≡ first_entries o
-      ++ merge o (sent_of ends) (first_view o) (map (λ s. length (messages_of o s)) (first_view o).members)
+  pub history : e.history ≡ first_entries o ++ remaining o
   pub logged : e.logged ≡ length e.history
   pub durable : e.durable ≡ length e.history
+
+-- all members have
+abbrev pub AreComplete : Opening → List MemberEnd → Type 0
+AreComplete o ends = (m : ℕ) (e : MemberEnd) → slice_get ends m ≡ Some e → IsComplete o e
+
+-- a member has ended so before any crash
+pub record IsDone (o : Opening) (points : List CrashPoint) (e : MemberEnd) : Type 0 where
+  pub complete : IsComplete o e
   pub uncrashed : IsBeforeCrash points e.turns
 
 -- a member has ended with all its turns spent, before any crash
@@ -37,10 +41,10 @@ pub record HasCrashed (points : List CrashPoint) (e : MemberEnd) : Type 0 where
   pub first : All (λ (c : CrashPoint). 1 ≤ c.turn → e.turns ≤ c.turn) points
 
 -- a member with these crash points, which takes at most so many turns, has ended as it should
-abbrev pub HasEnded : Opening → ℕ → List CrashPoint → List MemberEnd → MemberEnd → Type 0
-HasEnded o limit points ends e = IsDone o points ends e ⊎ (IsSpent limit points e ⊎ HasCrashed points e)
+abbrev pub HasEnded : Opening → ℕ → List CrashPoint → MemberEnd → Type 0
+HasEnded o limit points e = IsDone o points e ⊎ (IsSpent limit points e ⊎ HasCrashed points e)
 
 -- all members have, each with the crash points of its number
 abbrev pub HaveEnded : Opening → ℕ → (ℕ → List CrashPoint) → List MemberEnd → Type 0
 HaveEnded o limit points ends = (m : ℕ) (e : MemberEnd) → slice_get ends m ≡ Some e
-    → HasEnded o limit (points m) ends e
+    → HasEnded o limit (points m) e

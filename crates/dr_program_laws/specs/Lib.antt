@@ -1,1 +1,5 @@
 pub mod Ended
+pub mod Wants
+pub mod Steady
+pub mod Rested
+pub mod Swept

@@ -1,10 +1,12 @@
 //! What is certain of a program of a group, in whatever order its members take their deeds: it stays in
-//! worlds that are reached, the histories of its members agree, and each member ends as it should.
+//! worlds that are reached, the histories of its members agree, each member ends as it should, and after a
+//! whole turn it has nothing left to do.
 //!
 //! That histories agree comes from `dr_world_laws`, for every world that is reached; this crate says it of
-//! the
-//! ends of a program's members. `docs/PROOFS.md` shows how.
+//! the ends of a program's members. `docs/PROOFS.md` shows how.
 #![tactic(auto)]
+
+mod turns;
 
 ghost use Rattle.std.specs.Prelude.{◌≡◌, ℕ, ◌≤◌, List, length, map, slice_get, Some};
 ghost use Rattle.dr_history.specs.Agreement.{EndsAgreed};
@@ -24,6 +26,8 @@ ghost use Rattle.dr_restart.specs.Groups.{group_of};
 ghost use Rattle.dr_restart.specs.Setups.{IsBegun, crashes_of};
 ghost use Rattle.dr_script.specs.declared.script.Script.{Script};
 ghost use Rattle.dr_program_laws.specs.Ended.{HaveEnded};
+
+pub use turns::{a_turn_leaves_nothing_to_do, programs_are_steady, what_is_asked_is_the_guard};
 
 /// Deeds keep a program: whatever deeds its members have taken, and in whatever order, it is one of its
 /// group still, in a world that is reached. A look then finds a word that its member may see.

@@ -1,0 +1,334 @@
+-- What is told act by act of a whole turn: what each step asks, what it leaves of what other steps ask, and
+-- that none is asked for behind the turn. A further act adds its lines here.
+use Rattle.std.proofs.Common.{◌≡◌, refl, sym, ◌∙◌, inl, inr, ℕ, ◌<◌, ◌==◌, Bool, true, false, length, ap, ◌+◌, ◌-◌, ◌&&◌, ◌||◌, arith, ◌⊎◌, not}
+use Rattle.std.specs.Prelude.{Option, None, Some, is_some, option_map, slice_index_or}
+use Rattle.dr_history.specs.Members.{has}
+use Rattle.dr_machine.specs.Acts.{does, effect_of, CanTake}
+use Rattle.dr_machine.specs.Effects.{one_more, stamped, with_own}
+use Rattle.dr_machine.specs.Group.{Group, columns, roster}
+use Rattle.dr_machine.specs.Guards.{HasRoom, IsOther, IsUnwedged, MayChoose, IsBehind}
+use Rattle.dr_machine.specs.World.{World, count_of, own_word}
+use Rattle.dr_machine.specs.declared.event.Act.{Act}
+use Rattle.dr_machine.specs.declared.event.Act.TheVariants as acts
+use Rattle.dr_machine.specs.declared.step.Step.{Step}
+use Rattle.dr_machine.specs.declared.step.Step.TheVariants as steps
+use Rattle.dr_program.specs.Running.{Running, step_at, goes}
+use Rattle.dr_program.specs.Turn.{part_of, turn_begins, columns_in, is_beat, rows_in}
+use Rattle.dr_program.specs.declared.place.Part.{Part}
+use Rattle.dr_program.specs.declared.place.Part.TheVariants as parts
+use Rattle.dr_program.specs.declared.place.Place.{Place}
+use Rattle.dr_program.specs.declared.place.TheConstants.{TURN}
+use Rattle.dr_program_laws.specs.Rested.{IsRested}
+use Rattle.dr_program_laws.specs.Swept.{IsIdle, Swept}
+use Rattle.dr_program_laws.specs.Wants.{HasSlot, Wants, ShowsMore, IsAnother, is_work, IsToTake, IsLeft, NoneIsLeft, IsToPublish, IsToMark}
+use Rattle.dr_turn.proofs.Deeds.{is_publish}
+use Rattle.dr_turn.proofs.Order.{all_below, each_below}
+use Rattle.dr_words.proofs.Bits.{has_zero}
+use Rattle.dr_words.specs.declared.column.TheConstants.{BEAT_COLUMN, DONE_COLUMN, LOGGED_COLUMN, RECEIVED_COLUMN}
+use Rattle.dr_program.specs.Replica.{Replica}
+use Rattle.dr_program.specs.Acts.{taken}
+use Rattle.dr_program_laws.proofs.Leaving.{Stays, apart_by, differs, done_own, end_kept, gained_other, nulled_left, own_other, publish_own, published_own, row_other, shows_own}
+
+-- ---- what a step asks is its guard, but for what every choice asks
+
+another : (w : World) (m i : ℕ) → IsAnother w m i → IsOther w m i
+another w m i a = record { member = a.0; other = a.1 }
+
+slot : (g : Group) (w : World) (m : ℕ) → HasSlot g w m → HasRoom g w m (count_of w m m)
+slot g w m (inl early) = inl early
+slot g w m (inr all) = inr (λ i o. all i o.member o.other)
+
+free : (g : Group) (w : World) (m : ℕ) → HasRoom g w m (count_of w m m) → HasSlot g w m
+free g w m (inl early) = inl early
+free g w m (inr all) = inr (λ i member other. all i (another w m i (member, other)))
+
+-- a step that is asked for may come, where its member may choose and suspects nobody
+pub asked : (g : Group) (w : World) (m : ℕ) (s : Step) → MayChoose g w m → IsUnwedged w m
+    → Wants g w m s → CanTake g w m s
+asked g w m (steps.Do acts.Beat) may calm wants = may
+asked g w m (steps.Do (acts.Receive s)) may calm wants =
+    record { may = may; unwedged = calm; sender = another w m s wants.0; ready = wants.1 }
+asked g w m (steps.Do acts.Send) may calm wants =
+    record { may = may; unwedged = calm; left = wants.0; room = slot g w m wants.1 }
+asked g w m (steps.Do acts.Null) may calm wants =
+    record { may = may; unwedged = calm; none_left = wants.0; room = slot g w m wants.1; behind = wants.2 }
+asked g w m (steps.Do acts.Deliver) may calm wants =
+    record { may = may; unwedged = calm; received = wants }
+asked g w m (steps.Do acts.Publish) may calm wants = record { may = may; behind = wants }
+asked g w m (steps.Do acts.Report) may calm wants = record { may = may; logged = wants }
+asked g w m (steps.Do acts.Mark) may calm wants =
+    record { may = may; unwedged = calm; unmarked = wants.0; whole = wants.1; durable = wants.2 }
+asked g w m (steps.Do (acts.Halt end)) may calm wants =
+    record { may = may; done = wants.0; unwedged = calm; all = wants.1 }
+asked g w m (steps.Do (acts.Crash end)) may calm wants = record { alive = may.alive; fault = wants }
+asked g w m (steps.Look i c) may calm wants = record {
+  may = may;
+  row = another w m i wants.0;
+  unsuspected = ap (λ x. has x i) calm ∙ has_zero i;
+  column = wants.1;
+}
+asked g w m (steps.Push j c) may calm wants =
+    record { may = may; copy = another w m j wants.0; column = wants.1 }
+asked g w m steps.Append may calm wants = record { may = may; behind = wants }
+
+-- a step that may come is asked for
+pub asks : (g : Group) (w : World) (m : ℕ) (s : Step) → CanTake g w m s → Wants g w m s
+asks g w m (steps.Do acts.Beat) can = tt
+asks g w m (steps.Do (acts.Receive s)) can = ((can.sender.member, can.sender.other), can.ready)
+asks g w m (steps.Do acts.Send) can = (can.left, free g w m can.room)
+asks g w m (steps.Do acts.Null) can = (can.none_left, free g w m can.room, can.behind)
+asks g w m (steps.Do acts.Deliver) can = can.received
+asks g w m (steps.Do acts.Publish) can = can.behind
+asks g w m (steps.Do acts.Report) can = can.logged
+asks g w m (steps.Do acts.Mark) can = (can.unmarked, can.whole, can.durable)
+asks g w m (steps.Do (acts.Halt end)) can = (can.done, can.all)
+asks g w m (steps.Do (acts.Crash end)) can = can.fault
+asks g w m (steps.Look i c) can = ((can.row.member, can.row.other), can.column)
+asks g w m (steps.Push j c) can = ((can.copy.member, can.copy.other), can.column)
+asks g w m steps.Append can = can.behind
+
+-- ---- what a step leaves
+
+-- an own word of a column that the part doesn't read
+own_kept : (g : Group) (w : World) (m c x : ℕ) (part : Part) (i k : ℕ)
+    → Option (Stays g w (with_own w m c x) m part i k)
+own_kept g w m c x (parts.Do acts.Deliver) i k =
+    option_map (λ apart old all. old (shows_own w m c x RECEIVED_COLUMN (w.next m) apart all))
+    (differs c RECEIVED_COLUMN)
+own_kept g w m c x parts.Append i k =
+    option_map (λ apart old wants. publish_own w m c x apart (old wants)) (differs c LOGGED_COLUMN)
+own_kept g w m c x (parts.Do acts.Publish) i k =
+    option_map (λ apart old wants. old (published_own w m c x apart wants)) (differs c LOGGED_COLUMN)
+own_kept g w m c x (parts.Do acts.Report) i k =
+    option_map (λ apart old all. old (shows_own w m c x LOGGED_COLUMN (w.past.durable m) apart all))
+    (differs c LOGGED_COLUMN)
+own_kept g w m c x (parts.Do acts.Mark) i k =
+    option_map (λ apart old wants. old
+    (sym (own_other w.past.own m (w.past.view m) c x DONE_COLUMN apart) ∙ wants.0, wants.1, wants.2))
+    (differs c DONE_COLUMN)
+own_kept g w m c x parts.Done i k =
+    option_map (λ apart old all. old (done_own w m c x apart all)) (differs c DONE_COLUMN)
+own_kept g w m c x parts.Push i k = None
+own_kept g w m c x (parts.Do (acts.Halt end)) i k = None
+own_kept g w m c x part i k = Some (λ old. old)
+
+-- the stamp of an act
+stamp_kept : (g : Group) (w : World) (m : ℕ) (part : Part) (i c : ℕ)
+    → Option (Stays g w (stamped w m) m part i c)
+stamp_kept g w m parts.Look i c =
+    Some (λ old other. old other
+    ∙ sym (row_other w.table (w.past.view m) m m BEAT_COLUMN (one_more 64 (w.past.acts m)) m i c other))
+stamp_kept g w m parts.Push i c = None
+stamp_kept g w m (parts.Do acts.Mark) i c =
+    own_kept g w m BEAT_COLUMN (one_more 64 (w.past.acts m)) (parts.Do acts.Mark) i c
+stamp_kept g w m (parts.Do a) i c =
+    own_kept g w m BEAT_COLUMN (one_more 64 (w.past.acts m)) (parts.Do a) i c
+stamp_kept g w m part i c = own_kept g w m BEAT_COLUMN (one_more 64 (w.past.acts m)) part i c
+
+-- an act, but for its stamp
+does_kept : (g : Group) (w : World) (m : ℕ) (a : Act) (part : Part) (i c : ℕ)
+    → Option (Stays g w (does g w m a) m part i c)
+does_kept g w m (acts.Receive s) parts.Look i c = Some (λ old. old)
+does_kept g w m (acts.Receive s) part i c = None
+does_kept g w m acts.Send parts.Look i c = Some (λ old. old)
+does_kept g w m acts.Send parts.Receive i c =
+    Some (λ old wants. old (gained_other g w m m i wants.0.1 wants))
+does_kept g w m acts.Send part i c = None
+does_kept g w m acts.Null parts.Look i c = Some (λ old. old)
+does_kept g w m acts.Null parts.Receive i c =
+    Some (λ old wants. old (gained_other g w m m i wants.0.1 wants))
+does_kept g w m acts.Null (parts.Do acts.Send) i c = Some (λ old wants. old (nulled_left g w m wants))
+does_kept g w m acts.Null part i c = None
+does_kept g w m acts.Deliver (parts.Do acts.Deliver) i c = None
+does_kept g w m acts.Deliver parts.Append i c = None
+does_kept g w m acts.Deliver (parts.Do acts.Mark) i c = None
+does_kept g w m acts.Deliver part i c = Some (λ old. old)
+does_kept g w m acts.Publish part i c = own_kept g w m LOGGED_COLUMN (length (w.past.log m)) part i c
+does_kept g w m acts.Report (parts.Do acts.Report) i c = None
+does_kept g w m acts.Report (parts.Do acts.Mark) i c = None
+does_kept g w m acts.Report part i c = Some (λ old. old)
+does_kept g w m acts.Mark part i c = own_kept g w m DONE_COLUMN 1 part i c
+does_kept g w m (acts.Halt end) parts.Push i c = None
+does_kept g w m (acts.Halt end) (parts.Do acts.Mark) i c = Some (λ old. old)
+does_kept g w m (acts.Halt end) part i c = Some (λ old. old)
+does_kept g w m (acts.Crash end) parts.Push i c = None
+does_kept g w m (acts.Crash end) (parts.Do acts.Mark) i c = Some (λ old. old)
+does_kept g w m (acts.Crash end) part i c = Some (λ old. old)
+does_kept g w m acts.Beat part i c = None
+
+both : {A B C : Type 0} → Option (A → B) → Option (B → C) → Option (A → C)
+both (Some f) (Some h) = Some (λ x. h (f x))
+both f h = None
+
+-- what a step leaves
+kept : (g : Group) (w : World) (m : ℕ) (s : Step) (part : Part) (i c : ℕ)
+    → Option (Stays g w (effect_of g w m s) m part i c)
+kept g w m (steps.Do (acts.Halt end)) parts.Push i c = Some (end_kept g w m end i c)
+kept g w m (steps.Do (acts.Crash end)) parts.Push i c = Some (end_kept g w m end i c)
+kept g w m (steps.Do a) part i c = both (does_kept g w m a part i c) (stamp_kept g (does g w m a) m part i c)
+kept g w m steps.Append parts.Append i c = None
+kept g w m steps.Append (parts.Do acts.Publish) i c = None
+kept g w m steps.Append part i c = Some (λ old. old)
+kept g w m (steps.Push j d) parts.Look i c =
+    Some (λ old other. old other ∙ sym (row_other w.table (w.past.view m) j m d (own_word w m d) m i c other))
+kept g w m (steps.Push j d) parts.Push i c = None
+kept g w m (steps.Push j d) (parts.Do acts.Mark) i c = Some (λ old. old)
+kept g w m (steps.Push j d) part i c = Some (λ old. old)
+kept g w m (steps.Look j d) part i c = None
+
+-- ---- what a part of the turn leaves
+
+-- the step of a part where its member doesn't crash
+abbrev pub uncrashed : Running → Part → ℕ → ℕ → Step
+uncrashed r parts.Push i c = steps.Push i c
+uncrashed r part i c = step_at r part i c
+
+-- the part with this number
+abbrev pub numbered : ℕ → Part
+numbered a = slice_index_or TURN a turn_begins
+
+-- the deed of part a leaves part b, or goes back to it
+abbrev leaves : Group → World → ℕ → Running → Place → Place → ℕ → ℕ → Bool
+leaves g w m r p q a b =
+    (is_publish (numbered a) && (b + 1 == a))
+    || is_some (kept g w m (uncrashed r (numbered a) p.row p.column) (numbered b) q.row q.column)
+
+-- each deed of a turn leaves what is known of the parts before it
+all_leave : (g : Group) (w : World) (m : ℕ) (r : Running) (p q : Place)
+    → all_below (length TURN - 1) (λ a. all_below a (leaves g w m r p q a)) ≡ true
+unfolding all_below kept does_kept stamp_kept own_kept both differs apart_by
+all_leave g w m r p q = refl
+
+given : {A : Type 0} (t : Bool) (o : Option A) → t ≡ false → (t || is_some o) ≡ true → A
+given true o other e = absurd (cc)
+given false (Some x) other e = x
+given false None other e = absurd (cc)
+
+-- what is known of a place stays known after the deed of a later part, but where that goes back to it
+pub earlier_kept : (g : Group) (w : World) (m : ℕ) (r : Running) (p q : Place) → p.part + 1 < length TURN
+    → q.part < p.part → (is_publish (part_of p) && (q.part + 1 == p.part)) ≡ false
+    → Stays g w (effect_of g w m (uncrashed r (part_of p) p.row p.column)) m (part_of q) q.row q.column
+earlier_kept g w m r p q inside before forth =
+    given _ (kept g w m (uncrashed r (part_of p) p.row p.column) (part_of q) q.row q.column) forth
+    (each_below p.part q.part (leaves g w m r p q p.part)
+    (each_below (length TURN - 1) p.part (λ a. all_below a (leaves g w m r p q a)) (all_leave g w m r p q)
+    (omega (arith, inside)))
+    before)
+
+-- ---- behind the turn
+
+-- the member stands behind the pushes in its turn, and its view is of the roster
+pub record IsPastPushes (g : Group) (w : World) (m : ℕ) (p : Place) : Type 0 where
+  pub swept : Swept g w m p
+  pub late : length TURN - 4 < p.part
+  pub view : (i : ℕ) → has (w.members m) i ≡ true → i < roster g
+
+-- a row and a column of a part
+pub idle_part : (g : Group) (w : World) (m : ℕ) (p : Place) (a i c : ℕ) → IsPastPushes g w m p
+    → a < length TURN - 4 → i < rows_in (roster g) (numbered a) → c < columns_in (columns g) (numbered a)
+    → IsIdle g w m (numbered a) i c
+idle_part g w m p a i c behind early row column =
+    behind.swept (record { part = a; row = i; column = c })
+    (record { part = omega (arith, early); row = row; column = column })
+    (inl (omega (arith, early, behind.late)))
+
+-- no step of the turn is asked for. Parts behind those of the items are counted from the end
+pub idle_work : (g : Group) (w : World) (m : ℕ) (p : Place) → IsPastPushes g w m p
+    → (s : Step) → is_work s ≡ true → Wants g w m s → ⊥
+idle_work g w m p behind s work = by s work
+  where
+    one : (a : ℕ) → a < length TURN - 4 → rows_in (roster g) (numbered a) ≡ 1
+        → columns_in (columns g) (numbered a) ≡ 1 → IsIdle g w m (numbered a) 0 0
+    one a early row column =
+        idle_part g w m p a 0 0 behind early (omega (arith, row)) (omega (arith, column))
+
+    by : (s : Step) → is_work s ≡ true → Wants g w m s → ⊥
+    by (steps.Do (acts.Receive i)) work = λ wants.
+        idle_part g w m p 1 i 0 behind (omega arith) (behind.view i wants.0.0) (omega arith) wants
+    by (steps.Do acts.Send) work = one 2 (omega arith) refl refl
+    by (steps.Do acts.Null) work = one 3 (omega arith) refl refl
+    by (steps.Do acts.Deliver) work = one (length TURN - 10) (omega arith) refl refl
+    by steps.Append work = λ wants. one (length TURN - 8) (omega arith) refl refl
+        (one (length TURN - 9) (omega arith) refl refl wants)
+    by (steps.Do acts.Publish) work = one (length TURN - 8) (omega arith) refl refl
+    by (steps.Do acts.Report) work = one (length TURN - 7) (omega arith) refl refl
+    by (steps.Do acts.Mark) work = one (length TURN - 6) (omega arith) refl refl
+    by s work = absurd (cc)
+
+-- ---- a member at rest
+
+-- m has nothing left of each that a turn does
+pub record HasNothingLeft (g : Group) (w : World) (m : ℕ) : Type 0 where
+  pub items : (s : ℕ) → IsToTake g w m s → ⊥
+  pub messages : IsLeft g w m × HasSlot g w m → ⊥
+  pub nulls : NoneIsLeft g w m × HasSlot g w m × IsBehind w m → ⊥
+  pub places : ShowsMore w m RECEIVED_COLUMN (w.next m) → ⊥
+  pub entries : length (w.past.log m) < length (w.past.history m) → ⊥
+  pub logged : IsToPublish w m → ⊥
+  pub durable : ShowsMore w m LOGGED_COLUMN (w.past.durable m) → ⊥
+  pub mark : IsToMark g w m → ⊥
+
+-- a member at rest has nothing left
+pub nothing_left : {g : Group} {w : World} {m : ℕ} → IsRested g w m → HasNothingLeft g w m
+nothing_left rested = record {
+  items = λ s. rested.idle (steps.Do (acts.Receive s)) refl;
+  messages = rested.idle (steps.Do acts.Send) refl;
+  nulls = rested.idle (steps.Do acts.Null) refl;
+  places = rested.idle (steps.Do acts.Deliver) refl;
+  entries = rested.idle steps.Append refl;
+  logged = rested.idle (steps.Do acts.Publish) refl;
+  durable = rested.idle (steps.Do acts.Report) refl;
+  mark = rested.idle (steps.Do acts.Mark) refl;
+}
+
+-- ---- what is special of an act
+
+-- the part is an end that comes by itself; no part of a turn is
+abbrev pub is_end : Part → Bool
+is_end (parts.Do (acts.Halt end)) = true
+is_end (parts.Do (acts.Crash end)) = true
+is_end part = false
+
+pub no_end : (i : ℕ) → i < length TURN → is_end (numbered i) ≡ false
+unfolding all_below
+no_end i within = negated _ (each_below (length TURN) i (λ j. not (is_end (numbered j))) refl within)
+  where
+    negated : (b : Bool) → not b ≡ true → b ≡ false
+    negated true e = absurd (cc)
+    negated false e = refl
+
+-- only a beat counts a turn, and only an end ends the member
+pub turns_stay : (g : Group) (w : World) (m : ℕ) (a : Act) → is_beat (parts.Do a) ≡ false
+    → (effect_of g w m (steps.Do a)).turns m ≡ w.turns m
+turns_stay g w m acts.Beat other = absurd (cc)
+turns_stay g w m a other = refl
+
+pub taken_turns : (r : Replica) (a : Act) → is_beat (parts.Do a) ≡ false → (taken r a).turns ≡ r.turns
+taken_turns r acts.Beat other = absurd (cc)
+taken_turns r a other = refl
+
+pub taken_end : (r : Replica) (a : Act) → is_end (parts.Do a) ≡ false → (taken r a).end ≡ r.end
+taken_end r (acts.Halt end) other = absurd (cc)
+taken_end r (acts.Crash end) other = absurd (cc)
+taken_end r a other = refl
+
+-- no act changes the view or what was pushed, and in the table only its stamp changes
+pub taken_view : (r : Replica) (a : Act) → (taken r a).view ≡ r.view
+taken_view r acts.Mark = refl
+taken_view r a = refl
+
+pub taken_pushed : (r : Replica) (a : Act) → (taken r a).rows.sent ≡ r.rows.sent
+taken_pushed r acts.Mark = refl
+taken_pushed r a = refl
+
+pub table_stays : (g : Group) (w : World) (m : ℕ) (a : Act) → (does g w m a).table ≡ w.table
+table_stays g w m acts.Mark = refl
+table_stays g w m a = refl
+
+-- where a member goes on after an act that is no beat: a part before, or where it was
+pub goes_back_or_stays : (n k : ℕ) (a : Act) (p : Place) → is_beat (parts.Do a) ≡ false
+    → ((is_publish (parts.Do a) ≡ true) × (goes n k (parts.Do a) p ≡ record p { part = p.part - 1 }))
+    ⊎ ((is_publish (parts.Do a) ≡ false) × (goes n k (parts.Do a) p ≡ p))
+goes_back_or_stays n k acts.Beat p other = absurd (cc)
+goes_back_or_stays n k acts.Publish p other = inl (refl, refl)
+goes_back_or_stays n k a p other = inr (refl, refl)

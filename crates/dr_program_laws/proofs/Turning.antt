@@ -1,0 +1,235 @@
+-- A whole turn of a member.
+use Rattle.std.proofs.Common.{◌≡◌, ◌≢◌, refl, sym, ap, ◌∙◌, subst, ◌⊎◌, ℕ, suc, ◌+◌, ◌<◌, ◌≤◌, ◌||◌, Bool, true, false, List, [], ◌∷◌, length, take, le_trans, arith}
+use Rattle.std.specs.Prelude.{All, Option, None, Some, is_some, slice_get}
+use Rattle.dr_entry.specs.declared.end.End.{End}
+use Rattle.dr_faithful.proofs.Faithfulness.{faithful, grew}
+use Rattle.dr_faithful.specs.Faithful.{Faithful}
+use Rattle.dr_faithful.specs.Tells.{views_of}
+use Rattle.dr_history.specs.Members.{has}
+use Rattle.dr_machine.specs.Acts.{CanTake, effect_of}
+use Rattle.dr_machine.specs.Effects.{one_more}
+use Rattle.dr_machine.specs.Group.{Group}
+use Rattle.dr_machine.specs.World.{World}
+use Rattle.dr_machine.specs.Writes.{at}
+use Rattle.dr_program.specs.declared.place.Part.{Part}
+use Rattle.dr_program.specs.declared.place.Part.TheVariants as parts
+use Rattle.dr_program.specs.Program.{Move, Program, next_sight, ok, ran, step_of}
+use Rattle.dr_program.specs.Form.{IsRunningMember}
+use Rattle.dr_program.specs.Reading.{world}
+use Rattle.dr_program.specs.Replica.{Replica}
+use Rattle.dr_program.specs.Steps.{stepped}
+use Rattle.dr_program.specs.Running as running
+use Rattle.dr_program.specs.Running.{Running, crashes_now, goes, members, next_step, push_or_crash, step_at, took}
+use Rattle.dr_program.specs.Schedule.{IsTurn, is_between_turns}
+use Rattle.dr_program.specs.Turn.{after, is_beat, part_of, turn_begins}
+use Rattle.dr_program.proofs.Holdings.{held_of}
+use Rattle.dr_refine.proofs.Deeds.{program_member, replicas}
+use Rattle.dr_turn.specs.Search.{IsUnderway}
+use Rattle.dr_turn.proofs.Deeds.{beat_place, one_turn}
+use Rattle.dr_program_laws.specs.Rested.{HasTurned}
+use Rattle.dr_program_laws.specs.Steady.{IsSteady}
+use Rattle.dr_program_laws.specs.Swept.{IsBefore, Swept}
+use Rattle.dr_program_laws.proofs.Acts.{turns_stay}
+use Rattle.dr_program_laws.proofs.Passing.{IsGoing, passes}
+use Rattle.dr_program_laws.proofs.Resting.{Knows, rests}
+use Rattle.dr_program_laws.proofs.Steadying.{move_is_ok, moved_member, other_member, steady_moves, stepped_on, stepped_replica, world_on}
+use Rattle.dr_program_laws.proofs.Stepping.{knows_next, settled_passed}
+
+-- ---- what a deed leaves of turns and own words
+
+-- the turns, but where one begins
+turns_on : (g : Group) (w : World) (m : ℕ) (r : Running) (part : Part) (i c : ℕ)
+    → is_beat part ≡ false → (effect_of g w m (step_at r part i c)).turns m ≡ w.turns m
+turns_on g w m r parts.Push i c other = by (crashes_now r)
+  where
+    by : (b : Bool) → (effect_of g w m (push_or_crash b i c)).turns m ≡ w.turns m
+    by true = refl
+    by false = refl
+turns_on g w m r (parts.Do a) i c other = turns_stay g w m a other
+turns_on g w m r part i c other = refl
+
+-- no own word falls
+deed_rises : (g : Group) (p : Program) (m : ℕ) (r : Running) → IsGoing g p m r → (v c : ℕ)
+    → (world g p).past.own m v c ≤ (world g (step_of p (ok m))).past.own m v c
+deed_rises g p m r is v c =
+    let on = world_on g p m r is.steady is.there is.unended in
+    subst (λ (u : World). (world g p).past.own m v c ≤ u.past.own m v c) (sym on.1)
+    ((grew g (views_of g (world g p)) (world g p) m (next_step r) is.steady.group on.0
+    (faithful g (world g p) is.steady.group is.steady.reached)).own m v c).number
+
+-- what the world has of a member's turns and end
+turns_are : (g : Group) (p : Program) (m : ℕ) (r : Running) → IsSteady g p
+    → slice_get p.members m ≡ Some r → (world g p).turns m ≡ r.replica.turns
+turns_are g p m r is there = ap (λ h. h.turns) (held_of g (replicas p.members) p.table m r.replica
+    (program_member g p m r is.group is.program there).there)
+
+end_is : (g : Group) (p : Program) (m : ℕ) (r : Running) → IsSteady g p
+    → slice_get p.members m ≡ Some r → (world g p).end m ≡ r.replica.end
+end_is g p m r is there = ap (λ h. h.end) (held_of g (replicas p.members) p.table m r.replica
+    (program_member g p m r is.group is.program there).there)
+
+-- a move of m is the one whose append goes well
+is_move : (e : Move) (m : ℕ) → e.member ≡ m → e ≡ ok m
+is_move e m own = move_is_ok e ∙ ap ok own
+
+-- ---- a turn
+
+-- m has gone from p to u, within its turn
+record HasGone (g : Group) (p : Program) (m : ℕ) (u : Program) : Type 0 where
+  steady : IsSteady g u
+  member : Running
+  there : slice_get u.members m ≡ Some member
+  knows : Knows g (world g u) m member.place member.replica.end
+  others : (i : ℕ) → i ≢ m → slice_get u.members i ≡ slice_get p.members i
+  turns : (world g u).turns m ≡ (world g p).turns m + 1
+  rises : (v c : ℕ) → (world g p).past.own m v c ≤ (world g u).past.own m v c
+
+-- ---- its first deed
+
+-- nothing comes before the first place of the turn that it begins
+begins : (g : Group) (p : Program) (m : ℕ) (r : Running) → IsGoing g p m r
+    → part_of r.place ≡ turn_begins
+    → Swept g (world g (step_of p (ok m))) m (took (next_sight p.table r) r (next_step r)).place
+begins g p m r is at q inside before =
+    absurd (nothing q.part q.row q.column (subst (IsBefore q) first before))
+  where
+    form : IsRunningMember r
+    form = is.steady.program.form m r is.there
+
+    underway : IsUnderway r
+    underway =
+        record { replica = form.replica; place = form.place; turns = form.turns; left = form.left }
+
+    first : (took (next_sight p.table r) r (next_step r)).place ≡ record { part = 0; row = 0; column = 0 }
+    first =
+        ap (λ x. goes (members r) (running.columns r) x r.place) at
+        ∙ ap (after (members r) (running.columns r)) (beat_place r underway at)
+
+    nothing : (a i c : ℕ) → (a < 0) ⊎ ((a ≡ 0) × ((i < 0) ⊎ ((i ≡ 0) × (c < 0)))) → ⊥
+    nothing a i c earlier = grind (arith, earlier)
+
+-- the first deed begins a turn
+first_deed : (g : Group) (p : Program) (m : ℕ) (r : Running) → IsGoing g p m r
+    → part_of r.place ≡ turn_begins → HasGone g p m (step_of p (ok m))
+first_deed g p m r is begins_at = record {
+  steady = steady;
+  member = stepped_on p r;
+  there = there;
+  knows = subst (Knows g after_it m (stepped_on p r).place) (sym none)
+      (passes g (step_of p (ok m)) m (stepped_on p r) (took (next_sight p.table r) r (next_step r)).place
+      (stepped_on p r).place (record { steady = steady; there = there; unended = none })
+      (settled_passed (took (next_sight p.table r) r (next_step r))) (begins g p m r is begins_at));
+  others = λ i other. other_member p m r i is.there is.unended other;
+  turns = ap (λ (u : World). u.turns m) on.1
+      ∙ ap (λ x. (effect_of g (world g p) m (step_at r x r.place.row r.place.column)).turns m) begins_at
+      ∙ at_here (world g p).turns m (one_more 32 ((world g p).turns m))
+      ∙ one_turn ((world g p).turns m) r.limit (omega (arith, turns_are g p m r is.steady is.there, left))
+      (is.steady.limits m r is.there);
+  rises = deed_rises g p m r is;
+}
+  where
+    after_it : World
+    after_it = world g (step_of p (ok m))
+
+    steady : IsSteady g (step_of p (ok m))
+    steady = steady_moves g p (ok m) is.steady
+
+    there : slice_get (step_of p (ok m)).members m ≡ Some (stepped_on p r)
+    there = moved_member p m r is.there is.unended
+
+    on : CanTake g (world g p) m (next_step r)
+        × (world g (step_of p (ok m)) ≡ effect_of g (world g p) m (next_step r))
+    on = world_on g p m r is.steady is.there is.unended
+
+    left : r.replica.turns < r.limit
+    left = (is.steady.program.form m r is.there).left is.unended begins_at
+
+    none : (stepped_on p r).replica.end ≡ None
+    none = ap (λ (q : Replica). q.end) (stepped_replica p r)
+        ∙ ap (λ x. (stepped (next_sight p.table r) r.replica
+        (step_at r x r.place.row r.place.column)).end) begins_at ∙ is.unended
+
+    at_here : (f : ℕ → ℕ) (i x : ℕ) → at f i x i ≡ x
+    at_here f i x = grind arith
+
+-- ---- the rest of them
+
+-- a member that is not between turns goes on
+going : (o : Option End) (b : Bool) → (is_some o || b) ≡ false → (o ≡ None) × (b ≡ false)
+going None b e = (refl, e)
+going (Some end) b e = absurd (cc)
+
+next_deed : (g : Group) (p : Program) (m : ℕ) (u : Program) → HasGone g p m u
+    → is_between_turns (slice_get u.members m) ≡ false → HasGone g p m (step_of u (ok m))
+next_deed g p m u gone between = record {
+  steady = steady_moves g u (ok m) gone.steady;
+  member = stepped_on u r;
+  there = moved_member u m r gone.there amid.0;
+  knows = knows_next g u m r (record {
+    going = is;
+    begun = amid.1;
+    swept = subst (Knows g (world g u) m r.place) amid.0 gone.knows;
+  });
+  others = λ i other. other_member u m r i gone.there amid.0 other ∙ gone.others i other;
+  turns = ap (λ (v : World). v.turns m) (world_on g u m r gone.steady gone.there amid.0).1
+      ∙ turns_on g (world g u) m r (part_of r.place) r.place.row r.place.column amid.1 ∙ gone.turns;
+  rises = λ v c. le_trans (gone.rises v c) (deed_rises g u m r is v c);
+}
+  where
+    r : Running
+    r = gone.member
+
+    amid : (r.replica.end ≡ None) × (is_beat (part_of r.place) ≡ false)
+    amid = going r.replica.end (is_beat (part_of r.place)) (sym (ap is_between_turns gone.there) ∙ between)
+
+    is : IsGoing g u m r
+    is = record { steady = gone.steady; there = gone.there; unended = amid.0 }
+
+-- by these moves of it, behind none of which but the last it is between turns
+goes_on : (g : Group) (p : Program) (m : ℕ) (es : List Move) (u : Program) → HasGone g p m u
+    → All (λ (e : Move). e.member ≡ m) es
+    → ((k : ℕ) → k < length es → is_between_turns (slice_get (ran u (take k es)).members m) ≡ false)
+    → HasGone g p m (ran u es)
+unfolding ran
+goes_on g p m [] u gone own between = gone
+goes_on g p m (e ∷ es) u gone own between =
+    goes_on g p m es (step_of u e)
+    (subst (λ x. HasGone g p m (step_of u x)) (sym (is_move e m (own 0 e (omega arith))))
+    (next_deed g p m u gone (between 0 (omega arith))))
+    (λ k d l. own (suc k) d (omega (arith, l))) (λ k l. between (suc k) (omega (arith, l)))
+
+-- ---- the whole turn
+
+-- a member that has gone so far that it is between turns has taken a whole turn
+turned : (g : Group) (p : Program) (m : ℕ) (q : Program) → HasGone g p m q
+    → is_between_turns (slice_get q.members m) ≡ true → HasTurned g p m q
+turned g p m q gone whole = record {
+  steady = gone.steady;
+  rested = rests g (world g q) m gone.member.place gone.member.replica.end
+      (end_is g q m gone.member gone.steady gone.there)
+      (gone.steady.program.form m gone.member gone.there).place.part
+      (sym (ap is_between_turns gone.there) ∙ whole)
+      (λ i member. told.views.within ((world g q).past.view m) i
+      (sym (ap (λ x. has x i) (told.views.own m)) ∙ member)) gone.knows;
+  others = gone.others;
+  turns = gone.turns;
+  rises = gone.rises;
+}
+  where
+    told : Faithful g (views_of g (world g q)) (world g q)
+    told = faithful g (world g q) gone.steady.group gone.steady.reached
+
+-- a member that stands before a turn takes it
+pub takes_turn : (g : Group) (p : Program) (m : ℕ) (r : Running) (es : List Move) (q : Program)
+    → IsSteady g p → slice_get p.members m ≡ Some r → r.replica.end ≡ None
+    → part_of r.place ≡ turn_begins → IsTurn m p es q → HasTurned g p m q
+unfolding ran
+takes_turn g p m r [] q is there unended begins_at turn = absurd (omega (arith, turn.some))
+takes_turn g p m r (e ∷ es) q is there unended begins_at turn =
+    turned g p m q
+    (subst (HasGone g p m) (sym turn.taken) (goes_on g p m es (step_of p e)
+    (subst (λ x. HasGone g p m (step_of p x)) (sym (is_move e m (turn.own 0 e (omega arith))))
+    (first_deed g p m r (record { steady = is; there = there; unended = unended }) begins_at))
+    (λ k d l. turn.own (suc k) d (omega (arith, l)))
+    (λ k l. turn.first (suc k) (omega arith) (omega (arith, l)))))
+    turn.whole

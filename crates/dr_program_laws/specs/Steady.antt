@@ -1,0 +1,26 @@
+-- Programs whose members' words stand in the table as they were pushed.
+use Rattle.std.specs.Prelude.{◌≡◌, ◌≢◌, ℕ, ◌+◌, ◌*◌, ◌^◌, ◌<◌, ◌≤◌, length, slice_get, Some}
+use Rattle.dr_machine.specs.Group.{Group, IsGroup, banks, columns, roster}
+use Rattle.dr_machine.specs.Run.{IsReached}
+use Rattle.dr_program.specs.Program.{Program}
+use Rattle.dr_program.specs.Reading.{world}
+use Rattle.dr_program.specs.Replica.{Replica, greatest}
+use Rattle.dr_program.specs.Running.{Running}
+use Rattle.dr_refine.specs.Programs.{IsProgram}
+use Rattle.dr_rows.specs.Words.{last_pushed}
+
+-- a history has room for an entry of each place of the age
+abbrev pub HasRooms : Group → Replica → Type 0
+HasRooms g r = length g.opening.start + banks g + greatest r.totals * roster g ≤ r.room
+
+-- a program of the group, in a reached world, whose members keep their limits, and whose words stand in the
+-- table as they were last pushed
+pub record IsSteady (g : Group) (p : Program) : Type 0 where
+  pub group : IsGroup g
+  pub program : IsProgram g p
+  pub reached : IsReached g (world g p)
+  pub limits : (m : ℕ) (r : Running) → slice_get p.members m ≡ Some r → r.limit < 2 ^ 32
+  pub rooms : (m : ℕ) (r : Running) → slice_get p.members m ≡ Some r → HasRooms g r.replica
+  pub pushes : (m : ℕ) (r : Running) → slice_get p.members m ≡ Some r → (j c : ℕ) → j < roster g
+      → j ≢ m → c < columns g
+      → last_pushed r.replica.rows j c ≡ (world g p).table r.replica.view j m c

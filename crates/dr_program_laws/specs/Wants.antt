@@ -1,0 +1,85 @@
+-- What a step asks of a member that may choose and suspects nobody.
+use Rattle.std.specs.Prelude.{◌≡◌, ◌≢◌, ⊤, ℕ, ◌-◌, ◌<◌, ◌≤◌, ◌⊎◌, Bool, true, false, length}
+use Rattle.dr_entry.specs.declared.end.End.TheVariants.{Done}
+use Rattle.dr_history.specs.History.{messages_of}
+use Rattle.dr_history.specs.Members.{has}
+use Rattle.dr_machine.specs.declared.event.Act.TheVariants as acts
+use Rattle.dr_machine.specs.declared.step.Step.{Step}
+use Rattle.dr_machine.specs.declared.step.Step.TheVariants as steps
+use Rattle.dr_machine.specs.Group.{Group, columns}
+use Rattle.dr_machine.specs.Guards.{HoldsAll, IsBehind, IsFault, next_index, seen_slot}
+use Rattle.dr_machine.specs.World.{World, count_of, own_word, shown}
+use Rattle.dr_ring.specs.Slots.{IsReady}
+use Rattle.dr_words.specs.declared.column.TheConstants.{DONE_COLUMN, LOGGED_COLUMN, RECEIVED_COLUMN}
+use Rattle.dr_words.specs.Columns.{recv_column}
+use Rattle.dr_words.specs.Packing.{recv_count}
+
+-- i is another member of m's view
+abbrev pub IsAnother : World → ℕ → ℕ → Type 0
+IsAnother w m i = (has (w.members m) i ≡ true) × (i ≢ m)
+
+-- all words that the next item of s needs are seen
+abbrev pub IsThere : Group → World → ℕ → ℕ → Type 0
+IsThere g w m s = IsReady (count_of w m s) (seen_slot g w m s (count_of w m s))
+
+-- the next item of s is to be taken
+abbrev pub IsToTake : Group → World → ℕ → ℕ → Type 0
+IsToTake g w m s = IsAnother w m s × IsThere g w m s
+
+-- a message is left
+abbrev pub IsLeft : Group → World → ℕ → Type 0
+IsLeft g w m = next_index w m < length (messages_of g.opening m)
+
+-- the slot of m's next item is free
+abbrev pub HasSlot : Group → World → ℕ → Type 0
+HasSlot g w m =
+    (count_of w m m < g.window)
+    ⊎ ((i : ℕ) → has (w.members m) i ≡ true → i ≢ m
+    → count_of w m m - g.window < recv_count (w.seen m i (recv_column m)))
+
+-- no message is left
+abbrev pub NoneIsLeft : Group → World → ℕ → Type 0
+NoneIsLeft g w m = length (messages_of g.opening m) ≤ next_index w m
+
+-- every row of the view shows more than x in a column
+abbrev pub ShowsMore : World → ℕ → ℕ → ℕ → Type 0
+ShowsMore w m c x = (i : ℕ) → has (w.members m) i ≡ true → x < shown w m i c
+
+-- every row of the view shows done
+abbrev pub SeesAllDone : World → ℕ → Type 0
+SeesAllDone w m = (i : ℕ) → has (w.members m) i ≡ true → shown w m i DONE_COLUMN ≡ 1
+
+-- m has more on its log than its logged word says
+abbrev pub IsToPublish : World → ℕ → Type 0
+IsToPublish w m = own_word w m LOGGED_COLUMN < length (w.past.log m)
+
+-- m has everything, durably, and hasn't said so
+abbrev pub IsToMark : Group → World → ℕ → Type 0
+IsToMark g w m = (own_word w m DONE_COLUMN ≡ 0) × HoldsAll g w m
+    × (w.past.durable m ≡ length (w.past.history m))
+
+-- what the step asks
+abbrev pub Wants : Group → World → ℕ → Step → Type 0
+Wants g w m (steps.Do acts.Beat) = ⊤
+Wants g w m (steps.Do (acts.Receive s)) = IsToTake g w m s
+Wants g w m (steps.Do acts.Send) = IsLeft g w m × HasSlot g w m
+Wants g w m (steps.Do acts.Null) = NoneIsLeft g w m × HasSlot g w m × IsBehind w m
+Wants g w m (steps.Do acts.Deliver) = ShowsMore w m RECEIVED_COLUMN (w.next m)
+Wants g w m (steps.Do acts.Publish) = IsToPublish w m
+Wants g w m (steps.Do acts.Report) = ShowsMore w m LOGGED_COLUMN (w.past.durable m)
+Wants g w m (steps.Do acts.Mark) = IsToMark g w m
+Wants g w m (steps.Do (acts.Halt end)) = (end ≡ Done) × SeesAllDone w m
+Wants g w m (steps.Do (acts.Crash end)) = IsFault end
+Wants g w m (steps.Look i c) = IsAnother w m i × (c < columns g)
+Wants g w m (steps.Push j c) = IsAnother w m j × (c < columns g)
+Wants g w m steps.Append = length (w.past.log m) < length (w.past.history m)
+
+-- the steps that a turn has to do between its looks and its pushes, where they are asked for
+abbrev pub is_work : Step → Bool
+is_work (steps.Do acts.Beat) = false
+is_work (steps.Do (acts.Halt end)) = false
+is_work (steps.Do (acts.Crash end)) = false
+is_work (steps.Do a) = true
+is_work (steps.Look i c) = false
+is_work (steps.Push j c) = false
+is_work steps.Append = true
