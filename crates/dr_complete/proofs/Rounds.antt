@@ -1,0 +1,125 @@
+-- Rounds: each member has its turn, again and again.
+use Rattle.std.proofs.Common.{List, None, Some, ap, arith, inl, inr, refl, subst, sym, true, false, zero, zero-add, suc, ℕ, ◌*◌, ◌+◌, ◌<◌, ◌∙◌, ◌≡◌, ◌≤◌, ◌⊎◌, ◌||◌, Bool}
+use Rattle.std.specs.Prelude.{Option, is_some, slice_get}
+use Rattle.std.specs.List.{range_with_len}
+use Rattle.std.proofs.lemmas.Bool.{cases_lt}
+use Rattle.dr_entry.specs.declared.end.End.{End}
+use Rattle.dr_words.specs.declared.column.TheConstants.{DONE_COLUMN}
+use Rattle.dr_machine.specs.Group.{Group, roster}
+use Rattle.dr_machine.specs.World.{opening_world}
+use Rattle.dr_program.specs.Program.{Move, Program}
+use Rattle.dr_program.specs.Reading.{world}
+use Rattle.dr_program.specs.Running.{Running}
+use Rattle.dr_program.specs.Schedule.{IsTurn, Rounds, TakeTurns, TakesTurn, has_ended, is_between_turns}
+use Rattle.dr_program.specs.Turn.{is_beat, part_of}
+use Rattle.dr_program.specs.declared.setup.Setup.{Setup}
+use Rattle.dr_turn.proofs.Search.{beat_test}
+use Rattle.dr_program_laws.proofs.Programs.{AllStand, ran_stands}
+use Rattle.dr_program_laws.proofs.Worlds.{of_there}
+use Rattle.dr_program_laws.proofs.Turning.{takes_turn}
+use Rattle.dr_complete.proofs.Along.{own_first}
+use Rattle.dr_complete.proofs.Between.{IsBetween, IsFit, IsGoing, member_at, true_of}
+use Rattle.dr_complete.proofs.Turns.{turn_keeps}
+use Rattle.dr_complete.specs.Reached.{AllShowDone}
+
+-- ---- one member
+
+-- a member that hasn't ended stands where a turn begins
+at_beginning : (o : Option End) (beat : Bool) → is_some o ≡ false → (is_some o || beat) ≡ true
+    → (o ≡ None) × (beat ≡ true)
+at_beginning None beat going e = (refl, e)
+at_beginning (Some end) beat going e = absurd (cc)
+
+-- it takes its turn
+takes : (g : Group) (setups : List Setup) (limit most r x : ℕ) (p : Program) (es : List Move)
+    (q : Program) → IsFit g setups limit most → x < roster g → IsBetween g setups most r x p
+    → has_ended (slice_get p.members x) ≡ false → IsTurn x p es q → IsBetween g setups most r (x + 1) q
+takes g setups limit most r x p es q fit l between going turn =
+    let member = member_at g p x between.paused.steady l in
+    let y = member.0 in
+    let steady = between.paused.steady in
+    let stands = at_beginning y.replica.end (is_beat (part_of y.place)) (sym (ap has_ended member.1) ∙ going)
+    (sym (ap is_between_turns member.1) ∙ between.paused.whole x) in
+    turn_keeps {limit = limit} (record {
+      fit = fit;
+      within = l;
+      before = between;
+      turned = takes_turn g p x y es q steady member.1 stands.0 (beat_test (part_of y.place) stands.1) turn;
+      stand = subst (AllStand setups) (sym turn.taken)
+          (ran_stands g setups p es steady.group steady.program steady.reached between.paused.stand);
+      whole = turn.whole;
+    })
+
+-- a member that has ended leaves the program as it is; all show done then
+passes : (g : Group) (setups : List Setup) (most r x : ℕ) (p : Program) → x < roster g
+    → IsBetween g setups most r x p → has_ended (slice_get p.members x) ≡ true
+    → IsBetween g setups most r (x + 1) p
+passes g setups most r x p l between over = record { paused = between.paused; state = state between.state }
+  where
+    member : (y : Running) × (slice_get p.members x ≡ Some y)
+    member = member_at g p x between.paused.steady l
+
+    ended : member.0.replica.end ≡ None → ⊥
+    ended none = absurd (cc (sym (ap has_ended member.1) ∙ over))
+
+    state : AllShowDone g (world g p) ⊎ IsGoing g most r x (world g p)
+        → AllShowDone g (world g p) ⊎ IsGoing g most r (x + 1) (world g p)
+    state (inl shows) = inl shows
+    state (inr go) = absurd (ended (sym (of_there p (λ y. y.end) (opening_world g).end x member.0 member.1)
+        ∙ go.unended x l))
+
+-- ---- a round
+
+-- each member from x on has its turn
+turns_keep : (g : Group) (setups : List Setup) (limit most r d x : ℕ) (p : Program) (es : List Move)
+    (q : Program) → IsFit g setups limit most → x + d ≡ roster g
+    → IsBetween g setups most r x p → TakeTurns (range_with_len x d) p es q
+    → IsBetween g setups most r (roster g) q
+turns_keep g setups limit most r zero x p es q fit all between (none, same) =
+    subst (IsBetween g setups most r (roster g)) (sym same)
+    (subst (λ n. IsBetween g setups most r n p) (omega (arith, all)) between)
+turns_keep g setups limit most r (suc d) x p es q fit all between (turn, rest, mid, both, first, more) =
+    turns_keep g setups limit most r d (x + 1) mid rest q fit (omega (arith, all)) (by first) more
+  where
+    l : x < roster g
+    l = omega (arith, all)
+
+    by : TakesTurn x p turn mid → IsBetween g setups most r (x + 1) mid
+    by (inl over) = subst (IsBetween g setups most r (x + 1)) (sym over.2)
+        (passes g setups most r x p l between over.0)
+    by (inr going) = takes g setups limit most r x p turn mid fit l between going.0 going.1
+
+-- where all members have had their turn, the next round begins, or all show done
+round_over : (g : Group) (setups : List Setup) (most r : ℕ) (p : Program)
+    → IsBetween g setups most r (roster g) p → IsBetween g setups most (r + 1) 0 p
+round_over g setups most r p between = record { paused = between.paused; state = state between.state }
+  where
+    next : IsGoing g most r (roster g) (world g p) → (r < 3 * most + 1) ⊎ (3 * most + 1 ≤ r)
+        → AllShowDone g (world g p) ⊎ IsGoing g most (r + 1) 0 (world g p)
+    next go (inl early) = inr (record {
+      early = omega (arith, early);
+      unended = go.unended;
+      gone = λ i a l. absurd (omega (arith, l));
+      ahead = λ i a l. go.gone i a a;
+    })
+    next go (inr late) = inl (λ i a. own_first g (world g p) i DONE_COLUMN (true_of g p between.paused.steady)
+        ∙ (go.gone i a a).1.done (omega (arith, late)))
+
+    state : AllShowDone g (world g p) ⊎ IsGoing g most r (roster g) (world g p)
+        → AllShowDone g (world g p) ⊎ IsGoing g most (r + 1) 0 (world g p)
+    state (inl shows) = inl shows
+    state (inr go) = next go (cases_lt r (3 * most + 1))
+
+-- ---- all rounds
+
+-- so it goes on, round by round
+pub rounds_keep : (g : Group) (setups : List Setup) (limit most k r : ℕ) (p : Program) (es : List Move)
+    (q : Program) → IsFit g setups limit most → IsBetween g setups most r 0 p
+    → Rounds k p es q → (n : ℕ) × IsBetween g setups most n 0 q
+rounds_keep g setups limit most zero r p es q fit between (none, same) =
+    (r, subst (IsBetween g setups most r 0) (sym same) between)
+rounds_keep g setups limit most (suc k) r p es q fit between (round, rest, mid, both, first, more) =
+    let all = between.paused.steady.program.all in
+    let over = turns_keep g setups limit most r (roster g) 0 p round mid fit (zero-add (roster g)) between
+    (subst (λ n. TakeTurns (range_with_len 0 n) p round mid) all first) in
+    rounds_keep g setups limit most k (r + 1) mid rest q fit (round_over g setups most r mid over) more

@@ -1,0 +1,300 @@
+-- A turn of a member, in a round in which the members below it have had theirs.
+use Rattle.std.proofs.Common.{List, None, Some, [], ap, arith, inl, inr, refl, subst, sym, true, ℕ, ◌+◌, ◌<◌, ◌∙◌, ◌≡◌, ◌≢◌, ◌≤◌, ◌⊎◌}
+use Rattle.std.specs.Prelude.{Any, Option, slice_get}
+use Rattle.std.proofs.lemmas.Bool.{cases_eq, cases_lt}
+use Rattle.dr_entry.specs.declared.end.End.{End}
+use Rattle.dr_entry.specs.declared.end.End.TheVariants as ends
+use Rattle.dr_history_laws.proofs.Lists.{slice_get-some}
+use Rattle.dr_words.specs.declared.column.TheConstants.{BEAT_COLUMN, DONE_COLUMN, LOGGED_COLUMN}
+use Rattle.dr_machine.specs.Group.{Group, columns, roster}
+use Rattle.dr_machine.specs.World.{World, opening_world, own_word, shown}
+use Rattle.dr_program.proofs.Holdings.{Holding, held}
+use Rattle.dr_program.specs.Program.{Program}
+use Rattle.dr_program.specs.Reading.{world}
+use Rattle.dr_program.specs.Running.{Running}
+use Rattle.dr_program.specs.Schedule.{is_between_turns}
+use Rattle.dr_program.specs.declared.setup.CrashPoint.{CrashPoint}
+use Rattle.dr_program.specs.declared.setup.Setup.{Setup}
+use Rattle.dr_faithful.proofs.Faithfulness.{whole}
+use Rattle.dr_faithful.specs.Faithful.{Faithful}
+use Rattle.dr_world_laws.proofs.Reached.{known}
+use Rattle.dr_program_laws.proofs.Programs.{AllStand}
+use Rattle.dr_program_laws.proofs.Standing.{IsProper}
+use Rattle.dr_program_laws.proofs.Worlds.{of_there}
+use Rattle.dr_program_laws.specs.Rested.{HasTurned, IsRested}
+use Rattle.dr_program_laws.specs.Steady.{IsSteady}
+use Rattle.dr_complete.proofs.Between.{ArePushed, HasGone, IsBetween, IsFit, IsGoing, IsUpright, member_at, same_held, true_of}
+use Rattle.dr_complete.proofs.Along.{IsAlong, along_less, along_more, in_view_is, own_first}
+use Rattle.dr_complete.proofs.DoneWords.{done_is_one, done_shows_all}
+use Rattle.dr_complete.specs.Reached.{AllShowDone}
+
+-- member x has taken its turn, by which p has become q
+pub record HasTaken (g : Group) (setups : List Setup) (limit most r x : ℕ) (p q : Program) : Type 0 where
+  pub fit : IsFit g setups limit most
+  pub within : x < roster g
+  pub before : IsBetween g setups most r x p
+  pub turned : HasTurned g p x q
+  pub stand : AllStand setups q
+  pub whole : is_between_turns (slice_get q.members x) ≡ true
+
+-- ---- the others
+
+-- the others are as they were
+others_same : {g : Group} {setups : List Setup} {limit most r x : ℕ} {p q : Program}
+    → HasTaken g setups limit most r x p q → (i : ℕ) → i ≢ x
+    → held (world g q) i ≡ held (world g p) i
+others_same {g = g} {p = p} {q = q} t i other = same_held g p q i (t.turned.others i other)
+
+-- ---- how the member has ended
+
+no_points : {P : CrashPoint → Type 0} → Any P [] → ⊥
+no_points (k, c, within, there, is) = absurd (omega (arith, within))
+
+-- a member is upright, or has its turns spent and hasn't crashed
+abbrev IsUprightOrSpent : ℕ → ℕ → Option End → Type 0
+IsUprightOrSpent limit turns end = IsUpright end ⊎ ((turns ≡ limit) × (end ≢ Some ends.Crashed))
+
+-- so it is where its end is proper and it has no crash points
+proper_end : (limit turns : ℕ) (end : Option End) → IsProper limit [] turns end
+    → IsUprightOrSpent limit turns end
+proper_end limit turns None proper = inl (inl refl)
+proper_end limit turns (Some ends.Done) proper = inl (inr refl)
+proper_end limit turns (Some ends.Crashed) proper = absurd (no_points proper)
+proper_end limit turns (Some (ends.Spent n)) proper = inr (proper.1, λ e. cc)
+proper_end limit turns (Some end) proper = absurd proper
+
+uncrashed : (limit turns : ℕ) (end : Option End) → IsUprightOrSpent limit turns end
+    → end ≢ Some ends.Crashed
+uncrashed limit turns end (inl (inl none)) e = cc
+uncrashed limit turns end (inl (inr is_done)) e = cc
+uncrashed limit turns end (inr spent) e = spent.1 e
+
+-- so it is with the member that has taken its turn
+end_so : {g : Group} {setups : List Setup} {limit most r x : ℕ} {p q : Program}
+    → HasTaken g setups limit most r x p q
+    → IsUprightOrSpent limit ((world g q).turns x) ((world g q).end x)
+end_so {g = g} {setups = setups} {limit = limit} {x = x} {q = q} t =
+    let member = member_at g q x t.turned.steady t.within in
+    let setup = slice_get-some setups x (omega (arith, t.within, t.fit.are.all)) in
+    let end = of_there q (λ z. z.end) (opening_world g).end x member.0 member.1 in
+    let turns = of_there q (λ z. z.turns) (opening_world g).turns x member.0 member.1 in
+    let bound = (t.fit.are.each x setup.0 setup.1).turns in
+    rw (end, turns) (proper_end limit member.0.replica.turns member.0.replica.end
+    (rw (bound, t.fit.uncrashed x setup.0 setup.1) at (t.stand x setup.0 member.0 setup.1 member.1).proper))
+
+-- so it has nothing left to do
+has_rested : {g : Group} {setups : List Setup} {limit most r x : ℕ} {p q : Program}
+    → HasTaken g setups limit most r x p q → IsRested g (world g q) x
+has_rested {g = g} {limit = limit} {x = x} {q = q} t = by t.turned.rested
+  where
+    by : ((world g q).end x ≡ Some ends.Crashed) ⊎ IsRested g (world g q) x → IsRested g (world g q) x
+    by (inr rested) = rested
+    by (inl crashed) =
+        absurd (uncrashed limit ((world g q).turns x) ((world g q).end x) (end_so t) crashed)
+
+-- ---- what was pushed
+
+-- so far each member is in the first view
+view_first : (g : Group) (p : Program) (i : ℕ) (r : Running) → IsSteady g p → slice_get p.members i ≡ Some r
+    → r.replica.view ≡ 0
+view_first g p i r steady there =
+    sym (of_there p (λ z. z.view) (opening_world g).past.view i r there)
+    ∙ (true_of g p steady).beginning.first i
+
+-- the words of the others in the table are as they were
+others_stay : {g : Group} {setups : List Setup} {limit most r x : ℕ} {p q : Program}
+    → HasTaken g setups limit most r x p q → (i j c : ℕ) → i ≢ x → i < roster g → j < roster g → j ≢ i
+    → c < columns g → (world g q).table 0 j i c ≡ (world g p).table 0 j i c
+others_stay {g = g} {p = p} {q = q} t i j c d a b other inside =
+    let member = member_at g p i t.before.paused.steady a in
+    subst (λ v. (world g q).table v j i c ≡ (world g p).table v j i c)
+    (view_first g p i member.0 t.before.paused.steady member.1)
+    (sym (t.turned.steady.pushes i member.0 (t.turned.others i d ∙ member.1) j c b other inside)
+    ∙ t.before.paused.steady.pushes i member.0 member.1 j c b other inside)
+
+-- so all words are pushed as before, and those of the member as it leaves them
+still_pushed : {g : Group} {setups : List Setup} {limit most r x : ℕ} {p q : Program}
+    → HasTaken g setups limit most r x p q → ArePushed g (world g q)
+still_pushed {g = g} {x = x} {q = q} t i j c a b other inside apart begun = by (cases_eq i x)
+  where
+    w : World
+    w = world g q
+
+    by : (i ≡ x) ⊎ (i ≢ x) → (world g q).table 0 j i c ≡ (world g q).past.own i 0 c
+    by (inl e) = rw e (subst (λ (v : ℕ). w.table v j x c ≡ w.past.own x v c)
+        ((true_of g q t.turned.steady).beginning.first x)
+        ((has_rested t).pushed j c b (λ z. other (z ∙ sym e)) inside
+        (λ z. absurd (apart z))))
+    by (inr d) =
+        let same = others_same t i d in
+        others_stay t i j c d a b other inside
+        ∙ t.before.paused.pushed i j c a b other inside apart
+        (λ z. subst (λ (n : ℕ). 1 ≤ n) (ap (λ (h : Holding). h.turns) same) (begun z))
+        ∙ ap (λ (h : Holding). h.own 0 c) (sym same)
+
+-- and the member sees them so
+sees_own : {g : Group} {setups : List Setup} {limit most r x : ℕ} {p q : Program}
+    → HasTaken g setups limit most r x p q → (i c : ℕ) → i < roster g → i ≢ x → c < columns g
+    → c ≢ BEAT_COLUMN → (c ≡ LOGGED_COLUMN → 1 ≤ (world g q).turns i)
+    → (world g q).seen x i c ≡ (world g q).past.own i 0 c
+sees_own {g = g} {x = x} {q = q} t i c a other inside apart begun =
+    (has_rested t).seen i c a other inside
+    ∙ ap (λ v. (world g q).table v x i c) ((true_of g q t.turned.steady).beginning.first x)
+    ∙ still_pushed t i x c a t.within (λ e. other (sym e)) inside apart begun
+
+-- ---- where all show done
+
+-- they go on to do so
+still_show : {g : Group} {setups : List Setup} {limit most r x : ℕ} {p q : Program}
+    → HasTaken g setups limit most r x p q → AllShowDone g (world g p) → AllShowDone g (world g q)
+still_show {g = g} {x = x} {p = p} {q = q} t shows i a = by (cases_eq i x)
+  where
+    f : Faithful g (whole g) (world g q)
+    f = true_of g q t.turned.steady
+
+    by : (i ≡ x) ⊎ (i ≢ x) → own_word (world g q) i DONE_COLUMN ≡ 1
+    by (inl e) = rw e (done_is_one g (world g q) x f (omega (
+      arith,
+      own_first g (world g q) x DONE_COLUMN f,
+      t.turned.rises 0 DONE_COLUMN,
+      own_first g (world g p) x DONE_COLUMN (true_of g p t.before.paused.steady),
+      shows x t.within,
+    )))
+    by (inr d) = ap (λ (h : Holding). h.own h.view DONE_COLUMN)
+        (others_same t i d) ∙ shows i a
+
+-- and the member, which sees them all, has ended as done
+ends_done : {g : Group} {setups : List Setup} {limit most r x : ℕ} {p q : Program}
+    → HasTaken g setups limit most r x p q → AllShowDone g (world g q)
+    → (world g q).end x ≡ Some ends.Done
+ends_done {g = g} {x = x} {q = q} t shows =
+    (has_rested t).done.1
+    (λ i member. by i (cases_eq i x) (in_view_is g (world g q) x i f member))
+  where
+    f : Faithful g (whole g) (world g q)
+    f = true_of g q t.turned.steady
+
+    mine : (i : ℕ) → i ≡ x → own_word (world g q) x DONE_COLUMN ≡ 1
+        → shown (world g q) x i DONE_COLUMN ≡ 1
+    mine i e o = grind (arith, e, o)
+
+    seen : (i : ℕ) → i ≢ x → (world g q).seen x i DONE_COLUMN ≡ 1 → shown (world g q) x i DONE_COLUMN ≡ 1
+    seen i d o = grind (arith, d, o)
+
+    by : (i : ℕ) → (i ≡ x) ⊎ (i ≢ x) → i < roster g → shown (world g q) x i DONE_COLUMN ≡ 1
+    by i (inl e) a = mine i e (shows x t.within)
+    by i (inr d) a = seen i d
+        (sees_own t i DONE_COLUMN a d (omega arith) (λ e. omega (arith, e))
+        (λ e. absurd (omega (arith, e)))
+        ∙ sym (own_first g (world g q) i DONE_COLUMN f) ∙ shows i a)
+
+-- ---- where nobody has ended
+
+-- before the turn each other member has had r turns, or one more
+went : {g : Group} {setups : List Setup} {limit most r x : ℕ} {p q : Program}
+    → HasTaken g setups limit most r x p q → IsGoing g most r x (world g p) → (i : ℕ) → i < roster g
+    → i ≢ x → (r ≤ (world g q).turns i) × IsAlong g most r i (held (world g q) i)
+went {g = g} {most = most} {r = r} {x = x} {p = p} t go i a other =
+    subst (λ (h : Holding). (r ≤ h.turns) × IsAlong g most r i h)
+    (sym (others_same t i other)) (by (cases_lt i x))
+  where
+    by : (i < x) ⊎ (x ≤ i) → (r ≤ (world g p).turns i) × IsAlong g most r i (held (world g p) i)
+    by (inl l) = let gone = go.gone i a l in
+        (omega (arith, gone.0), along_less g most r i (held (world g p) i) gone.1)
+    by (inr l) = let ahead = go.ahead i a l in (omega (arith, ahead.0), ahead.1)
+
+-- so the turn brings the member on
+comes_on : {g : Group} {setups : List Setup} {limit most r x : ℕ} {p q : Program}
+    → HasTaken g setups limit most r x p q → IsGoing g most r x (world g p)
+    → HasGone g most (r + 1) x (held (world g q) x)
+comes_on {g = g} {most = most} {r = r} {x = x} {q = q} t go = (
+  turns,
+  along_more (record {
+    group = t.turned.steady.group;
+    known = known g (world g q) t.turned.steady.group t.turned.steady.reached;
+    member = t.within;
+    few = t.fit.few;
+    rested = has_rested t;
+    sees = λ i c a other inside apart begun.
+        sees_own t i c a other inside apart
+        (λ e. omega (arith, begun e, (went t go i a other).0));
+    others = λ i a other. (went t go i a other).1;
+  }),
+)
+  where
+    turns : (world g q).turns x ≡ r + 1
+    turns = t.turned.turns ∙ ap (λ n. n + 1) (go.ahead x t.within (omega arith)).0
+
+-- the member goes on, or has ended as done
+stays_upright : {g : Group} {setups : List Setup} {limit most r x : ℕ} {p q : Program}
+    → HasTaken g setups limit most r x p q → IsUpright ((world g q).end x)
+stays_upright {g = g} {limit = limit} {most = most} {r = r} {x = x} {p = p} {q = q} t =
+    by t.before.state (end_so t)
+  where
+    by : AllShowDone g (world g p) ⊎ IsGoing g most r x (world g p)
+        → IsUprightOrSpent limit ((world g q).turns x) ((world g q).end x) → IsUpright ((world g q).end x)
+    by state (inl upright) = upright
+    by (inl shows) how = inr (ends_done t (still_show t shows))
+    by (inr go) (inr spent) = absurd (omega (
+      arith,
+      spent.0,
+      (comes_on t go).0,
+      go.early,
+      t.fit.enough,
+    ))
+
+-- where it goes on, so do all
+goes_on : {g : Group} {setups : List Setup} {limit most r x : ℕ} {p q : Program}
+    → HasTaken g setups limit most r x p q → IsGoing g most r x (world g p)
+    → (world g q).end x ≡ None → IsGoing g most r (x + 1) (world g q)
+goes_on {g = g} {most = most} {r = r} {x = x} {p = p} {q = q} t go none = record {
+  early = go.early;
+  unended = λ i a. unended i a (cases_eq i x);
+  gone = λ i a l. gone i a l (cases_eq i x);
+  ahead = λ i a l. subst (HasGone g most r i) (sym (same i (λ e. omega (arith, e, l))))
+      (go.ahead i a (omega (arith, l)));
+}
+  where
+    same : (i : ℕ) → i ≢ x → held (world g q) i ≡ held (world g p) i
+    same = others_same t
+
+    unended : (i : ℕ) → i < roster g → (i ≡ x) ⊎ (i ≢ x) → (world g q).end i ≡ None
+    unended i a (inl e) = rw e none
+    unended i a (inr d) = ap (λ (h : Holding). h.end) (same i d) ∙ go.unended i a
+
+    gone : (i : ℕ) → i < roster g → i < x + 1 → (i ≡ x) ⊎ (i ≢ x)
+        → HasGone g most (r + 1) i (held (world g q) i)
+    gone i a l (inl e) = rw e (comes_on t go)
+    gone i a l (inr d) = subst (HasGone g most (r + 1) i) (sym (same i d)) (go.gone i a (omega (arith, l, d)))
+
+-- ---- the turn
+
+-- behind the turn of member x the program is between turns again, with one member more that has had its own
+pub turn_keeps : {g : Group} {setups : List Setup} {limit most r x : ℕ} {p q : Program}
+    → HasTaken g setups limit most r x p q → IsBetween g setups most r (x + 1) q
+turn_keeps {g = g} {most = most} {r = r} {x = x} {p = p} {q = q} t = record {
+  paused = record {
+    steady = t.turned.steady;
+    stand = t.stand;
+    whole = λ m. between m (cases_eq m x);
+    upright = λ i a. upright i a (cases_eq i x);
+    pushed = still_pushed t;
+  };
+  state = state t.before.state (stays_upright t);
+}
+  where
+    between : (m : ℕ) → (m ≡ x) ⊎ (m ≢ x) → is_between_turns (slice_get q.members m) ≡ true
+    between m (inl e) = rw e t.whole
+    between m (inr d) = ap is_between_turns (t.turned.others m d) ∙ t.before.paused.whole m
+
+    upright : (i : ℕ) → i < roster g → (i ≡ x) ⊎ (i ≢ x) → IsUpright ((world g q).end i)
+    upright i a (inl e) = rw e (stays_upright t)
+    upright i a (inr d) = subst (λ (h : Holding). IsUpright h.end)
+        (sym (others_same t i d)) (t.before.paused.upright i a)
+
+    state : AllShowDone g (world g p) ⊎ IsGoing g most r x (world g p) → IsUpright ((world g q).end x)
+        → AllShowDone g (world g q) ⊎ IsGoing g most r (x + 1) (world g q)
+    state (inl shows) how = inl (still_show t shows)
+    state (inr go) (inl none) = inr (goes_on t go none)
+    state (inr go) (inr is_done) =
+        inl (done_shows_all g (world g q) x t.turned.steady.group t.turned.steady.reached is_done)

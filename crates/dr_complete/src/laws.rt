@@ -1,0 +1,62 @@
+//! Laws of groups that lose nothing.
+ghost use Rattle.std.specs.Prelude.{◌≡◌, ℕ, ◌+◌, ◌*◌, ◌^◌, ◌<◌, ◌≤◌, List, [], map, slice_get, Some};
+ghost use Rattle.dr_complete.specs.Reached.{AllShowDone, RingsKeep, SeesSlot};
+ghost use Rattle.dr_entry.specs.declared.end.End.TheVariants.{Done};
+ghost use Rattle.dr_entry.specs.declared.end.MemberEnd.{MemberEnd};
+ghost use Rattle.dr_history_laws.specs.Remaining.{messages_left};
+ghost use Rattle.dr_machine.specs.Group.{Group, IsGroup, roster};
+ghost use Rattle.dr_machine.specs.Guards.{IsOther, seen_slot};
+ghost use Rattle.dr_machine.specs.Run.{IsReached};
+ghost use Rattle.dr_machine.specs.World.{World, count_of};
+ghost use Rattle.dr_program.specs.declared.setup.Setup.{Setup};
+ghost use Rattle.dr_program.specs.Program.{AreSetups, Move, Program, begun_program, end_of};
+ghost use Rattle.dr_program.specs.Schedule.{IsLockstep};
+ghost use Rattle.dr_complete.specs.Time.{HasTime};
+ghost use Rattle.dr_program_laws.specs.Ended.{AreComplete, IsComplete};
+ghost use Rattle.dr_restart.specs.declared.start.Start.{Start};
+ghost use Rattle.dr_restart.specs.Groups.{group_of};
+ghost use Rattle.dr_restart.specs.Setups.{IsBegun};
+ghost use Rattle.dr_script.specs.declared.script.Script.{Script};
+ghost use Rattle.dr_script.specs.Ranges.{HasRanges};
+ghost use Rattle.dr_ring.specs.Slots.{IsReady};
+
+/// In every world that is reached the ring of each member has the pieces of every item that it has put,
+/// or of later ones in their place.
+pub fn rings_keep_their_items()
+    ensures { (g : Group) (w : World) → IsGroup g → IsReached g w → RingsKeep g w.past }
+{}
+
+/// In every world that is reached a member that has seen the slot of a sender's next item as it stands, and
+/// finds no item ready there, has all that the sender has put.
+pub fn nothing_ready_is_overlooked()
+    ensures { (g : Group) (w : World) (m s : ℕ) → IsGroup g → IsReached g w
+        → m < roster g → IsOther w m s → SeesSlot g w m s
+        → ¬ IsReady (count_of w m s) (seen_slot g w m s (count_of w m s))
+        → count_of w m s ≡ w.past.count s (w.past.view m) s }
+{}
+
+/// In every world that is reached in which some member has ended as done, all members show done.
+pub fn all_show_done_where_one_has_ended()
+    ensures { (g : Group) (w : World) (m : ℕ) → IsGroup g → IsReached g w
+        → w.end m ≡ Some Done → AllShowDone g w }
+{}
+
+/// In lockstep, where no member is to crash, none has more than `most` messages left, and each may take three
+/// turns for each of these and three more, every member ends as done. Its history is the start, View 0, and
+/// the merge of all that the start leaves, and all of it is logged and durable.
+pub fn lockstep_completes()
+    ensures { (g : Group) (limit most : ℕ) (setups : List Setup) (es : List Move) (p : Program)
+        → IsGroup g → AreSetups g limit setups
+        → ((m : ℕ) (s : Setup) → slice_get setups m ≡ Some s → s.crashes ≡ [])
+        → ((s : ℕ) → messages_left g.opening s ≤ most) → 3 * most + 3 ≤ limit → limit < 2 ^ 32
+        → IsLockstep (begun_program g setups) es p → (m : ℕ) (e : MemberEnd)
+        → slice_get (map end_of p.members) m ≡ Some e → IsComplete g.opening e }
+{}
+
+/// So do the members of a script that gives them time enough, from every sound start.
+pub fn scripts_complete()
+    ensures { (script : Script) (start : Start) (nth : ℕ) (begun p : Program) (es : List Move)
+        → IsGroup (group_of script start) → HasRanges script → HasTime script
+        → IsBegun script start nth begun → IsLockstep begun es p
+        → AreComplete (group_of script start).opening (map end_of p.members) }
+{}

@@ -1,0 +1,14 @@
+//! What is certain of a group that has time enough: in lockstep, without crashes, every member delivers
+//! everything.
+//!
+//! That a member has nothing left to do at the end of its turn comes from `dr_program_laws`, and that one that
+//! is done holds everything from `dr_world_laws`; this crate shows how far each round brings the members on.
+//! `docs/PROOFS.md` shows how.
+#![tactic(auto)]
+
+mod laws;
+
+pub use laws::{
+    all_show_done_where_one_has_ended, lockstep_completes, nothing_ready_is_overlooked,
+    rings_keep_their_items, scripts_complete,
+};
