@@ -22,8 +22,8 @@ use Rattle.dr_turn.proofs.Search.{applies_at}
 use Rattle.dr_turn.proofs.Staying.{settled_here, stops_due}
 use Rattle.dr_member.specs.declared.fate.Fate.{Fate}
 use Rattle.dr_member.specs.Fate.{fate_after}
-use Rattle.dr_member.specs.Search.{from_column, standing}
-use Rattle.dr_member.proofs.Passing.{from_here, passes, pushes_idle}
+use Rattle.dr_member.specs.Search.{standing}
+use Rattle.dr_member.proofs.Passing.{from_column, from_here, passes, pushes_idle}
 
 -- the fate is that of r after a step
 pub record IsFateAfter (r : Running) (s : Step) (fate : Fate) : Type 0 where

@@ -18,7 +18,7 @@ use Rattle.dr_program.specs.Running.{Running, asks, columns, crashes_now, deed, 
 use Rattle.dr_program.specs.Reading.{step_due, step_of_member}
 use Rattle.dr_program.specs.Sight.{IsSeenNext, MaySee}
 use Rattle.dr_program.specs.Form.{IsRunningMember}
-use Rattle.dr_member.specs.Deeds.{is_look, is_push, is_act, is_append}
+use Rattle.dr_member.specs.Deeds.{is_look, is_push, is_append}
 
 -- ---- the kind of a deed
 
@@ -56,11 +56,6 @@ append_part r parts.Push i c e = absurd (by (crashes_now r) e)
     by true e = cc
     by false e = cc
 append_part r part i c e = absurd (cc)
-
-act_step : (r : Running) (s : Step) → is_act (deed_of r s) ≡ true → (a : Act) × (s ≡ steps.Do a)
-act_step r (steps.Do a) e = (a, refl)
-act_step r (steps.Look i c) e = absurd (cc)
-act_step r s e = absurd (cc)
 
 -- ---- what is known where a deed of a kind is due
 
@@ -180,12 +175,6 @@ pub record IsActDue (r : Running) : Type 0 where
   pub none : r.replica.end ≡ None
   pub act : Act
   pub step : next_step r ≡ steps.Do act
-
--- a running member at an act has an act due
-pub act_due : (r : Running) → is_act (next_deed r) ≡ true → IsActDue r
-act_due r e =
-    let due = deed_due is_act (λ end. refl) r e in
-    let is = act_step r (next_step r) due.1 in record { none = due.0; act = is.0; step = is.1 }
 
 -- ---- a look may see what has grown
 

@@ -133,7 +133,7 @@ made r n w v m k f l o p en ew ev em small a b d e h = record {
 -- ---- the deeds
 
 kept : (b : Bases) (word : ℕ) (r : Replica) (s : Step) → AreBases b r → AreBases b (stepped word r s)
-kept b word r (Do acts.Beat) f = record { are = f.are; small = f.small }
+kept b word r (Do acts.Report) f = record { are = f.are; small = f.small }
 kept b word r (Do a) f = record { are = f.are; small = f.small }
 kept b word r s f = record { are = f.are; small = f.small }
 

@@ -24,12 +24,12 @@ use Rattle.dr_member.specs.declared.member.Member.TheInside.{Inside}
 use Rattle.dr_member.specs.Deeds.{is_act, is_append, is_push}
 use Rattle.dr_member.specs.Fate.{IsTimely, fate_after}
 use Rattle.dr_member.specs.Inside.{IsInside, view_of}
-use Rattle.dr_member.specs.Search.{from_column, standing}
+use Rattle.dr_member.specs.Search.{next_row, standing}
 use Rattle.dr_member.proofs.Answers.{IsAnswer, IsFateAfter, IsTaken, answer_at, fate_of_act, fate_stays, is_answer, is_done, look_applies, push_applies, pushes_searched, stays}
 use Rattle.dr_member.proofs.Crashes.{some_at_push, timely_act, timely_push}
 use Rattle.dr_member.proofs.Dues.{IsLookDue, IsPushDue, append_due, deed_due, look_due, push_due}
 use Rattle.dr_member.proofs.Indices.{columns_kept, deeds_keep_bases}
-use Rattle.dr_member.proofs.Passing.{from_here}
+use Rattle.dr_member.proofs.Passing.{from_behind, from_column, from_here}
 
 -- ---- rows
 
@@ -56,6 +56,15 @@ behind : (replica q : Replica) (p : Place) (part : Part) → part_of p ≡ part 
 behind replica q p part at roster window is =
     (λ z. from_column (roster z) (columns_of (roster z) (window z)) p (p.column + 1))
     ∙ sym (ap (λ x. goes replica.roster (columns_of replica.roster replica.window) x p) at ∙ is)
+
+-- behind the last column of a look or a push the next row comes
+pub row_left : (q : Replica) (p : Place) (part : Part) (c : ℕ) → part_of p ≡ part
+    → columns_in (columns_of q.roster q.window) part ≡ columns_of q.roster q.window
+    → columns_of q.roster q.window ≤ c
+    → from_column q.roster (columns_of q.roster q.window) p c ≡ next_row q.roster p
+row_left q p part c at all past =
+    from_behind q.roster (columns_of q.roster q.window) p c
+    (omega (arith, ap (columns_in (columns_of q.roster q.window)) at, all, past))
 
 -- ---- looks
 
@@ -114,6 +123,26 @@ looked_within now replica q fate p word view l within =
         (omega (arith, ap (λ (x : Replica). x.roster) l.after, l.due.cell.row))
         (ap (λ (x : Replica). is_other x p.row) l.after ∙ l.due.cell.other) within
 
+-- behind the last column it goes on with the next row
+pub look_left : (replica q : Replica) (fate : Fate) (p : Place) (word : ℕ)
+    → IsLooked replica q fate p word → columns_of q.roster q.window ≤ p.column + 1
+    → IsUnderway (standing q fate (next_row q.roster p))
+look_left replica q fate p word l past =
+    subst (λ (x : Place). IsUnderway (standing q fate x))
+    (row_left q p parts.Look (p.column + 1) l.due.at refl past)
+    (is_done word _ _ _ _ _ (look_taken replica q fate p word l)).underway
+
+pub looked_past : (now : Running) (replica q : Replica) (fate : Fate) (p s : Place) (word : ℕ)
+    → standing replica fate p ≡ now → IsLooked replica q fate p word
+    → columns_of q.roster q.window ≤ p.column + 1
+    → standing q fate s ≡ settled (standing q fate (next_row q.roster p))
+    → IsAnswer word now (standing q fate s)
+looked_past now replica q fate p s word view l past e =
+    answer_at word _ now _ view
+    (is_answer word _ _ _ _ _ s (look_taken replica q fate p word l)
+    (e ∙ ap (λ (x : Place). settled (standing q fate x))
+    (sym (row_left q p parts.Look (p.column + 1) l.due.at refl past))))
+
 -- ---- pushes
 
 -- the fate with so many more pushes of this turn
@@ -165,7 +194,7 @@ push_searched replica q fate p n t l =
     (is_done 0 _ _ _ _ _ (push_taken replica q fate p n t 0 l)).underway l.unchanged l.above l.within
 
 -- a member that pushed and then settled stands where the answer says
-pub pushed_past : (now : Running) (replica q : Replica) (fate : Fate) (p s : Place) (n t word : ℕ)
+pushed_past : (now : Running) (replica q : Replica) (fate : Fate) (p s : Place) (n t word : ℕ)
     → standing replica fate p ≡ now → IsPushed replica q fate p n t
     → standing q (counted fate n) s ≡ settled
     (standing q (counted fate n) (from_column q.roster (columns_of q.roster q.window) p t))
@@ -201,6 +230,24 @@ pushed_within now replica q fate p n t word view l within word_changed =
 
     other : is_other q p.row ≡ true
     other = ap (λ (y : Replica). is_other y p.row) l.after ∙ l.due.cell.other
+
+-- and goes on with the next row, where there is none
+pub push_left : (replica q : Replica) (fate : Fate) (p : Place) (n t : ℕ)
+    → IsPushed replica q fate p n t → columns_of q.roster q.window ≤ t
+    → IsUnderway (standing q (counted fate n) (next_row q.roster p))
+push_left replica q fate p n t l past =
+    subst (λ (x : Place). IsUnderway (standing q (counted fate n) x))
+    (row_left q p parts.Push t l.due.at refl past) (push_searched replica q fate p n t l).0
+
+pub pushed_behind : (now : Running) (replica q : Replica) (fate : Fate) (p s : Place) (n t word : ℕ)
+    → standing replica fate p ≡ now → IsPushed replica q fate p n t
+    → columns_of q.roster q.window ≤ t
+    → standing q (counted fate n) s ≡ settled (standing q (counted fate n) (next_row q.roster p))
+    → IsAnswer word now (standing q (counted fate n) s)
+pushed_behind now replica q fate p s n t word view l past e =
+    pushed_past now replica q fate p s n t word view l
+    (e ∙ ap (λ (x : Place). settled (standing q (counted fate n) x))
+    (sym (row_left q p parts.Push t l.due.at refl past)))
 
 -- and what it keeps of its script stays timely
 pub pushed_timely : (replica q : Replica) (fate : Fate) (p : Place) (n t : ℕ)

@@ -1,21 +1,27 @@
 -- What the search may pass over at once.
-use Rattle.std.proofs.Common.{◌≡◌, refl, subst, ap, ◌∙◌, ℕ, zero, suc, ◌+◌, ◌-◌, ◌<◌, ◌≤◌, ◌&&◌, Bool, true, false, if◌then◌else◌, nat_lt, length, le_refl, arith}
-use Rattle.std.specs.Prelude.{None}
+use Rattle.std.proofs.Common.{◌≡◌, refl, subst, ap, ◌∙◌, ℕ, zero, suc, ◌+◌, ◌-◌, ◌<◌, ◌≤◌, ◌==◌, ◌&&◌, Bool, true, false, if◌then◌else◌, nat_lt, le_refl, sym, arith}
+use Rattle.std.specs.Prelude.{None, is_some}
 use Rattle.std.proofs.lemmas.Bool.Decides.{nat_tests}
 use Rattle.dr_rows.specs.Words.{changed}
 use Rattle.dr_program.specs.declared.place.Part.TheVariants as parts
 use Rattle.dr_program.specs.declared.place.Place.{Place}
 use Rattle.dr_program.specs.declared.place.TheConstants.{TURN}
-use Rattle.dr_program.specs.Turn.{columns_in, part_of, places_in, rows_in}
+use Rattle.dr_program.specs.Turn.{columns_in, part_of, places_in}
 use Rattle.dr_program.specs.Replica.{Replica, is_other}
-use Rattle.dr_program.specs.Running.{Running, members, columns, applies, moved, step_at}
+use Rattle.dr_program.specs.Running.{Running, members, columns, applies, moved, settled, step_at}
 use Rattle.dr_program.specs.Steps.{allows}
-use Rattle.dr_turn.specs.Search.{IsUnderway}
+use Rattle.dr_turn.specs.Search.{IsUnderway, left}
 use Rattle.dr_turn.proofs.Order.{left_falls, left_small}
 use Rattle.dr_turn.proofs.Search.{applies_at, applies_from, idle_part, part_before, underway_idle}
-use Rattle.dr_turn.proofs.Staying.{settle_enough, settle_on, stops_not}
+use Rattle.dr_turn.proofs.Staying.{settle_enough, settle_on, settled_here, stops_due, stops_not}
 use Rattle.dr_member.specs.declared.fate.Fate.{Fate}
-use Rattle.dr_member.specs.Search.{GoesBy, from_column, standing}
+use Rattle.dr_member.specs.Search.{IsFirstDue, IsIdleTo, next_row, standing}
+
+-- the search from r goes by x, which stands later in the turn
+pub record GoesBy (r x : Running) : Type 0 where
+  pub same : settled x ≡ settled r
+  pub underway : IsUnderway x
+  pub later : left (members x) (columns x) x.place < left (members r) (columns r) r.place
 
 -- the search goes by the next place
 pub goes_on : (r : Running) → IsUnderway r → r.replica.end ≡ None → applies r r.place ≡ false
@@ -38,21 +44,25 @@ goes_far r x y a b = record {
       omega (arith, a.later, b.later);
 }
 
+-- the place of this column in the row, or what comes after the row where it has no such column
+abbrev pub from_column : ℕ → ℕ → Place → ℕ → Place
+from_column n k p c = if nat_lt c (columns_in k (part_of p)) then record p { column = c } else next_row n p
+
+-- behind the last column the next row comes
+pub from_behind : (n k : ℕ) (p : Place) (c : ℕ) → columns_in k (part_of p) ≤ c
+    → from_column n k p c ≡ next_row n p
+from_behind n k p c h = by (nat_lt c (columns_in k (part_of p))) (grind (arith, nat_tests))
+  where
+    by : (x : Bool) → x ≡ false → (if x then record p { column = c } else next_row n p) ≡ next_row n p
+    by true e = absurd (cc)
+    by false e = refl
+
 -- a column that there is
 pub from_here : (n k : ℕ) (p : Place) (c : ℕ) → c < columns_in k (part_of p)
     → from_column n k p c ≡ record p { column = c }
 from_here n k p c h = by (nat_lt c (columns_in k (part_of p))) (grind (arith, nat_tests))
   where
-    rest : Place
-    rest = if nat_lt (p.row + 1) (rows_in n (part_of p)) then record p { row = p.row + 1; column = 0 }
-        else record {
-          part = if nat_lt (p.part + 1) (length TURN) then p.part + 1 else 0;
-          row = 0;
-          column =
-              0;
-        }
-
-    by : (x : Bool) → x ≡ true → (if x then record p { column = c } else rest)
+    by : (x : Bool) → x ≡ true → (if x then record p { column = c } else next_row n p)
         ≡ record p { column = c }
     by true e = refl
     by false e = absurd (cc)
@@ -67,7 +77,7 @@ past_column r c = record r { place = from_column (members r) (columns r) r.place
 
 -- columns at which there is nothing to do are passed over, with so many between this one and t
 pass : (d : ℕ) (r : Running) (t : ℕ) → IsUnderway r → r.replica.end ≡ None
-    → ((c : ℕ) → r.place.column ≤ c → c < t → applies r (record r.place { column = c }) ≡ false)
+    → IsIdleTo r r.place t
     → r.place.column + 1 + d ≡ t → t ≤ columns_in (columns r) (part_of r.place)
     → GoesBy r (past_column r t)
 pass zero r t u none idle e within =
@@ -91,9 +101,39 @@ pass (suc d) r t u none idle e within = far (pass d (at_column r (r.place.column
 
 -- a member under way goes by columns with nothing to do
 pub passes : (r : Running) (t : ℕ) → IsUnderway r → r.replica.end ≡ None
-    → ((c : ℕ) → r.place.column ≤ c → c < t → applies r (record r.place { column = c }) ≡ false)
-    → r.place.column < t → t ≤ columns_in (columns r) (part_of r.place) → GoesBy r (past_column r t)
+    → IsIdleTo r r.place t → r.place.column < t → t ≤ columns_in (columns r) (part_of r.place)
+    → GoesBy r (past_column r t)
 passes r t u none idle later within = pass (t - (r.place.column + 1)) r t u none idle (omega arith) within
+
+-- where a row has nothing to do, the search goes by what comes after it
+pub row_passed : (r : Running) → IsUnderway r → r.replica.end ≡ None
+    → IsIdleTo r r.place (columns_in (columns r) (part_of r.place))
+    → GoesBy r (record r { place = next_row (members r) r.place })
+row_passed r u none idle =
+    subst (λ (p : Place). GoesBy r (record r { place = p }))
+    (from_behind (members r) (columns r) r.place (columns_in (columns r) (part_of r.place)) (le_refl _))
+    (passes r (columns_in (columns r) (part_of r.place)) u none idle u.place.column (le_refl _))
+
+-- the search stays at the first column of the row with something to do
+pub first_found : (r : Running) (c : ℕ) → IsUnderway r → r.replica.end ≡ None
+    → IsFirstDue r r.place c → at_column r c ≡ settled r
+first_found r c u none f = by (c == r.place.column) refl
+  where
+    stays : at_column r c ≡ settled (at_column r c)
+    stays = sym (settled_here (at_column r c) (stops_due (is_some r.replica.end)
+        (applies (at_column r c) (at_column r c).place)
+        (applies_from r (at_column r c).place (at_column r c).place ∙ f.due)))
+
+    by : (b : Bool) → (c == r.place.column) ≡ b → at_column r c ≡ settled r
+    by true e =
+        let same : at_column r c ≡ r = ap (at_column r) (grind (arith, nat_tests)) in
+        stays ∙ ap settled same
+    by false e =
+        let far = passes r c u none f.idle (grind (arith, nat_tests, f.later)) (omega (arith, f.within)) in
+        stays
+        ∙ ap (λ (p : Place). settled (record r { place = p }))
+        (sym (from_here (members r) (columns r) r.place c f.within))
+        ∙ far.same
 
 -- the pushes to a member of words that are unchanged
 neither : (a b d : Bool) → b ≡ false → ((a && b) && d) ≡ false

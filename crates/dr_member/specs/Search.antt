@@ -1,11 +1,10 @@
 -- The search for the next place of the turn at which there is something to do.
-use Rattle.std.specs.Prelude.{◌≡◌, ℕ, ◌+◌, ◌<◌, nat_lt, if◌then◌else◌, length}
+use Rattle.std.specs.Prelude.{◌≡◌, ℕ, ◌+◌, ◌<◌, ◌≤◌, nat_lt, if◌then◌else◌, length, false, true}
 use Rattle.dr_program.specs.declared.place.Place.{Place}
 use Rattle.dr_program.specs.declared.place.TheConstants.{TURN}
 use Rattle.dr_program.specs.Turn.{part_of, rows_in, columns_in}
 use Rattle.dr_program.specs.Replica.{Replica}
-use Rattle.dr_program.specs.Running.{Running, members, columns, settled}
-use Rattle.dr_turn.specs.Search.{left, IsUnderway}
+use Rattle.dr_program.specs.Running.{Running, applies, columns}
 use Rattle.dr_member.specs.declared.fate.Fate.{Fate}
 
 -- the member with this replica and this fate, at this place
@@ -20,15 +19,18 @@ standing replica fate place = record {
   pushes = fate.pushes;
 }
 
--- the place of this column in the row, or what comes after the row where it has no such column
-abbrev pub from_column : ℕ → ℕ → Place → ℕ → Place
-from_column n k p c =
-    if nat_lt c (columns_in k (part_of p)) then record p { column = c }
-    else (if nat_lt (p.row + 1) (rows_in n (part_of p)) then record p { row = p.row + 1; column = 0 }
-    else record { part = if nat_lt (p.part + 1) (length TURN) then p.part + 1 else 0; row = 0; column = 0 })
+-- what comes after the row of this place
+abbrev pub next_row : ℕ → Place → Place
+next_row n p = if nat_lt (p.row + 1) (rows_in n (part_of p)) then record p { row = p.row + 1; column = 0 }
+    else record { part = if nat_lt (p.part + 1) (length TURN) then p.part + 1 else 0; row = 0; column = 0 }
 
--- the search from r goes by x, which stands later in the turn
-pub record GoesBy (r x : Running) : Type 0 where
-  pub same : settled x ≡ settled r
-  pub underway : IsUnderway x
-  pub later : left (members x) (columns x) x.place < left (members r) (columns r) r.place
+-- there is nothing to do in the row from this place up to column t
+abbrev pub IsIdleTo : Running → Place → ℕ → Type 0
+IsIdleTo r p t = (c : ℕ) → p.column ≤ c → c < t → applies r (record p { column = c }) ≡ false
+
+-- the first column of the row, from this place on, with something to do, if there is one
+pub record IsFirstDue (r : Running) (p : Place) (c : ℕ) : Type 0 where
+  pub later : p.column ≤ c
+  pub within : c < columns_in (columns r) (part_of p)
+  pub idle : IsIdleTo r p c
+  pub due : applies r (record p { column = c }) ≡ true

@@ -12,7 +12,7 @@ ghost use Rattle.dr_turn.specs.Work.{HasGrownTo, IsStill, deeds_left};
 
 use crate::bases::Bases;
 use crate::fate::Fate;
-use crate::search::{goes, next_changed, settle, settle_from, step_at};
+use crate::search::{go, leave_row, next_changed, settle, step_at};
 use dr_entry::{End, Entry, MemberEnd, Record, Seq};
 use dr_machine::Step;
 use dr_program::{Deed, PARTS, Place, Setup};
@@ -24,7 +24,7 @@ use std::marker::Model;
 /// The numbers of the parts of a turn that have the looks and the pushes, and of the part before a turn.
 const LOOKS: u8 = 0;
 
-const PUSHES: u8 = 8;
+const PUSHES: u8 = 9;
 
 const BEAT: u8 = PARTS as u8 - 1;
 
@@ -130,7 +130,7 @@ impl Member {
             self.replica.look(row, column, word);
         } else {
             self.replica.look(row, column, word);
-            self.place = settle_from(&self.replica, &self.fate, self.place, next);
+            leave_row(&self.replica, &self.fate, &mut self.place);
         }
     }
 
@@ -155,7 +155,7 @@ impl Member {
         if next < columns {
             self.place.column = next;
         } else {
-            self.place = settle_from(&self.replica, &self.fate, self.place, next);
+            leave_row(&self.replica, &self.fate, &mut self.place);
         }
     }
 
@@ -170,10 +170,10 @@ impl Member {
         ensures keeps { IsStill self.old self.new }
     {
         if let Step::Do(act) = step_at(&self.replica, &self.fate, self.place) {
-            let from = goes(&self.replica.shape(), self.place);
+            go(&self.replica.shape(), &mut self.place);
             self.replica.take(act);
             self.fate.note(act, self.replica.turns());
-            self.place = settle(&self.replica, &self.fate, from);
+            settle(&self.replica, &self.fate, &mut self.place);
         }
     }
 
@@ -187,9 +187,9 @@ impl Member {
         ensures falls { deeds_left self.new < deeds_left self.old }
         ensures keeps { IsStill self.old self.new }
     {
-        let from = goes(&self.replica.shape(), self.place);
+        go(&self.replica.shape(), &mut self.place);
         self.replica.append();
-        self.place = settle(&self.replica, &self.fate, from);
+        settle(&self.replica, &self.fate, &mut self.place);
     }
 
     /// How it ended; `None` exactly where it hasn't ended.

@@ -1,15 +1,14 @@
 //! The search for the next place of a turn at which there is something to do.
-ghost use Rattle.std.specs.Prelude.{length, ◌≡◌, ℕ, ◌<◌, ◌≤◌, true, false, None};
+ghost use Rattle.std.specs.Prelude.{length, ◌≡◌, ℕ, ◌<◌, ◌≤◌, true, false, MatchOption};
 ghost use Rattle.dr_program.specs.declared.place.TheConstants.{TURN};
-ghost use Rattle.dr_program.specs.Running.{applies, asks, goes, settled, step_of};
-ghost use Rattle.dr_program.specs.Turn.{IsIn, columns_in, part_of, rows_in};
+ghost use Rattle.dr_program.specs.Running.{applies, goes, settled, step_of};
+ghost use Rattle.dr_program.specs.Turn.{IsIn, after, columns_in, part_of, rows_in};
 ghost use Rattle.dr_program.specs.Form.{HasForm};
 ghost use Rattle.dr_words.specs.Columns.{columns_of};
 ghost use Rattle.dr_rows.specs.Words.{changed};
 ghost use Rattle.dr_turn.specs.Search.{IsUnderway};
-ghost use Rattle.dr_member.specs.declared.fate.Fate.{Fate};
 ghost use Rattle.dr_member.specs.Fate.{IsTimely};
-ghost use Rattle.dr_member.specs.Search.{GoesBy, from_column, standing};
+ghost use Rattle.dr_member.specs.Search.{IsFirstDue, IsIdleTo, next_row, standing};
 
 use crate::fate::Fate;
 use dr_entry::End;
@@ -18,36 +17,78 @@ use dr_program::{Part, Place, TURN};
 use dr_replica::Replica;
 use dr_words::Shape;
 
-/// The first place of the turn, from this one on, at which there is something to do; this one, where
-/// the member has ended.
-#[inline(always)]
-pub(crate) fn settle(replica: &Replica, fate: &Fate, from: Place) -> Place
-    requires underway { IsUnderway (standing replica.now fate.now from) }
+/// Goes on to the first place of the turn, from this one on, at which there is something to do. Stays,
+/// where the member has ended. Out of line, it leaves those that call it small.
+#[inline(never)]
+pub(crate) fn settle(replica: &Replica, fate: &Fate, place: &mut Place)
+    requires underway { IsUnderway (standing replica.now fate.now place.old) }
     requires fate { IsTimely fate.now replica.now.turns }
-    ensures { standing replica.now fate.now result ≡ settled (standing replica.now fate.now from) }
+    ensures { standing replica.now fate.now place.new ≡ settled (standing replica.now fate.now place.old) }
 {
     if replica.end().is_some() {
-        return from;
+        return;
     }
-    let mut place = from;
-    while !applies(replica, fate, place) {
-        place = skip(replica, place);
+    loop {
+        if let Some(column) = first_due(replica, fate, *place) {
+            place.column = column;
+            return;
+        }
+        next_row(&replica.shape(), place);
     }
-    place
 }
 
-/// The first place of the turn, from the one of a column on, at which there is something to do. Out
-/// of line, it leaves looks and pushes a small loop.
+/// Goes on from what comes after the row to the first place at which there is something to do. Out of
+/// line, it leaves looks and pushes a small loop.
 #[inline(never)]
-pub(crate) fn settle_from(replica: &Replica, fate: &Fate, place: Place, column: usize) -> Place
-    requires place { IsIn replica.now.roster (columns_of replica.now.roster replica.now.window) place }
-    requires underway { IsUnderway (standing replica.now fate.now
-        (from_column replica.now.roster (columns_of replica.now.roster replica.now.window) place column)) }
+pub(crate) fn leave_row(replica: &Replica, fate: &Fate, place: &mut Place)
+    requires place { IsIn replica.now.roster (columns_of replica.now.roster replica.now.window) place.old }
+    requires underway { IsUnderway (standing replica.now fate.now (next_row replica.now.roster place.old)) }
     requires fate { IsTimely fate.now replica.now.turns }
-    ensures { standing replica.now fate.now result ≡ settled (standing replica.now fate.now
-        (from_column replica.now.roster (columns_of replica.now.roster replica.now.window) place column)) }
+    ensures { standing replica.now fate.now place.new
+        ≡ settled (standing replica.now fate.now (next_row replica.now.roster place.old)) }
 {
-    settle(replica, fate, from_column(&replica.shape(), place, column))
+    next_row(&replica.shape(), place);
+    settle(replica, fate, place);
+}
+
+/// The first column of the row, from this place on, at which there is something to do.
+#[inline(always)]
+fn first_due(replica: &Replica, fate: &Fate, place: Place) -> Option<usize>
+    requires underway { IsUnderway (standing replica.now fate.now place) }
+    requires fate { IsTimely fate.now replica.now.turns }
+    ensures { MatchOption result
+        (IsIdleTo (standing replica.now fate.now place) place
+        (columns_in (columns_of replica.now.roster replica.now.window) (part_of place)))
+        (IsFirstDue (standing replica.now fate.now place) place) }
+{
+    match part_of(place) {
+        Part::Push if replica.is_other(place.row) => {
+            let columns = replica.shape().columns();
+            let next = next_changed(replica, columns, place.row, place.column);
+            if next < columns { Some(next) } else { None }
+        }
+        _ => applies(replica, fate, place).then_some(place.column),
+    }
+}
+
+/// Whether there is something to do at a place.
+#[inline(always)]
+fn applies(replica: &Replica, fate: &Fate, place: Place) -> bool
+    requires underway { IsUnderway (standing replica.now fate.now place) }
+    requires fate { IsTimely fate.now replica.now.turns }
+    ensures { result ≡ applies (standing replica.now fate.now place) place }
+{
+    let Place { row, column, .. } = place;
+    match part_of(place) {
+        Part::Look => replica.is_other(row),
+        Part::Receive => replica.may_receive(row),
+        Part::Do(act) => replica.may(act),
+        Part::Append => replica.may_append(),
+        Part::Push => replica.is_other(row) && replica.has_changed(row, column),
+        Part::Crash => fate.crashes_in_turn(),
+        Part::Done => replica.all_done(),
+        Part::Spent => replica.turns() == fate.limit,
+    }
 }
 
 /// The part of a place.
@@ -84,66 +125,6 @@ pub(crate) fn step_at(replica: &Replica, fate: &Fate, place: Place) -> Step
     }
 }
 
-/// What a part asks besides what its step does.
-#[inline(always)]
-fn asks(replica: &Replica, fate: &Fate, place: Place) -> bool
-    requires underway { IsUnderway (standing replica.now fate.now place) }
-    requires fate { IsTimely fate.now replica.now.turns }
-    ensures { result ≡ asks (standing replica.now fate.now place) (part_of place) place.row place.column }
-{
-    match part_of(place) {
-        Part::Push => replica.is_other(place.row) && replica.has_changed(place.row, place.column),
-        Part::Crash => fate.crashes_in_turn(),
-        Part::Spent => replica.turns() == fate.limit,
-        _ => true,
-    }
-}
-
-/// Whether there is something to do at a place.
-#[inline(always)]
-fn applies(replica: &Replica, fate: &Fate, place: Place) -> bool
-    requires underway { IsUnderway (standing replica.now fate.now place) }
-    requires fate { IsTimely fate.now replica.now.turns }
-    ensures { result ≡ applies (standing replica.now fate.now place) place }
-{
-    asks(replica, fate, place) && replica.allows(step_at(replica, fate, place))
-}
-
-/// A later place, where there is nothing to do at this one, nor at any between the two.
-fn skip(replica: &Replica, place: Place) -> Place
-    requires form { HasForm replica.now }
-    requires place { IsIn replica.now.roster (columns_of replica.now.roster replica.now.window) place }
-    ensures { (fate : Fate) → IsUnderway (standing replica.now fate place)
-        → replica.now.end ≡ None
-        → applies (standing replica.now fate place) place ≡ false
-        → GoesBy (standing replica.now fate place) (standing replica.now fate result) }
-{
-    from_column(&replica.shape(), place, next_column(replica, place))
-}
-
-/// The next column of a part's row at which there may be something to do, where there is nothing to
-/// do at this one: a row of no other member has none. The number of its columns, where there is none.
-fn next_column(replica: &Replica, place: Place) -> usize
-    requires form { HasForm replica.now }
-    requires place { IsIn replica.now.roster (columns_of replica.now.roster replica.now.window) place }
-    ensures later { place.column < result }
-    ensures within { result
-        ≤ columns_in (columns_of replica.now.roster replica.now.window) (part_of place) }
-    ensures idle { (fate : Fate) → applies (standing replica.now fate place) place ≡ false
-        → (c : ℕ) → place.column ≤ c → c < result
-        → applies (standing replica.now fate place) (record place { column = c }) ≡ false }
-{
-    match part_of(place) {
-        Part::Look => replica.shape().columns(),
-        Part::Push if replica.is_other(place.row) => {
-            let columns = replica.shape().columns();
-            next_changed(replica, columns, place.row, place.column + 1)
-        }
-        Part::Push => replica.shape().columns(),
-        _ => place.column + 1,
-    }
-}
-
 /// The next column, from this one on, whose own word differs from the one last pushed to a member, or
 /// the number of columns where there is none.
 pub(crate) fn next_changed(replica: &Replica, columns: usize, to: u8, from: usize) -> usize
@@ -165,33 +146,36 @@ pub(crate) fn next_changed(replica: &Replica, columns: usize, to: u8, from: usiz
     columns
 }
 
-/// The place of a column in the row, or what comes after the row where it has no such column.
+/// Goes on to what comes after the row.
 #[inline(always)]
-fn from_column(shape: &Shape, place: Place, column: usize) -> Place
-    requires { IsIn shape.now.members (columns_of shape.now.members shape.now.window) place }
-    ensures { result ≡ from_column shape.now.members
-        (columns_of shape.now.members shape.now.window) place column }
+fn next_row(shape: &Shape, place: &mut Place)
+    requires { IsIn shape.now.members (columns_of shape.now.members shape.now.window) place.old }
+    ensures { place.new ≡ next_row shape.now.members place.old }
 {
-    let part = part_of(place);
-    if column < columns_in(shape, part) {
-        return Place { column, ..place };
+    place.column = 0;
+    if place.row + 1 < rows_in(shape, part_of(*place)) {
+        place.row += 1;
+        return;
     }
-    if place.row + 1 < rows_in(shape, part) {
-        return Place {
-            part: place.part,
-            row: place.row + 1,
-            column: 0,
-        };
-    }
-    let next = if usize::from(place.part) + 1 < TURN.len() {
+    place.row = 0;
+    place.part = if usize::from(place.part) + 1 < TURN.len() {
         place.part + 1
     } else {
         0
     };
-    Place {
-        part: next,
-        row: 0,
-        column: 0,
+}
+
+/// Goes on to the next place.
+#[inline(always)]
+fn step_on(shape: &Shape, place: &mut Place)
+    requires { IsIn shape.now.members (columns_of shape.now.members shape.now.window) place.old }
+    ensures { place.new ≡ after shape.now.members (columns_of shape.now.members shape.now.window) place.old }
+{
+    let next = place.column + 1;
+    if next < columns_in(shape, part_of(*place)) {
+        place.column = next;
+    } else {
+        next_row(shape, place);
     }
 }
 
@@ -217,21 +201,17 @@ fn columns_in(shape: &Shape, part: Part) -> usize
     }
 }
 
-/// Where the member stands after the deed of a place.
+/// Goes on to where the member stands after the deed of this place.
 #[inline(always)]
-pub(crate) fn goes(shape: &Shape, place: Place) -> Place
-    requires { IsIn shape.now.members (columns_of shape.now.members shape.now.window) place }
-    ensures { result ≡ goes shape.now.members (columns_of shape.now.members shape.now.window)
-        (part_of place) place }
+pub(crate) fn go(shape: &Shape, place: &mut Place)
+    requires { IsIn shape.now.members (columns_of shape.now.members shape.now.window) place.old }
+    ensures { place.new ≡ goes shape.now.members (columns_of shape.now.members shape.now.window)
+        (part_of place.old) place.old }
 {
-    match part_of(place) {
-        Part::Look | Part::Append | Part::Push | Part::Do(Act::Beat) => {
-            from_column(shape, place, place.column + 1)
-        }
-        Part::Do(Act::Publish) => Place {
-            part: place.part.saturating_sub(1),
-            ..place
-        },
-        _ => place,
+    match part_of(*place) {
+        Part::Look | Part::Push => step_on(shape, place),
+        Part::Append | Part::Do(Act::Beat) => next_row(shape, place),
+        Part::Do(Act::Publish) => place.part = place.part.saturating_sub(1),
+        _ => {}
     }
 }

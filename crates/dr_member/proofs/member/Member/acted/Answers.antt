@@ -9,43 +9,36 @@ use Rattle.dr_member.proofs.Answers.{IsAnswer, IsTaken, answer_at, is_answer, is
 use Rattle.dr_member.proofs.Moves.{act_taken, acted_limit, acted_timely, inside_after}
 use Rattle.dr_member.proofs.member.Member.acted.Goals as goal
 
-known : (c : goal.After-settle-arg-in-Do-1) (word : ℕ)
+known : (c : goal.After-settle-arg-in-Do-2-1) (word : ℕ)
     → IsTaken word (view_of c.self.inside)
-    (Do c.in-Do.act) c.take.new.self c.note.new.self c.goes-from.result
+    (Do c.in-Do.act) c.take.new.self c.note.new.self c.go.new.place
 known c word =
-    act_taken word c.args.self.now c.self.inside c.take.new.self c.note.new.self c.goes-from.result
+    act_taken word c.args.self.now c.self.inside c.take.new.self c.note.new.self c.go.new.place
     c.in-Do.act c.turns.result c.self.view_is c.self.invariant c.requires
     (sym c.step_at.ensures ∙ c.in-Do.is) c.take.ensures.after c.take.ensures.form c.take.ensures.grown
-    (c.goes-from.ensures
+    (c.go.ensures
     ∙ (λ z. goes (c.shape.ensures.members z)
     (columns_of (c.shape.ensures.members z) (c.shape.ensures.window z))
     (part_of c.self.inside.place) c.self.inside.place))
     c.note.ensures
 
-answer : (c : goal.After-self-1) (word : ℕ)
-    → IsAnswer word c.args.self.now (standing c.take.new.self c.note.new.self c.settle-self-inside.result)
+answer : (c : goal.After-settle) (word : ℕ)
+    → IsAnswer word c.args.self.now (standing c.take.new.self c.note.new.self c.settle.new.place)
 answer c word = answer_at word _ c.args.self.now _ c.self.view_is
-    (is_answer word _ _ _ _ _ c.settle-self-inside.result
-    (act_taken word c.args.self.now c.self.inside c.take.new.self c.note.new.self c.goes-from.result
-    c.in-Do.act c.turns.result c.self.view_is c.self.invariant c.requires
-    (sym c.step_at.ensures ∙ c.in-Do.is) c.take.ensures.after c.take.ensures.form c.take.ensures.grown
-    (c.goes-from.ensures
-    ∙ (λ z. goes (c.shape.ensures.members z)
-    (columns_of (c.shape.ensures.members z) (c.shape.ensures.window z))
-    (part_of c.self.inside.place) c.self.inside.place))
-    c.note.ensures) c.settle-self-inside.ensures)
+    (is_answer word _ _ _ _ _ c.settle.new.place
+    (known c.before word) c.settle.ensures)
 
-pub settle-self-inside-requires-clause-underway : goal.settle-self-inside-requires-clause-underway
-settle-self-inside-requires-clause-underway c = (is_done 0 _ _ _ _ _ (known c 0)).underway
+pub settle-requires-clause-underway : goal.settle-requires-clause-underway
+settle-requires-clause-underway c = (is_done 0 _ _ _ _ _ (known c 0)).underway
 
-pub settle-self-inside-requires-clause-fate : goal.settle-self-inside-requires-clause-fate
-settle-self-inside-requires-clause-fate c =
+pub settle-requires-clause-fate : goal.settle-requires-clause-fate
+settle-requires-clause-fate c =
     acted_timely c.self.inside c.take.new.self c.note.new.self c.in-Do.act c.turns.result c.self.invariant
     c.take.ensures.after c.note.ensures c.turns.ensures
 
 pub invariant_of-self : goal.invariant_of-self
 invariant_of-self c =
-    inside_after c.self.inside c.take.new.self c.note.new.self c.settle-self-inside.result 0
+    inside_after c.self.inside c.take.new.self c.note.new.self c.settle.new.place 0
     (Do c.in-Do.act) c.self.invariant c.take.ensures.after (answer c 0).form
     (acted_timely c.self.inside c.take.new.self c.note.new.self c.in-Do.act c.turns.result c.self.invariant
     c.take.ensures.after c.note.ensures c.turns.ensures)

@@ -1,9 +1,9 @@
-use Rattle.std.proofs.Common.{refl, ◌+◌, ◌<◌, arith}
+use Rattle.std.proofs.Common.{refl, ◌+◌, ◌<◌, ◌≤◌, arith}
 use Rattle.dr_words.specs.Columns.{columns_of}
 use Rattle.dr_machine.specs.declared.step.Step.TheVariants.{Look}
 use Rattle.dr_member.specs.Search.{standing}
-use Rattle.dr_member.proofs.Answers.{IsAnswer, answer_at, is_answer, is_done}
-use Rattle.dr_member.proofs.Moves.{IsLooked, columns_after, inside_after, is_looked, look_due_at, look_taken, looked_timely, looked_within}
+use Rattle.dr_member.proofs.Answers.{IsAnswer}
+use Rattle.dr_member.proofs.Moves.{IsLooked, columns_after, inside_after, is_looked, look_due_at, look_left, looked_past, looked_timely, looked_within}
 use Rattle.dr_member.proofs.member.Member.looked.Goals as goal
 
 known : (c : goal.After-look)
@@ -26,17 +26,30 @@ within c = looked_within c.args.self.now c.self.inside.replica c.look.new.self c
           (Look c.self.inside.place.row c.self.inside.place.column) c.self.invariant c.look.ensures.after,
     )
 
-past : (c : goal.After-self-else-next-self-1)
-    → IsAnswer c.args.word c.args.self.now
-    (standing c.look-else-next-self.new.self c.self.inside.fate c.settle_from-self-inside.result)
-past c = answer_at c.args.word _ c.args.self.now _ c.self.view_is
-    (is_answer c.args.word _ _ _ _ _ c.settle_from-self-inside.result
-    (look_taken c.self.inside.replica c.look-else-next-self.new.self c.self.inside.fate c.self.inside.place
+known_past : (c : goal.After-leave_row-arg-else-next-self-2-1)
+    → IsLooked c.self.inside.replica c.look-else-next-self.new.self c.self.inside.fate c.self.inside.place
     c.args.word
-    (is_looked c.args.self.now c.self.inside c.look-else-next-self.new.self c.args.word c.self.view_is
-    c.self.invariant c.requires
-    c.look-else-next-self.ensures.after c.look-else-next-self.ensures.form
-    c.look-else-next-self.ensures.grown)) c.settle_from-self-inside.ensures)
+known_past c = is_looked c.args.self.now c.self.inside c.look-else-next-self.new.self c.args.word
+    c.self.view_is c.self.invariant c.requires c.look-else-next-self.ensures.after
+    c.look-else-next-self.ensures.form c.look-else-next-self.ensures.grown
+
+outer : (c : goal.After-leave_row-arg-else-next-self-2-1)
+    → columns_of c.look-else-next-self.new.self.roster c.look-else-next-self.new.self.window
+    ≤ c.self.inside.place.column + 1
+outer c = omega (
+  arith,
+  c.if-next-self.false,
+  columns_after c.self.inside c.look-else-next-self.new.self c.args.word
+      (Look c.self.inside.place.row c.self.inside.place.column) c.self.invariant
+      c.look-else-next-self.ensures.after,
+)
+
+past : (c : goal.After-leave_row)
+    → IsAnswer c.args.word c.args.self.now
+    (standing c.look-else-next-self.new.self c.self.inside.fate c.leave_row.new.place)
+past c = looked_past c.args.self.now c.self.inside.replica c.look-else-next-self.new.self c.self.inside.fate
+    c.self.inside.place c.leave_row.new.place c.args.word c.self.view_is (known_past c.before)
+    (outer c.before) c.leave_row.ensures
 
 pub look-requires-clause-in_form : goal.look-requires-clause-in_form
 look-requires-clause-in_form c =
@@ -58,14 +71,10 @@ look-requires-else-next-self-clause-grown c =
     (look_due_at c.args.self.now c.self.inside c.args.word c.self.view_is c.self.invariant
     c.requires).seen.grown
 
-pub settle_from-self-inside-requires-clause-underway : goal.settle_from-self-inside-requires-clause-underway
-settle_from-self-inside-requires-clause-underway c = (is_done c.args.word _ _ _ _ _
-    (look_taken c.self.inside.replica c.look-else-next-self.new.self c.self.inside.fate c.self.inside.place
-    c.args.word
-    (is_looked c.args.self.now c.self.inside c.look-else-next-self.new.self c.args.word c.self.view_is
-    c.self.invariant c.requires
-    c.look-else-next-self.ensures.after c.look-else-next-self.ensures.form
-    c.look-else-next-self.ensures.grown))).underway
+pub leave_row-requires-clause-underway : goal.leave_row-requires-clause-underway
+leave_row-requires-clause-underway c =
+    look_left c.self.inside.replica c.look-else-next-self.new.self c.self.inside.fate c.self.inside.place
+    c.args.word (known_past c) (outer c)
 
 pub invariant_of-self : goal.invariant_of-self
 invariant_of-self c = inside_after c.self.inside c.look.new.self c.self.inside.fate
@@ -77,7 +86,7 @@ invariant_of-self c = inside_after c.self.inside c.look.new.self c.self.inside.f
 pub invariant_of-self-else-next-self : goal.invariant_of-self-else-next-self
 invariant_of-self-else-next-self c =
     inside_after c.self.inside c.look-else-next-self.new.self c.self.inside.fate
-    c.settle_from-self-inside.result c.args.word
+    c.leave_row.new.place c.args.word
     (Look c.self.inside.place.row c.self.inside.place.column) c.self.invariant
     c.look-else-next-self.ensures.after (past c).form
     (looked_timely c.self.inside c.look-else-next-self.new.self _ _ c.args.word c.self.invariant

@@ -1,10 +1,20 @@
-use Rattle.std.proofs.Common.{refl, ℕ, ◌<◌, arith}
+use Rattle.std.proofs.Common.{refl, ℕ, ◌<◌, ◌≤◌, arith}
 use Rattle.dr_words.specs.Columns.{columns_of}
 use Rattle.dr_machine.specs.declared.step.Step.TheVariants.{Push}
 use Rattle.dr_member.specs.Search.{standing}
 use Rattle.dr_member.proofs.Answers.{IsAnswer}
-use Rattle.dr_member.proofs.Moves.{columns_after, counted, inside_after, is_pushed, push_searched, pushed_past, pushed_timely, pushed_within}
+use Rattle.dr_member.proofs.Moves.{IsPushed, columns_after, counted, inside_after, is_pushed, push_left, pushed_behind, pushed_timely, pushed_within}
 use Rattle.dr_member.proofs.member.Member.pushed.Goals as goal
+
+known : (c : goal.After-self-then-next-columns-1)
+    → IsPushed c.self.inside.replica c.push.new.self c.self.inside.fate c.self.inside.place
+    c.saturating_add-self-inside.result c.next_changed-next.result
+known c =
+    is_pushed c.args.self.now c.self.inside c.push.new.self c.saturating_add-self-inside.result
+    c.next_changed-next.result c.self.view_is c.self.invariant c.requires
+    c.push.ensures.after c.push.ensures.form c.push.ensures.grown c.saturating_add-self-inside.ensures
+    c.next_changed-next.ensures.unchanged c.next_changed-next.ensures.from
+    c.next_changed-next.ensures.within
 
 next : (c : goal.After-self-then-next-columns-1) (word : ℕ)
     → IsAnswer word c.args.self.now
@@ -13,11 +23,7 @@ next : (c : goal.After-self-then-next-columns-1) (word : ℕ)
 next c word =
     pushed_within c.args.self.now c.self.inside.replica c.push.new.self c.self.inside.fate
     c.self.inside.place c.saturating_add-self-inside.result c.next_changed-next.result word c.self.view_is
-    (is_pushed c.args.self.now c.self.inside c.push.new.self c.saturating_add-self-inside.result
-    c.next_changed-next.result c.self.view_is c.self.invariant c.requires
-    c.push.ensures.after c.push.ensures.form c.push.ensures.grown c.saturating_add-self-inside.ensures
-    c.next_changed-next.ensures.unchanged c.next_changed-next.ensures.from
-    c.next_changed-next.ensures.within)
+    (known c)
     within (c.next_changed-next.ensures.changed within)
   where
     within : c.next_changed-next.result < columns_of c.push.new.self.roster c.push.new.self.window
@@ -28,45 +34,49 @@ next c word =
           (Push c.self.inside.place.row c.self.inside.place.column) c.self.invariant c.push.ensures.after,
     )
 
-past : (c : goal.After-self-else-next-columns-1) (word : ℕ)
-    → IsAnswer word c.args.self.now
-    (standing c.push.new.self
-    (counted c.self.inside.fate c.saturating_add-self-inside.result) c.settle_from-self-inside.result)
-past c word =
-    pushed_past c.args.self.now c.self.inside.replica c.push.new.self c.self.inside.fate c.self.inside.place
-    c.settle_from-self-inside.result c.saturating_add-self-inside.result c.next_changed-next.result word
-    c.self.view_is
-    (is_pushed c.args.self.now c.self.inside c.push.new.self c.saturating_add-self-inside.result
+known_past : (c : goal.After-leave_row-arg-else-next-columns-2-1)
+    → IsPushed c.self.inside.replica c.push.new.self c.self.inside.fate c.self.inside.place
+    c.saturating_add-self-inside.result c.next_changed-next.result
+known_past c =
+    is_pushed c.args.self.now c.self.inside c.push.new.self c.saturating_add-self-inside.result
     c.next_changed-next.result c.self.view_is c.self.invariant c.requires
     c.push.ensures.after c.push.ensures.form c.push.ensures.grown c.saturating_add-self-inside.ensures
     c.next_changed-next.ensures.unchanged c.next_changed-next.ensures.from
-    c.next_changed-next.ensures.within)
-    c.settle_from-self-inside.ensures
+    c.next_changed-next.ensures.within
+
+outer : (c : goal.After-leave_row-arg-else-next-columns-2-1)
+    → columns_of c.push.new.self.roster c.push.new.self.window ≤ c.next_changed-next.result
+outer c = omega (
+  arith,
+  c.if-next-columns.false,
+  columns_after c.self.inside c.push.new.self 0
+      (Push c.self.inside.place.row c.self.inside.place.column) c.self.invariant c.push.ensures.after,
+)
+
+past : (c : goal.After-leave_row) (word : ℕ)
+    → IsAnswer word c.args.self.now
+    (standing c.push.new.self
+    (counted c.self.inside.fate c.saturating_add-self-inside.result) c.leave_row.new.place)
+past c word =
+    pushed_behind c.args.self.now c.self.inside.replica c.push.new.self c.self.inside.fate
+    c.self.inside.place c.leave_row.new.place c.saturating_add-self-inside.result c.next_changed-next.result
+    word c.self.view_is (known_past c.before) (outer c.before) c.leave_row.ensures
 
 pub next_changed-next-requires-clause-columns : goal.next_changed-next-requires-clause-columns
 next_changed-next-requires-clause-columns c =
     columns_after c.self.inside c.push.new.self 0
     (Push c.self.inside.place.row c.self.inside.place.column) c.self.invariant c.push.ensures.after
 
-pub settle_from-self-inside-requires-clause-underway : goal.settle_from-self-inside-requires-clause-underway
-settle_from-self-inside-requires-clause-underway c =
-    (push_searched c.self.inside.replica c.push.new.self c.self.inside.fate c.self.inside.place
-    c.saturating_add-self-inside.result c.next_changed-next.result
-    (is_pushed c.args.self.now c.self.inside c.push.new.self c.saturating_add-self-inside.result
-    c.next_changed-next.result c.self.view_is c.self.invariant c.requires
-    c.push.ensures.after c.push.ensures.form c.push.ensures.grown c.saturating_add-self-inside.ensures
-    c.next_changed-next.ensures.unchanged c.next_changed-next.ensures.from
-    c.next_changed-next.ensures.within)).0
+pub leave_row-requires-clause-underway : goal.leave_row-requires-clause-underway
+leave_row-requires-clause-underway c =
+    push_left c.self.inside.replica c.push.new.self c.self.inside.fate c.self.inside.place
+    c.saturating_add-self-inside.result c.next_changed-next.result (known_past c) (outer c)
 
-pub settle_from-self-inside-requires-clause-fate : goal.settle_from-self-inside-requires-clause-fate
-settle_from-self-inside-requires-clause-fate c =
+pub leave_row-requires-clause-fate : goal.leave_row-requires-clause-fate
+leave_row-requires-clause-fate c =
     pushed_timely c.self.inside.replica c.push.new.self c.self.inside.fate c.self.inside.place
     c.saturating_add-self-inside.result c.next_changed-next.result
-    (is_pushed c.args.self.now c.self.inside c.push.new.self c.saturating_add-self-inside.result
-    c.next_changed-next.result c.self.view_is c.self.invariant c.requires
-    c.push.ensures.after c.push.ensures.form c.push.ensures.grown c.saturating_add-self-inside.ensures
-    c.next_changed-next.ensures.unchanged c.next_changed-next.ensures.from
-    c.next_changed-next.ensures.within)
+    (known_past c)
 
 pub invariant_of-self : goal.invariant_of-self
 invariant_of-self c =
@@ -77,25 +87,17 @@ invariant_of-self c =
     (next c 0).form
     (pushed_timely c.self.inside.replica c.push.new.self c.self.inside.fate c.self.inside.place
     c.saturating_add-self-inside.result c.next_changed-next.result
-    (is_pushed c.args.self.now c.self.inside c.push.new.self c.saturating_add-self-inside.result
-    c.next_changed-next.result c.self.view_is c.self.invariant c.requires
-    c.push.ensures.after c.push.ensures.form c.push.ensures.grown c.saturating_add-self-inside.ensures
-    c.next_changed-next.ensures.unchanged c.next_changed-next.ensures.from
-    c.next_changed-next.ensures.within)) refl
+    (known c)) refl
 
 pub invariant_of-self-else-next-columns : goal.invariant_of-self-else-next-columns
 invariant_of-self-else-next-columns c =
     inside_after c.self.inside c.push.new.self
-    (counted c.self.inside.fate c.saturating_add-self-inside.result) c.settle_from-self-inside.result 0
+    (counted c.self.inside.fate c.saturating_add-self-inside.result) c.leave_row.new.place 0
     (Push c.self.inside.place.row c.self.inside.place.column) c.self.invariant c.push.ensures.after
     (past c 0).form
     (pushed_timely c.self.inside.replica c.push.new.self c.self.inside.fate c.self.inside.place
     c.saturating_add-self-inside.result c.next_changed-next.result
-    (is_pushed c.args.self.now c.self.inside c.push.new.self c.saturating_add-self-inside.result
-    c.next_changed-next.result c.self.view_is c.self.invariant c.requires
-    c.push.ensures.after c.push.ensures.form c.push.ensures.grown c.saturating_add-self-inside.ensures
-    c.next_changed-next.ensures.unchanged c.next_changed-next.ensures.from
-    c.next_changed-next.ensures.within)) refl
+    (known_past c.before)) refl
 
 pub returns-then-next-columns-clause-after : goal.returns-then-next-columns-clause-after
 returns-then-next-columns-clause-after c = λ word. (next c word).after
