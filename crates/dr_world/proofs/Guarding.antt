@@ -2,21 +2,17 @@
 -- reached.
 use Rattle.std.proofs.Common.{◌≡◌, ◌↔◌, ℕ, ◌<◌, true}
 use Rattle.std.specs.Prelude.{Some, slice_get}
-use Rattle.dr_machine.specs.declared.event.Act.TheVariants.{Receive, Deliver}
-use Rattle.dr_machine.specs.declared.step.Step.{Step}
-use Rattle.dr_machine.specs.declared.step.Step.TheVariants.{Do}
 use Rattle.dr_machine.specs.declared.event.Event.{Event}
 use Rattle.dr_machine.specs.Events.{member_of, step_of}
 use Rattle.dr_machine.proofs.Presence.{in_roster}
 use Rattle.dr_machine.specs.Group.{Group, IsGroup, roster}
 use Rattle.dr_machine.specs.World.{World}
-use Rattle.dr_machine.specs.Acts.{CanTake, Guard}
+use Rattle.dr_machine.specs.Acts.{Guard}
 use Rattle.dr_program.specs.Replica.{Replica}
 use Rattle.dr_program.specs.Steps.{may_take}
-use Rattle.dr_refine.specs.Programs.{HasRoomFor, IsMember}
-use Rattle.dr_refine.proofs.Tests.{step_alive, step_test}
+use Rattle.dr_refine.specs.Programs.{IsMember}
+use Rattle.dr_refine.proofs.Tests.{has_room, step_alive, step_test}
 use Rattle.dr_world.specs.Held.{Held, its_group, its_world, IsHeld}
-use Rattle.dr_world.proofs.Bounds.{receive_bounded, deliver_bounded}
 
 -- ---- a member of what is held
 
@@ -33,24 +29,20 @@ is_member h m r is there = record {
 
 -- ---- the guard
 
--- the room for a step is there by itself
-has_room : (h : Held) (m : ℕ) (r : Replica) (s : Step) → IsHeld h → slice_get h.replicas m ≡ Some r
-    → CanTake (its_group h) (its_world h) m s → HasRoomFor r s
-has_room h m r (Do (Receive s)) is there can =
-    receive_bounded (its_group h) h.replicas h.table m r s (is_member h m r is there) is.reached can
-has_room h m r (Do Deliver) is there can =
-    deliver_bounded (its_group h) h.replicas h.table m r (is_member h m r is there)
-    (is.members.room m r there) is.reached can
-has_room h m r s is there can = tt
-
 -- the test of an event is its guard
 pub take_test : (h : Held) (e : Event) (r : Replica) → IsHeld h → slice_get h.replicas (member_of e)
     ≡ Some r
     → (may_take r (step_of e) ≡ true) ↔ Guard (its_group h) (its_world h) e
 take_test h e r is there =
     let law = step_test (its_group h) h.replicas h.table (member_of e) r (step_of e)
-    (is_member h (member_of e) r is there) in
-    (λ may. (law.0 may).0, λ can. law.1 (can, has_room h (member_of e) r (step_of e) is there can))
+    (is_member h (member_of e) r is there) in (
+      λ may. (law.0 may).0,
+      λ can. law.1 (
+        can,
+        has_room (its_group h) h.replicas h.table (member_of e) r (step_of e)
+            (is_member h (member_of e) r is there) (is.members.room (member_of e) r there) is.reached can,
+      ),
+    )
 
 -- only members of the roster have events
 pub of_roster : (g : Group) (w : World) (e : Event) → IsGroup g → Guard g w e → member_of e < roster g

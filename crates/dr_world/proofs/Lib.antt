@@ -1,4 +1,3 @@
-pub mod Bounds
 pub mod Guarding
 pub mod Effects
 pub mod Taking

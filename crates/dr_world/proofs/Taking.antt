@@ -6,12 +6,10 @@ use Rattle.std.proofs.lemmas.List.{length-set, take_more}
 use Rattle.std.proofs.lemmas.Option.{slice_get_within, same_Some}
 use Rattle.dr_restart.specs.Groups.{group_of}
 use Rattle.dr_words.specs.Layout.{words_of}
-use Rattle.dr_words.proofs.Order.{HasGrown_refl}
 use Rattle.dr_machine.specs.declared.event.Event.{Event}
 use Rattle.dr_machine.specs.declared.step.Step.{Step}
 use Rattle.dr_machine.specs.Events.{member_of, step_of}
 use Rattle.dr_machine.specs.Group.{Group, roster, banks}
-use Rattle.dr_machine.specs.World.{World}
 use Rattle.dr_machine.specs.Acts.{Guard, effect}
 use Rattle.dr_machine.specs.Run.{Happens, Run, WordsGrew}
 use Rattle.dr_program.specs.Replica.{Replica, greatest}
@@ -124,14 +122,6 @@ pub nobody : (h : Held) (e : Event) → IsHeld h → length h.replicas ≤ membe
     → ¬ Guard (its_group h) (its_world h) e
 nobody h e is past can = absurd
     (omega (arith, of_roster (its_group h) (its_world h) e is.group can, is.members.all, past))
-
--- words that stay have grown
-pub same_grew : (g : Group) (w : World) → WordsGrew g w w
-same_grew g w = record {
-  own = λ m v c. HasGrown_refl (roster g) c (w.past.own m v c);
-  table = λ v j i c. HasGrown_refl (roster g) c (w.table v j i c);
-  seen = λ m i c e. HasGrown_refl (roster g) c (w.seen m i c);
-}
 
 -- the words grow
 pub taken_grew : (h : Held) (e : Event) (r : Replica) → IsHeld h → slice_get h.replicas (member_of e)
