@@ -1,10 +1,9 @@
 -- A run by a schedule is a list of moves, behind which all members have ended.
-use Rattle.std.proofs.Common.{List}
 use Rattle.dr_script.specs.declared.script.Schedule.{Schedule}
 use Rattle.dr_script.specs.declared.script.Schedule.TheVariants.{Lockstep, Seed}
-use Rattle.dr_program.specs.Program.{AllEnded, IsRanFrom, Move, Program}
+use Rattle.dr_program.specs.Program.{AllEnded, IsRanFrom, Program}
 use Rattle.dr_program_laws.proofs.Schedules.{lockstep_taken}
-use Rattle.dr_sim.specs.Simulated.{HasRun, IsRunBy}
+use Rattle.dr_sim.specs.Simulated.{HasRun}
 
 -- a program that a schedule leads to was run
 pub schedule_ran : (schedule : Schedule) (p q : Program) → HasRun schedule p q → IsRanFrom p q

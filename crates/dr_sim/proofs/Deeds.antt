@@ -71,15 +71,6 @@ word_there : (table : List ℕ) (r : Running) (index : ℕ) → IsTold table r (
 word_there table r index t = ap (sight table r.replica) t.says.look
     ∙ ap (slice_index table) (sym t.says.place)
 
--- the member may see the word of the table
-pub sees_word : (table : List ℕ) (r : Running) (index : ℕ) → next_deed r ≡ deeds.Look index
-    → SeesWell table r → MaySee r (step_of_member r) (slice_index table index)
-sees_word table r index is well =
-    let t = told table r (deeds.Look index) is in
-    let due : step_of_member r ≡ Some (Look t.says.row t.says.column) = ap (step_due r) t.none
-    ∙ ap Some t.says.look in
-    subst (MaySee r (step_of_member r)) (word_there table r index t) (well t.says.row t.says.column due)
-
 -- ---- what a deed makes of the member and the table
 
 -- the member and the table behind its next deed
@@ -129,14 +120,3 @@ pub append_taken : (table : List ℕ) (r : Running) (due : Record) (x : Running)
 append_taken table r due x is member =
     let t = told table r (deeds.Append due) is in
     is_taken table r table x t.none (member (next_sight table r)) (sym t.says)
-
--- a member at rest stays, and so does the table
-pub rest_taken : (table : List ℕ) (r : Running) (end : End) → next_deed r ≡ deeds.Rest end
-    → IsTaken table r table r
-rest_taken table r end is =
-    let ended = told table r (deeds.Rest end) is in
-    record { member = sym (ap (went_well table r) ended); table = sym (ap (stores table r) ended) }
-
--- a member that rests has ended
-pub rest_ended : (r : Running) (end : End) → next_deed r ≡ deeds.Rest end → r.replica.end ≡ Some end
-rest_ended r end is = told [] r (deeds.Rest end) is

@@ -409,8 +409,3 @@ rounds_go_on begun p q has (round, turns, well) = record {
   ran = rounds_more has.rounds begun has.moves p round q has.ran turns;
   well = All-append (λ (e : Move). e.outcome ≡ outcomes.Ok) has.moves round has.well well;
 }
-
--- rounds after which all have ended are the lockstep schedule
-pub rounds_end : (begun p : Program) → HasRounds begun p → AllEnded p → HasRun Lockstep begun p
-rounds_end begun p has ended =
-    (has.moves, record { rounds = has.rounds; ran = has.ran; ended = ended }, has.well)

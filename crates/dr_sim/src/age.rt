@@ -1,6 +1,7 @@
 //! An age, from its opening to the ends of all members.
 ghost use Rattle.std.specs.Prelude.{◌≡◌, ◌≤◌, IfOk, IsTrue, All, [], is_some, length, map, vec_capacity};
-ghost use Rattle.dr_program_laws.specs.Ended.{HaveEnded};
+ghost use Rattle.dr_complete.specs.Time.{HasTime};
+ghost use Rattle.dr_program_laws.specs.Ended.{AreComplete, HaveEnded};
 ghost use Rattle.dr_history.specs.Agreement.{EndsAgreed};
 ghost use Rattle.dr_machine.specs.Group.{Group, IsGroup};
 ghost use Rattle.dr_program.specs.Program.{Program, age_of, end_of};
@@ -19,7 +20,8 @@ use std::alloc::{AllocError, Global};
 
 /// Runs the group of a script through one age, by the script's schedule, and answers how it ended.
 /// `nth` is the number of the age in the run, from 0: it says which of the faults are those of this
-/// age. Each append to a log succeeds.
+/// age. Each append to a log succeeds. Where the script gives its members time enough, all are done,
+/// with everything.
 ///
 /// # Errors
 ///
@@ -32,6 +34,8 @@ pub fn sim_age(alloc: Global, script: &Script, start: &Start, nth: u8) -> Result
         EndsAgreed (group_of script.now start.now).opening age.members) }
     ensures ended { IfOk result (λ age. HaveEnded (group_of script.now start.now).opening
         script.now.turns (crashes_of script.now.faults nth) age.members) }
+    ensures complete { IfOk result (λ age. HasTime script.now
+        → AreComplete (group_of script.now start.now).opening age.members) }
 {
     let entries = copy_entries(alloc, &start.entries)?;
     let ends = Vec::with_capacity(alloc, usize::from(script.members))?;
