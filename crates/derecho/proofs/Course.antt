@@ -1,10 +1,13 @@
 -- What a call may come to, and what its clauses say in each case.
-use Rattle.std.proofs.Common.{◌≡◌, ◌≢◌, ◌⊎◌, inl, inr, ℕ, zero, suc, ◌<◌, ◌≤◌, Bool, true, false, true≢false, IsTrue, List, [], ◌∷◌, length, slice_index_or, All, Contains, Option, Some, None, MatchOption, Result, Ok, Err, IfOk, String, if◌then◌else◌, refl, sym, ap, subst, ◌∙◌, arith}
+use Rattle.std.proofs.Common.{◌≡◌, ◌≢◌, ◌⊎◌, inl, inr, ℕ, zero, suc, ◌<◌, ◌≤◌, Bool, true, false, true≢false, IsTrue, List, [], ◌∷◌, length, slice_index_or, All, Contains, Option, Some, None, MatchOption, Result, Ok, Err, IfOk, String, get_or, if◌then◌else◌, refl, sym, ap, subst, ◌∙◌, arith}
 use Rattle.std.proofs.lemmas.List.Elements.{All-nil}
+use Rattle.std.proofs.lemmas.List.Folds.{list_any_none}
+use Rattle.std.proofs.lemmas.Option.{slice_get-get_or}
+use Rattle.std.specs.Prelude.{◌||◌}
 use Rattle.std.specs.declared.alloc.Global.{Global}
 use Rattle.dr_entry.specs.declared.end.AgeEnd.{AgeEnd}
 use Rattle.dr_io.specs.Faults.{Rose}
-use Rattle.dr_restart.specs.Groups.{first_start_of}
+use Rattle.dr_restart.specs.Groups.{first_group_of, first_start_of}
 use Rattle.dr_script.specs.declared.script.Script.{Script}
 use Rattle.dr_script.specs.Reading.{Reading, reading_of, TooLong as TooLongText, NotJson as NoJsonText, Wrong, Reads}
 use Rattle.dr_sim.specs.Simulated.{IsSimulated}
@@ -15,7 +18,11 @@ use Rattle.derecho.specs.declared.outcome.Outcome.{Outcome}
 use Rattle.derecho.specs.Words.{IsCommand}
 use Rattle.derecho.specs.Built.{runnable, refusal}
 use Rattle.derecho.specs.Reading.{IsNoScript, IsScript, WasRead}
-use Rattle.derecho.specs.Ages.{IsRunOf, RanAlone, some_spent}
+use Rattle.derecho.specs.Ages.{IsRunOf, RanAlone, is_spent, some_spent}
+use Rattle.dr_complete.specs.Time.{HasTime}
+use Rattle.dr_program_laws.specs.Ended.{AreComplete}
+use Rattle.dr_history.specs.declared.opening.Opening.{Opening}
+use Rattle.dr_entry.specs.declared.end.MemberEnd.{MemberEnd}
 use Rattle.derecho.specs.Outcome.{Exactly, GaveUp, IsDue, IsRunOver, MayBeUnread, RanRead, Wrote, last_of_run, status_of}
 
 -- the status is the one that is due, or that of a write fault
@@ -356,6 +363,36 @@ unfinished_of {words} {old} {new} {before} {after} {status} {ages} course =
             | unfinished known r spent due ↦ elim due [ inl e ↦ inl e | inr e ↦ inr (inl e) ]
           ];
     }
+
+-- where all members are complete, none has spent its turns
+none_spent : (o : Opening) (a : AgeEnd) → AreComplete o a.members → some_spent (a ∷ []) ≡ false
+none_spent o a complete =
+    ap (λ b. b || false) (list_any_none (λ (m : MemberEnd). is_spent m.end) a.members
+    (λ k d l. ap is_spent (complete k (get_or a.members k d) (slice_get-get_or a.members k d l)).end))
+
+-- so a script whose members spend their turns gives them too little time
+pub untimely_of : {words : List (String Global)} {old new : Option (List ℕ)} {before after status : ℕ}
+    {ages : List AgeEnd}
+    → Course words old new before after status ages → status ≡ UNFINISHED
+    → (s : Script) × IsScript old new s × ¬ HasTime s
+untimely_of {words} {old} {new} {before} {after} {status} {ages} course is =
+    elim course [
+      | no_memory e none ↦ absurd (omega arith)
+      | no_command other none due ↦
+          absurd (differs status USAGE UNFINISHED due is (λ e. omega arith) (λ e. omega arith))
+      | no_read known none rose due ↦
+          absurd (differs status READ_FAULT UNFINISHED due is (λ e. omega arith) (λ e. omega arith))
+      | no_script known none bytes read e due ↦
+          absurd (differs status SCRIPT_REFUSED UNFINISHED due is (λ e. omega arith) (λ e. omega arith))
+      | done known r e due ↦ absurd
+          (differs status DONE UNFINISHED due is (λ e. omega arith) (λ e. omega arith))
+      | unfinished known r spent due ↦ (
+        r.script,
+        (r.bytes, r.read, r.is),
+        λ time. true≢false (sym spent ∙ ap some_spent r.alone
+            ∙ none_spent (first_group_of r.script).opening r.age (r.run.complete time)),
+      )
+    ]
 
 -- what was read, decided by what it is
 ran_read : (old new : Option (List ℕ)) (status : ℕ) (ages : List AgeEnd) (r : Ran old new ages)

@@ -8,7 +8,8 @@ use Rattle.dr_entry.specs.declared.end.AgeEnd.{AgeEnd}
 use Rattle.dr_script.specs.declared.script.Script.{Script}
 use Rattle.dr_history.specs.Agreement.{EndsAgreed}
 use Rattle.dr_restart.specs.Groups.{first_group_of, first_start_of}
-use Rattle.dr_program_laws.specs.Ended.{HaveEnded}
+use Rattle.dr_complete.specs.Time.{HasTime}
+use Rattle.dr_program_laws.specs.Ended.{AreComplete, HaveEnded}
 use Rattle.dr_restart.specs.Setups.{crashes_of}
 use Rattle.dr_sim.specs.Simulated.{IsSimulated}
 
@@ -27,6 +28,8 @@ pub record IsRunOf (s : Script) (a : AgeEnd) : Type 0 where
   pub run : IsSimulated s (first_start_of s) 0 a
   pub agreed : EndsAgreed (first_group_of s).opening a.members
   pub ended : HaveEnded (first_group_of s).opening s.turns (crashes_of s.faults 0) a.members
+  -- where the script gives them time enough, all are complete
+  pub complete : HasTime s → AreComplete (first_group_of s).opening a.members
 
 -- the ages are one: the run of the script
 abbrev pub RanAlone : Script → List AgeEnd → Type 0

@@ -1,6 +1,6 @@
 -- The scripts that can be run so far.
-use Rattle.std.specs.Prelude.{ℕ, List, [], length, Bool, true, false, ◌==◌, ◌&&◌, Option, Some, None, if◌then◌else◌}
-use Rattle.std.specs.List.{list_all, slice_index_or}
+use Rattle.std.specs.Prelude.{Bool, true, false, ◌==◌, ◌&&◌, Option, Some, None, if◌then◌else◌}
+use Rattle.std.specs.List.{list_all}
 use Rattle.dr_script.specs.declared.script.Script.{Script}
 use Rattle.dr_script.specs.declared.script.Fault.{Fault}
 use Rattle.dr_script.specs.declared.script.What.{What}
@@ -14,20 +14,9 @@ abbrev pub is_crash : What → Bool
 is_crash (Crash turn push) = true
 is_crash (Suspect turn other) = false
 
--- the length of the first list
-abbrev pub first_length : {A : Type 0} → List (List A) → ℕ
-first_length lists = length (slice_index_or lists 0 [])
-
--- each list is as long as the first
-abbrev pub are_alike : {A : Type 0} → List (List A) → Bool
-are_alike lists = list_all (λ xs. length xs == first_length lists) lists
-
--- whether a script uses only what is built: no patience, one age, no suspicion, and as many messages of
--- each member
+-- whether a script uses only what is built: no patience, one age, and no suspicion
 abbrev pub is_built : Script → Bool
-is_built s =
-    (s.patience == 0) && (s.ages == 1) && list_all (λ (f : Fault). is_crash f.what) s.faults
-    && are_alike s.messages
+is_built s = (s.patience == 0) && (s.ages == 1) && list_all (λ (f : Fault). is_crash f.what) s.faults
 
 -- the script to run, where a text is one that can be run
 abbrev pub runnable : Reading → Option Script

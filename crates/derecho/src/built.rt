@@ -2,19 +2,15 @@
 ghost use Rattle.std.specs.Prelude.{◌≡◌};
 ghost use Rattle.std.specs.List.{list_all};
 ghost use Rattle.dr_script.specs.declared.script.Fault.{Fault as FaultOf};
-ghost use Rattle.derecho.specs.Built.{are_alike, is_built, is_crash};
+ghost use Rattle.derecho.specs.Built.{is_built, is_crash};
 
-use dr_entry::{Message, Seq};
 use dr_script::{Fault, Script, What};
 
 /// Whether a script uses only what is built.
 pub(crate) fn is_built(script: &Script) -> bool
     ensures { result ≡ is_built script.now }
 {
-    script.patience == 0
-        && script.ages == 1
-        && are_crashes(script.faults.as_slice())
-        && are_alike(script.messages.as_slice())
+    script.patience == 0 && script.ages == 1 && are_crashes(script.faults.as_slice())
 }
 
 /// Whether each fault is a crash.
@@ -28,14 +24,4 @@ fn is_crash(what: What) -> bool
     ensures { result ≡ is_crash what }
 {
     matches!(what, What::Crash { .. })
-}
-
-/// Whether the members have equally many messages.
-fn are_alike(lists: &[Seq<Message>]) -> bool
-    ensures { result ≡ are_alike lists.now }
-{
-    let count = lists.first().map_or(0, |first| first.as_slice().len());
-    lists
-        .iter()
-        .all(|messages| messages.as_slice().len() == count)
 }

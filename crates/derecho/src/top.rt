@@ -2,7 +2,8 @@ ghost use Rattle.std.specs.Prelude.{◌≡◌, ◌≢◌, ◌⊎◌, ◌≤◌, 
 ghost use Rattle.dr_entry.specs.declared.end.AgeEnd.{AgeEnd};
 ghost use Rattle.dr_script.specs.declared.script.Script.{Script};
 ghost use Rattle.dr_text.specs.declared.last.Last.{Last};
-ghost use Rattle.dr_program_laws.specs.Ended.{HaveEnded};
+ghost use Rattle.dr_complete.specs.Time.{HasTime};
+ghost use Rattle.dr_program_laws.specs.Ended.{AreComplete, HaveEnded};
 ghost use Rattle.dr_history.specs.Agreement.{EndsAgreed};
 ghost use Rattle.dr_io.specs.Faults.{Rose};
 ghost use Rattle.dr_io.specs.Sink.{Gains};
@@ -56,6 +57,9 @@ pub fn derecho<R: Threads + Sync, S: Source, K: Sink>(
     ensures ended { All (λ a. (s : Script) × IsScript (S.left source.old) (S.left source.new) s
         × IsSimulated s (first_start_of s) 0 a
         × HaveEnded (first_group_of s).opening s.turns (crashes_of s.faults 0) a.members) result.ages }
+    ensures complete { All (λ a. (s : Script) × IsScript (S.left source.old) (S.left source.new) s
+        × IsSimulated s (first_start_of s) 0 a
+        × (HasTime s → AreComplete (first_group_of s).opening a.members)) result.ages }
     ensures one_age { length result.ages ≤ 1 }
 
     // The text: the report of these ages, with the last line that is due.
@@ -75,6 +79,8 @@ pub fn derecho<R: Threads + Sync, S: Source, K: Sink>(
     ensures read_fault { result.status ≡ 4 → Rose (S.faults source.old) (S.faults source.new) }
     ensures write_fault { result.status ≡ 5 → Rose (K.faults sink.old) (K.faults sink.new) }
     ensures unfinished { Exactly result.status 8 (IsTrue (some_spent result.ages)) }
+    ensures untimely { result.status ≡ 8 → (s : Script)
+        × IsScript (S.left source.old) (S.left source.new) s × ¬ HasTime s }
     ensures ran { result.ages ≢ [] → (result.status ≡ 0) ⊎ (result.status ≡ 8)
         ⊎ (result.status ≡ 5) }
 {

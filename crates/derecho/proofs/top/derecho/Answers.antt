@@ -1,9 +1,10 @@
 -- The clauses say in each case what the last line that was due and what was written of it say.
 use Rattle.dr_history.specs.Agreement.{EndsAgreed}
 use Rattle.dr_restart.specs.Groups.{first_group_of}
-use Rattle.dr_program_laws.specs.Ended.{HaveEnded}
+use Rattle.dr_complete.specs.Time.{HasTime}
+use Rattle.dr_program_laws.specs.Ended.{AreComplete, HaveEnded}
 use Rattle.dr_restart.specs.Setups.{crashes_of}
-use Rattle.derecho.proofs.Course.{Course, course_of, written_of, all_ages, at_most_one, statuses_with_ages, known_status, usage_of, refused_of, read_fault_of, unfinished_of, read_of}
+use Rattle.derecho.proofs.Course.{Course, course_of, written_of, all_ages, at_most_one, statuses_with_ages, known_status, usage_of, refused_of, read_fault_of, unfinished_of, untimely_of, read_of}
 use Rattle.derecho.proofs.top.derecho.Goals as goal
 
 course : (g : Rattle.derecho.proofs.top.derecho.Given.Over) (c : goal.After-finish g)
@@ -58,3 +59,11 @@ returns-in-Ok-clause-read_fault g c = read_fault_of (course g c)
 
 pub returns-in-Ok-clause-unfinished : goal.returns-in-Ok-clause-unfinished
 returns-in-Ok-clause-unfinished g c = unfinished_of (course g c)
+
+pub returns-in-Ok-clause-complete : goal.returns-in-Ok-clause-complete
+returns-in-Ok-clause-complete g c =
+    all_ages (λ s a. HasTime s → AreComplete (first_group_of s).opening a.members) (course g c)
+    (λ s a run. run.complete)
+
+pub returns-in-Ok-clause-untimely : goal.returns-in-Ok-clause-untimely
+returns-in-Ok-clause-untimely g c = untimely_of (course g c)
