@@ -21,7 +21,8 @@ const MOST_TURNS: u32 = 1_000_000;
 /// What the program was told to do.
 struct Task {
     shape: Shape,
-    messages: usize,
+    /// The messages of each member.
+    totals: Vec<u32>,
     bytes: u8,
     /// `None` for lockstep.
     seed: Option<u64>,
@@ -37,24 +38,28 @@ fn number(word: &str, least: usize, most: usize) -> Option<usize> {
 }
 
 fn read_task(words: &[String]) -> Option<Task> {
-    let (words, rest) = words.split_at_checked(5)?;
+    let (words, rest) = words.split_at_checked(6)?;
     let has_report = rest.last().is_some_and(|word| word == "report");
     let turns = match &rest[..rest.len() - usize::from(has_report)] {
         [] => MOST_TURNS,
         [turns] => number(turns, 1, MOST_TURNS as usize)? as u32,
         _ => return None,
     };
-    let seed = match words[4].as_str() {
+    let seed = match words[5].as_str() {
         "lockstep" => None,
         seed => Some(seed.parse().ok()?),
     };
+    let members = number(&words[0], 1, 16)?;
+    let senders = number(&words[2], 0, members)?;
+    let messages = number(&words[3], 0, 4096)? as u32;
+    let totals = (0..members).map(|member| if member < senders { messages } else { 0 });
     Some(Task {
         shape: Shape {
-            members: number(&words[0], 1, 16)?,
+            members,
             window: number(&words[1], 1, 8)?,
         },
-        messages: number(&words[2], 0, 4096)?,
-        bytes: number(&words[3], 0, MAX_MESSAGE)? as u8,
+        totals: totals.collect(),
+        bytes: number(&words[4], 0, MAX_MESSAGE)? as u8,
         seed,
         turns,
         has_report,
@@ -119,10 +124,12 @@ fn report_entry(text: &mut String, entry: &Entry) -> fmt::Result {
 fn main() -> ExitCode {
     let words: Vec<String> = env::args().skip(1).collect();
     let Some(task) = read_task(&words) else {
-        println!("usage: members MEMBERS WINDOW MESSAGES BYTES lockstep|SEED [TURNS] [report]");
+        println!(
+            "usage: members MEMBERS WINDOW SENDERS MESSAGES BYTES lockstep|SEED [TURNS] [report]"
+        );
         return ExitCode::from(2);
     };
-    let mut group = Group::begin(task.shape, task.messages, task.bytes, task.turns);
+    let mut group = Group::begin(task.shape, &task.totals, task.bytes, task.turns);
     let schedule = match task.seed {
         None => {
             group.run_lockstep();

@@ -11,11 +11,13 @@ pub struct Group {
 }
 
 impl Group {
-    /// Each member has so many messages, each of so many bytes, and takes at most so many turns.
-    pub fn begin(shape: Shape, messages: usize, bytes: u8, turns: u32) -> Group {
+    /// The members have so many messages by their numbers, each of so many bytes, and take at most so
+    /// many turns.
+    pub fn begin(shape: Shape, totals: &[u32], bytes: u8, turns: u32) -> Group {
         let begin = |me| {
-            let messages = (0..messages).map(|index| Message::numbered(me, index, bytes));
-            Member::begin(shape, me, messages.collect(), turns)
+            let messages =
+                (0..totals[me] as usize).map(|index| Message::numbered(me, index, bytes));
+            Member::begin(shape, me, messages.collect(), totals.to_vec(), turns)
         };
         Group {
             members: (0..shape.members).map(begin).collect(),

@@ -22,6 +22,14 @@ pub enum Record {
     Entry(Entry),
 }
 
+/// What it has put: a message by its index, or a null. (The members say so at their end, where a
+/// group has more than one view.)
+#[allow(dead_code)]
+enum Sent {
+    Null,
+    Index(u32),
+}
+
 #[derive(Clone, Copy)]
 pub enum End {
     Done,
@@ -45,6 +53,7 @@ enum Place {
     Look { row: usize, column: usize },
     Receive { sender: usize },
     Send,
+    Null,
     Deliver,
     Append,
     Publish,
@@ -100,10 +109,12 @@ pub struct Member {
     items: Vec<Item>,
     /// The first spot whose item isn't there.
     front: Spot,
-    /// The indices of the messages that it has put.
-    sent: Vec<u32>,
+    sent: Vec<Sent>,
     /// The next spot that it delivers.
     next: Spot,
+    /// Every member was seen to have received the spots below this one. It is asked anew once the next
+    /// spot has come to it.
+    received: u64,
     pub history: Vec<Entry>,
     /// How many messages of each member the history has.
     delivered: Vec<u32>,
@@ -118,14 +129,20 @@ pub struct Member {
 }
 
 impl Member {
-    /// A member of View 0, which has everyone, before its first turn. All members have as many
-    /// messages. No later call takes memory.
-    pub fn begin(shape: Shape, me: usize, messages: Vec<Message>, limit: u32) -> Member {
+    /// A member of View 0, which has everyone, before its first turn, with its messages and the
+    /// number of those of each member. No later call takes memory.
+    pub fn begin(
+        shape: Shape,
+        me: usize,
+        messages: Vec<Message>,
+        totals: Vec<u32>,
+        limit: u32,
+    ) -> Member {
         let roster = shape.members;
         let members = u16::MAX >> (16 - roster);
         let columns = shape.columns();
-        let most = messages.len() as u32;
-        let spots = messages.len() * roster;
+        let most = totals.iter().copied().max().unwrap_or(0);
+        let spots = most as usize * roster;
         let room = spots + roster;
         let mut history = Vec::with_capacity(room);
         history.push(Entry::View {
@@ -140,9 +157,9 @@ impl Member {
             me,
             copy_words: roster * columns,
             own_copy: me * roster * columns,
-            sent: Vec::with_capacity(messages.len()),
+            sent: Vec::with_capacity(most as usize),
             messages,
-            totals: vec![most; roster],
+            totals,
             most,
             rows,
             members,
@@ -151,6 +168,7 @@ impl Member {
             items: vec![Item::Null; spots],
             front: Spot::FIRST,
             next: Spot::FIRST,
+            received: 0,
             history,
             delivered: vec![0; roster],
             room,
@@ -238,6 +256,10 @@ impl Member {
                 self.send();
                 self.seek_send()
             }
+            Place::Null => {
+                self.put(Sent::Null, Item::Null);
+                self.seek_null()
+            }
             Place::Deliver => {
                 self.deliver();
                 self.seek_deliver()
@@ -281,6 +303,14 @@ impl Member {
     fn seek_send(&self) -> Place {
         if self.may_send() {
             Place::Send
+        } else {
+            self.seek_null()
+        }
+    }
+
+    fn seek_null(&self) -> Place {
+        if self.may_null() {
+            Place::Null
         } else {
             self.seek_deliver()
         }
@@ -365,7 +395,22 @@ impl Member {
     }
 
     fn may_send(&self) -> bool {
-        self.sent.len() < self.messages.len() && self.is_free(self.counts[self.me])
+        self.has_message_left() && self.is_free(self.counts[self.me])
+    }
+
+    fn may_null(&self) -> bool {
+        !self.has_message_left() && self.is_behind() && self.is_free(self.counts[self.me])
+    }
+
+    /// It puts nulls only behind its last message.
+    fn has_message_left(&self) -> bool {
+        self.sent.len() < self.messages.len()
+    }
+
+    /// Whether it has more items of some member than it has put.
+    fn is_behind(&self) -> bool {
+        let own = self.counts[self.me];
+        self.counts.iter().any(|count| *count > own)
     }
 
     /// Whether each other member has received what stood in the slot of item `k` before.
@@ -380,7 +425,8 @@ impl Member {
     }
 
     fn may_deliver(&self) -> bool {
-        (self.next.number as u64) < self.least_seen(RECEIVED) && self.history.len() < self.room
+        let next = self.next.number as u64;
+        (next < self.received || next < self.least_seen(RECEIVED)) && self.history.len() < self.room
     }
 
     fn may_mark(&self) -> bool {
@@ -401,12 +447,15 @@ impl Member {
     }
 
     fn send(&mut self) {
-        let k = self.counts[self.me];
         let index = self.sent.len();
-        let message = &self.messages[index];
-        self.rows.put(self.shape.head_column(k), k, message);
-        let item = Item::Text(message.clone());
-        self.sent.push(index as u32);
+        let item = Item::Text(self.messages[index].clone());
+        self.put(Sent::Index(index as u32), item);
+    }
+
+    fn put(&mut self, name: Sent, item: Item) {
+        let k = self.counts[self.me];
+        self.rows.put(self.shape.head_column(k), k, &item);
+        self.sent.push(name);
         self.gain(self.me, item);
     }
 
@@ -424,6 +473,9 @@ impl Member {
     }
 
     fn deliver(&mut self) {
+        if self.next.number as u64 >= self.received {
+            self.received = self.least_seen(RECEIVED);
+        }
         let sender = self.view[self.next.rank];
         if let Item::Text(message) =
             &self.items[self.next.round as usize * self.shape.members + sender]

@@ -162,9 +162,13 @@ impl Rows {
     }
 
     /// Writes the words of item `k` into its own slot.
-    pub fn put(&mut self, head: usize, k: u32, message: &Message) {
-        let len = u32::from(message.len);
+    pub fn put(&mut self, head: usize, k: u32, item: &Item) {
         let slot = &mut self.words[self.own_row + head..][..SLOT_WORDS];
+        let Item::Text(message) = item else {
+            slot[0] = ring_word(k, NULL_MARK);
+            return;
+        };
+        let len = u32::from(message.len);
         slot[0] = ring_word(k, len);
         let body = slot[1..1 + body_words(len)].iter_mut();
         for (word, chunk) in body.zip(message.bytes.chunks_exact(4)) {

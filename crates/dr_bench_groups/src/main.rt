@@ -4,7 +4,7 @@
 mod members;
 
 use dr_script::Schedule;
-use members::members;
+use members::{MEMBERS, members};
 use std::process::ExitCode;
 use std::rt::Env;
 use std::{env, io};
@@ -14,15 +14,15 @@ const SEED: u64 = 7;
 
 fn main(rt: HostRuntime) -> io::Result<ExitCode> {
     let alloc = rt.alloc();
-    let Some(Task { schedule, messages }) = read_task(&rt)? else {
-        println!(rt; "usage: dr_bench_groups lockstep|seeded MESSAGES")?;
+    let Some(task) = read_task(&rt)? else {
+        println!(rt; "usage: dr_bench_groups lockstep|seeded MESSAGES [SENDERS]")?;
         return Ok(ExitCode::from(2));
     };
-    let name = match schedule {
+    let name = match task.schedule {
         Schedule::Lockstep => "lockstep",
         Schedule::Seed(_) => "seeded",
     };
-    let tally = members(alloc, messages, schedule)?;
+    let tally = members(alloc, task.messages, task.senders, task.schedule)?;
     let count = tally.count;
     let checksum = tally.checksum;
     println!(rt; "{name}: {count} checksum: {checksum:016x}")?;
@@ -33,14 +33,19 @@ fn main(rt: HostRuntime) -> io::Result<ExitCode> {
 #[derive(Clone, Copy, Debug, PartialEq, Eq)]
 struct Task {
     schedule: Schedule,
-    /// The messages of each member.
+    /// The messages of each sender.
     messages: u32,
+    /// How many members have messages: the first so many.
+    senders: u8,
 }
 
 /// The task in the words behind the program's name; `None` where they are none.
 fn read_task(rt: &(impl Env + AllocGlobal)) -> io::Result<Option<Task>> {
     let mut words = env::args(rt)?.skip(1);
-    let (Some(schedule), Some(messages), None) = (words.next(), words.next(), words.next()) else {
+    let (Some(schedule), Some(messages)) = (words.next(), words.next()) else {
+        return Ok(None);
+    };
+    let (senders, None) = (words.next(), words.next()) else {
         return Ok(None);
     };
     let schedule = match schedule.as_str() {
@@ -48,8 +53,24 @@ fn read_task(rt: &(impl Env + AllocGlobal)) -> io::Result<Option<Task>> {
         "seeded" => Schedule::Seed(SEED),
         _ => return Ok(None),
     };
-    let Ok(messages) = messages.as_str().parse() else {
+    let (Ok(messages), Some(senders)) = (
+        messages.as_str().parse(),
+        read_senders(senders.as_deref()),
+    ) else {
         return Ok(None);
     };
-    Ok(Some(Task { schedule, messages }))
+    Ok(Some(Task {
+        schedule,
+        messages,
+        senders,
+    }))
+}
+
+/// The number of senders in a word, from 1 to all members; all of them where there is no word.
+fn read_senders(word: Option<&str>) -> Option<u8> {
+    let Some(word) = word else {
+        return Some(MEMBERS);
+    };
+    let senders = word.parse().ok()?;
+    (1..=MEMBERS).contains(&senders).then_some(senders)
 }

@@ -1,4 +1,4 @@
-ghost use Rattle.std.specs.Prelude.{◌≡◌, ◌<◌, ◌≤◌, All, IfOk, length};
+ghost use Rattle.std.specs.Prelude.{◌≡◌, ℕ, ◌<◌, ◌≤◌, [], All, IfOk, length, slice_index_or};
 ghost use Rattle.dr_script.specs.Ranges.{HasRanges};
 
 use dr_entry::{AgeEnd, Entry, MAX_MESSAGE_LENGTH, MemberEnd, Message, Seq};
@@ -8,7 +8,7 @@ use dr_sim::sim_age;
 use std::alloc::{AllocError, Global};
 
 /// The members of the largest group, and the slots of a ring.
-const MEMBERS: u8 = 16;
+pub const MEMBERS: u8 = 16;
 
 const WINDOW: u8 = 8;
 
@@ -29,17 +29,27 @@ pub struct Tally {
     pub checksum: u64,
 }
 
-/// Runs the largest group from its opening to the ends of all members, each of which has so many
-/// messages of 64 bytes.
+/// Runs the largest group from its opening to the ends of all members. The first `senders` of them
+/// have so many messages of 64 bytes each, the others none.
 #[inline(never)]
-pub fn members(alloc: Global, messages: u32, schedule: Schedule) -> Result<Tally, AllocError> {
-    let script = script_of(alloc, messages.min(MOST_MESSAGES), schedule)?;
+pub fn members(
+    alloc: Global,
+    messages: u32,
+    senders: u8,
+    schedule: Schedule,
+) -> Result<Tally, AllocError> {
+    let script = script_of(alloc, messages.min(MOST_MESSAGES), senders, schedule)?;
     let start = first_start(alloc, &script);
     let age = sim_age(alloc, &script, &start, 0)?;
     Ok(tally_of(&age))
 }
 
-fn script_of(alloc: Global, messages: u32, schedule: Schedule) -> Result<Script, AllocError>
+fn script_of(
+    alloc: Global,
+    messages: u32,
+    senders: u8,
+    schedule: Schedule,
+) -> Result<Script, AllocError>
     requires { messages ≤ 4096 }
     ensures { IfOk result HasRanges }
 {
@@ -49,23 +59,28 @@ fn script_of(alloc: Global, messages: u32, schedule: Schedule) -> Result<Script,
         turns: TURNS,
         patience: 0,
         ages: 1,
-        messages: Seq::of(lists_of(alloc, messages)?),
+        messages: Seq::of(lists_of(alloc, messages, senders)?),
         faults: Seq::of(Vec::new(alloc)),
         schedule,
     })
 }
 
-/// The messages of all members.
-fn lists_of(alloc: Global, messages: u32) -> Result<Vec<Seq<Message>>, AllocError>
+/// The messages of all members: the first `senders` have so many each, the others none.
+fn lists_of(alloc: Global, messages: u32, senders: u8) -> Result<Vec<Seq<Message>>, AllocError>
     requires { messages ≤ 4096 }
     ensures count { IfOk result (λ lists. length lists.items ≡ 16) }
+    ensures senders { IfOk result (λ lists. (m : ℕ) → m < 16 → m < senders
+        → length (slice_index_or lists.items m []) ≡ messages) }
+    ensures others { IfOk result (λ lists. (m : ℕ) → m < 16 → senders ≤ m
+        → length (slice_index_or lists.items m []) ≡ 0) }
     ensures few { IfOk result (λ lists. All (λ list. length list ≤ 4096) lists.items) }
     ensures short { IfOk result (λ lists. All (All (λ bytes. length bytes ≤ 64)) lists.items) }
     ensures bytes { IfOk result (λ lists. All (All (All (λ byte. byte < 256))) lists.items) }
 {
     let mut lists = Vec::with_capacity(alloc, usize::from(MEMBERS))?;
     for me in 0..MEMBERS {
-        lists.push(Seq::of(messages_of(alloc, me, messages)?))?;
+        let count = if me < senders { messages } else { 0 };
+        lists.push(Seq::of(messages_of(alloc, me, count)?))?;
     }
     Ok(lists)
 }
