@@ -2,13 +2,13 @@
 use dr_entry::{End, Entry, MemberEnd, Message, SentItem, Seq, ViewSent};
 use dr_history::Opening;
 use dr_oracle::{GroupView, agreed, in_order, merge};
-use dr_order::{front, merge_next};
+use dr_order::{front, merge_next, null_due};
 use std::alloc::{AllocError, Global};
 use std::test::Fail;
 
 // A letter stands for an entry: V for View 0 of the members 0 and 1, and others for messages of this one
-// byte. Member 0 has the messages a and d, member 1 has b. What builds a case has no contract, so no
-// proof of a test evaluates a definition.
+// byte. Member 0 has the messages a, d, f and h, member 1 has b and e. What builds a case has no contract,
+// so no proof of a test evaluates a definition.
 
 fn message(sender: u8, index: u32, letter: u8) -> Entry {
     let bytes = Message::of(&[letter]).unwrap();
@@ -28,6 +28,9 @@ fn entry(letter: u8) -> Entry {
         },
         b'b' => message(1, 0, letter),
         b'd' => message(0, 1, letter),
+        b'e' => message(1, 1, letter),
+        b'f' => message(0, 2, letter),
+        b'h' => message(0, 3, letter),
         _ => message(0, 0, letter),
     }
 }
@@ -42,7 +45,7 @@ fn entries(alloc: Global, letters: &str) -> Result<Vec<Entry>, AllocError> {
 
 fn opening(alloc: Global) -> Result<Opening, AllocError> {
     let mut script = Vec::new(alloc);
-    for letters in ["ad", "b"] {
+    for letters in ["adfh", "be"] {
         let mut messages = Vec::new(alloc);
         for letter in letters.as_bytes() {
             messages.push(Message::of(&[*letter]).unwrap())?;
@@ -66,6 +69,8 @@ fn end(alloc: Global, items: &str, history: &str) -> Result<MemberEnd, AllocErro
         sent.push(match letter {
             b'0' => SentItem::Index(0),
             b'1' => SentItem::Index(1),
+            b'2' => SentItem::Index(2),
+            b'3' => SentItem::Index(3),
             _ => SentItem::Null,
         })?;
     }
@@ -83,17 +88,21 @@ fn end(alloc: Global, items: &str, history: &str) -> Result<MemberEnd, AllocErro
     })
 }
 
-// Member 0 has sent both of its messages, with a null between them; member 1 a null and its message.
+// Member 0 has sent its four messages, with a null behind the first; member 1 a null and its two messages.
 fn ends(alloc: Global, one: &str, other: &str) -> Result<Vec<MemberEnd>, AllocError> {
-    Ok(vec![in alloc; end(alloc, "0-1", one)?, end(alloc, "-0", other)?]?)
+    Ok(vec![in alloc; end(alloc, "0-123", one)?, end(alloc, "-01", other)?]?)
 }
 
 #[test]
-fn two_senders_with_two_items_and_one(rt: HostRuntime) -> Result<(), Fail> {
-    let counts = [2, 1];
-    assert_eq!(rt; front(&counts), 3);
-    assert_eq!(rt; merge_next(&counts, 2), Some(2));
-    assert_eq!(rt; merge_next(&counts, 3), None);
+fn two_senders_with_five_items_and_three(rt: HostRuntime) -> Result<(), Fail> {
+    let counts = [5, 3];
+    assert_eq!(rt; front(&counts), 7);
+    for place in [0, 1, 2, 3, 4, 5, 6, 8] {
+        assert_eq!(rt; merge_next(&counts, place), Some(place));
+    }
+    assert_eq!(rt; merge_next(&counts, 7), Some(8));
+    assert_eq!(rt; merge_next(&counts, 9), None);
+    assert!(rt; null_due(&counts, 1) && !null_due(&counts, 0));
     Ok(())
 }
 
@@ -103,8 +112,8 @@ fn a_merge_leaves_out_nulls(rt: HostRuntime) -> Result<(), Fail> {
     let opening = opening(alloc)?;
     let ends = ends(alloc, "", "")?;
     let view = GroupView::new(1, 0, 0b011);
-    let merged = merge(alloc, &opening, ends.as_slice(), &view, &[3, 2])?;
-    assert_eq!(rt; merged, entries(alloc, "abd")?);
+    let merged = merge(alloc, &opening, ends.as_slice(), &view, &[5, 3])?;
+    assert_eq!(rt; merged, entries(alloc, "abdefh")?);
     Ok(())
 }
 

@@ -21,6 +21,17 @@ const BEFORE_THE_LAST: &[u8] = br#"{"members":2,"window":1,"turns":3,"patience":
 const BEHIND_THE_LAST: &[u8] = br#"{"members":2,"window":1,"turns":3,"patience":0,"ages":1,
     "messages":[["a"],["b"]],"schedule":"lockstep","faults":[{"age":0,"member":0,"crash":[1,6]}]}"#;
 
+/// Two members, of which the second has nothing to send, with one slot; and so many turns.
+fn silent_script(alloc: Global, turns: u8) -> Result<String, AllocError> {
+    let mut script = String::from_str(
+        alloc,
+        "{\"members\":2,\"window\":1,\"patience\":0,\"ages\":1,\"faults\":[],\"schedule\":\"lockstep\",\
+         \"messages\":[[\"a\",\"b\",\"c\",\"d\",\"e\"],[]],\"turns\":",
+    )?;
+    write!(script, "{turns}}}")?;
+    Ok(script)
+}
+
 /// A script that begins so, without faults, in which each of the members has so many messages.
 fn script_of(alloc: Global, head: &str, members: u8, messages: u8) -> Result<String, AllocError> {
     let mut script = String::from_str(alloc, head)?;
@@ -88,6 +99,22 @@ fn an_item_is_seen_once_its_last_word_is_pushed(rt: HostRuntime) -> Result<(), F
         assert!(rt; matches!(zero.end, End::Crashed) && zero.history.as_slice().len() == 1);
         assert!(rt; matches!(one.end, End::Spent { turns: 3 }));
         assert!(rt; one.history.as_slice().len() == entries && one.durable == 1);
+    }
+    Ok(())
+}
+
+/// The member that has nothing to send is done in its turn 6, the other in its turn 7, which is one too
+/// many where there are 6.
+#[test]
+fn a_silent_member_holds_nobody_up(rt: HostRuntime) -> Result<(), Fail> {
+    for (turns, last) in [(28, End::Done), (6, End::Spent { turns: 6 })] {
+        let age = ended(rt.alloc(), silent_script(rt.alloc(), turns)?.as_bytes())?;
+        let [zero, one] = age.members.as_slice() else {
+            return Err("there are two members")?;
+        };
+        assert!(rt; zero.end == last && zero.turns == turns.min(7).into());
+        assert!(rt; one.end == End::Done && one.turns == 6 && one.history == zero.history);
+        assert!(rt; one.history.as_slice().len() == 6 && one.durable == 6);
     }
     Ok(())
 }

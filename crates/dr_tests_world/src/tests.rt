@@ -19,6 +19,32 @@ const SENT: [Event; 6] = [
     Event::Receive { m: 1, s: 0 },
 ];
 
+/// Two members, of which the second has nothing to send.
+const SILENT: &[u8] = br#"{"members":2,"window":1,"turns":12,"patience":0,"ages":1,
+    "messages":[["a"],[]],"faults":[],"schedule":"lockstep"}"#;
+
+/// Member 0 puts its message, and member 1 takes it.
+const TAKEN: [Event; 6] = [
+    Event::Send { m: 0 },
+    Event::Push { m: 0, j: 1, c: 10 },
+    Event::Push { m: 0, j: 1, c: 11 },
+    Event::Look { m: 1, i: 0, c: 10 },
+    Event::Look { m: 1, i: 0, c: 11 },
+    Event::Receive { m: 1, s: 0 },
+];
+
+/// Member 1 puts a null, member 0 takes it, and each shows the other what it has received.
+const FILLED: [Event; 8] = [
+    Event::Null { m: 1 },
+    Event::Push { m: 1, j: 0, c: 10 },
+    Event::Look { m: 0, i: 1, c: 10 },
+    Event::Receive { m: 0, s: 1 },
+    Event::Push { m: 1, j: 0, c: 2 },
+    Event::Look { m: 0, i: 1, c: 2 },
+    Event::Deliver { m: 0 },
+    Event::Deliver { m: 0 },
+];
+
 /// Member 1 has the item of member 0, and may not deliver it before it knows that all others have it.
 #[test]
 fn an_item_that_one_member_took_is_not_delivered(rt: HostRuntime) -> Result<(), Fail> {
@@ -40,6 +66,22 @@ fn an_item_that_one_member_took_is_not_delivered(rt: HostRuntime) -> Result<(), 
             )
         );
     }
+    assert!(rt; agree(&world));
+    Ok(())
+}
+
+/// A null comes where no message is left and another member is ahead; delivered, it is no entry.
+#[test]
+fn a_silent_member_fills_its_place(rt: HostRuntime) -> Result<(), Fail> {
+    let script = read_script(rt.alloc(), SILENT)?;
+    let start = first_start(rt.alloc(), &script);
+    let mut world = agreed_run(rt.alloc(), &script, &start, &[])?;
+    assert!(rt; !world.step(&Event::Null { m: 0 }) && !world.step(&Event::Null { m: 1 }));
+    world.run(&TAKEN);
+    world.run(&FILLED);
+    assert!(rt; !world.step(&Event::Null { m: 1 }) && !world.step(&Event::Deliver { m: 0 }));
+    assert!(rt; world.members() == 2);
+    assert!(rt; world.received(0, 1) == 1 && world.history(0).len() == 2);
     assert!(rt; agree(&world));
     Ok(())
 }
