@@ -2,7 +2,7 @@
 ghost use Rattle.std.specs.Prelude.{◌≡◌, ◌<◌, true, length};
 ghost use Rattle.dr_machine.specs.Events.{step_of};
 ghost use Rattle.dr_program.specs.Form.{HasForm};
-ghost use Rattle.dr_program.specs.Steps.{has_cell, index_in, may_take, stepped_over, stored};
+ghost use Rattle.dr_program.specs.Steps.{index_in, may_take, stepped_over, stored};
 ghost use Rattle.dr_words.specs.Columns.{columns_of};
 ghost use Rattle.dr_words.specs.Layout.{words_of};
 ghost use Rattle.dr_world.specs.Steps.{IsInSight};
@@ -15,23 +15,7 @@ use dr_words::BEAT_COLUMN;
 pub(crate) fn may_take(replica: &Replica, event: &Event) -> bool
     ensures { result ≡ may_take replica.now (step_of event.now) }
 {
-    if replica.end().is_some() {
-        return false;
-    }
-    match event.step() {
-        Step::Do(act) => replica.may(act),
-        Step::Look { row, column } => has_cell(replica, row, column),
-        Step::Push { to, column } => has_cell(replica, to, column),
-        Step::Append => replica.may_append(),
-    }
-}
-
-/// Whether this is another member of the view, and a column of its row.
-fn has_cell(replica: &Replica, row: u8, column: usize) -> bool
-    ensures { result ≡ has_cell replica.now row column }
-{
-    let shape = replica.shape();
-    row < shape.members && replica.is_other(row) && column < shape.columns()
+    replica.end().is_none() && replica.allows(event.step())
 }
 
 /// The index of a word of the table, in the bank of the replica's view.
