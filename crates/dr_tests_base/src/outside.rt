@@ -36,7 +36,8 @@ fn a_source_gives_what_its_reader_gives(rt: HostRuntime) -> Result<(), Fail> {
     Ok(())
 }
 
-/// A writer that is interrupted in its first call, takes one byte in its second, and nothing then.
+/// A writer that is interrupted in its first call, fails in its third, takes one byte in its second and its
+/// fourth, and nothing then.
 #[derive(Drop)]
 struct FaultyWriter {
     calls: u8,
@@ -47,7 +48,8 @@ impl Write for FaultyWriter {
         self.calls = self.calls.saturating_add(1);
         match self.calls {
             1 => Err(ErrorKind::Interrupted.into()),
-            2 => Ok(from.len().min(1)),
+            2 | 4 => Ok(from.len().min(1)),
+            3 => Err(ErrorKind::TimedOut.into()),
             _ => Ok(0),
         }
     }
@@ -62,6 +64,8 @@ fn a_sink_writes_what_its_writer_takes(rt: HostRuntime) -> Result<(), Fail> {
     let mut sink = OutputSink::new(FaultyWriter { calls: 0 });
     assert_eq!(rt; sink.write(b"age 0 "), Ok(1));
     assert_eq!(rt; sink.write(b"ge 0 "), Err(Failed));
+    assert_eq!(rt; sink.write(b"ge 0 "), Ok(1));
+    assert_eq!(rt; sink.write(b"e 0 "), Err(Failed));
     let mut room = [0; 10];
     let mut sink = OutputSink::new(room.as_mut_slice());
     assert_eq!(rt; sink.write(b"age 0 "), Ok(6));
