@@ -64,6 +64,16 @@ pub data Course (words : List (String Global)) (old new : Option (List ℕ)) (be
   unfinished : IsCommand words → Ran old new ages → some_spent ages ≡ true → IsOr UNFINISHED status
       → Course words old new before after status ages
 
+-- a source that failed is told by the status, unless a write failed or memory was wanting
+pub fault_told : (held holds : Option (List ℕ)) (before after status : ℕ) (ages all : List AgeEnd)
+    (last : Last) → last ≡ SourceFault
+    → GaveUp held holds status ages ⊎ ((ages ≡ all) × Wrote held holds before after status all last)
+    → (status ≡ 4) ⊎ (status ≡ 5) ⊎ (status ≡ 10)
+fault_told held holds before after status ages all last is (inl gave) = inr (inr gave.0)
+fault_told held holds before after status ages all last is (inr (same, inl wrote)) =
+    inl (wrote.0 ∙ ap status_of is)
+fault_told held holds before after status ages all last is (inr (same, inr failed)) = inr (inl failed.0)
+
 -- the status behind a last line
 or_of : (old new : Option (List ℕ)) (before after status : ℕ) (ages : List AgeEnd) (last due : Last)
     → Wrote old new before after status ages last → last ≡ due → IsOr (status_of due) status

@@ -7,18 +7,18 @@ use Rattle.dr_io.specs.Sink.{Gains}
 use Rattle.dr_io.proofs.KnownLemmas.{gains_more}
 use Rattle.derecho.specs.declared.reading.TheConstants.{READ_LIMIT}
 
--- these bytes were read so far, and the count of faults has not fallen
+-- these bytes were read so far, and no call failed
 pub record ReadsSoFar (old new : Option (List ℕ)) (before after : ℕ) (bytes : List ℕ) : Type 0 where
   pub lost : Loses old new bytes
   pub limit : length bytes ≤ READ_LIMIT
-  pub later : before ≤ after
+  pub calm : after ≡ before
 
--- so many bytes of the text were written so far, and the count of faults has not fallen
+-- so many bytes of the text were written so far, and no call failed
 pub record WritesSoFar (old new : Option (List ℕ)) (before after : ℕ) (text : List ℕ)
     (at : ℕ) : Type 0 where
   pub gained : Gains old new (take at text)
   pub within : at ≤ length text
-  pub later : before ≤ after
+  pub calm : after ≡ before
 
 -- the next bytes of the text, written behind its front part, make a longer front part
 pub gains_front : (old now new : Option (List ℕ)) (text : List ℕ) (at n : ℕ)

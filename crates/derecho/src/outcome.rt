@@ -1,6 +1,7 @@
-ghost use Rattle.std.specs.Prelude.{◌≡◌, if◌then◌else◌, IfOk, []};
+ghost use Rattle.std.specs.Prelude.{◌≡◌, ◌⊎◌, if◌then◌else◌, IfOk, OnErr, []};
 ghost use Rattle.std.specs.List.{list_any};
 ghost use Rattle.dr_script.specs.Ranges.{HasRanges};
+ghost use Rattle.dr_text.specs.declared.last.Last.TheVariants.{SourceFault};
 ghost use Rattle.derecho.specs.Ages.{is_spent, RanAlone};
 ghost use Rattle.derecho.specs.Outcome.{IsDue, IsRunOver, last_of_run};
 
@@ -30,6 +31,9 @@ pub(crate) fn outcome_of<S: Source>(
 ) -> Result<Outcome, AllocError>
     ensures due { IfOk result (λ o. IsDue words.now (S.left source.old) (S.left source.new)
         (S.faults source.old) (S.faults source.new) o.ages o.last) }
+    ensures told { IfOk result (λ o. (S.faults source.new ≡ S.faults source.old)
+        ⊎ (o.last ≡ SourceFault)) }
+    ensures calm { OnErr result (S.faults source.new ≡ S.faults source.old) }
 {
     if !is_command(words) {
         return Ok(without_ages(alloc, Last::Usage));

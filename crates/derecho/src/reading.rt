@@ -1,4 +1,4 @@
-ghost use Rattle.std.specs.Prelude.{◌≤◌, IfOk, IsErrOf};
+ghost use Rattle.std.specs.Prelude.{◌≡◌, IfOk, IsErrOf};
 ghost use Rattle.dr_io.specs.Faults.{Rose};
 ghost use Rattle.derecho.specs.Reading.{WasRead};
 
@@ -47,7 +47,9 @@ impl From<Failed> for ReadFault {
 pub(crate) fn read_all<S: Source>(alloc: Global, source: &mut S) -> Result<Vec<u8>, ReadFault>
     ensures bytes { IfOk result (λ v. WasRead (S.left source.old) (S.left source.new) v.items) }
     ensures cause { IsErrOf result ReadFault.Failed → Rose (S.faults source.old) (S.faults source.new) }
-    ensures later { S.faults source.old ≤ S.faults source.new }
+    ensures calm { IfOk result (λ _. S.faults source.new ≡ S.faults source.old) }
+    ensures wanting { IsErrOf result ReadFault.OutOfMemory
+        → S.faults source.new ≡ S.faults source.old }
 {
     let mut bytes = Vec::new(alloc);
     let mut buffer = [0u8; PIECE];

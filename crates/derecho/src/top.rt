@@ -78,6 +78,9 @@ pub fn derecho<R: Threads + Sync, S: Source, K: Sink>(
     ensures refused { result.status ≡ 3 → IsNoScript (S.left source.old) (S.left source.new) }
     ensures read_fault { result.status ≡ 4 → Rose (S.faults source.old) (S.faults source.new) }
     ensures write_fault { result.status ≡ 5 → Rose (K.faults sink.old) (K.faults sink.new) }
+    ensures read_fault_told { (S.faults source.new ≡ S.faults source.old)
+        ⊎ (result.status ≡ 4) ⊎ (result.status ≡ 5) ⊎ (result.status ≡ 10) }
+    ensures write_fault_told { (K.faults sink.new ≡ K.faults sink.old) ⊎ (result.status ≡ 5) }
     ensures unfinished { Exactly result.status 8 (IsTrue (some_spent result.ages)) }
     ensures untimely { result.status ≡ 8 → (s : Script)
         × IsScript (S.left source.old) (S.left source.new) s × ¬ HasTime s }
@@ -92,9 +95,10 @@ pub fn derecho<R: Threads + Sync, S: Source, K: Sink>(
 
 /// Writes the report of an outcome.
 fn finish<K: Sink>(alloc: Global, outcome: Outcome, sink: &mut K) -> Ended
-    ensures { GaveUp (K.held sink.old) (K.held sink.new) result.status result.ages
+    ensures written { GaveUp (K.held sink.old) (K.held sink.new) result.status result.ages
         ⊎ ((result.ages ≡ outcome.ages) × Wrote (K.held sink.old) (K.held sink.new)
         (K.faults sink.old) (K.faults sink.new) result.status outcome.ages outcome.last) }
+    ensures told { (K.faults sink.new ≡ K.faults sink.old) ⊎ (result.status ≡ 5) }
 {
     let Ok(text) = report(alloc, outcome.ages.as_slice(), &outcome.last) else {
         return given_up(alloc);

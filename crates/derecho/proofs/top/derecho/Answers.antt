@@ -1,10 +1,11 @@
 -- The clauses say in each case what the last line that was due and what was written of it say.
+use Rattle.std.proofs.Common.{inl, inr}
 use Rattle.dr_history.specs.Agreement.{EndsAgreed}
 use Rattle.dr_restart.specs.Groups.{first_group_of}
 use Rattle.dr_complete.specs.Time.{HasTime}
 use Rattle.dr_program_laws.specs.Ended.{AreComplete, HaveEnded}
 use Rattle.dr_restart.specs.Setups.{crashes_of}
-use Rattle.derecho.proofs.Course.{Course, course_of, written_of, all_ages, at_most_one, statuses_with_ages, known_status, usage_of, refused_of, read_fault_of, unfinished_of, untimely_of, read_of}
+use Rattle.derecho.proofs.Course.{Course, course_of, fault_told, written_of, all_ages, at_most_one, statuses_with_ages, known_status, usage_of, refused_of, read_fault_of, unfinished_of, untimely_of, read_of}
 use Rattle.derecho.proofs.top.derecho.Goals as goal
 
 course : (g : Rattle.derecho.proofs.top.derecho.Given.Over) (c : goal.After-finish g)
@@ -16,7 +17,7 @@ course g c = course_of c.args.words.now (g.S.Source.left c.args.source.now)
     (g.K.Sink.held c.finish.new.sink) (g.S.Source.faults c.args.source.now)
     (g.S.Source.faults c.outcome_of.new.source) (g.K.Sink.faults c.args.sink.now)
     (g.K.Sink.faults c.finish.new.sink) c.finish.result.status c.in-Ok.outcome.ages c.finish.result.ages
-    c.in-Ok.outcome.last c.in-Ok.ensures.due c.finish.ensures
+    c.in-Ok.outcome.last c.in-Ok.ensures.due c.finish.ensures.written
 
 pub returns-in-Ok-clause-written : goal.returns-in-Ok-clause-written
 returns-in-Ok-clause-written g c =
@@ -25,7 +26,7 @@ returns-in-Ok-clause-written g c =
     (g.K.Sink.held c.finish.new.sink) (g.S.Source.faults c.args.source.now)
     (g.S.Source.faults c.outcome_of.new.source) (g.K.Sink.faults c.args.sink.now)
     (g.K.Sink.faults c.finish.new.sink) c.finish.result.status c.in-Ok.outcome.ages c.finish.result.ages
-    c.in-Ok.outcome.last c.in-Ok.ensures.due c.finish.ensures
+    c.in-Ok.outcome.last c.in-Ok.ensures.due c.finish.ensures.written
 
 pub returns-in-Ok-clause-agreed : goal.returns-in-Ok-clause-agreed
 returns-in-Ok-clause-agreed g c =
@@ -56,6 +57,13 @@ returns-in-Ok-clause-refused g c = refused_of (course g c)
 
 pub returns-in-Ok-clause-read_fault : goal.returns-in-Ok-clause-read_fault
 returns-in-Ok-clause-read_fault g c = read_fault_of (course g c)
+
+pub returns-in-Ok-clause-read_fault_told : goal.returns-in-Ok-clause-read_fault_told
+returns-in-Ok-clause-read_fault_told g c =
+    elim c.in-Ok.ensures.told [
+      | inl same ↦ inl same
+      | inr fault ↦ inr (fault_told _ _ _ _ _ _ _ c.in-Ok.outcome.last fault c.finish.ensures.written)
+    ]
 
 pub returns-in-Ok-clause-unfinished : goal.returns-in-Ok-clause-unfinished
 returns-in-Ok-clause-unfinished g c = unfinished_of (course g c)

@@ -1,4 +1,4 @@
-use Rattle.std.proofs.Common.{arith, length-drop, length-take}
+use Rattle.std.proofs.Common.{◌∙◌, arith, length-drop, length-take}
 use Rattle.derecho.proofs.Steps.{gains_front}
 use Rattle.derecho.proofs.writing.write_all.Goals as goal
 
@@ -18,5 +18,5 @@ loop-at-preserved g c =
       within =
           let bound = simp (length-take, length-drop) at c.in_ok-at.ensures.bound in
           omega (arith, bound);
-      later = omega (arith, c.in_ok-at.ensures.cause.later);
+      calm = c.in_ok-at.ensures.cause.calm ∙ c.loop-at.invariant.calm;
     }
