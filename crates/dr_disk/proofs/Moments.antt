@@ -1,5 +1,5 @@
 -- How calls follow one another, and how what is known of each moment goes on.
-use Rattle.std.proofs.Common.{◌≡◌, ℕ, List, [], ◌∷◌, ◌++◌, Option, Some, None, refl, sym, ap, subst, ◌∙◌, append_assoc, append-nil}
+use Rattle.std.proofs.Common.{◌≡◌, ℕ, List, [], ◌∷◌, ◌++◌, Option, Some, None, IfSome, refl, sym, ap, subst, ◌∙◌, append_assoc, append-nil}
 use Rattle.dr_disk.specs.Calls.{Call, State, step, run_from, run}
 use Rattle.dr_disk.specs.Images.{AllImages, During, Went, Goes}
 
@@ -72,17 +72,30 @@ Went-last before after P went =
     subst (λ (s : State). AllImages s P) (sym (ap run went.grown ∙ run_from-append _ before went.more))
     (During-last (run before) went.more P went.each)
 
--- the same of disks that may tell: where P doesn't ask for the calls from before, two spans of time are one
-pub Goes-then : (before mid after : Option (List Call)) (P : List ℕ → Type 0)
-    → Goes before mid (λ calls. P) → Goes mid after (λ calls. P) → Goes before after (λ calls. P)
-Goes-then None None None P first next = tt
-Goes-then None None (Some after) P first next = absurd next
-Goes-then None (Some mid) after P first next = absurd first
-Goes-then (Some before) None after P first next = absurd first
-Goes-then (Some before) (Some mid) None P first next = absurd next
-Goes-then (Some before) (Some mid) (Some after) P first next = Went-then before mid after P first next
+-- The same of disks that may tell. What is known of a span of time may speak of the calls before it. What
+-- follows from what is known of each of two spans holds of the two as one.
+pub goes_on : (before mid after : Option (List Call)) (P Q R : List Call → List ℕ → Type 0)
+    → ((calls : List Call) (image : List ℕ) → before ≡ Some calls → P calls image → R calls image)
+    → ((first next : List Call) (image : List ℕ) → before ≡ Some first → mid ≡ Some next
+    → Q next image → R first image)
+    → Goes before mid P → Goes mid after Q → Goes before after R
+goes_on None None None P Q R f h first next = tt
+goes_on None None (Some after) P Q R f h first next = absurd next
+goes_on None (Some mid) after P Q R f h first next = absurd first
+goes_on (Some before) None after P Q R f h first next = absurd first
+goes_on (Some before) (Some mid) None P Q R f h first next = absurd next
+goes_on (Some before) (Some mid) (Some after) P Q R f h first next =
+    Went-then before mid after (R before)
+    (Went-weaken before mid (P before) (R before) (λ image. f before image refl) first)
+    (Went-weaken mid after (Q mid) (R before) (λ image. h before mid image refl refl) next)
 
--- and what follows from a fact of each moment holds of each moment
+-- while no call is made, what holds of the present moment holds of each
+pub stays_at : (told : Option (List Call)) (P : List Call → List ℕ → Type 0)
+    → IfSome told (λ calls. AllImages (run calls) (P calls)) → Goes told told P
+stays_at None P here = tt
+stays_at (Some calls) P here = Went-still calls (P calls) here
+
+-- what follows from a fact of each moment holds of each moment
 pub Goes-weaken : (before after : Option (List Call)) (P Q : List Call → List ℕ → Type 0)
     → ((calls : List Call) (image : List ℕ) → P calls image → Q calls image) → Goes before after P
     → Goes before after Q

@@ -1,12 +1,14 @@
--- What one record more is to blocks, to entries and to votes, and that a log stands for its records.
-use Rattle.std.proofs.Common.{◌≡◌, ℕ, ◌+◌, ◌<◌, ◌≤◌, List, [], ◌∷◌, ◌++◌, length, inl, inr, ⊎_elim, refl, sym, ap, ◌∙◌, append_assoc, append-nil, arith, length-append}
+-- What one record more is to blocks, to entries and to votes, how long a log is, and that it stands for its
+-- records.
+use Rattle.std.proofs.Common.{◌≡◌, ℕ, ◌+◌, ◌*◌, ◌<◌, ◌≤◌, List, All, [], ◌∷◌, ◌++◌, length, inl, inr, ⊎_elim, refl, sym, ap, ◌∙◌, append_assoc, append-nil, arith, length-append}
 use Rattle.std.proofs.lemmas.Bool.{cases_lt}
-use Rattle.std.proofs.lemmas.List.Sums.{sum_by-cons, sum_by_push}
+use Rattle.std.proofs.lemmas.List.Sums.{sum_by-cons, sum_by-le, sum_by_push}
 use Rattle.dr_entry.specs.declared.entry.Entry.{Entry}
+use Rattle.dr_entry.specs.declared.entry.Entry.TheVariants.{View, Msg}
 use Rattle.dr_entry.specs.declared.record.Record.{Record}
 use Rattle.dr_entry.specs.declared.record.Record.TheVariants as records
 use Rattle.dr_entry.specs.declared.record.Vote.{Vote}
-use Rattle.dr_entry.specs.Spelling.{IsValid, Fits, spelling, entry_spelling, vote_spelling}
+use Rattle.dr_entry.specs.Spelling.{IsValid, IsValidEntry, Fits, spelling, entry_spelling, vote_spelling}
 use Rattle.dr_log.specs.Grammar.{blocks, AreSpelled, IsLog, Recovered}
 use Rattle.dr_log.specs.Standing.{StandsFor, entries_in, votes_in, with_entry, with_vote, block_length, log_length}
 use Rattle.dr_log.specs.State.{as_entry, as_vote}
@@ -89,6 +91,18 @@ longer r len size es es' vs vs' long size_is entries votes =
     omega (arith, long, size_is, length_of_more es vs r)
     ∙ ap (λ (l : List Entry). log_length l (with_vote r vs)) (sym entries)
     ∙ ap (log_length es') (sym votes)
+
+-- an entry has a short block
+pub short_block : (e : Entry) → IsValidEntry e → 1 + length (entry_spelling e) ≤ 72
+short_block (View age number members) valid = omega arith
+short_block (Msg sender index bytes) valid = omega (arith, valid.1)
+
+-- so has each of a log of entries
+pub short_log_length : (es : List Entry) → All IsValidEntry es → log_length es [] ≤ 9 + 72 * length es
+short_log_length es valid =
+    let few = sum_by-le (λ (e : Entry). 1 + length (entry_spelling e)) 72 es
+    (λ k d l. short_block _ (valid k d l)) in
+    omega (arith, few)
 
 -- a record takes one place of its kind
 pub length-with_entry : (r : Record) (es : List Entry) → length (with_entry r es) ≡ length es + as_entry r

@@ -71,6 +71,13 @@ pub images_told : (es : List Entry) (vs : List Vote) (told : Option (List Call))
 images_told es vs None is = tt
 images_told es vs (Some calls) is = settled_images es vs calls is
 
+-- and where neither its calls nor what is on the log has changed
+pub images_still : (es es' : List Entry) (vs vs' : List Vote) (told new : Option (List Call))
+    → IfSome told (IsSettled es vs) → new ≡ told → es' ≡ es → vs' ≡ vs
+    → IfSome new (λ calls. AllImages (run calls) (λ image. StandsFor image es' vs'))
+images_still es es' vs vs' told new is same entries votes =
+    rw (same, entries, votes) (images_told es vs told is)
+
 pub reaches_end : (es : List Entry) (vs : List Vote) (told : Option (List Call)) (len : ℕ)
     → len ≡ log_length es vs → IfSome told (IsSettled es vs)
     → IfSome told (λ calls. len ≤ length (content_after calls))

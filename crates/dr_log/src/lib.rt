@@ -16,5 +16,5 @@ mod parsing;
 mod records;
 
 pub use fault::{LogFault, MountFault, MountWhy};
-pub use laws::bytes_have_one_meaning;
+pub use laws::{blocks_are_short, bytes_have_one_meaning};
 pub use log::Log;

@@ -120,6 +120,9 @@ impl<D: Disk> Log<D> {
         }) }
         ensures err { OnErr result (self.new ≡ record self.old { disk = self.new.disk }) }
         ensures told { D.told self.new.disk ≡ D.told self.old.disk }
+        // Where no append has failed, each crash leaves what is on the log.
+        ensures safe { self.old.failed ≡ false → IfSome (D.told self.new.disk) (λ calls.
+            AllImages (run calls) (λ image. StandsFor image self.new.entries self.new.votes)) }
         ensures faults { D.faults self.new.disk ≡ D.faults self.old.disk }
     {
         let spare_entries = self.spare_entries.max(entries);
