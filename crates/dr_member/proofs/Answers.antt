@@ -32,6 +32,7 @@ pub record IsFateAfter (r : Running) (s : Step) (fate : Fate) : Type 0 where
   pub crashes : fate.crashes ≡ r.crashes
   pub suspicions : fate.suspicions ≡ r.suspicions
   pub pushes : fate.pushes ≡ pushes_after r.pushes s
+  pub failed : fate.failed ≡ r.failed
 
 pub fate_stays : (replica : Replica) (fate : Fate) (place : Place) (s : Step)
     → fate.pushes ≡ pushes_after fate.pushes s → IsFateAfter (standing replica fate place) s fate
@@ -41,18 +42,20 @@ fate_stays replica fate place s e = record {
   crashes = refl;
   suspicions = refl;
   pushes = e;
+  failed = refl;
 }
 
 pub fate_of_act : (replica : Replica) (fate : Fate) (place : Place) (a : Act) (turn : ℕ)
     → IsFateAfter (standing replica fate place) (steps.Do a) (fate_after fate a turn)
 fate_of_act replica fate place acts.Beat turn =
-    record { limit = refl; patience = refl; crashes = refl; suspicions = refl; pushes = refl }
+    record { limit = refl; patience = refl; crashes = refl; suspicions = refl; pushes = refl; failed = refl }
 fate_of_act replica fate place a turn = record {
   limit = refl;
   patience = refl;
   crashes = refl;
   suspicions = refl;
   pushes = refl;
+  failed = refl;
 }
 
 -- what the code has done at a member r that was due to take step s, which saw this word
@@ -78,6 +81,7 @@ is_took word r s q fate from t = (λ z. record {
   crashes = t.told.crashes z;
   suspicions = t.told.suspicions z;
   pushes = t.told.pushes z;
+  failed = t.told.failed z;
 }) ∙ ap (took word r) (sym t.due)
 
 pub is_done : (word : ℕ) (r : Running) (s : Step) (q : Replica) (fate : Fate) (from : Place)

@@ -8,13 +8,14 @@ use Rattle.dr_machine.specs.declared.step.Step.{Step}
 use Rattle.dr_machine.specs.declared.step.Step.TheVariants as steps
 use Rattle.dr_program.specs.declared.deed.Deed.{Deed}
 use Rattle.dr_program.specs.declared.deed.Deed.TheVariants as deeds
+use Rattle.dr_program.specs.declared.outcome.LogWhy.{LogWhy}
 use Rattle.dr_program.specs.declared.place.Part.{Part}
 use Rattle.dr_program.specs.declared.place.Part.TheVariants as parts
 use Rattle.dr_program.specs.Acts.{may}
 use Rattle.dr_program.specs.Replica.{is_other, may_append}
 use Rattle.dr_program.specs.Steps.{allows, has_cell}
 use Rattle.dr_program.specs.Turn.{part_of}
-use Rattle.dr_program.specs.Running.{Running, asks, columns, crashes_now, deed, deed_of, members, next_deed, next_step, push_or_crash, step_at}
+use Rattle.dr_program.specs.Running.{Running, append_or_end, asks, columns, crashes_now, deed, deed_of, members, next_deed, next_step, push_or_crash, step_at}
 use Rattle.dr_program.specs.Reading.{step_due, step_of_member}
 use Rattle.dr_program.specs.Sight.{IsSeenNext, MaySee}
 use Rattle.dr_program.specs.Form.{IsRunningMember}
@@ -43,19 +44,17 @@ push_part r parts.Push i c e = (refl, by (crashes_now r) refl e)
         → crashes_now r ≡ false
     by true same e = absurd (cc)
     by false same e = same
+push_part r parts.Append i c e = absurd (by r.failed e)
+  where
+    by : (o : Option LogWhy) → is_push (deed_of r (append_or_end o)) ≡ true → ⊥
+    by None e = cc
+    by (Some why) e = cc
 push_part r part i c e = absurd (cc)
 
-append_part : (r : Running) (part : Part) (i c : ℕ) → is_append (deed_of r (step_at r part i c)) ≡ true
-    → part ≡ parts.Append
-append_part r parts.Append i c e = refl
-append_part r parts.Push i c e = absurd (by (crashes_now r) e)
-  where
-    by : (b : Bool)
-        → is_append (deed_of r (push_or_crash b i c)) ≡ true
-        → ⊥
-    by true e = cc
-    by false e = cc
-append_part r part i c e = absurd (cc)
+-- only an append's deed is one
+append_step : (r : Running) (s : Step) → is_append (deed_of r s) ≡ true → s ≡ steps.Append
+append_step r steps.Append e = refl
+append_step r s e = absurd (cc)
 
 -- ---- what is known where a deed of a kind is due
 
@@ -103,6 +102,11 @@ look_part r parts.Push i c word may = absurd (by (crashes_now r) may)
         → MaySee r (Some (push_or_crash b i c)) word → ⊥
     by true may = may
     by false may = may
+look_part r parts.Append i c word may = absurd (by r.failed may)
+  where
+    by : (o : Option LogWhy) → MaySee r (Some (append_or_end o)) word → ⊥
+    by None may = may
+    by (Some why) may = may
 look_part r parts.Receive i c word may = absurd may
 look_part r part i c word may = absurd may
 
@@ -166,8 +170,7 @@ pub record IsAppendDue (r : Running) : Type 0 where
 pub append_due : (r : Running) → IsRunningMember r → is_append (next_deed r) ≡ true → IsAppendDue r
 append_due r m e =
     let due = deed_due is_append (λ end. refl) r e in
-    let step : next_step r ≡ steps.Append = ap (λ x. step_at r x r.place.row r.place.column)
-    (append_part r (part_of r.place) r.place.row r.place.column due.1) in
+    let step : next_step r ≡ steps.Append = append_step r (next_step r) due.1 in
     record { none = due.0; step = step; may = allowed r m due.0 steps.Append step }
 
 -- the next deed is an act

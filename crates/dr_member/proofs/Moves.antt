@@ -178,7 +178,14 @@ push_taken replica q fate p n t word l = record {
   grown = l.grown;
   place = behind replica q p parts.Push l.due.at (ap (λ (x : Replica). x.roster) l.after)
       (ap (λ (x : Replica). x.window) l.after) refl;
-  told = record { limit = refl; patience = refl; crashes = refl; suspicions = refl; pushes = l.pushes };
+  told = record {
+    limit = refl;
+    patience = refl;
+    crashes = refl;
+    suspicions = refl;
+    pushes = l.pushes;
+    failed = refl;
+  };
 }
 
 -- the search from the next column goes by the columns up to t

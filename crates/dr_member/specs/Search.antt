@@ -17,6 +17,7 @@ standing replica fate place = record {
   crashes = fate.crashes;
   suspicions = fate.suspicions;
   pushes = fate.pushes;
+  failed = fate.failed;
 }
 
 -- what comes after the row of this place

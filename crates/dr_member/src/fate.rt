@@ -1,16 +1,17 @@
-//! What is to become of a member by its script.
-ghost use Rattle.std.specs.Prelude.{◌≡◌, ◌^◌, ◌<◌};
+//! What is to become of a member: by its script, and by its log.
+ghost use Rattle.std.specs.Prelude.{◌≡◌, ◌^◌, ◌<◌, None};
 ghost use Rattle.dr_program.specs.declared.place.Place.{Place};
-ghost use Rattle.dr_program.specs.Running.{crashes_in_turn, crashes_now};
+ghost use Rattle.dr_program.specs.Running.{crashes_in_turn, crashes_now, end_by};
 ghost use Rattle.dr_member.specs.Fate.{IsTimely, fate_after, first_push, is_push_now, with_point};
 ghost use Rattle.dr_member.specs.Search.{standing};
 
-use dr_entry::Seq;
+use dr_entry::{End, Seq};
 use dr_machine::Act;
-use dr_program::{CrashPoint, Suspicion};
+use dr_program::{CrashPoint, LogWhy, Suspicion};
 use dr_replica::Replica;
 
-/// What the script has in store for a member, and how far it has come in this turn.
+/// What the script has in store for a member, how far it has come in this turn, and whether its log has
+/// failed.
 #[derive(Drop)]
 pub(crate) struct Fate {
     /// The turns after which it ends.
@@ -25,6 +26,8 @@ pub(crate) struct Fate {
     pub pushes: u32,
     /// The least push of this turn at which it crashes, if at any.
     pub crash: Option<u32>,
+    /// Why an append to its log failed, if one did.
+    pub failed: Option<LogWhy>,
 }
 
 impl Fate {
@@ -42,6 +45,7 @@ impl Fate {
           suspicions = suspicions;
           pushes = 0;
           crash = first_push 0 crashes;
+          failed = None;
         } }
         ensures small { result.limit < 2 ^ 32 }
     {
@@ -53,6 +57,7 @@ impl Fate {
             suspicions,
             pushes: 0,
             crash,
+            failed: None,
         }
     }
 
@@ -109,5 +114,15 @@ fn with_point(first: Option<u32>, point: CrashPoint, turn: u32) -> Option<u32>
         _ if point.turn != turn => first,
         Some(push) if push <= point.push => first,
         _ => Some(point.push),
+    }
+}
+
+/// The end of a member whose log failed so.
+pub(crate) fn end_by(why: LogWhy) -> End
+    ensures { result ≡ end_by why }
+{
+    match why {
+        LogWhy::DiskFault => End::DiskFault,
+        LogWhy::LogFull { len } => End::LogFull { len },
     }
 }

@@ -11,6 +11,6 @@ mod laws;
 mod member;
 mod search;
 
-pub use dr_program::{Deed, Setup};
+pub use dr_program::{Deed, LogWhy, Setup};
 pub use laws::a_look_may_see_what_has_grown;
 pub use member::Member;

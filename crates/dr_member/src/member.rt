@@ -1,9 +1,11 @@
-ghost use Rattle.std.specs.Prelude.{◌≡◌, ◌<◌, ◌≤◌, ℕ, true, IfOk, Some, is_some};
+ghost use Rattle.std.specs.Prelude.{◌≡◌, ◌-◌, ◌<◌, ◌≤◌, ℕ, true, IfOk, Some, is_some};
+ghost use Rattle.dr_machine.specs.declared.event.Act.TheVariants.{Crash};
+ghost use Rattle.dr_machine.specs.declared.step.Step.TheVariants.{Do};
 ghost use Rattle.dr_program.specs.Form.{CanBegin, IsRunningMember};
 ghost use Rattle.dr_program.specs.Program.{end_of};
 ghost use Rattle.dr_program.specs.Reading.{step_of_member};
 ghost use Rattle.dr_program.specs.Replica.{me};
-ghost use Rattle.dr_program.specs.Running.{after_step, begun_running, columns, crashes_now, deed_of, members, next_deed, push_or_crash};
+ghost use Rattle.dr_program.specs.Running.{after_step, begun_running, broken_off, columns, crashes_now, deed_of, end_by, members, next_deed, next_step, push_or_crash};
 ghost use Rattle.dr_program.specs.Schedule.{is_between_turns};
 ghost use Rattle.dr_program.specs.Sight.{MaySee};
 ghost use Rattle.dr_program.specs.Steps.{index_in};
@@ -15,7 +17,7 @@ use crate::fate::Fate;
 use crate::search::{go, leave_row, next_changed, settle, step_at};
 use dr_entry::{End, Entry, MemberEnd, Record, Seq};
 use dr_machine::Step;
-use dr_program::{Deed, PARTS, Place, Setup};
+use dr_program::{Deed, LogWhy, PARTS, Place, Setup};
 use dr_replica::Replica;
 use dr_words::BEAT_COLUMN;
 use std::alloc::{AllocError, Global};
@@ -32,9 +34,9 @@ const BEAT: u8 = PARTS as u8 - 1;
 ///
 /// It goes through its turn place by place, and stands at a place at which there is something to do:
 /// [`Member::next`] says what. Whoever runs the member does that, and then calls the method that
-/// takes note of it: [`Member::looked`], [`Member::pushed`], [`Member::acted`] or
-/// [`Member::appended`]. Each of these leaves the member with fewer deeds to do, so it comes to its
-/// end.
+/// takes note of it: [`Member::looked`], [`Member::pushed`], [`Member::acted`], and
+/// [`Member::appended`] or [`Member::append_failed`]. Each of these leaves the member with fewer
+/// deeds to do, so it comes to its end.
 #[derive(Drop)]
 pub struct Member {
     replica: Replica,
@@ -192,6 +194,20 @@ impl Member {
         settle(&self.replica, &self.fate, &mut self.place);
     }
 
+    /// Takes note that the append to its log failed, and why. Its next deed is its end.
+    #[inline(never)]
+    pub fn append_failed(&mut self, why: &LogWhy)
+        requires { is_append (next_deed self.old) ≡ true }
+        ensures after { self.new ≡ broken_off why.now self.old }
+        ensures form { IsRunningMember self.new }
+        ensures grown { HasGrownTo self.old self.new }
+        ensures falls { deeds_left self.new < deeds_left self.old }
+        ensures keeps { IsStill self.old self.new }
+        ensures ends { next_step self.new ≡ Do (Crash (end_by why.now)) }
+    {
+        self.fate.failed = Some(*why);
+    }
+
     /// How it ended; `None` exactly where it hasn't ended.
     pub fn end(&self) -> Option<End>
         ensures end { result ≡ self.now.replica.end }
@@ -240,6 +256,13 @@ impl Member {
         ensures { result ≡ self.now.replica.logged }
     {
         self.replica.logged()
+    }
+
+    /// How many entries more its log may get in this age.
+    pub fn appends_left(&self) -> usize
+        ensures { result ≡ self.now.replica.room - self.now.replica.logged }
+    {
+        self.replica.appends_left()
     }
 
     /// The number of entries that it reported durable.

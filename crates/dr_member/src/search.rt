@@ -1,7 +1,7 @@
 //! The search for the next place of a turn at which there is something to do.
 ghost use Rattle.std.specs.Prelude.{length, ◌≡◌, ℕ, ◌<◌, ◌≤◌, true, false, MatchOption};
 ghost use Rattle.dr_program.specs.declared.place.TheConstants.{TURN};
-ghost use Rattle.dr_program.specs.Running.{applies, goes, settled, step_of};
+ghost use Rattle.dr_program.specs.Running.{append_or_end, applies, goes, settled, step_of};
 ghost use Rattle.dr_program.specs.Turn.{IsIn, after, columns_in, part_of, rows_in};
 ghost use Rattle.dr_program.specs.Form.{HasForm};
 ghost use Rattle.dr_words.specs.Columns.{columns_of};
@@ -10,10 +10,10 @@ ghost use Rattle.dr_turn.specs.Search.{IsUnderway};
 ghost use Rattle.dr_member.specs.Fate.{IsTimely};
 ghost use Rattle.dr_member.specs.Search.{IsFirstDue, IsIdleTo, next_row, standing};
 
-use crate::fate::Fate;
+use crate::fate::{Fate, end_by};
 use dr_entry::End;
 use dr_machine::{Act, Step};
-use dr_program::{Part, Place, TURN};
+use dr_program::{LogWhy, Part, Place, TURN};
 use dr_replica::Replica;
 use dr_words::Shape;
 
@@ -83,7 +83,7 @@ fn applies(replica: &Replica, fate: &Fate, place: Place) -> bool
         Part::Look => replica.is_other(row),
         Part::Receive => replica.may_receive(row),
         Part::Do(act) => replica.may(act),
-        Part::Append => replica.may_append(),
+        Part::Append => fate.failed.is_some() || replica.may_append(),
         Part::Push => replica.is_other(row) && replica.has_changed(row, column),
         Part::Crash => fate.crashes_in_turn(),
         Part::Done => replica.all_done(),
@@ -111,7 +111,7 @@ pub(crate) fn step_at(replica: &Replica, fate: &Fate, place: Place) -> Step
     match part_of(place) {
         Part::Look => Step::Look { row, column },
         Part::Receive => Step::Do(Act::Receive { sender: row }),
-        Part::Append => Step::Append,
+        Part::Append => append_or_end(fate.failed),
         Part::Push if fate.crashes_now() => Step::Do(Act::Crash { end: End::Crashed }),
         Part::Push => Step::Push { to: row, column },
         Part::Crash => Step::Do(Act::Crash { end: End::Crashed }),
@@ -122,6 +122,16 @@ pub(crate) fn step_at(replica: &Replica, fate: &Fate, place: Place) -> Step
             },
         }),
         Part::Do(act) => Step::Do(act),
+    }
+}
+
+/// An append, or the end of a member whose append has failed.
+fn append_or_end(failed: Option<LogWhy>) -> Step
+    ensures { result ≡ append_or_end failed }
+{
+    match failed {
+        Some(why) => Step::Do(Act::Crash { end: end_by(why) }),
+        None => Step::Append,
     }
 }
 

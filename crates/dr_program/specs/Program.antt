@@ -16,7 +16,7 @@ use Rattle.dr_machine.specs.declared.step.Step.{Step}
 use Rattle.dr_machine.specs.declared.step.Step.TheVariants.{Append}
 use Rattle.dr_machine.specs.Group.{Group, banks, roster}
 use Rattle.dr_program.specs.Replica.{Replica}
-use Rattle.dr_program.specs.Running.{Running, begun_running, next_step, after_step}
+use Rattle.dr_program.specs.Running.{Running, begun_running, next_step, after_step, broken_off}
 use Rattle.dr_program.specs.Steps.{sight, stored}
 
 -- A program has a place for each member of the roster, at its number; whoever is absent stands there as one
@@ -49,6 +49,7 @@ next_sight table r = sight table r.replica (next_step r)
 -- a member after the append that is due, by its outcome
 abbrev pub appended_as : Outcome → Running → Running
 appended_as outcomes.Ok r = after_step 0 r
+appended_as (outcomes.Failed why) r = broken_off why r
 
 -- a member after the step that is due, with the word that it sees: after an append by its outcome
 abbrev pub after_deed : ℕ → Outcome → Running → Step → Running

@@ -72,9 +72,10 @@ step_due r (Some end) = None
 abbrev pub step_of_member : Running → Option Step
 step_of_member r = step_due r r.replica.end
 
--- the step of the machine that an append comes to, by its outcome
+-- the step of the machine that an append comes to, by its outcome: none where it failed
 abbrev pub append_by : Outcome → Option Step
 append_by outcomes.Ok = Some steps.Append
+append_by (outcomes.Failed why) = None
 
 -- the step of the machine that a due step comes to: an append by its outcome, any other as it is
 abbrev pub comes_to : Option Step → Outcome → Option Step

@@ -8,6 +8,8 @@ use Rattle.dr_entry.specs.declared.end.End.{End}
 use Rattle.dr_entry.specs.declared.end.End.TheVariants as ends
 use Rattle.dr_rows.specs.Words.{own, changed}
 use Rattle.dr_words.specs.Columns.{columns_of}
+use Rattle.dr_program.specs.declared.outcome.LogWhy.{LogWhy}
+use Rattle.dr_program.specs.declared.outcome.LogWhy.TheVariants as whys
 use Rattle.dr_program.specs.declared.setup.CrashPoint.{CrashPoint}
 use Rattle.dr_program.specs.declared.setup.Setup.{Setup}
 use Rattle.dr_program.specs.declared.setup.Suspicion.{Suspicion}
@@ -39,6 +41,8 @@ pub record Running : Type 0 where
   pub suspicions : List Suspicion
   -- how many pushes it has done in this turn
   pub pushes : ℕ
+  -- why an append to its log failed, if one did: its next act is its end
+  pub failed : Option LogWhy
 
 -- a member as its age opens, before its first deed
 abbrev pub begun_running : Setup → Running
@@ -50,6 +54,7 @@ begun_running s = record {
   crashes = s.crashes;
   suspicions = s.suspicions;
   pushes = 0;
+  failed = None;
 }
 
 -- a crash point names this turn, and just this push of it
@@ -70,11 +75,21 @@ crashes_in_turn r = list_any (is_in_turn r.replica.turns) r.crashes
 abbrev pub push_or_crash : Bool → ℕ → ℕ → Step
 push_or_crash crashes i c = if crashes then steps.Do (acts.Crash ends.Crashed) else steps.Push i c
 
+-- the end of a member whose append failed
+abbrev pub end_by : LogWhy → End
+end_by whys.DiskFault = ends.DiskFault
+end_by (whys.LogFull len) = ends.LogFull len
+
+-- an append, or the end of a member whose append has failed
+abbrev pub append_or_end : Option LogWhy → Step
+append_or_end None = steps.Append
+append_or_end (Some why) = steps.Do (acts.Crash (end_by why))
+
 -- the step that is due at a part of the turn, in a row and a column of it
 abbrev pub step_at : Running → Part → ℕ → ℕ → Step
 step_at r parts.Look i c = steps.Look i c
 step_at r parts.Receive i c = steps.Do (acts.Receive i)
-step_at r parts.Append i c = steps.Append
+step_at r parts.Append i c = append_or_end r.failed
 step_at r parts.Push i c = push_or_crash (crashes_now r) i c
 step_at r parts.Crash i c = steps.Do (acts.Crash ends.Crashed)
 step_at r parts.Done i c = steps.Do (acts.Halt ends.Done)
@@ -145,6 +160,10 @@ next_step r = step_of r r.place
 
 abbrev pub after_step : ℕ → Running → Running
 after_step word r = settled (took word r (next_step r))
+
+-- the member after an append that failed: it stays where it is
+abbrev pub broken_off : LogWhy → Running → Running
+broken_off why r = record r { failed = Some why }
 
 -- the deed that a step is: what is done to the table or to the log
 abbrev pub deed_of : Running → Step → Deed

@@ -14,6 +14,6 @@ mod setup;
 
 pub use deed::Deed;
 pub use laws::{deeds_follow_one_another, programs_begin_at_the_opening};
-pub use outcome::Outcome;
+pub use outcome::{LogWhy, Outcome};
 pub use place::{PARTS, Part, Place, TURN};
 pub use setup::{CrashPoint, Setup, Suspicion};

@@ -1,13 +1,15 @@
--- In a world that is reached nobody takes more items of a member than it has messages, and a history always
--- has room for what may be
--- delivered.
+-- In a world that is reached nobody takes more items of a member than it has messages, a history always has
+-- room for what may be delivered, and it is never longer than the first entries and the messages that the
+-- script can give.
 use Rattle.std.proofs.Common.{◌≡◌, refl, sym, ap, ◌∙◌, ℕ, zero, suc, ◌+◌, ◌*◌, ◌<◌, ◌≤◌, inl, inr, Bool, true, false, if◌then◌else◌, max, List, [], ◌∷◌, length, map, fold, slice_index, arith, length-append}
 use Rattle.std.specs.Prelude.{not}
 use Rattle.std.proofs.lemmas.Bool.{cases_lt}
 use Rattle.std.proofs.lemmas.List.{length-map, get_or_past}
 use Rattle.std.proofs.Math.Nat.{mul-le-mul, mul_comm}
+use Rattle.std.proofs.Math.ListN.{get_or-map}
 use Rattle.dr_history.proofs.MemberLemmas.{length_members_below}
 use Rattle.dr_entry.specs.declared.entry.Entry.TheVariants.{View}
+use Rattle.dr_entry.specs.declared.limits.TheConstants.{MAX_MEMBERS, MAX_MESSAGES}
 use Rattle.dr_history.specs.Members.{has, members_below, members_of}
 use Rattle.dr_history.specs.Places.{front_of, is_held}
 use Rattle.dr_history.specs.History.{messages_of}
@@ -24,11 +26,13 @@ use Rattle.dr_machine.specs.World.{World, count_of, shown}
 use Rattle.dr_machine.specs.Guards.{CanReceive, CanDeliver}
 use Rattle.dr_machine.specs.Acts.{effect}
 use Rattle.dr_machine.specs.Run.{IsReached}
-use Rattle.dr_program.specs.Replica.{Replica, count, greatest, view_of}
+use Rattle.dr_program.specs.Replica.{Replica, count, greatest}
 use Rattle.dr_program.specs.Reading.{world_of}
 use Rattle.dr_machine.proofs.Runs.{reached_effect}
 use Rattle.dr_program.proofs.Holdings.{held_of}
-use Rattle.dr_program.proofs.OpeningForm.{fold_max_within}
+use Rattle.dr_program.proofs.OpeningForm.{fold_max_within, greatest_within}
+use Rattle.dr_faithful.specs.Faithful.{Faithful}
+use Rattle.dr_faithful.specs.Tells.{Views}
 use Rattle.dr_faithful.proofs.Faithfulness.{faithful}
 use Rattle.dr_refine.specs.Programs.{IsMember}
 use Rattle.dr_refine.proofs.Members.{shown_seen}
@@ -96,14 +100,18 @@ front_bounded counts n most few small =
     let product : length counts * fold max 0 counts ≤ n * most = mul-le-mul few small in
     omega (arith, within, product)
 
-received_bounded : (r : Replica) (n : ℕ) → IsInRoster n r.members
-    → ((s : ℕ) → count r s ≤ greatest r.totals)
-    → front_of (map (slice_index r.counts) (view_of r)) ≤ n * greatest r.totals
+-- nor is the front of what a member has of the items of such a mask
+front_of_roster : (mask n most : ℕ) (counts : ℕ → ℕ) → IsInRoster n mask
+    → ((s : ℕ) → counts s ≤ most) → front_of (map counts (members_of mask)) ≤ n * most
 unfolding members_of
-received_bounded r n inside bounded =
-    front_bounded (map (slice_index r.counts) (view_of r)) n (greatest r.totals)
-    (rw (length-map (view_of r) (slice_index r.counts)) (few_of_roster r.members n 16 inside))
-    (fold_max_within (slice_index r.counts) (view_of r) 0 (greatest r.totals) (omega arith) bounded)
+front_of_roster mask n most counts inside bounded =
+    front_bounded (map counts (members_of mask)) n most
+    (rw (length-map (members_of mask) counts) (few_of_roster mask n 16 inside))
+    (fold_max_within counts (members_of mask) 0 most (omega arith) bounded)
+
+-- what every history begins with is the start and one View
+first_length : (g : Group) → length (first_entries g.opening) ≡ length g.opening.start + 1
+first_length g = length-append g.opening.start (View g.opening.age 0 g.opening.members ∷ [])
 
 -- a replica that may deliver has room: its history has one entry of a place at most
 pub deliver_bounded : (g : Group) (rs : List Replica) (table : List ℕ) (m : ℕ) (r : Replica)
@@ -125,10 +133,8 @@ deliver_bounded g rs table m r is room reached can =
     let word : shown w m m RECEIVED_COLUMN
     ≡ own r.rows RECEIVED_COLUMN = shown_seen g rs table m r m RECEIVED_COLUMN is.there is.of.number
     ∙ ap (λ i. seen r.rows i RECEIVED_COLUMN) (sym is.of.number) in
-    let front = received_bounded r r.roster is.form.roster is.form.bounded in
-    let start : length (first_entries g.opening)
-    ≡ length g.opening.start + 1 =
-    length-append g.opening.start (View g.opening.age 0 g.opening.members ∷ []) in
+    let front = front_of_roster r.members r.roster (greatest r.totals) (slice_index r.counts) is.form.roster
+    is.form.bounded in
     let turned : r.roster * greatest r.totals
     ≡ greatest r.totals * roster g = mul_comm r.roster (greatest r.totals)
     ∙ ap (λ n. greatest r.totals * n) is.of.members in
@@ -141,8 +147,58 @@ deliver_bounded g rs table m r is room reached can =
       word,
       is.form.received,
       front,
-      start,
+      first_length g,
       turned,
       room,
       is.group.some_member,
     )
+
+-- ---- histories
+
+-- how many messages the script gives each member of the roster
+abbrev messages_each : Group → List ℕ
+messages_each g = map length g.opening.messages
+
+each_is : (g : Group) (s : ℕ) → slice_index (messages_each g) s ≡ length (messages_of g.opening s)
+each_is g s = get_or-map length g.opening.messages s []
+
+-- a member delivers places before the front of what it has received
+next_bounded : (g : Group) (V : Views) (w : World) (m : ℕ) → Faithful g V w → m < roster g
+    → w.next m ≤ roster g * greatest (messages_each g)
+next_bounded g V w m f l =
+    let v = w.past.view m in
+    let present = f.beginning.all m l in
+    let few : (s : ℕ) → w.past.count m v s ≤ greatest (messages_each g) = λ s.
+    let some = f.counts.few m v s in
+    omega (arith, some.1, each_is g some.0, greatest_at (messages_each g) some.0) in
+    omega (
+      arith,
+      f.delivered.held m m present (f.views.present m present),
+      f.counts.received m v,
+      front_of_roster (V v) (roster g) (greatest (messages_each g)) (w.past.count m v)
+          (f.views.within v) few,
+    )
+
+-- so a history has no more than the first entries and the messages that the script can give the roster
+pub history_bounded : (g : Group) (w : World) (m : ℕ) → IsGroup g → IsReached g w → m < roster g
+    → length (w.past.history m)
+    ≤ length g.opening.start + 1 + greatest (messages_each g) * roster g
+history_bounded g w m is reached l =
+    let f = faithful g w is reached in
+    omega (
+      arith,
+      f.delivered.short m,
+      first_length g,
+      next_bounded g _ w m f l,
+      mul_comm (roster g) (greatest (messages_each g)),
+    )
+
+-- no script gives more
+pub history_small : (g : Group) (w : World) (m : ℕ) → IsGroup g → IsReached g w → m < roster g
+    → length (w.past.history m) ≤ length g.opening.start + 1 + MAX_MESSAGES * MAX_MEMBERS
+history_small g w m is reached l =
+    let each : greatest (messages_each g) ≤ MAX_MESSAGES =
+    greatest_within (messages_each g) 0 MAX_MESSAGES
+    (omega arith) (λ s. omega (arith, each_is g s, is.messages s)) in
+    let product = mul-le-mul each is.most_members in
+    omega (arith, history_bounded g w m is reached l, product)

@@ -1,7 +1,8 @@
 -- The next deed of a running member is a step of the machine.
 use Rattle.std.proofs.Common.{◌≡◌, refl, sym, ap, ◌∙◌, subst, ℕ, zero, suc, ◌||◌, Bool, true, false, inl, if◌then◌else◌, List, [], ◌∷◌, ◌++◌, map}
-use Rattle.std.specs.Prelude.{Option, Some, None, is_some, slice_get, slice_set, option_map}
-use Rattle.std.proofs.lemmas.Option.{slice_get-map, same_Some}
+use Rattle.std.specs.Prelude.{Option, Some, None, is_some, slice_get, slice_index_or, slice_set, option_map}
+use Rattle.std.proofs.lemmas.List.{set-get_or}
+use Rattle.std.proofs.lemmas.Option.{get_or_from_slice_get, slice_get-map, same_Some}
 use Rattle.std.proofs.lemmas.Bool.{and_parts}
 use Rattle.dr_entry.specs.declared.end.End.{End}
 use Rattle.dr_machine.specs.declared.step.Step.{Step}
@@ -15,14 +16,13 @@ use Rattle.dr_machine.specs.Run.{Happens, IsReached}
 use Rattle.dr_program.specs.Replica.{Replica}
 use Rattle.dr_program.specs.declared.outcome.Outcome.{Outcome}
 use Rattle.dr_program.specs.declared.outcome.Outcome.TheVariants as outcomes
-use Rattle.dr_program.specs.Steps.{allows, stored}
-use Rattle.dr_program.specs.Running.{Running, applies, asks, moved, next_step, settle, settled, took}
+use Rattle.dr_program.specs.Steps.{allows, sight, stored}
+use Rattle.dr_program.specs.Running.{Running, after_step, applies, asks, moved, next_step, settle, settled, took}
 use Rattle.dr_program.specs.Turn.{part_of}
 use Rattle.dr_program.specs.Program.{Program, Move, after_deed, moved_by, next_sight, step_of, went}
 use Rattle.dr_program.specs.Reading.{comes_to, step_by, step_due, world, world_of}
 use Rattle.dr_machine.proofs.Events.{member_of_event, step_of_event}
 use Rattle.dr_machine.proofs.Runs.{run_on}
-use Rattle.dr_program.proofs.Runs.{after_ok}
 use Rattle.dr_refine.specs.Programs.{IsMember, IsProgram}
 use Rattle.dr_refine.proofs.Tests.{step_effect, step_guard}
 
@@ -92,38 +92,40 @@ pub step_is : (p : Program) (e : Move) (r : Running) → slice_get p.members e.m
     }
 step_is p e r there unended = ap (λ o. moved_by p o e) there ∙ ap (went p r e) unended
 
--- a deed whose append goes well is the step that is due
-pub deed_step : (g : Group) (p : Program) (m : ℕ) (r : Running) → IsGroup g → IsProgram g p
+-- a deed that takes the step that is due is that step
+pub deed_step : (g : Group) (p : Program) (m : ℕ) (o : Outcome) (r : Running) → IsGroup g → IsProgram g p
     → slice_get p.members m ≡ Some r → r.replica.end ≡ None
-    → IsStep g p (record { member = m; outcome = outcomes.Ok }) (next_step r)
-deed_step g p m r group is there unended =
+    → after_deed (next_sight p.table r) o r (next_step r) ≡ after_step (next_sight p.table r) r
+    → IsStep g p (record { member = m; outcome = o }) (next_step r)
+deed_step g p m o r group is there unended takes =
     let member = program_member g p m r group is there in
     let may = due_allowed r ((is.form m r there).due unended) in (
       ((step_guard g (replicas p.members) p.table m r.replica (next_step r) member unended).0 may).0,
-      ap (world g) (step_is p (record { member = m; outcome = outcomes.Ok }) r there unended)
+      ap (world g) (step_is p (record { member = m; outcome = o }) r there unended)
           ∙ ap (λ x. world g (record
-          { members = slice_set p.members m x; table = stored p.table r.replica (next_step r) }))
-          (after_ok p.table r (next_step r))
+          { members = slice_set p.members m x; table = stored p.table r.replica (next_step r) })) takes
           ∙ settled_world g p.members (stored p.table r.replica (next_step r)) m
           (took (next_sight p.table r) r (next_step r))
           ∙ step_effect g (replicas p.members) p.table m r.replica (next_step r) member may,
     )
 
--- the step that a due one comes to, where the append goes well
-came_ok : (s : Step) → comes_to (Some s) outcomes.Ok ≡ Some s
-came_ok Append = refl
-came_ok (Do a) = refl
-came_ok s = refl
+-- what comes to a step is the step that is due, and is taken
+came_to : (table : List ℕ) (o : Outcome) (r : Running) (due s : Step) → comes_to (Some due) o ≡ Some s
+    → (due ≡ s) × (after_deed (sight table r.replica due) o r due ≡ after_step (sight table r.replica due) r)
+came_to table outcomes.Ok r Append s came = (same_Some Append s came, refl)
+came_to table (outcomes.Failed why) r Append s came = absurd (cc)
+came_to table o r (Do a) s came = (same_Some (Do a) s came, refl)
+came_to table o r due s came = (same_Some due s came, refl)
 
 -- by the outcome
 outcome_step : (g : Group) (p : Program) (m : ℕ) (r : Running) (o : Outcome) (s : Step) → IsGroup g
     → IsProgram g p → slice_get p.members m ≡ Some r
     → r.replica.end ≡ None → comes_to (Some (next_step r)) o ≡ Some s
     → IsStep g p (record { member = m; outcome = o }) s
-outcome_step g p m r outcomes.Ok s group is there unended came =
-    subst (IsStep g p (record { member = m; outcome = outcomes.Ok }))
-    (same_Some (next_step r) s (sym (came_ok (next_step r)) ∙ came))
-    (deed_step g p m r group is there unended)
+outcome_step g p m r o s group is there unended came =
+    let taken = came_to p.table o r (next_step r) s came in
+    subst (IsStep g p (record { member = m; outcome = o })) taken.0
+    (deed_step g p m o r group is there unended taken.1)
 
 -- the deed of a member is the step of its place
 pub deed_is_step : (g : Group) (p : Program) (e : Move) (r : Running) (s : Step) → IsGroup g
@@ -145,11 +147,14 @@ rest_changes_nothing p e r there rests = by r.replica.end refl rests
     by None ended t = absurd (cc)
     by (Some x) ended t = ap (λ o. moved_by p o e) there ∙ ap (went p r e) ended
 
--- an append always comes to an event, so far
-came_to_some : (s : Step) (o : Outcome) → comes_to (Some s) o ≡ None → ⊥
-came_to_some Append outcomes.Ok e = absurd (cc)
-came_to_some (Do a) o e = absurd (cc)
-came_to_some s o e = absurd (cc)
+-- what comes to no step is an append that failed: it leaves the replica and the table
+fails_alone : (table : List ℕ) (o : Outcome) (r : Running) (due : Step) → comes_to (Some due) o ≡ None
+    → ((after_deed (sight table r.replica due) o r due).replica ≡ r.replica)
+    × (stored table r.replica due ≡ table)
+fails_alone table (outcomes.Failed why) r Append none = (refl, refl)
+fails_alone table outcomes.Ok r Append none = absurd (cc)
+fails_alone table o r (Do a) none = absurd (cc)
+fails_alone table o r due none = absurd (cc)
 
 -- a move that is no step leaves the world
 pub no_step_no_change : (g : Group) (p : Program) (e : Move) (r : Running) → slice_get p.members e.member
@@ -157,9 +162,24 @@ pub no_step_no_change : (g : Group) (p : Program) (e : Move) (r : Running) → s
     → world g (step_of p e) ≡ world g p
 no_step_no_change g p e r there named = by r.replica.end refl named
   where
+    after : Running
+    after = after_deed (next_sight p.table r) e.outcome r (next_step r)
+
+    held : slice_index_or (replicas p.members) e.member r.replica ≡ r.replica
+    held = get_or_from_slice_get (replicas p.members) e.member r.replica r.replica
+        (slice_get-map (λ (x : Running). x.replica) p.members e.member
+        ∙ ap (option_map (λ (x : Running). x.replica)) there)
+
     by : (o : Option End) → r.replica.end ≡ o → comes_to (step_due r o) e.outcome ≡ None
         → world g (step_of p e) ≡ world g p
-    by None unended none = absurd (came_to_some (next_step r) e.outcome none)
+    by None unended none =
+        let alone = fails_alone p.table e.outcome r (next_step r) none in
+        ap (world g) (step_is p e r there unended)
+        ∙ ap (λ cells. world g (record
+        { members = slice_set p.members e.member after; table = cells })) alone.1
+        ∙ ap (λ rs. world_of g rs p.table) (replicas_set p.members e.member after r.replica alone.0
+        ∙ sym (ap (slice_set (replicas p.members) e.member) held)
+        ∙ set-get_or (replicas p.members) e.member r.replica)
     by (Some x) ended none = ap (world g) (rest_changes_nothing p e r there (ap is_some ended))
 
 -- a step of a member is an event

@@ -12,7 +12,6 @@ use Rattle.dr_entry.specs.declared.end.End.{End}
 use Rattle.dr_machine.specs.declared.step.Step.{Step}
 use Rattle.dr_machine.specs.declared.step.Step.TheVariants.{Do, Push}
 use Rattle.dr_program.specs.declared.outcome.Outcome.{Outcome}
-use Rattle.dr_program.specs.declared.outcome.Outcome.TheVariants as outcomes
 use Rattle.dr_program.specs.Steps.{stepped, stored}
 use Rattle.dr_program.specs.Running.{Running, begun_running, next_step, settled, took}
 use Rattle.dr_program.specs.Program.{Program, Move, AreSetups, after_deed, begun_program, next_sight, step_of}
@@ -20,7 +19,7 @@ use Rattle.dr_program.specs.Form.{IsOf, IsRunningMember}
 use Rattle.dr_program.proofs.Fixed.{step_told, of_told}
 use Rattle.dr_program.proofs.Holdings.{replica_set, replica_kept}
 use Rattle.dr_program.proofs.OpeningForm.{begins_in_form}
-use Rattle.dr_program.proofs.Runs.{after_ok}
+use Rattle.dr_program.proofs.Runs.{after_either}
 use Rattle.dr_refine.specs.Programs.{IsProgram}
 use Rattle.dr_refine.proofs.Deeds.{rest_changes_nothing, settle_replica, step_is}
 
@@ -60,11 +59,12 @@ replaced_program g p m r cells is within form of same_length = record {
 -- a deed leaves the member the one that it was, however its append went
 of_deed : (g : Group) (m : ℕ) (table : List ℕ) (o : Outcome) (r : Running) → IsOf g m r.replica
     → IsOf g m (after_deed (next_sight table r) o r (next_step r)).replica
-of_deed g m table outcomes.Ok r of =
-    subst (λ (x : Running). IsOf g m x.replica) (sym (after_ok table r (next_step r)))
+of_deed g m table o r of =
+    after_either (λ (x : Running). IsOf g m x.replica) table o r (next_step r)
     (of_settled g m (took (next_sight table r) r (next_step r)) (of_told g m r.replica
     (stepped (next_sight table r) r.replica (next_step r))
     (step_told (next_sight table r) r.replica (next_step r)) of))
+    (λ why due. of)
 
 -- a move of a member that keeps its form
 pub step_kept : (g : Group) (p : Program) (e : Move) → IsProgram g p

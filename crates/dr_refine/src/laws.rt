@@ -1,9 +1,11 @@
 //! Laws that tie replicas and running members to the machine.
-ghost use Rattle.std.specs.Prelude.{◌≡◌, ◌↔◌, ℕ, ◌+◌, ◌*◌, ◌≤◌, true, List, length, is_some, slice_get, slice_set, Some, None};
+ghost use Rattle.std.specs.Prelude.{◌≡◌, ◌↔◌, ℕ, ◌+◌, ◌*◌, ◌≤◌, ◌<◌, true, List, length, map, is_some, slice_get, slice_set, Some, None};
+ghost use Rattle.dr_entry.specs.declared.limits.TheConstants.{MAX_MEMBERS, MAX_MESSAGES};
 ghost use Rattle.dr_machine.specs.declared.step.Step.{Step};
 ghost use Rattle.dr_program.specs.declared.setup.Setup.{Setup};
 ghost use Rattle.dr_machine.specs.Group.{Group, IsGroup, banks, roster};
 ghost use Rattle.dr_machine.specs.Acts.{CanTake, effect_of};
+ghost use Rattle.dr_machine.specs.World.{World};
 ghost use Rattle.dr_machine.specs.Run.{IsReached};
 ghost use Rattle.dr_program.specs.Replica.{Replica, greatest};
 ghost use Rattle.dr_program.specs.Steps.{allows, may_take, stepped_over, stored};
@@ -29,6 +31,16 @@ pub fn room_is_there()
         → IsMember g rs table m r
         → length g.opening.start + banks g + greatest r.totals * roster g ≤ r.room
         → IsReached g (world_of g rs table) → CanTake g (world_of g rs table) m s → HasRoomFor r s }
+{}
+
+/// In a reached world a history has no more entries than the start, View 0, and for each member of the
+/// roster as many messages as the script gives any of them.
+pub fn histories_are_bounded()
+    ensures script { (g : Group) (w : World) (m : ℕ) → IsGroup g → IsReached g w → m < roster g
+        → length (w.past.history m)
+        ≤ length g.opening.start + 1 + greatest (map length g.opening.messages) * roster g }
+    ensures limits { (g : Group) (w : World) (m : ℕ) → IsGroup g → IsReached g w → m < roster g
+        → length (w.past.history m) ≤ length g.opening.start + 1 + MAX_MESSAGES * MAX_MEMBERS }
 {}
 
 /// What a step makes of a replica and of the table is the effect of the step on the world that they

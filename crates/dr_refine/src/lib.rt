@@ -4,4 +4,6 @@
 
 mod laws;
 
-pub use laws::{deeds_are_steps, room_is_there, steps_are_effects, tests_are_guards};
+pub use laws::{
+    deeds_are_steps, histories_are_bounded, room_is_there, steps_are_effects, tests_are_guards,
+};

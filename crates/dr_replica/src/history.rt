@@ -73,6 +73,13 @@ impl History {
         self.messages[usize::from(member)]
     }
 
+    /// How many entries there is room for, together.
+    pub(crate) fn room(&self) -> usize
+        ensures { result ≡ self.now.room }
+    {
+        self.room
+    }
+
     /// Whether there is room for one more entry.
     #[inline]
     pub(crate) fn has_room(&self) -> bool

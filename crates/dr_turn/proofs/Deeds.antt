@@ -10,6 +10,7 @@ use Rattle.dr_words.specs.Columns.{columns_of}
 use Rattle.dr_machine.specs.declared.event.Act.TheVariants as acts
 use Rattle.dr_machine.specs.declared.step.Step.{Step}
 use Rattle.dr_machine.specs.declared.step.Step.TheVariants as steps
+use Rattle.dr_program.specs.declared.outcome.LogWhy.{LogWhy}
 use Rattle.dr_program.specs.declared.place.Part.{Part}
 use Rattle.dr_program.specs.declared.place.Part.TheVariants as parts
 use Rattle.dr_program.specs.declared.place.Place.{Place}
@@ -19,11 +20,11 @@ use Rattle.dr_machine.specs.Effects.{one_more}
 use Rattle.dr_program.specs.Turn.{after, is_beat, IsIn, part_of, places_in, rows_in, columns_in, turn_begins}
 use Rattle.dr_program.specs.Replica.{Replica}
 use Rattle.dr_program.specs.Steps.{NoWordFell, allows, stepped}
-use Rattle.dr_program.specs.Running.{Running, members, columns, asks, step_at, settled, goes, pushes_after, took, next_step, crashes_now, push_or_crash, after_step}
+use Rattle.dr_program.specs.Running.{Running, members, columns, asks, step_at, settled, goes, pushes_after, took, next_step, crashes_now, push_or_crash, append_or_end, end_by, after_step}
 use Rattle.dr_program.specs.Form.{HasForm, IsOf, IsRunningMember}
 use Rattle.dr_program.proofs.Fixed.{Told, told, step_told, of_told}
 use Rattle.dr_turn.specs.Search.{left, IsUnderway}
-use Rattle.dr_turn.specs.Work.{tasks, work, deeds_of, left_to, deeds_left, HasGrownTo, IsDone}
+use Rattle.dr_turn.specs.Work.{tasks, work, deeds_of, left_to, may_fail, deeds_left, HasGrownTo, IsDone}
 use Rattle.dr_turn.proofs.Fewer.{NoneRises, fewer_here, fewer_turns, sum_falls, sum_keeps}
 use Rattle.dr_turn.proofs.Order.{after_beat, beat_last, after_in, all_below, each_below, from_part, left_falls, left_small, left_some}
 use Rattle.dr_turn.proofs.Search.{part_before, settle_less, settle_only, settled_running, settled_underway, some_column, some_member}
@@ -106,14 +107,15 @@ lowers word r s f may form grown =
 
 -- ---- deeds
 
-lower : (r x : Running) → r.replica.end ≡ None → x.replica.end ≡ r.replica.end
+-- where both have no end, fewer are left by the numbers of members without one
+pub lower : (r x : Running) → r.replica.end ≡ None → x.replica.end ≡ r.replica.end
     → left_to x None < left_to r None → deeds_left x < deeds_left r
 lower r x none same h = subst (λ o. left_to x o < deeds_left r) (sym (same ∙ none))
     (subst (λ o. left_to x None < left_to r o) (sym none) h)
 
-some_deed : (turns places here work : ℕ) → 0 < here → 0 < deeds_of turns places here work
+some_deed : (turns places here work fails : ℕ) → 0 < here → 0 < deeds_of turns places here work + fails
 unfolding deeds_of
-some_deed turns places here work h = omega arith
+some_deed turns places here work fails h = omega arith
 
 -- an end
 over : (r x : Running) → r.replica.end ≡ None → IsUnderway r → (o : Option End) → x.replica.end
@@ -122,7 +124,7 @@ over : (r x : Running) → r.replica.end ≡ None → IsUnderway r → (o : Opti
 over r x none u o e zero_left =
     let some : 0 < left_to r None =
     some_deed (r.limit - r.replica.turns) (places_in (members r) (columns r) TURN)
-    (left (members r) (columns r) r.place) (work r.replica)
+    (left (members r) (columns r) r.place) (work r.replica) (may_fail r.failed)
     (left_some (members r) (columns r) r.place u.place) in
     subst (λ n. n < deeds_left r) (sym (ap (left_to x) e ∙ zero_left))
     (subst (λ o. 0 < left_to r o) (sym none) some)
@@ -256,6 +258,11 @@ turned word r parts.Push d = by (crashes_now r)
         ≤ r.limit
     by true = d.underway.turns
     by false = d.underway.turns
+turned word r parts.Append d = by r.failed
+  where
+    by : (o : Option LogWhy) → (stepped word r.replica (append_or_end o)).turns ≤ r.limit
+    by None = d.underway.turns
+    by (Some why) = d.underway.turns
 turned word r part d = d.underway.turns
 
 -- before a turn one more is left
@@ -347,7 +354,35 @@ fewer_push word r d less = by (crashes_now r) less
               after (members r) (columns r) r.place;
           pushes = one_more 32 r.pushes;
         }) d.none refl
-        (fewer_here (r.limit - r.replica.turns) _ _ _ _ _
+        (fewer_here (r.limit - r.replica.turns) _ _ _ _ _ _
+        (omega (
+          arith,
+          l,
+          left_falls (members r) (columns r) r.place d.underway.place
+              (part_before (members r) (columns r) r.place d.underway.place (ap is_beat d.at)),
+        )))
+
+-- an append, or the end in its place, leaves fewer deeds
+fewer_append : (word : ℕ) (r : Running) → IsDue word r parts.Append
+    → Lowers (step_at r parts.Append r.place.row r.place.column) (work r.replica)
+    (work (does_at word r parts.Append).replica)
+    → deeds_left (does_at word r parts.Append) < deeds_left r
+fewer_append word r d less = by r.failed less
+  where
+    after_append : Step → Running
+    after_append s = record r {
+      replica = stepped word r.replica s;
+      place = after (members r) (columns r) r.place;
+      pushes = pushes_after r.pushes s;
+    }
+
+    by : (o : Option LogWhy)
+        → Lowers (append_or_end o) (work r.replica) (work (stepped word r.replica (append_or_end o)))
+        → deeds_left (after_append (append_or_end o)) < deeds_left r
+    by (Some why) l = over r (after_append (append_or_end (Some why))) d.none d.underway
+        (Some (end_by why)) refl refl
+    by None l = lower r (after_append steps.Append) d.none refl
+        (fewer_here (r.limit - r.replica.turns) _ _ _ _ _ _
         (omega (
           arith,
           l,
@@ -361,25 +396,18 @@ fewer : (word : ℕ) (r : Running) (part : Part) → r.limit < 2 ^ 32 → IsDue 
     → deeds_left (does_at word r part) < deeds_left r
 fewer word r parts.Look fits d less =
     lower r (does_at word r parts.Look) d.none refl
-    (fewer_here (r.limit - r.replica.turns) _ _ _ _ _
+    (fewer_here (r.limit - r.replica.turns) _ _ _ _ _ _
     (omega (
       arith,
       less,
       left_falls (members r) (columns r) r.place d.underway.place
           (part_before (members r) (columns r) r.place d.underway.place (ap is_beat d.at)),
     )))
-fewer word r parts.Append fits d less = lower r (does_at word r parts.Append) d.none refl
-    (fewer_here (r.limit - r.replica.turns) _ _ _ _ _
-    (omega (
-      arith,
-      less,
-      left_falls (members r) (columns r) r.place d.underway.place
-          (part_before (members r) (columns r) r.place d.underway.place (ap is_beat d.at)),
-    )))
+fewer word r parts.Append fits d less = fewer_append word r d less
 fewer word r parts.Push fits d less = fewer_push word r d less
 fewer word r (parts.Do acts.Publish) fits d less = let at = published_at word r d in
     lower r (does_at word r (parts.Do acts.Publish)) d.none refl
-    (fewer_here (r.limit - r.replica.turns) _ _ _ _ _
+    (fewer_here (r.limit - r.replica.turns) _ _ _ _ _ _
     (omega (
       arith,
       less,
@@ -399,13 +427,13 @@ fewer word r parts.Spent fits d less = over r (does_at word r parts.Spent) d.non
 fewer word r (parts.Do acts.Beat) fits d less = let l = d.underway.left d.none d.at in
     lower r (does_at word r turn_begins) d.none refl
     (fewer_turns (r.limit - r.replica.turns) (r.limit - one_more 32 r.replica.turns)
-    (places_in (members r) (columns r) TURN) _ _ _ _
+    (places_in (members r) (columns r) TURN) _ _ _ _ _
     (omega (arith, one_turn r.replica.turns r.limit l fits, l))
     (left_small (members r) (columns r) (goes (members r) (columns r) turn_begins r.place)
     (goes_in word r turn_begins d)) less)
 fewer word r part fits d less =
     lower r (does_at word r part) d.none refl
-    (fewer_here (r.limit - r.replica.turns) _ _ _ _ _ (omega (arith, less)))
+    (fewer_here (r.limit - r.replica.turns) _ _ _ _ _ _ (omega (arith, less)))
 
 -- ---- every deed
 

@@ -42,21 +42,22 @@ items_less most counts s within below =
 
 -- ---- the search
 
--- fewer places and work together, with the same turns, are fewer deeds
-pub fewer_here : (turns places here here' todo todo' : ℕ) → here' + todo' < here + todo
-    → deeds_of turns places here' todo' < deeds_of turns places here todo
+-- fewer places and work together, with the same turns and failures, are fewer deeds
+pub fewer_here : (turns places here here' todo todo' fails : ℕ) → here' + todo' < here + todo
+    → deeds_of turns places here' todo' + fails < deeds_of turns places here todo + fails
 unfolding deeds_of
-fewer_here turns places here here' todo todo' h = omega arith
+fewer_here turns places here here' todo todo' fails h = omega arith
 
--- no more places, with the same turns and work, are no more deeds
-pub no_more_here : (turns places here here' todo : ℕ) → here' ≤ here
-    → deeds_of turns places here' todo ≤ deeds_of turns places here todo
+-- no more places, with the same turns, work and failures, are no more deeds
+pub no_more_here : (turns places here here' todo fails : ℕ) → here' ≤ here
+    → deeds_of turns places here' todo + fails ≤ deeds_of turns places here todo + fails
 unfolding deeds_of
-no_more_here turns places here here' todo h = omega arith
+no_more_here turns places here here' todo fails h = omega arith
 
 -- a turn fewer is worth all the places of one
-pub fewer_turns : (turns turns' places here' here todo todo' : ℕ) → turns' < turns → here' ≤ places
-    → todo' ≤ todo → deeds_of turns' places here' todo' < deeds_of turns places here todo
+pub fewer_turns : (turns turns' places here' here todo todo' fails : ℕ) → turns' < turns
+    → here' ≤ places → todo' ≤ todo
+    → deeds_of turns' places here' todo' + fails < deeds_of turns places here todo + fails
 unfolding deeds_of
-fewer_turns turns turns' places here' here todo todo' a b c =
+fewer_turns turns turns' places here' here todo todo' fails a b c =
     omega (arith, mul-add-lt turns' (places + 1) places turns a (omega arith))

@@ -4,3 +4,4 @@ pub mod Tasks
 pub mod Search
 pub mod Staying
 pub mod Deeds
+pub mod Failing

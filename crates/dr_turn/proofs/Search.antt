@@ -13,7 +13,7 @@ use Rattle.dr_program.specs.Running.{Running, members, columns, asks, step_at, a
 use Rattle.dr_program.specs.Steps.{allows}
 use Rattle.dr_program.specs.Form.{HasForm, IsRunningMember}
 use Rattle.dr_turn.specs.Search.{left, IsUnderway, Passed, here, on}
-use Rattle.dr_turn.specs.Work.{left_to, deeds_left, work}
+use Rattle.dr_turn.specs.Work.{left_to, deeds_left, may_fail, work}
 use Rattle.dr_turn.proofs.Fewer.{no_more_here}
 use Rattle.dr_turn.proofs.Order.{after_beat, after_in, left_falls, left_small, left_some}
 
@@ -192,7 +192,7 @@ settled_underway r u = (settle_due _ r u (left_small (members r) (columns r) r.p
 less_left : (r : Running) (o : Option End) → left (members r) (columns r) (moved r).place
     ≤ left (members r)
     (columns r) r.place → left_to (moved r) o ≤ left_to r o
-less_left r None h = no_more_here _ _ _ _ (work r.replica) h
+less_left r None h = no_more_here _ _ _ _ (work r.replica) (may_fail r.failed) h
 less_left r (Some x) h = le_refl 0
 
 -- the search leaves no more deeds than before

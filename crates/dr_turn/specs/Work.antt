@@ -1,6 +1,7 @@
 -- How much a running member still has to do at most: a number that each of its deeds lowers.
 use Rattle.std.specs.Prelude.{ℕ, ◌+◌, ◌*◌, ◌-◌, ◌^◌, ◌<◌, List, [], ◌∷◌, Option, None, Some, sum_by}
 use Rattle.dr_entry.specs.declared.end.End.{End}
+use Rattle.dr_program.specs.declared.outcome.LogWhy.{LogWhy}
 use Rattle.dr_program.specs.declared.place.TheConstants.{TURN}
 use Rattle.dr_program.specs.Turn.{places_in}
 use Rattle.dr_machine.specs.Group.{Group}
@@ -51,11 +52,16 @@ work r = sum_of tasks r
 unfoldable pub deeds_of : ℕ → ℕ → ℕ → ℕ → ℕ
 deeds_of turns places here work = turns * (places + 1) + here + work
 
+-- how many appends may still fail: one, unless one has
+abbrev pub may_fail : Option LogWhy → ℕ
+may_fail None = 1
+may_fail (Some why) = 0
+
 -- more deeds than a member still does
 abbrev pub left_to : Running → Option End → ℕ
 left_to r None =
     deeds_of (r.limit - r.replica.turns) (places_in (members r) (columns r) TURN)
-    (left (members r) (columns r) r.place) (work r.replica)
+    (left (members r) (columns r) r.place) (work r.replica) + may_fail r.failed
 left_to r (Some end) = 0
 
 abbrev pub deeds_left : Running → ℕ

@@ -1,7 +1,9 @@
 //! Laws of the turn.
 ghost use Rattle.std.specs.Prelude.{◌≡◌, ℕ, ◌^◌, ◌<◌, ◌≤◌, None, is_some, true};
+ghost use Rattle.dr_machine.specs.declared.step.Step.TheVariants.{Append};
+ghost use Rattle.dr_program.specs.declared.outcome.LogWhy.{LogWhy};
 ghost use Rattle.dr_program.specs.Form.{HasForm, IsRunningMember};
-ghost use Rattle.dr_program.specs.Running.{Running, after_step, applies, next_step, settled, took};
+ghost use Rattle.dr_program.specs.Running.{Running, after_step, applies, broken_off, next_step, settled, took};
 ghost use Rattle.dr_turn.specs.Search.{IsUnderway, Passed};
 ghost use Rattle.dr_turn.specs.Work.{HasGrownTo, IsDone, deeds_left};
 
@@ -19,7 +21,8 @@ pub fn the_search_goes_to_the_next_place()
 {}
 
 /// A running member stays one over each of its deeds, where its replica keeps its form. Where also no
-/// word falls and its turns are 32 bits, it then has fewer deeds to do.
+/// word falls and its turns are 32 bits, it then has fewer deeds to do. An append that fails is such a
+/// deed too.
 pub fn deeds_keep_members()
     ensures form { (word : ℕ) (r : Running) → IsRunningMember r → r.replica.end ≡ None
         → HasForm (took word r (next_step r)).replica → IsRunningMember (after_step word r) }
@@ -27,4 +30,8 @@ pub fn deeds_keep_members()
         ≡ None
         → HasForm (took word r (next_step r)).replica → HasGrownTo r (took word r (next_step r))
         → IsDone r (after_step word r) }
+    ensures failed_form { (why : LogWhy) (r : Running) → IsRunningMember r → r.replica.end ≡ None
+        → next_step r ≡ Append → IsRunningMember (broken_off why r) }
+    ensures failed_done { (why : LogWhy) (r : Running) → IsRunningMember r → r.replica.end ≡ None
+        → next_step r ≡ Append → IsDone r (broken_off why r) }
 {}

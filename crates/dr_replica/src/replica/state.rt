@@ -1,5 +1,5 @@
 //! What is known of a replica.
-ghost use Rattle.std.specs.Prelude.{◌≡◌, ◌<◌, length, slice_get, Some, true};
+ghost use Rattle.std.specs.Prelude.{◌≡◌, ◌-◌, ◌<◌, length, slice_get, Some, true};
 ghost use Rattle.dr_machine.specs.Effects.{one_more};
 ghost use Rattle.dr_program.specs.Form.{HasForm};
 ghost use Rattle.dr_program.specs.Replica.{count, me, may_append};
@@ -111,6 +111,13 @@ impl Replica {
         ensures { result ≡ self.now.logged }
     {
         self.logged as u64
+    }
+
+    /// How many entries more its log may get in this age.
+    pub fn appends_left(&self) -> usize
+        ensures { result ≡ self.now.room - self.now.logged }
+    {
+        self.history.room().saturating_sub(self.logged)
     }
 
     /// The number of entries that it reported durable.

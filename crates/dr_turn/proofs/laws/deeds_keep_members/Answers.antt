@@ -1,4 +1,5 @@
 use Rattle.dr_turn.proofs.Deeds.{deeds_keep, deeds_keep_form}
+use Rattle.dr_turn.proofs.Failing.{failed_done, failed_form}
 use Rattle.dr_turn.proofs.laws.deeds_keep_members.Goals as goal
 
 pub returns-clause-form : goal.returns-clause-form
@@ -6,3 +7,9 @@ returns-clause-form c = deeds_keep_form
 
 pub returns-clause-done : goal.returns-clause-done
 returns-clause-done c = λ word r m fits none form grown. (deeds_keep word r m fits none form grown).1
+
+pub returns-clause-failed_form : goal.returns-clause-failed_form
+returns-clause-failed_form c = failed_form
+
+pub returns-clause-failed_done : goal.returns-clause-failed_done
+returns-clause-failed_done c = failed_done
