@@ -12,7 +12,7 @@ use Rattle.dr_words.specs.Packing.{recv_count}
 use Rattle.dr_ring.specs.Slots.{slot_column}
 use Rattle.dr_machine.proofs.Presence.{is_present}
 use Rattle.dr_machine.specs.Group.{Group, IsGroup, columns, roster}
-use Rattle.dr_machine.specs.Guards.{HoldsAll, next_index}
+use Rattle.dr_machine.specs.Guards.{HasRoom, HoldsAll, next_index}
 use Rattle.dr_machine.specs.World.{World, count_of, own_word, shown}
 use Rattle.dr_program.proofs.Holdings.{Holding, held}
 use Rattle.dr_faithful.proofs.Faithfulness.{whole}
@@ -20,7 +20,7 @@ use Rattle.dr_faithful.specs.Faithful.{Faithful}
 use Rattle.dr_world_laws.proofs.Reached.{Known}
 use Rattle.dr_program_laws.proofs.Acts.{nothing_left}
 use Rattle.dr_program_laws.specs.Rested.{IsRested}
-use Rattle.dr_program_laws.specs.Wants.{HasSlot, IsLeft}
+use Rattle.dr_program_laws.specs.Wants.{IsLeft}
 use Rattle.dr_complete.proofs.Come.{HasCome, Rests, Room, come_less, come_more, come_none}
 use Rattle.dr_complete.proofs.DoneWords.{done_is_one}
 use Rattle.dr_world_laws.proofs.Remaining.{holds-remaining, put_first}
@@ -139,22 +139,22 @@ has_taken {g = g} {w = w} {m = m} h t l other =
     sym (count_first g w m t f)
     ∙ takes_all g w m t h.group h.known.run h.member (record { member = member; other = other })
     (sees_slot h t l other)
-    (λ ready. (nothing_left h.rested).items t ((member, other), ready))
+    (λ ready. (nothing_left h.rested).items t (record { member = member; other = other }, ready))
     ∙ ap (λ v. w.past.count t v t) (f.beginning.first m)
 
 -- room by the counts of the others is a free slot
 slot_is_free : {g : Group} {w : World} {most r m : ℕ} → HasHadTurn g w most r m
-    → Room (roster g) g.window (λ i. w.past.count i 0) m → HasSlot g w m
+    → Room (roster g) g.window (λ i. w.past.count i 0) m → HasRoom g w m (count_of w m m)
 slot_is_free {g = g} {w = w} {m = m} h (inl early) =
     inl (omega (arith, count_first g w m m h.known.faithful, early))
-slot_is_free {g = g} {w = w} {m = m} h (inr all) = inr (λ i member other.
+slot_is_free {g = g} {w = w} {m = m} h (inr all) = inr (λ i other.
     let f = h.known.faithful in
-    let l = in_view_is g w m i f member in
-    let word = h.sees i (recv_column m) l other (omega (arith, h.member)) (λ e. omega (arith, e))
+    let l = in_view_is g w m i f other.member in
+    let word = h.sees i (recv_column m) l other.other (omega (arith, h.member)) (λ e. omega (arith, e))
     (λ e. absurd (omega (arith, e))) in
     omega (
       arith,
-      all i l other,
+      all i l other.other,
       count_first g w m m f,
       ap recv_count word,
       f.counts.recv i 0 m h.member,

@@ -44,11 +44,12 @@ ArePushed g w = (i j c : ℕ) → i < roster g → j < roster g → j ≢ i → 
 abbrev pub IsUpright : Option End → Type 0
 IsUpright end = (end ≡ None) ⊎ (end ≡ Some ends.Done)
 
--- the program is between turns: no member is amid one or has ended but as done, and words stand where they
--- were pushed
+-- the program is between turns: no append has failed, no member is amid a turn or has ended but as done, and
+-- words stand where they were pushed
 pub record IsPaused (g : Group) (setups : List Setup) (p : Program) : Type 0 where
   pub steady : IsSteady g p
   pub stand : AllStand setups p
+  pub well : (m : ℕ) (r : Running) → slice_get p.members m ≡ Some r → r.failed ≡ None
   pub whole : (m : ℕ) → is_between_turns (slice_get p.members m) ≡ true
   pub upright : (i : ℕ) → i < roster g → IsUpright ((world g p).end i)
   pub pushed : ArePushed g (world g p)

@@ -1,4 +1,5 @@
--- In lockstep, without crashes and with turns enough, all members end as done, with everything.
+-- In lockstep, without crashes and failed appends and with turns enough, all members end as done, with
+-- everything.
 use Rattle.std.proofs.Common.{Bool, List, None, Some, [], ap, arith, if◌then◌else◌, inl, inr, map, nat_lt, refl, subst, sym, true, ℕ, ◌&&◌, ◌*◌, ◌+◌, ◌<◌, ◌==◌, ◌^◌, ◌∙◌, ◌≡◌, ◌≤◌}
 use Rattle.std.specs.Prelude.{IsTrue, Option, is_some, option_map, slice_get}
 use Rattle.std.proofs.lemmas.Bool.Decides.{nat_tests}
@@ -11,7 +12,7 @@ use Rattle.dr_words.specs.declared.column.TheConstants.{LOGGED_COLUMN}
 use Rattle.dr_machine.specs.Group.{Group, IsGroup, roster}
 use Rattle.dr_machine.specs.World.{World, opening_world}
 use Rattle.dr_program.proofs.Opening.{begins_at_the_opening}
-use Rattle.dr_program.specs.Program.{AreSetups, Move, Program, begun_program, end_of, ran}
+use Rattle.dr_program.specs.Program.{AllOk, AreSetups, Move, Program, begun_program, end_of, ran}
 use Rattle.dr_program.specs.Reading.{world}
 use Rattle.dr_program.specs.Running.{Running, begun_running}
 use Rattle.dr_program.specs.Schedule.{IsLockstep, is_between_turns}
@@ -36,6 +37,17 @@ begins_whole setups m = rw (slice_get-map begun_running setups m) (by (slice_get
     by None = refl
     by (Some s) = refl
 
+-- and no append has failed
+begins_well : (setups : List Setup) (m : ℕ) (r : Running)
+    → slice_get (map begun_running setups) m ≡ Some r → r.failed ≡ None
+begins_well setups m r there =
+    by (slice_get setups m) (sym (slice_get-map begun_running setups m) ∙ there)
+  where
+    by : (o : Option Setup) → option_map begun_running o ≡ Some r → r.failed ≡ None
+    by None same = absurd (cc)
+    by (Some s) same =
+        sym (ap (λ (x : Running). x.failed) (same_Some (begun_running s) r same))
+
 -- all words are 0 but the logged ones
 begins_pushed : (g : Group) → ArePushed g (opening_world g)
 begins_pushed g i j c a b other inside apart begun =
@@ -53,6 +65,7 @@ begins g limit most setups is some small are = record {
   paused = record {
     steady = steady_begins g limit setups is some small are;
     stand = all_stand g limit setups [] is some are;
+    well = begins_well setups;
     whole = begins_whole setups;
     upright = λ i l. inl (ap (λ (w : World). w.end i) opens);
     pushed = subst (ArePushed g) (sym opens) (begins_pushed g);
@@ -88,20 +101,20 @@ complete g setups most r m p y between there ended =
     (done g p [] m y steady.group steady.program steady.reached there end
     (λ k d within some. absurd (omega (arith, within)))).complete
 
--- in lockstep, without crashes and with turns enough, all members are
+-- in lockstep, without crashes and failed appends and with turns enough, all members are
 pub completes : (g : Group) (limit most : ℕ) (setups : List Setup) (es : List Move) (p : Program)
     → IsGroup g → AreSetups g limit setups
     → ((m : ℕ) (s : Setup) → slice_get setups m ≡ Some s → s.crashes ≡ [])
     → ((s : ℕ) → messages_left g.opening s ≤ most) → 3 * most + 3 ≤ limit → limit < 2 ^ 32
-    → IsLockstep (begun_program g setups) es p → (m : ℕ) (e : MemberEnd)
+    → AllOk es → IsLockstep (begun_program g setups) es p → (m : ℕ) (e : MemberEnd)
     → slice_get (map end_of p.members) m ≡ Some e → IsComplete g.opening e
-completes g limit most setups es p is are uncrashed few enough small run m e at =
+completes g limit most setups es p is are uncrashed few enough small well run m e at =
     by (slice_get p.members m) refl
   where
     over : (n : ℕ) × IsBetween g setups most n 0 p
     over = rounds_keep g setups limit most run.rounds 0 (begun_program g setups) es p
         (record { are = are; uncrashed = uncrashed; few = few; enough = enough })
-        (begins g limit most setups is (omega (arith, enough)) small are) run.ran
+        (begins g limit most setups is (omega (arith, enough)) small are) well run.ran
 
     ended : (y : Running) → slice_get p.members m ≡ Some y → IsTrue (is_some y.replica.end)
     ended y there = subst (λ (x : Running). IsTrue (is_some x.replica.end))

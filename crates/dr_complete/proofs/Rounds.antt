@@ -1,13 +1,16 @@
 -- Rounds: each member has its turn, again and again.
-use Rattle.std.proofs.Common.{List, None, Some, ap, arith, inl, inr, refl, subst, sym, true, false, zero, zero-add, suc, ℕ, ◌*◌, ◌+◌, ◌<◌, ◌∙◌, ◌≡◌, ◌≤◌, ◌⊎◌, ◌||◌, Bool}
+use Rattle.std.proofs.Common.{List, ◌++◌, length, None, Some, ap, arith, inl, inr, refl, subst, sym, true, false, zero, zero-add, suc, ℕ, ◌*◌, ◌+◌, ◌<◌, ◌∙◌, ◌≡◌, ◌≤◌, ◌⊎◌, ◌||◌, Bool}
 use Rattle.std.specs.Prelude.{Option, is_some, slice_get}
 use Rattle.std.specs.List.{range_with_len}
+use Rattle.std.proofs.Math.Seq.{drop-append_seam, take-append_seam}
 use Rattle.std.proofs.lemmas.Bool.{cases_lt}
+use Rattle.std.proofs.lemmas.List.Elements.{All-drop, All-take}
 use Rattle.dr_entry.specs.declared.end.End.{End}
 use Rattle.dr_words.specs.declared.column.TheConstants.{DONE_COLUMN}
 use Rattle.dr_machine.specs.Group.{Group, roster}
 use Rattle.dr_machine.specs.World.{opening_world}
-use Rattle.dr_program.specs.Program.{Move, Program}
+use Rattle.dr_program.specs.declared.outcome.Outcome.TheVariants as outcomes
+use Rattle.dr_program.specs.Program.{AllOk, Move, Program}
 use Rattle.dr_program.specs.Reading.{world}
 use Rattle.dr_program.specs.Running.{Running}
 use Rattle.dr_program.specs.Schedule.{IsTurn, Rounds, TakeTurns, TakesTurn, has_ended, is_between_turns}
@@ -22,6 +25,17 @@ use Rattle.dr_complete.proofs.Between.{IsBetween, IsFit, IsGoing, member_at, tru
 use Rattle.dr_complete.proofs.Turns.{turn_keeps}
 use Rattle.dr_complete.specs.Reached.{AllShowDone}
 
+-- ---- moves
+
+-- where all appends go well, so do those of the first moves, and those of the others
+ok_parts : (first rest : List Move) → AllOk (first ++ rest) → AllOk first × AllOk rest
+ok_parts first rest well = (
+  subst AllOk (take-append_seam first rest)
+      (All-take (λ (e : Move). e.outcome ≡ outcomes.Ok) (length first) (first ++ rest) well),
+  subst AllOk (drop-append_seam first rest)
+      (All-drop (λ (e : Move). e.outcome ≡ outcomes.Ok) (length first) (first ++ rest) well),
+)
+
 -- ---- one member
 
 -- a member that hasn't ended stands where a turn begins
@@ -33,8 +47,9 @@ at_beginning (Some end) beat going e = absurd (cc)
 -- it takes its turn
 takes : (g : Group) (setups : List Setup) (limit most r x : ℕ) (p : Program) (es : List Move)
     (q : Program) → IsFit g setups limit most → x < roster g → IsBetween g setups most r x p
-    → has_ended (slice_get p.members x) ≡ false → IsTurn x p es q → IsBetween g setups most r (x + 1) q
-takes g setups limit most r x p es q fit l between going turn =
+    → has_ended (slice_get p.members x) ≡ false → AllOk es → IsTurn x p es q
+    → IsBetween g setups most r (x + 1) q
+takes g setups limit most r x p es q fit l between going well turn =
     let member = member_at g p x between.paused.steady l in
     let y = member.0 in
     let steady = between.paused.steady in
@@ -44,7 +59,8 @@ takes g setups limit most r x p es q fit l between going turn =
       fit = fit;
       within = l;
       before = between;
-      turned = takes_turn g p x y es q steady member.1 stands.0 (beat_test (part_of y.place) stands.1) turn;
+      turned = takes_turn g p x y es q steady member.1 stands.0 (between.paused.well x y member.1)
+          (beat_test (part_of y.place) stands.1) well turn;
       stand = subst (AllStand setups) (sym turn.taken)
           (ran_stands g setups p es steady.group steady.program steady.reached between.paused.stand);
       whole = turn.whole;
@@ -73,21 +89,24 @@ passes g setups most r x p l between over = record { paused = between.paused; st
 -- each member from x on has its turn
 turns_keep : (g : Group) (setups : List Setup) (limit most r d x : ℕ) (p : Program) (es : List Move)
     (q : Program) → IsFit g setups limit most → x + d ≡ roster g
-    → IsBetween g setups most r x p → TakeTurns (range_with_len x d) p es q
+    → IsBetween g setups most r x p → AllOk es → TakeTurns (range_with_len x d) p es q
     → IsBetween g setups most r (roster g) q
-turns_keep g setups limit most r zero x p es q fit all between (none, same) =
+turns_keep g setups limit most r zero x p es q fit all between well (none, same) =
     subst (IsBetween g setups most r (roster g)) (sym same)
     (subst (λ n. IsBetween g setups most r n p) (omega (arith, all)) between)
-turns_keep g setups limit most r (suc d) x p es q fit all between (turn, rest, mid, both, first, more) =
-    turns_keep g setups limit most r d (x + 1) mid rest q fit (omega (arith, all)) (by first) more
+turns_keep g setups limit most r (suc d) x p es q fit all between well (turn, rest, mid, both, first, more) =
+    turns_keep g setups limit most r d (x + 1) mid rest q fit (omega (arith, all)) (by first) parts.1 more
   where
     l : x < roster g
     l = omega (arith, all)
 
+    parts : AllOk turn × AllOk rest
+    parts = ok_parts turn rest (subst AllOk both well)
+
     by : TakesTurn x p turn mid → IsBetween g setups most r (x + 1) mid
     by (inl over) = subst (IsBetween g setups most r (x + 1)) (sym over.2)
         (passes g setups most r x p l between over.0)
-    by (inr going) = takes g setups limit most r x p turn mid fit l between going.0 going.1
+    by (inr going) = takes g setups limit most r x p turn mid fit l between going.0 parts.0 going.1
 
 -- where all members have had their turn, the next round begins, or all show done
 round_over : (g : Group) (setups : List Setup) (most r : ℕ) (p : Program)
@@ -115,11 +134,13 @@ round_over g setups most r p between = record { paused = between.paused; state =
 -- so it goes on, round by round
 pub rounds_keep : (g : Group) (setups : List Setup) (limit most k r : ℕ) (p : Program) (es : List Move)
     (q : Program) → IsFit g setups limit most → IsBetween g setups most r 0 p
-    → Rounds k p es q → (n : ℕ) × IsBetween g setups most n 0 q
-rounds_keep g setups limit most zero r p es q fit between (none, same) =
+    → AllOk es → Rounds k p es q → (n : ℕ) × IsBetween g setups most n 0 q
+rounds_keep g setups limit most zero r p es q fit between well (none, same) =
     (r, subst (IsBetween g setups most r 0) (sym same) between)
-rounds_keep g setups limit most (suc k) r p es q fit between (round, rest, mid, both, first, more) =
+rounds_keep g setups limit most (suc k) r p es q fit between well (round, rest, mid, both, first, more) =
+    let parts = ok_parts round rest (subst AllOk both well) in
     let all = between.paused.steady.program.all in
     let over = turns_keep g setups limit most r (roster g) 0 p round mid fit (zero-add (roster g)) between
-    (subst (λ n. TakeTurns (range_with_len 0 n) p round mid) all first) in
-    rounds_keep g setups limit most k (r + 1) mid rest q fit (round_over g setups most r mid over) more
+    parts.0 (subst (λ n. TakeTurns (range_with_len 0 n) p round mid) all first) in
+    rounds_keep g setups limit most k (r + 1) mid rest q fit (round_over g setups most r mid over) parts.1
+    more

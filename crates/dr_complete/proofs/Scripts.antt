@@ -2,7 +2,7 @@
 use Rattle.std.proofs.Common.{ap, ◌∙◌, subst, ℕ, ◌-◌, ◌/◌, ◌≤◌, [], List, length, map, arith}
 use Rattle.dr_history.specs.History.{messages_of}
 use Rattle.dr_machine.specs.Group.{IsGroup}
-use Rattle.dr_program.specs.Program.{Move, Program, end_of}
+use Rattle.dr_program.specs.Program.{AllOk, Move, Program, end_of}
 use Rattle.dr_program.specs.Schedule.{IsLockstep}
 use Rattle.dr_program_laws.specs.Ended.{AreComplete}
 use Rattle.dr_restart.specs.declared.start.Start.{Start}
@@ -17,15 +17,15 @@ use Rattle.dr_complete.proofs.Completeness.{completes}
 
 pub completes_by_script : (script : Script) (start : Start) (nth : ℕ) (begun p : Program)
     (es : List Move) → IsGroup (group_of script start) → HasRanges script → HasTime script
-    → IsBegun script start nth begun → IsLockstep begun es p
+    → IsBegun script start nth begun → AllOk es → IsLockstep begun es p
     → AreComplete (group_of script start).opening (map end_of p.members)
-completes_by_script script start nth begun p es is ranges time (setups, are, same) run =
+completes_by_script script start nth begun p es is ranges time (setups, are, same) well run =
     completes (group_of script start) script.turns most setups es p is
     (are_setups script start nth setups ranges.group.lists are)
     (λ m s there. (are.each m s there).crashes
     ∙ ap (λ faults. crashes_of faults nth m) time.faultless)
     (λ s. omega (arith, few s)) (omega (arith, some)) (omega (arith, ranges.most_turns))
-    (subst (λ b. IsLockstep b es p) same run)
+    well (subst (λ b. IsLockstep b es p) same run)
   where
     most : ℕ
     most = (script.turns - 8) / 4

@@ -1,5 +1,5 @@
 -- A turn of a member, in a round in which the members below it have had theirs.
-use Rattle.std.proofs.Common.{List, None, Some, [], ap, arith, inl, inr, refl, subst, sym, true, ℕ, ◌+◌, ◌<◌, ◌∙◌, ◌≡◌, ◌≢◌, ◌≤◌, ◌⊎◌}
+use Rattle.std.proofs.Common.{List, None, Some, [], ap, arith, inl, inr, refl, subst, sym, true, false, ℕ, ◌+◌, ◌<◌, ◌∙◌, ◌≡◌, ◌≢◌, ◌≤◌, ◌⊎◌}
 use Rattle.std.specs.Prelude.{Any, Option, slice_get}
 use Rattle.std.proofs.lemmas.Bool.{cases_eq, cases_lt}
 use Rattle.dr_entry.specs.declared.end.End.{End}
@@ -21,6 +21,7 @@ use Rattle.dr_world_laws.proofs.Reached.{known}
 use Rattle.dr_program_laws.proofs.Programs.{AllStand}
 use Rattle.dr_program_laws.proofs.Standing.{IsProper}
 use Rattle.dr_program_laws.proofs.Worlds.{of_there}
+use Rattle.dr_program_laws.specs.Failing.{has_log_end}
 use Rattle.dr_program_laws.specs.Rested.{HasTurned, IsRested}
 use Rattle.dr_program_laws.specs.Steady.{IsSteady}
 use Rattle.dr_complete.proofs.Between.{ArePushed, HasGone, IsBetween, IsFit, IsGoing, IsUpright, member_at, same_held, true_of}
@@ -54,14 +55,16 @@ no_points (k, c, within, there, is) = absurd (omega (arith, within))
 abbrev IsUprightOrSpent : ℕ → ℕ → Option End → Type 0
 IsUprightOrSpent limit turns end = IsUpright end ⊎ ((turns ≡ limit) × (end ≢ Some ends.Crashed))
 
--- so it is where its end is proper and it has no crash points
+-- so it is where its end is proper, is not by its log, and it has no crash points
 proper_end : (limit turns : ℕ) (end : Option End) → IsProper limit [] turns end
-    → IsUprightOrSpent limit turns end
-proper_end limit turns None proper = inl (inl refl)
-proper_end limit turns (Some ends.Done) proper = inl (inr refl)
-proper_end limit turns (Some ends.Crashed) proper = absurd (no_points proper)
-proper_end limit turns (Some (ends.Spent n)) proper = inr (proper.1, λ e. cc)
-proper_end limit turns (Some end) proper = absurd proper
+    → has_log_end end ≡ false → IsUprightOrSpent limit turns end
+proper_end limit turns None proper logs = inl (inl refl)
+proper_end limit turns (Some ends.Done) proper logs = inl (inr refl)
+proper_end limit turns (Some ends.Crashed) proper logs = absurd (no_points proper)
+proper_end limit turns (Some (ends.Spent n)) proper logs = inr (proper.1, λ e. cc)
+proper_end limit turns (Some ends.DiskFault) proper logs = absurd (cc)
+proper_end limit turns (Some (ends.LogFull len)) proper logs = absurd (cc)
+proper_end limit turns (Some end) proper logs = absurd proper
 
 uncrashed : (limit turns : ℕ) (end : Option End) → IsUprightOrSpent limit turns end
     → end ≢ Some ends.Crashed
@@ -80,7 +83,8 @@ end_so {g = g} {setups = setups} {limit = limit} {x = x} {q = q} t =
     let turns = of_there q (λ z. z.turns) (opening_world g).turns x member.0 member.1 in
     let bound = (t.fit.are.each x setup.0 setup.1).turns in
     rw (end, turns) (proper_end limit member.0.replica.turns member.0.replica.end
-    (rw (bound, t.fit.uncrashed x setup.0 setup.1) at (t.stand x setup.0 member.0 setup.1 member.1).proper))
+    (rw (bound, t.fit.uncrashed x setup.0 setup.1) at (t.stand x setup.0 member.0 setup.1 member.1).proper)
+    (sym (ap has_log_end end) ∙ t.turned.logs))
 
 -- so it has nothing left to do
 has_rested : {g : Group} {setups : List Setup} {limit most r x : ℕ} {p q : Program}
@@ -276,6 +280,7 @@ turn_keeps {g = g} {most = most} {r = r} {x = x} {p = p} {q = q} t = record {
   paused = record {
     steady = t.turned.steady;
     stand = t.stand;
+    well = λ m y there. well m y there (cases_eq m x);
     whole = λ m. between m (cases_eq m x);
     upright = λ i a. upright i a (cases_eq i x);
     pushed = still_pushed t;
@@ -283,6 +288,10 @@ turn_keeps {g = g} {most = most} {r = r} {x = x} {p = p} {q = q} t = record {
   state = state t.before.state (stays_upright t);
 }
   where
+    well : (m : ℕ) (y : Running) → slice_get q.members m ≡ Some y → (m ≡ x) ⊎ (m ≢ x) → y.failed ≡ None
+    well m y there (inl e) = t.turned.well y (rw e at there)
+    well m y there (inr d) = t.before.paused.well m y (sym (t.turned.others m d) ∙ there)
+
     between : (m : ℕ) → (m ≡ x) ⊎ (m ≢ x) → is_between_turns (slice_get q.members m) ≡ true
     between m (inl e) = rw e t.whole
     between m (inr d) = ap is_between_turns (t.turned.others m d) ∙ t.before.paused.whole m

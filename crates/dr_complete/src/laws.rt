@@ -9,7 +9,7 @@ ghost use Rattle.dr_machine.specs.Guards.{IsOther, seen_slot};
 ghost use Rattle.dr_machine.specs.Run.{IsReached};
 ghost use Rattle.dr_machine.specs.World.{World, count_of};
 ghost use Rattle.dr_program.specs.declared.setup.Setup.{Setup};
-ghost use Rattle.dr_program.specs.Program.{AreSetups, Move, Program, begun_program, end_of};
+ghost use Rattle.dr_program.specs.Program.{AllOk, AreSetups, Move, Program, begun_program, end_of};
 ghost use Rattle.dr_program.specs.Schedule.{IsLockstep};
 ghost use Rattle.dr_complete.specs.Time.{HasTime};
 ghost use Rattle.dr_program_laws.specs.Ended.{AreComplete, IsComplete};
@@ -41,22 +41,24 @@ pub fn all_show_done_where_one_has_ended()
         → w.end m ≡ Some Done → AllShowDone g w }
 {}
 
-/// In lockstep, where no member is to crash, none has more than `most` messages left, and each may take three
-/// turns for each of these and three more, every member ends as done. Its history is the start, View 0, and
-/// the merge of all that the start leaves, and all of it is logged and durable.
+/// In lockstep, where no member is to crash and all appends go well, no member has more than `most` messages
+/// left, and each may take three turns for each of these and three more, every member ends as done. Its
+/// history is the start, View 0, and the merge of all that the start leaves, and all of it is logged and
+/// durable.
 pub fn lockstep_completes()
     ensures { (g : Group) (limit most : ℕ) (setups : List Setup) (es : List Move) (p : Program)
         → IsGroup g → AreSetups g limit setups
         → ((m : ℕ) (s : Setup) → slice_get setups m ≡ Some s → s.crashes ≡ [])
         → ((s : ℕ) → messages_left g.opening s ≤ most) → 3 * most + 3 ≤ limit → limit < 2 ^ 32
-        → IsLockstep (begun_program g setups) es p → (m : ℕ) (e : MemberEnd)
+        → AllOk es → IsLockstep (begun_program g setups) es p → (m : ℕ) (e : MemberEnd)
         → slice_get (map end_of p.members) m ≡ Some e → IsComplete g.opening e }
 {}
 
-/// So do the members of a script that gives them time enough, from every sound start.
+/// So do the members of a script that gives them time enough, from every sound start, where all appends go
+/// well.
 pub fn scripts_complete()
     ensures { (script : Script) (start : Start) (nth : ℕ) (begun p : Program) (es : List Move)
         → IsGroup (group_of script start) → HasRanges script → HasTime script
-        → IsBegun script start nth begun → IsLockstep begun es p
+        → IsBegun script start nth begun → AllOk es → IsLockstep begun es p
         → AreComplete (group_of script start).opening (map end_of p.members) }
 {}

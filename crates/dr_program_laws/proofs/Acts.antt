@@ -6,7 +6,7 @@ use Rattle.dr_history.specs.Members.{has}
 use Rattle.dr_machine.specs.Acts.{does, effect_of, CanTake}
 use Rattle.dr_machine.specs.Effects.{one_more, stamped, with_own}
 use Rattle.dr_machine.specs.Group.{Group, columns, roster}
-use Rattle.dr_machine.specs.Guards.{HasRoom, IsOther, IsUnwedged, MayChoose, IsBehind}
+use Rattle.dr_machine.specs.Guards.{HasRoom, IsUnwedged, MayChoose, IsBehind}
 use Rattle.dr_machine.specs.World.{World, count_of, own_word}
 use Rattle.dr_machine.specs.declared.event.Act.{Act}
 use Rattle.dr_machine.specs.declared.event.Act.TheVariants as acts
@@ -20,38 +20,27 @@ use Rattle.dr_program.specs.declared.place.Place.{Place}
 use Rattle.dr_program.specs.declared.place.TheConstants.{TURN}
 use Rattle.dr_program_laws.specs.Rested.{IsRested}
 use Rattle.dr_program_laws.specs.Swept.{IsIdle, Swept}
-use Rattle.dr_program_laws.specs.Wants.{HasSlot, Wants, ShowsMore, IsAnother, is_work, IsToTake, IsLeft, NoneIsLeft, IsToPublish, IsToMark}
+use Rattle.dr_program_laws.specs.Wants.{Wants, ShowsMore, is_work, IsToTake, IsLeft, NoneIsLeft, IsToPublish, IsToMark}
 use Rattle.dr_turn.proofs.Deeds.{is_publish}
 use Rattle.dr_turn.proofs.Order.{all_below, each_below}
 use Rattle.dr_words.proofs.Bits.{has_zero}
 use Rattle.dr_words.specs.declared.column.TheConstants.{BEAT_COLUMN, DONE_COLUMN, LOGGED_COLUMN, RECEIVED_COLUMN}
 use Rattle.dr_program.specs.Replica.{Replica}
 use Rattle.dr_program.specs.Acts.{taken}
-use Rattle.dr_program_laws.proofs.Leaving.{Stays, apart_by, differs, done_own, end_kept, gained_other, nulled_left, own_other, publish_own, published_own, row_other, shows_own}
+use Rattle.dr_program_laws.proofs.Leaving.{Stays, apart_by, differs, done_own, end_kept, gained_other, nulled_left, own_other, publish_own, published_own, row_other, shows_own, still_room, to_take}
 
 -- ---- what a step asks is its guard, but for what every choice asks
-
-another : (w : World) (m i : ℕ) → IsAnother w m i → IsOther w m i
-another w m i a = record { member = a.0; other = a.1 }
-
-slot : (g : Group) (w : World) (m : ℕ) → HasSlot g w m → HasRoom g w m (count_of w m m)
-slot g w m (inl early) = inl early
-slot g w m (inr all) = inr (λ i o. all i o.member o.other)
-
-free : (g : Group) (w : World) (m : ℕ) → HasRoom g w m (count_of w m m) → HasSlot g w m
-free g w m (inl early) = inl early
-free g w m (inr all) = inr (λ i member other. all i (another w m i (member, other)))
 
 -- a step that is asked for may come, where its member may choose and suspects nobody
 pub asked : (g : Group) (w : World) (m : ℕ) (s : Step) → MayChoose g w m → IsUnwedged w m
     → Wants g w m s → CanTake g w m s
 asked g w m (steps.Do acts.Beat) may calm wants = may
 asked g w m (steps.Do (acts.Receive s)) may calm wants =
-    record { may = may; unwedged = calm; sender = another w m s wants.0; ready = wants.1 }
+    record { may = may; unwedged = calm; sender = wants.0; ready = wants.1 }
 asked g w m (steps.Do acts.Send) may calm wants =
-    record { may = may; unwedged = calm; left = wants.0; room = slot g w m wants.1 }
+    record { may = may; unwedged = calm; left = wants.0; room = wants.1 }
 asked g w m (steps.Do acts.Null) may calm wants =
-    record { may = may; unwedged = calm; none_left = wants.0; room = slot g w m wants.1; behind = wants.2 }
+    record { may = may; unwedged = calm; none_left = wants.0; room = wants.1; behind = wants.2 }
 asked g w m (steps.Do acts.Deliver) may calm wants =
     record { may = may; unwedged = calm; received = wants }
 asked g w m (steps.Do acts.Publish) may calm wants = record { may = may; behind = wants }
@@ -63,35 +52,78 @@ asked g w m (steps.Do (acts.Halt end)) may calm wants =
 asked g w m (steps.Do (acts.Crash end)) may calm wants = record { alive = may.alive; fault = wants }
 asked g w m (steps.Look i c) may calm wants = record {
   may = may;
-  row = another w m i wants.0;
+  row = wants.0;
   unsuspected = ap (λ x. has x i) calm ∙ has_zero i;
   column = wants.1;
 }
 asked g w m (steps.Push j c) may calm wants =
-    record { may = may; copy = another w m j wants.0; column = wants.1 }
+    record { may = may; copy = wants.0; column = wants.1 }
 asked g w m steps.Append may calm wants = record { may = may; behind = wants }
 
 -- a step that may come is asked for
 pub asks : (g : Group) (w : World) (m : ℕ) (s : Step) → CanTake g w m s → Wants g w m s
 asks g w m (steps.Do acts.Beat) can = tt
-asks g w m (steps.Do (acts.Receive s)) can = ((can.sender.member, can.sender.other), can.ready)
-asks g w m (steps.Do acts.Send) can = (can.left, free g w m can.room)
-asks g w m (steps.Do acts.Null) can = (can.none_left, free g w m can.room, can.behind)
+asks g w m (steps.Do (acts.Receive s)) can = (can.sender, can.ready)
+asks g w m (steps.Do acts.Send) can = (can.left, can.room)
+asks g w m (steps.Do acts.Null) can = (can.none_left, can.room, can.behind)
 asks g w m (steps.Do acts.Deliver) can = can.received
 asks g w m (steps.Do acts.Publish) can = can.behind
 asks g w m (steps.Do acts.Report) can = can.logged
 asks g w m (steps.Do acts.Mark) can = (can.unmarked, can.whole, can.durable)
 asks g w m (steps.Do (acts.Halt end)) can = (can.done, can.all)
 asks g w m (steps.Do (acts.Crash end)) can = can.fault
-asks g w m (steps.Look i c) can = ((can.row.member, can.row.other), can.column)
-asks g w m (steps.Push j c) can = ((can.copy.member, can.copy.other), can.column)
+asks g w m (steps.Look i c) can = (can.row, can.column)
+asks g w m (steps.Push j c) can = (can.copy, can.column)
 asks g w m steps.Append can = can.behind
 
 -- ---- what a step leaves
 
--- an own word of a column that the part doesn't read
+-- the items that are to be taken, the messages that are to be put, and the nulls
+receive_kept : (g : Group) (w : World) (m : ℕ) (s : Step) (i c : ℕ)
+    → Option (Stays g w (effect_of g w m s) m parts.Receive i c)
+receive_kept g w m (steps.Do (acts.Receive j)) i c = None
+receive_kept g w m (steps.Do acts.Send) i c =
+    Some (λ old wants. old (gained_other g w (effect_of g w m (steps.Do acts.Send)) m m i wants.0.other refl
+    wants.0 wants.1))
+receive_kept g w m (steps.Do acts.Null) i c =
+    Some (λ old wants. old (gained_other g w (effect_of g w m (steps.Do acts.Null)) m m i wants.0.other refl
+    wants.0 wants.1))
+receive_kept g w m (steps.Look j d) i c = None
+receive_kept g w m s i c = Some (λ old wants. old
+    (to_take g w (effect_of g w m s) m i (count_of w m i) refl refl wants.0 wants.1))
+
+send_kept : (g : Group) (w : World) (m : ℕ) (s : Step) (i c : ℕ)
+    → Option (Stays g w (effect_of g w m s) m (parts.Do acts.Send) i c)
+send_kept g w m (steps.Do (acts.Receive j)) i c = None
+send_kept g w m (steps.Do acts.Send) i c = None
+send_kept g w m (steps.Do acts.Null) i c = Some (λ old wants. old (nulled_left g w m wants))
+send_kept g w m (steps.Look j d) i c = None
+send_kept g w m s i c = Some (λ old wants. old (
+  wants.0,
+  still_room g w (effect_of g w m s) m (count_of w m m)
+      (count_of w m m) refl (omega arith) wants.1,
+))
+
+null_kept : (g : Group) (w : World) (m : ℕ) (s : Step) (i c : ℕ)
+    → Option (Stays g w (effect_of g w m s) m (parts.Do acts.Null) i c)
+null_kept g w m (steps.Do (acts.Receive j)) i c = None
+null_kept g w m (steps.Do acts.Send) i c = None
+null_kept g w m (steps.Do acts.Null) i c = None
+null_kept g w m (steps.Look j d) i c = None
+null_kept g w m s i c = Some (λ old wants. old (
+  wants.0,
+  still_room g w (effect_of g w m s) m (count_of w m m)
+      (count_of w m m) refl (omega arith) wants.1,
+  wants.2,
+))
+
+-- of the other parts: an own word of a column that the part doesn't read
 own_kept : (g : Group) (w : World) (m c x : ℕ) (part : Part) (i k : ℕ)
     → Option (Stays g w (with_own w m c x) m part i k)
+own_kept g w m c x parts.Receive i k = None
+own_kept g w m c x (parts.Do (acts.Receive s)) i k = None
+own_kept g w m c x (parts.Do acts.Send) i k = None
+own_kept g w m c x (parts.Do acts.Null) i k = None
 own_kept g w m c x (parts.Do acts.Deliver) i k =
     option_map (λ apart old all. old (shows_own w m c x RECEIVED_COLUMN (w.next m) apart all))
     (differs c RECEIVED_COLUMN)
@@ -115,6 +147,10 @@ own_kept g w m c x part i k = Some (λ old. old)
 -- the stamp of an act
 stamp_kept : (g : Group) (w : World) (m : ℕ) (part : Part) (i c : ℕ)
     → Option (Stays g w (stamped w m) m part i c)
+stamp_kept g w m parts.Receive i c = None
+stamp_kept g w m (parts.Do (acts.Receive s)) i c = None
+stamp_kept g w m (parts.Do acts.Send) i c = None
+stamp_kept g w m (parts.Do acts.Null) i c = None
 stamp_kept g w m parts.Look i c =
     Some (λ old other. old other
     ∙ sym (row_other w.table (w.past.view m) m m BEAT_COLUMN (one_more 64 (w.past.acts m)) m i c other))
@@ -128,16 +164,15 @@ stamp_kept g w m part i c = own_kept g w m BEAT_COLUMN (one_more 64 (w.past.acts
 -- an act, but for its stamp
 does_kept : (g : Group) (w : World) (m : ℕ) (a : Act) (part : Part) (i c : ℕ)
     → Option (Stays g w (does g w m a) m part i c)
+does_kept g w m a parts.Receive i c = None
+does_kept g w m a (parts.Do (acts.Receive s)) i c = None
+does_kept g w m a (parts.Do acts.Send) i c = None
+does_kept g w m a (parts.Do acts.Null) i c = None
 does_kept g w m (acts.Receive s) parts.Look i c = Some (λ old. old)
 does_kept g w m (acts.Receive s) part i c = None
 does_kept g w m acts.Send parts.Look i c = Some (λ old. old)
-does_kept g w m acts.Send parts.Receive i c =
-    Some (λ old wants. old (gained_other g w m m i wants.0.1 wants))
 does_kept g w m acts.Send part i c = None
 does_kept g w m acts.Null parts.Look i c = Some (λ old. old)
-does_kept g w m acts.Null parts.Receive i c =
-    Some (λ old wants. old (gained_other g w m m i wants.0.1 wants))
-does_kept g w m acts.Null (parts.Do acts.Send) i c = Some (λ old wants. old (nulled_left g w m wants))
 does_kept g w m acts.Null part i c = None
 does_kept g w m acts.Deliver (parts.Do acts.Deliver) i c = None
 does_kept g w m acts.Deliver parts.Append i c = None
@@ -163,6 +198,10 @@ both f h = None
 -- what a step leaves
 kept : (g : Group) (w : World) (m : ℕ) (s : Step) (part : Part) (i c : ℕ)
     → Option (Stays g w (effect_of g w m s) m part i c)
+kept g w m s parts.Receive i c = receive_kept g w m s i c
+kept g w m s (parts.Do (acts.Receive j)) i c = None
+kept g w m s (parts.Do acts.Send) i c = send_kept g w m s i c
+kept g w m s (parts.Do acts.Null) i c = null_kept g w m s i c
 kept g w m (steps.Do (acts.Halt end)) parts.Push i c = Some (end_kept g w m end i c)
 kept g w m (steps.Do (acts.Crash end)) parts.Push i c = Some (end_kept g w m end i c)
 kept g w m (steps.Do a) part i c = both (does_kept g w m a part i c) (stamp_kept g (does g w m a) m part i c)
@@ -178,8 +217,9 @@ kept g w m (steps.Look j d) part i c = None
 
 -- ---- what a part of the turn leaves
 
--- the step of a part where its member doesn't crash
+-- the step of a part where its member doesn't crash, and no append of it has failed
 abbrev pub uncrashed : Running → Part → ℕ → ℕ → Step
+uncrashed r parts.Append i c = steps.Append
 uncrashed r parts.Push i c = steps.Push i c
 uncrashed r part i c = step_at r part i c
 
@@ -196,7 +236,7 @@ leaves g w m r p q a b =
 -- each deed of a turn leaves what is known of the parts before it
 all_leave : (g : Group) (w : World) (m : ℕ) (r : Running) (p q : Place)
     → all_below (length TURN - 1) (λ a. all_below a (leaves g w m r p q a)) ≡ true
-unfolding all_below kept does_kept stamp_kept own_kept both differs apart_by
+unfolding all_below kept receive_kept send_kept null_kept does_kept stamp_kept own_kept both differs apart_by
 all_leave g w m r p q = refl
 
 given : {A : Type 0} (t : Bool) (o : Option A) → t ≡ false → (t || is_some o) ≡ true → A
@@ -244,7 +284,7 @@ idle_work g w m p behind s work = by s work
 
     by : (s : Step) → is_work s ≡ true → Wants g w m s → ⊥
     by (steps.Do (acts.Receive i)) work = λ wants.
-        idle_part g w m p 1 i 0 behind (omega arith) (behind.view i wants.0.0) (omega arith) wants
+        idle_part g w m p 1 i 0 behind (omega arith) (behind.view i wants.0.member) (omega arith) wants
     by (steps.Do acts.Send) work = one 2 (omega arith) refl refl
     by (steps.Do acts.Null) work = one 3 (omega arith) refl refl
     by (steps.Do acts.Deliver) work = one (length TURN - 10) (omega arith) refl refl
@@ -260,8 +300,8 @@ idle_work g w m p behind s work = by s work
 -- m has nothing left of each that a turn does
 pub record HasNothingLeft (g : Group) (w : World) (m : ℕ) : Type 0 where
   pub items : (s : ℕ) → IsToTake g w m s → ⊥
-  pub messages : IsLeft g w m × HasSlot g w m → ⊥
-  pub nulls : NoneIsLeft g w m × HasSlot g w m × IsBehind w m → ⊥
+  pub messages : IsLeft g w m × HasRoom g w m (count_of w m m) → ⊥
+  pub nulls : NoneIsLeft g w m × HasRoom g w m (count_of w m m) × IsBehind w m → ⊥
   pub places : ShowsMore w m RECEIVED_COLUMN (w.next m) → ⊥
   pub entries : length (w.past.log m) < length (w.past.history m) → ⊥
   pub logged : IsToPublish w m → ⊥

@@ -1,13 +1,14 @@
 -- A deed leads a member from where it stands so to where it does again.
 use Rattle.std.proofs.Common.{◌≡◌, inl, inr, refl, sym, ap, ◌∙◌, subst, ℕ, ◌-◌, Bool, true, false, ◌==◌, ◌||◌, not, List, length, arith}
-use Rattle.std.specs.Prelude.{Any, None, slice_index_or}
+use Rattle.std.specs.Prelude.{Any, Option, None, Some, slice_index_or}
 use Rattle.std.specs.List.{list_any}
 use Rattle.std.proofs.lemmas.Bool.{and_parts}
 use Rattle.std.proofs.lemmas.Bool.Decides.{nat_tests}
 use Rattle.std.proofs.lemmas.List.Folds.{Any-from_list_any}
 use Rattle.dr_machine.specs.declared.event.Act.{Act}
 use Rattle.dr_program.specs.declared.outcome.Outcome.{Outcome}
-use Rattle.dr_program.specs.declared.outcome.Outcome.TheVariants as outcomes
+use Rattle.dr_program.specs.declared.outcome.LogWhy.{LogWhy}
+use Rattle.dr_program.specs.declared.outcome.LogWhy.TheVariants as whys
 use Rattle.dr_program.specs.declared.setup.CrashPoint.{CrashPoint}
 use Rattle.dr_program.specs.declared.setup.Setup.{Setup}
 use Rattle.dr_program.specs.declared.place.Part.{Part}
@@ -15,10 +16,10 @@ use Rattle.dr_program.specs.declared.place.Part.TheVariants as parts
 use Rattle.dr_program.specs.declared.place.TheConstants.{TURN}
 use Rattle.dr_program.specs.Form.{IsRunningMember}
 use Rattle.dr_program.specs.Program.{after_deed, next_sight}
-use Rattle.dr_program.specs.Running.{Running, asks, begun_running, columns, crashes_now, is_at_push, is_in_turn, members, next_step, push_or_crash, pushes_after, step_at, goes}
+use Rattle.dr_program.specs.Running.{Running, append_or_end, asks, begun_running, columns, crashes_now, end_by, is_at_push, is_in_turn, members, next_step, push_or_crash, pushes_after, step_at, goes}
 use Rattle.dr_program.specs.Steps.{allows, stepped}
 use Rattle.dr_program.specs.Turn.{after, is_beat, part_of, turn_begins}
-use Rattle.dr_program.proofs.Runs.{after_ok}
+use Rattle.dr_program.proofs.Runs.{after_either}
 use Rattle.dr_turn.specs.Search.{IsUnderway}
 use Rattle.dr_turn.proofs.Deeds.{first_part, is_publish}
 use Rattle.dr_program.specs.Acts.{taken}
@@ -121,6 +122,36 @@ push_keeps limit points word r d v = by (crashes_now r) refl
       proper = v.proper;
     }
 
+-- an append, or the end in its place
+append_keeps : (limit : ℕ) (points : List CrashPoint) (word : ℕ) (r : Running) → IsDue r parts.Append
+    → Stands limit points r → Stands limit points (done_at word r parts.Append)
+append_keeps limit points word r d v = by r.failed
+  where
+    ends : (why : LogWhy) → IsProper limit points r.replica.turns (Some (end_by why))
+    ends whys.DiskFault = tt
+    ends (whys.LogFull len) = tt
+
+    by : (o : Option LogWhy)
+        → Stands limit points (record r {
+          replica = stepped word r.replica (append_or_end o);
+          place = after (members r) (columns r) r.place;
+          pushes = pushes_after r.pushes (append_or_end o);
+        })
+    by None = record {
+      limited = v.limited;
+      planned = v.planned;
+      later = v.later;
+      ahead = onward limit points r parts.Append d refl v;
+      proper = v.proper;
+    }
+    by (Some why) = record {
+      limited = v.limited;
+      planned = v.planned;
+      later = v.later;
+      ahead = onward limit points r parts.Append d refl v;
+      proper = ends why;
+    }
+
 -- so does a beat, with which a turn begins
 beat_keeps : (limit : ℕ) (points : List CrashPoint) (word : ℕ) (r : Running)
     → IsDue r turn_begins → Stands limit points r
@@ -186,14 +217,7 @@ deed_keeps limit points word r parts.Look d v =
       ahead = onward limit points r parts.Look d refl v;
       proper = v.proper;
     }
-deed_keeps limit points word r parts.Append d v =
-    record {
-      limited = v.limited;
-      planned = v.planned;
-      later = v.later;
-      ahead = onward limit points r parts.Append d refl v;
-      proper = v.proper;
-    }
+deed_keeps limit points word r parts.Append d v = append_keeps limit points word r d v
 deed_keeps limit points word r parts.Push d v = push_keeps limit points word r d v
 deed_keeps limit points word r (parts.Do a) d v = act_keeps limit points word r a d v
 deed_keeps limit points word r parts.Crash d v = record {
@@ -228,8 +252,8 @@ deed_keeps limit points word r part d v =
 pub deed_stands : (limit : ℕ) (points : List CrashPoint) (table : List ℕ) (o : Outcome) (r : Running)
     → IsRunningMember r → r.replica.end ≡ None → Stands limit points r
     → Stands limit points (after_deed (next_sight table r) o r (next_step r))
-deed_stands limit points table outcomes.Ok r member none v =
-    subst (Stands limit points) (sym (after_ok table r (next_step r)))
+deed_stands limit points table o r member none v =
+    after_either (Stands limit points) table o r (next_step r)
     (settled_stands limit points (done_at (next_sight table r) r (part_of r.place))
     (deed_keeps limit points (next_sight table r) r (part_of r.place) (record {
       at = refl;
@@ -238,6 +262,13 @@ deed_stands limit points table outcomes.Ok r member none v =
       asked = (and_parts (asks r (part_of r.place) r.place.row r.place.column)
           (allows r.replica (next_step r)) (member.due none)).0;
     }) v))
+    (λ why due. record {
+      limited = v.limited;
+      planned = v.planned;
+      later = v.later;
+      ahead = v.ahead;
+      proper = v.proper;
+    })
 
 -- ---- the beginning
 

@@ -1,5 +1,5 @@
 -- Members that have all ended have ended as they should.
-use Rattle.std.proofs.Common.{◌≡◌, refl, sym, ap, ◌∙◌, inl, inr, subst, ℕ, ◌<◌, ◌≤◌, List, ◌++◌, length, take, arith}
+use Rattle.std.proofs.Common.{◌≡◌, refl, sym, ap, ◌∙◌, inl, inr, subst, ℕ, ◌<◌, ◌≤◌, List, ◌++◌, length, take, true, arith}
 use Rattle.std.specs.Prelude.{IsTrue, Option, None, Some, is_some, option_map, slice_get, unwrap_or}
 use Rattle.std.proofs.lemmas.List.{length-map, length-take}
 use Rattle.std.proofs.lemmas.Option.{get_or_from_slice_get, slice_get_cases, slice_get-map, slice_get_within, same_Some}
@@ -27,7 +27,7 @@ use Rattle.dr_restart.proofs.Setups.{are_setups}
 use Rattle.dr_world_laws.proofs.Agreeing.{done-durable, done-whole}
 use Rattle.dr_world_laws.proofs.Remaining.{holds-remaining}
 use Rattle.dr_world_laws.proofs.Reached.{Known, known}
-use Rattle.dr_program_laws.specs.Ended.{HasEnded, HaveEnded, IsBeforeCrash, IsDone}
+use Rattle.dr_program_laws.specs.Ended.{HasEnded, HaveEnded, IsBeforeCrash, IsDone, is_log_end}
 use Rattle.dr_program_laws.proofs.Keeping.{deeds_kept}
 use Rattle.dr_program_laws.proofs.Programs.{AllStand, all_stand}
 use Rattle.dr_program_laws.proofs.Standing.{IsProper, Stands}
@@ -100,12 +100,21 @@ has_ended : (g : Group) (p : Program) (limit : ℕ) (points : List CrashPoint) (
     → HasEnded g.opening limit points (end_of r)
 has_ended g p limit points m r is program run there ended v = by r.replica.end refl ended v.proper
   where
+    stopped : (end : End) → r.replica.end ≡ Some end → is_log_end end ≡ true
+        → HasEnded g.opening limit points (end_of r)
+    stopped end e by_log = inr (inr (inr (record {
+      end = ap (λ o. is_log_end (unwrap_or o ends.Done)) e ∙ by_log;
+      first = v.later;
+    })))
+
     by : (o : Option End) → r.replica.end ≡ o → IsTrue (is_some o)
         → IsProper limit points r.replica.turns o → HasEnded g.opening limit points (end_of r)
     by None e t so = absurd (cc)
     by (Some ends.Done) e t so = inl (done g p points m r is program run there e so)
     by (Some ends.Crashed) e t so =
-        inr (inr (record { end = ap (λ x. unwrap_or x ends.Done) e; named = so; first = v.later }))
+        inr (inr (inl (record { end = ap (λ x. unwrap_or x ends.Done) e; named = so; first = v.later })))
+    by (Some ends.DiskFault) e t so = stopped ends.DiskFault e refl
+    by (Some (ends.LogFull len)) e t so = stopped (ends.LogFull len) e refl
     by (Some (ends.Spent n)) e t so = inr (inl (record {
       end = ap (λ x. unwrap_or x ends.Done) e ∙ ap ends.Spent so.0;
       turns = so.1;

@@ -11,7 +11,6 @@ use Rattle.dr_machine.specs.declared.step.Step.TheVariants.{Append, Do, Look, Pu
 use Rattle.dr_machine.specs.Group.{Group, IsGroup}
 use Rattle.dr_machine.specs.Run.{IsReached}
 use Rattle.dr_program.specs.declared.outcome.Outcome.{Outcome}
-use Rattle.dr_program.specs.declared.outcome.Outcome.TheVariants as outcomes
 use Rattle.dr_program.specs.declared.setup.Setup.{Setup}
 use Rattle.dr_program.specs.Form.{HasForm, IsRunningMember}
 use Rattle.dr_program.specs.Program.{AreSetups, IsRanFrom, Move, Program, after_deed, begun_program, next_sight, ran, step_of}
@@ -21,12 +20,13 @@ use Rattle.dr_program.specs.Running.{Running, after_step, next_step}
 use Rattle.dr_program.specs.Sight.{IsSeenNext, MaySee}
 use Rattle.dr_program.specs.Steps.{allows, has_cell, sight, stepped}
 use Rattle.dr_program.proofs.Opening.{begins_at_the_opening}
-use Rattle.dr_program.proofs.Runs.{after_ok}
+use Rattle.dr_program.proofs.Runs.{after_either}
 use Rattle.dr_refine.specs.Programs.{IsProgram}
 use Rattle.dr_refine.proofs.Deeds.{due_allowed, step_reached}
 use Rattle.dr_refine.proofs.Steps.{begun_is_program, step_kept}
 use Rattle.dr_replica.proofs.Keeps.{appended_keeps, looked_keeps, pushed_keeps, taken_keeps}
 use Rattle.dr_turn.proofs.Deeds.{deeds_keep_form}
+use Rattle.dr_turn.proofs.Failing.{failed_form}
 use Rattle.dr_program_laws.proofs.Sight.{found_seen}
 
 -- ---- one move
@@ -73,9 +73,9 @@ member_kept g p m r group is run there unended =
 deed_kept : (g : Group) (p : Program) (m : ℕ) (o : Outcome) (r : Running) → IsGroup g → IsProgram g p
     → IsReached g (world g p) → slice_get p.members m ≡ Some r
     → r.replica.end ≡ None → IsRunningMember (after_deed (next_sight p.table r) o r (next_step r))
-deed_kept g p m outcomes.Ok r group is run there unended =
-    subst IsRunningMember (sym (after_ok p.table r (next_step r)))
-    (member_kept g p m r group is run there unended)
+deed_kept g p m o r group is run there unended =
+    after_either IsRunningMember p.table o r (next_step r) (member_kept g p m r group is run there unended)
+    (λ why due. failed_form why r (is.form m r there) unended due)
 
 -- a move keeps a program of its group, in a world that is reached
 pub move_kept : (g : Group) (p : Program) (e : Move) → IsGroup g → IsProgram g p

@@ -1,23 +1,29 @@
 -- What the writes of a step leave of what other steps ask.
-use Rattle.std.proofs.Common.{◌≡◌, ◌≢◌, refl, sym, ◌∙◌, subst, inl, inr, ℕ, ◌<◌, ◌==◌, Bool, true, false, if◌then◌else◌, List, [], ◌∷◌, ◌++◌, length, ap, ◌+◌, arith}
+use Rattle.std.proofs.Common.{◌≡◌, ◌≢◌, refl, sym, ◌∙◌, subst, inl, inr, ℕ, ◌<◌, ◌==◌, Bool, true, false, if◌then◌else◌, List, [], ◌∷◌, ◌++◌, length, ap, ◌+◌, ◌-◌, ◌≤◌, ◌⊎◌, arith}
 use Rattle.std.specs.Prelude.{Option, None, Some}
 use Rattle.std.proofs.lemmas.Bool.{cases_eq}
 use Rattle.dr_entry.specs.declared.end.End.{End}
 use Rattle.dr_entry.specs.declared.end.SentItem.{SentItem}
 use Rattle.dr_entry.specs.declared.end.SentItem.TheVariants.{Null}
 use Rattle.dr_history.specs.History.{messages_in, messages_of}
+use Rattle.dr_history.specs.Members.{has}
 use Rattle.dr_machine.proofs.Sending.{messages_null}
+use Rattle.dr_machine.specs.declared.event.Act.TheVariants as acts
+use Rattle.dr_machine.specs.declared.step.Step.TheVariants.{Do}
+use Rattle.dr_machine.specs.Acts.{effect_of}
 use Rattle.dr_machine.specs.Effects.{ends, nulls, one_more, receives, stamped, with_own}
 use Rattle.dr_machine.specs.Group.{Group}
-use Rattle.dr_machine.specs.Guards.{seen_slot}
+use Rattle.dr_machine.specs.Guards.{HasRoom, IsOther, seen_slot}
 use Rattle.dr_machine.specs.World.{World, count_of, own_word}
 use Rattle.dr_machine.specs.Writes.{at, at₂, at₃, at₄}
 use Rattle.dr_program.specs.declared.place.Part.{Part}
 use Rattle.dr_program.specs.declared.place.Part.TheVariants as parts
 use Rattle.dr_ring.specs.Slots.{IsReady}
 use Rattle.dr_words.specs.declared.column.TheConstants.{BEAT_COLUMN, DONE_COLUMN, LOGGED_COLUMN}
+use Rattle.dr_words.specs.Columns.{recv_column}
+use Rattle.dr_words.specs.Packing.{recv_count}
 use Rattle.dr_program_laws.specs.Swept.{IsIdle}
-use Rattle.dr_program_laws.specs.Wants.{HasSlot, IsLeft, IsToTake, SeesAllDone, ShowsMore}
+use Rattle.dr_program_laws.specs.Wants.{IsToTake, SeesAllDone, ShowsMore, Wants}
 
 -- ---- writes
 
@@ -83,14 +89,34 @@ done_own w m c x apart all i member =
 abbrev pub Stays : Group → World → World → ℕ → Part → ℕ → ℕ → Type 0
 Stays g w v m part i c = IsIdle g w m part i c → IsIdle g v m part i c
 
--- an item more of s leaves the items of another sender
-pub gained_other : (g : Group) (w : World) (m s i : ℕ) → i ≢ s
-    → IsToTake g (receives g w m s) m i → IsToTake g w m i
-gained_other g w m s i other wants = (
-  wants.0,
-  subst (λ z. IsReady z (seen_slot g w m i z))
-      (count_other w.past.count m (w.past.view m) s (w.past.count m (w.past.view m) s + 1) i other) wants.1,
+-- what m is to take, where it has the same view and has taken as much
+pub to_take : (g : Group) (w v : World) (m i n : ℕ) → v.members m ≡ w.members m → n ≡ count_of w m i
+    → IsOther v m i → IsReady n (seen_slot g w m i n) → IsToTake g w m i
+to_take g w v m i n view same other ready = (
+  record { member = ap (λ x. has x i) (sym view) ∙ other.member; other = other.other },
+  subst (λ k. IsReady k (seen_slot g w m i k)) same ready,
 )
+
+-- an item more of s leaves the items of another sender
+pub gained_other : (g : Group) (w v : World) (m s i : ℕ) → i ≢ s → v.members m ≡ w.members m
+    → IsOther v m i
+    → IsReady (count_of (receives g w m s) m i) (seen_slot g w m i (count_of (receives g w m s) m i))
+    → IsToTake g w m i
+gained_other g w v m s i apart view other ready =
+    to_take g w v m i (count_of (receives g w m s) m i) view
+    (count_other w.past.count m (w.past.view m) s (w.past.count m (w.past.view m) s + 1) i apart) other ready
+
+-- where an item has room, with the same view, so has an earlier one
+pub still_room : (g : Group) (w v : World) (m n k : ℕ) → v.members m ≡ w.members m → n ≤ k
+    → (k < g.window)
+    ⊎ ((i : ℕ) → IsOther v m i → k - g.window < recv_count (w.seen m i (recv_column m)))
+    → HasRoom g w m n
+still_room g w v m n k view earlier (inl early) = inl (omega (arith, earlier, early))
+still_room g w v m n k view earlier (inr all) = inr (λ i other. omega (
+  arith,
+  earlier,
+  all i (record { member = ap (λ x. has x i) view ∙ other.member; other = other.other }),
+))
 
 count_here : (count : ℕ → ℕ → ℕ → ℕ) (m v s x : ℕ) → at₂ count m v (at (count m v) s x) m v s ≡ x
 count_here count m v s x = grind arith
@@ -100,10 +126,13 @@ sent_here : (sent : ℕ → ℕ → List SentItem) (m v : ℕ) (items : List Sen
 sent_here sent m v items = grind arith
 
 -- a null is no message, and where there is a slot behind it there was one before
-pub nulled_left : (g : Group) (w : World) (m : ℕ) → IsLeft g (nulls g w m) m × HasSlot g (nulls g w m) m
-    → IsLeft g w m × HasSlot g w m
-nulled_left g w m wants =
-    (subst (λ n. w.base m + n < length (messages_of g.opening m)) same wants.0, slot wants.1)
+pub nulled_left : (g : Group) (w : World) (m : ℕ)
+    → Wants g (effect_of g w m (Do acts.Null)) m (Do acts.Send) → Wants g w m (Do acts.Send)
+nulled_left g w m wants = (
+  subst (λ n. w.base m + n < length (messages_of g.opening m)) same wants.0,
+  still_room g w (effect_of g w m (Do acts.Null)) m (count_of w m m) (count_of (nulls g w m) m m) refl
+      (omega (arith, more)) wants.1,
+)
   where
     sent : List SentItem
     sent = w.past.sent m (w.past.view m)
@@ -114,10 +143,6 @@ nulled_left g w m wants =
 
     more : count_of (nulls g w m) m m ≡ count_of w m m + 1
     more = count_here w.past.count m (w.past.view m) m (count_of w m m + 1)
-
-    slot : HasSlot g (nulls g w m) m → HasSlot g w m
-    slot (inl early) = inl (omega (arith, early, more))
-    slot (inr all) = inr (λ i member other. omega (arith, all i member other, more))
 
 -- what was pushed before an end, but for the beat word
 pub end_kept : (g : Group) (w : World) (m : ℕ) (end : End) (i c : ℕ)

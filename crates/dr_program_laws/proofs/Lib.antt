@@ -8,6 +8,7 @@ pub mod Ending
 pub mod Schedules
 pub mod Leaving
 pub mod Acts
+pub mod Failing
 pub mod Before
 pub mod Sweeping
 pub mod Steadying

@@ -1,6 +1,6 @@
 -- At a place that the search passes nothing is left to do.
 use Rattle.std.proofs.Common.{◌≡◌, ◌≢◌, refl, sym, ap, ◌∙◌, subst, inl, inr, ℕ, ◌<◌, ◌==◌, ◌&&◌, not, Bool, true, false, arith}
-use Rattle.std.specs.Prelude.{None, Some, slice_get}
+use Rattle.std.specs.Prelude.{Option, None, Some, slice_get}
 use Rattle.std.proofs.lemmas.Bool.Decides.{nat_tests}
 use Rattle.dr_faithful.proofs.Faithfulness.{faithful}
 use Rattle.dr_history.specs.Members.{has}
@@ -9,6 +9,7 @@ use Rattle.dr_machine.specs.declared.step.Step.TheVariants as steps
 use Rattle.dr_machine.proofs.Presence.{is_present}
 use Rattle.dr_machine.specs.Group.{Group, columns, roster}
 use Rattle.dr_machine.specs.World.{own_word}
+use Rattle.dr_program.specs.declared.outcome.LogWhy.{LogWhy}
 use Rattle.dr_program.specs.declared.place.Part.{Part}
 use Rattle.dr_program.specs.declared.place.Part.TheVariants as parts
 use Rattle.dr_program.specs.declared.place.Place.{Place}
@@ -16,7 +17,7 @@ use Rattle.dr_program.specs.Program.{Program}
 use Rattle.dr_program.specs.Reading.{world}
 use Rattle.dr_program.specs.Replica.{is_other}
 use Rattle.dr_program.specs.Running as running
-use Rattle.dr_program.specs.Running.{Running, applies, crashes_now, members, push_or_crash, step_at}
+use Rattle.dr_program.specs.Running.{Running, append_or_end, applies, crashes_now, members, push_or_crash, step_at}
 use Rattle.dr_program.specs.Steps.{allows}
 use Rattle.dr_program.specs.Turn.{after, columns_in, part_of, rows_in}
 use Rattle.dr_program.proofs.Holdings.{held_of}
@@ -27,6 +28,7 @@ use Rattle.dr_refine.proofs.Members.{own_shown}
 use Rattle.dr_refine.proofs.Tests.{has_room, step_guard}
 use Rattle.dr_rows.specs.Words.{changed, last_pushed, own}
 use Rattle.dr_turn.specs.Search.{Passed, here, on}
+use Rattle.dr_turn.proofs.Failing.{may_end}
 use Rattle.dr_turn.proofs.Search.{applies_at}
 use Rattle.dr_words.specs.Columns.{columns_of}
 use Rattle.dr_program_laws.specs.Steady.{IsSteady}
@@ -106,7 +108,8 @@ unpushed g p m r j c is within other low fails =
   where
     may : (b : Bool) → allows r.replica (push_or_crash b j c) ≡ true
     may true = refl
-    may false = allowed g p m r (steps.Push j c) is ((in_view g p m r j is within, other), low)
+    may false = allowed g p m r (steps.Push j c) is
+        (record { member = in_view g p m r j is within; other = other }, low)
 
 -- ---- places
 
@@ -115,12 +118,17 @@ idle_at : (g : Group) (p : Program) (m : ℕ) (r : Running) (part : Part) (i c :
     → i < rows_in (roster g) part → c < columns_in (columns g) part → applies_at r part i c ≡ false
     → IsIdle g (world g p) m part i c
 idle_at g p m r parts.Look i c is within low fails = λ other.
-    absurd (unasked g p m r (steps.Look i c) is fails ((in_view g p m r i is within, other), low))
+    absurd (unasked g p m r (steps.Look i c) is fails
+    (record { member = in_view g p m r i is within; other = other }, low))
 idle_at g p m r parts.Receive i c is within low fails =
     unasked g p m r (step_at r parts.Receive i c) is fails
 idle_at g p m r (parts.Do a) i c is within low fails = unasked g p m r (steps.Do a) is fails
-idle_at g p m r parts.Append i c is within low fails = λ wants.
-    absurd (unasked g p m r steps.Append is fails wants)
+idle_at g p m r parts.Append i c is within low fails = by r.failed fails
+  where
+    by : (o : Option LogWhy) → allows r.replica (append_or_end o) ≡ false
+        → IsIdle g (world g p) m parts.Append i c
+    by None fails = λ wants. absurd (unasked g p m r steps.Append is fails wants)
+    by (Some why) fails = absurd (cc (may_end why, fails))
 idle_at g p m r parts.Push i c is within low fails = λ other unended.
     unchanged_stands g p m r i c is within other low (unpushed g p m r i c is within other low fails)
 idle_at g p m r parts.Done i c is within low fails = λ all.

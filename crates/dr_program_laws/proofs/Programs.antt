@@ -1,5 +1,5 @@
 -- The members of a program stand so after any deeds.
-use Rattle.std.proofs.Common.{◌≡◌, refl, sym, ap, ◌∙◌, subst, ℕ, ◌≤◌, inl, inr, List, [], ◌∷◌}
+use Rattle.std.proofs.Common.{◌≡◌, ◌≢◌, ◌⊎◌, refl, sym, ap, ◌∙◌, subst, ℕ, ◌≤◌, inl, inr, List, [], ◌∷◌}
 use Rattle.std.specs.Prelude.{Option, None, Some, is_some, slice_get, slice_set, option_map}
 use Rattle.std.proofs.lemmas.Bool.{cases_eq}
 use Rattle.std.proofs.lemmas.Option.{slice_get-map, slice_get_within, same_Some}
@@ -30,17 +30,28 @@ begun_stands g setups m s r there is =
     ∙ (sym (slice_get-map begun_running setups m) ∙ is) in
     subst (Stands s.turns s.crashes) (same_Some (begun_running s) r same) (begins s)
 
+-- a member of a list in which x was replaced by y is y, or as it was
+pub replaced_either : (rs : List Running) (m : ℕ) (x y : Running) → slice_get rs m ≡ Some x → (k : ℕ)
+    (r : Running) → slice_get (slice_set rs m y) k ≡ Some r
+    → ((k ≡ m) × (y ≡ r)) ⊎ ((k ≢ m) × (slice_get rs k ≡ Some r))
+replaced_either rs m x y at k r is = elim (cases_eq k m) [
+  | inl same ↦ inl (
+    same,
+    same_Some y r (sym (replica_set rs m y (slice_get_within rs m x at)) ∙ rw same at is),
+  )
+  | inr other ↦ inr (other, sym (replica_kept rs m k y other) ∙ is)
+]
+
 -- one member is replaced by one that stands as its setup wants
 replaced_stands : (setups : List Setup) (p : Program) (m : ℕ) (x y : Running) (table : List ℕ)
     → AllStand setups p → slice_get p.members m ≡ Some x
     → ((s : Setup) → slice_get setups m ≡ Some s → Stands s.turns s.crashes y)
     → AllStand setups (record { members = slice_set p.members m y; table = table })
-replaced_stands setups p m x y table all at stands k s r there is = elim (cases_eq k m) [
-  | inl same ↦ subst (Stands s.turns s.crashes)
-      (same_Some y r (sym (replica_set p.members m y (slice_get_within p.members m x at))
-      ∙ rw same at is)) (stands s (rw same at there))
-  | inr other ↦ all k s r there (sym (replica_kept p.members m k y other) ∙ is)
-]
+replaced_stands setups p m x y table all at stands k s r there is =
+    elim (replaced_either p.members m x y at k r is) [
+      | inl here ↦ subst (Stands s.turns s.crashes) here.1 (stands s (rw here.0 at there))
+      | inr other ↦ all k s r there other.1
+    ]
 
 move_stands : (g : Group) (setups : List Setup) (p : Program) (e : Move) → IsProgram g p
     → AllStand setups p → AllStand setups (step_of p e)
@@ -61,13 +72,20 @@ move_stands g setups p e is all = by (slice_get p.members e.member) refl
     by None none = subst (AllStand setups) (sym (ap (λ o. moved_by p o e) none)) all
     by (Some r) there = at r there r.replica.end refl
 
+-- what each move of a program of the group keeps, moves one after the other keep
+pub ran_keeps : (g : Group) (P : Program → Type 0) (p : Program) (es : List Move) → IsGroup g
+    → IsProgram g p → IsReached g (world g p)
+    → ((q : Program) (e : Move) → IsProgram g q → P q → P (step_of q e)) → P p → P (ran p es)
+unfolding ran
+ran_keeps g P p [] group is run keeps so = so
+ran_keeps g P p (e ∷ es) group is run keeps so =
+    let kept = move_kept g p e group is run in
+    ran_keeps g P (step_of p e) es group kept.0 kept.1 keeps (keeps p e is so)
+
 pub ran_stands : (g : Group) (setups : List Setup) (p : Program) (es : List Move) → IsGroup g
     → IsProgram g p → IsReached g (world g p) → AllStand setups p → AllStand setups (ran p es)
-unfolding ran
-ran_stands g setups p [] group is run all = all
-ran_stands g setups p (e ∷ es) group is run all =
-    let kept = move_kept g p e group is run in
-    ran_stands g setups (step_of p e) es group kept.0 kept.1 (move_stands g setups p e is all)
+ran_stands g setups p es group is run all =
+    ran_keeps g (AllStand setups) p es group is run (move_stands g setups) all
 
 -- after any moves each member stands as its setup lets it
 pub all_stand : (g : Group) (turns : ℕ) (setups : List Setup) (es : List Move) → IsGroup g → 1

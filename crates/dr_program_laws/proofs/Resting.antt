@@ -1,5 +1,5 @@
 -- A member that has come to the end of its turn has nothing left to do.
-use Rattle.std.proofs.Common.{◌≡◌, ◌↔◌, refl, subst, inl, inr, ◌⊎◌, ℕ, ◌-◌, ◌<◌, ◌==◌, ◌||◌, Bool, true, length, arith}
+use Rattle.std.proofs.Common.{◌≡◌, ◌↔◌, refl, subst, inl, inr, ◌⊎◌, ℕ, ◌-◌, ◌<◌, ◌==◌, ◌||◌, Bool, true, false, length, arith}
 use Rattle.std.specs.Prelude.{⊤, Option, None, Some, is_some}
 use Rattle.std.proofs.lemmas.Bool.Decides.{nat_tests}
 use Rattle.dr_entry.specs.declared.end.End.{End}
@@ -13,6 +13,7 @@ use Rattle.dr_program.specs.declared.place.Place.{Place}
 use Rattle.dr_program.specs.declared.place.TheConstants.{TURN}
 use Rattle.dr_program.specs.Turn.{is_beat, part_of}
 use Rattle.dr_turn.proofs.Order.{all_below, beat_last, each_below}
+use Rattle.dr_program_laws.specs.Failing.{has_log_end}
 use Rattle.dr_program_laws.specs.Rested.{IsRested}
 use Rattle.dr_program_laws.specs.Swept.{Swept}
 use Rattle.dr_program_laws.specs.Wants.{SeesAllDone}
@@ -27,6 +28,15 @@ Knows g w m p (Some ends.Done) = Swept g w m p × (part_of p ≡ parts.Done) × 
 Knows g w m p (Some (ends.Spent n)) = Swept g w m p × (part_of p ≡ parts.Spent)
 Knows g w m p (Some ends.Crashed) = ⊤
 Knows g w m p (Some end) = ⊥
+
+-- it hasn't ended by its log
+pub knows_logs : (g : Group) (w : World) (m : ℕ) (p : Place) (o : Option End) → Knows g w m p o
+    → has_log_end o ≡ false
+knows_logs g w m p None known = refl
+knows_logs g w m p (Some ends.Done) known = refl
+knows_logs g w m p (Some (ends.Spent n)) known = refl
+knows_logs g w m p (Some ends.Crashed) known = refl
+knows_logs g w m p (Some end) known = absurd known
 
 -- ---- the last parts of a turn
 

@@ -27,7 +27,7 @@ then : (p mid q : Program) (a b es : List Move) → es ≡ a ++ b → mid ≡ ra
 then p mid q a b es both first second = second ∙ ap (λ x. ran x b) first ∙ sym (ran_on p a b)
     ∙ ap (ran p) (sym both)
 
-turns_taken : (ms : List ℕ) (p : Program) (es : List Move) (q : Program) → TakeTurns ms p es q → q
+pub turns_taken : (ms : List ℕ) (p : Program) (es : List Move) (q : Program) → TakeTurns ms p es q → q
     ≡ ran p es
 turns_taken [] p es q t = still p q es t.0 t.1
 turns_taken (m ∷ ms) p es q (turn, rest, mid, both, first, more) =

@@ -110,6 +110,8 @@ IsProper limit points turns (Some ends.Done) = IsBeforeCrash points turns
 IsProper limit points turns (Some ends.Crashed) = Any (λ (c : CrashPoint). c.turn ≡ turns) points
 IsProper limit points turns (Some (ends.Spent n)) = (n ≡ limit) × (turns ≡ limit)
     × IsBeforeCrash points turns
+IsProper limit points turns (Some ends.DiskFault) = ⊤
+IsProper limit points turns (Some (ends.LogFull len)) = ⊤
 IsProper limit points turns (Some end) = ⊥
 
 -- a member with these crash points, which takes at most so many turns, stands so: it is not past a crash,

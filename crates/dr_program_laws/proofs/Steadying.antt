@@ -13,21 +13,23 @@ use Rattle.dr_machine.specs.Effects.{one_more}
 use Rattle.dr_machine.specs.Group.{Group, IsGroup, banks, columns, roster}
 use Rattle.dr_machine.specs.World.{World, own_word}
 use Rattle.dr_machine.specs.Writes.{at₄}
-use Rattle.dr_program.specs.declared.outcome.Outcome.{Outcome}
+use Rattle.dr_program.specs.declared.outcome.LogWhy.{LogWhy}
 use Rattle.dr_program.specs.declared.outcome.Outcome.TheVariants as outcomes
 use Rattle.dr_program.specs.declared.setup.Setup.{Setup}
 use Rattle.dr_program.specs.Acts.{taken}
-use Rattle.dr_program.specs.Program.{AreSetups, IsSetup, Move, Program, begun_program, moved_by, next_sight, ok, step_of}
-use Rattle.dr_program.specs.Reading.{world}
+use Rattle.dr_program.specs.Program.{AreSetups, IsSetup, Move, Program, after_deed, begun_program, moved_by, next_sight, ok, step_of}
+use Rattle.dr_program.specs.Reading.{comes_to, step_by, step_due, world}
 use Rattle.dr_program.specs.Replica.{Replica, first_entries_of, greatest}
-use Rattle.dr_program.specs.Running.{Running, after_step, begun_running, next_step, took}
+use Rattle.dr_program.specs.Running.{Running, after_step, begun_running, broken_off, next_step, took}
 use Rattle.dr_program.specs.Steps.{stepped, stored}
 use Rattle.dr_program.proofs.Fixed.{Told, step_told}
 use Rattle.dr_program.proofs.Holdings.{held_of, replica_kept, replica_set}
 use Rattle.dr_program.proofs.Opening.{begins_at_the_opening, first_rows}
-use Rattle.dr_program.proofs.Runs.{after_ok}
+use Rattle.dr_program.proofs.Runs.{after_either, after_ok}
 use Rattle.dr_program_laws.proofs.Keeping.{begun_reached, move_kept}
-use Rattle.dr_refine.proofs.Deeds.{deed_step, program_member, replicas, rest_changes_nothing, settle_replica, step_is}
+use Rattle.dr_refine.proofs.Deeds.{deed_step, no_step_no_change, program_member, replicas, rest_changes_nothing, settle_replica, step_is}
+use Rattle.dr_machine.specs.Run.{IsReached}
+use Rattle.dr_refine.specs.Programs.{IsProgram}
 use Rattle.dr_refine.proofs.Members.{own_shown}
 use Rattle.dr_refine.proofs.Steps.{begun_is_program}
 use Rattle.dr_rows.specs.Words.{IsWords, begun, last_pushed, own, with_word, word_at}
@@ -38,16 +40,9 @@ use Rattle.dr_words.specs.declared.column.TheConstants.{BEAT_COLUMN}
 use Rattle.dr_words.specs.Columns.{columns_of}
 use Rattle.dr_program_laws.specs.Steady.{HasRooms, IsSteady}
 use Rattle.dr_program_laws.proofs.Acts.{table_stays, taken_pushed, taken_view}
+use Rattle.dr_program_laws.proofs.Programs.{replaced_either}
 
 -- ---- a move
-
--- so far each append goes well
-goes_well : (o : Outcome) → o ≡ outcomes.Ok
-goes_well outcomes.Ok = refl
-
--- so each move is one whose append goes well
-pub move_is_ok : (e : Move) → e ≡ ok e.member
-move_is_ok e = λ z. record { member = e.member; outcome = goes_well e.outcome z }
 
 -- a member after its next step
 abbrev pub stepped_on : Program → Running → Running
@@ -92,6 +87,11 @@ stepped_replica p r = settle_replica _ (took (next_sight p.table r) r (next_step
 stepped_limit : (p : Program) (r : Running) → (stepped_on p r).limit ≡ r.limit
 stepped_limit p r =
     ap (λ (x : Running). x.limit) (settle_only _ (took (next_sight p.table r) r (next_step r)))
+
+-- whether an append has failed
+pub stepped_failed : (p : Program) (r : Running) → (stepped_on p r).failed ≡ r.failed
+stepped_failed p r =
+    ap (λ (x : Running). x.failed) (settle_only _ (took (next_sight p.table r) r (next_step r)))
 
 -- the view
 step_view : (word : ℕ) (r : Replica) (s : Step) → (stepped word r s).view ≡ r.view
@@ -204,20 +204,15 @@ pub world_on : (g : Group) (p : Program) (m : ℕ) (r : Running) → IsSteady g 
     → slice_get p.members m ≡ Some r → r.replica.end ≡ None
     → CanTake g (world g p) m (next_step r)
     × (world g (step_of p (ok m)) ≡ effect_of g (world g p) m (next_step r))
-world_on g p m r is there unended = deed_step g p m r is.group is.program there unended
+world_on g p m r is there unended =
+    deed_step g p m outcomes.Ok r is.group is.program there unended (after_ok p.table r (next_step r))
 
 -- a member of the program after a move is the one that moved, or as it was
 moved_either : (p : Program) (m : ℕ) (r : Running) → slice_get p.members m ≡ Some r
     → r.replica.end ≡ None → (i : ℕ) (y : Running) → slice_get (step_of p (ok m)).members i ≡ Some y
     → ((i ≡ m) × (stepped_on p r ≡ y)) ⊎ ((i ≢ m) × (slice_get p.members i ≡ Some y))
-moved_either p m r there unended i y at = elim (cases_eq i m) [
-  | inl same ↦ inl (
-    same,
-    same_Some (stepped_on p r) y
-        (sym (moved_member p m r there unended) ∙ rw same at at),
-  )
-  | inr other ↦ inr (other, sym (other_member p m r i there unended other) ∙ at)
-]
+moved_either p m r there unended i y at = replaced_either p.members m r (stepped_on p r) there i y
+    (sym (ap (λ (x : Program). slice_get x.members i) (move_made p m r there unended)) ∙ at)
 
 steady_on : (g : Group) (p : Program) (m : ℕ) (r : Running) → IsSteady g p
     → slice_get p.members m ≡ Some r → r.replica.end ≡ None → IsSteady g (step_of p (ok m))
@@ -256,19 +251,96 @@ steady_on g p m r is there unended = record {
         × (world g (step_of p (ok m)) ≡ effect_of g (world g p) m (next_step r))
     moved = world_on g p m r is there unended
 
--- a move keeps a program steady
+-- the program after a move whose append fails
+failed_made : (p : Program) (m : ℕ) (why : LogWhy) (r : Running) → slice_get p.members m ≡ Some r
+    → r.replica.end ≡ None → next_step r ≡ Append
+    → step_of p (record { member = m; outcome = outcomes.Failed why }) ≡ record {
+      members = slice_set p.members m (broken_off why r);
+      table = stored p.table r.replica (next_step r);
+    }
+failed_made p m why r there unended due =
+    step_is p (record { member = m; outcome = outcomes.Failed why }) r there unended
+    ∙ ap (λ s. record {
+      members = slice_set p.members m (after_deed (next_sight p.table r) (outcomes.Failed why) r s);
+      table = stored p.table r.replica (next_step r);
+    }) due
+
+-- it leaves each member its replica and its limit
+failed_leaves : (p : Program) (m : ℕ) (why : LogWhy) (r : Running) → slice_get p.members m ≡ Some r
+    → (i : ℕ) (y : Running) → slice_get (slice_set p.members m (broken_off why r)) i ≡ Some y
+    → (x : Running) × (slice_get p.members i ≡ Some x) × (x.replica ≡ y.replica) × (x.limit ≡ y.limit)
+failed_leaves p m why r there i y at =
+    elim (replaced_either p.members m r (broken_off why r) there i y at) [
+      | inl here ↦ (
+        r,
+        rw here.0 there,
+        ap (λ (x : Running). x.replica) here.1,
+        ap (λ (x : Running). x.limit) here.1,
+      )
+      | inr other ↦ (y, other.1, refl, refl)
+    ]
+
+-- so it keeps the program steady
+steady_failed : (g : Group) (p : Program) (m : ℕ) (why : LogWhy) (r : Running) → IsSteady g p
+    → slice_get p.members m ≡ Some r → r.replica.end ≡ None → next_step r ≡ Append
+    → IsSteady g (record {
+      members = slice_set p.members m (broken_off why r);
+      table = stored p.table r.replica (next_step r);
+    })
+steady_failed g p m why r is there unended due = record {
+  group = is.group;
+  program = subst (IsProgram g) made kept.0;
+  reached = subst (λ q. IsReached g (world g q)) made kept.1;
+  limits = λ i y at. let old = failed_leaves p m why r there i y at in
+      subst (λ n. n < 2 ^ 32) old.3 (is.limits i old.0 old.1);
+  rooms = λ i y at. let old = failed_leaves p m why r there i y at in
+      subst (HasRooms g) old.2 (is.rooms i old.0 old.1);
+  pushes = λ i y at. let old = failed_leaves p m why r there i y at in
+      subst (λ v. ArePushed g v i y.replica) (sym same)
+      (subst (ArePushed g (world g p) i) old.2 (is.pushes i old.0 old.1));
+}
+  where
+    move : Move
+    move = record { member = m; outcome = outcomes.Failed why }
+
+    made : step_of p move ≡ record {
+      members = slice_set p.members m (broken_off why r);
+      table = stored p.table r.replica (next_step r);
+    }
+    made = failed_made p m why r there unended due
+
+    kept : IsProgram g (step_of p move) × IsReached g (world g (step_of p move))
+    kept = move_kept g p move is.group is.program is.reached
+
+    none : step_by r (outcomes.Failed why) ≡ None
+    none = ap (λ o. comes_to (step_due r o) (outcomes.Failed why)) unended
+        ∙ ap (λ s. comes_to (Some s) (outcomes.Failed why)) due
+
+    same : world g (record {
+      members = slice_set p.members m (broken_off why r);
+      table = stored p.table r.replica (next_step r);
+    }) ≡ world g p
+    same = sym (ap (world g) made) ∙ no_step_no_change g p move r there none
+
+-- a move keeps a program steady, however its append goes
 pub steady_moves : (g : Group) (p : Program) (e : Move) → IsSteady g p → IsSteady g (step_of p e)
-steady_moves g p e is = subst (λ x. IsSteady g (step_of p x)) (sym (move_is_ok e))
-    (by (slice_get p.members e.member) refl)
+steady_moves g p e is = by (slice_get p.members e.member) refl
   where
     at : (r : Running) → slice_get p.members e.member ≡ Some r → (o : Option End) → r.replica.end ≡ o
-        → IsSteady g (step_of p (ok e.member))
-    at r there None unended = steady_on g p e.member r is there unended
+        → IsSteady g (step_of p e)
+    at r there None unended = subst (IsSteady g) (sym (step_is p e r there unended))
+        (after_either (λ x. IsSteady g (record {
+          members = slice_set p.members e.member x;
+          table = stored p.table r.replica (next_step r);
+        })) p.table e.outcome r (next_step r)
+        (subst (IsSteady g) (move_made p e.member r there unended)
+        (steady_on g p e.member r is there unended))
+        (λ why due. steady_failed g p e.member why r is there unended due))
     at r there (Some x) ended = subst (IsSteady g)
-        (sym (rest_changes_nothing p (ok e.member) r there (ap is_some ended))) is
+        (sym (rest_changes_nothing p e r there (ap is_some ended))) is
 
-    by : (o : Option Running) → slice_get p.members e.member ≡ o → IsSteady g (step_of p (ok e.member))
-    by None none = subst (IsSteady g) (sym (ap (λ o. moved_by p o (ok e.member)) none)) is
+    by : (o : Option Running) → slice_get p.members e.member ≡ o → IsSteady g (step_of p e)
+    by None none = subst (IsSteady g) (sym (ap (λ o. moved_by p o e) none)) is
     by (Some r) there = at r there r.replica.end refl
 
 -- ---- the beginning

@@ -15,7 +15,7 @@ use Rattle.dr_program.specs.Program.{Program, next_sight, ok, step_of}
 use Rattle.dr_program.specs.Reading.{world}
 use Rattle.dr_program.specs.Replica.{Replica}
 use Rattle.dr_program.specs.Running as running
-use Rattle.dr_program.specs.Running.{Running, crashes_now, goes, members, next_step, push_or_crash, settled, step_at, took}
+use Rattle.dr_program.specs.Running.{Running, append_or_end, crashes_now, goes, members, next_step, push_or_crash, settled, step_at, took}
 use Rattle.dr_program.specs.Steps.{stepped}
 use Rattle.dr_program.specs.Turn.{IsIn, columns_in, is_beat, part_of, rows_in}
 use Rattle.dr_turn.specs.Search.{Passed}
@@ -42,10 +42,11 @@ settled_passed y =
 
 -- ---- a deed
 
--- member m is within its turn, with nothing left to do before its place
+-- member m is within its turn, no append of it has failed, and nothing is left to do before its place
 pub record IsWithin (g : Group) (p : Program) (m : ℕ) (r : Running) : Type 0 where
   pub going : IsGoing g p m r
   pub begun : is_beat (part_of r.place) ≡ false
+  pub well : r.failed ≡ None
   pub swept : Swept g (world g p) m r.place
 
 -- it stands at a place of the group's turn
@@ -164,6 +165,9 @@ knows_next g p m r is = by (part_of r.place) refl
         (push_or_crash b r.place.row r.place.column)).end) crash ∙ is.going.unended)
 
     by : (part : Part) → part_of r.place ≡ part → KnowsNext g p m r
+    by parts.Append at = onward g p m r parts.Append is at (ap append_or_end is.well)
+        (ap (λ o. (stepped (next_sight p.table r) r.replica (append_or_end o)).end) is.well
+        ∙ is.going.unended)
     by parts.Push at = push (crashes_now r) refl at
     by parts.Crash at = ended g p m r parts.Crash ends.Crashed is at refl tt
     by parts.Done at = ended g p m r parts.Done ends.Done is at refl

@@ -47,7 +47,8 @@ less_kept : (g : Group) (w : World) (m : ℕ) (r : Running) (part : Part) (i c j
 less_kept g w m r parts.Look i c j d row column less = λ old other.
     seen_less w.seen m i c (w.table (w.past.view m) m i c) j d less ∙ old other
 less_kept g w m r parts.Receive i c j d row column less = λ old wants.
-    old (gained_other g w m i j (apart (one_column j d i c column less)) wants)
+    old (gained_other g w (effect_of g w m (uncrashed r parts.Receive i c)) m i j
+    (apart (one_column j d i c column less)) refl wants.0 wants.1)
   where
     apart : j < i → j ≢ i
     apart l same = absurd (omega (arith, l, same))

@@ -1,6 +1,7 @@
 -- A whole turn of a member.
 use Rattle.std.proofs.Common.{◌≡◌, ◌≢◌, refl, sym, ap, ◌∙◌, subst, ◌⊎◌, ℕ, suc, ◌+◌, ◌<◌, ◌≤◌, ◌||◌, Bool, true, false, List, [], ◌∷◌, length, take, le_trans, arith}
 use Rattle.std.specs.Prelude.{All, Option, None, Some, is_some, slice_get}
+use Rattle.std.proofs.lemmas.Option.{same_Some}
 use Rattle.dr_entry.specs.declared.end.End.{End}
 use Rattle.dr_faithful.proofs.Faithfulness.{faithful, grew}
 use Rattle.dr_faithful.specs.Faithful.{Faithful}
@@ -11,28 +12,31 @@ use Rattle.dr_machine.specs.Effects.{one_more}
 use Rattle.dr_machine.specs.Group.{Group}
 use Rattle.dr_machine.specs.World.{World}
 use Rattle.dr_machine.specs.Writes.{at}
+use Rattle.dr_program.specs.declared.outcome.LogWhy.{LogWhy}
+use Rattle.dr_program.specs.declared.outcome.Outcome.TheVariants as outcomes
 use Rattle.dr_program.specs.declared.place.Part.{Part}
 use Rattle.dr_program.specs.declared.place.Part.TheVariants as parts
-use Rattle.dr_program.specs.Program.{Move, Program, next_sight, ok, ran, step_of}
+use Rattle.dr_program.specs.Program.{AllOk, Move, Program, next_sight, ok, ran, step_of}
 use Rattle.dr_program.specs.Form.{IsRunningMember}
 use Rattle.dr_program.specs.Reading.{world}
 use Rattle.dr_program.specs.Replica.{Replica}
 use Rattle.dr_program.specs.Steps.{stepped}
 use Rattle.dr_program.specs.Running as running
-use Rattle.dr_program.specs.Running.{Running, crashes_now, goes, members, next_step, push_or_crash, step_at, took}
+use Rattle.dr_program.specs.Running.{Running, append_or_end, crashes_now, goes, members, next_step, push_or_crash, step_at, took}
 use Rattle.dr_program.specs.Schedule.{IsTurn, is_between_turns}
 use Rattle.dr_program.specs.Turn.{after, is_beat, part_of, turn_begins}
 use Rattle.dr_program.proofs.Holdings.{held_of}
 use Rattle.dr_refine.proofs.Deeds.{program_member, replicas}
 use Rattle.dr_turn.specs.Search.{IsUnderway}
 use Rattle.dr_turn.proofs.Deeds.{beat_place, one_turn}
+use Rattle.dr_program_laws.specs.Failing.{has_log_end}
 use Rattle.dr_program_laws.specs.Rested.{HasTurned}
 use Rattle.dr_program_laws.specs.Steady.{IsSteady}
 use Rattle.dr_program_laws.specs.Swept.{IsBefore, Swept}
 use Rattle.dr_program_laws.proofs.Acts.{turns_stay}
 use Rattle.dr_program_laws.proofs.Passing.{IsGoing, passes}
-use Rattle.dr_program_laws.proofs.Resting.{Knows, rests}
-use Rattle.dr_program_laws.proofs.Steadying.{move_is_ok, moved_member, other_member, steady_moves, stepped_on, stepped_replica, world_on}
+use Rattle.dr_program_laws.proofs.Resting.{Knows, knows_logs, rests}
+use Rattle.dr_program_laws.proofs.Steadying.{moved_member, other_member, steady_moves, stepped_failed, stepped_on, stepped_replica, world_on}
 use Rattle.dr_program_laws.proofs.Stepping.{knows_next, settled_passed}
 
 -- ---- what a deed leaves of turns and own words
@@ -40,6 +44,11 @@ use Rattle.dr_program_laws.proofs.Stepping.{knows_next, settled_passed}
 -- the turns, but where one begins
 turns_on : (g : Group) (w : World) (m : ℕ) (r : Running) (part : Part) (i c : ℕ)
     → is_beat part ≡ false → (effect_of g w m (step_at r part i c)).turns m ≡ w.turns m
+turns_on g w m r parts.Append i c other = by r.failed
+  where
+    by : (o : Option LogWhy) → (effect_of g w m (append_or_end o)).turns m ≡ w.turns m
+    by None = refl
+    by (Some why) = refl
 turns_on g w m r parts.Push i c other = by (crashes_now r)
   where
     by : (b : Bool) → (effect_of g w m (push_or_crash b i c)).turns m ≡ w.turns m
@@ -68,9 +77,9 @@ end_is : (g : Group) (p : Program) (m : ℕ) (r : Running) → IsSteady g p
 end_is g p m r is there = ap (λ h. h.end) (held_of g (replicas p.members) p.table m r.replica
     (program_member g p m r is.group is.program there).there)
 
--- a move of m is the one whose append goes well
-is_move : (e : Move) (m : ℕ) → e.member ≡ m → e ≡ ok m
-is_move e m own = move_is_ok e ∙ ap ok own
+-- a move of m whose append goes well
+is_move : (e : Move) (m : ℕ) → e.member ≡ m → e.outcome ≡ outcomes.Ok → e ≡ ok m
+is_move e m own well = λ z. record { member = own z; outcome = well z }
 
 -- ---- a turn
 
@@ -79,6 +88,7 @@ record HasGone (g : Group) (p : Program) (m : ℕ) (u : Program) : Type 0 where
   steady : IsSteady g u
   member : Running
   there : slice_get u.members m ≡ Some member
+  well : member.failed ≡ None
   knows : Knows g (world g u) m member.place member.replica.end
   others : (i : ℕ) → i ≢ m → slice_get u.members i ≡ slice_get p.members i
   turns : (world g u).turns m ≡ (world g p).turns m + 1
@@ -109,12 +119,13 @@ begins g p m r is at q inside before =
     nothing a i c earlier = grind (arith, earlier)
 
 -- the first deed begins a turn
-first_deed : (g : Group) (p : Program) (m : ℕ) (r : Running) → IsGoing g p m r
+first_deed : (g : Group) (p : Program) (m : ℕ) (r : Running) → IsGoing g p m r → r.failed ≡ None
     → part_of r.place ≡ turn_begins → HasGone g p m (step_of p (ok m))
-first_deed g p m r is begins_at = record {
+first_deed g p m r is well begins_at = record {
   steady = steady;
   member = stepped_on p r;
   there = there;
+  well = stepped_failed p r ∙ well;
   knows = subst (Knows g after_it m (stepped_on p r).place) (sym none)
       (passes g (step_of p (ok m)) m (stepped_on p r) (took (next_sight p.table r) r (next_step r)).place
       (stepped_on p r).place (record { steady = steady; there = there; unended = none })
@@ -165,9 +176,11 @@ next_deed g p m u gone between = record {
   steady = steady_moves g u (ok m) gone.steady;
   member = stepped_on u r;
   there = moved_member u m r gone.there amid.0;
+  well = stepped_failed u r ∙ gone.well;
   knows = knows_next g u m r (record {
     going = is;
     begun = amid.1;
+    well = gone.well;
     swept = subst (Knows g (world g u) m r.place) amid.0 gone.knows;
   });
   others = λ i other. other_member u m r i gone.there amid.0 other ∙ gone.others i other;
@@ -187,16 +200,18 @@ next_deed g p m u gone between = record {
 
 -- by these moves of it, behind none of which but the last it is between turns
 goes_on : (g : Group) (p : Program) (m : ℕ) (es : List Move) (u : Program) → HasGone g p m u
-    → All (λ (e : Move). e.member ≡ m) es
+    → All (λ (e : Move). e.member ≡ m) es → AllOk es
     → ((k : ℕ) → k < length es → is_between_turns (slice_get (ran u (take k es)).members m) ≡ false)
     → HasGone g p m (ran u es)
 unfolding ran
-goes_on g p m [] u gone own between = gone
-goes_on g p m (e ∷ es) u gone own between =
+goes_on g p m [] u gone own well between = gone
+goes_on g p m (e ∷ es) u gone own well between =
     goes_on g p m es (step_of u e)
-    (subst (λ x. HasGone g p m (step_of u x)) (sym (is_move e m (own 0 e (omega arith))))
+    (subst (λ x. HasGone g p m (step_of u x))
+    (sym (is_move e m (own 0 e (omega arith)) (well 0 e (omega arith))))
     (next_deed g p m u gone (between 0 (omega arith))))
-    (λ k d l. own (suc k) d (omega (arith, l))) (λ k l. between (suc k) (omega (arith, l)))
+    (λ k d l. own (suc k) d (omega (arith, l))) (λ k d l. well (suc k) d (omega (arith, l)))
+    (λ k l. between (suc k) (omega (arith, l)))
 
 -- ---- the whole turn
 
@@ -211,6 +226,10 @@ turned g p m q gone whole = record {
       (sym (ap is_between_turns gone.there) ∙ whole)
       (λ i member. told.views.within ((world g q).past.view m) i
       (sym (ap (λ x. has x i) (told.views.own m)) ∙ member)) gone.knows;
+  well = λ y there. subst (λ (x : Running). x.failed ≡ None)
+      (same_Some gone.member y (sym gone.there ∙ there)) gone.well;
+  logs = ap has_log_end (end_is g q m gone.member gone.steady gone.there)
+      ∙ knows_logs g (world g q) m gone.member.place gone.member.replica.end gone.knows;
   others = gone.others;
   turns = gone.turns;
   rises = gone.rises;
@@ -219,17 +238,18 @@ turned g p m q gone whole = record {
     told : Faithful g (views_of g (world g q)) (world g q)
     told = faithful g (world g q) gone.steady.group gone.steady.reached
 
--- a member that stands before a turn takes it
+-- a member that stands before a turn takes it, where no append of it has failed or fails
 pub takes_turn : (g : Group) (p : Program) (m : ℕ) (r : Running) (es : List Move) (q : Program)
-    → IsSteady g p → slice_get p.members m ≡ Some r → r.replica.end ≡ None
-    → part_of r.place ≡ turn_begins → IsTurn m p es q → HasTurned g p m q
+    → IsSteady g p → slice_get p.members m ≡ Some r → r.replica.end ≡ None → r.failed ≡ None
+    → part_of r.place ≡ turn_begins → AllOk es → IsTurn m p es q → HasTurned g p m q
 unfolding ran
-takes_turn g p m r [] q is there unended begins_at turn = absurd (omega (arith, turn.some))
-takes_turn g p m r (e ∷ es) q is there unended begins_at turn =
+takes_turn g p m r [] q is there unended unfailed begins_at well turn = absurd (omega (arith, turn.some))
+takes_turn g p m r (e ∷ es) q is there unended unfailed begins_at well turn =
     turned g p m q
     (subst (HasGone g p m) (sym turn.taken) (goes_on g p m es (step_of p e)
-    (subst (λ x. HasGone g p m (step_of p x)) (sym (is_move e m (turn.own 0 e (omega arith))))
-    (first_deed g p m r (record { steady = is; there = there; unended = unended }) begins_at))
-    (λ k d l. turn.own (suc k) d (omega (arith, l)))
+    (subst (λ x. HasGone g p m (step_of p x))
+    (sym (is_move e m (turn.own 0 e (omega arith)) (well 0 e (omega arith))))
+    (first_deed g p m r (record { steady = is; there = there; unended = unended }) unfailed begins_at))
+    (λ k d l. turn.own (suc k) d (omega (arith, l))) (λ k d l. well (suc k) d (omega (arith, l)))
     (λ k l. turn.first (suc k) (omega arith) (omega (arith, l)))))
     turn.whole

@@ -1,6 +1,7 @@
 -- How the members of an age are to end.
-use Rattle.std.specs.Prelude.{◌≡◌, ◌⊎◌, ℕ, ◌<◌, ◌≤◌, All, Any, List, ◌++◌, length, slice_get, Some}
-use Rattle.dr_entry.specs.declared.end.End.TheVariants.{Done, Crashed, Spent}
+use Rattle.std.specs.Prelude.{◌≡◌, ◌⊎◌, ℕ, ◌<◌, ◌≤◌, All, Any, Bool, true, false, List, ◌++◌, length, slice_get, Some}
+use Rattle.dr_entry.specs.declared.end.End.{End}
+use Rattle.dr_entry.specs.declared.end.End.TheVariants.{Done, Crashed, DiskFault, LogFull, Spent}
 use Rattle.dr_entry.specs.declared.end.MemberEnd.{MemberEnd}
 use Rattle.dr_history.specs.declared.opening.Opening.{Opening}
 use Rattle.dr_history.specs.Order.{first_entries}
@@ -40,9 +41,21 @@ pub record HasCrashed (points : List CrashPoint) (e : MemberEnd) : Type 0 where
   pub named : Any (λ (c : CrashPoint). c.turn ≡ e.turns) points
   pub first : All (λ (c : CrashPoint). 1 ≤ c.turn → e.turns ≤ c.turn) points
 
+-- the end is that of a log that failed or was full
+abbrev pub is_log_end : End → Bool
+is_log_end DiskFault = true
+is_log_end (LogFull len) = true
+is_log_end end = false
+
+-- a member has ended by its log, in no later turn than the first that a crash point names
+pub record HasStopped (points : List CrashPoint) (e : MemberEnd) : Type 0 where
+  pub end : is_log_end e.end ≡ true
+  pub first : All (λ (c : CrashPoint). 1 ≤ c.turn → e.turns ≤ c.turn) points
+
 -- a member with these crash points, which takes at most so many turns, has ended as it should
 abbrev pub HasEnded : Opening → ℕ → List CrashPoint → MemberEnd → Type 0
-HasEnded o limit points e = IsDone o points e ⊎ (IsSpent limit points e ⊎ HasCrashed points e)
+HasEnded o limit points e =
+    IsDone o points e ⊎ (IsSpent limit points e ⊎ (HasCrashed points e ⊎ HasStopped points e))
 
 -- all members have, each with the crash points of its number
 abbrev pub HaveEnded : Opening → ℕ → (ℕ → List CrashPoint) → List MemberEnd → Type 0

@@ -1,4 +1,5 @@
 pub mod Ended
+pub mod Failing
 pub mod Wants
 pub mod Steady
 pub mod Rested

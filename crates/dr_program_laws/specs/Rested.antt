@@ -1,12 +1,14 @@
 -- What a whole turn of a member brings about.
-use Rattle.std.specs.Prelude.{◌≡◌, ◌≢◌, ◌↔◌, ◌⊎◌, ℕ, ◌+◌, ◌<◌, ◌≤◌, slice_get, true, None, Some}
+use Rattle.std.specs.Prelude.{◌≡◌, ◌≢◌, ◌↔◌, ◌⊎◌, ℕ, ◌+◌, ◌<◌, ◌≤◌, slice_get, true, false, None, Some}
 use Rattle.dr_entry.specs.declared.end.End.TheVariants.{Crashed, Done}
 use Rattle.dr_machine.specs.declared.step.Step.{Step}
 use Rattle.dr_machine.specs.Group.{Group, columns, roster}
 use Rattle.dr_machine.specs.World.{World, own_word}
 use Rattle.dr_program.specs.Program.{Program}
 use Rattle.dr_program.specs.Reading.{world}
+use Rattle.dr_program.specs.Running.{Running}
 use Rattle.dr_words.specs.declared.column.TheConstants.{BEAT_COLUMN}
+use Rattle.dr_program_laws.specs.Failing.{has_log_end}
 use Rattle.dr_program_laws.specs.Steady.{IsSteady}
 use Rattle.dr_program_laws.specs.Wants.{SeesAllDone, Wants, is_work}
 
@@ -34,6 +36,9 @@ pub record HasTurned (g : Group) (p : Program) (m : ℕ) (q : Program) : Type 0 
   pub steady : IsSteady g q
   -- it has crashed, or has nothing left to do
   pub rested : ((world g q).end m ≡ Some Crashed) ⊎ IsRested g (world g q) m
+  -- no append of it has failed, and it hasn't ended by its log
+  pub well : (r : Running) → slice_get q.members m ≡ Some r → r.failed ≡ None
+  pub logs : has_log_end ((world g q).end m) ≡ false
   -- the other members are as they were
   pub others : (i : ℕ) → i ≢ m → slice_get q.members i ≡ slice_get p.members i
   -- it has had a turn more, and no own word has fallen

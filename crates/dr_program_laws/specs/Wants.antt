@@ -1,5 +1,5 @@
 -- What a step asks of a member that may choose and suspects nobody.
-use Rattle.std.specs.Prelude.{◌≡◌, ◌≢◌, ⊤, ℕ, ◌-◌, ◌<◌, ◌≤◌, ◌⊎◌, Bool, true, false, length}
+use Rattle.std.specs.Prelude.{◌≡◌, ⊤, ℕ, ◌<◌, ◌≤◌, Bool, true, false, length}
 use Rattle.dr_entry.specs.declared.end.End.TheVariants.{Done}
 use Rattle.dr_history.specs.History.{messages_of}
 use Rattle.dr_history.specs.Members.{has}
@@ -7,16 +7,10 @@ use Rattle.dr_machine.specs.declared.event.Act.TheVariants as acts
 use Rattle.dr_machine.specs.declared.step.Step.{Step}
 use Rattle.dr_machine.specs.declared.step.Step.TheVariants as steps
 use Rattle.dr_machine.specs.Group.{Group, columns}
-use Rattle.dr_machine.specs.Guards.{HoldsAll, IsBehind, IsFault, next_index, seen_slot}
+use Rattle.dr_machine.specs.Guards.{HasRoom, HoldsAll, IsBehind, IsFault, IsOther, next_index, seen_slot}
 use Rattle.dr_machine.specs.World.{World, count_of, own_word, shown}
 use Rattle.dr_ring.specs.Slots.{IsReady}
 use Rattle.dr_words.specs.declared.column.TheConstants.{DONE_COLUMN, LOGGED_COLUMN, RECEIVED_COLUMN}
-use Rattle.dr_words.specs.Columns.{recv_column}
-use Rattle.dr_words.specs.Packing.{recv_count}
-
--- i is another member of m's view
-abbrev pub IsAnother : World → ℕ → ℕ → Type 0
-IsAnother w m i = (has (w.members m) i ≡ true) × (i ≢ m)
 
 -- all words that the next item of s needs are seen
 abbrev pub IsThere : Group → World → ℕ → ℕ → Type 0
@@ -24,18 +18,11 @@ IsThere g w m s = IsReady (count_of w m s) (seen_slot g w m s (count_of w m s))
 
 -- the next item of s is to be taken
 abbrev pub IsToTake : Group → World → ℕ → ℕ → Type 0
-IsToTake g w m s = IsAnother w m s × IsThere g w m s
+IsToTake g w m s = IsOther w m s × IsThere g w m s
 
 -- a message is left
 abbrev pub IsLeft : Group → World → ℕ → Type 0
 IsLeft g w m = next_index w m < length (messages_of g.opening m)
-
--- the slot of m's next item is free
-abbrev pub HasSlot : Group → World → ℕ → Type 0
-HasSlot g w m =
-    (count_of w m m < g.window)
-    ⊎ ((i : ℕ) → has (w.members m) i ≡ true → i ≢ m
-    → count_of w m m - g.window < recv_count (w.seen m i (recv_column m)))
 
 -- no message is left
 abbrev pub NoneIsLeft : Group → World → ℕ → Type 0
@@ -62,16 +49,16 @@ IsToMark g w m = (own_word w m DONE_COLUMN ≡ 0) × HoldsAll g w m
 abbrev pub Wants : Group → World → ℕ → Step → Type 0
 Wants g w m (steps.Do acts.Beat) = ⊤
 Wants g w m (steps.Do (acts.Receive s)) = IsToTake g w m s
-Wants g w m (steps.Do acts.Send) = IsLeft g w m × HasSlot g w m
-Wants g w m (steps.Do acts.Null) = NoneIsLeft g w m × HasSlot g w m × IsBehind w m
+Wants g w m (steps.Do acts.Send) = IsLeft g w m × HasRoom g w m (count_of w m m)
+Wants g w m (steps.Do acts.Null) = NoneIsLeft g w m × HasRoom g w m (count_of w m m) × IsBehind w m
 Wants g w m (steps.Do acts.Deliver) = ShowsMore w m RECEIVED_COLUMN (w.next m)
 Wants g w m (steps.Do acts.Publish) = IsToPublish w m
 Wants g w m (steps.Do acts.Report) = ShowsMore w m LOGGED_COLUMN (w.past.durable m)
 Wants g w m (steps.Do acts.Mark) = IsToMark g w m
 Wants g w m (steps.Do (acts.Halt end)) = (end ≡ Done) × SeesAllDone w m
 Wants g w m (steps.Do (acts.Crash end)) = IsFault end
-Wants g w m (steps.Look i c) = IsAnother w m i × (c < columns g)
-Wants g w m (steps.Push j c) = IsAnother w m j × (c < columns g)
+Wants g w m (steps.Look i c) = IsOther w m i × (c < columns g)
+Wants g w m (steps.Push j c) = IsOther w m j × (c < columns g)
 Wants g w m steps.Append = length (w.past.log m) < length (w.past.history m)
 
 -- the steps that a turn has to do between its looks and its pushes, where they are asked for

@@ -26,6 +26,7 @@ ghost use Rattle.dr_restart.specs.Groups.{group_of};
 ghost use Rattle.dr_restart.specs.Setups.{IsBegun, crashes_of};
 ghost use Rattle.dr_script.specs.declared.script.Script.{Script};
 ghost use Rattle.dr_program_laws.specs.Ended.{HaveEnded};
+ghost use Rattle.dr_program_laws.specs.Failing.{AreFailing, IsFailing};
 
 pub use turns::{a_turn_leaves_nothing_to_do, programs_are_steady, what_is_asked_is_the_guard};
 
@@ -69,8 +70,8 @@ pub fn ends_agree()
 {}
 
 /// Members that have all ended have ended as they should, each by its setup: done, with everything, or
-/// with all turns spent, or crashed where its setup says. It holds whatever deeds they took, and in whatever
-/// order.
+/// with all turns spent, or crashed where its setup says, or by a log that failed or was full, in no later
+/// turn than that of its crash. It holds whatever deeds they took, and in whatever order.
 pub fn members_end_as_they_should()
     ensures { (g : Group) (turns : ℕ) (setups : List Setup) (points : ℕ → List CrashPoint) (p : Program)
         → IsGroup g → 1 ≤ turns → AreSetups g turns setups
@@ -87,4 +88,14 @@ pub fn members_end_as_their_script_says()
         → IsBegun script start nth begun → IsRanFrom begun p → AllEnded p
         → HaveEnded (group_of script start).opening script.turns (crashes_of script.faults nth)
         (map end_of p.members) }
+{}
+
+/// A member whose append fails ends by that, with its next act, and no other member ends by its log. Each
+/// move keeps it so.
+pub fn failed_appends_end_their_members()
+    ensures ends { (g : Group) (turns : ℕ) (setups : List Setup) (p : Program) (m : ℕ) (r : Running)
+        → IsGroup g → 1 ≤ turns → AreSetups g turns setups
+        → IsRanFrom (begun_program g setups) p → slice_get p.members m ≡ Some r → IsFailing r }
+    ensures keeps { (g : Group) (p : Program) (e : Move) → IsProgram g p → AreFailing p
+        → AreFailing (step_of p e) }
 {}

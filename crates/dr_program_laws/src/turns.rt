@@ -6,7 +6,7 @@ ghost use Rattle.dr_machine.specs.Group.{Group, IsGroup};
 ghost use Rattle.dr_machine.specs.Guards.{IsUnwedged, MayChoose};
 ghost use Rattle.dr_machine.specs.World.{World};
 ghost use Rattle.dr_program.specs.declared.setup.Setup.{Setup};
-ghost use Rattle.dr_program.specs.Program.{AreSetups, Move, Program, begun_program, step_of};
+ghost use Rattle.dr_program.specs.Program.{AllOk, AreSetups, Move, Program, begun_program, step_of};
 ghost use Rattle.dr_program.specs.Running.{Running};
 ghost use Rattle.dr_program.specs.Schedule.{IsTurn};
 ghost use Rattle.dr_program.specs.Turn.{part_of, turn_begins};
@@ -27,13 +27,14 @@ pub fn what_is_asked_is_the_guard()
         → Wants g w m s ↔ CanTake g w m s }
 {}
 
-/// After a whole turn a member has nothing left to do, unless it has crashed: none of the steps from the
-/// receipts to the mark may come, all at once; it has seen the table as it stands; and the table has its
-/// words. It has ended as done exactly where it sees that all are done.
+/// After a whole turn, where its appends have gone well and go well in it, a member has nothing left to do,
+/// unless it has crashed: none of the steps from the receipts to the mark may come, all at once; it has seen
+/// the table as it stands; and the table has its words. It has ended as done exactly where it sees that all
+/// are done.
 pub fn a_turn_leaves_nothing_to_do()
     ensures turned { (g : Group) (p : Program) (m : ℕ) (r : Running) (es : List Move) (q : Program)
-        → IsSteady g p → slice_get p.members m ≡ Some r → r.replica.end ≡ None
-        → part_of r.place ≡ turn_begins → IsTurn m p es q → HasTurned g p m q }
+        → IsSteady g p → slice_get p.members m ≡ Some r → r.replica.end ≡ None → r.failed ≡ None
+        → part_of r.place ≡ turn_begins → AllOk es → IsTurn m p es q → HasTurned g p m q }
     ensures none_may_come { (g : Group) (w : World) (m : ℕ) (s : Step) → IsRested g w m
         → is_work s ≡ true → CanTake g w m s → ⊥ }
 {}

@@ -1,8 +1,9 @@
 -- What the histories of a group are made of.
-use Rattle.std.specs.Prelude.{◌≡◌, ℕ, ◌<◌, List, ◌++◌}
+use Rattle.std.specs.Prelude.{◌≡◌, ℕ, ◌<◌, List, ◌++◌, All, Some, slice_get}
 use Rattle.dr_entry.specs.declared.entry.Entry.{Entry}
+use Rattle.dr_entry.specs.declared.entry.Entry.TheVariants.{View, Msg}
 use Rattle.dr_history.specs.Members.{members_of}
-use Rattle.dr_history.specs.History.{GroupView, merge}
+use Rattle.dr_history.specs.History.{GroupView, merge, messages_of}
 use Rattle.dr_history.specs.Order.{first_entries}
 use Rattle.dr_history_laws.specs.Laid.{laid, GoesOn, counts_sent}
 use Rattle.dr_machine.specs.Group.{Group, roster}
@@ -42,3 +43,14 @@ pub record IsMerged (g : Group) (V : Views) (H : Heads) (w : World) (m : ℕ) : 
   pub historic : Historic g V H w
   pub history : let v = view_numbered g V (w.past.view m) in
       w.past.history m ≡ H (w.past.view m) ++ merge g.opening w.past.sent v (counts_sent w.past.sent v)
+
+-- an entry is one of the messages that the script gives to its sender, a member of the roster
+abbrev pub IsOfScript : Group → Entry → Type 0
+IsOfScript g (View age number members) = ⊥
+IsOfScript g (Msg sender index bytes) =
+    (sender < roster g) × (slice_get (messages_of g.opening sender) index ≡ Some bytes)
+
+-- behind its first entries a history holds messages of the script, and nothing else
+abbrev pub HoldsMessages : Group → List Entry → Type 0
+HoldsMessages g history =
+    (more : List Entry) × (history ≡ first_entries g.opening ++ more) × All (IsOfScript g) more

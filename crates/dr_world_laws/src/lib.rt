@@ -6,8 +6,9 @@
 //! `docs/PROOFS.md` shows how.
 #![tactic(auto)]
 
-ghost use Rattle.std.specs.Prelude.{◌≡◌, ℕ, ◌<◌, List, ◌++◌, length, Some};
+ghost use Rattle.std.specs.Prelude.{◌≡◌, ℕ, ◌<◌, List, ◌++◌, All, length, Some};
 ghost use Rattle.dr_entry.specs.declared.end.End.TheVariants.{Done};
+ghost use Rattle.dr_entry.specs.Spelling.{IsValidEntry};
 ghost use Rattle.dr_faithful.specs.Tells.{Views};
 ghost use Rattle.dr_machine.specs.declared.event.Event.{Event};
 ghost use Rattle.dr_machine.specs.Group.{Group, IsGroup, roster};
@@ -16,7 +17,7 @@ ghost use Rattle.dr_machine.specs.Guards.{HoldsAll};
 ghost use Rattle.dr_machine.specs.Run.{Run, IsReached, WorldAgreed};
 ghost use Rattle.dr_history.specs.Order.{first_entries};
 ghost use Rattle.dr_history_laws.specs.Remaining.{remaining};
-ghost use Rattle.dr_world_laws.specs.Historic.{AreLaid, Heads, IsMerged};
+ghost use Rattle.dr_world_laws.specs.Historic.{AreLaid, Heads, HoldsMessages, IsMerged};
 
 /// In every world that a group reaches its members agree: on their histories, on their logs, and on what
 /// is durable. So they do after every list of events.
@@ -31,6 +32,15 @@ pub fn agreement()
 pub fn histories_are_laid()
     ensures { (g : Group) (w : World) → IsGroup g → IsReached g w
         → AreLaid g w }
+{}
+
+/// Behind its first entries each history holds messages of the script, and nothing else. Each entry of a
+/// history, from the start on, is a valid record.
+pub fn histories_hold_messages()
+    ensures messages { (g : Group) (w : World) (m : ℕ) → IsGroup g → IsReached g w
+        → m < roster g → HoldsMessages g (w.past.history m) }
+    ensures valid { (g : Group) (w : World) (m : ℕ) → IsGroup g → IsReached g w
+        → m < roster g → All IsValidEntry (w.past.history m) }
 {}
 
 /// A member that has ended as done has delivered all messages of the script, and knows its whole history to

@@ -1,0 +1,118 @@
+-- A failed append ends its member.
+use Rattle.std.proofs.Common.{◌≡◌, refl, sym, ap, ◌∙◌, subst, inl, inr, ℕ, ◌≤◌, Bool, true, false, List}
+use Rattle.std.specs.Prelude.{Option, None, Some, is_some, option_map, slice_get}
+use Rattle.std.proofs.lemmas.Option.{same_Some, slice_get-map}
+use Rattle.dr_entry.specs.declared.end.End.{End}
+use Rattle.dr_machine.specs.declared.step.Step.TheVariants.{Append}
+use Rattle.dr_machine.specs.Group.{Group, IsGroup}
+use Rattle.dr_program.specs.declared.outcome.LogWhy.{LogWhy}
+use Rattle.dr_program.specs.declared.place.Part.{Part}
+use Rattle.dr_program.specs.declared.place.Part.TheVariants as parts
+use Rattle.dr_program.specs.declared.setup.Setup.{Setup}
+use Rattle.dr_program.specs.Form.{IsRunningMember}
+use Rattle.dr_program.specs.Program.{AreSetups, IsRanFrom, Move, Program, after_deed, begun_program, moved_by, next_sight, step_of}
+use Rattle.dr_program.specs.Running.{Running, after_step, append_or_end, begun_running, broken_off, crashes_now, end_by, next_step, push_or_crash, step_at, took}
+use Rattle.dr_program.specs.Steps.{stepped}
+use Rattle.dr_program.specs.Turn.{part_of}
+use Rattle.dr_program.proofs.Runs.{after_either}
+use Rattle.dr_refine.specs.Programs.{IsProgram}
+use Rattle.dr_refine.proofs.Deeds.{rest_changes_nothing, step_is}
+use Rattle.dr_refine.proofs.Steps.{begun_is_program}
+use Rattle.dr_turn.proofs.Failing.{append_at}
+use Rattle.dr_turn.proofs.Search.{settle_only}
+use Rattle.dr_program_laws.specs.Failing.{AreFailing, EndsBy, IsFailing, has_log_end}
+use Rattle.dr_program_laws.proofs.Acts.{is_end, no_end, taken_end}
+use Rattle.dr_program_laws.proofs.Keeping.{begun_reached}
+use Rattle.dr_program_laws.proofs.Programs.{ran_keeps, replaced_either}
+
+-- ---- one deed
+
+-- where no append has failed no part of a turn ends its member by its log
+no_log_end : (word : ℕ) (r : Running) (part : Part) (i c : ℕ) → r.failed ≡ None → r.replica.end ≡ None
+    → is_end part ≡ false → has_log_end (stepped word r.replica (step_at r part i c)).end ≡ false
+no_log_end word r parts.Append i c well none plain =
+    ap (λ o. has_log_end (stepped word r.replica (append_or_end o)).end) well ∙ ap has_log_end none
+no_log_end word r parts.Push i c well none plain = by (crashes_now r)
+  where
+    by : (b : Bool) → has_log_end (stepped word r.replica (push_or_crash b i c)).end ≡ false
+    by true = refl
+    by false = ap has_log_end none
+no_log_end word r parts.Crash i c well none plain = refl
+no_log_end word r parts.Done i c well none plain = refl
+no_log_end word r parts.Spent i c well none plain = refl
+no_log_end word r (parts.Do a) i c well none plain = ap has_log_end (taken_end r.replica a plain ∙ none)
+no_log_end word r part i c well none plain = ap has_log_end none
+
+-- a member that takes its step
+takes : (word : ℕ) (r : Running) → IsRunningMember r → r.replica.end ≡ None → IsFailing r
+    → IsFailing (after_step word r)
+takes word r member none is = record {
+  well = λ unfailed. ap (λ (x : Running). has_log_end x.replica.end) only
+      ∙ no_log_end word r (part_of r.place) r.place.row r.place.column
+      (sym (ap (λ (x : Running). x.failed) only) ∙ unfailed) none (no_end r.place.part member.place.part);
+  broken = λ why failed. inr (ap (λ (x : Running). x.replica.end) only
+      ∙ ends why (is.broken why (sym (ap (λ (x : Running). x.failed) only) ∙ failed)));
+}
+  where
+    only : after_step word r ≡ record (took word r (next_step r)) { place = (after_step word r).place }
+    only = settle_only _ (took word r (next_step r))
+
+    ends : (why : LogWhy) → EndsBy why r → (stepped word r.replica (next_step r)).end ≡ Some (end_by why)
+    ends why (inl due) = ap (λ s. (stepped word r.replica s).end) due.1
+    ends why (inr over) = absurd (cc (none, over))
+
+-- a member whose append fails
+breaks : (why : LogWhy) (r : Running) → r.replica.end ≡ None → next_step r ≡ Append
+    → IsFailing (broken_off why r)
+breaks why r none due = record {
+  well = λ unfailed. absurd (cc);
+  broken = λ reason failed. inl (none, at_append ∙ ap append_or_end failed);
+}
+  where
+    at_append : next_step (broken_off why r) ≡ append_or_end (Some why)
+    at_append = ap (λ part. step_at (broken_off why r) part r.place.row r.place.column)
+        (append_at r (part_of r.place) r.place.row r.place.column due).0
+
+-- ---- a move
+
+pub move_fails : (g : Group) (p : Program) (e : Move) → IsProgram g p → AreFailing p
+    → AreFailing (step_of p e)
+move_fails g p e is all = by (slice_get p.members e.member) refl
+  where
+    at : (r : Running) → slice_get p.members e.member ≡ Some r → (o : Option End) → r.replica.end ≡ o
+        → AreFailing (step_of p e)
+    at r there (Some x) ended = subst AreFailing
+        (sym (rest_changes_nothing p e r there (ap is_some ended))) all
+    at r there None unended = subst AreFailing (sym (step_is p e r there unended)) (λ m y found.
+        elim (replaced_either p.members e.member r
+        (after_deed (next_sight p.table r) e.outcome r (next_step r)) there m y found) [
+          | inl here ↦ subst IsFailing here.1 (after_either IsFailing p.table e.outcome r (next_step r)
+              (takes (next_sight p.table r) r (is.form e.member r there) unended (all e.member r there))
+              (λ why due. breaks why r unended due))
+          | inr other ↦ all m y other.1
+        ])
+
+    by : (o : Option Running) → slice_get p.members e.member ≡ o → AreFailing (step_of p e)
+    by None none = subst AreFailing (sym (ap (λ o. moved_by p o e) none)) all
+    by (Some r) there = at r there r.replica.end refl
+
+-- ---- every run
+
+begun_fails : (g : Group) (setups : List Setup) → AreFailing (begun_program g setups)
+begun_fails g setups m r there = by (slice_get setups m) (sym (slice_get-map begun_running setups m) ∙ there)
+  where
+    begun : (s : Setup) → IsFailing (begun_running s)
+    begun s = record { well = λ unfailed. refl; broken = λ why failed. absurd (cc) }
+
+    by : (o : Option Setup) → option_map begun_running o ≡ Some r → IsFailing r
+    by None same = absurd (cc)
+    by (Some s) same = subst IsFailing (same_Some (begun_running s) r same) (begun s)
+
+-- the members of a program that ran from its beginning
+pub all_fail : (g : Group) (turns : ℕ) (setups : List Setup) (p : Program) (m : ℕ) (r : Running)
+    → IsGroup g → 1 ≤ turns → AreSetups g turns setups → IsRanFrom (begun_program g setups) p
+    → slice_get p.members m ≡ Some r → IsFailing r
+all_fail g turns setups p m r group some are (es, is) =
+    subst AreFailing (sym is) (ran_keeps g AreFailing (begun_program g setups) es group
+    (begun_is_program g turns setups group some are) (begun_reached g turns setups group are)
+    (move_fails g) (begun_fails g setups)) m r

@@ -1,0 +1,123 @@
+-- The entries of a history: messages of the script behind the first entries, and each of them a valid record.
+use Rattle.std.proofs.Common.{◌≡◌, ◌≢◌, refl, ap, sym, ◌∙◌, subst, ℕ, zero, suc, ◌+◌, ◌-◌, ◌^◌, ◌<◌, ◌≤◌, arith, inl, inr, List, [], ◌∷◌, length, take, get_or, All, Option, None, Some, slice_get, option_to_list, option_map, option_and_then, IsSomeAnd}
+use Rattle.std.proofs.lemmas.Bool.{cases_lt}
+use Rattle.std.proofs.lemmas.List.{get_or_past}
+use Rattle.std.proofs.lemmas.List.Elements.{All-nil, All-cons, All-append}
+use Rattle.std.proofs.lemmas.Nat.{pow_pos}
+use Rattle.std.proofs.lemmas.Option.{none-some, same_Some, slice_get-get_or, slice_get_within}
+use Rattle.dr_entry.specs.declared.entry.Entry.{Entry}
+use Rattle.dr_entry.specs.declared.entry.Entry.TheVariants.{View, Msg}
+use Rattle.dr_entry.specs.declared.end.SentItem.{SentItem}
+use Rattle.dr_entry.specs.declared.end.SentItem.TheVariants.{Index, Null}
+use Rattle.dr_entry.specs.Spelling.{IsValidEntry}
+use Rattle.dr_history.specs.Members.{members_of, members_below}
+use Rattle.dr_history.specs.History.{GroupView, Sent, entry_of, item_at, messages_of, view_of}
+use Rattle.dr_history.specs.Order.{MayFollow, first_entries}
+use Rattle.dr_history.specs.Soundness.{MayStand}
+use Rattle.dr_history_laws.specs.Laid.{laid, entry_at, first_view}
+use Rattle.dr_history_laws.proofs.LaidLemmas.{laid-next, laid-none}
+use Rattle.dr_machine.specs.Group.{Group, IsGroup, roster}
+use Rattle.dr_machine.specs.World.{World}
+use Rattle.dr_world_laws.specs.Historic.{HoldsMessages, IsOfScript}
+use Rattle.dr_world_laws.proofs.Agreeing.{history-first}
+use Rattle.dr_world_laws.proofs.Reached.{Known}
+
+-- ---- messages of the script
+
+-- who has a message is of the roster
+of_roster : (g : Group) (s i : ℕ) (b : List ℕ) → slice_get (messages_of g.opening s) i ≡ Some b
+    → s < roster g
+of_roster g s i b e = elim (cases_lt s (roster g)) [
+  | inl within ↦ within
+  | inr past ↦ absurd (omega (
+    arith,
+    slice_get_within (messages_of g.opening s) i b e,
+    ap length (get_or_past g.opening.messages s [] past),
+  ))
+]
+
+-- the entry of a sent item is a message of the script
+item_of_script : (g : Group) (s : ℕ) (item : SentItem) (e : Entry) → entry_of g.opening s item ≡ Some e
+    → IsOfScript g e
+item_of_script g s Null e is = absurd (none-some e is)
+item_of_script g s (Index i) e is = by (slice_get (messages_of g.opening s) i) refl is
+  where
+    by : (r : Option (List ℕ)) → slice_get (messages_of g.opening s) i ≡ r
+        → option_map (λ b. Msg s i b) r ≡ Some e → IsOfScript g e
+    by None at is = absurd (none-some e is)
+    by (Some b) at is = subst (IsOfScript g) (same_Some (Msg s i b) e is) (of_roster g s i b at, at)
+
+-- so is what a place adds
+place_of_script : (g : Group) (place : Option (ℕ × SentItem))
+    → All (IsOfScript g) (option_to_list (option_and_then (λ t. entry_of g.opening t.0 t.1) place))
+place_of_script g None = All-nil (IsOfScript g)
+place_of_script g (Some (s, item)) = by (entry_of g.opening s item) refl
+  where
+    by : (r : Option Entry) → entry_of g.opening s item ≡ r → All (IsOfScript g) (option_to_list r)
+    by None is = All-nil (IsOfScript g)
+    by (Some e) is = All-cons (IsOfScript g) e [] (item_of_script g s item e is) (All-nil (IsOfScript g))
+
+-- and each entry that is laid
+laid_of_script : (g : Group) (sent : Sent) (v : GroupView) (p : ℕ)
+    → All (IsOfScript g) (laid g.opening sent v p)
+laid_of_script g sent v zero = subst (All (IsOfScript g)) (sym (laid-none g.opening sent v))
+    (All-nil (IsOfScript g))
+laid_of_script g sent v (suc p) =
+    let next : suc p ≡ p + 1 = omega arith in
+    subst (All (IsOfScript g)) (sym (ap (laid g.opening sent v) next ∙ laid-next g.opening sent v p))
+    (All-append (IsOfScript g) (laid g.opening sent v p) (option_to_list (entry_at g.opening sent v p))
+    (laid_of_script g sent v p) (place_of_script g (item_at sent v p)))
+
+-- a history holds messages of the script behind its first entries
+pub holds_messages : (g : Group) (w : World) (m : ℕ) → Known g w → m < roster g
+    → HoldsMessages g (w.past.history m)
+holds_messages g w m y l = (
+  laid g.opening w.past.sent (first_view g.opening) (w.next m),
+  history-first g w m y l,
+  laid_of_script g w.past.sent (first_view g.opening) (w.next m),
+)
+
+-- ---- valid records
+
+-- a message of the script is a valid entry
+valid_message : (g : Group) (e : Entry) → IsGroup g → IsOfScript g e → IsValidEntry e
+valid_message g (View age number members) is of = absurd of
+valid_message g (Msg s i b) is of = (omega (arith, of.0, is.most_members), is.short s i b of.1)
+
+-- a mask that has members is above 0
+above_none : (mask : ℕ) → members_of mask ≢ [] → 0 < mask
+unfolding members_of members_below
+above_none zero some = absurd (some refl)
+above_none (suc mask) some = omega arith
+
+above_whole : (n : ℕ) → 1 ≤ n → 0 < 2 ^ n - 1
+above_whole zero l = absurd (omega (arith, l))
+above_whole (suc n) l = omega (arith, pow_pos n)
+
+-- so each View that may stand in a start is valid, and each message
+valid_standing : (g : Group) (before : List Entry) (e : Entry) → IsGroup g
+    → MayStand g.opening before e → IsValidEntry e
+valid_standing g before (View age number members) is (inl opens) =
+    subst (λ mask. 0 < mask) (sym opens.whole) (above_whole (roster g) is.some_member)
+valid_standing g before (View age number members) is (inr follows) = by (view_of before) follows
+  where
+    by : (last : Option GroupView) → IsSomeAnd last (λ v. MayFollow v age number members) → 0 < members
+    by None follows = absurd follows
+    by (Some v) follows = above_none members follows.some
+valid_standing g before (Msg s i b) is stands =
+    valid_message g (Msg s i b) is (of_roster g s i b stands.2, stands.2)
+
+valid_first : (g : Group) → IsGroup g → All IsValidEntry (first_entries g.opening)
+valid_first g is = All-append IsValidEntry g.opening.start
+    (View g.opening.age 0 g.opening.members ∷ [])
+    (λ k d l. valid_standing g (take k g.opening.start) (get_or g.opening.start k d) is
+    (is.sound.entries k _ (slice_get-get_or g.opening.start k d l)))
+    (All-cons IsValidEntry _ [] (subst (λ mask. 0 < mask) (sym is.sound.whole)
+    (above_whole (roster g) is.some_member)) (All-nil IsValidEntry))
+
+-- each entry of a history is valid
+pub valid_history : (g : Group) (history : List Entry) → IsGroup g → HoldsMessages g history
+    → All IsValidEntry history
+valid_history g history is holds = subst (All IsValidEntry) (sym holds.1)
+    (All-append IsValidEntry (first_entries g.opening) holds.0 (valid_first g is)
+    (λ k d l. valid_message g _ is (holds.2 k d l)))
