@@ -1,19 +1,22 @@
 -- Seeded runs: what the generator has chosen, and who goes on.
-use Rattle.std.proofs.Common.{◌≡◌, ◌≢◌, refl, sym, ap, ◌∙◌, subst, ℕ, ◌+◌, ◌/◌, ◌%◌, ◌^◌, ◌==◌, ◌<◌, Bool, not, true, false, cond, List, [], ◌∷◌, ◌++◌, length, slice_index, append-nil, inl, inr, arith}
+use Rattle.std.proofs.Common.{◌≡◌, ◌≢◌, refl, sym, ap, ◌∙◌, subst, ℕ, ◌+◌, ◌/◌, ◌%◌, ◌^◌, ◌==◌, ◌<◌, Bool, not, true, false, cond, List, [], ◌∷◌, ◌++◌, length, slice_index, append-nil, inl, inr, ◌⊎◌, arith}
 use Rattle.std.specs.Prelude.{Option, Some, None, slice_get}
 use Rattle.std.specs.List.{range_with_len, filter, remove}
 use Rattle.std.proofs.lemmas.Bool.{cases_eq}
-use Rattle.std.proofs.lemmas.List.Elements.{All-append, All-nil, filter_agree, filter-append}
+use Rattle.std.proofs.lemmas.List.Elements.{filter_agree, filter-append}
 use Rattle.dr_entry.specs.declared.end.End.{End}
 use Rattle.dr_script.specs.declared.script.Schedule.TheVariants.{Seed}
 use Rattle.dr_program.specs.declared.outcome.Outcome.TheVariants as outcomes
 use Rattle.dr_program.specs.Running.{Running, next_step}
-use Rattle.dr_program.specs.Program.{AllEnded, AllOk, Move, Program, after_deed, moved_by, next_sight, ok, ran, step_of, went}
+use Rattle.dr_program.specs.Program.{AllEnded, Move, Program, after_deed, moved_by, next_sight, ran, step_of, went}
 use Rattle.dr_program.specs.Schedule.{has_ended, next_state, choice_of, going, AreChosen}
 use Rattle.dr_program.proofs.Holdings.{replica_kept}
-use Rattle.dr_sim.specs.Simulated.{HasRun}
+use Rattle.dr_program.specs.declared.outcome.Outcome.{Outcome}
+use Rattle.dr_sim.specs.Simulated.{HasRun, SomeFailed, WentWell}
+use Rattle.dr_sim.specs.Sound.{move}
+use Rattle.dr_sim.proofs.Outcomes.{none_well, well_both, well_one}
 use Rattle.dr_sim.proofs.Ranges.{count_more, passes, none_pass, one_fails}
-use Rattle.dr_sim.proofs.Turns.{each_ended, one_well, ran_more}
+use Rattle.dr_sim.proofs.Turns.{each_ended, ran_more, ran_one}
 
 -- ---- the choices
 
@@ -40,11 +43,11 @@ chosen_more x p [] e are next = (next.some, next.choice, tt)
 chosen_more x p (k ∷ ks) e are next =
     (are.0, are.1, chosen_more (next_state x) (step_of p k) ks e are.2 next)
 
--- these have been chosen, and have taken their deeds, whose appends went well
+-- these have been chosen, and have taken their deeds
 pub record HasChosen (seed : ℕ) (begun : Program) (x : ℕ) (p : Program) : Type 0 where
   pub chosen : List Move
   pub are : AreChosen seed begun chosen
-  pub well : AllOk chosen
+  pub well : WentWell chosen p
   pub state : x ≡ state_after seed chosen
   pub taken : p ≡ ran begun chosen
 
@@ -54,25 +57,25 @@ unfolding state_after ran
 nothing_chosen seed x p e = record {
   chosen = [];
   are = tt;
-  well = All-nil (λ (e : Move). e.outcome ≡ outcomes.Ok);
+  well = none_well p;
   state = e;
   taken = refl;
 }
 
 -- one more choice goes on from what was chosen so far
-pub chosen_again : (seed : ℕ) (begun : Program) (x y : ℕ) (p q : Program) (m : ℕ)
-    → HasChosen seed begun x p → IsChoice x p m → y ≡ next_state x → q ≡ step_of p (ok m)
-    → HasChosen seed begun y q
-chosen_again seed begun x y p q m has next advanced step = record {
-  chosen = has.chosen ++ ok m ∷ [];
-  are = chosen_more seed begun has.chosen (ok m) has.are
+pub chosen_again : (seed : ℕ) (begun : Program) (x y : ℕ) (p q : Program) (m : ℕ) (o : Outcome)
+    → HasChosen seed begun x p → IsChoice x p m → y ≡ next_state x → q ≡ step_of p (move m o)
+    → (o ≡ outcomes.Ok) ⊎ SomeFailed q → HasChosen seed begun y q
+chosen_again seed begun x y p q m o has next advanced step well = record {
+  chosen = has.chosen ++ move m o ∷ [];
+  are = chosen_more seed begun has.chosen (move m o) has.are
       (subst (λ (v : Program). IsChoice (state_after seed has.chosen) v m) has.taken
       (subst (λ s. IsChoice s p m) has.state next));
-  well = All-append (λ (e : Move). e.outcome ≡ outcomes.Ok) has.chosen (ok m ∷ []) has.well
-      (one_well (ok m) refl);
-  state = advanced ∙ ap next_state has.state ∙ sym (state_more seed has.chosen (ok m));
-  taken = step ∙ ap (λ (v : Program). step_of v (ok m)) has.taken
-      ∙ sym (ran_more begun has.chosen (ok m));
+  well = well_both has.chosen (move m o ∷ []) p q has.well (well_one m o q well)
+      (step ∙ sym (ran_one p (move m o)));
+  state = advanced ∙ ap next_state has.state ∙ sym (state_more seed has.chosen (move m o));
+  taken = step ∙ ap (λ (v : Program). step_of v (move m o)) has.taken
+      ∙ sym (ran_more begun has.chosen (move m o));
 }
 
 -- ---- who goes on
@@ -112,28 +115,28 @@ others_go p e k other = by (slice_get p.members e.member)
     by (Some r) = at r r.replica.end
 
 -- where the chosen member has not ended, the members that go on are the same
-pub going_on : (p q : Program) (m : ℕ) → q ≡ step_of p (ok m) → length q.members
+pub going_on : (p q : Program) (m : ℕ) (o : Outcome) → q ≡ step_of p (move m o) → length q.members
     ≡ length p.members → has_ended (slice_get p.members m) ≡ false
     → has_ended (slice_get q.members m) ≡ false
     → going q ≡ going p
-going_on p q m step same before after =
+going_on p q m o step same before after =
     ap (λ n. filter (goes q) (range_with_len 0 n)) same
     ∙ filter_agree (goes q) (goes p) each (range_with_len 0 (length p.members))
   where
     each : (k : ℕ) → goes q k ≡ goes p k
     each k = elim (cases_eq k m) [
       | inl here ↦ ap (goes q) here ∙ ap not after ∙ sym (ap (goes p) here ∙ ap not before)
-      | inr other ↦ ap (λ (v : Program). goes v k) step ∙ others_go p (ok m) k other
+      | inr other ↦ ap (λ (v : Program). goes v k) step ∙ others_go p (move m o) k other
     ]
 
 -- where the chosen member has ended, the others go on
-pub one_has_ended : (p q : Program) (m j : ℕ) → q ≡ step_of p (ok m) → length q.members
+pub one_has_ended : (p q : Program) (m j : ℕ) (o : Outcome) → q ≡ step_of p (move m o) → length q.members
     ≡ length p.members → j < length (going p) → m ≡ slice_index (going p) j
     → has_ended (slice_get q.members m) ≡ true → going q ≡ remove (going p) j
-one_has_ended p q m j step same within at after =
+one_has_ended p q m j o step same within at after =
     ap (λ n. filter (goes q) (range_with_len 0 n)) same
     ∙ one_fails (goes p) (goes q) m 0 (length p.members) j (ap not after)
-    (λ k other. ap (λ (v : Program). goes v k) step ∙ others_go p (ok m) k other) within at
+    (λ k other. ap (λ (v : Program). goes v k) step ∙ others_go p (move m o) k other) within at
 
 -- the list of them, as it is made
 going_more : (p : Program) (m : ℕ) → filter (goes p) (range_with_len 0 (m + 1))

@@ -1,6 +1,11 @@
 mod Ranges
 mod Deeds
 mod Steps
+mod Outcomes
+mod Appends
+mod Logs
+mod Rooms
+mod Ends
 mod Beginning
 mod Turns
 mod Choices

@@ -1,25 +1,33 @@
 -- A member of a sound program takes its next deed.
-use Rattle.std.proofs.Common.{◌≡◌, refl, sym, ap, ◌∙◌, subst, ℕ, ◌<◌, false, List, length, get_or, arith}
+use Rattle.std.proofs.Common.{◌≡◌, refl, sym, ap, ◌∙◌, subst, inl, inr, ◌⊎◌, ℕ, ◌<◌, false, List, length, get_or, arith}
 use Rattle.std.specs.Prelude.{Option, Some, None, slice_get, slice_set}
 use Rattle.std.proofs.lemmas.List.Sums.{sum_by-set}
-use Rattle.std.proofs.lemmas.Option.{slice_get_within, get_or_from_slice_get, slice_get_read}
+use Rattle.std.proofs.lemmas.Option.{same_Some, slice_get_within, get_or_from_slice_get, slice_get_read}
 use Rattle.dr_words.specs.Layout.{words_of}
 use Rattle.dr_machine.specs.Group.{Group}
 use Rattle.dr_program.specs.Running.{Running}
-use Rattle.dr_program.specs.Program.{Move, Program, ok, step_of}
+use Rattle.dr_program.specs.declared.outcome.LogWhy.{LogWhy}
+use Rattle.dr_program.specs.declared.outcome.Outcome.TheVariants.{Ok}
+use Rattle.dr_program.specs.Program.{Move, Program, step_of}
+use Rattle.dr_program.proofs.Holdings.{replica_set}
 use Rattle.dr_program.specs.Schedule.{has_ended}
 use Rattle.dr_refine.proofs.Deeds.{step_is}
 use Rattle.dr_program_laws.proofs.Keeping.{move_kept, sees}
 use Rattle.dr_member.specs.Deeds.{table_size}
 use Rattle.dr_turn.specs.Work.{deeds_left}
-use Rattle.dr_sim.specs.Deeds.{SeesWell, member_after, stores, table_after, went_well}
-use Rattle.dr_sim.specs.Sound.{IsAmong, IsSound, all_left}
-
--- what the next deed of member m makes of a program
-pub record Took (g : Group) (p : Program) (m : ℕ) (q : Program) : Type 0 where
-  pub step : q ≡ step_of p (ok m)
-  pub sound : IsSound g q
-  pub falls : all_left q < all_left p
+use Rattle.std.specs.Prelude.{All}
+use Rattle.dr_entry.specs.declared.entry.Entry.TheVariants.{View}
+use Rattle.dr_entry.specs.Spelling.{IsValid, IsValidEntry}
+use Rattle.dr_program.specs.Reading.{world}
+use Rattle.dr_program.proofs.Holdings.{held_of}
+use Rattle.dr_refine.proofs.Deeds.{program_member, replicas}
+use Rattle.dr_world_laws.proofs.Messages.{holds_messages, valid_history}
+use Rattle.dr_world_laws.proofs.Reached.{known}
+use Rattle.dr_logged.specs.Served.{AppendsWell}
+use Rattle.dr_sim.proofs.Deeds.{at_append}
+use Rattle.dr_sim.specs.Deeds.{SeesWell, member_after, outcome_by, stores, table_after, went_so}
+use Rattle.dr_sim.specs.Simulated.{SomeFailed}
+use Rattle.dr_sim.specs.Sound.{IsAmong, IsSound, TookDeed, move}
 
 -- a sound program stays one over each move
 pub move_sound : (g : Group) (p : Program) (e : Move) → IsSound g p → IsSound g (step_of p e)
@@ -29,11 +37,14 @@ move_sound g p e is = let kept = move_kept g p e is.group is.form is.reached in
 -- a member whose deeds left fall takes its step, and the others stay
 pub took : (g : Group) (p : Program) (m : ℕ) (r x : Running) (cells : List ℕ) → IsSound g p
     → slice_get p.members m ≡ Some r → r.replica.end ≡ None
-    → x ≡ member_after p.table r → cells ≡ table_after p.table r → deeds_left x < deeds_left r
-    → Took g p m (record { members = slice_set p.members m x; table = cells })
+    → x ≡ member_after p.table (outcome_by x.failed) r → cells ≡ table_after p.table r
+    → deeds_left x < deeds_left r
+    → TookDeed g p m (record { members = slice_set p.members m x; table = cells })
 took g p m r x cells is there none member table falls = record {
+  outcome = outcome_by x.failed;
   step = step;
-  sound = subst (IsSound g) (sym step) (move_sound g p (ok m) is);
+  well = well x.failed refl;
+  sound = subst (IsSound g) (sym step) (move_sound g p (move m (outcome_by x.failed)) is);
   falls = omega (
     arith,
     sum_by-set deeds_left p.members m x r (slice_get_within p.members m r there),
@@ -42,13 +53,21 @@ took g p m r x cells is there none member table falls = record {
   );
 }
   where
-    step : record { members = slice_set p.members m x; table = cells } ≡ step_of p (ok m)
+    step : record { members = slice_set p.members m x; table = cells }
+        ≡ step_of p (move m (outcome_by x.failed))
     step =
         (λ z. record {
-          members = slice_set p.members m ((member ∙ ap (went_well p.table r) none) z);
+          members = slice_set p.members m ((member
+              ∙ ap (went_so p.table (outcome_by x.failed) r) none) z);
           table = (table ∙ ap (stores p.table r) none) z;
         })
-        ∙ sym (step_is p (ok m) r there none)
+        ∙ sym (step_is p (move m (outcome_by x.failed)) r there none)
+
+    well : (o : Option LogWhy) → x.failed ≡ o → (outcome_by o ≡ Ok)
+        ⊎ SomeFailed (record { members = slice_set p.members m x; table = cells })
+    well None at = inl refl
+    well (Some why) at =
+        inr (m, x, why, replica_set p.members m x (slice_get_within p.members m r there), at)
 
 -- in a sound program every member sees well
 pub sees_well : (g : Group) (p : Program) (m : ℕ) (r : Running) → IsSound g p → slice_get p.members m
@@ -70,6 +89,14 @@ whole_table g p m r is there =
     let of = is.form.of m r there in
     (λ z. words_of (of.members z) (of.window z) (of.banks z)) ∙ sym is.form.table
 
+-- so there is one at its number
+pub going_there : (rs : List Running) (cells : List ℕ) (now : Program) (m : ℕ)
+    → record { members = rs; table = cells } ≡ now
+    → has_ended (slice_get now.members m) ≡ false → m < length rs
+going_there rs cells now m is going =
+    subst (λ (v : Program). has_ended (slice_get v.members m) ≡ false → m < length rs) is
+    (going_within rs m) going
+
 -- the member that is read at its number
 pub member_read : (rs : List Running) (cells : List ℕ) (now : Program) (m : ℕ) (r : Running)
     → record { members = rs; table = cells } ≡ now
@@ -79,6 +106,13 @@ member_read rs cells now m r is going read =
     subst (λ (v : Program). has_ended (slice_get v.members m) ≡ false → slice_get v.members m
     ≡ Some r) is
     (λ goes. slice_get_read rs (length rs) m r refl (going_within rs m goes) read) going
+
+pub member_there : (rs : List Running) (cells : List ℕ) (now : Program) (m : ℕ) (r : Running)
+    → record { members = rs; table = cells } ≡ now → m < length now.members → r ≡ get_or rs m r
+    → slice_get now.members m ≡ Some r
+member_there rs cells now m r is within read =
+    subst (λ (v : Program). m < length v.members → slice_get v.members m ≡ Some r) is
+    (λ below. slice_get_read rs (length rs) m r refl below read) within
 
 -- so it is one of the program
 pub among_read : (g : Group) (rs : List Running) (cells words : List ℕ) (now : Program) (m : ℕ)
@@ -90,3 +124,26 @@ among_read g rs cells words now m r is sound going read same = record {
   there = member_read rs cells now m r is going read;
   table = sym (same ∙ ap (λ (v : Program). v.table) is);
 }
+
+-- the history of a member in the program's world
+pub history_there : (g : Group) (p : Program) (m : ℕ) (r : Running) → IsSound g p
+    → slice_get p.members m ≡ Some r → (world g p).past.history m ≡ r.replica.history
+history_there g p m r is there =
+    ap (λ h. h.history) (held_of g (replicas p.members) p.table m r.replica
+    (program_member g p m r is.group is.form there).there)
+
+-- so what it appends is a valid record
+pub appends_well : (g : Group) (p : Program) (m : ℕ) (r : Running) → IsSound g p
+    → slice_get p.members m ≡ Some r → AppendsWell r
+appends_well g p m r is there = λ due next.
+    let at = at_append r due (is.form.form m r there) next in
+    let valid = subst (All IsValidEntry) (history_there g p m r is there)
+    (valid_history g ((world g p).past.history m) is.group
+    (holds_messages g (world g p) m (known g (world g p) is.group is.reached)
+    (omega (arith, slice_get_within p.members m r there, is.form.all)))) in
+    subst IsValid (sym at.1) (valid r.replica.logged (View 0 0 0) at.0.some)
+
+-- what is so of the member that was put at a number is so of the one that stands there
+pub at_set : (P : Running → Type 0) (rs : List Running) (m : ℕ) (x r : Running) → m < length rs → P x
+    → slice_get (slice_set rs m x) m ≡ Some r → P r
+at_set P rs m x r within is there = subst P (same_Some x r (sym (replica_set rs m x within) ∙ there)) is

@@ -7,24 +7,26 @@ use Rattle.std.proofs.lemmas.List.Elements.{All-append, All-nil}
 use Rattle.std.proofs.lemmas.Option.{get_or_from_slice_get, slice_get_read, slice_get_within}
 use Rattle.dr_entry.specs.declared.end.End.{End}
 use Rattle.dr_machine.specs.Group.{Group}
-use Rattle.dr_script.specs.declared.script.Schedule.TheVariants.{Lockstep}
 use Rattle.dr_program.specs.declared.outcome.Outcome.TheVariants as outcomes
 use Rattle.dr_program.specs.Schedule.{has_ended, is_between_turns, IsTurn, Rounds, TakeTurns, TakesTurn}
-use Rattle.dr_program.specs.Program.{AllEnded, AllOk, Move, Program, ok, ran, step_of}
+use Rattle.dr_program.specs.Program.{AllEnded, Move, Program, ran, step_of}
 use Rattle.dr_program.specs.Running.{Running}
 use Rattle.dr_program.specs.Turn.{is_beat, part_of}
 use Rattle.dr_program.proofs.Holdings.{replica_set}
 use Rattle.dr_program.proofs.Runs.{ran_on}
 use Rattle.dr_turn.specs.Work.{deeds_left}
-use Rattle.dr_sim.specs.Deeds.{member_after, table_after}
-use Rattle.dr_sim.specs.Simulated.{HasRun}
-use Rattle.dr_sim.specs.Sound.{IsAmong, IsSound, TookTurn, TookTurns, all_left, with_member}
+use Rattle.dr_program_laws.proofs.Schedules.{turns_taken}
+use Rattle.dr_program.specs.declared.outcome.Outcome.{Outcome}
+use Rattle.dr_sim.specs.Deeds.{member_after, outcome_by, table_after}
+use Rattle.dr_sim.specs.Simulated.{SomeFailed, WentWell}
+use Rattle.dr_sim.specs.Sound.{IsAmong, IsSound, TookDeed, TookTurn, TookTurns, all_left, move, with_member}
+use Rattle.dr_sim.proofs.Outcomes.{none_well, well_both, well_one}
 use Rattle.dr_sim.proofs.Ranges.{count_more}
-use Rattle.dr_sim.proofs.Steps.{Took, took}
+use Rattle.dr_sim.proofs.Steps.{took}
 
 -- ---- a turn
 
-ran_one : (q : Program) (e : Move) → ran q (e ∷ []) ≡ step_of q e
+pub ran_one : (q : Program) (e : Move) → ran q (e ∷ []) ≡ step_of q e
 unfolding ran
 ran_one q e = refl
 
@@ -37,11 +39,11 @@ pub ran_none : (p : Program) → p ≡ ran p []
 unfolding ran
 ran_none p = refl
 
--- member m is amid a turn, or has begun none: these moves of it, whose appends went well
+-- member m is amid a turn, or has begun none: these moves of it
 pub record IsInTurn (m : ℕ) (begun p : Program) : Type 0 where
   pub moves : List Move
   pub own : All (λ (e : Move). e.member ≡ m) moves
-  pub well : AllOk moves
+  pub well : WentWell moves p
   pub taken : p ≡ ran begun moves
   pub amid : (k : ℕ) → 0 < k → k ≤ length moves
       → is_between_turns (slice_get (ran begun (take k moves)).members m) ≡ false
@@ -51,14 +53,14 @@ pub turn_begins : (m : ℕ) (p : Program) → IsInTurn m p p
 turn_begins m p = record {
   moves = [];
   own = All-nil (λ (e : Move). e.member ≡ m);
-  well = All-nil (λ (e : Move). e.outcome ≡ outcomes.Ok);
+  well = none_well p;
   taken = ran_none p;
   amid = λ k some few. absurd (omega arith);
 }
 
 -- the moves with one more
-abbrev pub more_moves : (m : ℕ) (begun p : Program) → IsInTurn m begun p → List Move
-more_moves m begun p is = is.moves ++ ok m ∷ []
+abbrev pub more_moves : (m : ℕ) (o : Outcome) (begun p : Program) → IsInTurn m begun p → List Move
+more_moves m o begun p is = is.moves ++ move m o ∷ []
 
 one : (P : Move → Type 0) (e : Move) → P e → All P (e ∷ [])
 one P e h = by
@@ -67,74 +69,73 @@ one P e h = by
     by zero d within = h
     by (suc k) d within = absurd (omega arith)
 
--- a move whose append goes well, alone
-pub one_well : (e : Move) → e.outcome ≡ outcomes.Ok → AllOk (e ∷ [])
-one_well e h = one (λ (e : Move). e.outcome ≡ outcomes.Ok) e h
+more_own : (m : ℕ) (o : Outcome) (begun p : Program) (is : IsInTurn m begun p)
+    → All (λ (e : Move). e.member ≡ m) (more_moves m o begun p is)
+more_own m o begun p is = All-append (λ (e : Move). e.member ≡ m) is.moves (move m o ∷ []) is.own
+    (one (λ (e : Move). e.member ≡ m) (move m o) refl)
 
-more_own : (m : ℕ) (begun p : Program) (is : IsInTurn m begun p)
-    → All (λ (e : Move). e.member ≡ m) (more_moves m begun p is)
-more_own m begun p is = All-append (λ (e : Move). e.member ≡ m) is.moves (ok m ∷ []) is.own
-    (one (λ (e : Move). e.member ≡ m) (ok m) refl)
+more_well : (m : ℕ) (o : Outcome) (begun p q : Program) (is : IsInTurn m begun p)
+    → q ≡ step_of p (move m o) → (o ≡ outcomes.Ok) ⊎ SomeFailed q → WentWell (more_moves m o begun p is) q
+more_well m o begun p q is step well = well_both is.moves (move m o ∷ []) p q is.well (well_one m o q well)
+    (step ∙ sym (ran_one p (move m o)))
 
-more_well : (m : ℕ) (begun p : Program) (is : IsInTurn m begun p) → AllOk (more_moves m begun p is)
-more_well m begun p is = All-append (λ (e : Move). e.outcome ≡ outcomes.Ok) is.moves
-    (ok m ∷ []) is.well (one_well (ok m) refl)
+more_taken : (m : ℕ) (o : Outcome) (begun p q : Program) (is : IsInTurn m begun p)
+    → q ≡ step_of p (move m o) → q ≡ ran begun (more_moves m o begun p is)
+more_taken m o begun p q is step = step ∙ ap (λ x. step_of x (move m o)) is.taken
+    ∙ sym (ran_more begun is.moves (move m o))
 
-more_taken : (m : ℕ) (begun p q : Program) (is : IsInTurn m begun p) → q ≡ step_of p (ok m) → q
-    ≡ ran begun (more_moves m begun p is)
-more_taken m begun p q is step = step ∙ ap (λ x. step_of x (ok m)) is.taken
-    ∙ sym (ran_more begun is.moves (ok m))
-
-more_length : (m : ℕ) (begun p : Program) (is : IsInTurn m begun p) → length (more_moves m begun p is)
-    ≡ length is.moves + 1
-more_length m begun p is = length_push is.moves (ok m)
+more_length : (m : ℕ) (o : Outcome) (begun p : Program) (is : IsInTurn m begun p)
+    → length (more_moves m o begun p is) ≡ length is.moves + 1
+more_length m o begun p is = length_push is.moves (move m o)
 
 -- before the last move the member is amid its turn
-more_amid : (m : ℕ) (begun p : Program) (is : IsInTurn m begun p) (k : ℕ) → 0 < k → k
+more_amid : (m : ℕ) (o : Outcome) (begun p : Program) (is : IsInTurn m begun p) (k : ℕ) → 0 < k → k
     ≤ length is.moves
-    → is_between_turns (slice_get (ran begun (take k (more_moves m begun p is))).members m) ≡ false
-more_amid m begun p is k some few =
+    → is_between_turns (slice_get (ran begun (take k (more_moves m o begun p is))).members m) ≡ false
+more_amid m o begun p is k some few =
     subst (λ es. is_between_turns (slice_get (ran begun es).members m) ≡ false)
-    (sym (take-append-le k is.moves (ok m ∷ []) few)) (is.amid k some few)
+    (sym (take-append-le k is.moves (move m o ∷ []) few)) (is.amid k some few)
 
 -- a move between turns ends the turn
-pub turn_ends : (m : ℕ) (begun p q : Program) (is : IsInTurn m begun p) → q ≡ step_of p (ok m)
+pub turn_ends : (m : ℕ) (o : Outcome) (begun p q : Program) (is : IsInTurn m begun p)
+    → q ≡ step_of p (move m o) → (o ≡ outcomes.Ok) ⊎ SomeFailed q
     → is_between_turns (slice_get q.members m) ≡ true
-    → IsTurn m begun (more_moves m begun p is) q × AllOk (more_moves m begun p is)
-turn_ends m begun p q is step whole = (
+    → IsTurn m begun (more_moves m o begun p is) q × WentWell (more_moves m o begun p is) q
+turn_ends m o begun p q is step well whole = (
   record {
-    some = omega (arith, more_length m begun p is);
-    own = more_own m begun p is;
-    taken = more_taken m begun p q is step;
+    some = omega (arith, more_length m o begun p is);
+    own = more_own m o begun p is;
+    taken = more_taken m o begun p q is step;
     whole = whole;
-    first = λ k some few. more_amid m begun p is k some (omega (arith, few, more_length m begun p is));
+    first = λ k some few. more_amid m o begun p is k some (omega (arith, few, more_length m o begun p is));
   },
-  more_well m begun p is,
+  more_well m o begun p q is step well,
 )
 
 -- a move within the turn goes on with it
-pub turn_goes_on : (m : ℕ) (begun p q : Program) → IsInTurn m begun p → q ≡ step_of p (ok m)
+pub turn_goes_on : (m : ℕ) (o : Outcome) (begun p q : Program) → IsInTurn m begun p
+    → q ≡ step_of p (move m o) → (o ≡ outcomes.Ok) ⊎ SomeFailed q
     → is_between_turns (slice_get q.members m) ≡ false → IsInTurn m begun q
-turn_goes_on m begun p q is step amid = record {
-  moves = more_moves m begun p is;
-  own = more_own m begun p is;
-  well = more_well m begun p is;
-  taken = more_taken m begun p q is step;
+turn_goes_on m o begun p q is step well amid = record {
+  moves = more_moves m o begun p is;
+  own = more_own m o begun p is;
+  well = more_well m o begun p q is step well;
+  taken = more_taken m o begun p q is step;
   amid = each;
 }
   where
     last_or_before : (k n : ℕ) → k ≤ n + 1 → (n + 1 ≤ k) ⊎ (k ≤ n)
     last_or_before k n h = grind arith
 
-    each : (k : ℕ) → 0 < k → k ≤ length (more_moves m begun p is)
-        → is_between_turns (slice_get (ran begun (take k (more_moves m begun p is))).members m) ≡ false
+    each : (k : ℕ) → 0 < k → k ≤ length (more_moves m o begun p is)
+        → is_between_turns (slice_get (ran begun (take k (more_moves m o begun p is))).members m) ≡ false
     each k some few = elim (last_or_before k (length is.moves)
-        (omega (arith, few, more_length m begun p is))) [
+        (omega (arith, few, more_length m o begun p is))) [
           | inl last ↦ subst (λ (x : Program). is_between_turns (slice_get x.members m) ≡ false)
-              (more_taken m begun p q is step
+              (more_taken m o begun p q is step
               ∙ ap (ran begun) (sym
-              (take_all k (more_moves m begun p is) (omega (arith, last, more_length m begun p is))))) amid
-          | inr before ↦ more_amid m begun p is k some before
+              (take_all k (more_moves m o begun p is) (omega (arith, last, more_length m o begun p is))))) amid
+          | inr before ↦ more_amid m o begun p is k some before
         ]
 
 -- ---- a turn of a member alone
@@ -181,11 +182,11 @@ way_among g p m r x table cells is way =
 -- its next deed there
 way_takes : (g : Group) (p : Program) (m : ℕ) (x y : Running) (cells next : List ℕ)
     → IsAmong g (with_member p m x cells) m x cells
-    → x.replica.end ≡ None → y ≡ member_after cells x → next ≡ table_after cells x
+    → x.replica.end ≡ None → y ≡ member_after cells (outcome_by y.failed) x → next ≡ table_after cells x
     → deeds_left y < deeds_left x
-    → Took g (with_member p m x cells) m (with_member p m y next)
+    → TookDeed g (with_member p m x cells) m (with_member p m y next)
 way_takes g p m x y cells next is none member table falls =
-    subst (λ rs. Took g (with_member p m x cells) m (record { members = rs; table = next }))
+    subst (λ rs. TookDeed g (with_member p m x cells) m (record { members = rs; table = next }))
     (set_twice p.members m x y)
     (took g (with_member p m x cells) m x y next is.sound is.there none member table falls)
 
@@ -198,7 +199,8 @@ stands p m y next b within at = ap is_between_turns (replica_set p.members m y w
 -- a deed within the turn leaves the member under way
 pub way_goes_on : (g : Group) (p : Program) (m : ℕ) (r x y : Running) (table cells next : List ℕ)
     → IsAmong g p m r table → IsUnderWay g p m (with_member p m x cells)
-    → x.replica.end ≡ None → y ≡ member_after cells x → next ≡ table_after cells x
+    → x.replica.end ≡ None → y ≡ member_after cells (outcome_by y.failed) x
+    → next ≡ table_after cells x
     → deeds_left y < deeds_left x → is_between_turns (Some y) ≡ false
     → IsUnderWay g p m (with_member p m y next)
 way_goes_on g p m r x y table cells next is way none member stores falls amid =
@@ -206,7 +208,8 @@ way_goes_on g p m r x y table cells next is way none member stores falls amid =
     (way_among g p m r x table cells is way) none member stores falls in
     record {
       sound = took.sound;
-      turn = turn_goes_on m p (with_member p m x cells) (with_member p m y next) way.turn took.step
+      turn = turn_goes_on m took.outcome p (with_member p m x cells) (with_member p m y next) way.turn
+          took.step took.well
           (stands p m y next false (slice_get_within p.members m r is.there) amid);
       falls = omega (arith, took.falls, way.falls);
     }
@@ -214,15 +217,17 @@ way_goes_on g p m r x y table cells next is way none member stores falls amid =
 -- a deed between turns ends the member's turn
 pub way_ends : (g : Group) (p : Program) (m : ℕ) (r x y : Running) (table cells next : List ℕ)
     → IsAmong g p m r table → IsUnderWay g p m (with_member p m x cells)
-    → x.replica.end ≡ None → y ≡ member_after cells x → next ≡ table_after cells x
+    → x.replica.end ≡ None → y ≡ member_after cells (outcome_by y.failed) x
+    → next ≡ table_after cells x
     → deeds_left y < deeds_left x → is_between_turns (Some y) ≡ true
     → TookTurn g p m (with_member p m y next)
 way_ends g p m r x y table cells next is way none member stores falls whole =
     let took = way_takes g p m x y cells next
     (way_among g p m r x table cells is way) none member stores falls in
-    let turn = turn_ends m p (with_member p m x cells) (with_member p m y next) way.turn took.step
+    let turn = turn_ends m took.outcome p (with_member p m x cells) (with_member p m y next) way.turn
+    took.step took.well
     (stands p m y next true (slice_get_within p.members m r is.there) whole) in record {
-      moves = more_moves m p (with_member p m x cells) way.turn;
+      moves = more_moves m took.outcome p (with_member p m x cells) way.turn;
       turn = turn.0;
       well = turn.1;
       sound = took.sound;
@@ -269,13 +274,18 @@ turns_more (k ∷ ks) m p es q turn r (first, rest, mid, both, taken, more) last
   turns_more ks m mid rest q turn r more last,
 )
 
+-- where a turn leads to
+took_turn : (m : ℕ) (p q : Program) (turn : List Move) → TakesTurn m p turn q → q ≡ ran p turn
+took_turn m p q turn (inl (ended, none, same)) = same ∙ ran_none p ∙ ap (ran p) (sym none)
+took_turn m p q turn (inr (going, is)) = is.taken
+
 turns_by : (m : ℕ) (p q r : Program) (turn : List Move) → TookTurns (range_with_len 0 m) p q
-    → TakesTurn m q turn r → AllOk turn → TookTurns (range_with_len 0 (m + 1)) p r
+    → TakesTurn m q turn r → WentWell turn r → TookTurns (range_with_len 0 (m + 1)) p r
 turns_by m p q r turn (es, turns, well) last fine = (
   es ++ turn,
   subst (λ ms. TakeTurns ms p (es ++ turn) r) (sym (count_more m))
       (turns_more (range_with_len 0 m) m p es q turn r turns last),
-  All-append (λ (e : Move). e.outcome ≡ outcomes.Ok) es turn well fine,
+  well_both es turn q r well fine (took_turn m q r turn last),
 )
 
 -- the first members have had their turns in a round, where anyone that had not ended has taken one
@@ -288,7 +298,7 @@ pub record IsInRound (g : Group) (m : ℕ) (begun p : Program) : Type 0 where
 -- a round begins with a sound program
 pub round_begins : (g : Group) (p : Program) → IsSound g p → IsInRound g 0 p p
 round_begins g p sound = record {
-  turns = ([], (refl, refl), All-nil (λ (e : Move). e.outcome ≡ outcomes.Ok));
+  turns = ([], (refl, refl), none_well p);
   sound = sound;
   falls = inl (refl, λ k within. absurd (omega arith));
 }
@@ -297,8 +307,7 @@ round_begins g p sound = record {
 pub round_passes : (g : Group) (m : ℕ) (begun p : Program) → IsInRound g m begun p
     → has_ended (slice_get p.members m) ≡ true → IsInRound g (m + 1) begun p
 round_passes g m begun p is ended = record {
-  turns = turns_by m begun p p [] is.turns (inl (ended, refl, refl))
-      (All-nil (λ (e : Move). e.outcome ≡ outcomes.Ok));
+  turns = turns_by m begun p p [] is.turns (inl (ended, refl, refl)) (none_well p);
   sound = is.sound;
   falls = by is.falls;
 }
@@ -384,12 +393,12 @@ rounds_more (suc k) p es q round r (first, rest, mid, both, taken, more) last = 
   rounds_more k mid rest q round r more last,
 )
 
--- so many rounds have been run, by these moves, whose appends went well
+-- so many rounds have been run, by these moves
 pub record HasRounds (begun p : Program) : Type 0 where
   pub rounds : ℕ
   pub moves : List Move
   pub ran : Rounds rounds begun moves p
-  pub well : AllOk moves
+  pub well : WentWell moves p
 
 -- no rounds leave a program as it is
 pub no_rounds : (p : Program) → HasRounds p p
@@ -397,7 +406,7 @@ no_rounds p = record {
   rounds = 0;
   moves = [];
   ran = (refl, refl);
-  well = All-nil (λ (e : Move). e.outcome ≡ outcomes.Ok);
+  well = none_well p;
 }
 
 -- a round behind rounds makes more of them
@@ -407,5 +416,6 @@ rounds_go_on begun p q has (round, turns, well) = record {
   rounds = suc has.rounds;
   moves = has.moves ++ round;
   ran = rounds_more has.rounds begun has.moves p round q has.ran turns;
-  well = All-append (λ (e : Move). e.outcome ≡ outcomes.Ok) has.moves round has.well well;
+  well = well_both has.moves round p q has.well well
+      (turns_taken (range_with_len 0 (length p.members)) p round q turns);
 }

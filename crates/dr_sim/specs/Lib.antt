@@ -1,4 +1,5 @@
 pub mod Deeds
+pub mod Logged
 pub mod Sound
 pub mod Inside
 pub mod Simulated

@@ -1,9 +1,10 @@
 -- What a simulated age is.
-use Rattle.std.specs.Prelude.{◌≡◌, ℕ, List, map}
+use Rattle.std.specs.Prelude.{◌≡◌, ◌⊎◌, ℕ, List, map, slice_get, Some}
 use Rattle.dr_entry.specs.declared.end.AgeEnd.{AgeEnd}
 use Rattle.dr_script.specs.declared.script.Script.{Script}
 use Rattle.dr_script.specs.declared.script.Schedule.{Schedule}
 use Rattle.dr_script.specs.declared.script.Schedule.TheVariants.{Lockstep, Seed}
+use Rattle.dr_program.specs.declared.outcome.LogWhy.{LogWhy}
 use Rattle.dr_program.specs.declared.setup.Setup.{Setup}
 use Rattle.dr_program.specs.Running.{Running, begun_running}
 use Rattle.dr_program.specs.Program.{AllOk, Move, Program, age_of}
@@ -23,9 +24,18 @@ abbrev pub IsRunBy : Schedule → Program → List Move → Program → Type 0
 IsRunBy Lockstep begun es p = IsLockstep begun es p
 IsRunBy (Seed seed) begun es p = IsSeeded seed begun es p
 
--- it has, by some moves, whose appends all went well
+-- some member's append has failed
+abbrev pub SomeFailed : Program → Type 0
+SomeFailed p = (m : ℕ) × (r : Running) × (why : LogWhy) × (slice_get p.members m ≡ Some r)
+    × (r.failed ≡ Some why)
+
+-- all appends of these moves to p went well, unless some member's has failed
+abbrev pub WentWell : List Move → Program → Type 0
+WentWell es p = AllOk es ⊎ SomeFailed p
+
+-- it has, by some moves
 abbrev pub HasRun : Schedule → Program → Program → Type 0
-HasRun schedule begun p = (es : List Move) × IsRunBy schedule begun es p × AllOk es
+HasRun schedule begun p = (es : List Move) × IsRunBy schedule begun es p × WentWell es p
 
 -- the age is that of the script's program, which begins from the start, with the faults of the age that is
 -- number nth of the run, and runs by the script's schedule

@@ -1,12 +1,15 @@
 -- Sound programs, and how much is left to them.
-use Rattle.std.specs.Prelude.{◌≡◌, ℕ, ◌<◌, List, slice_get, slice_set, Some, sum_by}
+use Rattle.std.specs.Prelude.{◌≡◌, ◌≢◌, ◌⊎◌, ℕ, ◌<◌, List, slice_get, slice_set, Some, sum_by}
 use Rattle.dr_machine.specs.Group.{Group, IsGroup}
 use Rattle.dr_machine.specs.Run.{IsReached}
 use Rattle.dr_program.specs.Running.{Running}
-use Rattle.dr_program.specs.Program.{AllOk, Move, Program}
+use Rattle.dr_program.specs.declared.outcome.Outcome.{Outcome}
+use Rattle.dr_program.specs.declared.outcome.Outcome.TheVariants.{Ok}
+use Rattle.dr_program.specs.Program.{Move, Program, step_of}
 use Rattle.dr_program.specs.Reading.{world}
 use Rattle.dr_program.specs.Schedule.{IsTurn, TakeTurns}
 use Rattle.dr_refine.specs.Programs.{IsProgram}
+use Rattle.dr_sim.specs.Simulated.{SomeFailed, WentWell}
 use Rattle.dr_turn.specs.Work.{deeds_left}
 
 -- a program of the group, in a world that some events lead to
@@ -33,14 +36,30 @@ with_member p m r table = record { members = slice_set p.members m r; table = ta
 abbrev pub all_left : Program → ℕ
 all_left p = sum_by deeds_left p.members
 
--- member m took one whole turn, whose appends all went well, and the program stays sound
-pub record TookTurn (g : Group) (p : Program) (m : ℕ) (q : Program) : Type 0 where
-  pub moves : List Move
-  pub turn : IsTurn m p moves q
-  pub well : AllOk moves
+-- the members but m are the same in both programs
+abbrev pub AreOthers : Program → ℕ → Program → Type 0
+AreOthers p m q = (i : ℕ) → i ≢ m → slice_get q.members i ≡ slice_get p.members i
+
+-- the next deed of member m, where an append goes so
+abbrev pub move : ℕ → Outcome → Move
+move m outcome = record { member = m; outcome = outcome }
+
+-- member m took its next deed, and the program stays sound
+pub record TookDeed (g : Group) (p : Program) (m : ℕ) (q : Program) : Type 0 where
+  pub outcome : Outcome
+  pub step : q ≡ step_of p (move m outcome)
+  pub well : (outcome ≡ Ok) ⊎ SomeFailed q
   pub sound : IsSound g q
   pub falls : all_left q < all_left p
 
--- these members each took their turn, in this order, and all appends went well
+-- member m took one whole turn, and the program stays sound
+pub record TookTurn (g : Group) (p : Program) (m : ℕ) (q : Program) : Type 0 where
+  pub moves : List Move
+  pub turn : IsTurn m p moves q
+  pub well : WentWell moves q
+  pub sound : IsSound g q
+  pub falls : all_left q < all_left p
+
+-- these members each took their turn, in this order
 abbrev pub TookTurns : List ℕ → Program → Program → Type 0
-TookTurns ms p q = (es : List Move) × TakeTurns ms p es q × AllOk es
+TookTurns ms p q = (es : List Move) × TakeTurns ms p es q × WentWell es q

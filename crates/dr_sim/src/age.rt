@@ -1,5 +1,5 @@
 //! An age, from its opening to the ends of all members.
-ghost use Rattle.std.specs.Prelude.{◌≡◌, ◌≤◌, IfOk, IsTrue, All, [], is_some, length, map, vec_capacity};
+ghost use Rattle.std.specs.Prelude.{◌≡◌, ◌≤◌, IfOk, OnErr, IsTrue, All, List, [], is_some, length, map, vec_capacity};
 ghost use Rattle.dr_complete.specs.Time.{HasTime};
 ghost use Rattle.dr_program_laws.specs.Ended.{AreComplete, HaveEnded};
 ghost use Rattle.dr_history.specs.Agreement.{EndsAgreed};
@@ -8,11 +8,16 @@ ghost use Rattle.dr_program.specs.Program.{Program, age_of, end_of};
 ghost use Rattle.dr_restart.specs.Groups.{group_of};
 ghost use Rattle.dr_restart.specs.Setups.{crashes_of};
 ghost use Rattle.dr_script.specs.Ranges.{HasRanges};
+ghost use Rattle.dr_log.specs.State.{LogState};
+ghost use Rattle.dr_logged.specs.Served.{AreReady, HaveServed};
+ghost use Rattle.dr_sim.specs.Logged.{AreAsBefore, AreOpened, HaveCome, IsAmple, NoneFull, NoneStopped};
 ghost use Rattle.dr_sim.specs.Simulated.{HasRun, IsSimulated};
 ghost use Rattle.dr_sim.specs.Sound.{IsSound};
 
 use crate::simulation::Simulation;
+use dr_disk::Disk;
 use dr_entry::{AgeEnd, Entry, MemberEnd, Seq};
+use dr_log::Log;
 use dr_member::Member;
 use dr_restart::{Start, copy_entries};
 use dr_script::{Schedule, Script};
@@ -20,49 +25,69 @@ use std::alloc::{AllocError, Global};
 
 /// Runs the group of a script through one age, by the script's schedule, and answers how it ended.
 /// `nth` is the number of the age in the run, from 0: it says which of the faults are those of this
-/// age. Each append to a log succeeds. Where the script gives its members time enough, all are done,
-/// with everything.
+/// age. Each member appends to the log of its number; one whose append fails ends with that. Where the
+/// script gives its members time enough and no log fails, all are done, with everything.
 ///
 /// # Errors
 ///
 /// Want of memory alone, before the first deed.
-pub fn sim_age(alloc: Global, script: &Script, start: &Start, nth: u8) -> Result<AgeEnd, AllocError>
+pub fn sim_age<D: Disk>(
+    alloc: Global,
+    script: &Script,
+    start: &Start,
+    nth: u8,
+    logs: &mut [Log<D>],
+) -> Result<AgeEnd, AllocError>
     requires ranges { HasRanges script.now }
     requires group { IsGroup (group_of script.now start.now) }
+    requires logs { AreOpened (group_of script.now start.now) logs.old }
     ensures run { IfOk result (λ age. IsSimulated script.now start.now nth age) }
     ensures agreed { IfOk result (λ age.
         EndsAgreed (group_of script.now start.now).opening age.members) }
     ensures ended { IfOk result (λ age. HaveEnded (group_of script.now start.now).opening
         script.now.turns (crashes_of script.now.faults nth) age.members) }
-    ensures complete { IfOk result (λ age. HasTime script.now
+    ensures complete { IfOk result (λ age. HasTime script.now → NoneStopped age.members
         → AreComplete (group_of script.now start.now).opening age.members) }
+    // What stands on the logs, and what a crash may have left of them at any moment.
+    ensures logged { IfOk result (λ age. HaveCome D.told D.faults logs.old logs.new age.members) }
+    ensures ample { IfOk result (λ age. All (IsAmple (group_of script.now start.now)) logs.old
+        → NoneFull age.members) }
+    ensures kept { OnErr result (AreAsBefore logs.old logs.new) }
+    ensures count { length logs.new ≡ length logs.old }
+    ensures members { IfOk result (λ age. length age.members ≡ length logs.old) }
 {
     let entries = copy_entries(alloc, &start.entries)?;
     let ends = Vec::with_capacity(alloc, usize::from(script.members))?;
     let simulation = Simulation::begin(alloc, script, start, nth)?;
-    Ok(run(simulation, script, start, entries, ends))
+    simulation.make_room(logs)?;
+    Ok(run(simulation, script, start, entries, ends, logs))
 }
 
 /// Runs the members by the script's schedule, and tells how their age ended, by its entries and with
 /// room for its ends.
-fn run(
+fn run<D: Disk>(
     mut simulation: Simulation,
     script: &Script,
     start: &Start,
     entries: Seq<Entry>,
     ends: Vec<MemberEnd>,
+    logs: &mut [Log<D>],
 ) -> AgeEnd
     ghost group: { Group }
     requires sound { IsSound group simulation }
     requires entries { entries ≡ start.now.entries }
     requires none { ends.items ≡ [] }
     requires room { length simulation.members ≤ vec_capacity ends }
+    requires ready { AreReady logs.old simulation.members }
     ensures { (p : Program) × HasRun script.now.schedule simulation p × IsSound group p
-        × (result ≡ age_of (group_of script.now start.now).opening p) }
+        × (result ≡ age_of (group_of script.now start.now).opening p)
+        × ((bases : List (LogState D)) → HaveServed D.told D.faults bases logs.old simulation.members
+        → HaveServed D.told D.faults bases logs.new p.members)
+        × (length logs.new ≡ length logs.old) }
 {
     match script.schedule {
-        Schedule::Lockstep => simulation.run_lockstep(),
-        Schedule::Seed(seed) => simulation.run_seeded(seed),
+        Schedule::Lockstep => simulation.run_lockstep(logs),
+        Schedule::Seed(seed) => simulation.run_seeded(seed, logs),
     }
     AgeEnd {
         age: start.age,

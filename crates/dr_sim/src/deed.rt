@@ -1,22 +1,34 @@
-ghost use Rattle.std.specs.Prelude.{◌≡◌, ℕ, ◌<◌, ◌≤◌, ◌↔◌, All, IsTrue, None, false, is_some, length};
+ghost use Rattle.std.specs.Prelude.{◌≡◌, ℕ, ◌<◌, ◌≤◌, ◌↔◌, All, IsTrue, None, true, false, is_some, List, length};
 ghost use Rattle.dr_machine.specs.Group.{Group};
+ghost use Rattle.dr_log.specs.State.{LogState};
+ghost use Rattle.dr_program.specs.Form.{IsRunningMember};
 ghost use Rattle.dr_program.specs.Program.{Program};
-ghost use Rattle.dr_member.specs.Deeds.{table_size};
+ghost use Rattle.dr_member.specs.Deeds.{is_append, table_size};
+ghost use Rattle.dr_program.specs.Running.{next_deed};
 ghost use Rattle.dr_turn.specs.Work.{deeds_left};
-ghost use Rattle.dr_sim.specs.Deeds.{SeesWell, member_after, table_after};
+ghost use Rattle.dr_sim.specs.Deeds.{SeesWell, member_after, outcome_by, table_after, why_of};
+ghost use Rattle.dr_logged.specs.Served.{AppendsWell, HasServed, IsReady};
 ghost use Rattle.dr_sim.specs.Sound.{IsAmong, IsSomewhere, TookTurn, with_member};
 
-use dr_member::{Deed, Member};
+use dr_disk::Disk;
+use dr_log::{Log, LogFault};
+use dr_member::{Deed, LogWhy, Member};
 
-/// The member takes its next deed, over the words of the table; an append goes well. Where it has
-/// ended nothing happens.
+/// The member takes its next deed, over the words of the table and its log. Where it has ended nothing
+/// happens.
 #[inline(always)]
-pub fn take(member: &mut Member, table: &mut [u64])
+pub fn take<D: Disk>(member: &mut Member, table: &mut [u64], log: &mut Log<D>)
     requires size { table_size member.old ≤ length table.old }
+    requires form { IsRunningMember member.old }
     requires sight { SeesWell table.old member.old }
-    ensures member { member.new ≡ member_after table.old member.old }
+    requires appends { AppendsWell member.old }
+    requires ready { IsReady log.old member.old }
+    ensures member { member.new ≡ member_after table.old (outcome_by member.new.failed) member.old }
     ensures table { table.new ≡ table_after table.old member.old }
     ensures falls { member.old.replica.end ≡ None → deeds_left member.new < deeds_left member.old }
+    ensures ready { IsReady log.new member.new }
+    ensures served { (base : LogState D) → HasServed D.told D.faults base log.old member.old
+        → HasServed D.told D.faults base log.new member.new }
 {
     match member.next() {
         Deed::Look(index) => member.looked(table[index]),
@@ -28,21 +40,59 @@ pub fn take(member: &mut Member, table: &mut [u64])
             table[index] = word;
             member.acted();
         }
-        Deed::Append(_) => member.appended(),
+        Deed::Append(_) => append(member, log),
         Deed::Rest(_) => {}
+    }
+}
+
+/// The member, whose next deed is an append, does it. Out of line, and with a record of its own, it
+/// leaves the other deeds a small loop.
+#[inline(never)]
+fn append<D: Disk>(member: &mut Member, log: &mut Log<D>)
+    requires due { is_append (next_deed member.old) ≡ true }
+    requires form { IsRunningMember member.old }
+    requires appends { AppendsWell member.old }
+    requires ready { IsReady log.old member.old }
+    ensures member { (table : List ℕ) → member.new
+        ≡ member_after table (outcome_by member.new.failed) member.old }
+    ensures table { (table : List ℕ) → table ≡ table_after table member.old }
+    ensures falls { deeds_left member.new < deeds_left member.old }
+    ensures ready { IsReady log.new member.new }
+    ensures served { (base : LogState D) → HasServed D.told D.faults base log.old member.old
+        → HasServed D.told D.faults base log.new member.new }
+{
+    if let Deed::Append(record) = member.next() {
+        match log.append(&record) {
+            Ok(()) => member.appended(),
+            Err(fault) => member.append_failed(&why_of(fault)),
+        }
+    }
+}
+
+/// Why an append failed, as its log tells it.
+fn why_of(fault: LogFault) -> LogWhy
+    ensures { result ≡ why_of fault }
+{
+    match fault {
+        LogFault::DiskFault => LogWhy::DiskFault,
+        LogFault::LogFull { len } => LogWhy::LogFull { len },
     }
 }
 
 /// The member, which has not ended, takes a whole turn: its deeds up to the first after which it has
 /// ended or stands before a turn.
-pub fn take_turn(member: &mut Member, table: &mut [u64])
+pub fn take_turn<D: Disk>(member: &mut Member, table: &mut [u64], log: &mut Log<D>)
     requires somewhere { IsSomewhere member.old table.old }
     requires going { is_some member.old.replica.end ≡ false }
-    ensures { (g : Group) → (p : Program) → (m : ℕ) → IsAmong g p m member.old table.old
+    requires ready { IsReady log.old member.old }
+    ensures turn { (g : Group) → (p : Program) → (m : ℕ) → IsAmong g p m member.old table.old
         → TookTurn g p m (with_member p m member.new table.new) }
+    ensures ready { IsReady log.new member.new }
+    ensures served { (base : LogState D) → HasServed D.told D.faults base log.old member.old
+        → HasServed D.told D.faults base log.new member.new }
 {
     loop {
-        take(member, table);
+        take(member, table, log);
         if member.is_between_turns() {
             return;
         }

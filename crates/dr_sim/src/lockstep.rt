@@ -1,39 +1,53 @@
-ghost use Rattle.std.specs.Prelude.{◌<◌, length};
+ghost use Rattle.std.specs.Prelude.{◌<◌, List, length};
 ghost use Rattle.std.specs.List.{range_with_len};
 ghost use Rattle.dr_machine.specs.Group.{Group};
 ghost use Rattle.dr_program.specs.Program.{AllEnded};
 ghost use Rattle.dr_script.specs.declared.script.Schedule.TheVariants.{Lockstep};
+ghost use Rattle.dr_log.specs.State.{LogState};
+ghost use Rattle.dr_logged.specs.Served.{AreReady, HaveServed};
 ghost use Rattle.dr_sim.specs.Simulated.{HasRun};
 ghost use Rattle.dr_sim.specs.Sound.{IsSound, TookTurns, all_left};
 
 use crate::simulation::Simulation;
+use dr_disk::Disk;
+use dr_log::Log;
 
 impl Simulation {
     /// Runs the members in lockstep to their ends: round after round, in each of which every member
     /// that has not ended takes a whole turn, by their numbers.
     #[inline(never)]
-    pub fn run_lockstep(&mut self)
+    pub fn run_lockstep<D: Disk>(&mut self, logs: &mut [Log<D>])
         ghost group: { Group }
-        requires { IsSound group self.old }
+        requires sound { IsSound group self.old }
+        requires ready { AreReady logs.old self.old.members }
         ensures run { HasRun Lockstep self.old self.new }
         ensures sound { IsSound group self.new }
+        ensures ready { AreReady logs.new self.new.members }
+        ensures served { (bases : List (LogState D))
+            → HaveServed D.told D.faults bases logs.old self.old.members
+            → HaveServed D.told D.faults bases logs.new self.new.members }
     {
         while !self.all_ended() {
-            self.take_round();
+            self.take_round(logs);
         }
     }
 
     /// Each member that has not ended takes a whole turn, by their numbers.
-    fn take_round(&mut self)
+    fn take_round<D: Disk>(&mut self, logs: &mut [Log<D>])
         ghost group: { Group }
-        requires { IsSound group self.old }
+        requires sound { IsSound group self.old }
+        requires ready { AreReady logs.old self.old.members }
         ensures turns { TookTurns (range_with_len 0 (length self.old.members)) self.old self.new }
         ensures sound { IsSound group self.new }
         ensures falls { ¬ AllEnded self.old → all_left self.new < all_left self.old }
+        ensures ready { AreReady logs.new self.new.members }
+        ensures served { (bases : List (LogState D))
+            → HaveServed D.told D.faults bases logs.old self.old.members
+            → HaveServed D.told D.faults bases logs.new self.new.members }
     {
         for m in 0..self.len() {
             if !self.has_ended(m) {
-                self.take_turn(m);
+                self.take_turn(m, &mut logs[m]);
             }
         }
     }

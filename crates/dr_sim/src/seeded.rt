@@ -1,35 +1,61 @@
-ghost use Rattle.std.specs.Prelude.{◌≡◌, ◌≤◌, length};
+ghost use Rattle.std.specs.Prelude.{◌≡◌, ◌<◌, ◌≤◌, List, false, length, slice_get};
 ghost use Rattle.dr_machine.specs.Group.{Group};
-ghost use Rattle.dr_program.specs.Schedule.{going};
+ghost use Rattle.dr_program.specs.Schedule.{going, has_ended};
 ghost use Rattle.dr_script.specs.declared.script.Schedule.TheVariants.{Seed};
+ghost use Rattle.dr_log.specs.State.{LogState};
+ghost use Rattle.dr_logged.specs.Served.{AreReady, HaveServed};
 ghost use Rattle.dr_sim.specs.Simulated.{HasRun};
-ghost use Rattle.dr_sim.specs.Sound.{IsSound};
+ghost use Rattle.dr_sim.specs.Sound.{IsSound, TookDeed};
 
 use crate::lcg::Lcg;
 use crate::simulation::Simulation;
 use arrayvec::ArrayVec;
+use dr_disk::Disk;
 use dr_entry::MAX_MEMBERS;
+use dr_log::Log;
 
 impl Simulation {
     /// Runs the members to their ends, one deed at a time: each is of the member that the generator of
     /// this seed chooses among those that have not ended.
     #[inline(never)]
-    pub fn run_seeded(&mut self, seed: u64)
+    pub fn run_seeded<D: Disk>(&mut self, seed: u64, logs: &mut [Log<D>])
         ghost group: { Group }
-        requires { IsSound group self.old }
+        requires sound { IsSound group self.old }
+        requires ready { AreReady logs.old self.old.members }
         ensures run { HasRun (Seed seed) self.old self.new }
         ensures sound { IsSound group self.new }
+        ensures ready { AreReady logs.new self.new.members }
+        ensures served { (bases : List (LogState D))
+            → HaveServed D.told D.faults bases logs.old self.old.members
+            → HaveServed D.told D.faults bases logs.new self.new.members }
     {
         let mut lcg = Lcg::new(seed);
         let mut going = self.going();
         while !going.is_empty() {
             let at = lcg.choose_few(going.len() as u32) as usize;
             let m = going[at];
-            self.take_deed(m);
+            self.take_deed_of(m, logs);
             if self.has_ended(m) {
                 going.remove(at);
             }
         }
+    }
+
+    /// Member `m`, which has not ended, takes its next deed, with the log of its number.
+    #[inline(always)]
+    fn take_deed_of<D: Disk>(&mut self, m: usize, logs: &mut [Log<D>])
+        ghost group: { Group }
+        requires sound { IsSound group self.old }
+        requires going { has_ended (slice_get self.old.members m) ≡ false }
+        requires within { m < length logs.old }
+        requires ready { AreReady logs.old self.old.members }
+        ensures took { TookDeed group self.old m self.new }
+        ensures ready { AreReady logs.new self.new.members }
+        ensures served { (bases : List (LogState D))
+            → HaveServed D.told D.faults bases logs.old self.old.members
+            → HaveServed D.told D.faults bases logs.new self.new.members }
+    {
+        self.take_deed(m, &mut logs[m]);
     }
 
     /// The numbers of the members that have not ended, ascending.

@@ -1,14 +1,19 @@
-ghost use Rattle.std.specs.Prelude.{◌≡◌, ◌<◌, ◌↔◌, IfOk, IsTrue, true, false, length, slice_get};
+ghost use Rattle.std.specs.Prelude.{◌≡◌, ◌<◌, ◌↔◌, IfOk, OnOk, IsTrue, true, false, length, slice_get};
 ghost use Rattle.dr_machine.specs.Group.{Group, IsGroup};
-ghost use Rattle.dr_program.specs.Program.{AllEnded, Program, ok, step_of};
+ghost use Rattle.dr_program.specs.Program.{AllEnded, Program};
 ghost use Rattle.dr_program.specs.Schedule.{has_ended};
 ghost use Rattle.dr_restart.specs.Groups.{group_of};
 ghost use Rattle.dr_restart.specs.Setups.{IsBegun};
 ghost use Rattle.dr_script.specs.Ranges.{HasRanges};
-ghost use Rattle.dr_sim.specs.Sound.{IsSound, TookTurn, all_left};
+ghost use Rattle.dr_log.specs.State.{LogState};
+ghost use Rattle.dr_sim.specs.Logged.{AreAsBefore};
+ghost use Rattle.dr_logged.specs.Served.{AreRoomy, AtMember, HasServed, IsReady};
+ghost use Rattle.dr_sim.specs.Sound.{AreOthers, IsSound, TookDeed, TookTurn};
 
 use crate::deed::{all_ended, take, take_turn};
 use crate::opening::members_of;
+use dr_disk::Disk;
+use dr_log::Log;
 use dr_member::Member;
 use dr_restart::{Start, shape_of};
 use dr_script::Script;
@@ -57,6 +62,23 @@ impl Simulation {
         })
     }
 
+    /// Makes room on the logs for all that the members may append.
+    ///
+    /// # Errors
+    ///
+    /// Want of memory alone.
+    pub fn make_room<D: Disk>(&self, logs: &mut [Log<D>]) -> Result<(), AllocError>
+        requires all { length logs.old ≡ length self.now.members }
+        ensures room { OnOk result (AreRoomy D.told D.faults self.now.members logs.old logs.new) }
+        ensures kept { AreAsBefore logs.old logs.new }
+        ensures count { length logs.new ≡ length logs.old }
+    {
+        for m in 0..logs.len() {
+            logs[m].reserve(self.members[m].appends_left(), 0)?;
+        }
+        Ok(())
+    }
+
     /// The members.
     pub fn into_members(self) -> Vec<Member>
         ensures { result.items ≡ self.members }
@@ -86,27 +108,35 @@ impl Simulation {
         all_ended(&self.members)
     }
 
-    /// Member `m`, which has not ended, takes its next deed; an append goes well.
+    /// Member `m`, which has not ended, takes its next deed, with its log.
     #[inline(always)]
-    pub fn take_deed(&mut self, m: usize)
+    pub fn take_deed<D: Disk>(&mut self, m: usize, log: &mut Log<D>)
         ghost group: { Group }
         requires sound { IsSound group self.old }
         requires going { has_ended (slice_get self.old.members m) ≡ false }
-        ensures step { self.new ≡ step_of self.old (ok m) }
-        ensures sound { IsSound group self.new }
-        ensures falls { all_left self.new < all_left self.old }
+        requires ready { AtMember self.old m (IsReady log.old) }
+        ensures took { TookDeed group self.old m self.new }
+        ensures others { AreOthers self.old m self.new }
+        ensures ready { AtMember self.new m (IsReady log.new) }
+        ensures served { (base : LogState D) → AtMember self.old m (HasServed D.told D.faults base log.old)
+            → AtMember self.new m (HasServed D.told D.faults base log.new) }
     {
-        take(&mut self.members[m], self.table.as_mut_slice());
+        take(&mut self.members[m], self.table.as_mut_slice(), log);
     }
 
-    /// Member `m`, which has not ended, takes a whole turn: its deeds up to the first after which it
-    /// has ended or stands before a turn.
-    pub fn take_turn(&mut self, m: usize)
+    /// Member `m`, which has not ended, takes a whole turn, with its log: its deeds up to the first after
+    /// which it has ended or stands before a turn.
+    pub fn take_turn<D: Disk>(&mut self, m: usize, log: &mut Log<D>)
         ghost group: { Group }
         requires sound { IsSound group self.old }
         requires going { has_ended (slice_get self.old.members m) ≡ false }
-        ensures { TookTurn group self.old m self.new }
+        requires ready { AtMember self.old m (IsReady log.old) }
+        ensures took { TookTurn group self.old m self.new }
+        ensures others { AreOthers self.old m self.new }
+        ensures ready { AtMember self.new m (IsReady log.new) }
+        ensures served { (base : LogState D) → AtMember self.old m (HasServed D.told D.faults base log.old)
+            → AtMember self.new m (HasServed D.told D.faults base log.new) }
     {
-        take_turn(&mut self.members[m], self.table.as_mut_slice());
+        take_turn(&mut self.members[m], self.table.as_mut_slice(), log);
     }
 }

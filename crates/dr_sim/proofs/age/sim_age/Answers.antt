@@ -1,4 +1,4 @@
-use Rattle.std.proofs.Common.{sym, subst}
+use Rattle.std.proofs.Common.{rules, sym, ◌∙◌, subst, inl, inr, arith}
 use Rattle.dr_entry.specs.declared.end.AgeEnd.{AgeEnd}
 use Rattle.dr_complete.proofs.Scripts.{completes_by_script}
 use Rattle.dr_program_laws.specs.Ended.{AreComplete, HaveEnded}
@@ -7,21 +7,74 @@ use Rattle.dr_program_laws.proofs.Worlds.{ends_agreed}
 use Rattle.dr_history.specs.Agreement.{EndsAgreed}
 use Rattle.dr_restart.specs.Groups.{group_of}
 use Rattle.dr_restart.specs.Setups.{crashes_of}
-use Rattle.dr_sim.proofs.Courses.{schedule_ran, schedule_ends}
 use Rattle.dr_script.specs.declared.script.Schedule.{Schedule}
+use Rattle.dr_sim.specs.Logged.{HaveCome, NoneFull, NoneStopped}
 use Rattle.dr_sim.specs.Simulated.{IsRunBy}
+use Rattle.dr_sim.proofs.Courses.{schedule_ran, schedule_ends}
+use Rattle.dr_sim.proofs.Ends.{IsOver, all_failing, have_come, none_failed, none_full, ready_with}
+use Rattle.dr_sim.proofs.age.sim_age.Given.{Over}
 use Rattle.dr_sim.proofs.age.sim_age.Goals as goal
 
+-- the program of the age is over
+over : (g : Over) (c : goal.After-logs-2-1 g)
+    → IsOver g.D.Disk.told g.D.Disk.faults (group_of c.args.script.now c.args.start.now) c.args.logs.now
+    c.run.new.logs c.run.ensures.0
+over g c =
+    let (p, has_run, sound, same, served, count) = c.run.ensures in record {
+      sound = sound;
+      ended = schedule_ends c.args.script.now.schedule _ p has_run;
+      failing =
+          all_failing c.args.script.now c.args.start.now c.args.nth c.in_ok-simulation.simulation p sound.group
+          c.requires.ranges.group.lists c.requires.ranges.some_turn c.in_ok-simulation.ensures.begun
+          (schedule_ran c.args.script.now.schedule _ p has_run);
+      all = c.requires.logs.all;
+      as_many = count ∙ c.make_room.ensures.count;
+      served = served c.args.logs.now
+          (ready_with g.D.Disk.told g.D.Disk.faults c.args.script.now c.args.start.now c.args.nth
+          c.in_ok-simulation.simulation c.args.logs.now c.make_room.new.logs
+          c.requires.ranges.group.lists c.in_ok-simulation.ensures.begun c.requires.logs
+          c.make_room.ensures.count c.in_ok-make_room.ensures.room).1;
+    }
+
+pub run-requires-send-D : goal.run-requires-send-D
+run-requires-send-D g c = λ ks within. (
+  within,
+  (
+    search rules,
+    (
+      c.in_ok-simulation.ensures.sound,
+      (
+        c.in_ok-entries.ensures,
+        (
+          c.in_ok-ends.ensures.items,
+          (
+            omega (
+              arith,
+              c.in_ok-simulation.ensures.sound.form.all,
+              c.requires.ranges.group.lists,
+              c.in_ok-ends.ensures.capacity,
+            ),
+            (ready_with g.D.Disk.told g.D.Disk.faults c.args.script.now c.args.start.now c.args.nth
+                c.in_ok-simulation.simulation c.args.logs.now c.make_room.new.logs
+                c.requires.ranges.group.lists c.in_ok-simulation.ensures.begun c.requires.logs
+                c.make_room.ensures.count c.in_ok-make_room.ensures.room).0,
+          ),
+        ),
+      ),
+    ),
+  ),
+)
+
 pub returns-clause-agreed : goal.returns-clause-agreed
-returns-clause-agreed c =
-    let (p, has_run, sound, same) = c.run.ensures in
+returns-clause-agreed g c =
+    let (p, has_run, sound, same, served, count) = c.run.ensures in
     subst (λ (age : AgeEnd). EndsAgreed (group_of c.args.script.now c.args.start.now).opening age.members)
     (sym same)
     (ends_agreed (group_of c.args.script.now c.args.start.now) p sound.group sound.form sound.reached)
 
 pub returns-clause-ended : goal.returns-clause-ended
-returns-clause-ended c =
-    let (p, has_run, sound, same) = c.run.ensures in
+returns-clause-ended g c =
+    let (p, has_run, sound, same, served, count) = c.run.ensures in
     subst (λ (age : AgeEnd). HaveEnded
     (group_of c.args.script.now c.args.start.now).opening c.args.script.now.turns
     (crashes_of c.args.script.now.faults c.args.nth) age.members) (sym same)
@@ -31,11 +84,26 @@ returns-clause-ended c =
     (schedule_ends c.args.script.now.schedule _ p has_run))
 
 pub returns-clause-complete : goal.returns-clause-complete
-returns-clause-complete c = λ time.
-    let (p, has_run, sound, same) = c.run.ensures in
-    subst (λ (age : AgeEnd). AreComplete (group_of c.args.script.now c.args.start.now).opening age.members)
-    (sym same)
-    (completes_by_script c.args.script.now c.args.start.now c.args.nth _ p has_run.0 sound.group
-    c.requires.ranges time c.in_ok-simulation.ensures.begun
-    (subst (λ (schedule : Schedule). IsRunBy schedule c.in_ok-simulation.simulation has_run.0 p) time.lockstep
-    has_run.1))
+returns-clause-complete g c = λ time.
+    let (p, has_run, sound, same, served, count) = c.run.ensures in
+    subst (λ (age : AgeEnd). NoneStopped age.members
+    → AreComplete (group_of c.args.script.now c.args.start.now).opening age.members) (sym same)
+    (λ stopped. elim has_run.2 [
+      | inl well ↦ completes_by_script c.args.script.now c.args.start.now c.args.nth _ p has_run.0 sound.group
+          c.requires.ranges time c.in_ok-simulation.ensures.begun well
+          (subst (λ (schedule : Schedule). IsRunBy schedule c.in_ok-simulation.simulation has_run.0 p)
+          time.lockstep has_run.1)
+      | inr failed ↦ absurd (none_failed _ _ _ _ _ p (over g c) stopped failed)
+    ])
+
+pub returns-clause-logged : goal.returns-clause-logged
+returns-clause-logged g c =
+    let (p, has_run, sound, same, served, count) = c.run.ensures in
+    subst (λ (age : AgeEnd).
+    HaveCome g.D.Disk.told g.D.Disk.faults c.args.logs.now c.run.new.logs age.members) (sym same)
+    (have_come _ _ _ _ _ p (over g c))
+
+pub returns-clause-ample : goal.returns-clause-ample
+returns-clause-ample g c = λ ample.
+    let (p, has_run, sound, same, served, count) = c.run.ensures in
+    subst (λ (age : AgeEnd). NoneFull age.members) (sym same) (none_full _ _ _ _ _ p (over g c) ample)

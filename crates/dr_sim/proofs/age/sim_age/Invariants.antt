@@ -2,4 +2,4 @@ use Rattle.dr_restart.specs.Groups.{group_of}
 use Rattle.dr_sim.proofs.age.sim_age.Given as goal
 
 abbrev pub ghost-run : goal.ghost-run
-ghost-run a = group_of a.script.now a.start.now
+ghost-run g a = group_of a.script.now a.start.now

@@ -1,17 +1,22 @@
 use Rattle.std.proofs.Common.{◌≡◌, ℕ, false, is_some}
 use Rattle.dr_machine.specs.Group.{Group}
 use Rattle.dr_program.specs.Program.{Program}
+use Rattle.dr_log.specs.State.{LogState}
+use Rattle.dr_logged.specs.Served.{HasServed, IsReady}
 use Rattle.dr_turn.specs.Work.{deeds_left}
 use Rattle.dr_sim.specs.Sound.{IsAmong, with_member}
 use Rattle.dr_sim.proofs.Turns.{IsUnderWay}
 use Rattle.dr_sim.proofs.deed.take_turn.Given as goal
 
 abbrev pub invariant-loop : goal.invariant-loop
-invariant-loop l = record {
-  way : (g : Group) (p : Program) (m : ℕ) → IsAmong g p m l.fn.member l.fn.table
-      → IsUnderWay g p m (with_member p m l.member l.table);
+invariant-loop g l = record {
+  way : (h : Group) (p : Program) (m : ℕ) → IsAmong h p m l.fn.member l.fn.table
+      → IsUnderWay h p m (with_member p m l.member l.table);
   going : is_some l.member.replica.end ≡ false;
+  ready : IsReady l.log l.member;
+  served : (base : LogState g.row.D.Denot) → HasServed g.D.Disk.told g.D.Disk.faults base l.fn.log l.fn.member
+      → HasServed g.D.Disk.told g.D.Disk.faults base l.log l.member;
 }
 
 abbrev pub decreases-loop : goal.decreases-loop
-decreases-loop l = deeds_left l.member
+decreases-loop g l = deeds_left l.member

@@ -1,12 +1,24 @@
+use Rattle.std.proofs.Common.{◌∙◌, sym, true≢false}
 use Rattle.dr_sim.proofs.Turns.{no_rounds, rounds_go_on}
 use Rattle.dr_sim.proofs.simulation.Simulation.run_lockstep.Goals as goal
 
 pub loop-self-init : goal.loop-self-init
-loop-self-init g c = record { sound = c.requires; rounds = no_rounds c.args.self.now }
+loop-self-init g c = record {
+  sound = c.requires.1.1.0;
+  rounds = no_rounds c.args.self.now;
+  ready = c.requires.1.1.1;
+  served = λ bases served. served;
+}
 
 pub loop-self-preserved : goal.loop-self-preserved
 loop-self-preserved g c = record {
   sound = c.take_round.ensures.sound;
   rounds = rounds_go_on c.args.self.now c.loop-self.self c.take_round.new.self c.loop-self.invariant.rounds
       c.take_round.ensures.turns;
+  ready = c.take_round.ensures.ready;
+  served = λ bases served. c.take_round.ensures.served bases (c.loop-self.invariant.served bases served);
 }
+
+pub loop-self-smaller : goal.loop-self-smaller
+loop-self-smaller g c = c.take_round.ensures.falls
+    (λ ended. true≢false (sym (c.all_ended.ensures.1 ended) ∙ c.loop-self-test.true))

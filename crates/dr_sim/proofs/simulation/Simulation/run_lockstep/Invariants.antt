@@ -1,3 +1,6 @@
+use Rattle.std.proofs.Common.{List}
+use Rattle.dr_log.specs.State.{LogState}
+use Rattle.dr_logged.specs.Served.{AreReady, HaveServed}
 use Rattle.dr_sim.specs.Sound.{IsSound, all_left}
 use Rattle.dr_sim.proofs.Turns.{HasRounds}
 use Rattle.dr_sim.proofs.simulation.Simulation.run_lockstep.Given as goal
@@ -6,7 +9,14 @@ abbrev pub ghost-take_round : goal.ghost-take_round
 ghost-take_round g a = g.group
 
 abbrev pub invariant-loop-self : goal.invariant-loop-self
-invariant-loop-self g l = record { sound : IsSound g.group l.self; rounds : HasRounds l.fn.self l.self }
+invariant-loop-self g l = record {
+  sound : IsSound g.group l.self;
+  rounds : HasRounds l.fn.self l.self;
+  ready : AreReady l.logs l.self.members;
+  served : (bases : List (LogState g.row.D.Denot))
+      → HaveServed g.D.Disk.told g.D.Disk.faults bases l.fn.logs l.fn.self.members
+      → HaveServed g.D.Disk.told g.D.Disk.faults bases l.logs l.self.members;
+}
 
 abbrev pub decreases-loop-self : goal.decreases-loop-self
 decreases-loop-self g l = all_left l.self

@@ -1,17 +1,23 @@
-use Rattle.std.proofs.Common.{◌≡◌}
+use Rattle.std.proofs.Common.{◌≡◌, List}
+use Rattle.dr_log.specs.State.{LogState}
+use Rattle.dr_logged.specs.Served.{AreReady, HaveServed}
 use Rattle.dr_program.specs.Schedule.{going}
 use Rattle.dr_sim.specs.Sound.{IsSound, all_left}
 use Rattle.dr_sim.proofs.Choices.{HasChosen}
 use Rattle.dr_sim.proofs.simulation.Simulation.run_seeded.Given as goal
 
-abbrev pub ghost-take_deed : goal.ghost-take_deed
-ghost-take_deed g a = g.group
+abbrev pub ghost-take_deed_of : goal.ghost-take_deed_of
+ghost-take_deed_of g a = g.group
 
 abbrev pub invariant-loop-lcg : goal.invariant-loop-lcg
 invariant-loop-lcg g l = record {
   sound : IsSound g.group l.self;
   going : l.going.items ≡ going l.self;
   chosen : HasChosen l.seed l.fn.self l.lcg l.self;
+  ready : AreReady l.logs l.self.members;
+  served : (bases : List (LogState g.row.D.Denot))
+      → HaveServed g.D.Disk.told g.D.Disk.faults bases l.fn.logs l.fn.self.members
+      → HaveServed g.D.Disk.told g.D.Disk.faults bases l.logs l.self.members;
 }
 
 abbrev pub decreases-loop-lcg : goal.decreases-loop-lcg

@@ -1,0 +1,45 @@
+-- What an append of the next entry has come to, by the contract of a log.
+use Rattle.std.specs.Prelude.{◌≡◌, ℕ, ◌+◌, ◌<◌, ◌≤◌, List, length, Option}
+use Rattle.dr_disk.specs.Calls.{Call}
+use Rattle.dr_disk.specs.Images.{Goes}
+use Rattle.dr_entry.specs.declared.record.Record.{Record}
+use Rattle.dr_io.specs.Faults.{Rose}
+use Rattle.dr_log.specs.Standing.{IsBeforeOrAfter, block_length, log_length}
+use Rattle.dr_log.specs.State.{LogState, appended, broken_off}
+use Rattle.dr_machine.specs.declared.step.Step.TheVariants.{Append}
+use Rattle.dr_program.specs.Running.{Running, next_step}
+use Rattle.dr_logged.specs.Served.{IsSafe, next_record}
+
+-- the member is due to append, and the next entry is there
+pub record IsAppendDue (r : Running) : Type 0 where
+  pub step : next_step r ≡ Append
+  pub some : r.replica.logged < length r.replica.history
+  pub room : length r.replica.history ≤ r.replica.room
+
+-- the record that it appends
+abbrev pub record_due : Running → Record
+record_due r = next_record r.replica.history r.replica.logged
+
+-- it stands on the log, and is safe
+pub record HasAppended {D : Type 0} (told : D → Option (List Call)) (faults : D → ℕ) (log new : LogState D)
+    (r : Running) : Type 0 where
+  pub made : new ≡ appended log (record_due r) new.disk
+  pub fits : log_length log.entries log.votes + block_length (record_due r) ≤ log.limit
+  pub goes : Goes (told log.disk) (told new.disk)
+      (λ calls. IsBeforeOrAfter log.entries log.votes (record_due r))
+  pub safe : IsSafe told new
+  pub later : faults log.disk ≤ faults new.disk
+
+-- the disk failed
+pub record HasBroken {D : Type 0} (told : D → Option (List Call)) (faults : D → ℕ) (log new : LogState D)
+    (r : Running) : Type 0 where
+  pub made : new ≡ broken_off log (record_due r) new.disk
+  pub goes : Goes (told log.disk) (told new.disk)
+      (λ calls. IsBeforeOrAfter log.entries log.votes (record_due r))
+  pub rose : Rose (faults log.disk) (faults new.disk)
+  pub later : faults log.disk ≤ faults new.disk
+
+-- the log of this length has no room for it
+pub record IsOver {D : Type 0} (log : LogState D) (len : ℕ) (r : Running) : Type 0 where
+  pub long : len ≡ log_length log.entries log.votes
+  pub over : log.limit < len + block_length (record_due r)

@@ -1,0 +1,135 @@
+-- The logs of members that run: what comes of each while its member takes its deeds.
+use Rattle.std.specs.Prelude.{◌≡◌, Bool, ℕ, ◌+◌, ◌-◌, ◌<◌, ◌≤◌, max, true, false, List, ◌++◌, length, take, slice_get, slice_index_or, Option, None, Some, IfSome}
+use Rattle.dr_entry.specs.declared.entry.Entry.{Entry}
+use Rattle.dr_entry.specs.declared.entry.Entry.TheVariants.{View}
+use Rattle.dr_entry.specs.declared.record.Record.{Record}
+use Rattle.dr_entry.specs.declared.record.Record.TheVariants as records
+use Rattle.dr_entry.specs.declared.record.Vote.{Vote}
+use Rattle.dr_entry.specs.Spelling.{IsValid}
+use Rattle.dr_io.specs.Faults.{Rose}
+use Rattle.dr_disk.specs.Calls.{Call, run}
+use Rattle.dr_disk.specs.Images.{AllImages, Goes}
+use Rattle.dr_log.specs.Standing.{IsBeforeOrAfter, StandsFor, block_length, log_length}
+use Rattle.dr_log.specs.State.{LogState}
+use Rattle.dr_machine.specs.declared.step.Step.{Step}
+use Rattle.dr_machine.specs.declared.step.Step.TheVariants.{Append}
+use Rattle.dr_program.specs.declared.deed.Deed.TheVariants as deeds
+use Rattle.dr_program.specs.declared.outcome.LogWhy.{LogWhy}
+use Rattle.dr_program.specs.declared.outcome.LogWhy.TheVariants as whys
+use Rattle.dr_program.specs.Program.{Program}
+use Rattle.dr_program.specs.Running.{Running, next_deed}
+
+-- bytes stand for these entries and votes, and maybe for more behind them: they have lost none
+pub record LosesNone (entries : List Entry) (votes : List Vote) (image : List ℕ) : Type 0 where
+  pub more_entries : List Entry
+  pub more_votes : List Vote
+  pub stands : StandsFor image (entries ++ more_entries) (votes ++ more_votes)
+
+-- where the disk tells, whatever a crash leaves of it now has P
+abbrev pub IsLeft : Option (List Call) → (List ℕ → Type 0) → Type 0
+IsLeft told P = IfSome told (λ calls. AllImages (run calls) P)
+
+-- the log's own entries and votes are safe
+abbrev pub IsSafe : {D : Type 0} → (D → Option (List Call)) → LogState D → Type 0
+IsSafe told log = IsLeft (told log.disk) (λ image. StandsFor image log.entries log.votes)
+
+-- the record that comes behind so many entries of a history
+abbrev pub next_record : List Entry → ℕ → Record
+next_record history logged = records.Entry (slice_index_or history logged (View 0 0 0))
+
+-- a disk failed since `base`: whatever a crash leaves has what is on the log, or the next record besides
+pub record BrokeOff {D : Type 0} (told : D → Option (List Call)) (faults : D → ℕ) (base log : LogState D)
+    (next : Record) : Type 0 where
+  pub failed : log.failed ≡ true
+  pub rose : Rose (faults base.disk) (faults log.disk)
+  pub left : IsLeft (told log.disk) (IsBeforeOrAfter log.entries log.votes next)
+
+-- a log of this length has no room for the next record, and is safe
+pub record IsFull {D : Type 0} (told : D → Option (List Call)) (log : LogState D) (len : ℕ)
+    (next : Record) : Type 0 where
+  pub whole : log.failed ≡ false
+  pub safe : IsSafe told log
+  pub length : len ≡ log_length log.entries log.votes
+  pub over : log.limit < len + block_length next
+
+-- how the last append to a log of so many entries of a history has gone: well, or it failed for this reason
+abbrev pub WentSo : {D : Type 0} → (D → Option (List Call)) → (D → ℕ) → LogState D → LogState D
+    → List Entry → ℕ → Option LogWhy → Type 0
+WentSo told faults base log history logged None = (log.failed ≡ false) × IsSafe told log
+WentSo told faults base log history logged (Some whys.DiskFault) =
+    (logged < length history) × BrokeOff told faults base log (next_record history logged)
+WentSo told faults base log history logged (Some (whys.LogFull len)) =
+    (logged < length history) × IsFull told log len (next_record history logged)
+
+-- what has come of a log since `base`, with which its member began: it has logged so many entries of its
+-- history, and its last append failed for this reason, if one did
+pub record HasCome {D : Type 0} (told : D → Option (List Call)) (faults : D → ℕ) (base log : LogState D)
+    (history : List Entry) (logged : ℕ) (why : Option LogWhy) : Type 0 where
+  -- it has the first entries of the history, behind those that it had, and the votes that it had
+  pub entries : log.entries ≡ take logged history
+  pub more : (es : List Entry) × (log.entries ≡ base.entries ++ es)
+  pub votes : log.votes ≡ base.votes
+  -- it keeps its limit
+  pub limit : log.limit ≡ base.limit
+  pub within : log_length log.entries log.votes ≤ max log.limit (log_length base.entries base.votes)
+  -- how its last append went
+  pub last : WentSo told faults base log history logged why
+  -- at no moment a crash would have lost what it had
+  pub moments : Goes (told base.disk) (told log.disk) (λ calls. LosesNone base.entries base.votes)
+  pub later : faults base.disk ≤ faults log.disk
+
+-- so it is with the log of a running member
+abbrev pub HasServed : {D : Type 0} → (D → Option (List Call)) → (D → ℕ) → LogState D → LogState D → Running
+    → Type 0
+HasServed told faults base log r = HasCome told faults base log r.replica.history r.replica.logged r.failed
+
+-- the step is an append
+abbrev pub is_append : Step → Bool
+is_append Append = true
+is_append s = false
+
+-- the log is ready for all that its member may still append, unless an append has failed
+pub record IsReady {D : Type 0} (log : LogState D) (r : Running) : Type 0 where
+  pub whole : r.failed ≡ None → log.failed ≡ false
+  pub spare : r.failed ≡ None → r.replica.room ≤ r.replica.logged + log.spare_entries
+
+-- what the member appends next is a valid record
+abbrev pub AppendsWell : Running → Type 0
+AppendsWell r = (due : Record) → next_deed r ≡ deeds.Append due → IsValid due
+
+-- what is so of member m of the program
+abbrev pub AtMember : Program → ℕ → (Running → Type 0) → Type 0
+AtMember p m P = (r : Running) → slice_get p.members m ≡ Some r → P r
+
+-- each log is ready for the member of its number
+pub record AreReady {D : Type 0} (logs : List (LogState D)) (members : List Running) : Type 0 where
+  pub all : length logs ≡ length members
+  pub each : (m : ℕ) (log : LogState D) (r : Running) → slice_get logs m ≡ Some log
+      → slice_get members m ≡ Some r → IsReady log r
+
+-- each log has served the member of its number, since these bases
+abbrev pub HaveServed : {D : Type 0} → (D → Option (List Call)) → (D → ℕ) → List (LogState D)
+    → List (LogState D) → List Running → Type 0
+HaveServed {D} told faults bases logs members = (m : ℕ) (base log : LogState D) (r : Running)
+    → slice_get bases m ≡ Some base → slice_get logs m ≡ Some log → slice_get members m ≡ Some r
+    → HasServed told faults base log r
+
+-- a log got room for all that its member may still append, and is else as it was: what it has is safe where
+-- no append has failed
+pub record IsRoomy {D : Type 0} (told : D → Option (List Call)) (faults : D → ℕ) (r : Running)
+    (old new : LogState D) : Type 0 where
+  pub spare : r.replica.room - r.replica.logged ≤ new.spare_entries
+  pub is : new ≡ record old {
+    disk = new.disk;
+    spare_entries = new.spare_entries;
+    spare_votes = new.spare_votes;
+  }
+  pub tells : told new.disk ≡ told old.disk
+  pub calm : faults new.disk ≡ faults old.disk
+  pub safe : old.failed ≡ false → IsSafe told new
+
+abbrev pub AreRoomy : {D : Type 0} → (D → Option (List Call)) → (D → ℕ) → List Running → List (LogState D)
+    → List (LogState D) → Type 0
+AreRoomy {D} told faults members olds news = (m : ℕ) (r : Running) (old new : LogState D)
+    → slice_get members m ≡ Some r → slice_get olds m ≡ Some old → slice_get news m ≡ Some new
+    → IsRoomy told faults r old new

@@ -1,0 +1,41 @@
+//! Laws of members and their logs.
+ghost use Rattle.std.specs.Prelude.{◌≡◌, ℕ, false, length, None};
+ghost use Rattle.dr_log.specs.State.{LogState};
+ghost use Rattle.dr_program.specs.declared.outcome.LogWhy.{LogWhy};
+ghost use Rattle.dr_program.specs.declared.outcome.LogWhy.TheVariants as whys;
+ghost use Rattle.dr_program.specs.Form.{HasForm};
+ghost use Rattle.dr_program.specs.Running.{Running, after_step, broken_off, next_step};
+ghost use Rattle.dr_logged.specs.Served.{HasServed, IsReady, IsRoomy, is_append};
+ghost use Rattle.dr_logged.specs.Appended.{HasAppended, HasBroken, IsAppendDue, IsOver};
+
+use dr_disk::Disk;
+
+/// A log that has all of its member's history, and got room, has served it so far and is ready.
+pub fn logs_begin<D: Disk>()
+    ensures { (old new : LogState D) (r : Running) → IsRoomy D.told D.faults r old new
+        → old.failed ≡ false → old.entries ≡ r.replica.history
+        → r.replica.logged ≡ length r.replica.history → r.failed ≡ None
+        → HasServed D.told D.faults old new r × IsReady new r }
+{}
+
+/// A deed of the member other than an append leaves its log ready, and served.
+pub fn other_deeds_leave_logs<D: Disk>()
+    ensures { (base log : LogState D) (word : ℕ) (r : Running) → is_append (next_step r) ≡ false
+        → HasForm r.replica → IsReady log r → HasServed D.told D.faults base log r
+        → HasServed D.told D.faults base log (after_step word r) × IsReady log (after_step word r) }
+{}
+
+/// An append that goes well puts the next entry of the history on the log. One that the disk fails, or
+/// for which there is no room, leaves the log with what it had, and is told by the member.
+pub fn appends_serve_logs<D: Disk>()
+    ensures well { (base log new : LogState D) (word : ℕ) (r : Running) → IsAppendDue r → IsReady log r
+        → HasServed D.told D.faults base log r → HasAppended D.told D.faults log new r
+        → HasServed D.told D.faults base new (after_step word r) × IsReady new (after_step word r) }
+    ensures failed { (base log new : LogState D) (r : Running) → IsAppendDue r
+        → HasServed D.told D.faults base log r → HasBroken D.told D.faults log new r
+        → HasServed D.told D.faults base new (broken_off whys.DiskFault r) }
+    ensures full { (base log : LogState D) (r : Running) (len : ℕ) → IsAppendDue r
+        → HasServed D.told D.faults base log r → IsOver log len r
+        → HasServed D.told D.faults base log (broken_off (whys.LogFull len) r) }
+    ensures ready { (log : LogState D) (why : LogWhy) (r : Running) → IsReady log (broken_off why r) }
+{}

@@ -1,0 +1,85 @@
+-- Whether appends went well over moves: they did, or some member's has failed, and that stays.
+use Rattle.std.proofs.Common.{◌≡◌, refl, sym, ap, ◌∙◌, subst, inl, inr, ◌⊎◌, ℕ, zero, suc, arith, List, [], ◌∷◌, ◌++◌}
+use Rattle.std.specs.Prelude.{Option, None, Some, slice_get}
+use Rattle.std.proofs.lemmas.Bool.{cases_eq}
+use Rattle.std.proofs.lemmas.List.Elements.{All-append, All-nil}
+use Rattle.std.proofs.lemmas.Option.{same_Some, slice_get_within}
+use Rattle.dr_entry.specs.declared.end.End.{End}
+use Rattle.dr_machine.specs.declared.step.Step.{Step}
+use Rattle.dr_machine.specs.declared.step.Step.TheVariants.{Do, Look, Push, Append}
+use Rattle.dr_program.specs.declared.outcome.LogWhy.{LogWhy}
+use Rattle.dr_program.specs.declared.outcome.Outcome.{Outcome}
+use Rattle.dr_program.specs.declared.outcome.Outcome.TheVariants.{Ok, Failed}
+use Rattle.dr_program.specs.Program.{AllOk, Move, Program, after_deed, moved_by, next_sight, ran, step_of, went}
+use Rattle.dr_program.specs.Running.{Running, next_step}
+use Rattle.dr_program.proofs.Holdings.{replica_kept, replica_set}
+use Rattle.dr_logged.proofs.Serving.{settled_same}
+use Rattle.dr_sim.specs.Simulated.{SomeFailed, WentWell}
+use Rattle.dr_sim.specs.Sound.{move}
+
+-- a member whose append has failed stays one
+still_failed : (word : ℕ) (o : Outcome) (r : Running) (s : Step) (why : LogWhy) → r.failed ≡ Some why
+    → (next : LogWhy) × ((after_deed word o r s).failed ≡ Some next)
+still_failed word Ok r Append why at = (why, ap (λ (x : Running). x.failed) (settled_same 0 r) ∙ at)
+still_failed word (Failed next) r Append why at = (next, refl)
+still_failed word o r (Do a) why at = (why, ap (λ (x : Running). x.failed) (settled_same word r) ∙ at)
+still_failed word o r (Look i c) why at = (why, ap (λ (x : Running). x.failed) (settled_same word r) ∙ at)
+still_failed word o r (Push j c) why at = (why, ap (λ (x : Running). x.failed) (settled_same word r) ∙ at)
+
+failed_step : (p : Program) (e : Move) → SomeFailed p → SomeFailed (step_of p e)
+failed_step p e (m, r, why, there, at) = by (slice_get p.members e.member) refl
+  where
+    on : (x : Running) → slice_get p.members e.member ≡ Some x → (o : Option End)
+        → SomeFailed (went p x e o)
+    on x is (Some end) = (m, r, why, there, at)
+    on x is None = elim (cases_eq m e.member) [
+      | inr other ↦ (
+        m,
+        r,
+        why,
+        replica_kept p.members e.member m
+            (after_deed (next_sight p.table x) e.outcome x (next_step x)) other ∙ there,
+        at,
+      )
+      | inl here ↦
+          let same : r ≡ x = same_Some r x (sym there ∙ ap (slice_get p.members) here ∙ is) in
+          let next = still_failed (next_sight p.table x) e.outcome x (next_step x) why
+          (ap (λ (y : Running). y.failed) (sym same) ∙ at) in (
+            e.member,
+            after_deed (next_sight p.table x) e.outcome x (next_step x),
+            next.0,
+            replica_set p.members e.member (after_deed (next_sight p.table x) e.outcome x (next_step x))
+                (slice_get_within p.members e.member x is),
+            next.1,
+          )
+    ]
+
+    by : (o : Option Running) → slice_get p.members e.member ≡ o → SomeFailed (moved_by p o e)
+    by None is = (m, r, why, there, at)
+    by (Some x) is = on x is x.replica.end
+
+failed_ran : (p : Program) (es : List Move) → SomeFailed p → SomeFailed (ran p es)
+unfolding ran
+failed_ran p [] failed = failed
+failed_ran p (e ∷ es) failed = failed_ran (step_of p e) es (failed_step p e failed)
+
+-- no moves went well
+pub none_well : (p : Program) → WentWell [] p
+none_well p = inl (All-nil (λ (e : Move). e.outcome ≡ Ok))
+
+one_ok : (e : Move) → e.outcome ≡ Ok → AllOk (e ∷ [])
+one_ok e h zero d within = h
+one_ok e h (suc k) d within = absurd (omega (arith, within))
+
+-- so did moves and more of them
+pub well_both : (es fs : List Move) (p q : Program) → WentWell es p → WentWell fs q → q ≡ ran p fs
+    → WentWell (es ++ fs) q
+well_both es fs p q (inl first) (inl next) is =
+    inl (All-append (λ (e : Move). e.outcome ≡ Ok) es fs first next)
+well_both es fs p q first (inr failed) is = inr failed
+well_both es fs p q (inr failed) next is = inr (subst SomeFailed (sym is) (failed_ran p fs failed))
+
+-- and one more
+pub well_one : (m : ℕ) (o : Outcome) (q : Program) → (o ≡ Ok) ⊎ SomeFailed q → WentWell (move m o ∷ []) q
+well_one m o q (inl ok) = inl (one_ok (move m o) ok)
+well_one m o q (inr failed) = inr failed

@@ -1,0 +1,96 @@
+-- Room on the logs of members, made one after the other.
+use Rattle.std.proofs.Common.{◌≡◌, refl, sym, ap, ◌∙◌, subst, inl, inr, ℕ, ◌+◌, ◌-◌, ◌<◌, ◌≤◌, max, false, List, length, length-set, le_refl, get_or, arith}
+use Rattle.std.proofs.Math.Nat.{le-max_right}
+use Rattle.std.specs.Prelude.{Option, Some, slice_get, slice_set}
+use Rattle.std.proofs.lemmas.Bool.{cases_eq}
+use Rattle.std.proofs.lemmas.Option.{same_Some, slice_get-get_or}
+use Rattle.dr_disk.specs.Calls.{Call}
+use Rattle.dr_log.specs.State.{LogState}
+use Rattle.dr_program.specs.Running.{Running}
+use Rattle.dr_program.proofs.Holdings.{replica_kept, replica_set}
+use Rattle.dr_logged.specs.Served.{IsRoomy, IsSafe}
+use Rattle.dr_sim.specs.Logged.{AreAsBefore, IsAsBefore}
+
+-- the logs below k got room, and the others are as they were
+pub record HasMadeRoom {D : Type 0} (told : D → Option (List Call)) (count : D → ℕ) (members : List Running)
+    (olds news : List (LogState D)) (k : ℕ) : Type 0 where
+  pub all : length news ≡ length olds
+  pub made : (m : ℕ) (r : Running) (old new : LogState D) → m < k → slice_get members m ≡ Some r
+      → slice_get olds m ≡ Some old → slice_get news m ≡ Some new → IsRoomy told count r old new
+  pub others : (m : ℕ) → k ≤ m → slice_get news m ≡ slice_get olds m
+  pub same : AreAsBefore olds news
+
+-- before the first
+pub none_made : {D : Type 0} (told : D → Option (List Call)) (count : D → ℕ) (members : List Running)
+    (logs : List (LogState D)) → HasMadeRoom told count members logs logs 0
+none_made told count members logs = record {
+  all = refl;
+  made = λ m r old new below member there here. absurd (omega (arith, below));
+  others = λ m above. refl;
+  same = λ m old new there here.
+      let is = same_Some old new (sym there ∙ here) in
+      subst (λ x. IsAsBefore old x) is (record { entries = refl; votes = refl });
+}
+
+-- a log that got room for what a member may still append
+pub roomy : {D : Type 0} (told : D → Option (List Call)) (count : D → ℕ) (r : Running) (old new : LogState D)
+    (n : ℕ) → n ≡ r.replica.room - r.replica.logged
+    → new ≡ record old {
+      disk = new.disk;
+      spare_entries = max old.spare_entries n;
+      spare_votes = max old.spare_votes 0;
+    }
+    → told new.disk ≡ told old.disk → count new.disk ≡ count old.disk
+    → (old.failed ≡ false → IsSafe told new) → IsRoomy told count r old new
+roomy {D} told count r old new n is made tells calm safe = record {
+  spare = omega (arith, is, ap (λ (l : LogState D). l.spare_entries) made, le-max_right old.spare_entries n);
+  is = made ∙ (λ z. record old {
+    disk = new.disk;
+    spare_entries = sym (ap (λ (l : LogState D). l.spare_entries) made) z;
+    spare_votes = sym (ap (λ (l : LogState D). l.spare_votes) made) z;
+  });
+  tells = tells;
+  calm = calm;
+  safe = safe;
+}
+
+-- a log that is as before in the place of one leaves all as before
+pub same_set : {D : Type 0} (olds news : List (LogState D)) (k : ℕ) (x new : LogState D)
+    → AreAsBefore olds news → k < length news → IsAsBefore (get_or news k x) new
+    → AreAsBefore olds (slice_set news k new)
+same_set olds news k x new same within is = λ m old y there here. elim (cases_eq m k) [
+  | inr other ↦ same m old y there (sym (replica_kept news k m new other) ∙ here)
+  | inl at ↦
+      let before = same m old (get_or news k x) there
+      (ap (slice_get news) at ∙ slice_get-get_or news k x within) in
+      subst (λ z. IsAsBefore old z)
+      (same_Some new y (sym (replica_set news k new within) ∙ ap (slice_get (slice_set news k new)) (sym at)
+      ∙ here))
+      (record { entries = is.entries ∙ before.entries; votes = is.votes ∙ before.votes })
+]
+
+-- the next log got room
+pub one_more_made : {D : Type 0} (told : D → Option (List Call)) (count : D → ℕ) (members : List Running)
+    (olds news : List (LogState D)) (k : ℕ) (r : Running) (x new : LogState D)
+    → HasMadeRoom told count members olds news k → k < length news → slice_get members k ≡ Some r
+    → IsRoomy told count r (get_or news k x) new → IsAsBefore (get_or news k x) new
+    → HasMadeRoom told count members olds (slice_set news k new) (k + 1)
+one_more_made told count members olds news k r x new so_far within member room is = record {
+  all = length-set news k new ∙ so_far.all;
+  made = λ m q old y below there from here. elim (cases_eq m k) [
+    | inr other ↦ so_far.made m q old y (omega (arith, below, other)) there from
+        (sym (replica_kept news k m new other) ∙ here)
+    | inl at ↦
+        let same_r = same_Some r q (sym member ∙ ap (slice_get members) (sym at) ∙ there) in
+        let same_new = same_Some new y (sym (replica_set news k new within)
+        ∙ ap (slice_get (slice_set news k new)) (sym at) ∙ here) in
+        let same_old = same_Some (get_or news k x) old (sym (slice_get-get_or news k x within)
+        ∙ so_far.others k (le_refl k) ∙ ap (slice_get olds) (sym at) ∙ from) in
+        subst (λ z. IsRoomy told count z old y) same_r
+        (subst (λ z. IsRoomy told count r z y) same_old
+        (subst (λ z. IsRoomy told count r (get_or news k x) z) same_new room))
+  ];
+  others = λ m above. replica_kept news k m new (λ at. absurd (omega (arith, above, at)))
+      ∙ so_far.others m (omega (arith, above));
+  same = same_set olds news k x new so_far.same within is;
+}

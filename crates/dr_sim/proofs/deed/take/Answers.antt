@@ -1,0 +1,51 @@
+use Rattle.std.proofs.Common.{refl, sym, subst}
+use Rattle.dr_logged.specs.Served.{HasServed, IsReady}
+use Rattle.dr_logged.proofs.Serving.{other_ready, other_served}
+use Rattle.dr_sim.proofs.Deeds.{act_taken, at_act, at_look, at_push, push_taken}
+use Rattle.dr_sim.proofs.deed.take.Goals as goal
+
+pub returns-in-Look-clause-ready : goal.returns-in-Look-clause-ready
+returns-in-Look-clause-ready g c =
+    subst (IsReady c.args.log.now) (sym c.looked.ensures.after)
+    (other_ready c.args.log.now _ c.args.member.now (at_look c.args.member.now _ (sym c.in-Look.ensures.deed))
+    c.requires.ready)
+
+pub returns-in-Look-clause-served : goal.returns-in-Look-clause-served
+returns-in-Look-clause-served g c = λ base served.
+    subst (HasServed g.D.Disk.told g.D.Disk.faults base c.args.log.now) (sym c.looked.ensures.after)
+    (other_served _ _ base c.args.log.now _ c.args.member.now
+    (at_look c.args.member.now _ (sym c.in-Look.ensures.deed)) c.requires.form.replica.logged served)
+
+pub returns-in-Push-clause-member : goal.returns-in-Push-clause-member
+returns-in-Push-clause-member g c =
+    (push_taken c.args.table.now c.args.member.now _ _ _ c.pushed.new.self (sym c.in-Push.ensures.deed)
+    c.pushed.ensures.after refl).member
+
+pub returns-in-Push-clause-ready : goal.returns-in-Push-clause-ready
+returns-in-Push-clause-ready g c =
+    subst (IsReady c.args.log.now) (sym (c.pushed.ensures.after 0))
+    (other_ready c.args.log.now 0 c.args.member.now (at_push c.args.member.now _ _ (sym c.in-Push.ensures.deed))
+    c.requires.ready)
+
+pub returns-in-Push-clause-served : goal.returns-in-Push-clause-served
+returns-in-Push-clause-served g c = λ base served.
+    subst (HasServed g.D.Disk.told g.D.Disk.faults base c.args.log.now) (sym (c.pushed.ensures.after 0))
+    (other_served _ _ base c.args.log.now 0 c.args.member.now
+    (at_push c.args.member.now _ _ (sym c.in-Push.ensures.deed)) c.requires.form.replica.logged served)
+
+pub returns-in-Act-clause-member : goal.returns-in-Act-clause-member
+returns-in-Act-clause-member g c =
+    (act_taken c.args.table.now c.args.member.now _ _ _ c.acted.new.self (sym c.in-Act.ensures.deed)
+    c.acted.ensures.after refl).member
+
+pub returns-in-Act-clause-ready : goal.returns-in-Act-clause-ready
+returns-in-Act-clause-ready g c =
+    subst (IsReady c.args.log.now) (sym (c.acted.ensures.after 0))
+    (other_ready c.args.log.now 0 c.args.member.now (at_act c.args.member.now _ _ (sym c.in-Act.ensures.deed))
+    c.requires.ready)
+
+pub returns-in-Act-clause-served : goal.returns-in-Act-clause-served
+returns-in-Act-clause-served g c = λ base served.
+    subst (HasServed g.D.Disk.told g.D.Disk.faults base c.args.log.now) (sym (c.acted.ensures.after 0))
+    (other_served _ _ base c.args.log.now 0 c.args.member.now
+    (at_act c.args.member.now _ _ (sym c.in-Act.ensures.deed)) c.requires.form.replica.logged served)
