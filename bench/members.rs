@@ -1,16 +1,23 @@
 //! A group of members in plain Rust, deed by deed: the turns that `dr_machine` defines, to measure
 //! the proved members by.
 
+#[path = "log/file.rs"]
+#[allow(dead_code)]
+mod file;
 #[path = "members/group.rs"]
 mod group;
 #[path = "members/member.rs"]
 mod member;
+#[path = "log/records.rs"]
+#[allow(dead_code)]
+mod records;
 #[path = "members/rows.rs"]
 mod rows;
 
 use group::Group;
-use member::{End, Entry};
-use rows::{MAX_MESSAGE, Shape};
+use member::End;
+use records::{Entry, MAX_MESSAGE};
+use rows::Shape;
 use std::env;
 use std::fmt::{self, Write};
 use std::process::ExitCode;

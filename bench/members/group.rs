@@ -1,11 +1,17 @@
 //! A group that runs over the words of one table.
 
-use crate::member::{Deed, Entry, Member};
-use crate::rows::{Message, Shape};
+use crate::file::{Disk, Fault, Log};
+use crate::member::{Deed, Member};
+use crate::records::{Entry, Message, Record};
+use crate::rows::Shape;
 
-/// The members over the words of one table.
+/// The most bytes of a log.
+const LOG_LIMIT: u64 = 1 << 31;
+
+/// The members over the words of one table, each with its log.
 pub struct Group {
     pub members: Vec<Member>,
+    logs: Vec<Log>,
     table: Vec<u64>,
     pub deeds: u64,
 }
@@ -19,8 +25,10 @@ impl Group {
                 (0..totals[me] as usize).map(|index| Message::numbered(me, index, bytes));
             Member::begin(shape, me, messages.collect(), totals.to_vec(), turns)
         };
+        let members: Vec<Member> = (0..shape.members).map(begin).collect();
         Group {
-            members: (0..shape.members).map(begin).collect(),
+            logs: members.iter().map(log_of).collect(),
+            members,
             table: vec![0; shape.words()],
             deeds: 0,
         }
@@ -29,8 +37,9 @@ impl Group {
     /// Member `m` takes one whole turn.
     fn turn(&mut self, m: usize) {
         let member = &mut self.members[m];
+        let log = &mut self.logs[m];
         loop {
-            step(member, &mut self.table);
+            step(member, &mut self.table, log);
             self.deeds += 1;
             if member.is_between_turns() {
                 return;
@@ -67,7 +76,7 @@ impl Group {
                 .wrapping_add(1_442_695_040_888_963_407);
             let chosen = ((state >> 33) as u32 % living.len() as u32) as usize;
             let m = living[chosen];
-            step(&mut self.members[m], &mut self.table);
+            step(&mut self.members[m], &mut self.table, &mut self.logs[m]);
             self.deeds += 1;
             if self.members[m].end.is_some() {
                 living.remove(chosen);
@@ -104,9 +113,22 @@ impl Group {
     }
 }
 
+/// A log with the history that a member begins with, and with room for all that it may append.
+fn log_of(member: &Member) -> Log {
+    fn made(member: &Member) -> Result<Log, Fault> {
+        let mut log = Log::mount(Disk::default(), LOG_LIMIT)?;
+        log.reserve(member.room);
+        for entry in &member.history {
+            log.append(&Record::Entry(entry.clone()))?;
+        }
+        Ok(log)
+    }
+    made(member).expect("a file in memory never fails")
+}
+
 /// A member takes its next deed.
 #[inline(always)]
-fn step(member: &mut Member, table: &mut [u64]) {
+fn step(member: &mut Member, table: &mut [u64], log: &mut Log) {
     match member.next() {
         Deed::Look(index) => member.looked(table[index]),
         Deed::Push(index, word) => {
@@ -117,9 +139,16 @@ fn step(member: &mut Member, table: &mut [u64]) {
             table[index] = word;
             member.acted();
         }
-        Deed::Append(_) => member.appended(),
+        Deed::Append(record) => append(member, log, &record),
         Deed::Rest => {}
     }
+}
+
+/// A member appends this record to its log.
+#[inline(never)]
+fn append(member: &mut Member, log: &mut Log, record: &Record) {
+    log.append(record).expect("a file in memory never fails");
+    member.appended();
 }
 
 fn mixed(sum: u64, word: u64) -> u64 {

@@ -1,26 +1,7 @@
 //! A member of a group, with its place in its turn.
 
-use crate::rows::{BEAT, DONE, Item, LOGGED, Message, RECEIVED, Rows, Shape};
-
-#[derive(Clone)]
-pub enum Entry {
-    View {
-        age: u16,
-        number: u8,
-        members: u16,
-    },
-    Msg {
-        sender: u8,
-        index: u32,
-        bytes: Message,
-    },
-}
-
-/// What goes on a log, of which this group keeps none. (Votes come with suspicions.)
-#[allow(dead_code)]
-pub enum Record {
-    Entry(Entry),
-}
+use crate::records::{Entry, Message, Record};
+use crate::rows::{BEAT, DONE, Item, LOGGED, RECEIVED, Rows, Shape};
 
 /// What it has put: a message by its index, or a null. (The members say so at their end, where a
 /// group has more than one view.)
@@ -37,7 +18,6 @@ pub enum End {
 }
 
 /// What a member does next, with indices of the table.
-#[allow(dead_code)]
 pub enum Deed {
     Look(usize),
     Push(usize, u64),
@@ -118,7 +98,7 @@ pub struct Member {
     pub history: Vec<Entry>,
     /// How many messages of each member the history has.
     delivered: Vec<u32>,
-    room: usize,
+    pub room: usize,
     pub logged: usize,
     pub durable: usize,
     pub turns: u32,

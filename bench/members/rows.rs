@@ -1,10 +1,11 @@
 //! The words that a member has and sees, and the messages in its ring.
 
+use crate::records::{MAX_MESSAGE, Message};
+
 pub const BEAT: usize = 0;
 pub const RECEIVED: usize = 2;
 pub const LOGGED: usize = 3;
 pub const DONE: usize = 4;
-pub const MAX_MESSAGE: usize = 64;
 /// The head of a null; that of a message is its length.
 const NULL_MARK: u32 = u32::MAX;
 /// A head word and the words of the body.
@@ -37,13 +38,6 @@ impl Shape {
     }
 }
 
-/// At most 64 bytes; what is behind them is 0.
-#[derive(Clone)]
-pub struct Message {
-    bytes: [u8; MAX_MESSAGE],
-    len: u8,
-}
-
 impl Message {
     /// Message `index` of a member: bytes that count on, each below 128.
     pub fn numbered(sender: usize, index: usize, len: u8) -> Message {
@@ -52,10 +46,6 @@ impl Message {
             *byte = b'a' + ((31 * sender + 7 * index + place) % 26) as u8;
         }
         Message { bytes, len }
-    }
-
-    pub fn bytes(&self) -> &[u8] {
-        &self.bytes[..usize::from(self.len)]
     }
 }
 

@@ -10,19 +10,22 @@ use Rattle.dr_io.specs.Faults.{Rose}
 use Rattle.dr_restart.specs.Groups.{first_group_of, first_start_of}
 use Rattle.dr_script.specs.declared.script.Script.{Script}
 use Rattle.dr_script.specs.Reading.{Reading, reading_of, TooLong as TooLongText, NotJson as NoJsonText, Wrong, Reads}
+use Rattle.dr_sim.specs.Logged.{NoneStopped, why_ended}
 use Rattle.dr_sim.specs.Simulated.{IsSimulated}
 use Rattle.dr_text.specs.declared.last.Last.{Last}
 use Rattle.dr_text.specs.declared.last.Last.TheVariants.{Done, Usage, SourceFault, Unfinished}
-use Rattle.derecho.specs.declared.status.TheConstants.{DONE, USAGE, SCRIPT_REFUSED, READ_FAULT, WRITE_FAULT, UNFINISHED, OUT_OF_MEMORY}
+use Rattle.derecho.specs.declared.status.TheConstants.{DONE, USAGE, SCRIPT_REFUSED, READ_FAULT, WRITE_FAULT, DISK_FAULT, UNFINISHED, OUT_OF_MEMORY, LOG_FULL}
 use Rattle.derecho.specs.declared.outcome.Outcome.{Outcome}
 use Rattle.derecho.specs.Words.{IsCommand}
 use Rattle.derecho.specs.Built.{runnable, refusal}
 use Rattle.derecho.specs.Reading.{IsNoScript, IsScript, WasRead}
-use Rattle.derecho.specs.Ages.{IsRunOf, RanAlone, is_spent, some_spent}
+use Rattle.derecho.specs.Ages.{IsRunOf, RanAlone, is_disk_fault, is_log_full, is_spent, some_end, some_spent}
 use Rattle.dr_complete.specs.Time.{HasTime}
 use Rattle.dr_program_laws.specs.Ended.{AreComplete}
 use Rattle.dr_history.specs.declared.opening.Opening.{Opening}
+use Rattle.dr_entry.specs.declared.end.End.{End}
 use Rattle.dr_entry.specs.declared.end.MemberEnd.{MemberEnd}
+use Rattle.derecho.proofs.Undisturbed.{no_disk_fault, no_log_full, none_end}
 use Rattle.derecho.specs.Outcome.{Exactly, GaveUp, IsDue, IsRunOver, MayBeUnread, RanRead, Wrote, last_of_run, status_of}
 
 -- the status is the one that is due, or that of a write fault
@@ -448,3 +451,61 @@ read_of {words} {old} {new} {before} {after} {status} {ages} course command =
           (λ is. differs status UNFINISHED SCRIPT_REFUSED due is (λ e. omega arith)
           (λ e. omega arith)))
     ]
+
+-- no log has ended a member of an age
+pub undisturbed_of : {words : List (String Global)} {old new : Option (List ℕ)} {before after status : ℕ}
+    {ages : List AgeEnd}
+    → Course words old new before after status ages → All (λ (a : AgeEnd). NoneStopped a.members) ages
+undisturbed_of course k d below =
+    (all_ages (λ s a. NoneStopped a.members) course (λ s a run. run.undisturbed) k d below).3
+
+-- a status that no course comes to
+other_status : {words : List (String Global)} {old new : Option (List ℕ)} {before after status : ℕ}
+    {ages : List AgeEnd} (other : ℕ)
+    → Course words old new before after status ages → 5 < other → other ≢ UNFINISHED
+    → other ≢ OUT_OF_MEMORY → status ≡ other → ⊥
+other_status {status = status} other course above apart far is =
+    elim course [
+      | no_memory e none ↦ far (sym is ∙ e)
+      | no_command not none due ↦
+          differs status USAGE other due is (λ e. omega (arith, above, e)) (λ e. omega (arith, above, e))
+      | no_read known none rose due ↦
+          differs status READ_FAULT other due is (λ e. omega (arith, above, e))
+          (λ e. omega (arith, above, e))
+      | no_script known none bytes read e due ↦
+          differs status SCRIPT_REFUSED other due is (λ e. omega (arith, above, e))
+          (λ e. omega (arith, above, e))
+      | done known r e due ↦
+          differs status DONE other due is (λ e. omega (arith, above, e)) (λ e. omega (arith, above, e))
+      | unfinished known r e due ↦
+          differs status UNFINISHED other due is (λ e. apart (sym e)) (λ e. omega (arith, above, e))
+    ]
+
+-- it comes exactly where a log has ended a member so, which is nowhere
+never_of : {words : List (String Global)} {old new : Option (List ℕ)} {before after status : ℕ}
+    {ages : List AgeEnd} (other : ℕ) (ended_so : End → Bool)
+    → Course words old new before after status ages → 5 < other → other ≢ UNFINISHED
+    → other ≢ OUT_OF_MEMORY → ((e : End) → why_ended e ≡ None → ended_so e ≡ false)
+    → Exactly status other (IsTrue (some_end ended_so ages))
+never_of {ages = ages} other ended_so course above apart far not =
+    record {
+      only = λ is. absurd (other_status other course above apart far is);
+      unless =
+          λ some. absurd (true≢false (sym some ∙ none_end ended_so ages not (undisturbed_of course)));
+    }
+
+pub disk_fault_of : {words : List (String Global)} {old new : Option (List ℕ)} {before after status : ℕ}
+    {ages : List AgeEnd}
+    → Course words old new before after status ages
+    → Exactly status DISK_FAULT (IsTrue (some_end is_disk_fault ages))
+disk_fault_of course =
+    never_of DISK_FAULT is_disk_fault course (omega arith) (λ e. omega (arith, e)) (λ e. omega (arith, e))
+    no_disk_fault
+
+pub log_full_of : {words : List (String Global)} {old new : Option (List ℕ)} {before after status : ℕ}
+    {ages : List AgeEnd}
+    → Course words old new before after status ages
+    → Exactly status LOG_FULL (IsTrue (some_end is_log_full ages))
+log_full_of course =
+    never_of LOG_FULL is_log_full course (omega arith) (λ e. omega (arith, e)) (λ e. omega (arith, e))
+    no_log_full

@@ -1,7 +1,9 @@
 -- What comes of a call: its ages, its last line and its status.
-use Rattle.std.specs.Prelude.{◌≡◌, ◌≢◌, ◌⊎◌, ℕ, if◌then◌else◌, List, [], ◌∷◌, Option, MatchOption, String}
+use Rattle.std.specs.Prelude.{◌≡◌, ◌≢◌, ◌⊎◌, ℕ, Bool, if◌then◌else◌, List, [], ◌∷◌, Option, Some, None, MatchOption, String}
+use Rattle.std.specs.List.{list_any, position}
 use Rattle.std.specs.declared.alloc.Global.{Global}
 use Rattle.dr_entry.specs.declared.end.AgeEnd.{AgeEnd}
+use Rattle.dr_entry.specs.declared.end.MemberEnd.{MemberEnd}
 use Rattle.dr_io.specs.Faults.{Rose}
 use Rattle.dr_io.specs.Source.{Loses}
 use Rattle.dr_io.specs.Sink.{Gains}
@@ -15,9 +17,24 @@ use Rattle.derecho.specs.Words.{IsCommand}
 use Rattle.derecho.specs.Built.{runnable, refusal}
 use Rattle.derecho.specs.Reading.{WasRead}
 use Rattle.derecho.specs.Writing.{WroteFront}
-use Rattle.derecho.specs.Ages.{some_spent, RanAlone}
+use Rattle.derecho.specs.Ages.{is_disk_fault, is_log_full, is_spent, some_spent, RanAlone}
 
--- the last line behind the ages of a run
+-- the last line by the first member whose disk failed, the first whose log was full, and whether one had
+-- spent its turns
+abbrev pub last_by : Option ℕ → Option ℕ → Bool → Last
+last_by (Some member) full spent = DiskFault member
+last_by None (Some member) spent = LogFull member
+last_by None None spent = if spent then Unfinished else Done
+
+-- the last line behind an age with these members
+abbrev pub last_of_members : List MemberEnd → Last
+last_of_members members =
+    last_by
+    (position (λ (m : MemberEnd). is_disk_fault m.end) members)
+    (position (λ (m : MemberEnd). is_log_full m.end) members)
+    (list_any (λ (m : MemberEnd). is_spent m.end) members)
+
+-- the last line behind the ages of a run, none of whose members was ended by its log
 abbrev pub last_of_run : List AgeEnd → Last
 last_of_run ages = if some_spent ages then Unfinished else Done
 

@@ -1,14 +1,15 @@
-ghost use Rattle.std.specs.Prelude.{◌≡◌, ◌⊎◌, if◌then◌else◌, IfOk, OnErr, []};
-ghost use Rattle.std.specs.List.{list_any};
+ghost use Rattle.std.specs.Prelude.{◌≡◌, ◌≤◌, ◌⊎◌, IfOk, OnErr, [], length};
+ghost use Rattle.std.specs.List.{list_any, position};
 ghost use Rattle.dr_script.specs.Ranges.{HasRanges};
 ghost use Rattle.dr_text.specs.declared.last.Last.TheVariants.{SourceFault};
-ghost use Rattle.derecho.specs.Ages.{is_spent, RanAlone};
-ghost use Rattle.derecho.specs.Outcome.{IsDue, IsRunOver, last_of_run};
+ghost use Rattle.derecho.specs.Ages.{is_disk_fault, is_log_full, is_spent, RanAlone};
+ghost use Rattle.derecho.specs.Outcome.{IsDue, IsRunOver, last_of_members, last_of_run};
 
 use crate::built::is_built;
 use crate::reading::{ReadFault, read_all};
 use crate::words::is_command;
 use dr_entry::{AgeEnd, End, MemberEnd, Seq};
+use dr_fresh::logs_of;
 use dr_io::Source;
 use dr_restart::first_start;
 use dr_script::{Script, ScriptFault, read_script};
@@ -61,14 +62,15 @@ fn judge(alloc: Global, bytes: &[u8]) -> Result<Outcome, AllocError>
     }
 }
 
-/// Runs a script in its one age, from nothing.
+/// Runs a script in its one age, from nothing, over fresh logs in memory.
 fn simulate(alloc: Global, script: &Script) -> Result<Outcome, AllocError>
     requires { HasRanges script.now }
     ensures ran { IfOk result (λ o. RanAlone script.now o.ages) }
     ensures last { IfOk result (λ o. o.last ≡ last_of_run o.ages) }
 {
     let start = first_start(alloc, script);
-    let age = sim_age(alloc, script, &start, 0)?;
+    let mut logs = logs_of(alloc, script, &start)?;
+    let age = sim_age(alloc, script, &start, 0, logs.as_mut_slice())?;
     let last = last_of(age.members.as_slice());
     let mut ages = Vec::new(alloc);
     ages.push(age)?;
@@ -80,14 +82,33 @@ fn simulate(alloc: Global, script: &Script) -> Result<Outcome, AllocError>
 
 /// What the last line says behind an age with these members.
 fn last_of(members: &[MemberEnd]) -> Last
-    ensures { result ≡ (if list_any
-        (λ m. is_spent m.end) members.now then Last.Unfinished else Last.Done) }
+    requires few { length members.now ≤ 16 }
+    ensures { result ≡ last_of_members members.now }
 {
-    if some_spent(members) {
-        Last::Unfinished
-    } else {
-        Last::Done
+    match (first_failed(members), first_full(members)) {
+        (Some(member), _) => Last::DiskFault {
+            member: member as u8,
+        },
+        (None, Some(member)) => Last::LogFull {
+            member: member as u8,
+        },
+        (None, None) if some_spent(members) => Last::Unfinished,
+        (None, None) => Last::Done,
     }
+}
+
+/// The number of the first member whose disk failed.
+fn first_failed(members: &[MemberEnd]) -> Option<usize>
+    ensures { result ≡ position (λ m. is_disk_fault m.end) members.now }
+{
+    members.iter().position(|member| is_disk_fault(member.end))
+}
+
+/// The number of the first member whose log was full.
+fn first_full(members: &[MemberEnd]) -> Option<usize>
+    ensures { result ≡ position (λ m. is_log_full m.end) members.now }
+{
+    members.iter().position(|member| is_log_full(member.end))
 }
 
 /// Whether some member had spent all its turns.
@@ -102,6 +123,20 @@ fn is_spent(end: End) -> bool
     ensures { result ≡ is_spent end }
 {
     matches!(end, End::Spent { .. })
+}
+
+/// Whether this is the end of a member whose disk failed.
+fn is_disk_fault(end: End) -> bool
+    ensures { result ≡ is_disk_fault end }
+{
+    matches!(end, End::DiskFault)
+}
+
+/// Whether this is the end of a member whose log was full.
+fn is_log_full(end: End) -> bool
+    ensures { result ≡ is_log_full end }
+{
+    matches!(end, End::LogFull { .. })
 }
 
 /// What there is to tell where no age was run.

@@ -9,10 +9,11 @@ ghost use Rattle.dr_io.specs.Faults.{Rose};
 ghost use Rattle.dr_io.specs.Sink.{Gains};
 ghost use Rattle.dr_restart.specs.Groups.{first_group_of, first_start_of};
 ghost use Rattle.dr_restart.specs.Setups.{crashes_of};
+ghost use Rattle.dr_sim.specs.Logged.{NoneStopped};
 ghost use Rattle.dr_sim.specs.Simulated.{IsSimulated};
 ghost use Rattle.derecho.specs.Words.{IsCommand};
 ghost use Rattle.derecho.specs.Reading.{IsNoScript, IsScript};
-ghost use Rattle.derecho.specs.Ages.{some_spent};
+ghost use Rattle.derecho.specs.Ages.{is_disk_fault, is_log_full, some_end, some_spent};
 ghost use Rattle.derecho.specs.Outcome.{Exactly, GaveUp, IsDue, MayBeUnread, RanRead, Wrote, status_of};
 
 use crate::outcome::{Outcome, outcome_of};
@@ -37,9 +38,10 @@ pub struct Ended {
 /// Does what the words ask for, and answers how it ended.
 ///
 /// The one command so far is `sim`: a script is read from the source, its group runs, and the
-/// report of the run is written to the sink. The status says how that went: see the constants of
-/// this crate. Where several apply, [`OUT_OF_MEMORY`] comes before all others, and [`WRITE_FAULT`]
-/// before the rest.
+/// report of the run is written to the sink. Each member keeps its log on a disk in memory, which
+/// is gone when the run has ended. The status says how that went: see the constants of this crate.
+/// Where several apply, [`OUT_OF_MEMORY`] comes before all others, and [`WRITE_FAULT`] before the
+/// rest.
 pub fn derecho<R: Threads + Sync, S: Source, K: Sink>(
     _rt: &R,
     alloc: Global,
@@ -60,6 +62,8 @@ pub fn derecho<R: Threads + Sync, S: Source, K: Sink>(
     ensures complete { All (λ a. (s : Script) × IsScript (S.left source.old) (S.left source.new) s
         × IsSimulated s (first_start_of s) 0 a
         × (HasTime s → AreComplete (first_group_of s).opening a.members)) result.ages }
+    // No member was ended by its log: disks in memory don't fail, and no age fills 2^31 bytes.
+    ensures undisturbed { All (λ a. NoneStopped a.members) result.ages }
     ensures one_age { length result.ages ≤ 1 }
 
     // The text: the report of these ages, with the last line that is due.
@@ -72,7 +76,8 @@ pub fn derecho<R: Threads + Sync, S: Source, K: Sink>(
         → (result.ages ≡ []) × Gains (K.held sink.old) (K.held sink.new) [] }
 
     // Where each status comes: 2 for words, 3 for a script, 4 for a read, 5 for a write, 8 for turns that
-    // were spent, 10 for memory, and else 0.
+    // were spent, 10 for memory, and else 0. Over disks in memory 6 and 11 don't come, as no disk fails
+    // and no log is full.
     ensures statuses { Contains (0 ∷ 2 ∷ 3 ∷ 4 ∷ 5 ∷ 8 ∷ 10 ∷ []) result.status }
     ensures usage { Exactly result.status 2 (¬ IsCommand words.now) }
     ensures refused { result.status ≡ 3 → IsNoScript (S.left source.old) (S.left source.new) }
@@ -81,6 +86,8 @@ pub fn derecho<R: Threads + Sync, S: Source, K: Sink>(
     ensures read_fault_told { (S.faults source.new ≡ S.faults source.old)
         ⊎ (result.status ≡ 4) ⊎ (result.status ≡ 5) ⊎ (result.status ≡ 10) }
     ensures write_fault_told { (K.faults sink.new ≡ K.faults sink.old) ⊎ (result.status ≡ 5) }
+    ensures disk_fault { Exactly result.status 6 (IsTrue (some_end is_disk_fault result.ages)) }
+    ensures log_full { Exactly result.status 11 (IsTrue (some_end is_log_full result.ages)) }
     ensures unfinished { Exactly result.status 8 (IsTrue (some_spent result.ages)) }
     ensures untimely { result.status ≡ 8 → (s : Script)
         × IsScript (S.left source.old) (S.left source.new) s × ¬ HasTime s }

@@ -2,6 +2,7 @@ ghost use Rattle.std.specs.Prelude.{◌≡◌, ℕ, ◌<◌, ◌≤◌, [], All,
 ghost use Rattle.dr_script.specs.Ranges.{HasRanges};
 
 use dr_entry::{AgeEnd, Entry, MAX_MESSAGE_LENGTH, MemberEnd, Message, Seq};
+use dr_fresh::logs_of;
 use dr_restart::first_start;
 use dr_script::{Schedule, Script};
 use dr_sim::sim_age;
@@ -29,8 +30,8 @@ pub struct Tally {
     pub checksum: u64,
 }
 
-/// Runs the largest group from its opening to the ends of all members. The first `senders` of them
-/// have so many messages of 64 bytes each, the others none.
+/// Runs the largest group from its opening to the ends of all members, over logs in memory. The first
+/// `senders` of them have so many messages of 64 bytes each, the others none.
 #[inline(never)]
 pub fn members(
     alloc: Global,
@@ -40,7 +41,8 @@ pub fn members(
 ) -> Result<Tally, AllocError> {
     let script = script_of(alloc, messages.min(MOST_MESSAGES), senders, schedule)?;
     let start = first_start(alloc, &script);
-    let age = sim_age(alloc, &script, &start, 0)?;
+    let mut logs = logs_of(alloc, &script, &start)?;
+    let age = sim_age(alloc, &script, &start, 0, logs.as_mut_slice())?;
     Ok(tally_of(&age))
 }
 

@@ -5,4 +5,6 @@
 #![tactic(auto)]
 
 #[cfg(test)]
+mod stopped;
+#[cfg(test)]
 mod tests;

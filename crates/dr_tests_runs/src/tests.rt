@@ -1,4 +1,5 @@
 use dr_entry::{AgeEnd, End, Entry};
+use dr_fresh::logs_of;
 use dr_restart::first_start;
 use dr_script::read_script;
 use dr_sim::sim_age;
@@ -52,7 +53,8 @@ fn script_of(alloc: Global, head: &str, members: u8, messages: u8) -> Result<Str
 fn ended(alloc: Global, script: &[u8]) -> Result<AgeEnd, Fail> {
     let script = read_script(alloc, script)?;
     let start = first_start(alloc, &script);
-    Ok(sim_age(alloc, &script, &start, 0)?)
+    let mut logs = logs_of(alloc, &script, &start)?;
+    Ok(sim_age(alloc, &script, &start, 0, logs.as_mut_slice())?)
 }
 
 /// Shows that so many members are done with so many entries: the view, and then round after round a
