@@ -1,0 +1,54 @@
+-- Whom a member suspects, and what the suspected words of others make of that.
+use Rattle.std.specs.Prelude.{◌≡◌, ℕ, ◌<◌, ◌==◌, Bool, ◌&&◌, not, true, false, List}
+use Rattle.std.specs.List.{filter}
+use Rattle.dr_entry.specs.declared.limits.TheConstants.{MAX_MEMBERS}
+use Rattle.dr_history.specs.Members.{has, members_of}
+use Rattle.dr_words.specs.declared.column.TheConstants.{SUSPECTED_COLUMN}
+use Rattle.dr_words.specs.Masks.{IsPartOf}
+use Rattle.dr_rows.specs.Words.{Words, seen}
+
+-- a member, and as masks the members of its view and those that it suspects
+pub record Suspicion : Type 0 where
+  pub me : ℕ
+  pub members : ℕ
+  pub suspects : ℕ
+
+-- the form that it always has: the member is of the view, and suspects other members of it alone
+pub record IsSuspicion (s : Suspicion) : Type 0 where
+  pub number : s.me < MAX_MEMBERS
+  pub present : has s.members s.me ≡ true
+  pub trusted : has s.suspects s.me ≡ false
+  pub others : IsPartOf s.suspects s.members
+
+-- at the beginning nobody is suspected
+abbrev pub trusting : ℕ → ℕ → Suspicion
+trusting me members = record { me = me; members = members; suspects = 0 }
+
+-- whether the member is an unsuspected member of the view
+abbrev pub is_unsuspected : Suspicion → ℕ → Bool
+is_unsuspected s i = has s.members i && not (has s.suspects i)
+
+-- the unsuspected members of the view, ascending
+abbrev pub unsuspected_of : Suspicion → List ℕ
+unsuspected_of s = filter (λ i. not (has s.suspects i)) (members_of s.members)
+
+-- whether the suspected word of the row names the member
+abbrev pub names : Words → ℕ → ℕ → Bool
+names rows row member = has (seen rows row SUSPECTED_COLUMN) member
+
+-- whether the row is that of an unsuspected member of the view, and names the own member
+abbrev pub names_me : Suspicion → Words → ℕ → Bool
+names_me s rows row = is_unsuspected s row && names rows row s.me
+
+-- whether the row is that of an unsuspected member of the view, and names this one, which is another
+-- member than the own and unsuspected too
+abbrev pub spreads : Suspicion → Words → ℕ → ℕ → Bool
+spreads s rows row member =
+    is_unsuspected s row && (names rows row member && (is_unsuspected s member && not (member == s.me)))
+
+-- the least member that the least row with a member to suspect names
+pub record IsNextSpread (s : Suspicion) (rows : Words) (member : ℕ) : Type 0 where
+  pub row : ℕ
+  pub named : spreads s rows row member ≡ true
+  pub least_row : (i j : ℕ) → i < row → spreads s rows i j ≡ false
+  pub least_member : (j : ℕ) → j < member → spreads s rows row j ≡ false

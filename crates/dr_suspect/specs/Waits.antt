@@ -1,0 +1,68 @@
+-- How long a member has waited for news of others.
+use Rattle.std.specs.Prelude.{◌≡◌, ℕ, suc, ◌-◌, ◌^◌, ◌==◌, Bool, ◌&&◌, not, nat_lt, min, if◌then◌else◌, List, length, map, replicate, slice_index}
+use Rattle.std.specs.List.{range_with_len}
+use Rattle.dr_entry.specs.declared.limits.TheConstants.{MAX_MEMBERS}
+use Rattle.dr_history.specs.Members.{has}
+use Rattle.dr_words.specs.declared.column.TheConstants.{BEAT_COLUMN, DONE_COLUMN}
+use Rattle.dr_rows.specs.Words.{Words, seen}
+
+-- the limit, 0 where there is none, and by row how many turns in a row brought no news and the beat that
+-- was compared last
+pub record Waits : Type 0 where
+  pub limit : ℕ
+  pub counts : List ℕ
+  pub beats : List ℕ
+
+-- the form that they always have: a place for each member of the greatest group
+pub record IsWaits (w : Waits) : Type 0 where
+  pub counts : length w.counts ≡ MAX_MEMBERS
+  pub beats : length w.beats ≡ MAX_MEMBERS
+
+-- for how many turns in a row there was no news of a row
+abbrev pub count_of : Waits → ℕ → ℕ
+count_of w i = slice_index w.counts i
+
+-- the beat of a row that was compared last
+abbrev pub beat_of : Waits → ℕ → ℕ
+beat_of w i = slice_index w.beats i
+
+-- at the beginning all counts and beats are 0
+abbrev pub begun : ℕ → Waits
+begun limit =
+    record { limit = limit; counts = replicate MAX_MEMBERS 0; beats = replicate MAX_MEMBERS 0 }
+
+-- whether news of the row is waited for: of an unsuspected member other than the own
+abbrev pub is_awaited : Words → ℕ → ℕ → Bool
+is_awaited rows unsuspected i = has unsuspected i && not (i == rows.me)
+
+-- the count after one turn more, where this beat was compared last: 0 where the beat is another, else one
+-- more, as far as 32 bits go
+abbrev pub next_count : ℕ → ℕ → ℕ → ℕ
+next_count count last beat = if beat == last then min (suc count) (2 ^ 32 - 1) else 0
+
+-- the count of a row after a turn: the one of a row that isn't awaited stays
+abbrev pub turned_count : Waits → Words → ℕ → ℕ → ℕ
+turned_count w rows unsuspected i =
+    if is_awaited rows unsuspected i then next_count (count_of w i) (beat_of w i) (seen rows i BEAT_COLUMN)
+    else count_of w i
+
+-- the beat that is kept of a row after a turn: the one seen, where the row is awaited
+abbrev pub turned_beat : Waits → Words → ℕ → ℕ → ℕ
+turned_beat w rows unsuspected i =
+    if is_awaited rows unsuspected i then seen rows i BEAT_COLUMN else beat_of w i
+
+-- the waits after a turn
+abbrev pub turned : Waits → Words → ℕ → Waits
+turned w rows unsuspected = record w {
+  counts = map (turned_count w rows unsuspected) (range_with_len 0 MAX_MEMBERS);
+  beats = map (turned_beat w rows unsuspected) (range_with_len 0 MAX_MEMBERS);
+}
+
+-- whether the count of a row has reached the limit, and its member isn't done
+abbrev pub is_late : Waits → Words → ℕ → Bool
+is_late w rows i = not (nat_lt (count_of w i) w.limit) && seen rows i DONE_COLUMN == 0
+
+-- whether there is a limit, and the row is waited for and late
+abbrev pub is_overdue : Waits → Words → ℕ → ℕ → Bool
+is_overdue w rows unsuspected i =
+    not (w.limit == 0) && (is_awaited rows unsuspected i && is_late w rows i)

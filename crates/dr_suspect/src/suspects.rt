@@ -1,0 +1,150 @@
+ghost use Rattle.std.specs.Prelude.{◌≡◌, ◌≢◌, ℕ, ◌*◌, ◌<◌, ◌≤◌, ◌==◌, ◌&&◌, ◌||◌, ◌↔◌, not, true, false, length, IsTrue, MatchOption};
+ghost use Rattle.dr_history.specs.Members.{has, members_of};
+ghost use Rattle.dr_words.specs.declared.column.TheConstants.{SUSPECTED_COLUMN};
+ghost use Rattle.dr_words.specs.Masks.{IsPartOf};
+ghost use Rattle.dr_rows.specs.Words.{seen};
+ghost use Rattle.dr_suspect.specs.Answers.{AreOfGroup, IsLeastOrNone};
+ghost use Rattle.dr_suspect.specs.Suspicion.{IsNextSpread, IsSuspicion, is_unsuspected, names, names_me, spreads, trusting, unsuspected_of};
+
+use crate::others::{common, others};
+use dr_entry::MAX_MEMBERS;
+use dr_rows::Rows;
+use dr_words::{Mask, SUSPECTED_COLUMN};
+use std::marker::Model;
+
+/// Whom one member of a view suspects of having stopped. It never suspects itself.
+///
+/// A suspicion may be wrong, and is never taken back: who is suspected is left behind, stopped or not.
+#[derive(Debug, Drop)]
+pub struct Suspects {
+    me: u8,
+    members: Mask,
+    suspects: Mask,
+}
+
+impl Model for Suspects {
+    ghost use Rattle.dr_suspect.specs.Suspicion.{Suspicion, IsSuspicion};
+
+    ghost Value = { Suspicion };
+
+    ghost view = { λ s. record { me = s.me; members = s.members; suspects = s.suspects } };
+
+    ghost invariant = { λ s. IsSuspicion (record { me = s.me; members = s.members; suspects = s.suspects }) };
+}
+
+impl Suspects {
+    /// Member `me` of the view with these members suspects nobody.
+    pub fn new(me: u8, members: Mask) -> Suspects
+        requires number { me < MAX_MEMBERS }
+        requires member { has members me ≡ true }
+        ensures value { result ≡ trusting me members }
+        ensures nobody { (i : ℕ) → has result.suspects i ≡ false }
+        ensures form { IsSuspicion result }
+    {
+        Suspects {
+            me,
+            members,
+            suspects: Mask::empty(),
+        }
+    }
+
+    /// The members that it suspects.
+    #[inline]
+    pub fn mask(&self) -> Mask
+        ensures value { result ≡ self.now.suspects }
+        ensures form { IsSuspicion self.now }
+    {
+        self.suspects
+    }
+
+    /// The members of the view that it does not suspect, itself among them.
+    #[inline]
+    pub fn unsuspected(&self) -> Mask
+        ensures members { (i : ℕ) → has result i ≡ is_unsuspected self.now i }
+        ensures list { members_of result ≡ unsuspected_of self.now }
+        ensures part { IsPartOf result self.now.members }
+        ensures me { has result self.now.me ≡ true }
+    {
+        self.members.without(self.suspects)
+    }
+
+    /// Suspects another member of the view.
+    pub fn add(&mut self, other: u8)
+        requires number { other < MAX_MEMBERS }
+        requires member { has self.old.members other ≡ true }
+        requires other { other ≢ self.old.me }
+        ensures rest { self.new ≡ record self.old { suspects = self.new.suspects } }
+        ensures suspects { (i : ℕ) → has self.new.suspects i ≡ (i == other || has self.old.suspects i) }
+        ensures grows { self.old.suspects ≤ self.new.suspects }
+        ensures form { IsSuspicion self.new }
+    {
+        self.suspects = self.suspects.with(other);
+    }
+
+    /// The least unsuspected row whose suspected word names this member.
+    ///
+    /// Such a member is still trusted here, and goes on without this one.
+    pub fn named_by(&self, rows: &Rows) -> Option<u8>
+        requires { AreOfGroup self.now.members rows.now }
+        ensures { IsLeastOrNone (names_me self.now rows.now) result }
+    {
+        let unsuspected = self.unsuspected();
+        for row in 0..MAX_MEMBERS as u8 {
+            if unsuspected.has(row) && self.named_in(rows, row).has(self.me) {
+                return Some(row);
+            }
+        }
+        None
+    }
+
+    /// The member to suspect next. The least unsuspected row that names an unsuspected other member
+    /// says it, and of those that it names it is the least.
+    ///
+    /// So a suspicion is taken over from any unsuspected member, and never from a suspected one.
+    pub fn next_spread(&self, rows: &Rows) -> Option<u8>
+        requires { AreOfGroup self.now.members rows.now }
+        ensures { MatchOption result
+            ((row member : ℕ) → spreads self.now rows.now row member ≡ false)
+            (IsNextSpread self.now rows.now) }
+    {
+        let unsuspected = self.unsuspected();
+        for row in 0..MAX_MEMBERS as u8 {
+            if unsuspected.has(row) {
+                if let Some(member) = self.newly_named(rows, row).least() {
+                    return Some(member);
+                }
+            }
+        }
+        None
+    }
+
+    /// Whether the unsuspected members are more than half of the view. Exactly half is no majority.
+    pub fn has_majority(&self) -> bool
+        ensures { IsTrue result ↔
+            (length (members_of self.now.members) < 2 * length (unsuspected_of self.now)) }
+    {
+        self.unsuspected().is_majority_of(self.members)
+    }
+
+    // The members that a row names and that it does not suspect, without itself.
+    fn newly_named(&self, rows: &Rows, row: u8) -> Mask
+        requires row { row < rows.now.members }
+        requires rows { AreOfGroup self.now.members rows.now }
+        ensures { (i : ℕ) → has result i
+            ≡ (names rows.now row i && (is_unsuspected self.now i && not (i == self.now.me))) }
+    {
+        common(
+            self.named_in(rows, row),
+            others(self.unsuspected(), self.me),
+        )
+    }
+
+    // The members that the suspected word of a row names.
+    fn named_in(&self, rows: &Rows, row: u8) -> Mask
+        requires row { row < rows.now.members }
+        requires rows { AreOfGroup self.now.members rows.now }
+        ensures { result ≡ seen rows.now row SUSPECTED_COLUMN }
+    {
+        Mask::of(rows.seen(row, SUSPECTED_COLUMN) as u16)
+    }
+}
