@@ -1,14 +1,18 @@
 //! The report of a large age in plain Rust, made in the way of `dr_text`: the lines of the longest
 //! history once, and then copied for each member as far as its own entries are the same.
 
+#[path = "log/records.rs"]
+#[allow(dead_code)]
+mod records;
 #[path = "report/text.rs"]
 mod text;
 
+use records::{Entry, MAX_MESSAGE};
 use std::env;
 use std::hint::black_box;
 use std::io::{self, Write};
 use std::process::ExitCode;
-use text::{Entry, MAX_MESSAGE, Member, report};
+use text::{Member, report};
 
 const MEMBERS: u8 = 16;
 

@@ -9,7 +9,7 @@ const MESSAGE: u8 = 2;
 const VOTE: u8 = 3;
 
 /// A message of at most 64 bytes; what is behind them is 0.
-#[derive(Clone)]
+#[derive(Clone, PartialEq, Eq)]
 pub struct Message {
     pub bytes: [u8; MAX_MESSAGE],
     pub len: u8,
@@ -30,7 +30,7 @@ impl Message {
     }
 }
 
-#[derive(Clone)]
+#[derive(Clone, PartialEq, Eq)]
 pub enum Entry {
     View {
         age: u16,
@@ -86,7 +86,8 @@ impl Entry {
     }
 }
 
-fn mixed(sum: u64, word: u64) -> u64 {
+/// A checksum and one more word.
+pub fn mixed(sum: u64, word: u64) -> u64 {
     sum.wrapping_mul(31).wrapping_add(word)
 }
 

@@ -2,7 +2,7 @@
 
 use crate::file::{Disk, Fault, Log};
 use crate::member::{Deed, Member};
-use crate::records::{Entry, Message, Record};
+use crate::records::{Entry, Message, Record, mixed};
 use crate::rows::Shape;
 
 /// The most bytes of a log.
@@ -149,10 +149,6 @@ fn step(member: &mut Member, table: &mut [u64], log: &mut Log) {
 fn append(member: &mut Member, log: &mut Log, record: &Record) {
     log.append(record).expect("a file in memory never fails");
     member.appended();
-}
-
-fn mixed(sum: u64, word: u64) -> u64 {
-    sum.wrapping_mul(31).wrapping_add(word)
 }
 
 /// A View counts by its members, a message by its sender, its index, its length and its first byte.

@@ -1,8 +1,7 @@
 //! The text of one age's members, as `derecho` prints it.
 
+use crate::records::{Entry, MAX_MESSAGE};
 use std::io::Write;
-
-pub const MAX_MESSAGE: usize = 64;
 
 /// The two digits of each byte.
 const DIGITS: [[u8; 2]; 256] = {
@@ -15,50 +14,6 @@ const DIGITS: [[u8; 2]; 256] = {
     }
     table
 };
-
-/// A message of at most 64 bytes; what is behind them is 0.
-#[derive(Clone, PartialEq, Eq)]
-pub struct Message {
-    bytes: [u8; MAX_MESSAGE],
-    len: u8,
-}
-
-impl Message {
-    fn bytes(&self) -> &[u8] {
-        &self.bytes[..usize::from(self.len)]
-    }
-}
-
-#[derive(Clone, PartialEq, Eq)]
-pub enum Entry {
-    View {
-        age: u16,
-        number: u8,
-        members: u16,
-    },
-    Msg {
-        sender: u8,
-        index: u32,
-        bytes: Message,
-    },
-}
-
-impl Entry {
-    /// A message of at most 64 bytes.
-    pub fn msg(sender: u8, index: u32, bytes: &[u8]) -> Entry {
-        let mut all = [0; MAX_MESSAGE];
-        all[..bytes.len()].copy_from_slice(bytes);
-        let bytes = Message {
-            bytes: all,
-            len: bytes.len() as u8,
-        };
-        Entry::Msg {
-            sender,
-            index,
-            bytes,
-        }
-    }
-}
 
 /// A member that ended as done, with all of its history logged and durable.
 pub struct Member {
