@@ -1,11 +1,13 @@
 -- Whom a member suspects, and what the suspected words of others make of that.
-use Rattle.std.specs.Prelude.{◌≡◌, ℕ, ◌<◌, ◌==◌, Bool, ◌&&◌, not, true, false, List}
+use Rattle.std.specs.Prelude.{◌≡◌, ℕ, ◌<◌, ◌==◌, Bool, ◌&&◌, not, true, false, List, Option, is_some}
+use Rattle.std.specs.Option.{option_and_then}
 use Rattle.std.specs.List.{filter}
 use Rattle.dr_entry.specs.declared.limits.TheConstants.{MAX_MEMBERS}
 use Rattle.dr_history.specs.Members.{has, members_of}
 use Rattle.dr_words.specs.declared.column.TheConstants.{SUSPECTED_COLUMN}
 use Rattle.dr_words.specs.Masks.{IsPartOf}
 use Rattle.dr_rows.specs.Words.{Words, seen}
+use Rattle.dr_suspect.specs.Answers.{least_where}
 
 -- a member, and as masks the members of its view and those that it suspects
 pub record Suspicion : Type 0 where
@@ -45,6 +47,13 @@ names_me s rows row = is_unsuspected s row && names rows row s.me
 abbrev pub spreads : Suspicion → Words → ℕ → ℕ → Bool
 spreads s rows row member =
     is_unsuspected s row && (names rows row member && (is_unsuspected s member && not (member == s.me)))
+
+-- the member that the rows say to suspect next, if they say any: the least of those that the least row with
+-- some names
+abbrev pub spread_of : Suspicion → Words → Option ℕ
+spread_of s rows =
+    option_and_then (λ i. least_where (spreads s rows i))
+    (least_where (λ i. is_some (least_where (spreads s rows i))))
 
 -- the least member that the least row with a member to suspect names
 pub record IsNextSpread (s : Suspicion) (rows : Words) (member : ℕ) : Type 0 where

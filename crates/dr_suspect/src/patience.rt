@@ -1,7 +1,7 @@
 ghost use Rattle.std.specs.Prelude.{◌≡◌, ◌≢◌, ℕ, ◌<◌, true, false};
 ghost use Rattle.dr_entry.specs.declared.limits.TheConstants.{MAX_MEMBERS};
 ghost use Rattle.dr_words.specs.declared.column.TheConstants.{DONE_COLUMN};
-ghost use Rattle.dr_suspect.specs.Answers.{AreOfGroup, IsLeastOrNone};
+ghost use Rattle.dr_suspect.specs.Answers.{AreOfGroup, IsLeastOrNone, least_where};
 ghost use Rattle.dr_suspect.specs.Waits.{IsWaits, beat_of, begun, count_of, is_late, is_overdue, next_count, turned};
 
 use crate::others::others;
@@ -45,15 +45,17 @@ impl Patience {
     }
 
     /// One turn more: compares the beat of each other unsuspected member with the one that it compared
-    /// last, and keeps it. The same beat again is a turn without news.
+    /// last, and keeps it. The same beat again is a turn without news. Where there is no limit, nothing is
+    /// waited for and kept.
     #[tactic(auto, using(crate::proofs::Turns::turned_more, crate::proofs::Turns::turned_past))]
     pub fn turn(&mut self, rows: &Rows, unsuspected: Mask)
         requires { AreOfGroup unsuspected rows.now }
         ensures after { self.new ≡ turned self.old rows.now unsuspected }
         ensures form { IsWaits self.new }
     {
-        // That a field is read tells the proof the form of the waits.
-        let _ = &self.limit;
+        if self.limit == 0 {
+            return;
+        }
         let awaited = others(unsuspected, rows.me());
         for row in 0..MAX_MEMBERS as u8 {
             if awaited.has(row) {
@@ -66,7 +68,8 @@ impl Patience {
     /// the limit says, and not done.
     pub fn overdue(&self, unsuspected: Mask, rows: &Rows) -> Option<u8>
         requires { AreOfGroup unsuspected rows.now }
-        ensures { IsLeastOrNone (is_overdue self.now rows.now unsuspected) result }
+        ensures value { result ≡ least_where (is_overdue self.now rows.now unsuspected) }
+        ensures least { IsLeastOrNone (is_overdue self.now rows.now unsuspected) result }
     {
         if self.limit == 0 {
             return None;

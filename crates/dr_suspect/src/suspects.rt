@@ -1,10 +1,10 @@
-ghost use Rattle.std.specs.Prelude.{◌≡◌, ◌≢◌, ℕ, ◌*◌, ◌<◌, ◌≤◌, ◌==◌, ◌&&◌, ◌||◌, ◌↔◌, not, true, false, length, IsTrue, MatchOption};
+ghost use Rattle.std.specs.Prelude.{◌≡◌, ◌≢◌, ℕ, ◌*◌, ◌<◌, ◌≤◌, ◌==◌, ◌&&◌, ◌||◌, ◌↔◌, not, true, false, length, nat_lt, IsTrue, MatchOption};
 ghost use Rattle.dr_history.specs.Members.{has, members_of};
 ghost use Rattle.dr_words.specs.declared.column.TheConstants.{SUSPECTED_COLUMN};
-ghost use Rattle.dr_words.specs.Masks.{IsPartOf};
+ghost use Rattle.dr_words.specs.Masks.{IsPartOf, with_member, without};
 ghost use Rattle.dr_rows.specs.Words.{seen};
-ghost use Rattle.dr_suspect.specs.Answers.{AreOfGroup, IsLeastOrNone};
-ghost use Rattle.dr_suspect.specs.Suspicion.{IsNextSpread, IsSuspicion, is_unsuspected, names, names_me, spreads, trusting, unsuspected_of};
+ghost use Rattle.dr_suspect.specs.Answers.{AreOfGroup, IsLeastOrNone, least_where};
+ghost use Rattle.dr_suspect.specs.Suspicion.{IsNextSpread, IsSuspicion, is_unsuspected, names, names_me, spread_of, spreads, trusting, unsuspected_of};
 
 use crate::others::{common, others};
 use dr_entry::MAX_MEMBERS;
@@ -60,7 +60,8 @@ impl Suspects {
     /// The members of the view that it does not suspect, itself among them.
     #[inline]
     pub fn unsuspected(&self) -> Mask
-        ensures members { (i : ℕ) → has result i ≡ is_unsuspected self.now i }
+        ensures members { result ≡ without self.now.members self.now.suspects }
+        ensures each { (i : ℕ) → has result i ≡ is_unsuspected self.now i }
         ensures list { members_of result ≡ unsuspected_of self.now }
         ensures part { IsPartOf result self.now.members }
         ensures me { has result self.now.me ≡ true }
@@ -74,7 +75,7 @@ impl Suspects {
         requires member { has self.old.members other ≡ true }
         requires other { other ≢ self.old.me }
         ensures rest { self.new ≡ record self.old { suspects = self.new.suspects } }
-        ensures suspects { (i : ℕ) → has self.new.suspects i ≡ (i == other || has self.old.suspects i) }
+        ensures suspects { self.new.suspects ≡ with_member self.old.suspects other }
         ensures grows { self.old.suspects ≤ self.new.suspects }
         ensures form { IsSuspicion self.new }
     {
@@ -86,7 +87,8 @@ impl Suspects {
     /// Such a member is still trusted here, and goes on without this one.
     pub fn named_by(&self, rows: &Rows) -> Option<u8>
         requires { AreOfGroup self.now.members rows.now }
-        ensures { IsLeastOrNone (names_me self.now rows.now) result }
+        ensures value { result ≡ least_where (names_me self.now rows.now) }
+        ensures least { IsLeastOrNone (names_me self.now rows.now) result }
     {
         let unsuspected = self.unsuspected();
         for row in 0..MAX_MEMBERS as u8 {
@@ -103,7 +105,8 @@ impl Suspects {
     /// So a suspicion is taken over from any unsuspected member, and never from a suspected one.
     pub fn next_spread(&self, rows: &Rows) -> Option<u8>
         requires { AreOfGroup self.now.members rows.now }
-        ensures { MatchOption result
+        ensures value { result ≡ spread_of self.now rows.now }
+        ensures next { MatchOption result
             ((row member : ℕ) → spreads self.now rows.now row member ≡ false)
             (IsNextSpread self.now rows.now) }
     {
@@ -118,9 +121,20 @@ impl Suspects {
         None
     }
 
+    /// Whether the row is that of an unsuspected member that names this one.
+    pub fn is_named_by(&self, rows: &Rows, row: u8) -> bool
+        requires row { row < rows.now.members }
+        requires rows { AreOfGroup self.now.members rows.now }
+        ensures { result ≡ names_me self.now rows.now row }
+    {
+        self.unsuspected().has(row) && self.named_in(rows, row).has(self.me)
+    }
+
     /// Whether the unsuspected members are more than half of the view. Exactly half is no majority.
     pub fn has_majority(&self) -> bool
-        ensures { IsTrue result ↔
+        ensures value { result ≡ nat_lt (length (members_of self.now.members))
+            (2 * length (members_of (without self.now.members self.now.suspects))) }
+        ensures majority { IsTrue result ↔
             (length (members_of self.now.members) < 2 * length (unsuspected_of self.now)) }
     {
         self.unsuspected().is_majority_of(self.members)

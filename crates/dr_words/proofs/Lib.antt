@@ -1,6 +1,7 @@
 pub mod Bits
 pub mod Ranks
 pub mod Majorities
+pub mod Masks
 pub mod Places
 pub mod Tests
 pub mod Forms

@@ -1,6 +1,6 @@
 ghost use Rattle.std.specs.Prelude.{◌≡◌, ℕ, ◌+◌, ◌-◌, ◌/◌, ◌%◌, count_ones, ◌*◌, ◌^◌, ◌<◌, ◌≤◌, ◌==◌, ◌&&◌, ◌||◌, ◌↔◌, not, nat_lt, true, false, length, slice_get, IsTrue, MatchOption};
 ghost use Rattle.dr_history.specs.Members.{has, members_below, members_of};
-ghost use Rattle.dr_words.specs.Masks.{IsPartOf, IsLeastOf, IsMajorityOf};
+ghost use Rattle.dr_words.specs.Masks.{IsPartOf, IsLeastOf, IsMajorityOf, with_member, without};
 
 use dr_entry::MAX_MEMBERS;
 use std::marker::Model;
@@ -73,6 +73,7 @@ impl Mask {
         requires { n < MAX_MEMBERS }
         ensures members { (i : ℕ) → has result i ≡ (i == n || has self.now i) }
         ensures grows { self.now ≤ result }
+        ensures value { result ≡ with_member self.now n }
     {
         Mask(self.0 | (1 << n))
     }
@@ -80,7 +81,8 @@ impl Mask {
     /// The mask without the members of the other.
     #[inline]
     pub const fn without(&self, other: Mask) -> Mask
-        ensures { (i : ℕ) → has result i ≡ (has self.now i && not (has other i)) }
+        ensures members { (i : ℕ) → has result i ≡ (has self.now i && not (has other i)) }
+        ensures value { result ≡ without self.now other }
     {
         Mask(self.0 & !other.0)
     }

@@ -6,4 +6,4 @@ use Rattle.dr_suspect.proofs.suspects.Suspects.unsuspected.Goals as goal
 pub returns-clause-list : goal.returns-clause-list
 returns-clause-list c = rw (← c.self.view_is)
     (members_kept (λ i. not (has c.self.inside.suspects i)) c.self.inside.members c.without.result
-    c.without.ensures)
+    c.without.ensures.members)
