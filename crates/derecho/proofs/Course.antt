@@ -10,6 +10,7 @@ use Rattle.dr_io.specs.Faults.{Rose}
 use Rattle.dr_restart.specs.Groups.{first_group_of, first_start_of}
 use Rattle.dr_script.specs.declared.script.Script.{Script}
 use Rattle.dr_script.specs.Reading.{Reading, reading_of, TooLong as TooLongText, NotJson as NoJsonText, Wrong, Reads}
+use Rattle.dr_program_laws.specs.Trusting.{NoneLeft}
 use Rattle.dr_sim.specs.Logged.{NoneStopped, why_ended}
 use Rattle.dr_sim.specs.Simulated.{IsSimulated}
 use Rattle.dr_text.specs.declared.last.Last.{Last}
@@ -458,6 +459,13 @@ pub undisturbed_of : {words : List (String Global)} {old new : Option (List ℕ)
     → Course words old new before after status ages → All (λ (a : AgeEnd). NoneStopped a.members) ages
 undisturbed_of course k d below =
     (all_ages (λ s a. NoneStopped a.members) course (λ s a run. run.undisturbed) k d below).3
+
+-- no suspicion has
+pub trusting_of : {words : List (String Global)} {old new : Option (List ℕ)} {before after status : ℕ}
+    {ages : List AgeEnd}
+    → Course words old new before after status ages → All (λ (a : AgeEnd). NoneLeft a.members) ages
+trusting_of course k d below =
+    (all_ages (λ s a. NoneLeft a.members) course (λ s a run. run.trusting) k d below).3
 
 -- a status that no course comes to
 other_status : {words : List (String Global)} {old new : Option (List ℕ)} {before after status : ℕ}

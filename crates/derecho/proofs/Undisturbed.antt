@@ -1,8 +1,12 @@
--- Over disks that never fail, and logs with room for all, no member is ended by its log.
-use Rattle.std.proofs.Common.{◌≡◌, refl, sym, ap, ◌∙◌, inl, inr, ℕ, arith, Bool, false, List, [], ◌∷◌, length, get_or, All, Option, None, if◌then◌else◌}
+-- Over disks that never fail, and logs with room for all, no member is ended by its log; and a script that can
+-- be run gives no reason to suspect anybody.
+use Rattle.std.proofs.Common.{◌≡◌, refl, sym, ap, ◌∙◌, inl, inr, ℕ, arith, Bool, true, false, ◌==◌, ◌&&◌, List, [], ◌∷◌, length, get_or, All, Option, None, if◌then◌else◌}
 use Rattle.std.specs.List.{list_any, position}
 use Rattle.std.proofs.Math.Bool.{or-false}
+use Rattle.std.proofs.lemmas.Bool.{and_parts}
+use Rattle.std.proofs.lemmas.Bool.Decides.{nat_tests}
 use Rattle.std.proofs.lemmas.List.Folds.{list_any_none}
+use Rattle.std.proofs.lemmas.List.Sums.{AllPass-from_list_all}
 use Rattle.std.proofs.lemmas.Option.{none-some, slice_get_cases, slice_get-get_or}
 use Rattle.dr_entry.specs.declared.end.AgeEnd.{AgeEnd}
 use Rattle.dr_entry.specs.declared.end.End.{End}
@@ -14,7 +18,14 @@ use Rattle.dr_log.specs.State.{LogState}
 use Rattle.dr_logged.specs.Served.{HasCome}
 use Rattle.dr_sim.specs.Logged.{HaveCome, IsNotFull, NoneFull, NoneStopped, why_ended}
 use Rattle.dr_text.specs.declared.last.Last.TheVariants.{Done, Unfinished}
+use Rattle.dr_program_laws.specs.Trusting.{SuspectsNobody}
+use Rattle.dr_restart.specs.Setups.{suspicion_in}
+use Rattle.dr_script.specs.declared.script.Fault.{Fault}
+use Rattle.dr_script.specs.declared.script.Script.{Script}
+use Rattle.dr_script.specs.declared.script.What.{What}
+use Rattle.dr_script.specs.declared.script.What.TheVariants.{Crash, Suspect}
 use Rattle.derecho.specs.Ages.{is_disk_fault, is_log_full, is_spent, some_end}
+use Rattle.derecho.specs.Built.{is_built, is_crash}
 use Rattle.derecho.specs.Outcome.{last_by, last_of_members, last_of_run}
 
 -- a log on a disk without faults that was not full has not ended its member
@@ -86,6 +97,20 @@ last_alone a none =
     ap (λ o. last_by o (position (λ (m : MemberEnd). is_log_full m.end) a.members) spent) failed
     ∙ ap (λ o. last_by None o spent) full
     ∙ ap (λ b. if b then Unfinished else Done) (sym (or-false spent))
+
+-- a crash is no suspicion
+crash_alone : (what : What) → is_crash what ≡ true → suspicion_in what ≡ None
+crash_alone (Crash turn push) is = refl
+crash_alone (Suspect turn other) is = absurd (cc)
+
+-- what is built has no patience and no suspicions
+pub suspects_nobody : (s : Script) → is_built s ≡ true → SuspectsNobody s
+suspects_nobody s built =
+    let parts = and_parts ((s.patience == 0) && (s.ages == 1)) _ built in record {
+      patient = grind (arith, nat_tests, (and_parts (s.patience == 0) _ parts.0).0);
+      unscripted = λ k d below.
+          crash_alone _ (AllPass-from_list_all (λ (f : Fault). is_crash f.what) s.faults parts.1 k d below);
+    }
 
 -- where no log has ended a member, no end is of those that come by logs
 pub none_end : (is : End → Bool) (ages : List AgeEnd) → ((e : End) → why_ended e ≡ None → is e ≡ false)

@@ -10,6 +10,7 @@ use Rattle.dr_history.specs.Agreement.{EndsAgreed}
 use Rattle.dr_restart.specs.Groups.{first_group_of, first_start_of}
 use Rattle.dr_complete.specs.Time.{HasTime}
 use Rattle.dr_program_laws.specs.Ended.{AreComplete, HaveEnded}
+use Rattle.dr_program_laws.specs.Trusting.{NoneLeft}
 use Rattle.dr_restart.specs.Setups.{crashes_of}
 use Rattle.dr_sim.specs.Logged.{NoneStopped}
 use Rattle.dr_sim.specs.Simulated.{IsSimulated}
@@ -38,12 +39,13 @@ abbrev pub some_spent : List AgeEnd → Bool
 some_spent ages = some_end is_spent ages
 
 -- the age is the run of the script, by its schedule, from the first start on; its histories agree, each
--- member has ended as it should, and none by its log
+-- member has ended as it should, and none by its log or by suspicion
 pub record IsRunOf (s : Script) (a : AgeEnd) : Type 0 where
   pub run : IsSimulated s (first_start_of s) 0 a
   pub agreed : EndsAgreed (first_group_of s).opening a.members
   pub ended : HaveEnded (first_group_of s).opening s.turns (crashes_of s.faults 0) a.members
   pub undisturbed : NoneStopped a.members
+  pub trusting : NoneLeft a.members
   -- where the script gives them time enough, all are complete
   pub complete : HasTime s → AreComplete (first_group_of s).opening a.members
 

@@ -1,7 +1,8 @@
-ghost use Rattle.std.specs.Prelude.{◌≡◌, ◌≤◌, ◌⊎◌, IfOk, OnErr, [], length};
+ghost use Rattle.std.specs.Prelude.{◌≡◌, ◌≤◌, ◌⊎◌, IfOk, OnErr, [], length, true};
 ghost use Rattle.std.specs.List.{list_any, position};
 ghost use Rattle.dr_script.specs.Ranges.{HasRanges};
 ghost use Rattle.dr_text.specs.declared.last.Last.TheVariants.{SourceFault};
+ghost use Rattle.derecho.specs.Built.{is_built};
 ghost use Rattle.derecho.specs.Ages.{is_disk_fault, is_log_full, is_spent, RanAlone};
 ghost use Rattle.derecho.specs.Outcome.{IsDue, IsRunOver, last_of_members, last_of_run};
 
@@ -64,7 +65,8 @@ fn judge(alloc: Global, bytes: &[u8]) -> Result<Outcome, AllocError>
 
 /// Runs a script in its one age, from nothing, over fresh logs in memory.
 fn simulate(alloc: Global, script: &Script) -> Result<Outcome, AllocError>
-    requires { HasRanges script.now }
+    requires ranges { HasRanges script.now }
+    requires built { is_built script.now ≡ true }
     ensures ran { IfOk result (λ o. RanAlone script.now o.ages) }
     ensures last { IfOk result (λ o. o.last ≡ last_of_run o.ages) }
 {

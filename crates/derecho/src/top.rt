@@ -4,6 +4,7 @@ ghost use Rattle.dr_script.specs.declared.script.Script.{Script};
 ghost use Rattle.dr_text.specs.declared.last.Last.{Last};
 ghost use Rattle.dr_complete.specs.Time.{HasTime};
 ghost use Rattle.dr_program_laws.specs.Ended.{AreComplete, HaveEnded};
+ghost use Rattle.dr_program_laws.specs.Trusting.{NoneLeft};
 ghost use Rattle.dr_history.specs.Agreement.{EndsAgreed};
 ghost use Rattle.dr_io.specs.Faults.{Rose};
 ghost use Rattle.dr_io.specs.Sink.{Gains};
@@ -64,6 +65,8 @@ pub fn derecho<R: Threads + Sync, S: Source, K: Sink>(
         × (HasTime s → AreComplete (first_group_of s).opening a.members)) result.ages }
     // No member was ended by its log: disks in memory don't fail, and no age fills 2^31 bytes.
     ensures undisturbed { All (λ a. NoneStopped a.members) result.ages }
+    // Nor by suspicion: no script that can be run gives a reason to suspect anybody.
+    ensures trusting { All (λ a. NoneLeft a.members) result.ages }
     ensures one_age { length result.ages ≤ 1 }
 
     // The text: the report of these ages, with the last line that is due.

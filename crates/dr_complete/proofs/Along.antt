@@ -101,21 +101,24 @@ pub own_first : (g : Group) (w : World) (m c : ℕ) → Faithful g (whole g) w
     → own_word w m c ≡ w.past.own m 0 c
 own_first g w m c f = ap (λ v. w.past.own m v c) (f.beginning.first m)
 
+-- its own row shows its own words
+pub shown_mine : (w : World) (m i c x : ℕ) → i ≡ m → own_word w m c ≡ x → shown w m i c ≡ x
+shown_mine w m i c x same word = grind (arith, same, word)
+
+-- and another's the words that it has seen
+pub shown_other : (w : World) (m i c x : ℕ) → i ≢ m → w.seen m i c ≡ x → shown w m i c ≡ x
+shown_other w m i c x other word = grind (arith, other, word)
+
 -- each row that it sees shows the own words of its member
 shows_own : {g : Group} {w : World} {most r m : ℕ} → HasHadTurn g w most r m → (i c : ℕ) → i < roster g
     → c < columns g → c ≢ BEAT_COLUMN → (c ≡ LOGGED_COLUMN → 1 ≤ r)
     → shown w m i c ≡ w.past.own i 0 c
 shows_own {g = g} {w = w} {m = m} h i c l inside apart begun = by (cases_eq i m)
   where
-    mine : i ≡ m → own_word w m c ≡ w.past.own m 0 c → shown w m i c ≡ w.past.own i 0 c
-    mine same word = grind (arith, same, word)
-
-    seen : i ≢ m → w.seen m i c ≡ w.past.own i 0 c → shown w m i c ≡ w.past.own i 0 c
-    seen other word = grind (arith, other, word)
-
     by : (i ≡ m) ⊎ (i ≢ m) → shown w m i c ≡ w.past.own i 0 c
-    by (inl same) = mine same (own_first g w m c h.known.faithful)
-    by (inr other) = seen other (h.sees i c l other inside apart begun)
+    by (inl same) = shown_mine w m i c (w.past.own i 0 c) same
+        (own_first g w m c h.known.faithful ∙ ap (λ k. w.past.own k 0 c) (sym same))
+    by (inr other) = shown_other w m i c (w.past.own i 0 c) other (h.sees i c l other inside apart begun)
 
 -- ---- items
 

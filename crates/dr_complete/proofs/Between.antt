@@ -19,6 +19,7 @@ use Rattle.dr_faithful.specs.Faithful.{Faithful}
 use Rattle.dr_refine.proofs.Deeds.{replicas}
 use Rattle.dr_program_laws.proofs.Programs.{AllStand}
 use Rattle.dr_program_laws.specs.Steady.{IsSteady}
+use Rattle.dr_program_laws.specs.Trusting.{AreTrusting}
 use Rattle.dr_complete.proofs.Along.{IsAlong}
 use Rattle.dr_complete.specs.Reached.{AllShowDone}
 use Rattle.dr_history_laws.specs.Remaining.{messages_left}
@@ -44,10 +45,11 @@ ArePushed g w = (i j c : ℕ) → i < roster g → j < roster g → j ≢ i → 
 abbrev pub IsUpright : Option End → Type 0
 IsUpright end = (end ≡ None) ⊎ (end ≡ Some ends.Done)
 
--- the program is between turns: no append has failed, no member is amid a turn or has ended but as done, and
--- words stand where they were pushed
+-- the program is between turns: nobody suspects anybody, no append has failed, no member is amid a turn or
+-- has ended but as done, and words stand where they were pushed
 pub record IsPaused (g : Group) (setups : List Setup) (p : Program) : Type 0 where
   pub steady : IsSteady g p
+  pub trusting : AreTrusting p
   pub stand : AllStand setups p
   pub well : (m : ℕ) (r : Running) → slice_get p.members m ≡ Some r → r.failed ≡ None
   pub whole : (m : ℕ) → is_between_turns (slice_get p.members m) ≡ true

@@ -1,7 +1,7 @@
--- In lockstep, without crashes and failed appends and with turns enough, all members end as done, with
--- everything.
+-- In lockstep, without crashes, suspicions and failed appends and with turns enough, all members end as done,
+-- with everything.
 use Rattle.std.proofs.Common.{Bool, List, None, Some, [], ap, arith, if◌then◌else◌, inl, inr, map, nat_lt, refl, subst, sym, true, ℕ, ◌&&◌, ◌*◌, ◌+◌, ◌<◌, ◌==◌, ◌^◌, ◌∙◌, ◌≡◌, ◌≤◌}
-use Rattle.std.specs.Prelude.{IsTrue, Option, is_some, option_map, slice_get}
+use Rattle.std.specs.Prelude.{All, IsTrue, Option, is_some, option_map, slice_get}
 use Rattle.std.proofs.lemmas.Bool.Decides.{nat_tests}
 use Rattle.std.proofs.lemmas.Option.{get_or_from_slice_get, same_Some, slice_get-map, slice_get_within}
 use Rattle.dr_entry.specs.declared.end.End.{End}
@@ -21,7 +21,9 @@ use Rattle.dr_program_laws.proofs.Ending.{done}
 use Rattle.dr_program_laws.proofs.Programs.{all_stand}
 use Rattle.dr_program_laws.proofs.Worlds.{of_there}
 use Rattle.dr_program_laws.specs.Ended.{IsComplete}
+use Rattle.dr_program_laws.specs.Trusting.{IsCalm}
 use Rattle.dr_program_laws.proofs.Steadying.{steady_begins}
+use Rattle.dr_program_laws.proofs.Trusting.{trusting_begins}
 use Rattle.dr_complete.proofs.Along.{along_none}
 use Rattle.dr_complete.proofs.Rounds.{rounds_keep}
 use Rattle.dr_complete.proofs.Between.{ArePushed, IsBetween, IsUpright}
@@ -59,11 +61,12 @@ begins_pushed g i j c a b other inside apart begun =
 
 -- so no round is over yet
 begins : (g : Group) (limit most : ℕ) (setups : List Setup) → IsGroup g → 1 ≤ limit → limit < 2 ^ 32
-    → AreSetups g limit setups → IsBetween g setups most 0 0 (begun_program g setups)
+    → AreSetups g limit setups → All IsCalm setups → IsBetween g setups most 0 0 (begun_program g setups)
 unfolding ran
-begins g limit most setups is some small are = record {
+begins g limit most setups is some small are calm = record {
   paused = record {
     steady = steady_begins g limit setups is some small are;
+    trusting = trusting_begins g limit setups is are calm;
     stand = all_stand g limit setups [] is some are;
     well = begins_well setups;
     whole = begins_whole setups;
@@ -101,20 +104,20 @@ complete g setups most r m p y between there ended =
     (done g p [] m y steady.group steady.program steady.reached there end
     (λ k d within some. absurd (omega (arith, within)))).complete
 
--- in lockstep, without crashes and failed appends and with turns enough, all members are
+-- in lockstep, without crashes, suspicions and failed appends and with turns enough, all members are
 pub completes : (g : Group) (limit most : ℕ) (setups : List Setup) (es : List Move) (p : Program)
     → IsGroup g → AreSetups g limit setups
-    → ((m : ℕ) (s : Setup) → slice_get setups m ≡ Some s → s.crashes ≡ [])
+    → ((m : ℕ) (s : Setup) → slice_get setups m ≡ Some s → s.crashes ≡ []) → All IsCalm setups
     → ((s : ℕ) → messages_left g.opening s ≤ most) → 3 * most + 3 ≤ limit → limit < 2 ^ 32
     → AllOk es → IsLockstep (begun_program g setups) es p → (m : ℕ) (e : MemberEnd)
     → slice_get (map end_of p.members) m ≡ Some e → IsComplete g.opening e
-completes g limit most setups es p is are uncrashed few enough small well run m e at =
+completes g limit most setups es p is are uncrashed calm few enough small well run m e at =
     by (slice_get p.members m) refl
   where
     over : (n : ℕ) × IsBetween g setups most n 0 p
     over = rounds_keep g setups limit most run.rounds 0 (begun_program g setups) es p
         (record { are = are; uncrashed = uncrashed; few = few; enough = enough })
-        (begins g limit most setups is (omega (arith, enough)) small are) well run.ran
+        (begins g limit most setups is (omega (arith, enough)) small are calm) well run.ran
 
     ended : (y : Running) → slice_get p.members m ≡ Some y → IsTrue (is_some y.replica.end)
     ended y there = subst (λ (x : Running). IsTrue (is_some x.replica.end))

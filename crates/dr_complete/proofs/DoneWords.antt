@@ -1,6 +1,5 @@
 -- Where a member has ended as done, all members show done.
 use Rattle.std.proofs.Common.{[], Some, ap, arith, inl, inr, refl, subst, sym, true, ℕ, ◌∙◌, ◌≡◌, ◌≤◌, ◌⊎◌}
-use Rattle.dr_entry.specs.declared.end.End.{End}
 use Rattle.dr_entry.specs.declared.end.End.TheVariants as ends
 use Rattle.dr_history.specs.Members.{has}
 use Rattle.dr_words.specs.declared.column.TheConstants.{DONE_COLUMN}
@@ -39,12 +38,12 @@ still_done g w e is run can shows i l =
     done_is_one g (effect g w e) i after (omega (arith, shows i l, grown))
 
 -- a member that ends as done has seen that all do
-halt_sees_all : (g : Group) (w : World) (m : ℕ) (end : End) → IsGroup g → IsReached g w
-    → CanHalt g w m end → AllShowDone g w
-halt_sees_all g w m end is run can i l =
+halt_sees_all : (g : Group) (w : World) (m : ℕ) → IsGroup g → IsReached g w → CanHalt g w m ends.Done
+    → AllShowDone g w
+halt_sees_all g w m is run can i l =
     let f = faithful g w is run in
     let here : w.past.view m ≡ w.past.view i = f.beginning.first m ∙ sym (f.beginning.first i) in
-    let shows : shown w m i DONE_COLUMN ≡ 1 = can.all i (ap (λ mask. has mask i) (f.views.own m)
+    let shows : shown w m i DONE_COLUMN ≡ 1 = can.due.all i (ap (λ mask. has mask i) (f.views.own m)
     ∙ subst (λ v. has (whole g v) i ≡ true) (sym here) (f.views.present i (is_present g i is l))) in
     done_is_one g w i f (omega (
       arith,
@@ -67,11 +66,11 @@ done_shows_all g w m is r e = (reached g (Shows g) step begun w r).all m e
     begun = record { run = ([], refl); all = λ k e. absurd (cc) }
 
     after : (u : World) (e : Event) → Guard g u e → Shows g u → (k : ℕ)
-        → (u.end k ≡ Some ends.Done) ⊎ ((end : End) × CanHalt g u (member_of e) end)
+        → (u.end k ≡ Some ends.Done) ⊎ CanHalt g u (member_of e) ends.Done
         → AllShowDone g (effect g u e)
     after u e can y k (inl before) = still_done g u e is y.run can (y.all k before)
-    after u e can y k (inr (end, halts)) =
-        still_done g u e is y.run can (halt_sees_all g u (member_of e) end is y.run halts)
+    after u e can y k (inr halts) =
+        still_done g u e is y.run can (halt_sees_all g u (member_of e) is y.run halts)
 
     step : (u : World) (e : Event) → Guard g u e → Shows g u → Shows g (effect g u e)
     step u e can y = record {

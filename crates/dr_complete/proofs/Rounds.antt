@@ -59,8 +59,8 @@ takes g setups limit most r x p es q fit l between going well turn =
       fit = fit;
       within = l;
       before = between;
-      turned = takes_turn g p x y es q steady member.1 stands.0 (between.paused.well x y member.1)
-          (beat_test (part_of y.place) stands.1) well turn;
+      turned = takes_turn g p x y es q steady between.paused.trusting member.1 stands.0
+          (between.paused.well x y member.1) (beat_test (part_of y.place) stands.1) well turn;
       stand = subst (AllStand setups) (sym turn.taken)
           (ran_stands g setups p es steady.group steady.program steady.reached between.paused.stand);
       whole = turn.whole;

@@ -1,15 +1,18 @@
 -- The members of a script that gives them time enough are complete.
-use Rattle.std.proofs.Common.{ap, ◌∙◌, subst, ℕ, ◌-◌, ◌/◌, ◌≤◌, [], List, length, map, arith}
+use Rattle.std.proofs.Common.{ap, sym, ◌≡◌, ◌∙◌, subst, All, None, ℕ, ◌-◌, ◌/◌, ◌≤◌, [], List, length, map, arith}
 use Rattle.dr_history.specs.History.{messages_of}
 use Rattle.dr_machine.specs.Group.{IsGroup}
 use Rattle.dr_program.specs.Program.{AllOk, Move, Program, end_of}
 use Rattle.dr_program.specs.Schedule.{IsLockstep}
 use Rattle.dr_program_laws.specs.Ended.{AreComplete}
+use Rattle.dr_program_laws.specs.Trusting.{SuspectsNobody}
+use Rattle.dr_program_laws.proofs.Trusting.{calm_setups}
 use Rattle.dr_restart.specs.declared.start.Start.{Start}
 use Rattle.dr_restart.specs.Groups.{group_of}
-use Rattle.dr_restart.specs.Setups.{IsBegun, crashes_of}
+use Rattle.dr_restart.specs.Setups.{IsBegun, crashes_of, suspicion_in}
 use Rattle.dr_restart.proofs.Groups.{few_at}
 use Rattle.dr_restart.proofs.Setups.{are_setups}
+use Rattle.dr_script.specs.declared.script.Fault.{Fault}
 use Rattle.dr_script.specs.declared.script.Script.{Script}
 use Rattle.dr_script.specs.Ranges.{HasRanges}
 use Rattle.dr_complete.specs.Time.{HasTime}
@@ -24,9 +27,17 @@ completes_by_script script start nth begun p es is ranges time (setups, are, sam
     (are_setups script start nth setups ranges.group.lists are)
     (λ m s there. (are.each m s there).crashes
     ∙ ap (λ faults. crashes_of faults nth m) time.faultless)
+    (calm_setups script start nth setups nobody are)
     (λ s. omega (arith, few s)) (omega (arith, some)) (omega (arith, ranges.most_turns))
     well (subst (λ b. IsLockstep b es p) same run)
   where
+    nobody : SuspectsNobody script
+    nobody = record {
+      patient = time.calm;
+      unscripted = subst (All (λ (f : Fault). suspicion_in f.what ≡ None)) (sym time.faultless)
+          (λ k f l. absurd (omega (arith, l)));
+    }
+
     most : ℕ
     most = (script.turns - 8) / 4
 

@@ -24,8 +24,9 @@ use Rattle.dr_program_laws.proofs.Worlds.{of_there}
 use Rattle.dr_program_laws.specs.Failing.{has_log_end}
 use Rattle.dr_program_laws.specs.Rested.{HasTurned, IsRested}
 use Rattle.dr_program_laws.specs.Steady.{IsSteady}
+use Rattle.dr_program_laws.specs.Trusting.{has_been_left}
 use Rattle.dr_complete.proofs.Between.{ArePushed, HasGone, IsBetween, IsFit, IsGoing, IsUpright, member_at, same_held, true_of}
-use Rattle.dr_complete.proofs.Along.{IsAlong, along_less, along_more, in_view_is, own_first}
+use Rattle.dr_complete.proofs.Along.{IsAlong, along_less, along_more, in_view_is, own_first, shown_mine, shown_other}
 use Rattle.dr_complete.proofs.DoneWords.{done_is_one, done_shows_all}
 use Rattle.dr_complete.specs.Reached.{AllShowDone}
 
@@ -55,16 +56,18 @@ no_points (k, c, within, there, is) = absurd (omega (arith, within))
 abbrev IsUprightOrSpent : ℕ → ℕ → Option End → Type 0
 IsUprightOrSpent limit turns end = IsUpright end ⊎ ((turns ≡ limit) × (end ≢ Some ends.Crashed))
 
--- so it is where its end is proper, is not by its log, and it has no crash points
+-- so it is where its end is proper, and is neither by its log nor by suspicion, and it has no crash points
 proper_end : (limit turns : ℕ) (end : Option End) → IsProper limit [] turns end
-    → has_log_end end ≡ false → IsUprightOrSpent limit turns end
-proper_end limit turns None proper logs = inl (inl refl)
-proper_end limit turns (Some ends.Done) proper logs = inl (inr refl)
-proper_end limit turns (Some ends.Crashed) proper logs = absurd (no_points proper)
-proper_end limit turns (Some (ends.Spent n)) proper logs = inr (proper.1, λ e. cc)
-proper_end limit turns (Some ends.DiskFault) proper logs = absurd (cc)
-proper_end limit turns (Some (ends.LogFull len)) proper logs = absurd (cc)
-proper_end limit turns (Some end) proper logs = absurd proper
+    → has_log_end end ≡ false → has_been_left end ≡ false → IsUprightOrSpent limit turns end
+proper_end limit turns None proper logs kept = inl (inl refl)
+proper_end limit turns (Some ends.Done) proper logs kept = inl (inr refl)
+proper_end limit turns (Some ends.Crashed) proper logs kept = absurd (no_points proper)
+proper_end limit turns (Some (ends.Spent n)) proper logs kept = inr (proper.1, λ e. cc)
+proper_end limit turns (Some ends.DiskFault) proper logs kept = absurd (cc)
+proper_end limit turns (Some (ends.LogFull len)) proper logs kept = absurd (cc)
+proper_end limit turns (Some (ends.Suspected by)) proper logs kept = absurd (cc)
+proper_end limit turns (Some (ends.NoMajority mask)) proper logs kept = absurd (cc)
+proper_end limit turns (Some end) proper logs kept = absurd proper
 
 uncrashed : (limit turns : ℕ) (end : Option End) → IsUprightOrSpent limit turns end
     → end ≢ Some ends.Crashed
@@ -84,7 +87,7 @@ end_so {g = g} {setups = setups} {limit = limit} {x = x} {q = q} t =
     let bound = (t.fit.are.each x setup.0 setup.1).turns in
     rw (end, turns) (proper_end limit member.0.replica.turns member.0.replica.end
     (rw (bound, t.fit.uncrashed x setup.0 setup.1) at (t.stand x setup.0 member.0 setup.1 member.1).proper)
-    (sym (ap has_log_end end) ∙ t.turned.logs))
+    (sym (ap has_log_end end) ∙ t.turned.logs) (t.turned.trusting x member.0 member.1).kept)
 
 -- so it has nothing left to do
 has_rested : {g : Group} {setups : List Setup} {limit most r x : ℕ} {p q : Program}
@@ -178,16 +181,9 @@ ends_done {g = g} {x = x} {q = q} t shows =
     f : Faithful g (whole g) (world g q)
     f = true_of g q t.turned.steady
 
-    mine : (i : ℕ) → i ≡ x → own_word (world g q) x DONE_COLUMN ≡ 1
-        → shown (world g q) x i DONE_COLUMN ≡ 1
-    mine i e o = grind (arith, e, o)
-
-    seen : (i : ℕ) → i ≢ x → (world g q).seen x i DONE_COLUMN ≡ 1 → shown (world g q) x i DONE_COLUMN ≡ 1
-    seen i d o = grind (arith, d, o)
-
     by : (i : ℕ) → (i ≡ x) ⊎ (i ≢ x) → i < roster g → shown (world g q) x i DONE_COLUMN ≡ 1
-    by i (inl e) a = mine i e (shows x t.within)
-    by i (inr d) a = seen i d
+    by i (inl e) a = shown_mine (world g q) x i DONE_COLUMN 1 e (shows x t.within)
+    by i (inr d) a = shown_other (world g q) x i DONE_COLUMN 1 d
         (sees_own t i DONE_COLUMN a d (omega arith) (λ e. omega (arith, e))
         (λ e. absurd (omega (arith, e)))
         ∙ sym (own_first g (world g q) i DONE_COLUMN f) ∙ shows i a)
@@ -279,6 +275,7 @@ pub turn_keeps : {g : Group} {setups : List Setup} {limit most r x : ℕ} {p q :
 turn_keeps {g = g} {most = most} {r = r} {x = x} {p = p} {q = q} t = record {
   paused = record {
     steady = t.turned.steady;
+    trusting = t.turned.trusting;
     stand = t.stand;
     well = λ m y there. well m y there (cases_eq m x);
     whole = λ m. between m (cases_eq m x);

@@ -1,5 +1,5 @@
 //! Laws of groups that lose nothing.
-ghost use Rattle.std.specs.Prelude.{◌≡◌, ℕ, ◌+◌, ◌*◌, ◌^◌, ◌<◌, ◌≤◌, List, [], map, slice_get, Some};
+ghost use Rattle.std.specs.Prelude.{◌≡◌, ℕ, ◌+◌, ◌*◌, ◌^◌, ◌<◌, ◌≤◌, All, List, [], map, slice_get, Some};
 ghost use Rattle.dr_complete.specs.Reached.{AllShowDone, RingsKeep, SeesSlot};
 ghost use Rattle.dr_entry.specs.declared.end.End.TheVariants.{Done};
 ghost use Rattle.dr_entry.specs.declared.end.MemberEnd.{MemberEnd};
@@ -13,6 +13,7 @@ ghost use Rattle.dr_program.specs.Program.{AllOk, AreSetups, Move, Program, begu
 ghost use Rattle.dr_program.specs.Schedule.{IsLockstep};
 ghost use Rattle.dr_complete.specs.Time.{HasTime};
 ghost use Rattle.dr_program_laws.specs.Ended.{AreComplete, IsComplete};
+ghost use Rattle.dr_program_laws.specs.Trusting.{IsCalm};
 ghost use Rattle.dr_restart.specs.declared.start.Start.{Start};
 ghost use Rattle.dr_restart.specs.Groups.{group_of};
 ghost use Rattle.dr_restart.specs.Setups.{IsBegun};
@@ -41,14 +42,14 @@ pub fn all_show_done_where_one_has_ended()
         → w.end m ≡ Some Done → AllShowDone g w }
 {}
 
-/// In lockstep, where no member is to crash and all appends go well, no member has more than `most` messages
-/// left, and each may take three turns for each of these and three more, every member ends as done. Its
-/// history is the start, View 0, and the merge of all that the start leaves, and all of it is logged and
-/// durable.
+/// In lockstep, where no member is to crash or to suspect anybody and all appends go well, no member has
+/// more than `most` messages left, and each may take three turns for each of these and three more, every
+/// member ends as done. Its history is the start, View 0, and the merge of all that the start leaves, and
+/// all of it is logged and durable.
 pub fn lockstep_completes()
     ensures { (g : Group) (limit most : ℕ) (setups : List Setup) (es : List Move) (p : Program)
         → IsGroup g → AreSetups g limit setups
-        → ((m : ℕ) (s : Setup) → slice_get setups m ≡ Some s → s.crashes ≡ [])
+        → ((m : ℕ) (s : Setup) → slice_get setups m ≡ Some s → s.crashes ≡ []) → All IsCalm setups
         → ((s : ℕ) → messages_left g.opening s ≤ most) → 3 * most + 3 ≤ limit → limit < 2 ^ 32
         → AllOk es → IsLockstep (begun_program g setups) es p → (m : ℕ) (e : MemberEnd)
         → slice_get (map end_of p.members) m ≡ Some e → IsComplete g.opening e }

@@ -16,7 +16,7 @@ use Rattle.dr_machine.specs.World.{Past, World, item_at_place, own_word, shown}
 use Rattle.dr_machine.specs.Writes.{at, at₃}
 use Rattle.dr_faithful.proofs.Forms.{form_done, form_free, grown_done, grown_free}
 use Rattle.dr_faithful.proofs.Lists.{least_all, least_most, least_some, prefix_more, prefix_next}
-use Rattle.dr_faithful.proofs.OwnWords.{IsPlain, counts_word, delivered_word, form_word, old_later, own_grown}
+use Rattle.dr_faithful.proofs.OwnWords.{IsPlain, counts_word, delivered_word, form_word, old_later, own_grown, suspicions_word}
 use Rattle.dr_faithful.proofs.Pasts.{past_same, prefix_refl, prefix_short, same_past, tells_done, tells_later, tells_logged, words_later}
 use Rattle.dr_faithful.proofs.Shown.{shown_le}
 use Rattle.dr_faithful.proofs.Writes.{at_case, at₃_case}
@@ -37,6 +37,7 @@ beat_keeps g V w m f = record {
   items = f.items;
   sent = f.sent;
   counts = f.counts;
+  suspicions = f.suspicions;
   words = words_later g V w (beats w m) (past_same w.past) refl refl refl refl f.words;
   logs = f.logs;
   delivered = f.delivered;
@@ -53,6 +54,7 @@ end_keeps g V w m end f = record {
   items = f.items;
   sent = f.sent;
   counts = f.counts;
+  suspicions = f.suspicions;
   words = words_later g V w (ends w m end) (past_same w.past) refl refl refl refl f.words;
   logs = f.logs;
   delivered = f.delivered;
@@ -86,6 +88,8 @@ word_keeps g V w m c x plain grown form told f = record {
   sent = f.sent;
   counts = counts_word g V w.past.view w.suspects w.past.own w.past.count m
       (w.past.view m) c x plain f.counts;
+  suspicions = suspicions_word g V w.past.view w.suspects w.promise w.past.own m (w.past.view m) c x plain
+      f.suspicions;
   words = record {
     own = at₃_case (λ i v k z. Tells g V past i v k z) w.past.own m (w.past.view m) c x
         (λ i v k. tells_later g V w.past past i v k (w.past.own i v k) grew (f.words.own i v k))
@@ -123,7 +127,7 @@ pub publish_keeps : (g : Group) (V : Views) (w : World) (m : ℕ) → Faithful g
     → Faithful g V (publishes w m)
 publish_keeps g V w m f =
     let log : ℕ = length (w.past.log m) in
-    word_keeps g V w m LOGGED_COLUMN log (omega arith, omega arith) (publish_grown g V w m f)
+    word_keeps g V w m LOGGED_COLUMN log (omega arith, omega arith, omega arith) (publish_grown g V w m f)
     (form_free (roster g) LOGGED_COLUMN log (inl (omega arith, omega arith)))
     (tells_logged g V w.past m (w.past.view m) log (le_refl log)) f
 
@@ -140,7 +144,8 @@ mark_grew g V w m f = word_grew g w m DONE_COLUMN 1 (mark_grown g V w m f)
 pub mark_keeps : (g : Group) (V : Views) (w : World) (m : ℕ) → CanMark g w m → Faithful g V w
     → Faithful g V (marks w m)
 mark_keeps g V w m can f =
-    word_keeps g V w m DONE_COLUMN 1 (omega arith, omega arith) (mark_grown g V w m f) (form_done (roster g))
+    word_keeps g V w m DONE_COLUMN 1 (omega arith, omega arith, omega arith) (mark_grown g V w m f)
+    (form_done (roster g))
     (tells_done g V w.past m (w.past.view m) mine) f
   where
     mine : HasAll g (V (w.past.view m)) (take (w.past.durable m) (w.past.history m))
@@ -176,6 +181,7 @@ append_keeps g V w m f = record {
   items = f.items;
   sent = f.sent;
   counts = f.counts;
+  suspicions = f.suspicions;
   words = words_later g V w (appends w m) (append_past w m) refl refl refl refl f.words;
   logs = record {
     bounded = f.logs.bounded;
@@ -227,6 +233,7 @@ report_keeps g V w m is can f = record {
   items = f.items;
   sent = f.sent;
   counts = f.counts;
+  suspicions = f.suspicions;
   words = words_later g V w (reports w m) (report_past g V w m can f) refl refl refl refl f.words;
   logs = record {
     bounded = f.logs.bounded;
@@ -283,6 +290,7 @@ deliver_keeps g V w m can f = record {
   items = f.items;
   sent = f.sent;
   counts = f.counts;
+  suspicions = f.suspicions;
   words = words_later g V w (delivers w m) (deliver_past w m) refl refl refl refl f.words;
   logs = record {
     bounded = f.logs.bounded;

@@ -19,12 +19,15 @@ use Rattle.dr_machine.proofs.Presence.{is_present}
 use Rattle.dr_machine.specs.Group.{Group, IsGroup, IsPresent, roster}
 use Rattle.dr_machine.specs.World.{opening_world}
 use Rattle.dr_faithful.proofs.Forms.{form_free, grown_zero}
+use Rattle.dr_faithful.proofs.OwnWords.{accept_columns}
 use Rattle.dr_faithful.proofs.Pasts.{tells_logged, tells_nothing}
 use Rattle.dr_faithful.specs.Faithful.{Faithful}
 use Rattle.dr_faithful.specs.Tells.{Tells, WordsTell}
 use Rattle.dr_words.specs.declared.column.TheConstants.{LOGGED_COLUMN}
-use Rattle.dr_words.proofs.Bits.{has_ones}
+use Rattle.dr_words.proofs.Bits.{has_ones, has_zero}
+use Rattle.dr_words.specs.Columns.{head_column, recv_column}
 use Rattle.dr_words.specs.Form.{IsInForm}
+use Rattle.dr_words.specs.Packing.{accept_promise}
 
 -- ---- the messages of the start
 
@@ -117,7 +120,6 @@ begun g is = record {
   beginning = record {
     all = λ m l. is_present g m is l;
     first = λ m. refl;
-    unwedged = λ m. refl;
     idle = λ m. refl;
     start = λ m. refl;
   };
@@ -140,6 +142,15 @@ begun g is = record {
     unfinished = λ m s l e. grind arith;
     received = λ m v. rw (front_of_none (members_of g.opening.members)) (grind arith);
     few = λ m v s. (0, omega arith);
+  };
+  suspicions = record {
+    part = λ m i h. absurd (cc (h, has_zero i));
+    trusted = λ m. has_zero m;
+    told = λ m. grind arith;
+    final = λ m s d h. absurd (d refl);
+    none = λ m e. refl;
+    least = λ m d. absurd (d refl);
+    accept = λ m c is. accepts m c (accept_columns (roster g) g.opening.members c is);
   };
   words = tell g;
   logs = record {
@@ -169,6 +180,10 @@ begun g is = record {
 
     within : (m : ℕ) → has g.opening.members m ≡ true → m < roster g
     within m h = grind (arith, has_ones (roster g) m, is.sound.whole)
+
+    accepts : (m c : ℕ) → (recv_column (roster g) ≤ c) × (c < head_column (roster g) 0)
+        → accept_promise ((opening_world g).past.own m 0 c) ≡ 0
+    accepts m c l = grind (arith, l.0)
 
     own_in_form : (m v c : ℕ) → IsInForm (roster g) c ((opening_world g).past.own m v c)
     own_in_form m v c = by (cases_eq c 3)

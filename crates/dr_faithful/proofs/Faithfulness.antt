@@ -1,16 +1,17 @@
 -- Each event keeps the members faithful and lets the words grow, so in every world that is reached they are.
-use Rattle.std.proofs.Common.{ap, arith, inl, inr, length, refl, suc, sym, ℕ, ◌%◌, ◌*◌, ◌+◌, ◌/◌, ◌<◌, ◌∙◌, ◌≡◌, ◌≤◌, ◌⊎◌}
+use Rattle.std.proofs.Common.{ap, arith, inl, inr, length, refl, suc, sym, ℕ, ◌%◌, ◌*◌, ◌+◌, ◌/◌, ◌<◌, ◌∙◌, ◌≡◌, ◌≢◌, ◌≤◌, ◌⊎◌}
 use Rattle.std.proofs.lemmas.Bool.{cases_lt}
 use Rattle.std.proofs.Math.Nat.{div-add-mod, mul-le-mul_left, mul-suc}
 use Rattle.std.proofs.lemmas.Nat.{mod_below}
 use Rattle.dr_entry.specs.declared.end.SentItem.{SentItem}
 use Rattle.dr_entry.specs.declared.end.SentItem.TheVariants.{Index, Null}
 use Rattle.dr_history.specs.Members.{has}
+use Rattle.dr_machine.proofs.Presence.{is_present}
 use Rattle.dr_machine.proofs.Runs.{reached}
 use Rattle.dr_machine.specs.Acts.{CanDo, CanTake, Guard, does, effect, effect_of}
 use Rattle.dr_machine.specs.Effects.{appends, puts, stamped}
 use Rattle.dr_machine.specs.Group.{Group, IsGroup, IsPresent, roster}
-use Rattle.dr_machine.specs.Guards.{IsOther, IsRunning, next_index}
+use Rattle.dr_machine.specs.Guards.{IsOther, IsRunning, next_index, unsuspected_of}
 use Rattle.dr_machine.specs.Run.{IsReached, NoLaterItem, PastGrew, WordsGrew}
 use Rattle.dr_machine.specs.World.{World, count_of}
 use Rattle.dr_machine.specs.declared.event.Event.{Event}
@@ -26,11 +27,13 @@ use Rattle.dr_faithful.proofs.Copies.{look_grew, look_keeps, push_grew, push_kee
 use Rattle.dr_faithful.proofs.Pieces.{sent_item, tag_of_piece}
 use Rattle.dr_faithful.proofs.Receipts.{receive_grew, receive_keeps, receive_past}
 use Rattle.dr_faithful.proofs.Puts.{may_message, may_null, put_grew, put_keeps, put_past}
+use Rattle.dr_faithful.proofs.Suspicions.{promise_least, suspect_grew, suspect_keeps, suspicions_told}
 use Rattle.dr_faithful.proofs.Stamps.{stamp_grew, stamp_keeps, stamp_past}
 use Rattle.dr_faithful.proofs.Pasts.{past_on, past_same, same_past}
 use Rattle.dr_faithful.specs.Faithful.{Faithful}
-use Rattle.dr_faithful.specs.Tells.{TellsPiece, Views, item_named, item_sent, part_column}
+use Rattle.dr_faithful.specs.Tells.{SuspicionsTold, TellsPiece, Views, item_named, item_sent, part_column}
 use Rattle.dr_words.proofs.Order.{HasGrown_same, HasGrown_trans}
+use Rattle.dr_words.specs.Masks.{IsLeastOf}
 use Rattle.dr_words.specs.Packing.{ring_tag}
 
 -- the members of the one view that there is so far
@@ -48,6 +51,7 @@ act_keeps g V w m acts.Deliver is can f = deliver_keeps g V w m can f
 act_keeps g V w m acts.Publish is can f = publish_keeps g V w m f
 act_keeps g V w m acts.Report is can f = report_keeps g V w m is can f
 act_keeps g V w m acts.Mark is can f = mark_keeps g V w m can f
+act_keeps g V w m (acts.Suspect j) is can f = suspect_keeps g V w m j is can f
 act_keeps g V w m (acts.Halt end) is can f = end_keeps g V w m end f
 act_keeps g V w m (acts.Crash end) is can f = end_keeps g V w m end f
 
@@ -62,6 +66,16 @@ step_keeps g V w m Append is can f = append_keeps g V w m f
 pub faithful : (g : Group) (w : World) → IsGroup g → IsReached g w → Faithful g (whole g) w
 faithful g w is r = reached g (Faithful g (whole g))
     (λ u e can f. step_keeps g (whole g) u (member_of e) (step_of e) is can f) (begun g is) w r
+
+-- ---- suspicions
+
+-- every word tells whom its owner suspects, what is final, and for whose proposal it waits
+pub told : (g : Group) (w : World) → IsGroup g → IsReached g w → SuspicionsTold g w
+told g w is r = suspicions_told g (whole g) w (faithful g w is r)
+
+pub waits : (g : Group) (w : World) (m : ℕ) → IsGroup g → IsReached g w → m < roster g
+    → w.suspects m ≢ 0 → IsLeastOf (unsuspected_of w m) (w.promise m)
+waits g w m is r l some = promise_least g (whole g) w m is (faithful g w is r) (is_present g m is l) some
 
 -- ---- growth
 
@@ -105,6 +119,7 @@ does_grow g V w m acts.Null is can f = put_grew g V w m Null is (may_null g V w 
 does_grow g V w m (acts.Receive s) is can f = receive_grew g V w m s is can f
 does_grow g V w m acts.Publish is can f = publish_grew g V w m f
 does_grow g V w m acts.Mark is can f = mark_grew g V w m f
+does_grow g V w m (acts.Suspect j) is can f = suspect_grew g V w m j is can f
 does_grow g V w m a is can f = same_words g w (does g w m a) refl refl refl
 
 -- the words grow at every step

@@ -14,11 +14,14 @@ use Rattle.dr_words.specs.declared.column.TheConstants.{DONE_COLUMN, SUSPECTED_C
 abbrev IsFreeColumn : ℕ → ℕ → Type 0
 IsFreeColumn n c = ((c ≢ SUSPECTED_COLUMN) × (c < DONE_COLUMN)) ⊎ (head_column n 0 ≤ c)
 
+-- the accept words stand between the recv words and the ring
+pub accept_between : (n c : ℕ) → IsAcceptColumn n c → (recv_column n ≤ c) × (c < head_column n 0)
+accept_between n c (inl e) = (omega arith, omega arith)
+accept_between n c (inr t) = (omega (arith, t.2), omega (arith, t.1, t.2))
+
 no_accept : (n c : ℕ) → IsFreeColumn n c → IsAcceptColumn n c → ⊥
-no_accept n c (inl f) (inl e) = absurd (omega (arith, f.1))
-no_accept n c (inl f) (inr t) = absurd (omega (arith, f.1, t.2))
-no_accept n c (inr f) (inl e) = absurd (omega arith)
-no_accept n c (inr f) (inr t) = absurd (omega (arith, t.1, t.2))
+no_accept n c (inl f) a = absurd (omega (arith, f.1, accept_between n c a))
+no_accept n c (inr f) a = absurd (omega (arith, accept_between n c a))
 
 no_recv : (n c s : ℕ) → IsFreeColumn n c → s < n → c ≡ recv_column s → ⊥
 no_recv n c s (inl f) l e = absurd (omega (arith, f.1))
@@ -50,15 +53,11 @@ form_done n = record {
   suspected = λ e. absurd (omega arith);
   done = λ e. omega arith;
   recv = λ s l e. absurd (omega arith);
-  promise = λ a. absurd (apart a);
-  tag = λ a. absurd (apart a);
+  promise = λ a. absurd (omega (arith, accept_between n DONE_COLUMN a));
+  tag = λ a. absurd (omega (arith, accept_between n DONE_COLUMN a));
   leavers = λ e. absurd (omega arith);
   trim = λ s l e. absurd (omega arith);
 }
-  where
-    apart : IsAcceptColumn n DONE_COLUMN → ⊥
-    apart (inl e) = absurd (omega arith)
-    apart (inr t) = absurd (omega (arith, t.2))
 
 -- a count that is not final is in form
 pub form_recv : (n s k : ℕ) → s < n → k ≤ 4096 → IsInForm n (recv_column s) (recv_word k false)
@@ -66,15 +65,11 @@ form_recv n s k l few = record {
   suspected = λ e. absurd (omega arith);
   done = λ e. absurd (omega arith);
   recv = λ i j e. omega arith;
-  promise = λ a. absurd (apart a);
-  tag = λ a. absurd (apart a);
+  promise = λ a. absurd (omega (arith, l, accept_between n (recv_column s) a));
+  tag = λ a. absurd (omega (arith, l, accept_between n (recv_column s) a));
   leavers = λ e. absurd (omega arith);
   trim = λ i j e. absurd (omega arith);
 }
-  where
-    apart : IsAcceptColumn n (recv_column s) → ⊥
-    apart (inl e) = absurd (omega arith)
-    apart (inr t) = absurd (omega (arith, t.2))
 
 -- ---- growth
 

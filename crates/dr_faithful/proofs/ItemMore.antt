@@ -13,17 +13,17 @@ use Rattle.dr_machine.specs.Writes.{at, at₂, at₃}
 use Rattle.dr_faithful.proofs.CountMore.{IsMore, more, more_le, more_or_same, new_count}
 use Rattle.dr_faithful.proofs.Forms.{form_free, form_recv, grown_free, grown_recv}
 use Rattle.dr_faithful.proofs.Fronts.{front_rises, some_members}
-use Rattle.dr_faithful.proofs.OwnWords.{old_later}
+use Rattle.dr_faithful.proofs.OwnWords.{accept_columns, old_later}
 use Rattle.dr_faithful.proofs.Pasts.{item_kept, past_same, tells_later, tells_received, tells_recv, tells_ring}
 use Rattle.dr_faithful.proofs.Writes.{at_case, at_other, at_same, at₂_both, at₂_case, at₂_read}
-use Rattle.dr_faithful.specs.Faithful.{AreCounts, AreInForm, AreItems, AreSent, Faithful, Items, Numbers}
+use Rattle.dr_faithful.specs.Faithful.{AreCounts, AreInForm, AreItems, AreSent, AreSuspicions, Faithful, Items, Numbers}
 use Rattle.dr_faithful.specs.Tells.{Tells, TellsPiece, Views, WordsTell, item_sent, part_column}
 use Rattle.dr_words.proofs.Order.{HasGrown_refl, HasGrown_same}
 use Rattle.dr_words.specs.declared.column.TheConstants.{RECEIVED_COLUMN}
 use Rattle.dr_words.specs.Columns.{head_column, recv_column}
 use Rattle.dr_words.specs.Form.{IsInForm}
 use Rattle.dr_words.specs.Grown.{HasGrown}
-use Rattle.dr_words.specs.Packing.{is_final, recv_count, recv_word}
+use Rattle.dr_words.specs.Packing.{accept_promise, is_final, recv_count, recv_word}
 
 -- who may have one item more: its sender, where there is room, or another one, where it was put
 abbrev pub IsSource : Group → Views → Numbers → ℕ → ℕ → ℕ → Type 0
@@ -219,6 +219,13 @@ gain_grew g V w m s x row sent is may f = record {
 open_word : (k : ℕ) → is_final (recv_word k false) ≡ false
 open_word k = grind arith
 
+-- a column that is neither of the ring, nor the received word, nor the recv word of the sender is as before
+row_kept : (g : Group) (V : Views) (w : World) (m s : ℕ) (x : Item) (row : ℕ → ℕ) (sent : Sent)
+    (front c : ℕ) → MayGain g V w m s x row sent → c < head_column (roster g) 0 → c ≢ RECEIVED_COLUMN
+    → c ≢ recv_column s → counted_row row s (count_of w m s) front c ≡ own_word w m c
+row_kept g V w m s x row sent front c may l d e =
+    at_other (at row (recv_column s) _) 2 front c d ∙ at_other row (recv_column s) _ c e ∙ may.low c l
+
 counts_gained : (g : Group) (V : Views) (w : World) (m s : ℕ) (x : Item) (row : ℕ → ℕ) (sent : Sent)
     → MayGain g V w m s x row sent → Faithful g V w
     → AreCounts g V w.past.view w.suspects (gained w m s x row sent).past.own
@@ -242,9 +249,8 @@ counts_gained g V w m s x row sent may f = record {
     front = ap (λ k. front_of (map counts (members_of k))) (f.views.own m)
 
     other : (b : ℕ) → b < roster g → b ≢ s → new (recv_column b) ≡ own_word w m (recv_column b)
-    other b l d = at_other (at row (recv_column s) _) 2 _ (recv_column b) (omega arith)
-        ∙ at_other row (recv_column s) _ (recv_column b) (omega (arith, d))
-        ∙ may.low (recv_column b) (omega arith)
+    other b l d = row_kept g V w m s x row sent _ (recv_column b) may (omega arith) (omega arith)
+        (omega (arith, d))
 
     mine : new (recv_column s) ≡ recv_word (count_of w m s + 1) false
     mine = at_other (at row (recv_column s) _) 2 _ (recv_column s) (omega arith)
@@ -276,6 +282,45 @@ counts_gained g V w m s x row sent may f = record {
         → (t : ℕ) × (more w.past.count m (w.past.view m) s a u b ≤ length (messages_of g.opening t))
     few a u b (inl t) = (may.few.0, omega (arith, t.3, may.few.1))
     few a u b (inr e) = let old = f.counts.few a u b in (old.0, omega (arith, e, old.1))
+
+-- whom a member suspects is told as before, and this one suspects nobody
+suspicions_gained : (g : Group) (V : Views) (w : World) (m s : ℕ) (x : Item) (row : ℕ → ℕ)
+    (sent : Sent) → MayGain g V w m s x row sent → Faithful g V w
+    → AreSuspicions g V w.past.view w.suspects w.promise (gained w m s x row sent).past.own
+suspicions_gained g V w m s x row sent may f = record {
+  part = f.suspicions.part;
+  trusted = f.suspicions.trusted;
+  told = λ a. kept a 1 (omega arith) (omega arith) (omega arith) ∙ f.suspicions.told a;
+  final = λ a b d h. final a b d h (cases_eq a m);
+  none = f.suspicions.none;
+  least = f.suspicions.least;
+  accept = λ a c is. let l = accept_columns (roster g) (V (w.past.view a)) c is in
+      ap accept_promise (kept a c l.1 (omega (arith, l.0)) (omega (arith, l.0, within)))
+      ∙ f.suspicions.accept a c is;
+}
+  where
+    within : s < roster g
+    within = f.views.within (w.past.view m) s may.sender
+
+    new : ℕ → ℕ
+    new = counted_row row s (count_of w m s)
+        (front_of (map (at (w.past.count m (w.past.view m)) s (count_of w m s + 1)) (view_members w m)))
+
+    kept : (a c : ℕ) → c < head_column (roster g) 0 → c ≢ 2 → c ≢ recv_column s
+        → (gained w m s x row sent).past.own a (w.past.view a) c ≡ own_word w a c
+    kept a c l d e = by (cases_eq a m)
+      where
+        by : (a ≡ m) ⊎ (a ≢ m) → at₂ w.past.own m (w.past.view m) new a (w.past.view a) c ≡ own_word w a c
+        by (inl q) = rw (q, at₂_read w.past.own m (w.past.view m) new)
+            (row_kept g V w m s x row sent _ c may l d e)
+        by (inr q) = ap (λ r. r (w.past.view a) c)
+            (at_other w.past.own m (at (w.past.own m) (w.past.view m) new) a q)
+
+    final : (a b : ℕ) → w.suspects a ≢ 0 → has (V (w.past.view a)) b ≡ true → (a ≡ m) ⊎ (a ≢ m)
+        → is_final (at₂ w.past.own m (w.past.view m) new a (w.past.view a) (recv_column b)) ≡ true
+    final a b d h (inl q) = absurd (d (ap w.suspects q ∙ may.unwedged))
+    final a b d h (inr q) = rw (at_other w.past.own m (at (w.past.own m) (w.past.view m) new) a q)
+        (f.suspicions.final a b d h)
 
 -- what only grows has grown
 pub past_gained : (g : Group) (V : Views) (w : World) (m s : ℕ) (x : Item) (row : ℕ → ℕ)
@@ -391,6 +436,7 @@ gain_keeps g V w m s x row sent is may f = record {
       f.sent.all f.items;
   sent = may.order;
   counts = counts_gained g V w m s x row sent may f;
+  suspicions = suspicions_gained g V w m s x row sent may f;
   words = words_gained g V w m s x row sent may f;
   logs = f.logs;
   delivered = record {

@@ -14,4 +14,5 @@ mod CountMore
 mod ItemMore
 mod Receipts
 pub mod Puts
+pub mod Suspicions
 pub mod Faithfulness

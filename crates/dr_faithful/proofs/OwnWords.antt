@@ -1,20 +1,21 @@
 -- One own word that rises, in a column below those of the counts: what else its member's words tell stays.
-use Rattle.std.proofs.Common.{List, arith, sym, ℕ, ◌<◌, ◌≢◌}
+use Rattle.std.proofs.Common.{List, arith, sym, true, ℕ, ◌<◌, ◌∙◌, ◌≡◌, ◌≢◌, ◌≤◌}
 use Rattle.dr_entry.specs.declared.entry.Entry.{Entry}
+use Rattle.dr_machine.specs.Effects.{is_accept_of}
 use Rattle.dr_machine.specs.Group.{Group, roster}
 use Rattle.dr_machine.specs.Writes.{at₃}
 use Rattle.dr_faithful.proofs.Writes.{at₃_case, at₃_column}
-use Rattle.dr_faithful.specs.Faithful.{AreCounts, AreDelivered, AreInForm, AreOld, Numbers, Table}
+use Rattle.dr_faithful.specs.Faithful.{AreCounts, AreDelivered, AreInForm, AreOld, AreSuspicions, Numbers, Table}
 use Rattle.dr_faithful.specs.Tells.{Views}
 use Rattle.dr_words.proofs.Order.{HasGrown_refl, HasGrown_trans}
-use Rattle.dr_words.specs.declared.column.TheConstants.{RECEIVED_COLUMN}
-use Rattle.dr_words.specs.Columns.{recv_column}
+use Rattle.dr_words.specs.declared.column.TheConstants.{RECEIVED_COLUMN, SUSPECTED_COLUMN}
+use Rattle.dr_words.specs.Columns.{head_column, recv_column}
 use Rattle.dr_words.specs.Form.{IsInForm}
 use Rattle.dr_words.specs.Grown.{HasGrown}
 
 -- the columns of the beat, logged and done words
 abbrev pub IsPlain : ℕ → Type 0
-IsPlain c = (c < recv_column 0) × (c ≢ RECEIVED_COLUMN)
+IsPlain c = (c < recv_column 0) × (c ≢ RECEIVED_COLUMN) × (c ≢ SUSPECTED_COLUMN)
 
 -- the counts are told as before
 pub counts_word : (g : Group) (V : Views) (view suspects : ℕ → ℕ) (own count : Numbers)
@@ -27,6 +28,28 @@ counts_word g V view suspects own count m v c x plain f = record {
       (f.unfinished i s l e);
   received = λ i u. rw (at₃_column own m v c x i u 2 (λ e. plain.1 (sym e))) (f.received i u);
   few = f.few;
+}
+
+-- the accept words stand behind the recv words, and those before the ring
+pub accept_columns : (n members c : ℕ) → is_accept_of n members c ≡ true
+    → (recv_column n ≤ c) × (c < head_column n 0)
+accept_columns n members c is = (grind (arith, is), grind (arith, is))
+
+-- whom a member suspects is told as before
+pub suspicions_word : (g : Group) (V : Views) (view suspects promise : ℕ → ℕ) (own : Numbers)
+    (m v c x : ℕ) → IsPlain c
+    → AreSuspicions g V view suspects promise own
+    → AreSuspicions g V view suspects promise (at₃ own m v c x)
+suspicions_word g V view suspects promise own m v c x plain f = record {
+  part = f.part;
+  trusted = f.trusted;
+  told = λ i. at₃_column own m v c x i (view i) 1 (λ e. plain.2 (sym e)) ∙ f.told i;
+  final = λ i s d h. rw (at₃_column own m v c x i (view i) (recv_column s) (omega (arith, plain.0)))
+      (f.final i s d h);
+  none = f.none;
+  least = f.least;
+  accept = λ i k is. rw (at₃_column own m v c x i (view i) k
+      (omega (arith, plain.0, accept_columns (roster g) (V (view i)) k is))) (f.accept i k is);
 }
 
 -- the received words are as before

@@ -13,7 +13,7 @@ use Rattle.dr_machine.specs.Run.{PastGrew}
 use Rattle.dr_machine.specs.World.{Past, World}
 use Rattle.dr_words.specs.Columns.{head_column, recv_column}
 use Rattle.dr_words.specs.Packing.{recv_count}
-use Rattle.dr_words.specs.declared.column.TheConstants.{BEAT_COLUMN, LOGGED_COLUMN, DONE_COLUMN, RECEIVED_COLUMN}
+use Rattle.dr_words.specs.declared.column.TheConstants.{BEAT_COLUMN, LOGGED_COLUMN, DONE_COLUMN, RECEIVED_COLUMN, SUSPECTED_COLUMN}
 use Rattle.dr_faithful.proofs.Lists.{has_all_more, prefix_take}
 use Rattle.dr_faithful.proofs.Pieces.{later}
 use Rattle.dr_faithful.specs.Faithful.{Numbers, Table}
@@ -104,7 +104,6 @@ pub tells_later : (g : Group) (V : Views) (old new : Past) (i v c word : ℕ) �
     → Tells g V old i v c word → Tells g V new i v c word
 tells_later g V old new i v c word grew t = record {
   beat = λ e. le_trans (t.beat e) (grew.acts i);
-  suspected = t.suspected;
   received = λ e. le_trans (t.received e)
       (fronts_rise (old.count i v) (new.count i v) (members_of (V v)) (grew.count i v));
   logged = λ e. le_trans (t.logged e) (prefix_short (old.log i) (new.log i) (grew.log i));
@@ -116,7 +115,6 @@ tells_later g V old new i v c word grew t = record {
         (grew.history i)) ((t.done e).1 one),
   );
   recv = λ s l e. le_trans (t.recv s l e) (grew.count i v s);
-  accept = t.accept;
   ring = λ slot part l p e. later g (length (old.sent i v)) (length (new.sent i v))
       (item_sent g old.sent i v) (item_sent g new.sent i v) slot part word
       (prefix_short (old.sent i v) (new.sent i v) (grew.sent i v))
@@ -143,12 +141,10 @@ words_later g V w u grew own view table seen f = record {
 pub tells_nothing : (g : Group) (V : Views) (past : Past) (i v c : ℕ) → Tells g V past i v c 0
 tells_nothing g V past i v c = record {
   beat = λ e. omega arith;
-  suspected = λ e. refl;
   received = λ e. omega arith;
   logged = λ e. omega arith;
   done = λ e. (omega arith, λ one. absurd (omega (arith, one)));
   recv = λ s l e. omega arith;
-  accept = λ k l e. refl;
   ring = λ slot part l p e. inl refl;
 }
 
@@ -157,13 +153,35 @@ pub tells_beat : (g : Group) (V : Views) (past : Past) (i v word : ℕ) → word
     → Tells g V past i v BEAT_COLUMN word
 tells_beat g V past i v word l = record {
   beat = λ e. l;
-  suspected = λ e. absurd (omega (arith, e));
   received = λ e. absurd (omega (arith, e));
   logged = λ e. absurd (omega (arith, e));
   done = λ e. absurd (omega (arith, e));
   recv = λ s l e. absurd (omega (arith, e));
-  accept = λ k l e. absurd (omega (arith, e));
   ring = λ slot part l p e. absurd (omega (arith, e));
+}
+
+-- a suspected word tells nothing of that
+pub tells_suspected : (g : Group) (V : Views) (past : Past) (i v word : ℕ)
+    → Tells g V past i v SUSPECTED_COLUMN word
+tells_suspected g V past i v word = record {
+  beat = λ e. absurd (omega (arith, e));
+  received = λ e. absurd (omega (arith, e));
+  logged = λ e. absurd (omega (arith, e));
+  done = λ e. absurd (omega (arith, e));
+  recv = λ s l e. absurd (omega (arith, e));
+  ring = λ slot part l p e. absurd (omega (arith, e));
+}
+
+-- and neither does an accept word
+pub tells_accept : (g : Group) (V : Views) (past : Past) (i v c word : ℕ)
+    → (recv_column (roster g) ≤ c) × (c < head_column (roster g) 0) → Tells g V past i v c word
+tells_accept g V past i v c word between = record {
+  beat = λ e. absurd (omega (arith, e, between));
+  received = λ e. absurd (omega (arith, e, between));
+  logged = λ e. absurd (omega (arith, e, between));
+  done = λ e. absurd (omega (arith, e, between));
+  recv = λ s l e. absurd (omega (arith, l, e, between));
+  ring = λ slot part l p e. absurd (omega (arith, e, between));
 }
 
 -- a received word tells of the front
@@ -172,12 +190,10 @@ pub tells_received : (g : Group) (V : Views) (past : Past) (i v word : ℕ) → 
     → Tells g V past i v RECEIVED_COLUMN word
 tells_received g V past i v word l = record {
   beat = λ e. absurd (omega (arith, e));
-  suspected = λ e. absurd (omega (arith, e));
   received = λ e. l;
   logged = λ e. absurd (omega (arith, e));
   done = λ e. absurd (omega (arith, e));
   recv = λ s l e. absurd (omega (arith, e));
-  accept = λ k l e. absurd (omega (arith, e));
   ring = λ slot part l p e. absurd (omega (arith, e));
 }
 
@@ -186,12 +202,10 @@ pub tells_logged : (g : Group) (V : Views) (past : Past) (i v word : ℕ) → wo
     → Tells g V past i v LOGGED_COLUMN word
 tells_logged g V past i v word l = record {
   beat = λ e. absurd (omega (arith, e));
-  suspected = λ e. absurd (omega (arith, e));
   received = λ e. absurd (omega (arith, e));
   logged = λ e. l;
   done = λ e. absurd (omega (arith, e));
   recv = λ s l e. absurd (omega (arith, e));
-  accept = λ k l e. absurd (omega (arith, e));
   ring = λ slot part l p e. absurd (omega (arith, e));
 }
 
@@ -201,12 +215,10 @@ pub tells_done : (g : Group) (V : Views) (past : Past) (i v : ℕ)
     → Tells g V past i v DONE_COLUMN 1
 tells_done g V past i v all = record {
   beat = λ e. absurd (omega (arith, e));
-  suspected = λ e. absurd (omega (arith, e));
   received = λ e. absurd (omega (arith, e));
   logged = λ e. absurd (omega (arith, e));
   done = λ e. (le_refl 1, λ one. all);
   recv = λ s l e. absurd (omega (arith, e));
-  accept = λ k l e. absurd (omega (arith, e));
   ring = λ slot part l p e. absurd (omega (arith, e));
 }
 
@@ -216,13 +228,11 @@ pub tells_recv : (g : Group) (V : Views) (past : Past) (i v s word : ℕ) → s 
     → Tells g V past i v (recv_column s) word
 tells_recv g V past i v s word within l = record {
   beat = λ e. absurd (omega (arith, e));
-  suspected = λ e. absurd (omega (arith, e));
   received = λ e. absurd (omega (arith, e));
   logged = λ e. absurd (omega (arith, e));
   done = λ e. absurd (omega (arith, e));
   recv = λ t m e. let same : s ≡ t = omega (arith, e) in
       subst (λ (k : ℕ). recv_count word ≤ past.count i v k) same l;
-  accept = λ k l e. absurd (omega (arith, e, within));
   ring = λ slot part l p e. absurd (omega (arith, e, within));
 }
 
@@ -233,11 +243,9 @@ pub tells_ring : (g : Group) (V : Views) (past : Past) (i v c word : ℕ) → he
     → Tells g V past i v c word
 tells_ring g V past i v c word high piece = record {
   beat = λ e. absurd (omega (arith, e, high));
-  suspected = λ e. absurd (omega (arith, e, high));
   received = λ e. absurd (omega (arith, e, high));
   logged = λ e. absurd (omega (arith, e, high));
   done = λ e. absurd (omega (arith, e, high));
   recv = λ s l e. absurd (omega (arith, e, high, l));
-  accept = λ k l e. absurd (omega (arith, e, high, l));
   ring = piece;
 }

@@ -1,5 +1,5 @@
 -- A word that a member shows another is at most its owner's.
-use Rattle.std.proofs.Common.{arith, inl, inr, le_trans, ℕ, ◌≡◌, ◌≢◌, ◌≤◌, ◌⊎◌}
+use Rattle.std.proofs.Common.{arith, inl, inr, le_of_eq, le_trans, ℕ, ◌≡◌, ◌≢◌, ◌≤◌, ◌⊎◌}
 use Rattle.std.proofs.lemmas.Bool.{cases_eq}
 use Rattle.dr_machine.specs.Group.{Group}
 use Rattle.dr_machine.specs.World.{World, shown}
@@ -12,11 +12,17 @@ pub seen_le : (g : Group) (V : Views) (w : World) (m i c : ℕ) → Faithful g V
 seen_le g V w m i c f d = le_trans (f.old.in_seen m i c d).number
     (f.old.in_table (w.past.view m) m i c).number
 
+shown_own : (w : World) (m i c : ℕ) → i ≡ m → shown w m i c ≡ w.past.own i (w.past.view m) c
+shown_own w m i c e = grind arith
+
+shown_seen : (w : World) (m i c : ℕ) → i ≢ m → shown w m i c ≡ w.seen m i c
+shown_seen w m i c d = grind arith
+
 -- and so is a word that is shown
 pub shown_le : (g : Group) (V : Views) (w : World) (m i c : ℕ) → Faithful g V w → shown w m i c
     ≤ w.past.own i (w.past.view m) c
 shown_le g V w m i c f = by (cases_eq i m)
   where
     by : (i ≡ m) ⊎ (i ≢ m) → shown w m i c ≤ w.past.own i (w.past.view m) c
-    by (inl e) = grind (arith, e)
-    by (inr d) = grind (arith, seen_le g V w m i c f d)
+    by (inl e) = le_of_eq (shown_own w m i c e)
+    by (inr d) = rw (shown_seen w m i c d) (seen_le g V w m i c f d)

@@ -6,7 +6,7 @@ use Rattle.dr_machine.specs.Run.{PastGrew, WordsGrew}
 use Rattle.dr_machine.specs.World.{Past, World, own_word}
 use Rattle.dr_machine.specs.Writes.{at₃, at₄}
 use Rattle.dr_faithful.proofs.Forms.{form_free, grown_free}
-use Rattle.dr_faithful.proofs.OwnWords.{IsPlain, counts_word, delivered_word, form_word, old_later, own_grown}
+use Rattle.dr_faithful.proofs.OwnWords.{IsPlain, counts_word, delivered_word, form_word, old_later, own_grown, suspicions_word}
 use Rattle.dr_faithful.proofs.Pasts.{past_same, tells_beat, tells_later}
 use Rattle.dr_faithful.proofs.Writes.{at_case, at_same, at₃_case, at₄_case}
 use Rattle.dr_faithful.specs.Faithful.{AreOld, Faithful}
@@ -96,6 +96,8 @@ stamp_keeps g V w m f = record {
   sent = f.sent;
   counts = counts_word g V w.past.view w.suspects w.past.own w.past.count m
       (w.past.view m) BEAT_COLUMN acts plain f.counts;
+  suspicions = suspicions_word g V w.past.view w.suspects w.promise w.past.own m (w.past.view m) BEAT_COLUMN
+      acts plain f.suspicions;
   words = record {
     own = at₃_case (λ i v k z. Tells g V past i v k z) w.past.own m (w.past.view m) BEAT_COLUMN acts
         (λ i v k. tells_later g V w.past past i v k (w.past.own i v k) grew (f.words.own i v k))
@@ -126,7 +128,7 @@ stamp_keeps g V w m f = record {
     acts = one_more 64 (w.past.acts m)
 
     plain : IsPlain BEAT_COLUMN
-    plain = (omega arith, omega arith)
+    plain = (omega arith, omega arith, omega arith)
 
     free : IsInForm (roster g) BEAT_COLUMN acts
     free = form_free (roster g) BEAT_COLUMN acts (inl (omega arith, omega arith))

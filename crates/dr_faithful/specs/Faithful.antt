@@ -9,11 +9,13 @@ use Rattle.dr_history.specs.Members.{has, members_of}
 use Rattle.dr_history.specs.Places.{front_of}
 use Rattle.dr_history.specs.History.{IsPrefixOf, Sent, messages_of}
 use Rattle.dr_history.specs.Order.{first_entries, messages_from}
-use Rattle.dr_words.specs.declared.column.TheConstants.{RECEIVED_COLUMN}
+use Rattle.dr_words.specs.declared.column.TheConstants.{SUSPECTED_COLUMN, RECEIVED_COLUMN}
 use Rattle.dr_words.specs.Columns.{recv_column}
 use Rattle.dr_words.specs.Form.{IsInForm}
 use Rattle.dr_words.specs.Grown.{HasGrown}
-use Rattle.dr_words.specs.Packing.{recv_count, is_final}
+use Rattle.dr_words.specs.Masks.{IsPartOf, least_of, without}
+use Rattle.dr_words.specs.Packing.{accept_promise, recv_count, is_final}
+use Rattle.dr_machine.specs.Effects.{is_accept_of}
 use Rattle.dr_machine.specs.Group.{Group, IsPresent, roster}
 use Rattle.dr_machine.specs.Sending.{IsPut}
 use Rattle.dr_machine.specs.World.{World}
@@ -31,12 +33,10 @@ Items = ℕ → ℕ → ℕ → Item
 abbrev pub Table : Type 0
 Table = ℕ → ℕ → ℕ → ℕ → ℕ
 
--- so far every member is there, there is one view, and nobody is suspected
-pub record IsBeginning (g : Group) (view suspects base : ℕ → ℕ)
-    (pending : ℕ → Option Vote) : Type 0 where
+-- so far every member is there, and there is one view
+pub record IsBeginning (g : Group) (view base : ℕ → ℕ) (pending : ℕ → Option Vote) : Type 0 where
   pub all : (m : ℕ) → m < roster g → IsPresent g m
   pub first : (m : ℕ) → view m ≡ 0
-  pub unwedged : (m : ℕ) → suspects m ≡ 0
   pub idle : (m : ℕ) → pending m ≡ None
   -- each member goes on behind the messages of the start
   pub start : (m : ℕ) → base m ≡ length (messages_from m g.opening.start)
@@ -74,6 +74,21 @@ pub record AreCounts (g : Group) (V : Views) (view suspects : ℕ → ℕ)
   -- nobody has more items of a sender than some member has messages
   pub few : (m v s : ℕ) → (t : ℕ) × (count m v s ≤ length (messages_of g.opening t))
 
+-- a member suspects other members of its view alone, and its own words say whom. Once it suspects somebody
+-- its recv words are final, and its accept words have its promise, which is the least member that it doesn't
+-- suspect
+pub record AreSuspicions (g : Group) (V : Views) (view suspects promise : ℕ → ℕ)
+    (own : Numbers) : Type 0 where
+  pub part : (m : ℕ) → IsPartOf (suspects m) (V (view m))
+  pub trusted : (m : ℕ) → has (suspects m) m ≡ false
+  pub told : (m : ℕ) → own m (view m) SUSPECTED_COLUMN ≡ suspects m
+  pub final : (m s : ℕ) → suspects m ≢ 0 → has (V (view m)) s ≡ true
+      → is_final (own m (view m) (recv_column s)) ≡ true
+  pub none : (m : ℕ) → suspects m ≡ 0 → promise m ≡ 0
+  pub least : (m : ℕ) → suspects m ≢ 0 → promise m ≡ least_of (without (V (view m)) (suspects m))
+  pub accept : (m c : ℕ) → is_accept_of (roster g) (V (view m)) c ≡ true
+      → accept_promise (own m (view m) c) ≡ promise m
+
 -- the log of a member is a front of its history, and what it knows to be durable is on all logs
 pub record AreLogs (g : Group) (V : Views) (view : ℕ → ℕ) (acts durable : ℕ → ℕ)
     (log history : ℕ → List Entry) : Type 0 where
@@ -105,11 +120,12 @@ pub record AreInForm (g : Group) (own : Numbers) (table : Table) (seen : Numbers
 
 -- the members of a group are faithful
 pub record Faithful (g : Group) (V : Views) (w : World) : Type 0 where
-  pub beginning : IsBeginning g w.past.view w.suspects w.base w.pending
+  pub beginning : IsBeginning g w.past.view w.base w.pending
   pub views : AreInViews g V w.past.view w.members
   pub items : AreItems g V w.past.view w.past.count w.item w.past.sent
   pub sent : AreSent g w.past.view w.base w.past.sent w.past.count
   pub counts : AreCounts g V w.past.view w.suspects w.past.own w.past.count
+  pub suspicions : AreSuspicions g V w.past.view w.suspects w.promise w.past.own
   pub words : WordsTell g V w
   pub logs : AreLogs g V w.past.view w.past.acts w.past.durable w.past.log w.past.history
   pub delivered : AreDelivered g V w.past.view w.next w.past.own w.past.history

@@ -1,6 +1,6 @@
 -- What a word tells of the owner of its row.
 -- V gives the members of each view, as a mask, by the view's number.
-use Rattle.std.specs.Prelude.{◌≡◌, ℕ, ◌+◌, ◌%◌, ◌<◌, ◌≤◌, ◌⊎◌, true, List, length, map, take, slice_index, slice_index_or, []}
+use Rattle.std.specs.Prelude.{◌≡◌, ◌≢◌, ℕ, ◌+◌, ◌%◌, ◌<◌, ◌≤◌, ◌⊎◌, true, List, length, map, take, slice_index, slice_index_or, []}
 use Rattle.dr_entry.specs.declared.entry.Entry.{Entry}
 use Rattle.dr_entry.specs.declared.entry.Item.{Item}
 use Rattle.dr_entry.specs.declared.entry.Item.TheVariants as items
@@ -12,10 +12,12 @@ use Rattle.dr_history.specs.History.{Sent, messages_of}
 use Rattle.dr_history.specs.Order.{messages_from}
 use Rattle.dr_ring.specs.Pieces.{pieces}
 use Rattle.dr_words.specs.declared.column.TheConstants.{BEAT_COLUMN, SUSPECTED_COLUMN, RECEIVED_COLUMN, LOGGED_COLUMN, DONE_COLUMN, PIECES}
-use Rattle.dr_words.specs.Columns.{recv_column, leavers_column, head_column}
-use Rattle.dr_words.specs.Packing.{ring_word, recv_count}
+use Rattle.dr_words.specs.Columns.{recv_column, head_column}
+use Rattle.dr_words.specs.Masks.{IsPartOf}
+use Rattle.dr_words.specs.Packing.{accept_promise, is_final, ring_word, recv_count}
+use Rattle.dr_machine.specs.Effects.{is_accept_of}
 use Rattle.dr_machine.specs.Group.{Group, roster}
-use Rattle.dr_machine.specs.World.{Past, World}
+use Rattle.dr_machine.specs.World.{Past, World, count_of, own_word}
 
 -- the members of each view, as a mask, by the view's number
 abbrev pub Views : Type 0
@@ -61,8 +63,6 @@ HasAll g mask entries =
 pub record Tells (g : Group) (V : Views) (past : Past) (i v c word : ℕ) : Type 0 where
   -- how many acts it has done
   pub beat : c ≡ BEAT_COLUMN → word ≤ past.acts i
-  -- whom it suspects: so far nobody
-  pub suspected : c ≡ SUSPECTED_COLUMN → word ≡ 0
   -- up to which place it has all items of the view
   pub received : c ≡ RECEIVED_COLUMN → word ≤ front_of (map (past.count i v) (members_of (V v)))
   -- how many entries its log has
@@ -72,11 +72,26 @@ pub record Tells (g : Group) (V : Views) (past : Past) (i v c word : ℕ) : Type
       × (word ≡ 1 → HasAll g (V v) (take (past.durable i) (past.history i)))
   -- how many items of a sender it has
   pub recv : (s : ℕ) → s < roster g → c ≡ recv_column s → recv_count word ≤ past.count i v s
-  -- what it has accepted: so far nothing
-  pub accept : (k : ℕ) → k ≤ roster g → c ≡ leavers_column (roster g) + k → word ≡ 0
   -- a piece of an item that it has put
   pub ring : (slot part : ℕ) → slot < g.window → part < PIECES → c ≡ part_column g slot part
       → TellsPiece g (length (past.sent i v)) (item_sent g past.sent i v) slot part word
+
+-- what a word of column c tells of whom member i suspects in its view, and of what that makes final, where
+-- it stands in i's row in the bank of that view
+pub record TellsSuspicion (g : Group) (w : World) (i c word : ℕ) : Type 0 where
+  -- whom it suspects
+  pub suspected : c ≡ SUSPECTED_COLUMN → IsPartOf word (w.suspects i)
+  -- where a count is final, how many items of that sender it has, for good
+  pub final : (s : ℕ) → s < roster g → c ≡ recv_column s → is_final word ≡ true
+      → (own_word w i c ≡ word) × (count_of w i s ≡ recv_count word) × (w.suspects i ≢ 0)
+  -- whose proposal it waits for: of that member, or of a greater one by now
+  pub promise : is_accept_of (roster g) (w.members i) c ≡ true → accept_promise word ≤ w.promise i
+
+-- every word tells that: own words, those of the table, and those that members of the same view have seen
+pub record SuspicionsTold (g : Group) (w : World) : Type 0 where
+  pub own : (i c : ℕ) → TellsSuspicion g w i c (own_word w i c)
+  pub table : (j i c : ℕ) → TellsSuspicion g w i c (w.table (w.past.view i) j i c)
+  pub seen : (m i c : ℕ) → i ≢ m → w.past.view m ≡ w.past.view i → TellsSuspicion g w i c (w.seen m i c)
 
 -- every word tells: own words, those of the table, and those that were seen
 pub record WordsTell (g : Group) (V : Views) (w : World) : Type 0 where

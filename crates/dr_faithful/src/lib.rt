@@ -7,4 +7,4 @@
 
 mod laws;
 
-pub use laws::{members_are_faithful, no_later_item, pasts_grow, words_grow};
+pub use laws::{members_are_faithful, no_later_item, pasts_grow, suspicions_are_told, words_grow};

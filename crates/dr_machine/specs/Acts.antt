@@ -8,8 +8,8 @@ use Rattle.dr_machine.specs.declared.event.Event.{Event}
 use Rattle.dr_machine.specs.Events.{member_of, step_of}
 use Rattle.dr_machine.specs.Group.{Group}
 use Rattle.dr_machine.specs.World.{World}
-use Rattle.dr_machine.specs.Guards.{CanBeat, CanLook, CanPush, CanSend, CanNull, CanReceive, CanDeliver, CanAppend, CanPublish, CanReport, CanMark, CanHalt, CanCrash}
-use Rattle.dr_machine.specs.Effects.{stamped, beats, looks, pushes, sends, nulls, receives, delivers, appends, publishes, reports, marks, ends}
+use Rattle.dr_machine.specs.Guards.{CanBeat, CanLook, CanPush, CanSend, CanNull, CanReceive, CanDeliver, CanAppend, CanPublish, CanReport, CanMark, CanSuspect, CanHalt, CanCrash}
+use Rattle.dr_machine.specs.Effects.{stamped, beats, looks, pushes, sends, nulls, receives, delivers, appends, publishes, reports, marks, suspects, ends}
 
 -- the act may come
 abbrev pub CanDo : Group → World → ℕ → Act → Type 0
@@ -21,6 +21,7 @@ CanDo g w m acts.Deliver = CanDeliver g w m
 CanDo g w m acts.Publish = CanPublish g w m
 CanDo g w m acts.Report = CanReport g w m
 CanDo g w m acts.Mark = CanMark g w m
+CanDo g w m (acts.Suspect j) = CanSuspect g w m j
 CanDo g w m (acts.Halt end) = CanHalt g w m end
 CanDo g w m (acts.Crash end) = CanCrash g w m end
 
@@ -45,6 +46,7 @@ does g w m acts.Deliver = delivers w m
 does g w m acts.Publish = publishes w m
 does g w m acts.Report = reports w m
 does g w m acts.Mark = marks w m
+does g w m (acts.Suspect j) = suspects g w m j
 does g w m (acts.Halt end) = ends w m end
 does g w m (acts.Crash end) = ends w m end
 

@@ -1,5 +1,5 @@
 -- What each event makes of the world.
-use Rattle.std.specs.Prelude.{ℕ, ◌%◌, ◌+◌, ◌-◌, ◌^◌, ◌&&◌, nat_le, nat_lt, min, false, if◌then◌else◌, List, [], ◌∷◌, ◌++◌, length, map, fold, take, drop, slice_index, slice_index_or, unwrap_or, Some}
+use Rattle.std.specs.Prelude.{ℕ, ◌%◌, ◌+◌, ◌-◌, ◌^◌, ◌==◌, ◌&&◌, ◌||◌, nat_le, nat_lt, min, true, false, Bool, if◌then◌else◌, List, [], ◌∷◌, ◌++◌, length, map, fold, take, drop, slice_index, slice_index_or, unwrap_or, Some}
 use Rattle.dr_entry.specs.declared.entry.Entry.{Entry}
 use Rattle.dr_entry.specs.declared.entry.Entry.TheVariants.{Msg}
 use Rattle.dr_entry.specs.declared.entry.Item.{Item}
@@ -8,20 +8,16 @@ use Rattle.dr_entry.specs.declared.end.End.{End}
 use Rattle.dr_entry.specs.declared.end.SentItem.{SentItem}
 use Rattle.dr_entry.specs.declared.end.SentItem.TheVariants as sent_items
 use Rattle.dr_entry.specs.declared.end.SentItem.TheVariants.{Index}
+use Rattle.dr_history.specs.Members.{has}
 use Rattle.dr_history.specs.Places.{front_of}
 use Rattle.dr_history.specs.History.{messages_of}
 use Rattle.dr_history.specs.Order.{messages_from}
 use Rattle.dr_ring.specs.Pieces.{pieces}
 use Rattle.dr_ring.specs.Slots.{slot_column, item_in}
-use Rattle.dr_words.specs.declared.column.TheConstants.{BEAT_COLUMN, RECEIVED_COLUMN, LOGGED_COLUMN, DONE_COLUMN}
-use Rattle.dr_words.specs.Columns.{recv_column}
-use Rattle.dr_words.specs.Packing.{ring_word, recv_word}
-use Rattle.dr_machine.specs.declared.event.Event.{Event}
-use Rattle.dr_machine.specs.declared.event.Act.{Act}
-use Rattle.dr_machine.specs.declared.event.Act.TheVariants as acts
-use Rattle.dr_machine.specs.declared.step.Step.{Step}
-use Rattle.dr_machine.specs.declared.step.Step.TheVariants as steps
-use Rattle.dr_machine.specs.Events.{member_of, step_of}
+use Rattle.dr_words.specs.declared.column.TheConstants.{BEAT_COLUMN, SUSPECTED_COLUMN, RECEIVED_COLUMN, LOGGED_COLUMN, DONE_COLUMN}
+use Rattle.dr_words.specs.Columns.{recv_column, leavers_column, trim_column}
+use Rattle.dr_words.specs.Masks.{least_of, with_member, without}
+use Rattle.dr_words.specs.Packing.{ring_word, recv_count, recv_word, accept_tag, accept_value, accept_word}
 use Rattle.dr_machine.specs.Writes.{at, at₂, at₃, at₄}
 use Rattle.dr_machine.specs.Group.{Group, roster}
 use Rattle.dr_machine.specs.World.{World, own_word, count_of, shown, view_members, item_at_place}
@@ -147,6 +143,41 @@ reports w m = record w {
 
 abbrev pub marks : World → ℕ → World
 marks w m = with_own w m DONE_COLUMN 1
+
+-- the column is that of the recv word of one of these members of a roster of n
+abbrev pub is_recv_of : ℕ → ℕ → ℕ → Bool
+is_recv_of n members c =
+    nat_le (recv_column 0) c && (nat_lt c (recv_column n) && has members (c - recv_column 0))
+
+-- it is that of the leavers, or of the trim of one of these members
+abbrev pub is_accept_of : ℕ → ℕ → ℕ → Bool
+is_accept_of n members c =
+    c == leavers_column n
+    || (nat_le (trim_column n 0) c && (nat_lt c (trim_column n n) && has members (c - trim_column n 0)))
+
+-- the own word of a column, of one that suspects the members of this mask in a view of these members: the
+-- suspected word is the mask, the recv words are final, and the accept words have this promise
+abbrev pub wedged_word : ℕ → ℕ → ℕ → ℕ → ℕ → ℕ → ℕ
+wedged_word n members mask promise c word =
+    if c == SUSPECTED_COLUMN then mask
+    else (if is_recv_of n members c then recv_word (recv_count word) true
+    else (if is_accept_of n members c then accept_word promise (accept_tag word) (accept_value word)
+    else word))
+
+-- m suspects j: it receives and sends no more in its view, and promises to accept what the least member that
+-- it doesn't suspect proposes
+abbrev pub suspects : Group → World → ℕ → ℕ → World
+suspects g w m j =
+    let v = w.past.view m in
+    let mask = with_member (w.suspects m) j in
+    let promise = least_of (without (w.members m) mask) in record w {
+      past = record w.past {
+        own = at₂ w.past.own m v
+            (λ c. wedged_word (roster g) (w.members m) mask promise c (w.past.own m v c));
+      };
+      suspects = at w.suspects m mask;
+      promise = at w.promise m promise;
+    }
 
 abbrev pub ends : World → ℕ → End → World
 ends w m end = record w { end = at w.end m (Some end) }

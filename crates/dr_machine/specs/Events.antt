@@ -1,11 +1,10 @@
 -- Events: whose each is, and what it is.
 use Rattle.std.specs.Prelude.{ℕ}
-use Rattle.dr_machine.specs.declared.event.Act.{Act}
 use Rattle.dr_machine.specs.declared.event.Act.TheVariants as acts
 use Rattle.dr_machine.specs.declared.step.Step.{Step}
 use Rattle.dr_machine.specs.declared.step.Step.TheVariants as steps
 use Rattle.dr_machine.specs.declared.event.Event.{Event}
-use Rattle.dr_machine.specs.declared.event.Event.TheVariants.{Beat, Look, Push, Send, Null, Receive, Deliver, Append, Publish, Report, Mark, Halt, Crash}
+use Rattle.dr_machine.specs.declared.event.Event.TheVariants.{Beat, Look, Push, Send, Null, Receive, Deliver, Append, Publish, Report, Mark, Suspect, Halt, Crash}
 
 -- the member that an event is of
 abbrev pub member_of : Event → ℕ
@@ -20,6 +19,7 @@ member_of (Append m) = m
 member_of (Publish m) = m
 member_of (Report m) = m
 member_of (Mark m) = m
+member_of (Suspect m j) = m
 member_of (Halt m end) = m
 member_of (Crash m end) = m
 
@@ -36,6 +36,7 @@ step_of (Append m) = steps.Append
 step_of (Publish m) = steps.Do acts.Publish
 step_of (Report m) = steps.Do acts.Report
 step_of (Mark m) = steps.Do acts.Mark
+step_of (Suspect m j) = steps.Do (acts.Suspect j)
 step_of (Halt m end) = steps.Do (acts.Halt end)
 step_of (Crash m end) = steps.Do (acts.Crash end)
 
@@ -49,6 +50,7 @@ event_of m (steps.Do acts.Deliver) = Deliver m
 event_of m (steps.Do acts.Publish) = Publish m
 event_of m (steps.Do acts.Report) = Report m
 event_of m (steps.Do acts.Mark) = Mark m
+event_of m (steps.Do (acts.Suspect j)) = Suspect m j
 event_of m (steps.Do (acts.Halt end)) = Halt m end
 event_of m (steps.Do (acts.Crash end)) = Crash m end
 event_of m (steps.Look i c) = Look m i c

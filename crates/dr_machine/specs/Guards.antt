@@ -6,15 +6,10 @@ use Rattle.dr_history.specs.Members.{has}
 use Rattle.dr_history.specs.History.{messages_of, messages_in}
 use Rattle.dr_history.specs.Order.{messages_from}
 use Rattle.dr_ring.specs.Slots.{slot_column, IsReady}
-use Rattle.dr_words.specs.declared.column.TheConstants.{RECEIVED_COLUMN, LOGGED_COLUMN, DONE_COLUMN}
+use Rattle.dr_words.specs.declared.column.TheConstants.{SUSPECTED_COLUMN, RECEIVED_COLUMN, LOGGED_COLUMN, DONE_COLUMN}
 use Rattle.dr_words.specs.Columns.{recv_column}
+use Rattle.dr_words.specs.Masks.{IsMajorityOf, without}
 use Rattle.dr_words.specs.Packing.{recv_count}
-use Rattle.dr_machine.specs.declared.event.Event.{Event}
-use Rattle.dr_machine.specs.declared.event.Act.{Act}
-use Rattle.dr_machine.specs.declared.event.Act.TheVariants as acts
-use Rattle.dr_machine.specs.declared.step.Step.{Step}
-use Rattle.dr_machine.specs.declared.step.Step.TheVariants as steps
-use Rattle.dr_machine.specs.Events.{member_of, step_of}
 use Rattle.dr_machine.specs.Group.{Group, IsPresent, roster, columns}
 use Rattle.dr_machine.specs.World.{World, own_word, count_of, shown}
 
@@ -57,8 +52,7 @@ abbrev pub next_index : World → ℕ → ℕ
 next_index w m = w.base m + messages_in (w.past.sent m (w.past.view m))
 
 -- the slot of m's item k is free: k is among the first items, or each other member of the view is seen to
--- have received
--- the item that stood there before
+-- have received the item that stood there before
 abbrev pub HasRoom : Group → World → ℕ → ℕ → Type 0
 HasRoom g w m k =
     (k < g.window)
@@ -125,12 +119,42 @@ pub record CanMark (g : Group) (w : World) (m : ℕ) : Type 0 where
   pub whole : HoldsAll g w m
   pub durable : w.past.durable m ≡ length (w.past.history m)
 
--- the end Done comes where every row of the view shows done
-pub record CanHalt (g : Group) (w : World) (m : ℕ) (end : End) : Type 0 where
+pub record CanSuspect (g : Group) (w : World) (m j : ℕ) : Type 0 where
   pub may : MayChoose g w m
-  pub done : end ≡ Done
+  pub other : IsOther w m j
+  pub unsuspected : has (w.suspects m) j ≡ false
+
+-- the members of m's view that it doesn't suspect, itself among them, as a mask
+abbrev pub unsuspected_of : World → ℕ → ℕ
+unsuspected_of w m = without (w.members m) (w.suspects m)
+
+-- m is done where it suspects nobody, and every row of the view shows done
+pub record IsDone (w : World) (m : ℕ) : Type 0 where
   pub unwedged : IsUnwedged w m
   pub all : (i : ℕ) → has (w.members m) i ≡ true → shown w m i DONE_COLUMN ≡ 1
+
+-- the row of another member that m doesn't suspect says that this member suspects m
+pub record IsSuspectedBy (w : World) (m i : ℕ) : Type 0 where
+  pub row : IsOther w m i
+  pub unsuspected : has (w.suspects m) i ≡ false
+  pub named : has (w.seen m i SUSPECTED_COLUMN) m ≡ true
+
+-- m is wedged, and these are the members of its view that it doesn't suspect: no majority
+pub record IsMinority (w : World) (m mask : ℕ) : Type 0 where
+  pub wedged : ¬ IsUnwedged w m
+  pub unsuspected : mask ≡ unsuspected_of w m
+  pub minority : ¬ IsMajorityOf mask (w.members m)
+
+-- the end is due, and none of those that come at any time
+abbrev pub IsDue : World → ℕ → End → Type 0
+IsDue w m Done = IsDone w m
+IsDue w m (Suspected by) = IsSuspectedBy w m by
+IsDue w m (NoMajority mask) = IsMinority w m mask
+IsDue w m end = ⊥
+
+pub record CanHalt (g : Group) (w : World) (m : ℕ) (end : End) : Type 0 where
+  pub may : MayChoose g w m
+  pub due : IsDue w m end
 
 -- the ends that come over a member at any time
 abbrev pub IsFault : End → Type 0

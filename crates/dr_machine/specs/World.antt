@@ -1,6 +1,6 @@
 -- The world: all members of a group in their age, and the words of the table that they share.
 -- Members, rows and copies go by the members' numbers, and what belongs to a view also by the view's number.
-use Rattle.std.specs.Prelude.{ℕ, ◌==◌, ◌&&◌, ◌%◌, ◌/◌, Bool, false, nat_lt, if◌then◌else◌, List, [], length, replicate, slice_index, Option, None}
+use Rattle.std.specs.Prelude.{ℕ, ◌==◌, ◌&&◌, ◌%◌, ◌/◌, nat_lt, if◌then◌else◌, List, [], length, replicate, slice_index, Option, None}
 use Rattle.dr_entry.specs.declared.limits.TheConstants.{MAX_MEMBERS}
 use Rattle.dr_entry.specs.declared.entry.Entry.{Entry}
 use Rattle.dr_entry.specs.declared.entry.Item.{Item}

@@ -23,6 +23,8 @@ pub enum Act {
     Report,
     /// Its done word says that it holds everything, durably.
     Mark,
+    /// It suspects another member of its view, and is wedged from then on.
+    Suspect { other: u8 },
     /// It ends as it should.
     Halt { end: End },
     /// It ends by a fault, or with its turns spent.
@@ -55,6 +57,8 @@ pub enum Event {
     Report { m: u8 },
     /// Its done word says that it holds everything, durably.
     Mark { m: u8 },
+    /// It suspects member `j`, and is wedged from then on.
+    Suspect { m: u8, j: u8 },
     /// It ends as it should.
     Halt { m: u8, end: End },
     /// It ends by a fault, or with its turns spent.
@@ -78,6 +82,7 @@ impl Event {
             | Event::Publish { m }
             | Event::Report { m }
             | Event::Mark { m }
+            | Event::Suspect { m, .. }
             | Event::Halt { m, .. }
             | Event::Crash { m, .. } => m,
         }
@@ -99,6 +104,7 @@ impl Event {
             Event::Publish { .. } => Step::Do(Act::Publish),
             Event::Report { .. } => Step::Do(Act::Report),
             Event::Mark { .. } => Step::Do(Act::Mark),
+            Event::Suspect { j, .. } => Step::Do(Act::Suspect { other: j }),
             Event::Halt { end, .. } => Step::Do(Act::Halt { end }),
             Event::Crash { end, .. } => Step::Do(Act::Crash { end }),
         }

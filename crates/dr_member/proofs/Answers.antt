@@ -13,7 +13,7 @@ use Rattle.dr_program.specs.declared.place.Place.{Place}
 use Rattle.dr_program.specs.Replica.{Replica, is_other}
 use Rattle.dr_program.specs.Steps.{NoWordFell, allows, has_cell, stepped}
 use Rattle.dr_program.specs.Turn.{columns_in, part_of}
-use Rattle.dr_program.specs.Running.{Running, members, columns, applies, crashes_now, goes, push_or_crash, pushes_after, settled, step_at, took, next_step, after_step}
+use Rattle.dr_program.specs.Running.{Running, members, columns, applies, crashes_now, goes, push_or_crash, pushes_after, settled, step_at, took, next_step, after_step, waits_after}
 use Rattle.dr_program.specs.Form.{HasForm, IsRunningMember}
 use Rattle.dr_turn.specs.Search.{IsUnderway}
 use Rattle.dr_turn.specs.Work.{IsDone}
@@ -25,33 +25,35 @@ use Rattle.dr_member.specs.Fate.{fate_after}
 use Rattle.dr_member.specs.Search.{standing}
 use Rattle.dr_member.proofs.Passing.{from_column, from_here, passes, pushes_idle}
 
--- the fate is that of r after a step
-pub record IsFateAfter (r : Running) (s : Step) (fate : Fate) : Type 0 where
+-- the fate is that of r after a step, which saw this word
+pub record IsFateAfter (word : ℕ) (r : Running) (s : Step) (fate : Fate) : Type 0 where
   pub limit : fate.limit ≡ r.limit
-  pub patience : fate.patience ≡ r.patience
+  pub waits : fate.waits ≡ waits_after word r s
   pub crashes : fate.crashes ≡ r.crashes
   pub suspicions : fate.suspicions ≡ r.suspicions
   pub pushes : fate.pushes ≡ pushes_after r.pushes s
   pub failed : fate.failed ≡ r.failed
 
-pub fate_stays : (replica : Replica) (fate : Fate) (place : Place) (s : Step)
-    → fate.pushes ≡ pushes_after fate.pushes s → IsFateAfter (standing replica fate place) s fate
-fate_stays replica fate place s e = record {
+pub fate_stays : (word : ℕ) (replica : Replica) (fate : Fate) (place : Place) (s : Step)
+    → fate.pushes ≡ pushes_after fate.pushes s
+    → fate.waits ≡ waits_after word (standing replica fate place) s
+    → IsFateAfter word (standing replica fate place) s fate
+fate_stays word replica fate place s e waits = record {
   limit = refl;
-  patience = refl;
+  waits = waits;
   crashes = refl;
   suspicions = refl;
   pushes = e;
   failed = refl;
 }
 
-pub fate_of_act : (replica : Replica) (fate : Fate) (place : Place) (a : Act) (turn : ℕ)
-    → IsFateAfter (standing replica fate place) (steps.Do a) (fate_after fate a turn)
-fate_of_act replica fate place acts.Beat turn =
-    record { limit = refl; patience = refl; crashes = refl; suspicions = refl; pushes = refl; failed = refl }
-fate_of_act replica fate place a turn = record {
+pub fate_of_act : (word : ℕ) (replica : Replica) (fate : Fate) (place : Place) (a : Act) (turn : ℕ)
+    → IsFateAfter word (standing replica fate place) (steps.Do a) (fate_after fate a turn)
+fate_of_act word replica fate place acts.Beat turn =
+    record { limit = refl; waits = refl; crashes = refl; suspicions = refl; pushes = refl; failed = refl }
+fate_of_act word replica fate place a turn = record {
   limit = refl;
-  patience = refl;
+  waits = refl;
   crashes = refl;
   suspicions = refl;
   pushes = refl;
@@ -69,7 +71,7 @@ pub record IsTaken (word : ℕ) (r : Running) (s : Step) (q : Replica) (fate : F
   pub form : HasForm q
   pub grown : NoWordFell r.replica q
   pub place : from ≡ goes (members r) (columns r) (part_of r.place) r.place
-  pub told : IsFateAfter r s fate
+  pub told : IsFateAfter word r s fate
 
 pub is_took : (word : ℕ) (r : Running) (s : Step) (q : Replica) (fate : Fate) (from : Place)
     → IsTaken word r s q fate from → standing q fate from ≡ took word r (next_step r)
@@ -77,7 +79,7 @@ is_took word r s q fate from t = (λ z. record {
   replica = t.replica z;
   place = t.place z;
   limit = t.told.limit z;
-  patience = t.told.patience z;
+  waits = t.told.waits z;
   crashes = t.told.crashes z;
   suspicions = t.told.suspicions z;
   pushes = t.told.pushes z;
@@ -120,10 +122,10 @@ answer_at word r now x view a = subst (λ (y : Running). IsAnswer word y x) view
 
 -- ---- where the search stays
 
--- there is something to do at a look at another member's row
+-- there is something to do at a look that is allowed
 pub look_applies : (r : Running) (p : Place) → part_of p ≡ parts.Look
-    → has_cell r.replica p.row p.column ≡ true → applies r p ≡ true
-look_applies r p at cell = ap (λ x. applies_at r x p.row p.column) at ∙ cell
+    → allows r.replica (steps.Look p.row p.column) ≡ true → applies r p ≡ true
+look_applies r p at may = ap (λ x. applies_at r x p.row p.column) at ∙ may
 
 -- and at the push of a changed word to it, be it a push or a crash
 both : (a b d : Bool) → a ≡ true → b ≡ true → d ≡ true → ((a && b) && d) ≡ true

@@ -90,6 +90,7 @@ pub record IsLookDue (r : Running) (word : ℕ) : Type 0 where
   pub none : r.replica.end ≡ None
   pub at : part_of r.place ≡ parts.Look
   pub step : next_step r ≡ steps.Look r.place.row r.place.column
+  pub may : allows r.replica (steps.Look r.place.row r.place.column) ≡ true
   pub cell : IsCellOf r r.place.row r.place.column
   pub seen : IsSeenNext r r.place.row r.place.column word
 
@@ -116,17 +117,19 @@ pub look_due : (r : Running) (word : ℕ) → IsRunningMember r → MaySee r (st
 look_due r word m may = by r.replica.end refl may
   where
     due : r.replica.end ≡ None → MaySee r (Some (next_step r)) word → IsLookDue r word
-    due none may =
-        let at = look_part r (part_of r.place) r.place.row r.place.column word may in
+    due none see =
+        let at = look_part r (part_of r.place) r.place.row r.place.column word see in
         let step : next_step r ≡ steps.Look r.place.row r.place.column =
         ap (λ x. step_at r x r.place.row r.place.column) at.0 in
+        let may = allowed r m none (steps.Look r.place.row r.place.column) step in
         record {
           none = none;
           at = at.0;
           step = step;
+          may = may;
           cell =
               is_cell r r.place.row r.place.column
-              (allowed r m none (steps.Look r.place.row r.place.column) step);
+              (and_parts _ (has_cell r.replica r.place.row r.place.column) may).1;
           seen = at.1;
         }
 

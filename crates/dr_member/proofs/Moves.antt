@@ -1,7 +1,11 @@
 -- What a running member is after each kind of deed, in the terms of the code's fields.
-use Rattle.std.proofs.Common.{◌≡◌, refl, sym, ap, ◌∙◌, subst, ℕ, ◌+◌, ◌^◌, ◌<◌, ◌≤◌, ◌&&◌, Bool, true, false, nat_lt, arith}
+use Rattle.std.proofs.Common.{◌≡◌, refl, sym, ap, ◌∙◌, subst, ℕ, ◌+◌, ◌^◌, ◌<◌, ◌≤◌, ◌==◌, ◌&&◌, if◌then◌else◌, Bool, true, false, nat_lt, arith}
 use Rattle.std.proofs.lemmas.Bool.Decides.{nat_tests}
 use Rattle.dr_rows.specs.Words.{changed}
+use Rattle.dr_rows.specs.Words as rows
+use Rattle.dr_suspect.specs.Waits.{Waits, turned}
+use Rattle.dr_words.specs.Masks.{mask_of}
+use Rattle.std.proofs.lemmas.Bool.{and_parts}
 use Rattle.dr_words.specs.Columns.{columns_of}
 use Rattle.dr_machine.specs.Effects.{one_more}
 use Rattle.dr_machine.specs.declared.event.Act.{Act}
@@ -10,11 +14,12 @@ use Rattle.dr_machine.specs.declared.step.Step.TheVariants as steps
 use Rattle.dr_program.specs.declared.place.Part.{Part}
 use Rattle.dr_program.specs.declared.place.Part.TheVariants as parts
 use Rattle.dr_program.specs.declared.place.Place.{Place}
-use Rattle.dr_program.specs.Acts.{taken}
+use Rattle.std.specs.Prelude.{None}
+use Rattle.dr_program.specs.Acts.{may, taken}
 use Rattle.dr_program.specs.Replica.{Replica, appended, is_other, looked, me, pushed}
-use Rattle.dr_program.specs.Steps.{NoWordFell, has_cell, stepped}
+use Rattle.dr_program.specs.Steps.{NoWordFell, allows, has_cell, stepped}
 use Rattle.dr_program.specs.Turn.{columns_in, part_of}
-use Rattle.dr_program.specs.Running.{Running, goes, next_deed, next_step, settled}
+use Rattle.dr_program.specs.Running.{Running, columns, goes, next_deed, next_step, settled, waits_after}
 use Rattle.dr_program.specs.Reading.{step_of_member}
 use Rattle.dr_program.specs.Sight.{MaySee}
 use Rattle.dr_program.specs.Form.{HasForm, IsRunningMember}
@@ -27,7 +32,7 @@ use Rattle.dr_member.specs.Inside.{IsInside, view_of}
 use Rattle.dr_member.specs.Search.{next_row, standing}
 use Rattle.dr_member.proofs.Answers.{IsAnswer, IsFateAfter, IsTaken, answer_at, fate_of_act, fate_stays, is_answer, is_done, look_applies, push_applies, pushes_searched, stays}
 use Rattle.dr_member.proofs.Crashes.{some_at_push, timely_act, timely_push}
-use Rattle.dr_member.proofs.Dues.{IsLookDue, IsPushDue, append_due, deed_due, look_due, push_due}
+use Rattle.dr_member.proofs.Dues.{IsLookDue, IsPushDue, allowed, append_due, deed_due, look_due, push_due}
 use Rattle.dr_member.proofs.Indices.{columns_kept, deeds_keep_bases}
 use Rattle.dr_member.proofs.Passing.{from_behind, from_column, from_here}
 
@@ -37,6 +42,10 @@ all_three : (a b d : Bool) → a ≡ true → b ≡ true → d ≡ true → (a &
 all_three true true d e f h = h
 all_three false b d e f h = absurd (cc)
 all_three true false d e f h = absurd (cc)
+
+together : (a b : Bool) → a ≡ true → b ≡ true → (a && b) ≡ true
+together true b d e = e
+together false b d e = absurd (cc)
 
 cell_test : (replica : Replica) (i c : ℕ) → i < replica.roster → is_other replica i ≡ true
     → c < columns_of replica.roster replica.window → has_cell replica i c ≡ true
@@ -77,12 +86,69 @@ pub record IsLooked (replica q : Replica) (fate : Fate) (p : Place) (word : ℕ)
   pub form : HasForm q
   pub grown : NoWordFell replica q
 
+-- within a row it goes on waiting as before, and with the last column it has waited a turn more
+waits_stay : (word : ℕ) (r : Running) (i c : ℕ) → c + 1 < columns r
+    → r.waits ≡ waits_after word r (steps.Look i c)
+waits_stay word r i c within = by (c + 1 == columns r) (grind (arith, nat_tests, within))
+  where
+    by : (b : Bool) → b ≡ false
+        → r.waits ≡ (if b then turned r.waits (rows.looked r.replica.rows i c word) (mask_of (λ k. k == i))
+        else r.waits)
+    by true e = absurd (cc)
+    by false e = refl
+
+waits_turn : (word : ℕ) (r : Running) (i c : ℕ) → c < columns r → columns r ≤ c + 1
+    → turned r.waits (rows.looked r.replica.rows i c word) (mask_of (λ k. k == i))
+    ≡ waits_after word r (steps.Look i c)
+waits_turn word r i c within past = by (c + 1 == columns r) (grind (arith, nat_tests, within, past))
+  where
+    by : (b : Bool) → b ≡ true
+        → turned r.waits (rows.looked r.replica.rows i c word) (mask_of (λ k. k == i))
+        ≡ (if b then turned r.waits (rows.looked r.replica.rows i c word) (mask_of (λ k. k == i))
+        else r.waits)
+    by true e = refl
+    by false e = absurd (cc)
+
+-- the fate with these waits
+abbrev pub waited : Fate → Waits → Fate
+waited fate w = record fate { waits = w }
+
+-- what is known once the row was waited for behind its last column
+pub record IsWaited (q : Replica) (fate : Fate) (p : Place) (w : Waits) : Type 0 where
+  pub past : columns_of q.roster q.window ≤ p.column + 1
+  pub waits : w ≡ turned fate.waits q.rows (mask_of (λ k. k == p.row))
+
+-- the fate within a row, and behind its last column
+told_within : (replica q : Replica) (fate : Fate) (p : Place) (word : ℕ)
+    → IsLooked replica q fate p word → p.column + 1 < columns_of q.roster q.window
+    → IsFateAfter word (standing replica fate p) (steps.Look p.row p.column) fate
+told_within replica q fate p word l within =
+    fate_stays word replica fate p (steps.Look p.row p.column) refl
+    (waits_stay word (standing replica fate p) p.row p.column
+    (subst (λ (x : Replica). p.column + 1 < columns_of x.roster x.window) l.after within))
+
+told_past : (replica q : Replica) (fate : Fate) (p : Place) (word : ℕ) (w : Waits)
+    → IsLooked replica q fate p word → IsWaited q fate p w
+    → IsFateAfter word (standing replica fate p) (steps.Look p.row p.column) (waited fate w)
+told_past replica q fate p word w l is = record {
+  limit = refl;
+  waits = is.waits
+      ∙ ap (λ (x : Replica). turned fate.waits x.rows (mask_of (λ k. k == p.row))) l.after
+      ∙ waits_turn word (standing replica fate p) p.row p.column l.due.cell.column
+      (subst (λ (x : Replica). columns_of x.roster x.window ≤ p.column + 1) l.after is.past);
+  crashes = refl;
+  suspicions = refl;
+  pushes = refl;
+  failed = refl;
+}
+
 -- a replica that has looked took its look, and stands at the next column
-pub look_taken : (replica q : Replica) (fate : Fate) (p : Place) (word : ℕ)
+pub look_taken : (replica q : Replica) (fate told : Fate) (p : Place) (word : ℕ)
     → IsLooked replica q fate p word
-    → IsTaken word (standing replica fate p) (steps.Look p.row p.column) q fate
+    → IsFateAfter word (standing replica fate p) (steps.Look p.row p.column) told
+    → IsTaken word (standing replica fate p) (steps.Look p.row p.column) q told
     (from_column q.roster (columns_of q.roster q.window) p (p.column + 1))
-look_taken replica q fate p word l = record {
+look_taken replica q fate told p word l is = record {
   running = l.running;
   fits = l.fits;
   none = l.due.none;
@@ -92,7 +158,7 @@ look_taken replica q fate p word l = record {
   grown = l.grown;
   place = behind replica q p parts.Look l.due.at (ap (λ (x : Replica). x.roster) l.after)
       (ap (λ (x : Replica). x.window) l.after) refl;
-  told = fate_stays replica fate p (steps.Look p.row p.column) refl;
+  told = is;
 }
 
 -- within a row the search stays at the next column
@@ -104,8 +170,8 @@ looked_within now replica q fate p word view l within =
     answer_at word (standing replica fate p) now (standing q fate next) view
     (is_answer word (standing replica fate p) (steps.Look p.row p.column) q fate
     (from_column q.roster (columns_of q.roster q.window) p (p.column + 1)) next
-    (look_taken replica q fate p word l)
-    (stays (standing q fate next) (look_applies (standing q fate next) next l.due.at cell)
+    (look_taken replica q fate fate p word l (told_within replica q fate p word l within))
+    (stays (standing q fate next) (look_applies (standing q fate next) next l.due.at may)
     ∙ ap (λ (x : Place). settled (standing q fate x)) (sym here)))
   where
     next : Place
@@ -123,25 +189,32 @@ looked_within now replica q fate p word view l within =
         (omega (arith, ap (λ (x : Replica). x.roster) l.after, l.due.cell.row))
         (ap (λ (x : Replica). is_other x p.row) l.after ∙ l.due.cell.other) within
 
+    may : allows q (steps.Look p.row (p.column + 1)) ≡ true
+    may = subst (λ (x : Replica). allows x (steps.Look p.row (p.column + 1)) ≡ true) (sym l.after)
+        (together _ _ (and_parts _ (has_cell replica p.row p.column) l.due.may).0
+        (subst (λ (x : Replica). has_cell x p.row (p.column + 1) ≡ true) l.after cell))
+
 -- behind the last column it goes on with the next row
-pub look_left : (replica q : Replica) (fate : Fate) (p : Place) (word : ℕ)
-    → IsLooked replica q fate p word → columns_of q.roster q.window ≤ p.column + 1
-    → IsUnderway (standing q fate (next_row q.roster p))
-look_left replica q fate p word l past =
-    subst (λ (x : Place). IsUnderway (standing q fate x))
-    (row_left q p parts.Look (p.column + 1) l.due.at refl past)
-    (is_done word _ _ _ _ _ (look_taken replica q fate p word l)).underway
+pub look_left : (replica q : Replica) (fate : Fate) (p : Place) (word : ℕ) (w : Waits)
+    → IsLooked replica q fate p word → IsWaited q fate p w
+    → IsUnderway (standing q (waited fate w) (next_row q.roster p))
+look_left replica q fate p word w l is =
+    subst (λ (x : Place). IsUnderway (standing q (waited fate w) x))
+    (row_left q p parts.Look (p.column + 1) l.due.at refl is.past)
+    (is_done word _ _ _ _ _
+    (look_taken replica q fate (waited fate w) p word l (told_past replica q fate p word w l is))).underway
 
 pub looked_past : (now : Running) (replica q : Replica) (fate : Fate) (p s : Place) (word : ℕ)
-    → standing replica fate p ≡ now → IsLooked replica q fate p word
-    → columns_of q.roster q.window ≤ p.column + 1
-    → standing q fate s ≡ settled (standing q fate (next_row q.roster p))
-    → IsAnswer word now (standing q fate s)
-looked_past now replica q fate p s word view l past e =
+    (w : Waits) → standing replica fate p ≡ now → IsLooked replica q fate p word
+    → IsWaited q fate p w
+    → standing q (waited fate w) s ≡ settled (standing q (waited fate w) (next_row q.roster p))
+    → IsAnswer word now (standing q (waited fate w) s)
+looked_past now replica q fate p s word w view l is e =
     answer_at word _ now _ view
-    (is_answer word _ _ _ _ _ s (look_taken replica q fate p word l)
-    (e ∙ ap (λ (x : Place). settled (standing q fate x))
-    (sym (row_left q p parts.Look (p.column + 1) l.due.at refl past))))
+    (is_answer word _ _ _ _ _ s
+    (look_taken replica q fate (waited fate w) p word l (told_past replica q fate p word w l is))
+    (e ∙ ap (λ (x : Place). settled (standing q (waited fate w) x))
+    (sym (row_left q p parts.Look (p.column + 1) l.due.at refl is.past))))
 
 -- ---- pushes
 
@@ -180,7 +253,7 @@ push_taken replica q fate p n t word l = record {
       (ap (λ (x : Replica). x.window) l.after) refl;
   told = record {
     limit = refl;
-    patience = refl;
+    waits = refl;
     crashes = refl;
     suspicions = refl;
     pushes = l.pushes;
@@ -307,7 +380,28 @@ pub looked_timely : (a : Inside) (q : Replica) (i c word : ℕ) → IsInside a �
     → IsTimely a.fate q.turns
 looked_timely a q i c word is e = subst (λ (x : Replica). IsTimely a.fate x.turns) (sym e) is.fate
 
--- of an act
+-- a turn of waiting leaves it timely, too
+waited_timely : (fate : Fate) (w : Waits) (turn : ℕ) → IsTimely fate turn
+    → IsTimely (waited fate w) turn
+waited_timely fate w turn t = record { crash = t.crash; ahead = t.ahead }
+
+pub looked_row_timely : (a : Inside) (q : Replica) (i c word : ℕ) (w : Waits) → IsInside a
+    → q ≡ looked a.replica i c word → IsTimely (waited a.fate w) q.turns
+looked_row_timely a q i c word w is e =
+    waited_timely a.fate w q.turns (looked_timely a q i c word is e)
+
+-- of an act, which is due and so is one that it may do
+pub act_none : (now : Running) (a : Inside) → view_of a ≡ now → is_act (next_deed now) ≡ true
+    → a.replica.end ≡ None
+act_none now a view acts = (deed_due is_act (λ end. refl) (view_of a)
+    (subst (λ (x : Running). is_act (next_deed x) ≡ true) (sym view) acts)).0
+
+pub act_allowed : (now : Running) (a : Inside) (act : Act) → view_of a ≡ now → IsInside a
+    → is_act (next_deed now) ≡ true → next_step (view_of a) ≡ steps.Do act
+    → may a.replica act ≡ true
+act_allowed now a act view is acts due =
+    allowed (view_of a) is.form (act_none now a view acts) (steps.Do act) due
+
 pub act_taken : (word : ℕ) (now : Running) (a : Inside) (q : Replica) (fate : Fate) (from : Place)
     (act : Act) (turn : ℕ) → view_of a ≡ now → IsInside a
     → is_act (next_deed now) ≡ true → next_step (view_of a) ≡ steps.Do act → q
@@ -320,15 +414,14 @@ pub act_taken : (word : ℕ) (now : Running) (a : Inside) (q : Replica) (fate : 
 act_taken word now a q fate from act turn view is acts due after form grown place told = record {
   running = is.form;
   fits = is.limit;
-  none = (deed_due is_act (λ end. refl) (view_of a)
-      (subst (λ (x : Running). is_act (next_deed x) ≡ true) (sym view) acts)).0;
+  none = act_none now a view acts;
   due = due;
   replica = after;
   form = form;
   grown = grown;
   place = place;
-  told = subst (IsFateAfter (view_of a) (steps.Do act)) (sym told)
-      (fate_of_act a.replica a.fate a.place act turn);
+  told = subst (IsFateAfter word (view_of a) (steps.Do act)) (sym told)
+      (fate_of_act word a.replica a.fate a.place act turn);
 }
 
 -- an act leaves the fate timely
@@ -345,7 +438,7 @@ acted_timely a q fate act turn is after told same =
 pub acted_limit : (a : Inside) (fate : Fate) (act : Act) (turn : ℕ) → fate ≡ fate_after a.fate act turn
     → fate.limit ≡ a.fate.limit
 acted_limit a fate act turn told = ap (λ (x : Fate). x.limit) told
-    ∙ (fate_of_act a.replica a.fate a.place act turn).limit
+    ∙ (fate_of_act 0 a.replica a.fate a.place act turn).limit
 
 -- of an append
 pub append_taken : (word : ℕ) (now : Running) (a : Inside) (q : Replica) (from : Place) → view_of a
@@ -367,7 +460,7 @@ append_taken word now a q from view is append after form grown place =
       form = form;
       grown = grown;
       place = place;
-      told = fate_stays a.replica a.fate a.place steps.Append refl;
+      told = fate_stays word a.replica a.fate a.place steps.Append refl refl;
     }
 
 -- an append leaves the fate timely

@@ -148,3 +148,13 @@ pushes_idle replica fate p c at same =
     ap (λ x. applies_at (standing replica fate p) x p.row c) at
     ∙ neither (is_other replica p.row) (changed replica.rows p.row c)
     (allows replica (step_at (standing replica fate p) parts.Push p.row c)) same
+
+-- a test that fails at a number more, where it fails below it
+pub none_more : (test : ℕ → Bool) (from n : ℕ)
+    → ((x : ℕ) → from ≤ x → x < n → test x ≡ false) → test n ≡ false
+    → (x : ℕ) → from ≤ x → x < n + 1 → test x ≡ false
+none_more test from n below at x above within = by (x == n) refl
+  where
+    by : (b : Bool) → (x == n) ≡ b → test x ≡ false
+    by true e = ap test (grind (arith, nat_tests)) ∙ at
+    by false e = below x above (grind (arith, nat_tests, within))

@@ -1,4 +1,5 @@
 pub mod Search
+pub mod Judge
 pub mod Fate
 pub mod Deeds
 pub mod Bases

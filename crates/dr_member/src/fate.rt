@@ -9,6 +9,7 @@ use dr_entry::{End, Seq};
 use dr_machine::Act;
 use dr_program::{CrashPoint, LogWhy, Suspicion};
 use dr_replica::Replica;
+use dr_suspect::Patience;
 
 /// What the script has in store for a member, how far it has come in this turn, and whether its log has
 /// failed.
@@ -16,8 +17,8 @@ use dr_replica::Replica;
 pub(crate) struct Fate {
     /// The turns after which it ends.
     pub limit: u32,
-    /// The turns without news of another member after which it suspects that one; 0 for never.
-    pub patience: u32,
+    /// How long it has waited for news of the other members, and how long it does before it suspects one.
+    pub waits: Patience,
     /// The points at which it crashes.
     pub crashes: Seq<CrashPoint>,
     /// Whom it suspects, and in which turns.
@@ -34,13 +35,13 @@ impl Fate {
     /// What a script has in store for a member, before its first turn.
     pub(crate) fn begin(
         limit: u32,
-        patience: u32,
+        waits: Patience,
         crashes: Seq<CrashPoint>,
         suspicions: Seq<Suspicion>,
     ) -> Fate
         ensures begun { result ≡ record {
           limit = limit;
-          patience = patience;
+          waits = waits;
           crashes = crashes;
           suspicions = suspicions;
           pushes = 0;
@@ -52,7 +53,7 @@ impl Fate {
         let crash = first_push(crashes.as_slice(), 0);
         Fate {
             limit,
-            patience,
+            waits,
             crashes,
             suspicions,
             pushes: 0,

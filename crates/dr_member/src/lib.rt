@@ -7,6 +7,7 @@
 
 mod bases;
 mod fate;
+mod judge;
 mod laws;
 mod member;
 mod search;

@@ -19,6 +19,7 @@ use dr_entry::{End, Entry, MemberEnd, Record, Seq};
 use dr_machine::Step;
 use dr_program::{Deed, LogWhy, PARTS, Place, Setup};
 use dr_replica::Replica;
+use dr_suspect::Patience;
 use dr_words::BEAT_COLUMN;
 use std::alloc::{AllocError, Global};
 use std::marker::Model;
@@ -26,7 +27,7 @@ use std::marker::Model;
 /// The numbers of the parts of a turn that have the looks and the pushes, and of the part before a turn.
 const LOOKS: u8 = 0;
 
-const PUSHES: u8 = 9;
+const PUSHES: u8 = 10;
 
 const BEAT: u8 = PARTS as u8 - 1;
 
@@ -66,7 +67,8 @@ impl Member {
         ensures begun { IfOk result (λ member. member ≡ begun_running setup) }
         ensures form { IfOk result IsRunningMember }
     {
-        let fate = Fate::begin(setup.turns, setup.patience, setup.crashes, setup.suspicions);
+        let waits = Patience::new(setup.patience);
+        let fate = Fate::begin(setup.turns, waits, setup.crashes, setup.suspicions);
         let rest = Setup {
             crashes: Seq::of(Vec::new(alloc)),
             suspicions: Seq::of(Vec::new(alloc)),
@@ -132,6 +134,7 @@ impl Member {
             self.replica.look(row, column, word);
         } else {
             self.replica.look(row, column, word);
+            self.replica.wait_for(&mut self.fate.waits, row);
             leave_row(&self.replica, &self.fate, &mut self.place);
         }
     }

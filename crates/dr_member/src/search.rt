@@ -11,6 +11,7 @@ ghost use Rattle.dr_member.specs.Fate.{IsTimely};
 ghost use Rattle.dr_member.specs.Search.{IsFirstDue, IsIdleTo, next_row, standing};
 
 use crate::fate::{Fate, end_by};
+use crate::judge::{judged, may_judge};
 use dr_entry::End;
 use dr_machine::{Act, Step};
 use dr_program::{LogWhy, Part, Place, TURN};
@@ -80,13 +81,14 @@ fn applies(replica: &Replica, fate: &Fate, place: Place) -> bool
 {
     let Place { row, column, .. } = place;
     match part_of(place) {
-        Part::Look => replica.is_other(row),
+        Part::Look => replica.is_other(row) && !replica.is_suspected(row),
+        Part::Judge => may_judge(replica, fate),
         Part::Receive => replica.may_receive(row),
         Part::Do(act) => replica.may(act),
         Part::Append => fate.failed.is_some() || replica.may_append(),
         Part::Push => replica.is_other(row) && replica.has_changed(row, column),
         Part::Crash => fate.crashes_in_turn(),
-        Part::Done => replica.all_done(),
+        Part::Done => replica.may(Act::Halt { end: End::Done }),
         Part::Spent => replica.turns() == fate.limit,
     }
 }
@@ -110,6 +112,7 @@ pub(crate) fn step_at(replica: &Replica, fate: &Fate, place: Place) -> Step
     let Place { row, column, .. } = place;
     match part_of(place) {
         Part::Look => Step::Look { row, column },
+        Part::Judge => Step::Do(judged(replica, fate)),
         Part::Receive => Step::Do(Act::Receive { sender: row }),
         Part::Append => append_or_end(fate.failed),
         Part::Push if fate.crashes_now() => Step::Do(Act::Crash { end: End::Crashed }),

@@ -15,7 +15,7 @@ use Rattle.dr_entry.specs.declared.record.Vote.{Vote}
 use Rattle.dr_rows.specs.Words.{own, seen}
 use Rattle.dr_machine.specs.Group.{Group, roster}
 use Rattle.dr_machine.specs.World.{World, opening_world}
-use Rattle.dr_program.specs.Replica.{Replica, me, count, item, suspects, promise, tag, value, committed, pending, votes}
+use Rattle.dr_program.specs.Replica.{Replica, me, count, item, promise, tag, value, committed, pending, votes}
 use Rattle.dr_program.specs.Reading.{world_of, word_of, in_view}
 
 -- all that the world has of one member
@@ -120,7 +120,7 @@ holding_of g r =
       durable = r.durable;
       acts = r.acts;
       members = r.members;
-      suspects = suspects r;
+      suspects = r.suspects;
       promise = promise r;
       tag = tag r;
       value = value r;

@@ -21,11 +21,11 @@ use Rattle.dr_history.specs.Soundness.{Sound, MayStand}
 use Rattle.dr_rows.specs.Words.{begun, own, with_own, word_at}
 use Rattle.dr_rows.proofs.Grids.{with_word-column}
 use Rattle.dr_rows.proofs.WordsLemmas.{IsWords-begun, IsWords-looked, IsFresh-begun}
-use Rattle.dr_words.specs.declared.column.TheConstants.{LOGGED_COLUMN, RECEIVED_COLUMN}
+use Rattle.dr_words.specs.declared.column.TheConstants.{LOGGED_COLUMN, RECEIVED_COLUMN, SUSPECTED_COLUMN}
 use Rattle.dr_words.specs.declared.shape.Shape.{Shape}
 use Rattle.dr_words.specs.Columns.{columns_of, recv_column}
 use Rattle.dr_words.specs.Form.{IsInForm, AllInForm}
-use Rattle.dr_words.specs.Packing.{recv_word}
+use Rattle.dr_words.specs.Packing.{accept_promise, recv_word}
 use Rattle.dr_words.proofs.Bits.{has_ones, has_zero}
 use Rattle.dr_ring.specs.Slots.{slot_column}
 use Rattle.dr_program.specs.declared.setup.Setup.{Setup}
@@ -187,7 +187,14 @@ begun_in_form s can =
       words = first_in_form n k s.me logged (omega (arith, inside));
       some_slot = s.shape.some_slot;
       most_slots = s.shape.most_slots;
+      suspicion = record {
+        number = omega (arith, inside, few);
+        present = can.present;
+        trusted = has_zero s.me;
+        others = λ i there. absurd (grind (arith, has_zero i, there));
+      };
       frozen = λ i. (IsFresh-begun n k s.me).unfrozen i ∙ sym (has_zero i);
+      suspected = word SUSPECTED_COLUMN (omega arith);
       bank = omega (arith, can.banks, inside);
       roster = can.roster;
       present = can.present;
@@ -196,6 +203,7 @@ begun_in_form s can =
       few = most;
       items = length-replicate (greatest r.totals * n) _;
       recv = λ i l. word (recv_column i) (omega arith) ∙ sym (ap (λ x. recv_word x false) (none i));
+      accept = λ c is. ap accept_promise (word c (λ e. absurd (grind (arith, is, e))));
       received = word RECEIVED_COLUMN (omega arith) ∙ sym (front_of_none n (view_of r));
       beat = omega (arith, word 0 (omega arith));
       acts = omega arith;
@@ -262,6 +270,7 @@ begun_runs g limit m shape told is of within some = record {
   place = record { part = omega arith; row = omega arith; column = omega arith };
   due = λ e. refl;
   turns = omega arith;
+  waits = record { counts = length-replicate {A = ℕ} 16 0; beats = length-replicate {A = ℕ} 16 0 };
   left = λ e b. some;
 }
 

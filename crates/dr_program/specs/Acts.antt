@@ -2,7 +2,7 @@
 use Rattle.std.specs.Prelude.{◌&&◌, nat_lt, Bool, true}
 use Rattle.dr_machine.specs.declared.event.Act.{Act}
 use Rattle.dr_machine.specs.declared.event.Act.TheVariants as acts
-use Rattle.dr_program.specs.Replica.{Replica, is_done, is_fault, all_done, may_receive, may_send, may_null, may_deliver, may_publish, may_report, may_mark, acted, beaten, received, sent, nulled, delivered, published, reported, marked, ended}
+use Rattle.dr_program.specs.Replica.{Replica, is_due, is_fault, may_receive, may_send, may_null, may_deliver, may_publish, may_report, may_mark, may_suspect, acted, beaten, received, sent, nulled, delivered, published, reported, marked, suspected, ended}
 
 -- whether it may do the act, where it has no end
 abbrev pub may : Replica → Act → Bool
@@ -14,7 +14,8 @@ may r acts.Deliver = may_deliver r
 may r acts.Publish = may_publish r
 may r acts.Report = may_report r
 may r acts.Mark = may_mark r
-may r (acts.Halt end) = is_done end && all_done r
+may r (acts.Suspect j) = may_suspect r j
+may r (acts.Halt end) = is_due r end
 may r (acts.Crash end) = is_fault end
 
 -- the replica after the act, but for its stamp, and with it
@@ -27,6 +28,7 @@ done r acts.Deliver = delivered r
 done r acts.Publish = published r
 done r acts.Report = reported r
 done r acts.Mark = marked r
+done r (acts.Suspect j) = suspected r j
 done r (acts.Halt end) = ended r end
 done r (acts.Crash end) = ended r end
 

@@ -1,5 +1,5 @@
 -- The form that replicas and running members always have, and what ties them to a group.
-use Rattle.std.specs.Prelude.{◌≡◌, ℕ, ◌+◌, ◌*◌, ◌^◌, ◌<◌, ◌≤◌, true, List, length, map, slice_index, slice_get, None, Some}
+use Rattle.std.specs.Prelude.{◌≡◌, ℕ, ◌+◌, ◌*◌, ◌^◌, ◌<◌, ◌≤◌, ◌&&◌, true, List, length, map, slice_index, slice_get, None, Some}
 use Rattle.dr_entry.specs.declared.limits.TheConstants.{MAX_MESSAGES, MAX_MESSAGE_LENGTH}
 use Rattle.dr_history.specs.Members.{has}
 use Rattle.dr_history.specs.Places.{front_of}
@@ -7,16 +7,19 @@ use Rattle.dr_history.specs.History.{messages_of}
 use Rattle.dr_history.specs.Order.{messages_from}
 use Rattle.dr_ring.specs.Slots.{slot_column}
 use Rattle.dr_rows.specs.Words.{IsWords, own, is_frozen}
-use Rattle.dr_words.specs.declared.column.TheConstants.{BEAT_COLUMN, RECEIVED_COLUMN, LOGGED_COLUMN, PIECES}
+use Rattle.dr_words.specs.declared.column.TheConstants.{BEAT_COLUMN, SUSPECTED_COLUMN, RECEIVED_COLUMN, LOGGED_COLUMN, PIECES}
 use Rattle.dr_words.specs.Columns.{columns_of, recv_column}
 use Rattle.dr_words.specs.Form.{AllInForm}
 use Rattle.dr_words.specs.Masks.{IsInRoster}
-use Rattle.dr_words.specs.Packing.{recv_word, ring_tag}
+use Rattle.dr_words.specs.Packing.{accept_promise, recv_word, ring_tag}
+use Rattle.dr_suspect.specs.Suspicion.{IsSuspicion}
+use Rattle.dr_suspect.specs.Waits.{IsWaits}
+use Rattle.dr_machine.specs.Effects.{is_accept_of}
 use Rattle.dr_program.specs.declared.setup.Setup.{Setup}
 use Rattle.dr_program.specs.Turn.{IsIn, part_of, turn_begins}
 use Rattle.dr_machine.specs.Group.{Group, banks, roster}
 use Rattle.dr_machine.specs.Sending.{IsPut}
-use Rattle.dr_program.specs.Replica.{Replica, me, count, greatest, is_wedged, suspects, view_of}
+use Rattle.dr_program.specs.Replica.{Replica, me, count, greatest, is_wedged, promise, suspicion_of, view_of}
 use Rattle.dr_program.specs.Running.{Running, members, columns, applies}
 
 -- what a replica begins with has its ranges
@@ -46,8 +49,9 @@ pub record HasForm (r : Replica) : Type 0 where
   pub words : AllInForm r.rows.members r.rows.words
   pub some_slot : 1 ≤ r.window
   pub most_slots : r.window ≤ 8
-  -- the rows of those whom it suspects are frozen
-  pub frozen : (i : ℕ) → is_frozen r.rows i ≡ has (suspects r) i
+  -- it suspects other members of its view alone, whose rows are frozen
+  pub suspicion : IsSuspicion (suspicion_of r)
+  pub frozen : (i : ℕ) → is_frozen r.rows i ≡ has r.suspects i
   -- its view is of the roster, has a bank, and it is a member of it
   pub bank : r.view < r.banks
   pub roster : IsInRoster r.roster r.members
@@ -58,7 +62,10 @@ pub record HasForm (r : Replica) : Type 0 where
   pub few : greatest r.totals ≤ MAX_MESSAGES
   pub items : length r.items ≡ greatest r.totals * r.roster
   -- its own words follow what it has
-  pub recv : (s : ℕ) → s < r.roster → own r.rows (recv_column s) ≡ recv_word (count r s) (is_wedged r)
+  pub suspected : own r.rows SUSPECTED_COLUMN ≡ r.suspects
+  pub recv : (s : ℕ) → s < r.roster
+      → own r.rows (recv_column s) ≡ recv_word (count r s) (is_wedged r && has r.members s)
+  pub accept : (c : ℕ) → is_accept_of r.roster r.members c ≡ true → accept_promise (own r.rows c) ≡ promise r
   pub received : own r.rows RECEIVED_COLUMN ≡ front_of (map (slice_index r.counts) (view_of r))
   pub beat : own r.rows BEAT_COLUMN ≤ r.acts
   pub acts : r.acts < 2 ^ 64
@@ -97,4 +104,6 @@ pub record IsRunningMember (r : Running) : Type 0 where
   pub due : r.replica.end ≡ None → applies r r.place ≡ true
   -- its turns don't exceed the limit, and before a turn one more is left
   pub turns : r.replica.turns ≤ r.limit
+  -- it keeps a count and a beat for each member of the greatest group
+  pub waits : IsWaits r.waits
   pub left : r.replica.end ≡ None → part_of r.place ≡ turn_begins → r.replica.turns < r.limit

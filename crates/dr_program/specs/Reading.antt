@@ -11,7 +11,7 @@ use Rattle.dr_machine.specs.Group.{Group, banks, roster, columns}
 use Rattle.dr_machine.specs.World.{World, opening_world}
 use Rattle.dr_program.specs.declared.outcome.Outcome.{Outcome}
 use Rattle.dr_program.specs.declared.outcome.Outcome.TheVariants as outcomes
-use Rattle.dr_program.specs.Replica.{Replica, me, count, item, suspects, promise, tag, value, committed, pending, votes}
+use Rattle.dr_program.specs.Replica.{Replica, me, count, item, promise, tag, value, committed, pending, votes}
 use Rattle.dr_program.specs.Running.{Running, next_step}
 use Rattle.dr_program.specs.Program.{Program}
 
@@ -45,7 +45,7 @@ world_of g rs table =
         acts = of_member rs (λ r. r.acts) o.past.acts;
       };
       members = of_member rs (λ r. r.members) o.members;
-      suspects = of_member rs suspects o.suspects;
+      suspects = of_member rs (λ r. r.suspects) o.suspects;
       promise = of_member rs promise o.promise;
       tag = of_member rs tag o.tag;
       value = of_member rs value o.value;

@@ -1,13 +1,13 @@
 -- A replica: what one member has and has seen, and what each of its acts makes of it. Lists go by the
 -- members' numbers.
-use Rattle.std.specs.Prelude.{ℕ, ◌+◌, ◌*◌, ◌-◌, ◌^◌, ◌/◌, ◌%◌, ◌==◌, ◌&&◌, Bool, not, nat_lt, min, max, List, [], ◌∷◌, ◌++◌, length, map, fold, replicate, slice_index, slice_index_or, slice_set, unwrap_or, is_some, Option, None, Some, true, false}
-use Rattle.std.specs.List.{list_all, list_any}
+use Rattle.std.specs.Prelude.{ℕ, ◌+◌, ◌*◌, ◌-◌, ◌^◌, ◌/◌, ◌%◌, ◌==◌, ◌&&◌, Bool, if◌then◌else◌, not, nat_lt, min, max, List, [], ◌∷◌, ◌++◌, length, map, fold, replicate, slice_index, slice_index_or, slice_set, unwrap_or, is_some, Option, None, Some, true, false}
+use Rattle.std.specs.List.{list_all, list_any, range_with_len}
 use Rattle.dr_entry.specs.declared.entry.Entry.{Entry}
 use Rattle.dr_entry.specs.declared.entry.Entry.TheVariants.{View}
 use Rattle.dr_entry.specs.declared.entry.Item.{Item}
 use Rattle.dr_entry.specs.declared.entry.Item.TheVariants.{Null, Text}
 use Rattle.dr_entry.specs.declared.end.End.{End}
-use Rattle.dr_entry.specs.declared.end.End.TheVariants.{Done, Crashed, DiskFault, LogFull, Spent}
+use Rattle.dr_entry.specs.declared.end.End.TheVariants.{Done, Crashed, Suspected, NoMajority, DiskFault, LogFull, Spent}
 use Rattle.dr_entry.specs.declared.end.SentItem.{SentItem}
 use Rattle.dr_entry.specs.declared.end.SentItem.TheVariants as sent_items
 use Rattle.dr_entry.specs.declared.end.SentItem.TheVariants.{Index}
@@ -17,15 +17,17 @@ use Rattle.dr_history.specs.History.{messages_in}
 use Rattle.dr_history.specs.Order.{messages_from}
 use Rattle.dr_ring.specs.Slots.{is_free, item_in, slot_of, with_item}
 use Rattle.dr_rows.specs.Words as rows
-use Rattle.dr_rows.specs.Words.{Words, begun, seen, own}
+use Rattle.dr_rows.specs.Words.{Words, begun, seen, own, with_frozen}
+use Rattle.dr_suspect.specs.Suspicion.{Suspicion, names_me}
 use Rattle.dr_words.specs.declared.column.TheConstants.{BEAT_COLUMN, RECEIVED_COLUMN, LOGGED_COLUMN, DONE_COLUMN}
 use Rattle.dr_words.specs.Columns.{columns_of, recv_column}
+use Rattle.dr_words.specs.Masks.{least_of, with_member, without}
 use Rattle.dr_words.specs.Packing.{recv_word}
 use Rattle.dr_program.specs.declared.setup.Setup.{Setup}
 use Rattle.dr_entry.specs.declared.record.Value.{Value}
 use Rattle.dr_entry.specs.declared.record.Vote.{Vote}
 use Rattle.dr_machine.specs.World.{no_value}
-use Rattle.dr_machine.specs.Effects.{entries_of, one_more}
+use Rattle.dr_machine.specs.Effects.{entries_of, one_more, wedged_word}
 
 pub record Replica : Type 0 where
   -- the numbers of members, of slots and of banks, the script's messages of this member, and the numbers of
@@ -37,9 +39,11 @@ pub record Replica : Type 0 where
   pub totals : List ℕ
   -- its own words, those that it has seen, and those that it has pushed
   pub rows : Words
-  -- the number of its view, and the view's members as a mask
+  -- the number of its view, and as masks the view's members and those of them that it suspects, whose rows
+  -- are frozen
   pub view : ℕ
   pub members : ℕ
+  pub suspects : ℕ
   -- how many items of each member it has in this view; item k of member s stands at k times the roster plus
   -- s, a null where it has none
   pub counts : List ℕ
@@ -80,6 +84,7 @@ begun_replica s =
       rows = rows.with_own (begun n (columns_of n s.shape.window) s.me) LOGGED_COLUMN (length first);
       view = 0;
       members = s.members;
+      suspects = 0;
       counts = replicate n 0;
       items = replicate (greatest s.totals * n) Null;
       base = length (messages_from s.me s.start);
@@ -114,19 +119,27 @@ count r s = slice_index r.counts s
 abbrev pub item : Replica → ℕ → ℕ → Item
 item r s k = slice_index_or r.items (k * r.roster + s) Null
 
--- whom it suspects, its promise, the tag and the value that it has accepted, the value that it has
--- committed, the vote that it has
--- logged and not yet acted on, and the votes on its log: so far nobody suspects, and so nobody votes
-abbrev pub suspects : Replica → ℕ
-suspects r = 0
-
 -- who suspects somebody is wedged: it puts and takes no more items in its view
 abbrev pub is_wedged : Replica → Bool
-is_wedged r = not (suspects r == 0)
+is_wedged r = not (r.suspects == 0)
 
+-- its suspicion, and the members of its view that it doesn't suspect, itself among them
+abbrev pub suspicion_of : Replica → Suspicion
+suspicion_of r = record { me = me r; members = r.members; suspects = r.suspects }
+
+abbrev pub unsuspected : Replica → ℕ
+unsuspected r = without r.members r.suspects
+
+-- these are more than half of its view
+abbrev pub has_majority : Replica → Bool
+has_majority r = nat_lt (length (view_of r)) (2 * length (members_of (unsuspected r)))
+
+-- the member whose proposal it waits for, once it is wedged: the least of these
 abbrev pub promise : Replica → ℕ
-promise r = 0
+promise r = if is_wedged r then least_of (unsuspected r) else 0
 
+-- the tag and the value that it has accepted, the value that it has committed, the vote that it has logged
+-- and not yet acted on, and the votes on its log: so far nobody votes
 abbrev pub tag : Replica → ℕ
 tag r = 0
 
@@ -164,13 +177,17 @@ all_done r = list_all (λ i. seen r.rows i DONE_COLUMN == 1) (view_of r)
 
 -- ---- what it may do
 
+-- who is wedged does nothing of this
+
 -- an item of s is there to be taken, and s has not yet sent as many as anyone has messages
 abbrev pub may_receive : Replica → ℕ → Bool
-may_receive r s = is_other r s && (is_some (ready_item r s) && nat_lt (count r s) (greatest r.totals))
+may_receive r s = not (is_wedged r)
+    && (is_other r s && (is_some (ready_item r s) && nat_lt (count r s) (greatest r.totals)))
 
 -- a message is left, and the slot of its item is free
 abbrev pub may_send : Replica → Bool
-may_send r = nat_lt (next_index r) (length r.messages) && is_free r.window r.rows r.members (count r (me r))
+may_send r = not (is_wedged r) && (nat_lt (next_index r) (length r.messages)
+    && is_free r.window r.rows r.members (count r (me r)))
 
 -- it has more items of some sender than it has put itself
 abbrev pub is_behind : Replica → Bool
@@ -178,14 +195,20 @@ is_behind r = list_any (nat_lt (count r (me r))) r.counts
 
 -- no message is left, it is behind, and the slot of its next item is free
 abbrev pub may_null : Replica → Bool
-may_null r =
-    not (nat_lt (next_index r) (length r.messages))
-    && (is_behind r && is_free r.window r.rows r.members (count r (me r)))
+may_null r = not (is_wedged r) && (not (nat_lt (next_index r) (length r.messages))
+    && (is_behind r && is_free r.window r.rows r.members (count r (me r))))
 
 -- every row of the view shows that the next place was received, and there is room for an entry
 abbrev pub may_deliver : Replica → Bool
-may_deliver r = nat_lt r.next (least_seen r RECEIVED_COLUMN) && nat_lt (length r.history) r.room
+may_deliver r = not (is_wedged r)
+    && (nat_lt r.next (least_seen r RECEIVED_COLUMN) && nat_lt (length r.history) r.room)
 
+-- its history has all messages of each member of its view, durably, and it hasn't said so yet
+abbrev pub may_mark : Replica → Bool
+may_mark r = not (is_wedged r)
+    && ((own r.rows DONE_COLUMN == 0) && (holds_all r && (r.durable == length r.history)))
+
+-- and this it does wedged too
 abbrev pub may_append : Replica → Bool
 may_append r = nat_lt r.logged (length r.history)
 
@@ -195,14 +218,19 @@ may_publish r = nat_lt (own r.rows LOGGED_COLUMN) r.logged
 abbrev pub may_report : Replica → Bool
 may_report r = nat_lt r.durable (least_seen r LOGGED_COLUMN)
 
-abbrev pub may_mark : Replica → Bool
-may_mark r = (own r.rows DONE_COLUMN == 0) && (holds_all r && (r.durable == length r.history))
+-- another member of its view, not yet suspected
+abbrev pub may_suspect : Replica → ℕ → Bool
+may_suspect r j = nat_lt j r.roster && (is_other r j && not (has r.suspects j))
 
--- the end Done, and the ends that come over a member at any time
-abbrev pub is_done : End → Bool
-is_done Done = true
-is_done end = false
+-- the end is due: it is done; an unsuspected row says that its member suspects this one; or it is wedged, and
+-- these unsuspected members are no majority
+abbrev pub is_due : Replica → End → Bool
+is_due r Done = not (is_wedged r) && all_done r
+is_due r (Suspected by) = nat_lt by r.roster && (not (by == me r) && names_me (suspicion_of r) r.rows by)
+is_due r (NoMajority mask) = is_wedged r && ((mask == unsuspected r) && not (has_majority r))
+is_due r end = false
 
+-- the ends that come over a member at any time
 abbrev pub is_fault : End → Bool
 is_fault Crashed = true
 is_fault DiskFault = true
@@ -275,6 +303,21 @@ reported r = record r { durable = least_seen r LOGGED_COLUMN }
 
 abbrev pub marked : Replica → Replica
 marked r = record r { rows = rows.with_own r.rows DONE_COLUMN 1 }
+
+-- words of which each own one is made of the one before, by its column
+abbrev pub rewritten : Words → (ℕ → ℕ → ℕ) → Words
+rewritten w make =
+    record w { words = slice_set w.words w.me (map (λ c. make c (own w c)) (range_with_len 0 w.columns)) }
+
+-- it suspects one member more: that one's row is frozen, its recv words are final, and its accept words have
+-- the promise to the least member that it doesn't suspect
+abbrev pub suspected : Replica → ℕ → Replica
+suspected r j =
+    let mask = with_member r.suspects j in
+    let promise = least_of (without r.members mask) in record r {
+      suspects = mask;
+      rows = with_frozen (rewritten r.rows (wedged_word r.roster r.members mask promise)) j;
+    }
 
 abbrev pub ended : Replica → End → Replica
 ended r end = record r { end = Some end }

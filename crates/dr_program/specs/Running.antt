@@ -1,12 +1,17 @@
 -- A running member: a replica that goes through its turn, place by place, and does at each what there is to
 -- do.
-use Rattle.std.specs.Prelude.{ℕ, zero, suc, ◌-◌, ◌==◌, ◌&&◌, ◌||◌, Bool, true, if◌then◌else◌, List, length, slice_index_or, Option, None, Some, is_some}
-use Rattle.std.specs.List.{list_any}
+use Rattle.std.specs.Prelude.{ℕ, zero, suc, ◌+◌, ◌-◌, ◌==◌, ◌&&◌, ◌||◌, Bool, not, true, if◌then◌else◌, List, length, slice_index_or, Option, None, Some, is_some, unwrap_or}
+use Rattle.std.specs.List.{find, list_any}
+use Rattle.std.specs.Option.{option_map, option_or}
 use Rattle.dr_entry.specs.declared.entry.Entry.TheVariants.{View}
 use Rattle.dr_entry.specs.declared.record.Record.TheVariants as records
 use Rattle.dr_entry.specs.declared.end.End.{End}
 use Rattle.dr_entry.specs.declared.end.End.TheVariants as ends
-use Rattle.dr_rows.specs.Words.{own, changed}
+use Rattle.dr_rows.specs.Words.{own, changed, looked}
+use Rattle.dr_suspect.specs.Answers.{least_where}
+use Rattle.dr_suspect.specs.Suspicion.{names_me, spread_of}
+use Rattle.dr_suspect.specs.Waits.{Waits, begun, is_overdue, turned}
+use Rattle.dr_words.specs.Masks.{mask_of}
 use Rattle.dr_words.specs.Columns.{columns_of}
 use Rattle.dr_program.specs.declared.outcome.LogWhy.{LogWhy}
 use Rattle.dr_program.specs.declared.outcome.LogWhy.TheVariants as whys
@@ -17,6 +22,7 @@ use Rattle.dr_program.specs.declared.place.Place.{Place}
 use Rattle.dr_program.specs.declared.place.Part.{Part}
 use Rattle.dr_program.specs.declared.place.Part.TheVariants as parts
 use Rattle.dr_program.specs.declared.place.TheConstants.{TURN}
+use Rattle.dr_machine.specs.declared.event.Act.{Act}
 use Rattle.dr_machine.specs.declared.event.Act.TheVariants as acts
 use Rattle.dr_machine.specs.declared.step.Step.{Step}
 use Rattle.dr_machine.specs.declared.step.Step.TheVariants as steps
@@ -25,17 +31,17 @@ use Rattle.dr_program.specs.Steps.{allows, stepped, index_in}
 use Rattle.dr_program.specs.declared.deed.Deed.{Deed}
 use Rattle.dr_program.specs.declared.deed.Deed.TheVariants as deeds
 use Rattle.dr_machine.specs.Effects.{one_more}
-use Rattle.dr_program.specs.Replica.{Replica, begun_replica, me, is_other}
+use Rattle.dr_program.specs.Replica.{Replica, begun_replica, me, is_other, has_majority, is_wedged, may_suspect, suspicion_of, unsuspected}
 
 pub record Running : Type 0 where
   -- the replica
   pub replica : Replica
   -- where it stands in its turn
   pub place : Place
-  -- after how many turns it ends, and after how many without news of a member it suspects that one, where
-  -- this isn't 0
+  -- after how many turns it ends
   pub limit : ℕ
-  pub patience : ℕ
+  -- how long it has waited for news of others, and for how long it does
+  pub waits : Waits
   -- where it crashes, and whom it suspects in which turn, by its script
   pub crashes : List CrashPoint
   pub suspicions : List Suspicion
@@ -50,7 +56,7 @@ begun_running s = record {
   replica = begun_replica s;
   place = record { part = length TURN - 1; row = 0; column = 0 };
   limit = s.turns;
-  patience = s.patience;
+  waits = begun s.patience;
   crashes = s.crashes;
   suspicions = s.suspicions;
   pushes = 0;
@@ -85,9 +91,46 @@ abbrev pub append_or_end : Option LogWhy → Step
 append_or_end None = steps.Append
 append_or_end (Some why) = steps.Do (acts.Crash (end_by why))
 
+-- the member that the script has it suspect next in this turn, if any: the first in the script's order that
+-- it may suspect
+abbrev pub is_scripted : Replica → Suspicion → Bool
+is_scripted r s = (s.turn == r.turns) && may_suspect r s.other
+
+abbrev pub scripted : Running → Option ℕ
+scripted r = option_map (λ (s : Suspicion). s.other) (find (is_scripted r.replica) r.suspicions)
+
+-- the least unsuspected row that says that its member suspects this one, if any does
+abbrev pub named_by : Replica → Option ℕ
+named_by r = least_where (names_me (suspicion_of r) r.rows)
+
+-- the member that the rows have it suspect next, if any, and the least one that it has waited for too long
+abbrev pub told : Replica → Option ℕ
+told r = spread_of (suspicion_of r) r.rows
+
+abbrev pub overdue : Running → Option ℕ
+overdue r = least_where (is_overdue r.waits r.replica.rows (unsuspected r.replica))
+
+-- the end of a wedged member that is left with no majority
+abbrev pub minority : Replica → Option Act
+minority r =
+    if is_wedged r && not (has_majority r) then Some (acts.Halt (ends.NoMajority (unsuspected r))) else None
+
+-- what the member judges, once it has looked at the others: the first of these that comes up
+abbrev pub judgement : Running → Option Act
+judgement r =
+    option_or (option_map (λ by. acts.Halt (ends.Suspected by)) (named_by r.replica))
+    (option_or (option_map acts.Suspect (scripted r))
+    (option_or (option_map acts.Suspect (told r.replica))
+    (option_or (option_map acts.Suspect (overdue r)) (minority r.replica))))
+
+-- that act, and where nothing comes up the suspicion of itself, which it may not have
+abbrev pub judged : Running → Act
+judged r = unwrap_or (judgement r) (acts.Suspect (me r.replica))
+
 -- the step that is due at a part of the turn, in a row and a column of it
 abbrev pub step_at : Running → Part → ℕ → ℕ → Step
 step_at r parts.Look i c = steps.Look i c
+step_at r parts.Judge i c = steps.Do (judged r)
 step_at r parts.Receive i c = steps.Do (acts.Receive i)
 step_at r parts.Append i c = append_or_end r.failed
 step_at r parts.Push i c = push_or_crash (crashes_now r) i c
@@ -147,12 +190,21 @@ pushes_after pushes (steps.Push j c) = one_more 32 pushes
 pushes_after pushes (steps.Do acts.Beat) = 0
 pushes_after pushes s = pushes
 
+-- how long it has waited after a step: with the last word of a row, its beat is compared with that of the
+-- turn before
+abbrev pub waits_after : ℕ → Running → Step → Waits
+waits_after word r (steps.Look i c) =
+    if c + 1 == columns r then turned r.waits (looked r.replica.rows i c word) (mask_of (λ k. k == i))
+    else r.waits
+waits_after word r s = r.waits
+
 -- the member after a step, with the word that it saw, before and after the search
 abbrev pub took : ℕ → Running → Step → Running
 took word r s = record r {
   replica = stepped word r.replica s;
   place = goes (members r) (columns r) (part_of r.place) r.place;
   pushes = pushes_after r.pushes s;
+  waits = waits_after word r s;
 }
 
 abbrev pub next_step : Running → Step

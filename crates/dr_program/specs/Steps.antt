@@ -1,5 +1,6 @@
 -- What a step makes of a replica and of the table, and when it may.
 use Rattle.std.specs.Prelude.{ℕ, ◌&&◌, not, nat_lt, Bool, is_some, List, slice_index, slice_set}
+use Rattle.dr_history.specs.Members.{has}
 use Rattle.dr_rows.specs.Words.{own}
 use Rattle.dr_words.specs.declared.column.TheConstants.{BEAT_COLUMN}
 use Rattle.dr_words.specs.Columns.{columns_of}
@@ -18,7 +19,7 @@ has_cell r i c = nat_lt i r.roster && (is_other r i && nat_lt c (columns_of r.ro
 -- the test of a step at a replica without an end, and at any
 abbrev pub allows : Replica → Step → Bool
 allows r (Do a) = may r a
-allows r (Look i c) = has_cell r i c
+allows r (Look i c) = not (has r.suspects i) && has_cell r i c
 allows r (Push j c) = has_cell r j c
 allows r Append = may_append r
 

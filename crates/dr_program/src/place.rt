@@ -5,6 +5,8 @@ use dr_machine::Act;
 pub enum Part {
     /// The looks at the words of the other members.
     Look,
+    /// What the looks have shown is judged: whom the member suspects, and whether it ends by suspicions.
+    Judge,
     /// The next items of the senders are taken.
     Receive,
     /// An act of the member's own.
@@ -22,11 +24,12 @@ pub enum Part {
 }
 
 /// The number of parts of a turn.
-pub const PARTS: usize = 14;
+pub const PARTS: usize = 15;
 
 /// The parts of a turn, in their order. With the last one the next turn begins.
 pub static TURN: [Part; PARTS] = [
     Part::Look,
+    Part::Judge,
     Part::Receive,
     Part::Do(Act::Send),
     Part::Do(Act::Null),

@@ -2,11 +2,13 @@
 -- that none is asked for behind the turn. A further act adds its lines here.
 use Rattle.std.proofs.Common.{◌≡◌, refl, sym, ◌∙◌, inl, inr, ℕ, ◌<◌, ◌==◌, Bool, true, false, length, ap, ◌+◌, ◌-◌, ◌&&◌, ◌||◌, arith, ◌⊎◌, not}
 use Rattle.std.specs.Prelude.{Option, None, Some, is_some, option_map, slice_index_or}
+use Rattle.dr_entry.specs.declared.end.End.{End}
+use Rattle.dr_entry.specs.declared.end.End.TheVariants as ends
 use Rattle.dr_history.specs.Members.{has}
 use Rattle.dr_machine.specs.Acts.{does, effect_of, CanTake}
 use Rattle.dr_machine.specs.Effects.{one_more, stamped, with_own}
 use Rattle.dr_machine.specs.Group.{Group, columns, roster}
-use Rattle.dr_machine.specs.Guards.{HasRoom, IsUnwedged, MayChoose, IsBehind}
+use Rattle.dr_machine.specs.Guards.{HasRoom, IsUnwedged, IsDue, MayChoose, IsBehind}
 use Rattle.dr_machine.specs.World.{World, count_of, own_word}
 use Rattle.dr_machine.specs.declared.event.Act.{Act}
 use Rattle.dr_machine.specs.declared.event.Act.TheVariants as acts
@@ -20,8 +22,8 @@ use Rattle.dr_program.specs.declared.place.Place.{Place}
 use Rattle.dr_program.specs.declared.place.TheConstants.{TURN}
 use Rattle.dr_program_laws.specs.Rested.{IsRested}
 use Rattle.dr_program_laws.specs.Swept.{IsIdle, Swept}
-use Rattle.dr_program_laws.specs.Wants.{Wants, ShowsMore, is_work, IsToTake, IsLeft, NoneIsLeft, IsToPublish, IsToMark}
-use Rattle.dr_turn.proofs.Deeds.{is_publish}
+use Rattle.dr_program_laws.specs.Wants.{Wants, ShowsMore, is_work, IsToTake, IsLeft, NoneIsLeft, IsToEnd, IsToPublish, IsToMark}
+use Rattle.dr_turn.proofs.Deeds.{is_publish, is_verdict}
 use Rattle.dr_turn.proofs.Order.{all_below, each_below}
 use Rattle.dr_words.proofs.Bits.{has_zero}
 use Rattle.dr_words.specs.declared.column.TheConstants.{BEAT_COLUMN, DONE_COLUMN, LOGGED_COLUMN, RECEIVED_COLUMN}
@@ -30,6 +32,24 @@ use Rattle.dr_program.specs.Acts.{taken}
 use Rattle.dr_program_laws.proofs.Leaving.{Stays, apart_by, differs, done_own, end_kept, gained_other, nulled_left, own_other, publish_own, published_own, row_other, shows_own, still_room, to_take}
 
 -- ---- what a step asks is its guard, but for what every choice asks
+
+-- whoever suspects nobody doesn't suspect this member
+trusted : (w : World) (m i : ℕ) → IsUnwedged w m → has (w.suspects m) i ≡ false
+trusted w m i calm = ap (λ x. has x i) calm ∙ has_zero i
+
+-- an end that is asked for is due there
+is_due : (w : World) (m : ℕ) (end : End) → IsUnwedged w m → IsToEnd w m end → IsDue w m end
+is_due w m ends.Done calm wants = record { unwedged = calm; all = wants }
+is_due w m (ends.Suspected by) calm wants =
+    record { row = wants.0; unsuspected = trusted w m by calm; named = wants.1 }
+is_due w m end calm wants = absurd wants
+
+-- and the other way round
+is_to_end : (w : World) (m : ℕ) (end : End) → IsUnwedged w m → IsDue w m end → IsToEnd w m end
+is_to_end w m ends.Done calm due = due.all
+is_to_end w m (ends.Suspected by) calm due = (due.row, due.named)
+is_to_end w m (ends.NoMajority mask) calm due = absurd (due.wedged calm)
+is_to_end w m end calm due = absurd due
 
 -- a step that is asked for may come, where its member may choose and suspects nobody
 pub asked : (g : Group) (w : World) (m : ℕ) (s : Step) → MayChoose g w m → IsUnwedged w m
@@ -47,34 +67,37 @@ asked g w m (steps.Do acts.Publish) may calm wants = record { may = may; behind 
 asked g w m (steps.Do acts.Report) may calm wants = record { may = may; logged = wants }
 asked g w m (steps.Do acts.Mark) may calm wants =
     record { may = may; unwedged = calm; unmarked = wants.0; whole = wants.1; durable = wants.2 }
-asked g w m (steps.Do (acts.Halt end)) may calm wants =
-    record { may = may; done = wants.0; unwedged = calm; all = wants.1 }
+asked g w m (steps.Do (acts.Suspect j)) may calm wants =
+    record { may = may; other = wants; unsuspected = trusted w m j calm }
+asked g w m (steps.Do (acts.Halt end)) may calm wants = record { may = may; due = is_due w m end calm wants }
 asked g w m (steps.Do (acts.Crash end)) may calm wants = record { alive = may.alive; fault = wants }
 asked g w m (steps.Look i c) may calm wants = record {
   may = may;
   row = wants.0;
-  unsuspected = ap (λ x. has x i) calm ∙ has_zero i;
+  unsuspected = trusted w m i calm;
   column = wants.1;
 }
 asked g w m (steps.Push j c) may calm wants =
     record { may = may; copy = wants.0; column = wants.1 }
 asked g w m steps.Append may calm wants = record { may = may; behind = wants }
 
--- a step that may come is asked for
-pub asks : (g : Group) (w : World) (m : ℕ) (s : Step) → CanTake g w m s → Wants g w m s
-asks g w m (steps.Do acts.Beat) can = tt
-asks g w m (steps.Do (acts.Receive s)) can = (can.sender, can.ready)
-asks g w m (steps.Do acts.Send) can = (can.left, can.room)
-asks g w m (steps.Do acts.Null) can = (can.none_left, can.room, can.behind)
-asks g w m (steps.Do acts.Deliver) can = can.received
-asks g w m (steps.Do acts.Publish) can = can.behind
-asks g w m (steps.Do acts.Report) can = can.logged
-asks g w m (steps.Do acts.Mark) can = (can.unmarked, can.whole, can.durable)
-asks g w m (steps.Do (acts.Halt end)) can = (can.done, can.all)
-asks g w m (steps.Do (acts.Crash end)) can = can.fault
-asks g w m (steps.Look i c) can = (can.row, can.column)
-asks g w m (steps.Push j c) can = (can.copy, can.column)
-asks g w m steps.Append can = can.behind
+-- a step that may come is asked for: an end, where its member suspects nobody
+pub asks : (g : Group) (w : World) (m : ℕ) (s : Step) → (is_work s ≡ false → IsUnwedged w m)
+    → CanTake g w m s → Wants g w m s
+asks g w m (steps.Do acts.Beat) calm can = tt
+asks g w m (steps.Do (acts.Receive s)) calm can = (can.sender, can.ready)
+asks g w m (steps.Do acts.Send) calm can = (can.left, can.room)
+asks g w m (steps.Do acts.Null) calm can = (can.none_left, can.room, can.behind)
+asks g w m (steps.Do acts.Deliver) calm can = can.received
+asks g w m (steps.Do acts.Publish) calm can = can.behind
+asks g w m (steps.Do acts.Report) calm can = can.logged
+asks g w m (steps.Do acts.Mark) calm can = (can.unmarked, can.whole, can.durable)
+asks g w m (steps.Do (acts.Suspect j)) calm can = can.other
+asks g w m (steps.Do (acts.Halt end)) calm can = is_to_end w m end (calm refl) can.due
+asks g w m (steps.Do (acts.Crash end)) calm can = can.fault
+asks g w m (steps.Look i c) calm can = (can.row, can.column)
+asks g w m (steps.Push j c) calm can = (can.copy, can.column)
+asks g w m steps.Append calm can = can.behind
 
 -- ---- what a step leaves
 
@@ -141,6 +164,7 @@ own_kept g w m c x (parts.Do acts.Mark) i k =
 own_kept g w m c x parts.Done i k =
     option_map (λ apart old all. old (done_own w m c x apart all)) (differs c DONE_COLUMN)
 own_kept g w m c x parts.Push i k = None
+own_kept g w m c x (parts.Do (acts.Suspect j)) i k = None
 own_kept g w m c x (parts.Do (acts.Halt end)) i k = None
 own_kept g w m c x part i k = Some (λ old. old)
 
@@ -155,6 +179,8 @@ stamp_kept g w m parts.Look i c =
     Some (λ old other. old other
     ∙ sym (row_other w.table (w.past.view m) m m BEAT_COLUMN (one_more 64 (w.past.acts m)) m i c other))
 stamp_kept g w m parts.Push i c = None
+stamp_kept g w m (parts.Do (acts.Suspect j)) i c = None
+stamp_kept g w m (parts.Do (acts.Halt end)) i c = None
 stamp_kept g w m (parts.Do acts.Mark) i c =
     own_kept g w m BEAT_COLUMN (one_more 64 (w.past.acts m)) (parts.Do acts.Mark) i c
 stamp_kept g w m (parts.Do a) i c =
@@ -168,6 +194,8 @@ does_kept g w m a parts.Receive i c = None
 does_kept g w m a (parts.Do (acts.Receive s)) i c = None
 does_kept g w m a (parts.Do acts.Send) i c = None
 does_kept g w m a (parts.Do acts.Null) i c = None
+does_kept g w m a (parts.Do (acts.Suspect j)) i c = None
+does_kept g w m a (parts.Do (acts.Halt end)) i c = None
 does_kept g w m (acts.Receive s) parts.Look i c = Some (λ old. old)
 does_kept g w m (acts.Receive s) part i c = None
 does_kept g w m acts.Send parts.Look i c = Some (λ old. old)
@@ -183,6 +211,7 @@ does_kept g w m acts.Report (parts.Do acts.Report) i c = None
 does_kept g w m acts.Report (parts.Do acts.Mark) i c = None
 does_kept g w m acts.Report part i c = Some (λ old. old)
 does_kept g w m acts.Mark part i c = own_kept g w m DONE_COLUMN 1 part i c
+does_kept g w m (acts.Suspect j) part i c = None
 does_kept g w m (acts.Halt end) parts.Push i c = None
 does_kept g w m (acts.Halt end) (parts.Do acts.Mark) i c = Some (λ old. old)
 does_kept g w m (acts.Halt end) part i c = Some (λ old. old)
@@ -198,8 +227,11 @@ both f h = None
 -- what a step leaves
 kept : (g : Group) (w : World) (m : ℕ) (s : Step) (part : Part) (i c : ℕ)
     → Option (Stays g w (effect_of g w m s) m part i c)
+kept g w m s parts.Judge i c = Some (λ old. tt)
 kept g w m s parts.Receive i c = receive_kept g w m s i c
 kept g w m s (parts.Do (acts.Receive j)) i c = None
+kept g w m s (parts.Do (acts.Suspect j)) i c = None
+kept g w m s (parts.Do (acts.Halt end)) i c = None
 kept g w m s (parts.Do acts.Send) i c = send_kept g w m s i c
 kept g w m s (parts.Do acts.Null) i c = null_kept g w m s i c
 kept g w m (steps.Do (acts.Halt end)) parts.Push i c = Some (end_kept g w m end i c)
@@ -227,29 +259,38 @@ uncrashed r part i c = step_at r part i c
 abbrev pub numbered : ℕ → Part
 numbered a = slice_index_or TURN a turn_begins
 
--- the deed of part a leaves part b, or goes back to it
+-- the part is that at which members judge
+abbrev pub is_judge : Part → Bool
+is_judge parts.Judge = true
+is_judge part = false
+
+-- the deed of part a leaves part b, or goes back to it, or is judged
 abbrev leaves : Group → World → ℕ → Running → Place → Place → ℕ → ℕ → Bool
 leaves g w m r p q a b =
-    (is_publish (numbered a) && (b + 1 == a))
+    (is_judge (numbered a) || (is_publish (numbered a) && (b + 1 == a)))
     || is_some (kept g w m (uncrashed r (numbered a) p.row p.column) (numbered b) q.row q.column)
 
--- each deed of a turn leaves what is known of the parts before it
+-- each deed of a turn that isn't judged leaves what is known of the parts before it
 all_leave : (g : Group) (w : World) (m : ℕ) (r : Running) (p q : Place)
     → all_below (length TURN - 1) (λ a. all_below a (leaves g w m r p q a)) ≡ true
 unfolding all_below kept receive_kept send_kept null_kept does_kept stamp_kept own_kept both differs apart_by
 all_leave g w m r p q = refl
 
-given : {A : Type 0} (t : Bool) (o : Option A) → t ≡ false → (t || is_some o) ≡ true → A
-given true o other e = absurd (cc)
-given false (Some x) other e = x
-given false None other e = absurd (cc)
+given : {A : Type 0} (j t : Bool) (o : Option A) → j ≡ false → t ≡ false
+    → ((j || t) || is_some o) ≡ true → A
+given true t o plain other e = absurd (cc)
+given false true o plain other e = absurd (cc)
+given false false (Some x) plain other e = x
+given false false None plain other e = absurd (cc)
 
--- what is known of a place stays known after the deed of a later part, but where that goes back to it
+-- what is known of a place stays known after the deed of a later part that isn't judged, but where that goes
+-- back to it
 pub earlier_kept : (g : Group) (w : World) (m : ℕ) (r : Running) (p q : Place) → p.part + 1 < length TURN
-    → q.part < p.part → (is_publish (part_of p) && (q.part + 1 == p.part)) ≡ false
+    → q.part < p.part → is_judge (part_of p) ≡ false
+    → (is_publish (part_of p) && (q.part + 1 == p.part)) ≡ false
     → Stays g w (effect_of g w m (uncrashed r (part_of p) p.row p.column)) m (part_of q) q.row q.column
-earlier_kept g w m r p q inside before forth =
-    given _ (kept g w m (uncrashed r (part_of p) p.row p.column) (part_of q) q.row q.column) forth
+earlier_kept g w m r p q inside before plain forth =
+    given _ _ (kept g w m (uncrashed r (part_of p) p.row p.column) (part_of q) q.row q.column) plain forth
     (each_below p.part q.part (leaves g w m r p q p.part)
     (each_below (length TURN - 1) p.part (λ a. all_below a (leaves g w m r p q a)) (all_leave g w m r p q)
     (omega (arith, inside)))
@@ -284,9 +325,9 @@ idle_work g w m p behind s work = by s work
 
     by : (s : Step) → is_work s ≡ true → Wants g w m s → ⊥
     by (steps.Do (acts.Receive i)) work = λ wants.
-        idle_part g w m p 1 i 0 behind (omega arith) (behind.view i wants.0.member) (omega arith) wants
-    by (steps.Do acts.Send) work = one 2 (omega arith) refl refl
-    by (steps.Do acts.Null) work = one 3 (omega arith) refl refl
+        idle_part g w m p 2 i 0 behind (omega arith) (behind.view i wants.0.member) (omega arith) wants
+    by (steps.Do acts.Send) work = one 3 (omega arith) refl refl
+    by (steps.Do acts.Null) work = one 4 (omega arith) refl refl
     by (steps.Do acts.Deliver) work = one (length TURN - 10) (omega arith) refl refl
     by steps.Append work = λ wants. one (length TURN - 8) (omega arith) refl refl
         (one (length TURN - 9) (omega arith) refl refl wants)
@@ -323,6 +364,10 @@ nothing_left rested = record {
 
 -- ---- what is special of an act
 
+negated : (b : Bool) → not b ≡ true → b ≡ false
+negated true e = absurd (cc)
+negated false e = refl
+
 -- the part is an end that comes by itself; no part of a turn is
 abbrev pub is_end : Part → Bool
 is_end (parts.Do (acts.Halt end)) = true
@@ -332,10 +377,21 @@ is_end part = false
 pub no_end : (i : ℕ) → i < length TURN → is_end (numbered i) ≡ false
 unfolding all_below
 no_end i within = negated _ (each_below (length TURN) i (λ j. not (is_end (numbered j))) refl within)
-  where
-    negated : (b : Bool) → not b ≡ true → b ≡ false
-    negated true e = absurd (cc)
-    negated false e = refl
+
+-- the part is an act that members judge; no part of a turn names one
+abbrev pub has_verdict : Part → Bool
+has_verdict (parts.Do a) = is_verdict a
+has_verdict part = false
+
+pub no_verdict : (i : ℕ) → i < length TURN → has_verdict (numbered i) ≡ false
+unfolding all_below
+no_verdict i within =
+    negated _ (each_below (length TURN) i (λ j. not (has_verdict (numbered j))) refl within)
+
+-- what a member judges is no beat
+pub verdict_no_beat : (a : Act) → is_verdict a ≡ true → is_beat (parts.Do a) ≡ false
+verdict_no_beat acts.Beat verdict = absurd (cc)
+verdict_no_beat a verdict = refl
 
 -- only a beat counts a turn, and only an end ends the member
 pub turns_stay : (g : Group) (w : World) (m : ℕ) (a : Act) → is_beat (parts.Do a) ≡ false

@@ -5,7 +5,11 @@ use Rattle.std.specs.List.{list_any}
 use Rattle.std.proofs.lemmas.Bool.{and_parts}
 use Rattle.std.proofs.lemmas.Bool.Decides.{nat_tests}
 use Rattle.std.proofs.lemmas.List.Folds.{Any-from_list_any}
+use Rattle.dr_entry.specs.declared.end.End.TheVariants as ends
 use Rattle.dr_machine.specs.declared.event.Act.{Act}
+use Rattle.dr_machine.specs.declared.event.Act.TheVariants as acts
+use Rattle.dr_machine.specs.declared.step.Step.{Step}
+use Rattle.dr_machine.specs.declared.step.Step.TheVariants as steps
 use Rattle.dr_program.specs.declared.outcome.Outcome.{Outcome}
 use Rattle.dr_program.specs.declared.outcome.LogWhy.{LogWhy}
 use Rattle.dr_program.specs.declared.outcome.LogWhy.TheVariants as whys
@@ -16,12 +20,12 @@ use Rattle.dr_program.specs.declared.place.Part.TheVariants as parts
 use Rattle.dr_program.specs.declared.place.TheConstants.{TURN}
 use Rattle.dr_program.specs.Form.{IsRunningMember}
 use Rattle.dr_program.specs.Program.{after_deed, next_sight}
-use Rattle.dr_program.specs.Running.{Running, append_or_end, asks, begun_running, columns, crashes_now, end_by, is_at_push, is_in_turn, members, next_step, push_or_crash, pushes_after, step_at, goes}
+use Rattle.dr_program.specs.Running.{Running, append_or_end, asks, begun_running, columns, crashes_now, end_by, is_at_push, is_in_turn, judged, members, next_step, push_or_crash, pushes_after, step_at, goes, waits_after}
 use Rattle.dr_program.specs.Steps.{allows, stepped}
 use Rattle.dr_program.specs.Turn.{after, is_beat, part_of, turn_begins}
 use Rattle.dr_program.proofs.Runs.{after_either}
 use Rattle.dr_turn.specs.Search.{IsUnderway}
-use Rattle.dr_turn.proofs.Deeds.{first_part, is_publish}
+use Rattle.dr_turn.proofs.Deeds.{first_part, is_publish, is_verdict, verdict_of}
 use Rattle.dr_program.specs.Acts.{taken}
 use Rattle.dr_turn.proofs.Search.{beat_test}
 use Rattle.dr_turn.proofs.Order.{all_below, each_below}
@@ -85,13 +89,18 @@ onward : (limit : ℕ) (points : List CrashPoint) (r : Running) (part : Part) �
 onward limit points r part d other v late =
     goes_on limit points r v (λ here. absurd (cc (ap is_crash d.at, here, other))) late
 
--- the member after the deed of this part
-abbrev done_at : ℕ → Running → Part → Running
-done_at word r part = record r {
-  replica = stepped word r.replica (step_at r part r.place.row r.place.column);
+-- the member after this step at this part
+abbrev done_by : ℕ → Running → Part → Step → Running
+done_by word r part s = record r {
+  replica = stepped word r.replica s;
   place = goes (members r) (columns r) part r.place;
-  pushes = pushes_after r.pushes (step_at r part r.place.row r.place.column);
+  pushes = pushes_after r.pushes s;
+  waits = waits_after word r s;
 }
+
+-- and after the deed of the part
+abbrev done_at : ℕ → Running → Part → Running
+done_at word r part = done_by word r part (step_at r part r.place.row r.place.column)
 
 -- a push, or the crash in its place, leaves a member standing as it should
 push_keeps : (limit : ℕ) (points : List CrashPoint) (word : ℕ) (r : Running) → IsDue r parts.Push
@@ -99,13 +108,7 @@ push_keeps : (limit : ℕ) (points : List CrashPoint) (word : ℕ) (r : Running)
 push_keeps limit points word r d v = by (crashes_now r) refl
   where
     by : (b : Bool) → crashes_now r ≡ b
-        → Stands limit points (record r {
-          replica = stepped word r.replica
-              (push_or_crash b r.place.row r.place.column);
-          place = after (members r) (columns r) r.place;
-          pushes = pushes_after r.pushes
-              (push_or_crash b r.place.row r.place.column);
-        })
+        → Stands limit points (done_by word r parts.Push (push_or_crash b r.place.row r.place.column))
     by true e = record {
       limited = v.limited;
       planned = v.planned;
@@ -131,12 +134,7 @@ append_keeps limit points word r d v = by r.failed
     ends whys.DiskFault = tt
     ends (whys.LogFull len) = tt
 
-    by : (o : Option LogWhy)
-        → Stands limit points (record r {
-          replica = stepped word r.replica (append_or_end o);
-          place = after (members r) (columns r) r.place;
-          pushes = pushes_after r.pushes (append_or_end o);
-        })
+    by : (o : Option LogWhy) → Stands limit points (done_by word r parts.Append (append_or_end o))
     by None = record {
       limited = v.limited;
       planned = v.planned;
@@ -151,6 +149,18 @@ append_keeps limit points word r d v = by r.failed
       ahead = onward limit points r parts.Append d refl v;
       proper = ends why;
     }
+
+-- a verdict, to suspect another member or to end by suspicion
+verdict_keeps : (limit : ℕ) (points : List CrashPoint) (word : ℕ) (r : Running) (a : Act)
+    → is_verdict a ≡ true → Stands limit points r
+    → Stands limit points (done_by word r parts.Judge (steps.Do a))
+verdict_keeps limit points word r (acts.Suspect j) is v =
+    record { limited = v.limited; planned = v.planned; later = v.later; ahead = v.ahead; proper = v.proper }
+verdict_keeps limit points word r (acts.Halt (ends.Suspected by)) is v =
+    record { limited = v.limited; planned = v.planned; later = v.later; ahead = v.ahead; proper = tt }
+verdict_keeps limit points word r (acts.Halt (ends.NoMajority mask)) is v =
+    record { limited = v.limited; planned = v.planned; later = v.later; ahead = v.ahead; proper = tt }
+verdict_keeps limit points word r a is v = absurd (cc)
 
 -- so does a beat, with which a turn begins
 beat_keeps : (limit : ℕ) (points : List CrashPoint) (word : ℕ) (r : Running)
@@ -169,6 +179,7 @@ beat_keeps limit points word r d v = record {
       replica = d.member.replica;
       place = d.member.place;
       turns = d.member.turns;
+      waits = d.member.waits;
       left = d.member.left;
     }
 
@@ -217,6 +228,8 @@ deed_keeps limit points word r parts.Look d v =
       ahead = onward limit points r parts.Look d refl v;
       proper = v.proper;
     }
+deed_keeps limit points word r parts.Judge d v =
+    verdict_keeps limit points word r (judged r) (verdict_of r) v
 deed_keeps limit points word r parts.Append d v = append_keeps limit points word r d v
 deed_keeps limit points word r parts.Push d v = push_keeps limit points word r d v
 deed_keeps limit points word r (parts.Do a) d v = act_keeps limit points word r a d v

@@ -24,6 +24,8 @@ use Rattle.dr_restart.specs.declared.start.Start.{Start}
 use Rattle.dr_restart.specs.Groups.{group_of}
 use Rattle.dr_restart.specs.Setups.{IsBegun, crashes_of}
 use Rattle.dr_restart.proofs.Setups.{are_setups}
+use Rattle.dr_world_laws.specs.Ends.{IsLeftOut}
+use Rattle.dr_world_laws.proofs.Leavings.{IsLeftSo, left_so}
 use Rattle.dr_world_laws.proofs.Agreeing.{done-durable, done-whole}
 use Rattle.dr_world_laws.proofs.Remaining.{holds-remaining}
 use Rattle.dr_world_laws.proofs.Reached.{Known, known}
@@ -32,6 +34,11 @@ use Rattle.dr_program_laws.proofs.Keeping.{deeds_kept}
 use Rattle.dr_program_laws.proofs.Programs.{AllStand, all_stand}
 use Rattle.dr_program_laws.proofs.Standing.{IsProper, Stands}
 use Rattle.dr_program_laws.proofs.Worlds.{ends_agreed, ends_of, of_there}
+
+-- each member of a program is of the roster
+of_roster : (g : Group) (p : Program) (m : ℕ) (r : Running) → IsProgram g p
+    → slice_get p.members m ≡ Some r → m < roster g
+of_roster g p m r program there = omega (arith, slice_get_within p.members m r there, program.all)
 
 -- ---- a member that is done
 
@@ -70,7 +77,7 @@ done g p points m r is program run there end uncrashed = record {
 }
   where
     within : m < roster g
-    within = omega (arith, slice_get_within p.members m r there, program.all)
+    within = of_roster g p m r program there
 
     y : Known g (world g p)
     y = known g (world g p) is run
@@ -92,29 +99,50 @@ done g p points m r is program run there end uncrashed = record {
           taken_within r.replica.logged r.replica.history,
         )
 
+-- ---- a member that is left out
+
+-- an end by suspicion is as the world has it
+left_so_there : (g : Group) (p : Program) (m : ℕ) (r : Running) → IsGroup g → IsProgram g p
+    → IsReached g (world g p) → slice_get p.members m ≡ Some r
+    → IsLeftSo g.opening m r.replica.end
+left_so_there g p m r is program run there =
+    subst (IsLeftSo g.opening m) (of_there p (λ q. q.end) (opening_world g).end m r there)
+    (left_so g (world g p) is run m (of_roster g p m r program there))
+
 -- ---- a member that has ended
 
 has_ended : (g : Group) (p : Program) (limit : ℕ) (points : List CrashPoint) (m : ℕ) (r : Running)
     → IsGroup g → IsProgram g p → IsReached g (world g p)
     → slice_get p.members m ≡ Some r → IsTrue (is_some r.replica.end) → Stands limit points r
-    → HasEnded g.opening limit points (end_of r)
+    → HasEnded g.opening limit m points (end_of r)
 has_ended g p limit points m r is program run there ended v = by r.replica.end refl ended v.proper
   where
     stopped : (end : End) → r.replica.end ≡ Some end → is_log_end end ≡ true
-        → HasEnded g.opening limit points (end_of r)
-    stopped end e by_log = inr (inr (inr (record {
+        → HasEnded g.opening limit m points (end_of r)
+    stopped end e by_log = inr (inr (inr (inl (record {
       end = ap (λ o. is_log_end (unwrap_or o ends.Done)) e ∙ by_log;
       first = v.later;
-    })))
+    }))))
+
+    left : (end : End) → r.replica.end ≡ Some end
+        → (IsLeftSo g.opening m (Some end) → IsLeftOut g.opening m end)
+        → HasEnded g.opening limit m points (end_of r)
+    left end e out = inr (inr (inr (inr (record {
+      end = subst (λ o. IsLeftOut g.opening m (unwrap_or o ends.Done)) (sym e)
+          (out (subst (IsLeftSo g.opening m) e (left_so_there g p m r is program run there)));
+      first = v.later;
+    }))))
 
     by : (o : Option End) → r.replica.end ≡ o → IsTrue (is_some o)
-        → IsProper limit points r.replica.turns o → HasEnded g.opening limit points (end_of r)
+        → IsProper limit points r.replica.turns o → HasEnded g.opening limit m points (end_of r)
     by None e t so = absurd (cc)
     by (Some ends.Done) e t so = inl (done g p points m r is program run there e so)
     by (Some ends.Crashed) e t so =
         inr (inr (inl (record { end = ap (λ x. unwrap_or x ends.Done) e; named = so; first = v.later })))
     by (Some ends.DiskFault) e t so = stopped ends.DiskFault e refl
     by (Some (ends.LogFull len)) e t so = stopped (ends.LogFull len) e refl
+    by (Some (ends.Suspected other)) e t so = left (ends.Suspected other) e (λ out. out)
+    by (Some (ends.NoMajority mask)) e t so = left (ends.NoMajority mask) e (λ out. out)
     by (Some (ends.Spent n)) e t so = inr (inl (record {
       end = ap (λ x. unwrap_or x ends.Done) e ∙ ap ends.Spent so.0;
       turns = so.1;
@@ -129,7 +157,7 @@ pub have_ended : (g : Group) (turns : ℕ) (setups : List Setup) (points : ℕ �
     → IsRanFrom (begun_program g setups) p → AllEnded p → HaveEnded g.opening turns points (ends_of p)
 have_ended g turns setups points p is some are planned ran ended m e at =
     elim (slice_get_cases p.members m).1 [
-      | inl here ↦ subst (HasEnded g.opening turns (points m))
+      | inl here ↦ subst (HasEnded g.opening turns m (points m))
           (same_Some (end_of here.0) e
           (sym (slice_get-map end_of p.members m ∙ ap (option_map end_of) here.2)
           ∙ at)) (each here.0 here.1 here.2)
@@ -149,7 +177,7 @@ have_ended g turns setups points p is some are planned ran ended m e at =
         (subst (λ ps. Stands s.turns ps r) (planned m s there) v)
 
     each : (r : Running) → m < length p.members → slice_get p.members m ≡ Some r
-        → HasEnded g.opening turns (points m) (end_of r)
+        → HasEnded g.opening turns m (points m) (end_of r)
     each r within there = elim (slice_get_cases setups m).1 [
       | inl here ↦ has_ended g p turns (points m) m r is kept.0 kept.1 there
           (subst (λ (x : Running). IsTrue (is_some x.replica.end))

@@ -3,21 +3,27 @@ use Rattle.std.proofs.Common.{◌≡◌, refl, sym, ap, ◌∙◌, subst, inl, i
 use Rattle.std.specs.Prelude.{Option, None, Some, is_some, option_map, slice_get}
 use Rattle.std.proofs.lemmas.Option.{same_Some, slice_get-map}
 use Rattle.dr_entry.specs.declared.end.End.{End}
+use Rattle.dr_entry.specs.declared.end.End.TheVariants.{NoMajority, Suspected}
+use Rattle.dr_machine.specs.declared.event.Act.{Act}
+use Rattle.dr_machine.specs.declared.event.Act.TheVariants as acts
 use Rattle.dr_machine.specs.declared.step.Step.TheVariants.{Append}
 use Rattle.dr_machine.specs.Group.{Group, IsGroup}
 use Rattle.dr_program.specs.declared.outcome.LogWhy.{LogWhy}
 use Rattle.dr_program.specs.declared.place.Part.{Part}
 use Rattle.dr_program.specs.declared.place.Part.TheVariants as parts
 use Rattle.dr_program.specs.declared.setup.Setup.{Setup}
+use Rattle.dr_program.specs.Acts.{taken}
 use Rattle.dr_program.specs.Form.{IsRunningMember}
 use Rattle.dr_program.specs.Program.{AreSetups, IsRanFrom, Move, Program, after_deed, begun_program, moved_by, next_sight, step_of}
-use Rattle.dr_program.specs.Running.{Running, after_step, append_or_end, begun_running, broken_off, crashes_now, end_by, next_step, push_or_crash, step_at, took}
+use Rattle.dr_program.specs.Replica.{Replica}
+use Rattle.dr_program.specs.Running.{Running, after_step, append_or_end, begun_running, broken_off, crashes_now, end_by, judged, next_step, push_or_crash, step_at, took}
 use Rattle.dr_program.specs.Steps.{stepped}
 use Rattle.dr_program.specs.Turn.{part_of}
 use Rattle.dr_program.proofs.Runs.{after_either}
 use Rattle.dr_refine.specs.Programs.{IsProgram}
 use Rattle.dr_refine.proofs.Deeds.{rest_changes_nothing, step_is}
 use Rattle.dr_refine.proofs.Steps.{begun_is_program}
+use Rattle.dr_turn.proofs.Deeds.{is_verdict, verdict_of}
 use Rattle.dr_turn.proofs.Failing.{append_at}
 use Rattle.dr_turn.proofs.Search.{settle_only}
 use Rattle.dr_program_laws.specs.Failing.{AreFailing, EndsBy, IsFailing, has_log_end}
@@ -27,9 +33,18 @@ use Rattle.dr_program_laws.proofs.Programs.{ran_keeps, replaced_either}
 
 -- ---- one deed
 
+-- a verdict ends no member by its log
+verdict_logs : (r : Replica) (a : Act) → is_verdict a ≡ true → r.end ≡ None
+    → has_log_end (taken r a).end ≡ false
+verdict_logs r (acts.Suspect j) is none = ap has_log_end none
+verdict_logs r (acts.Halt (Suspected by)) is none = refl
+verdict_logs r (acts.Halt (NoMajority mask)) is none = refl
+verdict_logs r a is none = absurd (cc)
+
 -- where no append has failed no part of a turn ends its member by its log
 no_log_end : (word : ℕ) (r : Running) (part : Part) (i c : ℕ) → r.failed ≡ None → r.replica.end ≡ None
     → is_end part ≡ false → has_log_end (stepped word r.replica (step_at r part i c)).end ≡ false
+no_log_end word r parts.Judge i c well none plain = verdict_logs r.replica (judged r) (verdict_of r) none
 no_log_end word r parts.Append i c well none plain =
     ap (λ o. has_log_end (stepped word r.replica (append_or_end o)).end) well ∙ ap has_log_end none
 no_log_end word r parts.Push i c well none plain = by (crashes_now r)

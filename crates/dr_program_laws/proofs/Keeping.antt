@@ -1,9 +1,10 @@
 -- Moves keep a program of its group, in a world that is reached.
-use Rattle.std.proofs.Common.{◌≡◌, refl, sym, subst, ℕ, ◌<◌, ◌≤◌, ◌&&◌, true, nat_lt, List, [], ◌∷◌}
+use Rattle.std.proofs.Common.{◌≡◌, refl, sym, subst, ℕ, ◌<◌, ◌≤◌, ◌&&◌, not, true, nat_lt, List, [], ◌∷◌}
 use Rattle.std.specs.Prelude.{Option, None, Some, slice_get}
 use Rattle.std.proofs.lemmas.Bool.{and_parts, ltb-true}
 use Rattle.std.proofs.lemmas.Option.{same_Some}
 use Rattle.dr_entry.specs.declared.end.End.{End}
+use Rattle.dr_history.specs.Members.{has}
 use Rattle.dr_words.specs.Columns.{columns_of}
 use Rattle.dr_words.specs.Form.{IsInForm}
 use Rattle.dr_machine.specs.declared.step.Step.{Step}
@@ -51,7 +52,8 @@ cell r i c e =
 stepped_form : (word : ℕ) (r : Replica) (s : Step) → HasForm r → allows r s ≡ true
     → ((i c : ℕ) → s ≡ Look i c → IsInForm r.roster c word) → HasForm (stepped word r s)
 stepped_form word r (Do a) form may seen = taken_keeps r a form may
-stepped_form word r (Look i c) form may seen = let at = cell r i c may in
+stepped_form word r (Look i c) form may seen =
+    let at = cell r i c (and_parts (not (has r.suspects i)) (has_cell r i c) may).1 in
     looked_keeps r i c word form at.other at.column (seen i c refl)
 stepped_form word r (Push j c) form may seen = pushed_keeps r j c form (cell r j c may).row
 stepped_form word r Append form may seen = appended_keeps r form may

@@ -6,6 +6,7 @@ pub mod Programs
 pub mod Worlds
 pub mod Ending
 pub mod Schedules
+pub mod Trusting
 pub mod Leaving
 pub mod Acts
 pub mod Failing

@@ -33,19 +33,32 @@ use Rattle.dr_turn.proofs.Search.{applies_at}
 use Rattle.dr_words.specs.Columns.{columns_of}
 use Rattle.dr_program_laws.specs.Steady.{IsSteady}
 use Rattle.dr_program_laws.specs.Swept.{IsBefore, IsIdle, Swept}
+use Rattle.dr_program_laws.specs.Trusting.{AreTrusting}
 use Rattle.dr_program_laws.specs.Wants.{Wants}
 use Rattle.dr_program_laws.proofs.Acts.{asked}
 use Rattle.dr_program_laws.proofs.Before.{before_after}
+use Rattle.dr_program_laws.proofs.Trusting.{IsAmongTrusting, nobody_suspects}
 
--- member m of a steady program, which has not ended
+-- member m of a steady program in which nobody suspects anybody, which has not ended
 pub record IsGoing (g : Group) (p : Program) (m : ℕ) (r : Running) : Type 0 where
   pub steady : IsSteady g p
+  pub trusting : AreTrusting p
   pub there : slice_get p.members m ≡ Some r
   pub unended : r.replica.end ≡ None
 
 member : (g : Group) (p : Program) (m : ℕ) (r : Running) → IsGoing g p m r
     → IsMember g (replicas p.members) p.table m r.replica
 member g p m r is = program_member g p m r is.steady.group is.steady.program is.there
+
+-- it is among members that suspect nobody
+pub among : (g : Group) (p : Program) (m : ℕ) (r : Running) → IsGoing g p m r → IsAmongTrusting g p m r
+among g p m r is = record {
+  group = is.steady.group;
+  program = is.steady.program;
+  reached = is.steady.reached;
+  trusting = is.trusting;
+  there = is.there;
+}
 
 -- the others of the roster are in its view
 in_view : (g : Group) (p : Program) (m : ℕ) (r : Running) (i : ℕ) → IsGoing g p m r → i < roster g
@@ -62,7 +75,7 @@ allowed : (g : Group) (p : Program) (m : ℕ) (r : Running) (s : Step) → IsGoi
 allowed g p m r s is wants =
     let can = asked g (world g p) m s
     (guards.may_choose g (replicas p.members) p.table m r.replica (member g p m r is) is.unended)
-    ((faithful g (world g p) is.steady.group is.steady.reached).beginning.unwedged m) wants in
+    (nobody_suspects g p m is.trusting) wants in
     (step_guard g (replicas p.members) p.table m r.replica s (member g p m r is) is.unended).1 (
       can,
       has_room g (replicas p.members) p.table m r.replica s (member g p m r is)
@@ -132,7 +145,7 @@ idle_at g p m r parts.Append i c is within low fails = by r.failed fails
 idle_at g p m r parts.Push i c is within low fails = λ other unended.
     unchanged_stands g p m r i c is within other low (unpushed g p m r i c is within other low fails)
 idle_at g p m r parts.Done i c is within low fails = λ all.
-    unasked g p m r (step_at r parts.Done i c) is fails (refl, all)
+    unasked g p m r (step_at r parts.Done i c) is fails all
 idle_at g p m r part i c is within low fails = tt
 
 -- the place after is the one of the group's shape

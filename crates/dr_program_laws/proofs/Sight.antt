@@ -1,7 +1,9 @@
 -- What a look finds in the table of a program in a reached world, its member may see.
-use Rattle.std.proofs.Common.{◌≡◌, ◌≢◌, sym, ap, ◌∙◌, subst, ℕ, ◌<◌, true, slice_index, arith}
+use Rattle.std.proofs.Common.{◌≡◌, ◌≢◌, sym, ap, ◌∙◌, subst, ℕ, ◌<◌, true, slice_index, not, arith}
 use Rattle.std.specs.Prelude.{Some, slice_get}
+use Rattle.std.proofs.lemmas.Bool.{and_parts}
 use Rattle.std.proofs.lemmas.Option.{slice_get_within}
+use Rattle.dr_history.specs.Members.{has}
 use Rattle.dr_rows.specs.Words.{seen}
 use Rattle.dr_words.specs.Form.{IsInForm}
 use Rattle.dr_words.specs.Grown.{HasGrown}
@@ -12,7 +14,7 @@ use Rattle.dr_machine.specs.Run.{IsReached}
 use Rattle.dr_machine.specs.World.{World}
 use Rattle.dr_program.specs.Replica.{is_other}
 use Rattle.dr_program.specs.Running.{Running}
-use Rattle.dr_program.specs.Steps.{allows, found}
+use Rattle.dr_program.specs.Steps.{allows, found, has_cell}
 use Rattle.dr_program.specs.Form.{IsOf}
 use Rattle.dr_program.specs.Program.{Program}
 use Rattle.dr_program.specs.Reading.{world}
@@ -66,7 +68,8 @@ found_seen g p m r i c group is run there may = record {
     member = program_member g p m r group is there
 
     cell : (is_other r.replica i ≡ true) × (c < columns g)
-    cell = (cell_test g (replicas p.members) p.table m r.replica i c member).0 may
+    cell = (cell_test g (replicas p.members) p.table m r.replica i c member).0
+        (and_parts (not (has r.replica.suspects i)) (has_cell r.replica i c) may).1
 
     apart : i ≢ m
     apart = ((other_member g (replicas p.members) p.table m r.replica i member).0 cell.0).other

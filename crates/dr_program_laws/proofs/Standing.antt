@@ -112,6 +112,8 @@ IsProper limit points turns (Some (ends.Spent n)) = (n ≡ limit) × (turns ≡ 
     × IsBeforeCrash points turns
 IsProper limit points turns (Some ends.DiskFault) = ⊤
 IsProper limit points turns (Some (ends.LogFull len)) = ⊤
+IsProper limit points turns (Some (ends.Suspected by)) = ⊤
+IsProper limit points turns (Some (ends.NoMajority mask)) = ⊤
 IsProper limit points turns (Some end) = ⊥
 
 -- a member with these crash points, which takes at most so many turns, stands so: it is not past a crash,

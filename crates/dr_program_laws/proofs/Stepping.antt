@@ -24,13 +24,15 @@ use Rattle.dr_turn.proofs.Staying.{settled_end}
 use Rattle.dr_words.specs.Columns.{columns_of}
 use Rattle.dr_words.specs.declared.column.TheConstants.{LOGGED_COLUMN}
 use Rattle.dr_program_laws.specs.Swept.{Swept}
+use Rattle.dr_program_laws.specs.Trusting.{AreTrusting}
 use Rattle.dr_program_laws.specs.Wants.{SeesAllDone}
-use Rattle.dr_program_laws.proofs.Acts.{asks, is_end, no_end, taken_end, uncrashed}
+use Rattle.dr_program_laws.proofs.Acts.{asks, is_end, is_judge, no_end, taken_end, uncrashed}
 use Rattle.dr_program_laws.proofs.Leaving.{end_sees}
-use Rattle.dr_program_laws.proofs.Passing.{IsGoing, passes}
+use Rattle.dr_program_laws.proofs.Passing.{IsGoing, among, passes}
 use Rattle.dr_program_laws.proofs.Resting.{Knows}
 use Rattle.dr_program_laws.proofs.Steadying.{moved_member, steady_moves, stepped_on, stepped_replica, world_on}
 use Rattle.dr_program_laws.proofs.Sweeping.{swept_behind, world_behind}
+use Rattle.dr_program_laws.proofs.Trusting.{move_trusts, never_judges, nobody_suspects}
 
 -- ---- the search
 
@@ -41,6 +43,12 @@ settled_passed y =
     (passed_at (record y { place = (settled y).place }) y.place y.place (settled y).place (settle_passed _ y))
 
 -- ---- a deed
+
+-- a move of its member leaves nobody suspecting
+pub trusting_on : (g : Group) (p : Program) (m : ℕ) (r : Running) → IsGoing g p m r
+    → AreTrusting (step_of p (ok m))
+trusting_on g p m r is =
+    move_trusts g p (ok m) is.steady.group is.steady.program is.steady.reached is.trusting
 
 -- member m is within its turn, no append of it has failed, and nothing is left to do before its place
 pub record IsWithin (g : Group) (p : Program) (m : ℕ) (r : Running) : Type 0 where
@@ -76,6 +84,7 @@ swept_on g p m r is plain =
     (swept_behind g (world g p) m r (record {
       place = place_of g p m r is.going;
       begun = is.begun;
+      unjudged = never_judges g p m r (among g p m r is.going) is.going.unended;
       published = ((faithful g (world g p) is.going.steady.group is.going.steady.reached).words.own m
           ((world g p).past.view m) LOGGED_COLUMN).logged refl;
       can = subst (CanTake g (world g p) m) plain on.0;
@@ -103,6 +112,7 @@ onward g p m r part is at plain unended =
     (passes g (step_of p (ok m)) m (stepped_on p r) (took (next_sight p.table r) r (next_step r)).place
     (stepped_on p r).place (record {
       steady = steady_moves g p (ok m) is.going.steady;
+      trusting = trusting_on g p m r is.going;
       there = moved_member p m r is.going.there is.going.unended;
       unended = none;
     }) (settled_passed (took (next_sight p.table r) r (next_step r)))
@@ -153,7 +163,8 @@ knows_next g p m r is = by (part_of r.place) refl
     sees : part_of r.place ≡ parts.Done → SeesAllDone v m
     sees at = subst (λ u. SeesAllDone u m) (sym (moved.1 ∙ ap (λ x. effect_of g w m (due r x)) at))
         (end_sees w m ends.Done
-        (asks g w m (due r parts.Done) (subst (λ x. CanTake g w m (due r x)) at moved.0)).1)
+        (asks g w m (due r parts.Done) (λ end. nobody_suspects g p m is.going.trusting)
+        (subst (λ x. CanTake g w m (due r x)) at moved.0)))
 
     push : (b : Bool) → crashes_now r ≡ b → part_of r.place ≡ parts.Push → KnowsNext g p m r
     push true crash at = ended g p m r parts.Push ends.Crashed is at
@@ -165,6 +176,8 @@ knows_next g p m r is = by (part_of r.place) refl
         (push_or_crash b r.place.row r.place.column)).end) crash ∙ is.going.unended)
 
     by : (part : Part) → part_of r.place ≡ part → KnowsNext g p m r
+    by parts.Judge at =
+        absurd (cc (ap is_judge at, never_judges g p m r (among g p m r is.going) is.going.unended))
     by parts.Append at = onward g p m r parts.Append is at (ap append_or_end is.well)
         (ap (λ o. (stepped (next_sight p.table r) r.replica (append_or_end o)).end) is.well
         ∙ is.going.unended)

@@ -22,22 +22,23 @@ use Rattle.dr_program.specs.Reading.{world}
 use Rattle.dr_program.specs.Replica.{Replica}
 use Rattle.dr_program.specs.Steps.{stepped}
 use Rattle.dr_program.specs.Running as running
-use Rattle.dr_program.specs.Running.{Running, append_or_end, crashes_now, goes, members, next_step, push_or_crash, step_at, took}
+use Rattle.dr_program.specs.Running.{Running, append_or_end, crashes_now, goes, judged, members, next_step, push_or_crash, step_at, took}
 use Rattle.dr_program.specs.Schedule.{IsTurn, is_between_turns}
 use Rattle.dr_program.specs.Turn.{after, is_beat, part_of, turn_begins}
 use Rattle.dr_program.proofs.Holdings.{held_of}
 use Rattle.dr_refine.proofs.Deeds.{program_member, replicas}
 use Rattle.dr_turn.specs.Search.{IsUnderway}
-use Rattle.dr_turn.proofs.Deeds.{beat_place, one_turn}
+use Rattle.dr_turn.proofs.Deeds.{beat_place, one_turn, verdict_of}
 use Rattle.dr_program_laws.specs.Failing.{has_log_end}
 use Rattle.dr_program_laws.specs.Rested.{HasTurned}
 use Rattle.dr_program_laws.specs.Steady.{IsSteady}
 use Rattle.dr_program_laws.specs.Swept.{IsBefore, Swept}
-use Rattle.dr_program_laws.proofs.Acts.{turns_stay}
+use Rattle.dr_program_laws.specs.Trusting.{AreTrusting}
+use Rattle.dr_program_laws.proofs.Acts.{turns_stay, verdict_no_beat}
 use Rattle.dr_program_laws.proofs.Passing.{IsGoing, passes}
 use Rattle.dr_program_laws.proofs.Resting.{Knows, knows_logs, rests}
 use Rattle.dr_program_laws.proofs.Steadying.{moved_member, other_member, steady_moves, stepped_failed, stepped_on, stepped_replica, world_on}
-use Rattle.dr_program_laws.proofs.Stepping.{knows_next, settled_passed}
+use Rattle.dr_program_laws.proofs.Stepping.{knows_next, settled_passed, trusting_on}
 
 -- ---- what a deed leaves of turns and own words
 
@@ -54,6 +55,8 @@ turns_on g w m r parts.Push i c other = by (crashes_now r)
     by : (b : Bool) → (effect_of g w m (push_or_crash b i c)).turns m ≡ w.turns m
     by true = refl
     by false = refl
+turns_on g w m r parts.Judge i c other =
+    turns_stay g w m (judged r) (verdict_no_beat (judged r) (verdict_of r))
 turns_on g w m r (parts.Do a) i c other = turns_stay g w m a other
 turns_on g w m r part i c other = refl
 
@@ -86,6 +89,7 @@ is_move e m own well = λ z. record { member = own z; outcome = well z }
 -- m has gone from p to u, within its turn
 record HasGone (g : Group) (p : Program) (m : ℕ) (u : Program) : Type 0 where
   steady : IsSteady g u
+  trusting : AreTrusting u
   member : Running
   there : slice_get u.members m ≡ Some member
   well : member.failed ≡ None
@@ -108,7 +112,13 @@ begins g p m r is at q inside before =
 
     underway : IsUnderway r
     underway =
-        record { replica = form.replica; place = form.place; turns = form.turns; left = form.left }
+        record {
+          replica = form.replica;
+          place = form.place;
+          turns = form.turns;
+          waits = form.waits;
+          left = form.left;
+        }
 
     first : (took (next_sight p.table r) r (next_step r)).place ≡ record { part = 0; row = 0; column = 0 }
     first =
@@ -123,12 +133,18 @@ first_deed : (g : Group) (p : Program) (m : ℕ) (r : Running) → IsGoing g p m
     → part_of r.place ≡ turn_begins → HasGone g p m (step_of p (ok m))
 first_deed g p m r is well begins_at = record {
   steady = steady;
+  trusting = trusting_on g p m r is;
   member = stepped_on p r;
   there = there;
   well = stepped_failed p r ∙ well;
   knows = subst (Knows g after_it m (stepped_on p r).place) (sym none)
       (passes g (step_of p (ok m)) m (stepped_on p r) (took (next_sight p.table r) r (next_step r)).place
-      (stepped_on p r).place (record { steady = steady; there = there; unended = none })
+      (stepped_on p r).place (record {
+        steady = steady;
+        trusting = trusting_on g p m r is;
+        there = there;
+        unended = none;
+      })
       (settled_passed (took (next_sight p.table r) r (next_step r))) (begins g p m r is begins_at));
   others = λ i other. other_member p m r i is.there is.unended other;
   turns = ap (λ (u : World). u.turns m) on.1
@@ -174,6 +190,7 @@ next_deed : (g : Group) (p : Program) (m : ℕ) (u : Program) → HasGone g p m 
     → is_between_turns (slice_get u.members m) ≡ false → HasGone g p m (step_of u (ok m))
 next_deed g p m u gone between = record {
   steady = steady_moves g u (ok m) gone.steady;
+  trusting = trusting_on g u m r is;
   member = stepped_on u r;
   there = moved_member u m r gone.there amid.0;
   well = stepped_failed u r ∙ gone.well;
@@ -196,7 +213,7 @@ next_deed g p m u gone between = record {
     amid = going r.replica.end (is_beat (part_of r.place)) (sym (ap is_between_turns gone.there) ∙ between)
 
     is : IsGoing g u m r
-    is = record { steady = gone.steady; there = gone.there; unended = amid.0 }
+    is = record { steady = gone.steady; trusting = gone.trusting; there = gone.there; unended = amid.0 }
 
 -- by these moves of it, behind none of which but the last it is between turns
 goes_on : (g : Group) (p : Program) (m : ℕ) (es : List Move) (u : Program) → HasGone g p m u
@@ -220,6 +237,7 @@ turned : (g : Group) (p : Program) (m : ℕ) (q : Program) → HasGone g p m q
     → is_between_turns (slice_get q.members m) ≡ true → HasTurned g p m q
 turned g p m q gone whole = record {
   steady = gone.steady;
+  trusting = gone.trusting;
   rested = rests g (world g q) m gone.member.place gone.member.replica.end
       (end_is g q m gone.member gone.steady gone.there)
       (gone.steady.program.form m gone.member gone.there).place.part
@@ -240,16 +258,18 @@ turned g p m q gone whole = record {
 
 -- a member that stands before a turn takes it, where no append of it has failed or fails
 pub takes_turn : (g : Group) (p : Program) (m : ℕ) (r : Running) (es : List Move) (q : Program)
-    → IsSteady g p → slice_get p.members m ≡ Some r → r.replica.end ≡ None → r.failed ≡ None
-    → part_of r.place ≡ turn_begins → AllOk es → IsTurn m p es q → HasTurned g p m q
+    → IsSteady g p → AreTrusting p → slice_get p.members m ≡ Some r → r.replica.end ≡ None
+    → r.failed ≡ None → part_of r.place ≡ turn_begins → AllOk es → IsTurn m p es q → HasTurned g p m q
 unfolding ran
-takes_turn g p m r [] q is there unended unfailed begins_at well turn = absurd (omega (arith, turn.some))
-takes_turn g p m r (e ∷ es) q is there unended unfailed begins_at well turn =
+takes_turn g p m r [] q is calm there unended unfailed begins_at well turn =
+    absurd (omega (arith, turn.some))
+takes_turn g p m r (e ∷ es) q is calm there unended unfailed begins_at well turn =
     turned g p m q
     (subst (HasGone g p m) (sym turn.taken) (goes_on g p m es (step_of p e)
     (subst (λ x. HasGone g p m (step_of p x))
     (sym (is_move e m (turn.own 0 e (omega arith)) (well 0 e (omega arith))))
-    (first_deed g p m r (record { steady = is; there = there; unended = unended }) unfailed begins_at))
+    (first_deed g p m r (record { steady = is; trusting = calm; there = there; unended = unended }) unfailed
+    begins_at))
     (λ k d l. turn.own (suc k) d (omega (arith, l))) (λ k d l. well (suc k) d (omega (arith, l)))
     (λ k l. turn.first (suc k) (omega arith) (omega (arith, l)))))
     turn.whole

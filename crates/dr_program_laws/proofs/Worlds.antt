@@ -91,15 +91,20 @@ are_accounts g p all = record {
     at : (m : ℕ) → m < roster g → (r : Running) × (slice_get p.members m ≡ Some r)
     at m l = slice_get-some p.members m (omega (arith, l, all))
 
--- nobody has logged more than it has delivered
-all_told : (g : Group) (p : Program) → IsProgram g p
-    → All (λ (e : MemberEnd). e.logged ≤ length e.history) (ends_of p)
-all_told g p program k none within =
+-- what is true of each member's end is true of all ends
+pub all_ends : (P : MemberEnd → Type 0) (p : Program)
+    → ((m : ℕ) (r : Running) → slice_get p.members m ≡ Some r → P (end_of r)) → All P (ends_of p)
+all_ends P p each k none within =
     let x = slice_get-some p.members k (omega (arith, within, length-map p.members end_of)) in
     let told = get_or_from_slice_get (ends_of p) k (end_of x.0) none
     (slice_get-map end_of p.members k ∙ ap (option_map end_of) x.1) in
-    subst (λ (e : MemberEnd). e.logged ≤ length e.history) (sym told)
-    (program.form k x.0 x.1).replica.logged
+    subst P (sym told) (each k x.0 x.1)
+
+-- nobody has logged more than it has delivered
+all_told : (g : Group) (p : Program) → IsProgram g p
+    → All (λ (e : MemberEnd). e.logged ≤ length e.history) (ends_of p)
+all_told g p program = all_ends (λ (e : MemberEnd). e.logged ≤ length e.history) p
+    (λ m r there. (program.form m r there).replica.logged)
 
 -- so the members agree, as their ends tell
 pub ends_agreed : (g : Group) (p : Program) → IsGroup g → IsProgram g p → IsReached g (world g p)

@@ -7,6 +7,7 @@ use Rattle.dr_history.specs.declared.opening.Opening.{Opening}
 use Rattle.dr_history.specs.Order.{first_entries}
 use Rattle.dr_history_laws.specs.Remaining.{remaining}
 use Rattle.dr_program.specs.declared.setup.CrashPoint.{CrashPoint}
+use Rattle.dr_world_laws.specs.Ends.{IsLeftOut}
 
 -- no crash point names a turn from 1 up to this one
 abbrev pub IsBeforeCrash : List CrashPoint → ℕ → Type 0
@@ -52,12 +53,18 @@ pub record HasStopped (points : List CrashPoint) (e : MemberEnd) : Type 0 where
   pub end : is_log_end e.end ≡ true
   pub first : All (λ (c : CrashPoint). 1 ≤ c.turn → e.turns ≤ c.turn) points
 
--- a member with these crash points, which takes at most so many turns, has ended as it should
-abbrev pub HasEnded : Opening → ℕ → List CrashPoint → MemberEnd → Type 0
-HasEnded o limit points e =
-    IsDone o points e ⊎ (IsSpent limit points e ⊎ (HasCrashed points e ⊎ HasStopped points e))
+-- member m has been left out, in no later turn than the first that a crash point names
+pub record HasBeenLeft (o : Opening) (m : ℕ) (points : List CrashPoint) (e : MemberEnd) : Type 0 where
+  pub end : IsLeftOut o m e.end
+  pub first : All (λ (c : CrashPoint). 1 ≤ c.turn → e.turns ≤ c.turn) points
+
+-- member m with these crash points, which takes at most so many turns, has ended as it should
+abbrev pub HasEnded : Opening → ℕ → ℕ → List CrashPoint → MemberEnd → Type 0
+HasEnded o limit m points e =
+    IsDone o points e
+    ⊎ (IsSpent limit points e ⊎ (HasCrashed points e ⊎ (HasStopped points e ⊎ HasBeenLeft o m points e)))
 
 -- all members have, each with the crash points of its number
 abbrev pub HaveEnded : Opening → ℕ → (ℕ → List CrashPoint) → List MemberEnd → Type 0
 HaveEnded o limit points ends = (m : ℕ) (e : MemberEnd) → slice_get ends m ≡ Some e
-    → HasEnded o limit (points m) e
+    → HasEnded o limit m (points m) e

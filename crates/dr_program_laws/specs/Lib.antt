@@ -1,5 +1,6 @@
 pub mod Ended
 pub mod Failing
+pub mod Trusting
 pub mod Wants
 pub mod Steady
 pub mod Rested

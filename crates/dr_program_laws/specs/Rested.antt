@@ -10,6 +10,7 @@ use Rattle.dr_program.specs.Running.{Running}
 use Rattle.dr_words.specs.declared.column.TheConstants.{BEAT_COLUMN}
 use Rattle.dr_program_laws.specs.Failing.{has_log_end}
 use Rattle.dr_program_laws.specs.Steady.{IsSteady}
+use Rattle.dr_program_laws.specs.Trusting.{AreTrusting}
 use Rattle.dr_program_laws.specs.Wants.{SeesAllDone, Wants, is_work}
 
 -- m has seen the word of a row and a column as it stands in the table
@@ -34,6 +35,7 @@ pub record IsRested (g : Group) (w : World) (m : ℕ) : Type 0 where
 -- from p to q, m has taken a whole turn
 pub record HasTurned (g : Group) (p : Program) (m : ℕ) (q : Program) : Type 0 where
   pub steady : IsSteady g q
+  pub trusting : AreTrusting q
   -- it has crashed, or has nothing left to do
   pub rested : ((world g q).end m ≡ Some Crashed) ⊎ IsRested g (world g q) m
   -- no append of it has failed, and it hasn't ended by its log

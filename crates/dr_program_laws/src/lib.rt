@@ -8,7 +8,7 @@
 
 mod turns;
 
-ghost use Rattle.std.specs.Prelude.{◌≡◌, ℕ, ◌≤◌, List, length, map, slice_get, Some};
+ghost use Rattle.std.specs.Prelude.{◌≡◌, ℕ, ◌≤◌, All, List, length, map, slice_get, Some};
 ghost use Rattle.dr_history.specs.Agreement.{EndsAgreed};
 ghost use Rattle.dr_machine.specs.declared.step.Step.TheVariants.{Look};
 ghost use Rattle.dr_machine.specs.Group.{Group, IsGroup};
@@ -27,6 +27,7 @@ ghost use Rattle.dr_restart.specs.Setups.{IsBegun, crashes_of};
 ghost use Rattle.dr_script.specs.declared.script.Script.{Script};
 ghost use Rattle.dr_program_laws.specs.Ended.{HaveEnded};
 ghost use Rattle.dr_program_laws.specs.Failing.{AreFailing, IsFailing};
+ghost use Rattle.dr_program_laws.specs.Trusting.{AreTrusting, IsCalm, NoneLeft, SuspectsNobody};
 
 pub use turns::{a_turn_leaves_nothing_to_do, programs_are_steady, what_is_asked_is_the_guard};
 
@@ -70,8 +71,9 @@ pub fn ends_agree()
 {}
 
 /// Members that have all ended have ended as they should, each by its setup: done, with everything, or
-/// with all turns spent, or crashed where its setup says, or by a log that failed or was full, in no later
-/// turn than that of its crash. It holds whatever deeds they took, and in whatever order.
+/// with all turns spent, or crashed where its setup says, or by a log that failed or was full, or by
+/// suspicion, in no later turn than that of its crash. It holds whatever deeds they took, and in whatever
+/// order.
 pub fn members_end_as_they_should()
     ensures { (g : Group) (turns : ℕ) (setups : List Setup) (points : ℕ → List CrashPoint) (p : Program)
         → IsGroup g → 1 ≤ turns → AreSetups g turns setups
@@ -88,6 +90,22 @@ pub fn members_end_as_their_script_says()
         → IsBegun script start nth begun → IsRanFrom begun p → AllEnded p
         → HaveEnded (group_of script start).opening script.turns (crashes_of script.faults nth)
         (map end_of p.members) }
+{}
+
+/// Where no setup gives a reason to suspect anybody, nobody is suspected, whatever deeds the members take,
+/// and no member is ended by suspicion.
+pub fn trusting_members_suspect_nobody()
+    ensures begins { (g : Group) (turns : ℕ) (setups : List Setup) → IsGroup g → AreSetups g turns setups
+        → All IsCalm setups → AreTrusting (begun_program g setups) }
+    ensures keeps { (g : Group) (p : Program) (e : Move) → IsGroup g → IsProgram g p
+        → IsReached g (world g p) → AreTrusting p → AreTrusting (step_of p e) }
+    ensures ends { (g : Group) (turns : ℕ) (setups : List Setup) (p : Program)
+        → IsGroup g → 1 ≤ turns → AreSetups g turns setups → All IsCalm setups
+        → IsRanFrom (begun_program g setups) p → NoneLeft (map end_of p.members) }
+    ensures script { (script : Script) (start : Start) (nth : ℕ) (begun p : Program)
+        → IsGroup (group_of script start) → length script.messages ≡ script.members → 1 ≤ script.turns
+        → SuspectsNobody script → IsBegun script start nth begun → IsRanFrom begun p
+        → NoneLeft (map end_of p.members) }
 {}
 
 /// A member whose append fails ends by that, with its next act, and no other member ends by its log. Each

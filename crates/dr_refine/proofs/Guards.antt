@@ -1,16 +1,15 @@
 -- A replica may act exactly where the event may come.
-use Rattle.std.proofs.Common.{◌≡◌, ◌≢◌, refl, sym, ap, ◌∙◌, ◌↔◌, subst, ℕ, ◌+◌, ◌-◌, ◌^◌, ◌<◌, ◌≤◌, ◌==◌, ◌&&◌, inl, inr, not, suc, Bool, true, List, [], ◌∷◌, length, slice_index, arith, le_trans}
+use Rattle.std.proofs.Common.{◌≡◌, ◌≢◌, refl, sym, ap, ◌∙◌, ◌↔◌, subst, ℕ, ◌+◌, ◌-◌, ◌^◌, ◌<◌, ◌≤◌, ◌==◌, ◌&&◌, inl, inr, not, suc, ◌*◌, Bool, true, false, List, [], ◌∷◌, length, slice_index, arith, le_trans}
 use Rattle.std.proofs.Math.Path.{fun_ext}
 use Rattle.dr_entry.specs.declared.entry.Item.{Item}
 use Rattle.std.specs.Prelude.{Option, Some, None, nat_lt, is_some, IsSome}
 use Rattle.std.specs.List.{list_all, list_any}
-use Rattle.std.proofs.lemmas.Bool.{and_from, and_parts, cases_lt, eqb-true, ltb-true, or_cases}
+use Rattle.std.proofs.lemmas.Bool.{and_from, and_parts, cases_eq, cases_lt, eq-eqb, eqb-true, lt-ltb, ltb-true, or_cases}
 use Rattle.std.proofs.lemmas.Bool.Decides.{nat_tests}
 use Rattle.std.proofs.lemmas.List.{get_or_past, length-take-le}
 use Rattle.std.proofs.lemmas.List.Folds.{list_any_at}
-use Rattle.dr_words.proofs.Bits.{has_zero}
 use Rattle.dr_entry.specs.declared.end.End.{End}
-use Rattle.dr_entry.specs.declared.end.End.TheVariants.{Done}
+use Rattle.dr_entry.specs.declared.end.End.TheVariants.{Done, Suspected, NoMajority}
 use Rattle.dr_history.specs.Members.{has, members_of}
 use Rattle.dr_history.specs.History.{messages_in}
 use Rattle.dr_history.specs.Order.{messages_from}
@@ -18,15 +17,15 @@ use Rattle.dr_ring.specs.Slots.{IsFree, is_free, IsReady, slot_of, slot_column}
 use Rattle.dr_ring.proofs.Freedom.{is_free-true, IsFree-from_test}
 use Rattle.dr_ring.proofs.Readiness.{ready_test}
 use Rattle.dr_rows.specs.Words.{own, seen}
-use Rattle.dr_words.specs.declared.column.TheConstants.{RECEIVED_COLUMN, LOGGED_COLUMN, DONE_COLUMN}
+use Rattle.dr_words.specs.declared.column.TheConstants.{SUSPECTED_COLUMN, RECEIVED_COLUMN, LOGGED_COLUMN, DONE_COLUMN}
 use Rattle.dr_words.specs.Columns.{recv_column}
-use Rattle.dr_words.specs.Masks.{IsInRoster}
+use Rattle.dr_words.specs.Masks.{IsInRoster, without}
 use Rattle.dr_machine.proofs.Presence.{is_present}
 use Rattle.dr_machine.specs.Group.{Group, roster, columns}
 use Rattle.dr_machine.specs.World.{World, count_of, shown}
 use Rattle.dr_machine.specs.Guards as guards
-use Rattle.dr_machine.specs.Guards.{IsRunning, MayChoose, IsOther, IsFault, CanBeat, CanLook, CanPush, CanSend, CanNull, CanReceive, CanDeliver, CanAppend, CanPublish, CanReport, CanMark, CanHalt, CanCrash, HasRoom, IsBehind, seen_slot}
-use Rattle.dr_program.specs.Replica.{Replica, me, is_other, count, greatest, least_seen, ready_item, next_index, holds_all, all_done, is_behind, may_receive, may_send, may_null, may_deliver, may_append, may_publish, may_report, may_mark}
+use Rattle.dr_machine.specs.Guards.{IsRunning, MayChoose, IsOther, IsFault, CanBeat, CanLook, CanPush, CanSend, CanNull, CanReceive, CanDeliver, CanAppend, CanPublish, CanReport, CanMark, CanSuspect, CanHalt, CanCrash, HasRoom, IsBehind, IsUnwedged, IsDue, IsDone, IsSuspectedBy, IsMinority, seen_slot, unsuspected_of}
+use Rattle.dr_program.specs.Replica.{Replica, me, is_other, count, greatest, least_seen, ready_item, next_index, holds_all, all_done, is_behind, is_wedged, is_due, has_majority, unsuspected, view_of, may_receive, may_send, may_null, may_deliver, may_append, may_publish, may_report, may_mark, may_suspect}
 use Rattle.dr_program.specs.Reading.{world_of}
 use Rattle.dr_program.proofs.Holdings.{Holding, held_of}
 use Rattle.dr_program.proofs.Least.{received_small}
@@ -54,10 +53,67 @@ may_choose g rs table m r is alive = record {
   idle = ap (λ h. h.pending) (held_of g rs table m r is.there);
 }
 
--- so far it suspects nobody
-unsuspecting : (g : Group) (rs : List Replica) (table : List ℕ) (m : ℕ) (r : Replica)
-    → IsMember g rs table m r → (world_of g rs table).suspects m ≡ 0
-unsuspecting g rs table m r is = ap (λ h. h.suspects) (held_of g rs table m r is.there)
+-- whom it suspects
+pub suspects_are : (g : Group) (rs : List Replica) (table : List ℕ) (m : ℕ) (r : Replica)
+    → IsMember g rs table m r → (world_of g rs table).suspects m ≡ r.suspects
+suspects_are g rs table m r is = ap (λ h. h.suspects) (held_of g rs table m r is.there)
+
+-- it is wedged exactly where the world says that it suspects somebody
+not_wedged : (r : Replica) → (not (is_wedged r) ≡ true) ↔ (r.suspects ≡ 0)
+not_wedged r = (λ e. grind (arith, e), λ none. grind (arith, none))
+
+unwedged : (g : Group) (rs : List Replica) (table : List ℕ) (m : ℕ) (r : Replica)
+    → IsMember g rs table m r
+    → (not (is_wedged r) ≡ true) ↔ IsUnwedged (world_of g rs table) m
+unwedged g rs table m r is =
+    let same = suspects_are g rs table m r is in (
+      λ e. same ∙ (not_wedged r).0 e,
+      λ none. (not_wedged r).1 (sym same ∙ none),
+    )
+
+wedged : (g : Group) (rs : List Replica) (table : List ℕ) (m : ℕ) (r : Replica)
+    → IsMember g rs table m r
+    → (is_wedged r ≡ true) ↔ (¬ IsUnwedged (world_of g rs table) m)
+wedged g rs table m r is =
+    let same = suspects_are g rs table m r is in (
+      λ e none. absurd (grind (arith, e, sym same ∙ none)),
+      λ some. elim (cases_eq r.suspects 0) [
+        | inl none ↦ absurd (some (same ∙ none))
+        | inr apart ↦ grind (arith, apart)
+      ],
+    )
+
+-- a number that is not below another
+not_less : (a b : ℕ) → (not (nat_lt a b) ≡ true) ↔ (¬ (a < b))
+not_less a b = (
+  λ e less. absurd (grind (arith, nat_tests, e, less)),
+  λ no. elim (cases_lt a b) [
+    | inl less ↦ absurd (no less)
+    | inr more ↦ grind (arith, nat_tests, more)
+  ],
+)
+
+-- a test that only one who isn't wedged passes is the guard of an event that comes to no other, where the
+-- rest of it is for one who suspects nobody
+unless_wedged : (g : Group) (rs : List Replica) (table : List ℕ) (m : ℕ) (r : Replica) (test : Bool)
+    {Can : Type 0} → IsMember g rs table m r
+    → (IsUnwedged (world_of g rs table) m → (test ≡ true) ↔ Can)
+    → (Can → IsUnwedged (world_of g rs table) m) → ((not (is_wedged r) && test) ≡ true) ↔ Can
+unless_wedged g rs table m r test is same none =
+    let free = unwedged g rs table m r is in (
+      λ e. let two = and_parts (not (is_wedged r)) test e in (same (free.0 two.0)).0 two.1,
+      λ can. and_from (not (is_wedged r)) test (free.1 (none can)) ((same (none can)).1 can),
+    )
+
+-- a member that it doesn't suspect
+unsuspected_member : (g : Group) (rs : List Replica) (table : List ℕ) (m : ℕ) (r : Replica) (i : ℕ)
+    → IsMember g rs table m r
+    → (not (has r.suspects i) ≡ true) ↔ (has ((world_of g rs table).suspects m) i ≡ false)
+unsuspected_member g rs table m r i is =
+    let same = ap (λ x. has x i) (suspects_are g rs table m r is) in (
+      λ e. same ∙ grind (arith, e),
+      λ no. ap not (sym same ∙ no),
+    )
 
 -- the members of its view
 pub members_are : (g : Group) (rs : List Replica) (table : List ℕ) (m : ℕ) (r : Replica)
@@ -88,6 +144,20 @@ other_within g rs table m r i is e =
     let within : i < r.roster = is.form.roster i (and_parts (has r.members i) (not (i == me r)) e).0 in
     omega (arith, within, is.of.members)
 
+-- and passes the test for that
+pub other_below : (g : Group) (rs : List Replica) (table : List ℕ) (m : ℕ) (r : Replica) (i : ℕ)
+    → IsMember g rs table m r → is_other r i ≡ true → nat_lt i r.roster ≡ true
+other_below g rs table m r i is e =
+    let within : i < r.roster = rw is.of.members (other_within g rs table m r i is e) in
+    grind (arith, nat_tests, within)
+
+-- the seen word of another row
+pub seen_is : (g : Group) (rs : List Replica) (table : List ℕ) (m : ℕ) (r : Replica) (i c : ℕ)
+    → IsMember g rs table m r → i ≢ m → (world_of g rs table).seen m i c ≡ seen r.rows i c
+seen_is g rs table m r i c is other =
+    ap (λ h. h.seen i c) (held_of g rs table m r is.there)
+    ∙ rw (other_number i (me r) (λ e. other (e ∙ is.of.number))) refl
+
 -- a number is below the least word over the view exactly where it is below the word of each row
 below_each : (g : Group) (rs : List Replica) (table : List ℕ) (m : ℕ) (r : Replica) (c x : ℕ)
     → IsMember g rs table m r → nat_lt x (least_seen r c) ≡ true
@@ -112,9 +182,9 @@ each_below g rs table m r c x is small each =
     λ i member. rw (shown_seen g rs table m r i c is.there is.of.number) at
     (each i (ap (λ k. has k i) (members_are g rs table m r is) ∙ member)) in
     below_least x (2 ^ 64 - 1) (λ k. seen r.rows k c) (members_of r.members)
-    ∙ and_from _ _ (grind (arith, nat_tests, here (me r) is.form.present, small))
+    ∙ and_from _ _ (lt-ltb x (2 ^ 64 - 1) (le_trans (here (me r) is.form.present) small))
     (all_members (λ k. nat_lt x (seen r.rows k c)) r.members
-    (λ i member. grind (arith, nat_tests, here i member)))
+    (λ i member. lt-ltb x (seen r.rows i c) (here i member)))
 
 -- ---- deliveries and reports
 
@@ -124,12 +194,13 @@ pub deliver_guard : (g : Group) (rs : List Replica) (table : List ℕ) (m : ℕ)
     → (may_deliver r ≡ true) ↔ (CanDeliver g (world_of g rs table) m × (length r.history < r.room))
 deliver_guard g rs table m r is alive =
     let next : (world_of g rs table).next m
-    ≡ r.next = ap (λ h. h.next) (held_of g rs table m r is.there) in (
+    ≡ r.next = ap (λ h. h.next) (held_of g rs table m r is.there) in
+    unless_wedged g rs table m r _ is (λ none. (
       λ e. let two = and_parts (nat_lt r.next (least_seen r RECEIVED_COLUMN))
           (nat_lt (length r.history) r.room) e in (
             record {
               may = may_choose g rs table m r is alive;
-              unwedged = unsuspecting g rs table m r is;
+              unwedged = none;
               received = λ i member. rw next
                   (below_each g rs table m r RECEIVED_COLUMN r.next is two.0 i member);
             },
@@ -140,7 +211,7 @@ deliver_guard g rs table m r is alive =
           (omega (arith, is.form.received, received_small r (λ s. le_trans (is.form.bounded s) is.form.few)))
           (λ i member. rw next at (can.0.received i member)))
           (grind (arith, nat_tests, can.1)),
-    )
+    )) (λ can. can.0.unwedged)
 
 -- it reports exactly where that may come
 pub report_guard : (g : Group) (rs : List Replica) (table : List ℕ) (m : ℕ) (r : Replica)
@@ -206,48 +277,152 @@ mark_guard g rs table m r is alive =
     let durable : w.past.durable m ≡ r.durable = ap (λ h. h.durable) was in
     let word = own_shown g rs table m r DONE_COLUMN is.there in
     let members = members_are g rs table m r is in
-    let whole : ℕ → Bool = λ s. length (messages_from s r.history) == slice_index r.totals s in (
+    let whole : ℕ → Bool = λ s. length (messages_from s r.history) == slice_index r.totals s in
+    unless_wedged g rs table m r _ is (λ none. (
       λ e. let two = and_parts (own r.rows DONE_COLUMN == 0)
           (holds_all r && (r.durable == length r.history)) e in
           let three = and_parts (holds_all r) (r.durable == length r.history) two.1 in record {
             may = may_choose g rs table m r is alive;
-            unwedged = unsuspecting g rs table m r is;
-            unmarked = rw word (grind (arith, two.0));
+            unwedged = none;
+            unmarked = rw word (eqb-true (own r.rows DONE_COLUMN) 0 two.0);
             whole = λ s member. rw (history, ← is.of.totals s)
                 (eqb-true (length (messages_from s r.history)) (slice_index r.totals s)
                 (each_member whole r.roster r.members
                 (omega (arith, is.of.members, is.group.most_members)) is.form.roster three.0 s
                 (ap (λ x. has x s) (sym members) ∙ member)));
-            durable = rw (durable, history) (grind (arith, three.1));
+            durable = rw (durable, history) (eqb-true r.durable (length r.history) three.1);
           },
       λ can. let unmarked = rw word at can.unmarked in
           let durably = rw (durable, history) at can.durable in
-          and_from _ _ (grind (arith, unmarked)) (and_from _ _
+          and_from _ _ (eq-eqb (own r.rows DONE_COLUMN) 0 unmarked) (and_from _ _
           (all_members whole r.members (λ s member. let here =
           rw (history, ← is.of.totals s) at (can.whole s (ap (λ x. has x s) members ∙ member)) in
-          grind (arith, here)))
-          (grind (arith, durably))),
+          eq-eqb (length (messages_from s r.history)) (slice_index r.totals s) here))
+          (eq-eqb r.durable (length r.history) durably)),
+    )) (λ can. can.unwedged)
+
+-- ---- suspicions and ends
+
+-- it suspects exactly where that may come
+pub suspect_guard : (g : Group) (rs : List Replica) (table : List ℕ) (m : ℕ) (r : Replica) (j : ℕ)
+    → IsMember g rs table m r → r.end ≡ None
+    → (may_suspect r j ≡ true) ↔ CanSuspect g (world_of g rs table) m j
+suspect_guard g rs table m r j is alive =
+    let other = other_member g rs table m r j is in
+    let free = unsuspected_member g rs table m r j is in (
+      λ e. let two = and_parts (nat_lt j r.roster) (is_other r j && not (has r.suspects j)) e in
+          let three = and_parts (is_other r j) (not (has r.suspects j)) two.1 in record {
+            may = may_choose g rs table m r is alive;
+            other = other.0 three.0;
+            unsuspected = free.0 three.1;
+          },
+      λ can. let e = other.1 can.other in
+          and_from _ _ (other_below g rs table m r j is e) (and_from _ _ e (free.1 can.unsuspected)),
     )
 
--- it halts exactly where that may come
-pub halt_guard : (g : Group) (rs : List Replica) (table : List ℕ) (m : ℕ) (r : Replica)
-    → IsMember g rs table m r → r.end ≡ None
-    → (all_done r ≡ true) ↔ CanHalt g (world_of g rs table) m Done
-halt_guard g rs table m r is alive =
+-- it is done exactly where the world says so
+done_due : (g : Group) (rs : List Replica) (table : List ℕ) (m : ℕ) (r : Replica)
+    → IsMember g rs table m r
+    → (is_due r Done ≡ true) ↔ IsDone (world_of g rs table) m
+done_due g rs table m r is =
     let members = members_are g rs table m r is in
-    let done : ℕ → Bool = λ i. seen r.rows i DONE_COLUMN == 1 in (
+    let done : ℕ → Bool = λ i. seen r.rows i DONE_COLUMN == 1 in
+    unless_wedged g rs table m r (all_done r) is (λ none. (
       λ e. record {
-        may = may_choose g rs table m r is alive;
-        done = refl;
-        unwedged = unsuspecting g rs table m r is;
+        unwedged = none;
         all = λ i member. rw (shown_seen g rs table m r i DONE_COLUMN is.there is.of.number)
             (let here : done i ≡ true = each_member done r.roster r.members
             (omega (arith, is.of.members, is.group.most_members)) is.form.roster e i
             (ap (λ x. has x i) (sym members) ∙ member) in grind (arith, here));
       },
-      λ can. all_members done r.members (λ i member.
+      λ due. all_members done r.members (λ i member.
           let here = rw (shown_seen g rs table m r i DONE_COLUMN is.there is.of.number) at
-          (can.all i (ap (λ x. has x i) members ∙ member)) in grind (arith, here)),
+          (due.all i (ap (λ x. has x i) members ∙ member)) in grind (arith, here)),
+    )) (λ due. due.unwedged)
+
+-- a row says that it is suspected exactly where the world says so
+suspected_due : (g : Group) (rs : List Replica) (table : List ℕ) (m : ℕ) (r : Replica) (i : ℕ)
+    → IsMember g rs table m r
+    → (is_due r (Suspected i) ≡ true) ↔ IsSuspectedBy (world_of g rs table) m i
+suspected_due g rs table m r i is = (
+  λ e. let two = and_parts (nat_lt i r.roster) _ e in
+      let three = and_parts (not (i == me r)) _ two.1 in
+      let four = and_parts (has r.members i && not (has r.suspects i)) _ three.1 in
+      let five = and_parts (has r.members i) (not (has r.suspects i)) four.0 in
+      let row = other.0 (and_from (has r.members i) (not (i == me r)) five.0 three.0) in record {
+        row = row;
+        unsuspected = free.0 five.1;
+        named = word row.other ∙ four.1;
+      },
+  λ due. let e = other.1 due.row in
+      let two = and_parts (has r.members i) (not (i == me r)) e in
+      and_from _ _ (other_below g rs table m r i is e)
+      (and_from _ _ two.1 (and_from _ _ (and_from _ _ two.0 (free.1 due.unsuspected))
+      (sym (word due.row.other) ∙ due.named))),
+)
+  where
+    other : (is_other r i ≡ true) ↔ IsOther (world_of g rs table) m i
+    other = other_member g rs table m r i is
+
+    free : (not (has r.suspects i) ≡ true) ↔ (has ((world_of g rs table).suspects m) i ≡ false)
+    free = unsuspected_member g rs table m r i is
+
+    word : i ≢ m → has ((world_of g rs table).seen m i SUSPECTED_COLUMN) m
+        ≡ has (seen r.rows i SUSPECTED_COLUMN) (me r)
+    word apart = ap (λ x. has x m) (seen_is g rs table m r i SUSPECTED_COLUMN is apart)
+        ∙ ap (has (seen r.rows i SUSPECTED_COLUMN)) (sym is.of.number)
+
+-- it is left with no majority exactly where the world says so
+minority_due : (g : Group) (rs : List Replica) (table : List ℕ) (m : ℕ) (r : Replica) (mask : ℕ)
+    → IsMember g rs table m r
+    → (is_due r (NoMajority mask) ≡ true) ↔ IsMinority (world_of g rs table) m mask
+minority_due g rs table m r mask is = (
+  λ e. let two = and_parts (is_wedged r) _ e in
+      let three = and_parts (mask == unsuspected r) (not (has_majority r)) two.1 in
+      let here = eqb-true mask (unsuspected r) three.0 in record {
+        wedged = (wedged g rs table m r is).0 two.0;
+        unsuspected = here ∙ sym left;
+        minority = λ more. (not_less all few).0 three.1
+            (subst (λ k. all < 2 * length (members_of k)) here
+            (subst (λ k. length (members_of k) < 2 * length (members_of mask)) members more));
+      },
+  λ due. let here : mask ≡ unsuspected r = due.unsuspected ∙ left in
+      and_from _ _ ((wedged g rs table m r is).1 due.wedged)
+      (and_from _ _ (grind (arith, here)) ((not_less all few).1 (λ more. due.minority
+      (subst (λ k. length (members_of k) < 2 * length (members_of mask)) (sym members)
+      (subst (λ k. all < 2 * length (members_of k)) (sym here) more))))),
+)
+  where
+    all : ℕ
+    all = length (view_of r)
+
+    few : ℕ
+    few = 2 * length (members_of (unsuspected r))
+
+    members : (world_of g rs table).members m ≡ r.members
+    members = members_are g rs table m r is
+
+    left : unsuspected_of (world_of g rs table) m ≡ unsuspected r
+    left = ap (λ k. without k ((world_of g rs table).suspects m)) members
+        ∙ ap (without r.members) (suspects_are g rs table m r is)
+
+-- its end is due exactly where the world says so
+end_due : (g : Group) (rs : List Replica) (table : List ℕ) (m : ℕ) (r : Replica) (end : End)
+    → IsMember g rs table m r
+    → (is_due r end ≡ true) ↔ IsDue (world_of g rs table) m end
+end_due g rs table m r Done is = done_due g rs table m r is
+end_due g rs table m r (Suspected i) is = suspected_due g rs table m r i is
+end_due g rs table m r (NoMajority mask) is = minority_due g rs table m r mask is
+end_due g rs table m r end is = (λ e. absurd (cc), λ due. absurd due)
+
+-- it halts exactly where that may come
+pub halt_guard : (g : Group) (rs : List Replica) (table : List ℕ) (m : ℕ) (r : Replica) (end : End)
+    → IsMember g rs table m r → r.end ≡ None
+    → (is_due r end ≡ true) ↔ CanHalt g (world_of g rs table) m end
+halt_guard g rs table m r end is alive =
+    let same = end_due g rs table m r end is in (
+      λ e. record { may = may_choose g rs table m r is alive; due = same.0 e },
+      λ can. same.1 can.due,
     )
 
 -- it crashes exactly where that may come
@@ -268,16 +443,17 @@ beat_guard = may_choose
 -- it looks exactly where that may come
 pub look_guard : (g : Group) (rs : List Replica) (table : List ℕ) (m : ℕ) (r : Replica) (i c : ℕ)
     → IsMember g rs table m r → r.end ≡ None → c < columns g
-    → (is_other r i ≡ true) ↔ CanLook g (world_of g rs table) m i c
+    → ((not (has r.suspects i) ≡ true) × (is_other r i ≡ true)) ↔ CanLook g (world_of g rs table) m i c
 look_guard g rs table m r i c is alive within =
-    let other = other_member g rs table m r i is in (
+    let other = other_member g rs table m r i is in
+    let free = unsuspected_member g rs table m r i is in (
       λ e. record {
         may = may_choose g rs table m r is alive;
-        row = other.0 e;
-        unsuspected = ap (λ k. has k i) (unsuspecting g rs table m r is) ∙ has_zero i;
+        row = other.0 e.1;
+        unsuspected = free.0 e.0;
         column = within;
       },
-      λ can. other.1 can.row,
+      λ can. (free.1 can.unsuspected, other.1 can.row),
     )
 
 -- it pushes exactly where that may come
@@ -305,13 +481,6 @@ pub count_is : (g : Group) (rs : List Replica) (table : List ℕ) (m : ℕ) (r :
 count_is g rs table m r s is =
     let show : Holding → ℕ = λ h. h.count h.view s in
     ap show (held_of g rs table m r is.there) ∙ rw (same_number r.view) refl
-
--- the seen word of another row
-pub seen_is : (g : Group) (rs : List Replica) (table : List ℕ) (m : ℕ) (r : Replica) (i c : ℕ)
-    → IsMember g rs table m r → i ≢ m → (world_of g rs table).seen m i c ≡ seen r.rows i c
-seen_is g rs table m r i c is other =
-    ap (λ h. h.seen i c) (held_of g rs table m r is.there)
-    ∙ rw (other_number i (me r) (λ e. other (e ∙ is.of.number))) refl
 
 -- the slot of its next item is free exactly where the world says so
 room_guard : (g : Group) (rs : List Replica) (table : List ℕ) (m : ℕ) (r : Replica)
@@ -359,17 +528,17 @@ room_guard g rs table m r is = (
 pub send_guard : (g : Group) (rs : List Replica) (table : List ℕ) (m : ℕ) (r : Replica)
     → IsMember g rs table m r → r.end ≡ None
     → (may_send r ≡ true) ↔ CanSend g (world_of g rs table) m
-send_guard g rs table m r is alive = (
+send_guard g rs table m r is alive = unless_wedged g rs table m r _ is (λ none. (
   λ e. let two = and_parts (nat_lt (next_index r) (length r.messages))
       (is_free r.window r.rows r.members (count r (me r))) e in record {
         may = may_choose g rs table m r is alive;
-        unwedged = unsuspecting g rs table m r is;
+        unwedged = none;
         left = rw (next_is g rs table m r is, ← is.of.messages) (grind (arith, nat_tests, two.0));
         room = (room_guard g rs table m r is).0 two.1;
       },
   λ can. let left = rw (next_is g rs table m r is, ← is.of.messages) at can.left in
       and_from _ _ (grind (arith, nat_tests, left)) ((room_guard g rs table m r is).1 can.room),
-)
+)) (λ can. can.unwedged)
 
 -- some number of a list is above k
 pub above_some : (k : ℕ) (xs : List ℕ) → list_any (nat_lt k) xs ≡ true → (s : ℕ) × (k < slice_index xs s)
@@ -411,20 +580,20 @@ behind_guard g rs table m r is = (
 pub null_guard : (g : Group) (rs : List Replica) (table : List ℕ) (m : ℕ) (r : Replica)
     → IsMember g rs table m r → r.end ≡ None
     → (may_null r ≡ true) ↔ CanNull g (world_of g rs table) m
-null_guard g rs table m r is alive = (
+null_guard g rs table m r is alive = unless_wedged g rs table m r _ is (λ none. (
   λ e. let two = and_parts (not (nat_lt (next_index r) (length r.messages))) _ e in
       let three = and_parts (is_behind r) _ two.1 in record {
         may = may_choose g rs table m r is alive;
-        unwedged = unsuspecting g rs table m r is;
+        unwedged = none;
         none_left = rw (next_is g rs table m r is, ← is.of.messages) (grind (arith, nat_tests, two.0));
         room = (room_guard g rs table m r is).0 three.1;
         behind = (behind_guard g rs table m r is).0 three.0;
       },
-  λ can. let none = rw (next_is g rs table m r is, ← is.of.messages) at can.none_left in
-      and_from _ _ (grind (arith, nat_tests, none))
+  λ can. let left = rw (next_is g rs table m r is, ← is.of.messages) at can.none_left in
+      and_from _ _ (grind (arith, nat_tests, left))
       (and_from _ _ ((behind_guard g rs table m r is).1 can.behind)
       ((room_guard g rs table m r is).1 can.room)),
-)
+)) (λ can. can.unwedged)
 
 some_test : (o : Option Item) → (is_some o ≡ true) ↔ IsSome o
 some_test None = (λ e. absurd (cc), λ s. absurd (cc))
@@ -447,7 +616,8 @@ pub receive_guard : (g : Group) (rs : List Replica) (table : List ℕ) (m : ℕ)
 receive_guard g rs table m r s is alive =
     let w : World = world_of g rs table in
     let counts = count_is g rs table m r s is in
-    let other = other_member g rs table m r s is in (
+    let other = other_member g rs table m r s is in
+    unless_wedged g rs table m r _ is (λ none. (
       λ e. let two = and_parts (is_other r s)
           (is_some (ready_item r s) && nat_lt (count r s) (greatest r.totals)) e in
           let three = and_parts (is_some (ready_item r s)) (nat_lt (count r s) (greatest r.totals)) two.1 in
@@ -457,7 +627,7 @@ receive_guard g rs table m r s is alive =
           ((some_test (ready_item r s)).0 three.0) in (
             record {
               may = may_choose g rs table m r is alive;
-              unwedged = unsuspecting g rs table m r is;
+              unwedged = none;
               sender = sender;
               ready = subst (λ k. IsReady k (seen_slot g w m s k)) (sym counts)
                   (subst (IsReady (count r s)) (sym (slot_is g rs table m r s (count r s) is sender.other))
@@ -472,4 +642,4 @@ receive_guard g rs table m r s is alive =
           (and_from _ _ ((some_test (ready_item r s)).1
           ((ready_test (count r s) (slot_of r.window r.rows s (count r s))).1 ready))
           (grind (arith, nat_tests, can.1))),
-    )
+    )) (λ can. can.0.unwedged)

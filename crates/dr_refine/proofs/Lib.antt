@@ -6,6 +6,7 @@ pub mod Guards
 pub mod Looks
 pub mod Gains
 pub mod Puts
+pub mod Suspects
 pub mod Deeds
 pub mod Steps
 pub mod Tests

@@ -28,7 +28,7 @@ use Rattle.dr_machine.specs.World.{World}
 use Rattle.dr_machine.specs.Guards as guards
 use Rattle.dr_machine.specs.Guards.{seen_slot}
 use Rattle.dr_machine.specs.Effects.{stamped, gains, puts, sends, nulls, receives, next_item, row_with}
-use Rattle.dr_program.specs.Replica.{Replica, me, count, item, gained, received, put, sent, nulled, greatest, next_index, ready_item, is_other, is_behind, may_send, may_null, may_receive, acted}
+use Rattle.dr_program.specs.Replica.{Replica, me, count, item, gained, received, put, sent, nulled, greatest, next_index, ready_item, is_other, is_behind, is_wedged, may_send, may_null, may_receive, acted}
 use Rattle.dr_program.specs.Reading.{world_of}
 use Rattle.dr_program.proofs.Holdings.{Holding, held, holding_of, Changes, replica_set}
 use Rattle.dr_program.proofs.OwnWords.{same_number, other_number}
@@ -48,7 +48,8 @@ receive_effect g rs table m r s is e =
     let w : World = world_of g rs table in
     let f = fits g rs table m r is in
     let two = and_parts (is_other r s)
-    (is_some (ready_item r s) && nat_lt (count r s) (greatest r.totals)) e in
+    (is_some (ready_item r s) && nat_lt (count r s) (greatest r.totals))
+    (and_parts (not (is_wedged r)) _ e).1 in
     let three = and_parts (is_some (ready_item r s)) (nat_lt (count r s) (greatest r.totals)) two.1 in
     let apart : s ≢ m = ((other_member g rs table m r s is).0 two.0).other in
     let may : MayGain g r s = record {
@@ -320,7 +321,7 @@ send_effect g rs table m r is e =
     left : next_index r < length r.messages
     left = ltb-true (next_index r) (length r.messages)
         (and_parts (nat_lt (next_index r) (length r.messages))
-        (is_free r.window r.rows r.members (count r (me r))) e).0
+        (is_free r.window r.rows r.members (count r (me r))) (and_parts (not (is_wedged r)) _ e).1).0
 
     short : length (slice_index_or r.messages (next_index r) []) ≤ 64
     short = is.form.short (next_index r) (slice_index_or r.messages (next_index r) [])
@@ -332,7 +333,8 @@ pub null_effect : (g : Group) (rs : List Replica) (table : List ℕ) (m : ℕ) (
     → world_of g (slice_set rs m (acted (nulled r))) (acted_table g table m r)
     ≡ stamped (nulls g (world_of g rs table) m) m
 null_effect g rs table m r is e =
-    let parts = and_parts (not (nat_lt (next_index r) (length r.messages))) _ e in
+    let parts = and_parts (not (nat_lt (next_index r) (length r.messages))) _
+    (and_parts (not (is_wedged r)) _ e).1 in
     let ahead = above_some (count r (me r)) r.counts (and_parts (is_behind r) _ parts.1).0 in
     put_effect g rs table m r sent_items.Null Null is (omega arith)
     (omega (arith, ahead.1, is.form.bounded ahead.0, ap (count r) is.of.number))

@@ -4,7 +4,8 @@ use Rattle.std.proofs.lemmas.Bool.Decides.{nat_tests}
 use Rattle.std.specs.Prelude.{Option, None, Some, is_some, nat_lt, slice_set}
 use Rattle.std.proofs.lemmas.Bool.{and_from, and_parts}
 use Rattle.dr_entry.specs.declared.end.End.{End}
-use Rattle.dr_entry.specs.declared.end.End.TheVariants.{Done, Crashed, DiskFault, LogFull, Spent}
+use Rattle.dr_entry.specs.declared.end.End.TheVariants.{Crashed, DiskFault, LogFull, Spent}
+use Rattle.dr_history.specs.Members.{has}
 use Rattle.dr_words.specs.Columns.{columns_of}
 use Rattle.dr_machine.specs.declared.step.Step.{Step}
 use Rattle.dr_machine.specs.declared.step.Step.TheVariants as steps
@@ -17,11 +18,11 @@ use Rattle.dr_program.specs.Acts.{may, taken}
 use Rattle.dr_machine.specs.Guards.{IsRunning, IsFault}
 use Rattle.dr_machine.specs.declared.event.Act.{Act}
 use Rattle.dr_machine.specs.declared.event.Act.TheVariants as acts
-use Rattle.dr_program.specs.Replica.{Replica, greatest, is_other, all_done, is_done, is_fault, may_receive, me, looked, pushed}
+use Rattle.dr_program.specs.Replica.{Replica, greatest, is_other, is_fault, may_receive, me, looked, pushed}
 use Rattle.dr_program.specs.Reading.{world_of}
 use Rattle.dr_program.proofs.Holdings.{held_of}
 use Rattle.dr_refine.specs.Programs.{HasRoomFor, IsMember, acted_table}
-use Rattle.dr_refine.proofs.Guards.{other_within, beat_guard, look_guard, push_guard, send_guard, null_guard, receive_guard, deliver_guard, append_guard, publish_guard, report_guard, mark_guard, halt_guard, crash_guard}
+use Rattle.dr_refine.proofs.Guards.{beat_guard, look_guard, suspect_guard, other_member, other_below, push_guard, send_guard, null_guard, receive_guard, deliver_guard, append_guard, publish_guard, report_guard, mark_guard, halt_guard, crash_guard}
 use Rattle.dr_rows.specs.Words.{own}
 use Rattle.dr_words.specs.declared.column.TheConstants.{BEAT_COLUMN}
 use Rattle.dr_words.specs.Layout.{word_index_of}
@@ -29,6 +30,7 @@ use Rattle.dr_machine.specs.Effects.{one_more}
 use Rattle.dr_refine.proofs.Acts.{append_effect, beat_effect, deliver_effect, publish_effect, report_effect, mark_effect, end_effect}
 use Rattle.dr_refine.proofs.Bounds.{deliver_bounded, receive_bounded}
 use Rattle.dr_refine.proofs.Looks.{look_effect, push_effect}
+use Rattle.dr_refine.proofs.Suspects.{suspect_effect}
 use Rattle.dr_refine.proofs.Puts.{null_effect, send_effect, receive_effect}
 
 -- a running member has no end
@@ -38,10 +40,6 @@ alive g rs table m r is running = sym (ap (λ h. h.end) (held_of g rs table m r 
 
 with_nothing : {T C : Type 0} → (T ↔ C) → T ↔ (C × Unit {0})
 with_nothing same = (λ t. (same.0 t, tt), λ c. same.1 c.0)
-
-done_test : (end : End) → (is_done end ≡ true) ↔ (end ≡ Done)
-done_test Done = (λ e. refl, λ e. refl)
-done_test end = (λ e. absurd (cc), λ e. absurd (cc))
 
 fault_test : (end : End) → (is_fault end ≡ true) ↔ IsFault end
 fault_test Crashed = (λ e. tt, λ f. refl)
@@ -58,30 +56,19 @@ act_guard g rs table m r acts.Beat is unended =
     (λ e. (beat_guard g rs table m r is unended, tt), λ can. refl)
 act_guard g rs table m r (acts.Receive s) is unended = (
   λ e. (receive_guard g rs table m r s is unended).0 (and_parts (nat_lt s r.roster) (may_receive r s) e).1,
-  λ can. let e = (receive_guard g rs table m r s is unended).1 can in
-      and_from (nat_lt s r.roster) (may_receive r s) (sender_below s (and_parts (is_other r s) _ e).0) e,
+  λ can. and_from (nat_lt s r.roster) (may_receive r s)
+      (other_below g rs table m r s is ((other_member g rs table m r s is).1 can.0.sender))
+      ((receive_guard g rs table m r s is unended).1 can),
 )
-  where
-    sender_below : (s : ℕ) → is_other r s ≡ true → nat_lt s r.roster ≡ true
-    sender_below s e = let within : s < r.roster = rw is.of.members (other_within g rs table m r s is e) in
-        grind (arith, nat_tests, within)
 act_guard g rs table m r acts.Send is unended = with_nothing (send_guard g rs table m r is unended)
 act_guard g rs table m r acts.Null is unended = with_nothing (null_guard g rs table m r is unended)
 act_guard g rs table m r acts.Deliver is unended = deliver_guard g rs table m r is unended
 act_guard g rs table m r acts.Publish is unended = with_nothing (publish_guard g rs table m r is unended)
 act_guard g rs table m r acts.Report is unended = with_nothing (report_guard g rs table m r is unended)
 act_guard g rs table m r acts.Mark is unended = with_nothing (mark_guard g rs table m r is unended)
-act_guard g rs table m r (acts.Halt end) is unended = (
-  λ e. let two = and_parts (is_done end) (all_done r) e in
-      (halts end ((done_test end).0 two.0) ((halt_guard g rs table m r is unended).0 two.1), tt),
-  λ can. and_from (is_done end) (all_done r) ((done_test end).1 can.0.done)
-      ((halt_guard g rs table m r is unended).1
-      (subst (λ x. CanDo g (world_of g rs table) m (acts.Halt x)) can.0.done can.0)),
-)
-  where
-    halts : (end : End) → end ≡ Done → CanDo g (world_of g rs table) m (acts.Halt Done)
-        → CanDo g (world_of g rs table) m (acts.Halt end)
-    halts end e can = subst (λ x. CanDo g (world_of g rs table) m (acts.Halt x)) (sym e) can
+act_guard g rs table m r (acts.Suspect j) is unended =
+    with_nothing (suspect_guard g rs table m r j is unended)
+act_guard g rs table m r (acts.Halt end) is unended = with_nothing (halt_guard g rs table m r end is unended)
 act_guard g rs table m r (acts.Crash end) is unended = (
   λ e. ((crash_guard g rs table m r end is unended).0 ((fault_test end).0 e), tt),
   λ can. (fault_test end).1 ((crash_guard g rs table m r end is unended).1 can.0),
@@ -96,8 +83,7 @@ cell_test g rs table m r i c is = (
       let three = and_parts (is_other r i) (nat_lt c (columns_of r.roster r.window)) two.1 in
       (three.0, subst (λ k. c < k) wide (grind (arith, nat_tests, three.1))),
   λ p. and_from (nat_lt i r.roster) (is_other r i && nat_lt c (columns_of r.roster r.window))
-      (let within : i < r.roster = rw is.of.members (other_within g rs table m r i is p.0) in
-      grind (arith, nat_tests, within))
+      (other_below g rs table m r i is p.0)
       (and_from (is_other r i) (nat_lt c (columns_of r.roster r.window)) p.0
       (let below : c < columns_of r.roster r.window = subst (λ k. c < k) (sym wide) p.1 in
       grind (arith, nat_tests, below))),
@@ -112,10 +98,12 @@ pub step_guard : (g : Group) (rs : List Replica) (table : List ℕ) (m : ℕ) (r
     → (allows r s ≡ true) ↔ (CanTake g (world_of g rs table) m s × HasRoomFor r s)
 step_guard g rs table m r (steps.Do a) is unended = act_guard g rs table m r a is unended
 step_guard g rs table m r (steps.Look i c) is unended = (
-  λ e. let cell = (cell_test g rs table m r i c is).0 e in
-      ((look_guard g rs table m r i c is unended cell.1).0 cell.0, tt),
-  λ can. (cell_test g rs table m r i c is).1
-      ((look_guard g rs table m r i c is unended can.0.column).1 can.0, can.0.column),
+  λ e. let two = and_parts (not (has r.suspects i)) (has_cell r i c) e in
+      let cell = (cell_test g rs table m r i c is).0 two.1 in
+      ((look_guard g rs table m r i c is unended cell.1).0 (two.0, cell.0), tt),
+  λ can. let two = (look_guard g rs table m r i c is unended can.0.column).1 can.0 in
+      and_from (not (has r.suspects i)) (has_cell r i c) two.0
+      ((cell_test g rs table m r i c is).1 (two.1, can.0.column)),
 )
 step_guard g rs table m r (steps.Push j c) is unended = (
   λ e. let cell = (cell_test g rs table m r j c is).0 e in
@@ -162,6 +150,7 @@ act_effect g rs table m r acts.Deliver is may = deliver_effect g rs table m r is
 act_effect g rs table m r acts.Publish is may = publish_effect g rs table m r is
 act_effect g rs table m r acts.Report is may = report_effect g rs table m r is
 act_effect g rs table m r acts.Mark is may = mark_effect g rs table m r is
+act_effect g rs table m r (acts.Suspect j) is may = suspect_effect g rs table m r j is may
 act_effect g rs table m r (acts.Halt end) is may = end_effect g rs table m r end is
 act_effect g rs table m r (acts.Crash end) is may = end_effect g rs table m r end is
 
@@ -214,7 +203,8 @@ step_effect g rs table m r (steps.Do a) is may =
     ap (world_of g (slice_set rs m (taken r a))) (stamped_is g rs table m r is)
     ∙ act_effect g rs table m r a is may
 step_effect g rs table m r (steps.Look i c) is may =
-    let cell = (cell_test g rs table m r i c is).0 may in
+    let cell = (cell_test g rs table m r i c is).0
+    (and_parts (not (has r.suspects i)) (has_cell r i c) may).1 in
     ap (λ word. world_of g (slice_set rs m (looked r i c word)) table) (found_is g rs table m r i c is)
     ∙ look_effect g rs table m r i c is cell.0 cell.1
 step_effect g rs table m r (steps.Push j c) is may =

@@ -18,9 +18,10 @@ use Rattle.dr_replica.specs.Items.{Held, front, taken}
 use Rattle.dr_replica.specs.Inside.{IsInside, view_of}
 use Rattle.dr_replica.specs.declared.replica.Replica.TheInside.{Inside}
 use Rattle.dr_replica.proofs.Members.{some_member}
+use Rattle.dr_replica.proofs.Insides.{same_suspicion}
 use Rattle.dr_replica.proofs.Gains.{front_rises, shown}
 use Rattle.dr_replica.specs.Puts.{MayPut}
-use Rattle.dr_replica.proofs.Keeps.{message_to_send, putting}
+use Rattle.dr_replica.proofs.Keeps.{message_to_send, open_recv, putting}
 
 -- the words that follow an item more
 abbrev pub Shown : Words → Words → Held → ℕ → Type 0
@@ -128,7 +129,7 @@ put_shows a m k name item rows t inside may p =
     let there = rows_are a m k item rows t p in
     let recv : own rows (recv_column (me r))
     ≡ recv_word (count r (me r)) false = ap (λ (w : Words). own w (recv_column (me r))) there
-    ∙ n.kept (recv_column (me r)) (omega (arith, n.sender)) ∙ f.recv (me r) n.sender in
+    ∙ n.kept (recv_column (me r)) (omega (arith, n.sender)) ∙ open_recv r (me r) f n.unwedged n.sender in
     let mine : own rows (recv_column m)
     ≡ recv_word (count r m) false =
     subst (λ (i : ℕ). own rows (recv_column i) ≡ recv_word (count r i) false) (sym p.me) recv in
@@ -163,12 +164,13 @@ put_after a w m k name item rows t puts inside may p more after =
 -- a taken item leaves the replica in good order inside, where its form is kept
 pub items_kept : (a : Inside) (rows : Words) (t : Held) (s : ℕ) (item : Item) (puts : _) → IsInside a
     → t ≡ taken a.items s item → greatest a.totals ≤ vec_capacity puts
-    → HasForm (view_of (record a { rows = rows; items = t; sent = puts }))
+    → rows.me ≡ a.rows.me → HasForm (view_of (record a { rows = rows; items = t; sent = puts }))
     → least_seen (view_of a) RECEIVED_COLUMN
     ≤ least_seen (view_of (record a { rows = rows; items = t; sent = puts })) RECEIVED_COLUMN
     → IsInside (record a { rows = rows; items = t; sent = puts })
-items_kept a rows t s item puts inside took room form rise = record {
+items_kept a rows t s item puts inside took room me form rise = record {
   form = form;
+  suspicion = same_suspicion a rows inside me;
   members = ap (λ (h : Held). h.members) took ∙ inside.members;
   roster = ap (λ (h : Held). h.roster) took ∙ inside.roster;
   most = ap (λ (h : Held). h.most) took ∙ inside.most;

@@ -1,5 +1,5 @@
 -- The fields keep their invariant.
-use Rattle.std.proofs.Common.{◌≡◌, ℕ, ◌+◌, ◌*◌, ◌/◌, ◌%◌, ◌^◌, ◌<◌, ◌≤◌, Bool, true, nat_lt, map, slice_index, slice_index_or, List, ◌++◌, length, Option, sym, ap, subst, ◌∙◌, arith, le_trans}
+use Rattle.std.proofs.Common.{◌≡◌, ℕ, ◌+◌, ◌*◌, ◌/◌, ◌%◌, ◌^◌, ◌<◌, ◌≤◌, Bool, true, not, nat_lt, map, slice_index, slice_index_or, List, ◌++◌, length, Option, sym, ap, subst, ◌∙◌, arith, le_trans}
 use Rattle.std.proofs.lemmas.Bool.{and_parts, ltb-true}
 use Rattle.dr_entry.specs.declared.end.End.{End}
 use Rattle.dr_entry.specs.declared.entry.Item.{Item}
@@ -10,8 +10,18 @@ use Rattle.dr_words.specs.declared.column.TheConstants.{RECEIVED_COLUMN}
 use Rattle.dr_words.specs.Grown.{Grown}
 use Rattle.dr_machine.specs.Effects.{entries_of}
 use Rattle.dr_program.specs.Replica as replica
-use Rattle.dr_program.specs.Replica.{Replica, delivered, least_seen, may_deliver}
+use Rattle.dr_program.specs.Replica.{Replica, delivered, least_seen, may_deliver, may_suspect, rewritten, suspected, suspicion_of}
 use Rattle.dr_program.specs.Form.{HasForm}
+use Rattle.std.proofs.lemmas.Option.{get_or_from_slice_get}
+use Rattle.std.specs.Prelude.{Some, slice_get}
+use Rattle.dr_history.specs.Members.{members_of}
+use Rattle.dr_machine.specs.Effects.{wedged_word}
+use Rattle.dr_rows.specs.Words.{with_frozen}
+use Rattle.dr_words.specs.Masks as masks
+use Rattle.dr_words.specs.Masks.{with_member, without}
+use Rattle.dr_suspect.specs.Suspicion.{Suspicion}
+use Rattle.dr_replica.proofs.Received.{suspected_received}
+use Rattle.dr_replica.proofs.Wedging.{suspected_form}
 use Rattle.dr_replica.specs.Items as items
 use Rattle.dr_replica.specs.Items.{Held}
 use Rattle.dr_replica.specs.History as histories
@@ -22,16 +32,23 @@ use Rattle.dr_replica.specs.Spots.{IsSpot}
 use Rattle.dr_replica.specs.declared.spot.Spot.{Spot}
 use Rattle.dr_replica.specs.declared.replica.Replica.TheInside.{Inside}
 
+-- the suspicion stays where the rows are of the same member
+pub same_suspicion : (a : Inside) (rows : Words) → IsInside a → rows.me ≡ a.rows.me
+    → a.suspects ≡ suspicion_of (record (view_of a) { rows = rows })
+same_suspicion a rows inside me = inside.suspicion
+    ∙ ap (λ (m : ℕ). record a.suspects { me = m; members = a.members }) (sym me)
+
 -- where items, history and what was put stay as they are, only the form is left
 pub state_kept : (a : Inside) (rows : Words) (logged durable turns acts : ℕ) (end : Option End)
-    → IsInside a
+    → IsInside a → rows.me ≡ a.rows.me
     → HasForm (view_of
     (record a { rows = rows; logged = logged; durable = durable; turns = turns; acts = acts; end = end }))
     → least_seen (view_of a) RECEIVED_COLUMN ≤ least_seen (record (view_of a) { rows = rows }) RECEIVED_COLUMN
     → IsInside (record a
     { rows = rows; logged = logged; durable = durable; turns = turns; acts = acts; end = end })
-state_kept a rows logged durable turns acts end inside form rise = record {
+state_kept a rows logged durable turns acts end inside me form rise = record {
   form = form;
+  suspicion = same_suspicion a rows inside me;
   members = inside.members;
   roster = inside.roster;
   most = inside.most;
@@ -72,7 +89,8 @@ next_held : (r : Replica) → HasForm r → may_deliver r ≡ true
 next_held r f may =
     let seen_by_all : r.next < least_seen r RECEIVED_COLUMN =
     ltb-true r.next (least_seen r RECEIVED_COLUMN)
-    (and_parts (nat_lt r.next (least_seen r RECEIVED_COLUMN)) (nat_lt (length r.history) r.room) may).0 in
+    (and_parts (nat_lt r.next (least_seen r RECEIVED_COLUMN)) (nat_lt (length r.history) r.room)
+    (and_parts (not (replica.is_wedged r)) _ may).1).0 in
     let mine = least_of r RECEIVED_COLUMN (replica.me r) (omega (arith, f.rows.present, f.rows.few)) f.present
     in (
       omega (arith, seen_by_all, mine, f.received),
@@ -115,3 +133,59 @@ delivered_after a n h s item inside sender what after next =
       history = a.history.entries
           ++ entries_of a.history.entries (replica.sender_at (view_of a) p) x;
     }) which
+
+-- ---- suspicion
+
+-- the least member of a mask, as it is read
+pub least_read : (mask p : ℕ) → slice_get (members_of mask) 0 ≡ Some p → p ≡ masks.least_of mask
+unfolding masks.least_of
+least_read mask p there = sym (get_or_from_slice_get (members_of mask) 0 p 0 there)
+
+-- whom it then promises to accept from
+pub voter_read : (a : Inside) (s : Suspicion) (m p rest : ℕ) → IsInside a
+    → s ≡ record a.suspects { suspects = s.suspects } → m ≡ s.suspects
+    → rest ≡ without s.members s.suspects → slice_get (members_of rest) 0 ≡ Some p
+    → p ≡ masks.least_of (without a.members m)
+voter_read a s m p rest inside same mask left there =
+    least_read (without a.members m) p (subst (λ (x : ℕ). slice_get (members_of x) 0 ≡ Some p)
+    (left ∙ ap (λ (x : ℕ). without x s.suspects) members ∙ ap (without a.members) (sym mask)) there)
+  where
+    members : s.members ≡ a.members
+    members = ap (λ (x : Suspicion). x.members) same ∙ ap (λ (x : Suspicion). x.members) inside.suspicion
+
+-- the fields are those of the replica that suspects one member more
+pub suspected_after : (a : Inside) (s : Suspicion) (rows mid : Words) (j m p : ℕ) → IsInside a
+    → s.suspects ≡ with_member a.suspects.suspects j → m ≡ s.suspects
+    → p ≡ masks.least_of (without a.members m)
+    → mid ≡ rewritten a.rows (wedged_word a.shape.members a.members m p) → rows ≡ with_frozen mid j
+    → view_of (record a { rows = rows; suspects = s }) ≡ suspected (view_of a) j
+suspected_after a s rows mid j m p inside more mask voter words frozen =
+    ap (λ (x : ℕ). record (view_of a) { rows = rows; suspects = x }) more
+    ∙ ap (λ (w : Words). record (view_of a) { rows = w; suspects = with_member a.suspects.suspects j })
+    (frozen ∙ ap (λ (w : Words). with_frozen w j) (words
+    ∙ ap (λ (q : ℕ). rewritten a.rows (wedged_word a.shape.members a.members m q)) voter
+    ∙ ap (λ (x : ℕ). rewritten a.rows (wedged_word a.shape.members a.members x
+    (masks.least_of (without a.members x)))) (mask ∙ more)))
+
+-- they keep their invariant
+pub suspected_kept : (a : Inside) (s : Suspicion) (rows : Words) (j : ℕ) → IsInside a
+    → may_suspect (view_of a) j ≡ true → s ≡ record a.suspects { suspects = s.suspects }
+    → view_of (record a { rows = rows; suspects = s }) ≡ suspected (view_of a) j
+    → IsInside (record a { rows = rows; suspects = s })
+suspected_kept a s rows j inside may rest there = record {
+  form = subst HasForm (sym there) (suspected_form (view_of a) j inside.form may);
+  suspicion = rest ∙ ap (λ (x : Suspicion). record x { suspects = s.suspects }) inside.suspicion
+      ∙ ap (λ (m : ℕ). record { me = m; members = a.members; suspects = s.suspects })
+      (sym (ap (λ (r : Replica). r.rows.me) there));
+  members = inside.members;
+  roster = inside.roster;
+  most = inside.most;
+  messages = inside.messages;
+  next = inside.next;
+  received = le_trans inside.received (subst
+      (λ (r : Replica). least_seen (view_of a) RECEIVED_COLUMN ≤ least_seen r RECEIVED_COLUMN) (sym there)
+      (suspected_received (view_of a) j inside.form may));
+  sent = inside.sent;
+  past = inside.past;
+  end = inside.end;
+}

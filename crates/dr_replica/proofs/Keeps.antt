@@ -22,39 +22,34 @@ use Rattle.dr_words.specs.Masks.{IsInRoster}
 use Rattle.dr_rows.specs.Words as rows
 use Rattle.dr_rows.specs.Words.{Words, IsWords, own, seen, with_own, is_frozen}
 use Rattle.dr_rows.proofs.WordsLemmas.{IsWords-pushed}
-use Rattle.dr_words.specs.declared.column.TheConstants.{BEAT_COLUMN, RECEIVED_COLUMN, LOGGED_COLUMN, DONE_COLUMN}
+use Rattle.dr_words.specs.declared.column.TheConstants.{BEAT_COLUMN, SUSPECTED_COLUMN, RECEIVED_COLUMN, LOGGED_COLUMN, DONE_COLUMN}
 use Rattle.dr_words.specs.Columns.{columns_of, recv_column}
 use Rattle.dr_words.specs.Form.{IsInForm}
 use Rattle.dr_words.specs.Grown.{HasGrown, Grown}
-use Rattle.dr_words.specs.Packing.{ring_tag}
+use Rattle.dr_words.specs.Packing.{accept_promise, recv_word, ring_tag}
 use Rattle.dr_words.proofs.Order.{Grown_trans}
-use Rattle.dr_words.proofs.Bits.{has_zero}
 use Rattle.dr_program.specs.Acts.{may, taken}
 use Rattle.dr_machine.proofs.Sending.{messages_within, next_message, next_null, only_messages}
 use Rattle.dr_machine.specs.Sending.{IsPut}
 use Rattle.dr_machine.specs.Effects.{one_more, entries_of}
 use Rattle.dr_machine.specs.declared.event.Act.{Act}
 use Rattle.dr_machine.specs.declared.event.Act.TheVariants as acts
-use Rattle.dr_program.specs.Replica.{Replica, me, count, greatest, view_of, is_other, least_seen, sender_at, item_at, may_append, may_deliver, is_behind, may_receive, may_send, may_null, ready_item, next_index, gained, acted, beaten, ended, reported, appended, delivered, published, marked, looked, pushed, put, received}
+use Rattle.dr_program.specs.Replica.{Replica, me, count, greatest, view_of, is_other, is_wedged, least_seen, sender_at, item_at, may_append, may_deliver, is_behind, may_receive, may_send, may_null, ready_item, next_index, gained, acted, beaten, ended, reported, appended, delivered, published, marked, looked, pushed, put, received, suspected}
 use Rattle.dr_program.specs.Form.{HasForm}
 use Rattle.dr_replica.proofs.Members.{some_member}
 use Rattle.dr_replica.proofs.Tables.{IsTable, free_in_form, done_in_form, free_grown, table_looked, table_set, own_written, own_left, own_seen, looked_grown, set_grown}
 use Rattle.dr_replica.specs.Puts.{MayPut}
 use Rattle.dr_replica.proofs.Puts.{table_put, put_left, put_tags, put_grown}
+use Rattle.dr_replica.proofs.Wedging.{accept_within, suspected_form, suspected_grown}
 use Rattle.dr_replica.proofs.Gains.{counts_bounded, front_rises, shown, table_shown, shown_left, shown_recv, shown_received, shown_grown}
 
--- so far no row is frozen
-pub unfrozen : (r : Replica) → HasForm r → (i : ℕ) → is_frozen r.rows i ≡ false
-unfrozen r f i = f.frozen i ∙ has_zero i
-
 -- the rows of a replica in form
-table_of : (r : Replica) → HasForm r → IsTable r.roster r.window r.rows
+pub table_of : (r : Replica) → HasForm r → IsTable r.roster r.window r.rows
 table_of r f = record {
   rows = f.rows;
   members = f.members;
   columns = f.columns;
   words = f.words;
-  unfrozen = unfrozen r f;
 }
 
 -- its own number is one of the roster, and so is that of each member of its view
@@ -83,6 +78,7 @@ rest_keeps r next logged durable turns acts history end f more within room rises
   words = f.words;
   some_slot = f.some_slot;
   most_slots = f.most_slots;
+  suspicion = f.suspicion;
   frozen = f.frozen;
   bank = f.bank;
   roster = f.roster;
@@ -91,7 +87,9 @@ rest_keeps r next logged durable turns acts history end f more within room rises
   bounded = f.bounded;
   few = f.few;
   items = f.items;
+  suspected = f.suspected;
   recv = f.recv;
+  accept = f.accept;
   received = f.received;
   beat = omega (arith, f.beat);
   acts = small;
@@ -126,7 +124,8 @@ words_keep r words sent f w = record {
   words = w.table.words;
   some_slot = f.some_slot;
   most_slots = f.most_slots;
-  frozen = λ i. w.table.unfrozen i ∙ sym (has_zero i);
+  suspicion = f.suspicion;
+  frozen = f.frozen;
   bank = f.bank;
   roster = f.roster;
   present = f.present;
@@ -134,8 +133,13 @@ words_keep r words sent f w = record {
   bounded = f.bounded;
   few = f.few;
   items = f.items;
+  suspected = w.kept SUSPECTED_COLUMN (λ e. omega arith) (λ e. omega arith) (λ e. omega arith)
+      ∙ f.suspected;
   recv = λ s lt. w.kept (recv_column s) (λ e. omega arith) (λ e. omega arith) (λ e. omega arith)
       ∙ f.recv s lt;
+  accept = λ c is. let high = accept_within r.roster r.members c is in
+      ap accept_promise (w.kept c (λ e. omega (arith, high)) (λ e. omega (arith, high))
+      (λ e. omega (arith, high))) ∙ f.accept c is;
   received = w.kept RECEIVED_COLUMN (λ e. omega arith) (λ e. omega arith) (λ e. omega arith)
       ∙ f.received;
   beat = w.beat;
@@ -238,7 +242,8 @@ delivered_keeps r f may =
     let more = length-append r.history new in
     let room : length r.history < r.room =
     ltb-true (length r.history) r.room
-    (and_parts (nat_lt r.next (least_seen r RECEIVED_COLUMN)) (nat_lt (length r.history) r.room) may).1 in
+    (and_parts (nat_lt r.next (least_seen r RECEIVED_COLUMN)) (nat_lt (length r.history) r.room)
+    (and_parts (not (is_wedged r)) _ may).1).1 in
     acted_keeps (delivered r) (rest_keeps r (r.next + 1) r.logged r.durable r.turns r.acts
     (r.history ++ new) r.end f (omega arith) (omega (arith, more, f.logged))
     (omega (arith, more, one, room)) (omega arith) f.acts)
@@ -309,11 +314,13 @@ looked_keeps r i c v f other column is =
     }
 
 -- no word falls by a look at a word that has grown since it was seen
-pub looked_rises : (r : Replica) (i c v : ℕ) → HasForm r → is_other r i ≡ true → c
-    < columns_of r.roster r.window → HasGrown r.roster c (seen r.rows i c) v
+pub looked_rises : (r : Replica) (i c v : ℕ) → HasForm r → is_other r i ≡ true
+    → has r.suspects i ≡ false → c < columns_of r.roster r.window
+    → HasGrown r.roster c (seen r.rows i c) v
     → Grown r.roster r.rows.words (looked r i c v).rows.words r.rows.frozen (looked r i c v).rows.frozen
-looked_rises r i c v f other column grown =
-    looked_grown r.roster r.window r.rows i c v (table_of r f) (other_apart r i f other).1 column grown
+looked_rises r i c v f other trusted column grown =
+    looked_grown r.roster r.window r.rows i c v (table_of r f) (other_apart r i f other).1 column
+    (f.frozen i ∙ trusted) grown
 
 -- a push to a member of the roster keeps a replica in form
 pub pushed_keeps : (r : Replica) (j c : ℕ) → HasForm r → j < r.roster → HasForm (pushed r j c)
@@ -324,7 +331,6 @@ pushed_keeps r j c f within =
         members = f.members;
         columns = f.columns;
         words = f.words;
-        unfrozen = unfrozen r f;
       };
       kept = λ d p q s. refl;
       beat = f.beat;
@@ -335,7 +341,8 @@ pushed_keeps r j c f within =
 
 -- what is put stands in words of its own
 pub record IsPutting (r : Replica) (s : ℕ) (words : List (List ℕ)) (puts : List SentItem) : Type 0 where
-  -- s is of the roster, and there is room for its item
+  -- the replica isn't wedged, s is of the roster, and there is room for its item
+  pub unwedged : is_wedged r ≡ false
   pub sender : s < r.roster
   pub room : count r s < greatest r.totals
   -- the words are those from before, up to the ring
@@ -347,6 +354,11 @@ pub record IsPutting (r : Replica) (s : ℕ) (words : List (List ℕ)) (puts : L
       ≤ get_or (set r.counts s (count r s + 1)) (me r) 0
   pub put : length puts ≡ get_or (set r.counts s (count r s + 1)) (me r) 0
   pub order : IsPut r.base (length r.messages) puts
+
+-- of one that isn't wedged no count is final
+pub open_recv : (r : Replica) (s : ℕ) → HasForm r → is_wedged r ≡ false → s < r.roster
+    → own r.rows (recv_column s) ≡ recv_word (count r s) false
+open_recv r s f unwedged within = rw unwedged at (f.recv s within)
 
 gained_keeps : (r : Replica) (s : ℕ) (item : Item) (words : List (List ℕ)) (puts : List SentItem)
     → HasForm r → IsPutting r s words puts
@@ -369,7 +381,8 @@ gained_keeps r s item words puts f p =
       words = t.words;
       some_slot = f.some_slot;
       most_slots = f.most_slots;
-      frozen = λ i. t.unfrozen i ∙ sym (has_zero i);
+      suspicion = f.suspicion;
+      frozen = f.frozen;
       bank = f.bank;
       roster = f.roster;
       present = f.present;
@@ -377,13 +390,17 @@ gained_keeps r s item words puts f p =
       bounded = counts_bounded r.counts s k (greatest r.totals) within (omega (arith, p.room)) f.bounded;
       few = f.few;
       items = length-set r.items (count r s * r.roster + s) item ∙ f.items;
+      suspected = low SUSPECTED_COLUMN (omega arith) (λ e. omega arith) (λ e. omega arith) ∙ f.suspected;
       recv = λ j l. elim (cases_eq j s) [
         | inl same ↦ let set = get_or-set_same r.counts s k 0 within in
-            rw (same, set) (shown_recv r.roster r.window w s k front p.table p.sender)
+            rw (same, set, p.unwedged) (shown_recv r.roster r.window w s k front p.table p.sender)
         | inr other ↦ let kept = get_or-set_other r.counts s j k 0 other in
             rw kept (low (recv_column j) (omega arith) (λ e. omega arith) (λ e. other (omega arith))
             ∙ f.recv j l)
       ];
+      accept = λ c is. let high = accept_within r.roster r.members c is in
+          ap accept_promise (low c high.1 (λ e. omega (arith, high)) (λ e. omega (arith, high, p.sender)))
+          ∙ f.accept c is;
       received = shown_received r.roster r.window w s k front p.table p.sender few;
       beat = omega (arith, low BEAT_COLUMN (omega arith) (λ e. omega arith) (λ e. omega arith), f.beat);
       acts = f.acts;
@@ -419,7 +436,7 @@ gained_grown r s item words puts f p =
     shown_grown r.roster r.window w s (count r s) k
     (front_of (map (slice_index (set r.counts s k)) (view_of r))) p.table p.sender
     (omega (arith, p.room, f.few))
-    (p.kept (recv_column s) (omega (arith, p.sender)) ∙ f.recv s p.sender) (omega arith)
+    (p.kept (recv_column s) (omega (arith, p.sender)) ∙ open_recv r s f p.unwedged p.sender) (omega arith)
     (omega (arith, p.kept RECEIVED_COLUMN (omega arith), f.received, rises))
 
 -- ---- receiving
@@ -427,14 +444,16 @@ gained_grown r s item words puts f p =
 receiving : (r : Replica) (s : ℕ) → HasForm r → may_receive r s ≡ true
     → IsPutting r s r.rows.words r.sent
 receiving r s f may =
+    let all = and_parts (not (is_wedged r)) _ may in
     let parts = and_parts (is_other r s)
-    (is_some (ready_item r s) && nat_lt (count r s) (greatest r.totals)) may in
+    (is_some (ready_item r s) && nat_lt (count r s) (greatest r.totals)) all.1 in
     let apart = other_apart r s f parts.0 in
     let room = ltb-true (count r s) (greatest r.totals)
     (and_parts (is_some (ready_item r s)) (nat_lt (count r s) (greatest r.totals)) parts.1).1 in
     let mine : get_or (set r.counts s (count r s + 1)) (me r) 0
     ≡ count r (me r) = get_or-set_other r.counts s (me r) (count r s + 1) 0 (λ e. apart.2 (sym e)) in
     record {
+      unwedged = not-true (is_wedged r) all.0;
       sender = apart.1;
       room = room;
       table = table_of r f;
@@ -500,12 +519,14 @@ pub sending : (r : Replica) → HasForm r → may_send r ≡ true
     → MayPut r (Index (next_index r)) (message_to_send r)
 sending r f may =
     let i : ℕ = next_index r in
+    let both = and_parts (not (is_wedged r)) _ may in
     let two = and_parts (nat_lt i (length r.messages))
-    (is_free r.window r.rows r.members (count r (me r))) may in
+    (is_free r.window r.rows r.members (count r (me r))) both.1 in
     let left : i < length r.messages = ltb-true i (length r.messages) two.0 in
     let there = slice_get-get_or r.messages i [] left in
     let all = only_messages r.base (length r.messages) r.sent f.order left in
     record {
+      unwedged = not-true (is_wedged r) both.0;
       ranges = (f.short i (get_or r.messages i []) there, f.bytes i (get_or r.messages i []) there);
       room = omega (arith, left, f.messages, totals_most r.totals (me r), f.put, all);
       free = slot_free r f two.1;
@@ -524,9 +545,11 @@ behind_some k most (x ∷ xs) bounded e = elim (or_cases (nat_lt k x) (list_any 
 -- one that may put a null may put it
 pub filling : (r : Replica) → HasForm r → may_null r ≡ true → MayPut r sent_items.Null Null
 filling r f may =
-    let two = and_parts (not (nat_lt (next_index r) (length r.messages))) _ may in
+    let all = and_parts (not (is_wedged r)) _ may in
+    let two = and_parts (not (nat_lt (next_index r) (length r.messages))) _ all.1 in
     let three = and_parts (is_behind r) _ two.1 in
     record {
+      unwedged = not-true (is_wedged r) all.0;
       ranges = tt;
       room = behind_some (count r (me r)) (greatest r.totals) r.counts f.bounded three.0;
       free = slot_free r f three.1;
@@ -541,6 +564,7 @@ putting r name item f may =
     let mine : get_or (set r.counts (me r) (k + 1)) (me r) 0
     ≡ k + 1 = get_or-set_same r.counts (me r) (k + 1) 0 (omega (arith, me_within r f, f.counts)) in
     record {
+      unwedged = may.unwedged;
       sender = me_within r f;
       room = may.room;
       table = table_put r.roster r.window r.rows k item (table_of r f) f.some_slot may.ranges;
@@ -591,6 +615,7 @@ taken_keeps r acts.Deliver f m = delivered_keeps r f m
 taken_keeps r acts.Publish f m = published_keeps r f
 taken_keeps r acts.Report f m = reported_keeps r f
 taken_keeps r acts.Mark f m = marked_keeps r f
+taken_keeps r (acts.Suspect j) f m = acted_keeps (suspected r j) (suspected_form r j f m)
 taken_keeps r (acts.Halt end) f m = ended_keeps r end f
 taken_keeps r (acts.Crash end) f m = ended_keeps r end f
 
@@ -603,4 +628,8 @@ taken_grown r acts.Send f m = put_rises r _ _ f (sending r f m)
 taken_grown r acts.Null f m = put_rises r _ _ f (filling r f m)
 taken_grown r acts.Publish f m = published_grown r f
 taken_grown r acts.Mark f m = marked_grown r f
+taken_grown r (acts.Suspect j) f m =
+    Grown_trans r.roster r.rows.words (suspected r j).rows.words (acted (suspected r j)).rows.words
+    r.rows.frozen (suspected r j).rows.frozen (suspected r j).rows.frozen (suspected_grown r j f m)
+    (acted_grown (suspected r j) (suspected_form r j f m))
 taken_grown r a f m = acted_grown r f

@@ -1,5 +1,7 @@
 pub mod Members
 pub mod Tables
+pub mod Rewrites
+pub mod Wedging
 pub mod Gains
 pub mod Spots
 pub mod Places
@@ -8,5 +10,6 @@ pub mod Puts
 pub mod Keeps
 pub mod Received
 pub mod Insides
+pub mod Judging
 pub mod Exchanges
 pub mod Openings

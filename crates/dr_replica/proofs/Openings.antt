@@ -1,5 +1,5 @@
 -- The fields of a replica as its age opens.
-use Rattle.std.proofs.Common.{◌≡◌, ℕ, ◌+◌, ◌*◌, ◌^◌, ◌<◌, ◌≤◌, [], List, length, None, sym, ap, subst, ◌∙◌, arith}
+use Rattle.std.proofs.Common.{◌≡◌, ℕ, ◌+◌, ◌*◌, ◌^◌, ◌<◌, ◌≤◌, [], List, length, None, refl, sym, ap, subst, ◌∙◌, arith}
 use Rattle.std.specs.Prelude.{vec_capacity}
 use Rattle.dr_entry.specs.declared.entry.Entry.{Entry}
 use Rattle.dr_history.specs.Members.{members_of}
@@ -8,6 +8,7 @@ use Rattle.dr_history.proofs.NumberedLemmas.{messages_from-View}
 use Rattle.dr_rows.specs.Words.{Words, begun, with_own}
 use Rattle.dr_words.specs.declared.column.TheConstants.{LOGGED_COLUMN}
 use Rattle.dr_words.specs.Columns.{columns_of}
+use Rattle.dr_suspect.specs.Suspicion.{Suspicion, trusting}
 use Rattle.dr_program.specs.declared.setup.Setup.{Setup}
 use Rattle.dr_program.specs.Replica.{begun_replica, first_entries_of, greatest}
 use Rattle.dr_program.specs.Form.{CanBegin, HasForm}
@@ -49,6 +50,7 @@ pub record AreBegun (a : Inside) (s : Setup) (fresh : Words) (top : ℕ) : Type 
   pub rows : a.rows ≡ with_own fresh LOGGED_COLUMN (length a.history.entries)
   pub view : a.view ≡ 0
   pub members : a.members ≡ s.members
+  pub suspects : a.suspects ≡ trusting s.me s.members
   pub items : a.items ≡ none_held s.members s.shape.members top
   pub base : a.base ≡ length (messages_from s.me a.history.entries)
   pub sent : a.sent.items ≡ []
@@ -88,7 +90,9 @@ begun_view a s first most b =
     let logged : a.logged ≡ count = b.logged ∙ ap length entries in
     let durable : a.durable ≡ count = b.durable ∙ ap length entries in
     let shape = b.shape in let messages = b.messages in let totals = b.totals in let view = b.view in
-    let members = b.members in let sent = b.sent in
+    let members = b.members in
+    let suspects : a.suspects.suspects ≡ 0 = ap (λ (x : Suspicion). x.suspects) b.suspects in
+    let sent = b.sent in
     let next : a.next.place ≡ 0 = ap (λ (n : Spot). n.place) b.next in let turns = b.turns in
     let acts = b.acts in let end = b.end in
     cc
@@ -99,6 +103,9 @@ pub begun_inside : (a : Inside) (s : Setup) (first : Words) (most : ℕ) → Can
     → 1 ≤ vec_capacity a.past → IsInside a
 begun_inside a s first most can b sent past end = record {
   form = subst HasForm (sym (begun_view a s first most b)) (begun_in_form s can);
+  suspicion =
+      let me : a.rows.me ≡ s.me = ap (λ (w : Words). w.me) b.rows ∙ ap (λ (w : Words). w.me) b.first in
+      let suspects = b.suspects in let members = b.members in rw (suspects, me, members) refl;
   members = ap (λ (h : Held). h.members) b.items ∙ sym (ap members_of b.members);
   roster = ap (λ (h : Held). h.roster) b.items ∙ ap (λ (x : _). x.members) (sym b.shape);
   most = ap (λ (h : Held). h.most) b.items ∙ b.most ∙ ap greatest (sym b.totals);

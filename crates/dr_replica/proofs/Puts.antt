@@ -62,7 +62,6 @@ table_put n window w k item t some is =
       members = t.members;
       columns = t.columns;
       words = pieces_in_form window w k (pieces item) slot few t.words;
-      unfrozen = t.unfrozen;
     }
 
 -- the words before the ring stay

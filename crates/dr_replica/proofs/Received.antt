@@ -10,8 +10,9 @@ use Rattle.dr_pred.specs.Group.{IsOfGroup}
 use Rattle.dr_pred.specs.Watches.{AllLogged, AllReceivedAbove}
 use Rattle.dr_program.proofs.Least.{below_least_seen, least_of, least_rises, received_small}
 use Rattle.dr_program.specs.Form.{HasForm}
-use Rattle.dr_program.specs.Replica.{Replica, acted, least_seen, may_receive, me, put, received}
+use Rattle.dr_program.specs.Replica.{Replica, acted, least_seen, may_receive, may_suspect, me, put, received, suspected}
 use Rattle.dr_replica.proofs.Keeps.{put_rises, received_grown}
+use Rattle.dr_replica.proofs.Wedging.{suspected_grown}
 use Rattle.dr_replica.specs.Puts.{MayPut}
 use Rattle.dr_rows.proofs.Grids.{with_word-column}
 use Rattle.dr_rows.specs.Words.{with_own}
@@ -52,6 +53,13 @@ pub received_received : (r : Replica) (s : ℕ) → HasForm r → may_receive r 
 received_received r s form may =
     le_trans (grown_received r (acted (received r s)) r.rows.frozen (acted (received r s)).rows.frozen
     refl (received_grown r s form may)) (unstamped (received r s))
+
+-- nor where a member is suspected
+pub suspected_received : (r : Replica) (j : ℕ) → HasForm r → may_suspect r j ≡ true
+    → least_seen r RECEIVED_COLUMN ≤ least_seen (suspected r j) RECEIVED_COLUMN
+suspected_received r j form may =
+    grown_received r (suspected r j) r.rows.frozen (suspected r j).rows.frozen refl
+    (suspected_grown r j form may)
 
 -- ---- what the watches tell
 

@@ -124,13 +124,12 @@ written_grown n k m rows frozen i c v grid h g alive grown = record {
 
 -- ---- the rows of a member
 
--- they are of the group's shape, each word is in form, and no row is frozen
+-- they are of the group's shape, and each word is in form
 pub record IsTable (n window : ℕ) (w : Words) : Type 0 where
   pub rows : IsWords w
   pub members : w.members ≡ n
   pub columns : w.columns ≡ columns_of n window
   pub words : AllInForm w.members w.words
-  pub unfrozen : (i : ℕ) → is_frozen w i ≡ false
 
 -- the rows remain a table when a word in form is taken over by a look
 pub table_looked : (n window : ℕ) (w : Words) (i c v : ℕ) → IsTable n window w → i < n → c
@@ -143,7 +142,6 @@ table_looked n window w i c v t row column is =
       columns = t.columns;
       words = written_in_form w.members w.columns w.members w.words i c v t.rows.rows within
           (omega (arith, t.columns)) t.words (subst (λ (m : ℕ). IsInForm m c v) (sym t.members) is);
-      unfrozen = t.unfrozen;
     }
 
 -- the rows remain a table when an own word in form is set
@@ -167,16 +165,16 @@ pub own_seen : (w : Words) (i c v d : ℕ) → i ≢ w.me → own (looked w i c 
 own_seen w i c v d other = ap (λ (row : List ℕ). get_or row d 0)
     (with_word-row w.words i c v w.me (λ e. other (sym e)))
 
--- they grow where the word does
+-- they grow where the word of a row that isn't frozen does
 pub looked_grown : (n window : ℕ) (w : Words) (i c v : ℕ) → IsTable n window w → i < n → c
-    < columns_of n window → HasGrown n c (seen w i c) v
+    < columns_of n window → is_frozen w i ≡ false → HasGrown n c (seen w i c) v
     → Grown n w.words (looked w i c v).words w.frozen w.frozen
-looked_grown n window w i c v t row column grown =
+looked_grown n window w i c v t row column alive grown =
     written_grown w.members w.columns n w.words w.frozen i c v t.rows.rows (omega (arith, t.members))
-    (omega (arith, t.columns)) (t.unfrozen i) grown
+    (omega (arith, t.columns)) alive grown
 
 -- no word falls where an own word grows
 pub set_grown : (n window : ℕ) (w : Words) (c v : ℕ) → IsTable n window w → c < columns_of n window
     → HasGrown n c (own w c) v → Grown n w.words (with_own w c v).words w.frozen w.frozen
 set_grown n window w c v t column grown =
-    looked_grown n window w w.me c v t (omega (arith, t.rows.present, t.members)) column grown
+    looked_grown n window w w.me c v t (omega (arith, t.rows.present, t.members)) column t.rows.alive grown

@@ -2,7 +2,7 @@
 use Rattle.std.specs.Prelude.{◌≡◌, ℕ, ◌<◌, ◌≤◌, [], length, slice_index, vec_capacity}
 use Rattle.dr_history.specs.Order.{messages_from}
 use Rattle.dr_history.specs.Members.{members_of}
-use Rattle.dr_program.specs.Replica.{Replica, greatest, least_seen}
+use Rattle.dr_program.specs.Replica.{Replica, greatest, least_seen, suspicion_of}
 use Rattle.dr_program.specs.Form.{HasForm}
 use Rattle.dr_words.specs.declared.column.TheConstants.{RECEIVED_COLUMN}
 use Rattle.dr_replica.specs.Items.{Held, IsHeld, front}
@@ -47,6 +47,7 @@ view_of a = record {
   rows = a.rows;
   view = a.view;
   members = a.members;
+  suspects = a.suspects.suspects;
   counts = a.items.counts;
   items = a.items.items;
   base = a.base;
@@ -63,6 +64,8 @@ view_of a = record {
 
 pub record IsInside (a : replica.Inside) : Type 0 where
   pub form : HasForm (view_of a)
+  -- it suspects in its view
+  pub suspicion : a.suspects ≡ suspicion_of (view_of a)
   -- the items and the history are of this view and this roster
   pub members : a.items.members ≡ members_of a.members
   pub roster : a.items.roster ≡ a.shape.members

@@ -3,3 +3,4 @@ pub mod Spots
 pub mod History
 pub mod Inside
 pub mod Puts
+pub mod Wedges

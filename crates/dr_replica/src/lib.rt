@@ -9,5 +9,6 @@ mod history;
 mod items;
 mod replica;
 mod spot;
+mod wedge;
 
 pub use replica::Replica;

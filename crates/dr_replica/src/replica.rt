@@ -1,5 +1,6 @@
 mod acts;
 mod guards;
+mod judging;
 mod opening;
 mod state;
 
@@ -8,11 +9,12 @@ use crate::items::Items;
 use crate::spot::Spot;
 use dr_entry::{End, Message, SentItem, ViewSent};
 use dr_rows::Rows;
+use dr_suspect::Suspects;
 use dr_words::{Mask, Shape};
 use std::marker::Model;
 
-/// The state of one member of a group in one age: what it has, what it has seen of the others, and
-/// how far it has come.
+/// The state of one member of a group in one age: what it has, what it has seen of the others and whom
+/// of them it suspects, and how far it has come.
 ///
 /// A method that tells what a member may do is named after the act. The acts count themselves: each
 /// raises the number of acts, and the member's own beat word takes it.
@@ -24,6 +26,7 @@ pub struct Replica {
     rows: Rows,
     view: u8,
     members: Mask,
+    suspects: Suspects,
     items: Items,
     base: u32,
     sent: Vec<SentItem>,

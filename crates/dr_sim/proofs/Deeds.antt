@@ -19,7 +19,9 @@ use Rattle.dr_refine.proofs.Deeds.{due_allowed}
 use Rattle.dr_logged.specs.Appended.{IsAppendDue, record_due}
 use Rattle.dr_logged.specs.Served.{is_append}
 use Rattle.dr_logged.proofs.Serving.{settled_same, unfailed}
-use Rattle.dr_sim.specs.Deeds.{member_after, outcome_by, stores, table_after, went_so}
+use Rattle.dr_program.specs.Reading.{step_due, step_of_member}
+use Rattle.dr_program.specs.Sight.{MaySee}
+use Rattle.dr_sim.specs.Deeds.{SeesWell, member_after, outcome_by, stores, table_after, went_so}
 
 -- ---- a step, by its deed
 
@@ -77,6 +79,14 @@ word_there : (table : List ℕ) (r : Running) (index : ℕ) → IsTold table r (
     → next_sight table r ≡ slice_index table index
 word_there table r index t = ap (sight table r.replica) t.says.look
     ∙ ap (slice_index table) (sym t.says.place)
+
+-- a member at a look may see the word that the table holds
+pub look_seen : (table : List ℕ) (r : Running) (index : ℕ) → SeesWell table r
+    → next_deed r ≡ deeds.Look index → MaySee r (step_of_member r) (slice_index table index)
+look_seen table r index well is =
+    let t = told table r (deeds.Look index) is in
+    subst (MaySee r (step_of_member r)) (word_there table r index t)
+    (well t.says.row t.says.column (ap (step_due r) t.none ∙ ap Some t.says.look))
 
 -- ---- what a deed makes of the member and the table
 

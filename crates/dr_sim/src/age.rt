@@ -2,6 +2,7 @@
 ghost use Rattle.std.specs.Prelude.{◌≡◌, ◌≤◌, IfOk, OnErr, IsTrue, All, List, [], is_some, length, map, vec_capacity};
 ghost use Rattle.dr_complete.specs.Time.{HasTime};
 ghost use Rattle.dr_program_laws.specs.Ended.{AreComplete, HaveEnded};
+ghost use Rattle.dr_program_laws.specs.Trusting.{NoneLeft, SuspectsNobody};
 ghost use Rattle.dr_history.specs.Agreement.{EndsAgreed};
 ghost use Rattle.dr_machine.specs.Group.{Group, IsGroup};
 ghost use Rattle.dr_program.specs.Program.{Program, age_of, end_of};
@@ -46,6 +47,7 @@ pub fn sim_age<D: Disk>(
         EndsAgreed (group_of script.now start.now).opening age.members) }
     ensures ended { IfOk result (λ age. HaveEnded (group_of script.now start.now).opening
         script.now.turns (crashes_of script.now.faults nth) age.members) }
+    ensures trusting { IfOk result (λ age. SuspectsNobody script.now → NoneLeft age.members) }
     ensures complete { IfOk result (λ age. HasTime script.now → NoneStopped age.members
         → AreComplete (group_of script.now start.now).opening age.members) }
     // What stands on the logs, and what a crash may have left of them at any moment.

@@ -1,12 +1,14 @@
 -- Each deed of a running member is done once and for all: it has fewer left then.
-use Rattle.std.proofs.Common.{◌≡◌, refl, sym, ap, ◌∙◌, subst, ℕ, zero, suc, ◌+◌, ◌-◌, ◌*◌, ◌^◌, ◌<◌, ◌≤◌, ◌&&◌, ◌||◌, not, Bool, true, false, nat_lt, length, le_trans, suc-le-suc, arith}
-use Rattle.std.specs.Prelude.{Option, Some, None, drop, slice_index_or}
+use Rattle.std.proofs.Common.{◌≡◌, refl, sym, ap, ◌∙◌, subst, ℕ, zero, suc, ◌+◌, ◌-◌, ◌*◌, ◌^◌, ◌<◌, ◌≤◌, ◌&&◌, ◌||◌, ◌==◌, if◌then◌else◌, not, Bool, true, false, nat_lt, length, le_trans, suc-le-suc, arith}
+use Rattle.std.specs.Prelude.{Option, Some, None, drop, slice_index_or, unwrap_or}
+use Rattle.std.specs.Option.{option_map, option_or}
 use Rattle.std.proofs.Math.Nat.{min-eq_left, min-le_left}
 use Rattle.std.proofs.lemmas.Bool.{and_parts}
 use Rattle.std.proofs.lemmas.Bool.Decides.{nat_tests}
 use Rattle.dr_entry.specs.declared.end.End.{End}
 use Rattle.dr_entry.specs.declared.end.End.TheVariants as ends
 use Rattle.dr_words.specs.Columns.{columns_of}
+use Rattle.dr_machine.specs.declared.event.Act.{Act}
 use Rattle.dr_machine.specs.declared.event.Act.TheVariants as acts
 use Rattle.dr_machine.specs.declared.step.Step.{Step}
 use Rattle.dr_machine.specs.declared.step.Step.TheVariants as steps
@@ -18,17 +20,23 @@ use Rattle.dr_program.specs.declared.place.TheConstants.{TURN}
 use Rattle.dr_program.specs.Acts.{may}
 use Rattle.dr_machine.specs.Effects.{one_more}
 use Rattle.dr_program.specs.Turn.{after, is_beat, IsIn, part_of, places_in, rows_in, columns_in, turn_begins}
-use Rattle.dr_program.specs.Replica.{Replica}
-use Rattle.dr_program.specs.Steps.{NoWordFell, allows, stepped}
-use Rattle.dr_program.specs.Running.{Running, members, columns, asks, step_at, settled, goes, pushes_after, took, next_step, crashes_now, push_or_crash, append_or_end, end_by, after_step}
+use Rattle.dr_program.specs.Replica.{Replica, has_majority, is_wedged, me, unsuspected}
+use Rattle.dr_rows.specs.Words as rows
+use Rattle.dr_rows.specs.Words.{Words, is_frozen}
+use Rattle.dr_suspect.specs.Waits.{IsWaits, Waits, turned, turned_beat, turned_count}
+use Rattle.dr_words.specs.Masks.{mask_of}
+use Rattle.std.proofs.lemmas.List.FromFn.{length-map-range_with_len}
+use Rattle.dr_program.specs.Steps.{NoWordFell, allows, has_cell, stepped}
+use Rattle.dr_program.specs.Running.{Running, members, columns, asks, judged, named_by, overdue, scripted, told, waits_after, step_at, settled, goes, pushes_after, took, next_step, crashes_now, push_or_crash, append_or_end, end_by, after_step}
 use Rattle.dr_program.specs.Form.{HasForm, IsOf, IsRunningMember}
-use Rattle.dr_program.proofs.Fixed.{Told, told, step_told, of_told}
+use Rattle.dr_program.proofs.Fixed.{Told, step_told, of_told}
+use Rattle.dr_program.proofs.Fixed as fixed
 use Rattle.dr_turn.specs.Search.{left, IsUnderway}
 use Rattle.dr_turn.specs.Work.{tasks, work, deeds_of, left_to, may_fail, deeds_left, HasGrownTo, IsDone}
 use Rattle.dr_turn.proofs.Fewer.{NoneRises, fewer_here, fewer_turns, sum_falls, sum_keeps}
 use Rattle.dr_turn.proofs.Order.{after_beat, beat_last, after_in, all_below, each_below, from_part, left_falls, left_small, left_some}
 use Rattle.dr_turn.proofs.Search.{part_before, settle_less, settle_only, settled_running, settled_underway, some_column, some_member}
-use Rattle.dr_turn.proofs.Tasks.{risen, received_less, put_less, delivered_less, reported_less, published_less, marked_less, sender_within, me_within, none_rises}
+use Rattle.dr_turn.proofs.Tasks.{risen, received_less, put_less, delivered_less, reported_less, published_less, marked_less, suspected_less, sender_within, me_within, none_rises}
 
 -- ---- the work
 
@@ -90,6 +98,9 @@ lowers_task word r (steps.Do acts.Report) f may form none =
 lowers_task word r (steps.Do acts.Mark) f may form none =
     above _ _ (less_by word r (steps.Do acts.Mark) 4 1 none (omega arith)
     (one_less _ _ (marked_less r f may)))
+lowers_task word r (steps.Do (acts.Suspect j)) f may form none =
+    above _ _ (less_by word r (steps.Do (acts.Suspect j)) 5 1 none (omega arith)
+    (one_less _ _ (suspected_less r j f may)))
 lowers_task word r (steps.Do (acts.Halt end)) f may form none = no_more word r (steps.Do (acts.Halt end)) none
 lowers_task word r (steps.Do (acts.Crash end)) f may form none =
     no_more word r (steps.Do (acts.Crash end)) none
@@ -135,7 +146,82 @@ does_at word r part = record r {
   replica = stepped word r.replica (step_at r part r.place.row r.place.column);
   place = goes (members r) (columns r) part r.place;
   pushes = pushes_after r.pushes (step_at r part r.place.row r.place.column);
+  waits = waits_after word r (step_at r part r.place.row r.place.column);
 }
+
+-- ---- judging
+
+-- the acts that a member may judge: to suspect another, and to end by suspicion
+abbrev pub is_verdict : Act → Bool
+is_verdict (acts.Suspect j) = true
+is_verdict (acts.Halt (ends.Suspected by)) = true
+is_verdict (acts.Halt (ends.NoMajority mask)) = true
+is_verdict a = false
+
+-- what a member judges is one of them
+pub verdict_of : (r : Running) → is_verdict (judged r) ≡ true
+verdict_of r = by (named_by r.replica) (scripted r) (told r.replica) (overdue r)
+    (is_wedged r.replica && not (has_majority r.replica))
+  where
+    by : (named script spread late : Option ℕ) (few : Bool)
+        → is_verdict (unwrap_or (option_or (option_map (λ by. acts.Halt (ends.Suspected by)) named)
+        (option_or (option_map acts.Suspect script)
+        (option_or (option_map acts.Suspect spread)
+        (option_or (option_map acts.Suspect late)
+        (if few then Some (acts.Halt (ends.NoMajority (unsuspected r.replica))) else None)))))
+        (acts.Suspect (me r.replica))) ≡ true
+    by (Some i) script spread late few = refl
+    by None (Some i) spread late few = refl
+    by None None (Some i) late few = refl
+    by None None None (Some i) few = refl
+    by None None None None true = refl
+    by None None None None false = refl
+
+-- the member after an act that it has judged
+abbrev judges : ℕ → Running → Act → Running
+judges word r a = record r {
+  replica = stepped word r.replica (steps.Do a);
+  place = r.place;
+  pushes = pushes_after r.pushes (steps.Do a);
+  waits = waits_after word r (steps.Do a);
+}
+
+-- such an act leaves the turns
+judged_turns : (word : ℕ) (r : Running) (a : Act) → is_verdict a ≡ true
+    → (judges word r a).replica.turns ≡ r.replica.turns
+judged_turns word r (acts.Suspect j) is = refl
+judged_turns word r (acts.Halt end) is = refl
+judged_turns word r a is = absurd (cc)
+
+-- and it leaves fewer deeds: a member less to trust, or the end
+judged_fewer : (word : ℕ) (r : Running) (a : Act) → is_verdict a ≡ true → r.replica.end ≡ None
+    → IsUnderway r → Lowers (steps.Do a) (work r.replica) (work (judges word r a).replica)
+    → deeds_left (judges word r a) < deeds_left r
+judged_fewer word r (acts.Suspect j) is none u less = lower r (judges word r (acts.Suspect j)) none refl
+    (fewer_here (r.limit - r.replica.turns) _ _ _ _ _ _ (omega (arith, less)))
+judged_fewer word r (acts.Halt end) is none u less =
+    over r (judges word r (acts.Halt end)) none u (Some end) refl refl
+judged_fewer word r a is none u less = absurd (cc)
+
+-- ---- waiting
+
+-- after a turn there is a count and a beat of each member of the greatest group
+turned_form : (w : Waits) (rows : Words) (unsuspected : ℕ) → IsWaits (turned w rows unsuspected)
+turned_form w rows unsuspected = record {
+  counts = length-map-range_with_len (turned_count w rows unsuspected) 0 16;
+  beats = length-map-range_with_len (turned_beat w rows unsuspected) 0 16;
+}
+
+-- and so after each step
+waits_keep : (word : ℕ) (r : Running) (s : Step) → IsWaits r.waits → IsWaits (waits_after word r s)
+waits_keep word r (steps.Look i c) is = by (c + 1 == columns r)
+  where
+    by : (b : Bool)
+        → IsWaits (if b then turned r.waits (rows.looked r.replica.rows i c word) (mask_of (λ k. k == i))
+        else r.waits)
+    by true = turned_form r.waits (rows.looked r.replica.rows i c word) (mask_of (λ k. k == i))
+    by false = is
+waits_keep word r s is = is
 
 -- what is known before a deed, and of the replica after it
 record IsDue (word : ℕ) (r : Running) (part : Part) : Type 0 where
@@ -247,28 +333,27 @@ one_more_at_most a = min-le_left (a + 1) 4294967295
 pub one_turn : (a b : ℕ) → a < b → b < 2 ^ 32 → one_more 32 a ≡ a + 1
 one_turn a b h g = min-eq_left (omega arith)
 
-turned : (word : ℕ) (r : Running) (part : Part) → IsDue word r part
+turns_keep : (word : ℕ) (r : Running) (part : Part) → IsDue word r part
     → (does_at word r part).replica.turns ≤ r.limit
-turned word r (parts.Do acts.Beat) d =
+turns_keep word r (parts.Do acts.Beat) d =
     let l = d.underway.left d.none d.at in omega (arith, one_more_at_most r.replica.turns, l)
-turned word r parts.Push d = by (crashes_now r)
+turns_keep word r parts.Judge d =
+    omega (arith, judged_turns word r (judged r) (verdict_of r), d.underway.turns)
+turns_keep word r parts.Push d = by (crashes_now r)
   where
     by : (b : Bool) → (stepped word r.replica
         (push_or_crash b r.place.row r.place.column)).turns
         ≤ r.limit
     by true = d.underway.turns
     by false = d.underway.turns
-turned word r parts.Append d = by r.failed
+turns_keep word r parts.Append d = by r.failed
   where
     by : (o : Option LogWhy) → (stepped word r.replica (append_or_end o)).turns ≤ r.limit
     by None = d.underway.turns
     by (Some why) = d.underway.turns
-turned word r part d = d.underway.turns
+turns_keep word r part d = d.underway.turns
 
 -- before a turn one more is left
-differs : (a b : Part) → a ≡ b → is_beat b ≡ false → a ≡ turn_begins → ⊥
-differs a b same other is = absurd (cc (ap is_beat same, ap is_beat is, other))
-
 left_behind : (r : Running) → IsUnderway r → is_beat (part_of r.place) ≡ false
     → part_of (after (members r) (columns r) r.place) ≡ turn_begins → part_of r.place
     ≡ parts.Spent
@@ -403,6 +488,7 @@ fewer word r parts.Look fits d less =
       left_falls (members r) (columns r) r.place d.underway.place
           (part_before (members r) (columns r) r.place d.underway.place (ap is_beat d.at)),
     )))
+fewer word r parts.Judge fits d less = judged_fewer word r (judged r) (verdict_of r) d.none d.underway less
 fewer word r parts.Append fits d less = fewer_append word r d less
 fewer word r parts.Push fits d less = fewer_push word r d less
 fewer word r (parts.Do acts.Publish) fits d less = let at = published_at word r d in
@@ -439,7 +525,7 @@ fewer word r part fits d less =
 
 -- where it stands, by what its replica says of the shape
 place_in : (word : ℕ) (r : Running) (part : Part) → IsDue word r part → (q : Replica)
-    → told q ≡ told r.replica → IsIn q.roster (columns_of q.roster q.window)
+    → fixed.told q ≡ fixed.told r.replica → IsIn q.roster (columns_of q.roster q.window)
     (goes (members r) (columns r) part r.place)
 place_in word r part d q f =
     subst (λ (w : ℕ). IsIn q.roster (columns_of q.roster w) (goes (members r) (columns r) part r.place))
@@ -454,7 +540,8 @@ goes_on word r part d = record {
   replica = d.form;
   place = place_in word r part d (does_at word r part).replica
       (step_told word r.replica (step_at r part r.place.row r.place.column));
-  turns = turned word r part d;
+  turns = turns_keep word r part d;
+  waits = waits_keep word r (step_at r part r.place.row r.place.column) d.underway.waits;
   left = unturned word r part d;
 }
 
@@ -487,7 +574,7 @@ deed_due : (word : ℕ) (r : Running) → IsRunningMember r → r.replica.end �
     → HasForm (took word r (next_step r)).replica → IsDue word r (part_of r.place)
 deed_due word r m none form = record {
   at = refl;
-  underway = record { replica = m.replica; place = m.place; turns = m.turns; left = m.left };
+  underway = record { replica = m.replica; place = m.place; turns = m.turns; waits = m.waits; left = m.left };
   none = none;
   allowed = (and_parts (asks r (part_of r.place) r.place.row r.place.column)
       (allows r.replica (next_step r)) (m.due none)).1;
@@ -515,3 +602,15 @@ pub deeds_keep : (word : ℕ) (r : Running) → IsRunningMember r → r.limit < 
     → IsRunningMember (after_step word r) × IsDone r (after_step word r)
 deeds_keep word r m fits none form grown =
     (deeds_keep_form word r m none form, settled_done r _ (deed_done word r m fits none form grown))
+
+-- no member looks at a row that is frozen for it
+pub unfrozen_read : (r : Running) (i c : ℕ) → IsRunningMember r → r.replica.end ≡ None → next_step r
+    ≡ steps.Look i c
+    → is_frozen r.replica.rows i ≡ false
+unfrozen_read r i c m none look =
+    let may : allows r.replica (next_step r) ≡ true =
+    (and_parts (asks r (part_of r.place) r.place.row r.place.column) (allows r.replica (next_step r))
+    (m.due none)).1 in
+    let other = and_parts _ (has_cell r.replica i c)
+    (subst (λ (s : Step). allows r.replica s ≡ true) look may) in
+    m.replica.frozen i ∙ grind (arith, other.0)

@@ -43,6 +43,7 @@ failed_form why r m none e = record {
   place = m.place;
   due = λ still. ap (λ x. applies_at (broken_off why r) x r.place.row r.place.column) at ∙ may_end why;
   turns = m.turns;
+  waits = m.waits;
   left = m.left;
 }
   where
@@ -53,7 +54,7 @@ failed_form why r m none e = record {
 pub failed_done : (why : LogWhy) (r : Running) → IsRunningMember r → r.replica.end ≡ None
     → next_step r ≡ steps.Append → IsDone r (broken_off why r)
 failed_done why r m none e = record {
-  underway = record { replica = m.replica; place = m.place; turns = m.turns; left = m.left };
+  underway = record { replica = m.replica; place = m.place; turns = m.turns; waits = m.waits; left = m.left };
   grown = Grown_refl r.replica.roster r.replica.rows.words r.replica.rows.frozen;
   fewer = lower r (broken_off why r) none refl fewer;
   still = λ g number is. is;

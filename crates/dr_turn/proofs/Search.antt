@@ -81,6 +81,7 @@ underway_moved r u other unspent = record {
   replica = u.replica;
   place = inside;
   turns = u.turns;
+  waits = u.waits;
   left = λ none begins. unspent none
       (after_beat (members r) (columns r) r.place inside other (ap is_beat begins));
 }
@@ -173,6 +174,7 @@ settled_running r u =
       place = d.0.place;
       due = d.1;
       turns = d.0.turns;
+      waits = d.0.waits;
       left =
           d.0.left;
     }

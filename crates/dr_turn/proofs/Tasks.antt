@@ -1,5 +1,5 @@
 -- The tasks of a replica: which of its deeds lowers each, and that no deed raises any.
-use Rattle.std.proofs.Common.{◌≡◌, sym, subst, ◌∙◌, ℕ, ◌+◌, ◌-◌, ◌^◌, ◌<◌, ◌≤◌, ◌==◌, nat_lt, true, length, slice_index, le_refl, arith}
+use Rattle.std.proofs.Common.{◌≡◌, sym, subst, ◌∙◌, ℕ, ◌+◌, ◌-◌, ◌^◌, ◌<◌, ◌≤◌, ◌==◌, nat_lt, not, true, length, slice_index, le_refl, arith}
 use Rattle.std.proofs.lemmas.Bool.{and_parts, ltb-true}
 use Rattle.std.proofs.lemmas.Bool.Decides.{nat_tests}
 use Rattle.std.proofs.lemmas.List.{get_or-set_same}
@@ -11,12 +11,14 @@ use Rattle.dr_machine.specs.declared.step.Step.TheVariants.{Do, Append}
 use Rattle.dr_rows.specs.Words.{own, seen, with_own}
 use Rattle.dr_rows.proofs.Grids.{with_word-same, with_word-column}
 use Rattle.dr_words.specs.declared.column.TheConstants.{BEAT_COLUMN, RECEIVED_COLUMN, LOGGED_COLUMN, DONE_COLUMN}
+use Rattle.dr_words.proofs.Masks.{in_roster_small, with_member_greater, with_member_small}
+use Rattle.dr_words.specs.Masks.{with_member}
 use Rattle.dr_program.specs.Acts.{may}
-use Rattle.dr_program.specs.Replica.{Replica, me, greatest, least_seen, may_deliver, may_mark, may_publish, may_receive, may_report, acted, received, put, delivered, published, reported, marked}
+use Rattle.dr_program.specs.Replica.{Replica, me, greatest, is_other, is_wedged, least_seen, may_deliver, may_mark, may_publish, may_receive, may_report, may_suspect, acted, received, put, delivered, published, reported, marked, suspected}
 use Rattle.dr_program.specs.Steps.{NoWordFell, allows, stepped}
 use Rattle.dr_program.specs.Form.{HasForm}
 use Rattle.dr_program.proofs.Least.{least_fits}
-use Rattle.dr_turn.specs.Work.{items_left, places_left, log_left, reports_left, mark_left, tasks}
+use Rattle.dr_turn.specs.Work.{items_left, places_left, log_left, reports_left, mark_left, trust_left, tasks}
 use Rattle.dr_turn.proofs.Fewer.{NoneRises, items_less}
 
 -- ---- the own words
@@ -93,7 +95,7 @@ pub delivered_less : (r : Replica) → may_deliver r ≡ true → places_left (a
 unfolding places_left
 delivered_less r is =
     let below = ltb-true r.next (least_seen r RECEIVED_COLUMN)
-    (and_parts (nat_lt r.next (least_seen r RECEIVED_COLUMN)) _ is).0 in
+    (and_parts (nat_lt r.next (least_seen r RECEIVED_COLUMN)) _ (and_parts (not (is_wedged r)) _ is).1).0 in
     minus_less (2 ^ 64) r.next (r.next + 1) (omega arith) (omega (arith, below, least_fits r RECEIVED_COLUMN))
 
 places_keep : (word : ℕ) (r : Replica) (s : Step) → allows r s ≡ true
@@ -154,7 +156,12 @@ reports_keep word r s is = le_refl _
 pub marked_less : (r : Replica) → HasForm r → may_mark r ≡ true → mark_left (acted (marked r))
     < mark_left r
 unfolding mark_left
-marked_less r form is = omega (arith, now, unmarked (and_parts (own r.rows DONE_COLUMN == 0) _ is).0)
+marked_less r form is = omega (
+  arith,
+  now,
+  unmarked (and_parts (own r.rows DONE_COLUMN == 0) _
+      (and_parts (not (is_wedged r)) _ is).1).0,
+)
   where
     now : own (acted (marked r)).rows DONE_COLUMN ≡ 1
     now = stamped_own r DONE_COLUMN 1 form (omega arith) (omega (arith, form.columns))
@@ -167,6 +174,35 @@ mark_keeps : (word : ℕ) (r : Replica) (s : Step) → HasRisen r (stepped word 
 unfolding mark_left
 mark_keeps word r s rise = minus_le 1 _ _ (rise.rise DONE_COLUMN)
 
+-- ---- trust
+
+-- who a replica suspects are of its roster, so that they have 16 bits
+pub suspects_small : (r : Replica) → HasForm r → r.suspects < 2 ^ 16
+suspects_small r form = in_roster_small 16 r.suspects
+    (λ n h. omega (arith, form.roster n (form.suspicion.others n h), form.rows.few, form.members))
+
+-- a suspicion leaves fewer members to suspect
+pub suspected_less : (r : Replica) (j : ℕ) → HasForm r → may_suspect r j ≡ true
+    → trust_left (acted (suspected r j)) < trust_left r
+unfolding trust_left
+suspected_less r j form is = minus_less (2 ^ 16) r.suspects (with_member r.suspects j)
+    (with_member_greater r.suspects j (suspects_small r form) few (grind (
+      arith,
+      (and_parts (is_other r j) _ (and_parts (nat_lt j r.roster) _ is).1).1,
+    )))
+    (omega (arith, with_member_small r.suspects j))
+  where
+    few : j < 16
+    few = omega
+        (arith, ltb-true j r.roster (and_parts (nat_lt j r.roster) _ is).0, form.rows.few, form.members)
+
+trust_keeps : (word : ℕ) (r : Replica) (s : Step) → HasForm r → allows r s ≡ true
+    → trust_left (stepped word r s) ≤ trust_left r
+unfolding trust_left
+trust_keeps word r (Do (acts.Suspect j)) form is = omega (arith, suspected_less r j form is)
+trust_keeps word r (Do a) form is = le_refl _
+trust_keeps word r s form is = le_refl _
+
 -- ---- all of them
 
 -- no step raises any of the tasks
@@ -177,6 +213,9 @@ none_rises word r s f is form rise = (
   items_keep word r s f is form,
   (
     places_keep word r s is,
-    (log_keeps word r s f is rise, (reports_keep word r s is, (mark_keeps word r s rise, tt))),
+    (
+      log_keeps word r s f is rise,
+      (reports_keep word r s is, (mark_keeps word r s rise, (trust_keeps word r s f is, tt))),
+    ),
   ),
 )

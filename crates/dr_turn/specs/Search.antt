@@ -5,6 +5,7 @@ use Rattle.dr_program.specs.declared.place.TheConstants.{TURN}
 use Rattle.dr_program.specs.Turn.{IsIn, after, part_of, rows_in, columns_in, places_in, turn_begins}
 use Rattle.dr_program.specs.Running.{Running, members, columns, applies}
 use Rattle.dr_program.specs.Form.{HasForm}
+use Rattle.dr_suspect.specs.Waits.{IsWaits}
 
 -- how many places of the turn come from here on
 unfoldable pub left : ℕ → ℕ → Place → ℕ
@@ -22,4 +23,5 @@ pub record IsUnderway (r : Running) : Type 0 where
   pub replica : HasForm r.replica
   pub place : IsIn (members r) (columns r) r.place
   pub turns : r.replica.turns ≤ r.limit
+  pub waits : IsWaits r.waits
   pub left : r.replica.end ≡ None → part_of r.place ≡ turn_begins → r.replica.turns < r.limit

@@ -1,6 +1,7 @@
 -- How much a running member still has to do at most: a number that each of its deeds lowers.
 use Rattle.std.specs.Prelude.{ℕ, ◌+◌, ◌*◌, ◌-◌, ◌^◌, ◌<◌, List, [], ◌∷◌, Option, None, Some, sum_by}
 use Rattle.dr_entry.specs.declared.end.End.{End}
+use Rattle.dr_entry.specs.declared.limits.TheConstants.{MAX_MEMBERS}
 use Rattle.dr_program.specs.declared.outcome.LogWhy.{LogWhy}
 use Rattle.dr_program.specs.declared.place.TheConstants.{TURN}
 use Rattle.dr_program.specs.Turn.{places_in}
@@ -35,8 +36,12 @@ reports_left r = 2 ^ 64 - r.durable
 unfoldable pub mark_left : Replica → ℕ
 mark_left r = 1 - own r.rows DONE_COLUMN
 
+-- members to suspect
+unfoldable pub trust_left : Replica → ℕ
+trust_left r = 2 ^ MAX_MEMBERS - r.suspects
+
 abbrev pub tasks : List (Replica → ℕ)
-tasks = items_left ∷ places_left ∷ log_left ∷ reports_left ∷ mark_left ∷ []
+tasks = items_left ∷ places_left ∷ log_left ∷ reports_left ∷ mark_left ∷ trust_left ∷ []
 
 -- some tasks together, and all of them
 unfoldable pub sum_of : List (Replica → ℕ) → Replica → ℕ

@@ -3,4 +3,4 @@
 
 mod laws;
 
-pub use laws::{deeds_keep_members, the_search_goes_to_the_next_place};
+pub use laws::{deeds_keep_members, frozen_rows_are_not_read, the_search_goes_to_the_next_place};

@@ -1,7 +1,9 @@
 -- What an event makes of the replica of its member and of the table is its effect on the world.
-use Rattle.std.proofs.Common.{◌≡◌, ◌≢◌, refl, sym, ap, ◌∙◌, subst, ℕ, ◌<◌, true, List, arith}
+use Rattle.std.proofs.Common.{◌≡◌, ◌≢◌, refl, sym, ap, ◌∙◌, subst, ℕ, ◌<◌, true, not, List, arith}
 use Rattle.std.specs.Prelude.{Some, slice_get, slice_set}
+use Rattle.std.proofs.lemmas.Bool.{and_parts}
 use Rattle.std.proofs.lemmas.Option.{slice_get_within}
+use Rattle.dr_history.specs.Members.{has}
 use Rattle.dr_rows.specs.Words.{seen}
 use Rattle.dr_words.specs.Form.{IsInForm}
 use Rattle.dr_words.specs.Grown.{HasGrown}
@@ -104,7 +106,8 @@ sight h m r i c is there cell = record {
 
 sight_of : (h : Held) (m : ℕ) (s : Step) (r : Replica) → IsHeld h → slice_get h.replicas m ≡ Some r
     → allows r s ≡ true → IsInSight (stored h.table r s) r s
-sight_of h m (Look i c) r is there may = sight h m r i c is there may
+sight_of h m (Look i c) r is there may =
+    sight h m r i c is there (and_parts (not (has r.suspects i)) (has_cell r i c) may).1
 sight_of h m s r is there may = tt
 
 -- a step finds in the table what a look may

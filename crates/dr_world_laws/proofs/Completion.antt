@@ -15,16 +15,17 @@ use Rattle.dr_ring.specs.Slots.{slot_column}
 use Rattle.dr_words.specs.declared.column.TheConstants.{LOGGED_COLUMN, DONE_COLUMN}
 use Rattle.dr_machine.specs.declared.event.Event.{Event}
 use Rattle.dr_machine.specs.declared.event.Act.{Act}
-use Rattle.dr_machine.specs.declared.event.Act.TheVariants.{Send, Null, Receive, Deliver, Publish, Report, Mark, Halt, Crash}
+use Rattle.dr_machine.specs.declared.event.Act.TheVariants.{Send, Null, Receive, Deliver, Publish, Report, Mark, Suspect, Halt, Crash}
 use Rattle.dr_machine.specs.declared.step.Step.{Step}
 use Rattle.dr_machine.specs.declared.step.Step.TheVariants.{Do}
 use Rattle.dr_machine.specs.Events.{member_of, step_of}
 use Rattle.dr_machine.specs.Group.{Group, roster}
 use Rattle.dr_machine.specs.Acts.{CanDo, CanTake, Guard, does, effect, effect_of}
-use Rattle.dr_machine.specs.Guards.{CanReport, CanMark, CanHalt, CanDeliver, IsFault}
+use Rattle.dr_machine.specs.Guards.{CanReport, CanMark, CanHalt, CanDeliver, IsDue, IsFault}
 use Rattle.dr_machine.specs.Writes.{at, at₂, at₃}
 use Rattle.dr_machine.specs.World.{World, own_word, count_of, shown}
-use Rattle.dr_machine.specs.Effects.{stamped, gains, row_with, puts, delivers, reports, marks, ends}
+use Rattle.dr_machine.specs.Effects.{stamped, gains, row_with, puts, delivers, reports, marks, suspects, ends}
+use Rattle.dr_faithful.proofs.Suspicions.{plain_kept}
 use Rattle.dr_faithful.specs.Faithful.{Faithful}
 use Rattle.dr_faithful.specs.Tells.{Views}
 use Rattle.dr_world_laws.proofs.Histories.{added}
@@ -182,10 +183,20 @@ end_keeps g w m end done c = record {
       (Some end) c.shown (λ l e. done l (same_Some end Done e));
 }
 
-halt_shows : (g : Group) (V : Views) (w : World) (m : ℕ) (end : End) → Faithful g V w
-    → CanHalt g w m end → m < roster g → own_word w m 4 ≡ 1
-halt_shows g V w m end f can l =
-    shown_own w m 4 1 (can.all m
+suspect_keeps : (g : Group) (w : World) (m j : ℕ) → Complete g w → Complete g (suspects g w m j)
+suspect_keeps g w m j c = record {
+  durable = λ k l e. c.durable k l (sym (same k) ∙ e);
+  shown = λ k l e. same k ∙ c.shown k l e;
+}
+  where
+    same : (k : ℕ) → own_word (suspects g w m j) k 4 ≡ own_word w k 4
+    same k = plain_kept w.past.own (roster g) (w.members m) _ _ m (w.past.view m) k (w.past.view k) 4
+        (omega arith) (omega arith)
+
+halt_shows : (g : Group) (V : Views) (w : World) (m : ℕ) → Faithful g V w → IsDue w m Done
+    → m < roster g → own_word w m 4 ≡ 1
+halt_shows g V w m f due l =
+    shown_own w m 4 1 (due.all m
     (subst (λ x. has x m ≡ true) (sym (f.views.own m)) (f.views.present m (f.beginning.all m l))))
 
 -- an end that was written is the new one, or was there
@@ -199,12 +210,15 @@ end_or_before end m k x y e = by (cases_eq k m)
 
 -- who has ended as done after a step had ended so before it, or the step is such an end
 pub ended_so : (g : Group) (w : World) (m : ℕ) (s : Step) (k : ℕ) → CanTake g w m s
-    → (effect_of g w m s).end k ≡ Some Done → (w.end k ≡ Some Done) ⊎ ((end : End) × CanHalt g w m end)
-ended_so g w m (Do (Halt end)) k can e = inr (end, can)
+    → (effect_of g w m s).end k ≡ Some Done → (w.end k ≡ Some Done) ⊎ CanHalt g w m Done
+ended_so g w m (Do (Halt end)) k can e = by (end_or_before w.end m k end Done e)
+  where
+    by : (end ≡ Done) ⊎ (w.end k ≡ Some Done) → (w.end k ≡ Some Done) ⊎ CanHalt g w m Done
+    by (inl done) = inr (subst (λ x. CanHalt g w m x) done can)
+    by (inr before) = inl before
 ended_so g w m (Do (Crash end)) k can e = by (end_or_before w.end m k end Done e)
   where
-    by : (end ≡ Done) ⊎ (w.end k ≡ Some Done)
-        → (w.end k ≡ Some Done) ⊎ ((end : End) × CanHalt g w m end)
+    by : (end ≡ Done) ⊎ (w.end k ≡ Some Done) → (w.end k ≡ Some Done) ⊎ CanHalt g w m Done
     by (inl done) = absurd (subst IsFault done can.fault)
     by (inr before) = inl before
 ended_so g w m (Do a) k can e = inl e
@@ -223,8 +237,9 @@ act_completes g V w m Publish f nothing can c =
     own_keeps g w _ (λ k v. other_column w.past.own m (w.past.view m) 3 _ k v (omega arith)) c
 act_completes g V w m Report f nothing can c = report_keeps g V w m f can c
 act_completes g V w m Mark f nothing can c = mark_keeps g w m can c
+act_completes g V w m (Suspect j) f nothing can c = suspect_keeps g w m j c
 act_completes g V w m (Halt end) f nothing can c =
-    end_keeps g w m end (λ l e. halt_shows g V w m end f can l) c
+    end_keeps g w m end (λ l e. halt_shows g V w m f (subst (IsDue w m) e can.due) l) c
 act_completes g V w m (Crash end) f nothing can c =
     end_keeps g w m end (λ l e. absurd (subst IsFault e can.fault)) c
 act_completes g V w m a f nothing can c = record { durable = c.durable; shown = c.shown }

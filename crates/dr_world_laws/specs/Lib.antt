@@ -1,1 +1,2 @@
 pub mod Historic
+pub mod Ends

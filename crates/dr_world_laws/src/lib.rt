@@ -7,7 +7,7 @@
 #![tactic(auto)]
 
 ghost use Rattle.std.specs.Prelude.{◌≡◌, ℕ, ◌<◌, List, ◌++◌, All, length, Some};
-ghost use Rattle.dr_entry.specs.declared.end.End.TheVariants.{Done};
+ghost use Rattle.dr_entry.specs.declared.end.End.TheVariants.{Done, Suspected, NoMajority};
 ghost use Rattle.dr_entry.specs.Spelling.{IsValidEntry};
 ghost use Rattle.dr_faithful.specs.Tells.{Views};
 ghost use Rattle.dr_machine.specs.declared.event.Event.{Event};
@@ -17,6 +17,7 @@ ghost use Rattle.dr_machine.specs.Guards.{HoldsAll};
 ghost use Rattle.dr_machine.specs.Run.{Run, IsReached, WorldAgreed};
 ghost use Rattle.dr_history.specs.Order.{first_entries};
 ghost use Rattle.dr_history_laws.specs.Remaining.{remaining};
+ghost use Rattle.dr_world_laws.specs.Ends.{IsLeftOut};
 ghost use Rattle.dr_world_laws.specs.Historic.{AreLaid, Heads, HoldsMessages, IsMerged};
 
 /// In every world that a group reaches its members agree: on their histories, on their logs, and on what
@@ -65,4 +66,13 @@ pub fn whole_histories_are_one()
     ensures { (g : Group) (w : World) (m : ℕ) → IsGroup g → IsReached g w
         → m < roster g → HoldsAll g w m
         → w.past.history m ≡ first_entries g.opening ++ remaining g.opening }
+{}
+
+/// A member of a reached world that was ended by suspicion was so by another member of View 0, or was left
+/// with members of it, itself among them, that are no majority.
+pub fn suspicion_ends_members()
+    ensures suspected { (g : Group) (w : World) (m by : ℕ) → IsGroup g → IsReached g w
+        → m < roster g → w.end m ≡ Some (Suspected by) → IsLeftOut g.opening m (Suspected by) }
+    ensures minority { (g : Group) (w : World) (m mask : ℕ) → IsGroup g → IsReached g w
+        → m < roster g → w.end m ≡ Some (NoMajority mask) → IsLeftOut g.opening m (NoMajority mask) }
 {}

@@ -1,8 +1,9 @@
 //! What a replica does.
 ghost use Rattle.std.specs.Prelude.{◌≡◌, ◌<◌, ◌≤◌, ◌+◌, ◌^◌, false, slice_index, true};
+ghost use Rattle.dr_history.specs.Members.{has};
 ghost use Rattle.dr_program.specs.Form.{HasForm};
 ghost use Rattle.dr_program.specs.Acts.{done, may, taken};
-ghost use Rattle.dr_program.specs.Replica.{acted, appended, delivered, is_other, looked, marked, may_append, may_deliver, may_receive, may_send, published, put, pushed, received, reported, sent};
+ghost use Rattle.dr_program.specs.Replica.{acted, appended, delivered, is_other, looked, marked, may_append, may_deliver, may_receive, may_send, may_suspect, published, put, pushed, received, reported, sent, suspected};
 ghost use Rattle.dr_program.specs.Steps.{NoWordFell};
 ghost use Rattle.dr_replica.specs.Items.{front};
 ghost use Rattle.dr_replica.specs.Puts.{MayPut};
@@ -15,6 +16,7 @@ ghost use Rattle.dr_words.specs.Packing.{recv_word};
 
 use super::Replica;
 use crate::items::Items;
+use crate::wedge::Wedge;
 use dr_entry::{End, Item, SentItem};
 use dr_machine::Act;
 use dr_ring::{put, ready};
@@ -36,7 +38,8 @@ impl Replica {
             Act::Publish => self.may_publish(),
             Act::Report => self.may_report(),
             Act::Mark => self.may_mark(),
-            Act::Halt { end } => matches!(end, End::Done) && self.all_done(),
+            Act::Suspect { other } => self.may_suspect(other),
+            Act::Halt { end } => self.is_due(end),
             Act::Crash { end } => matches!(
                 end,
                 End::Crashed | End::DiskFault | End::LogFull { .. } | End::Spent { .. }
@@ -57,12 +60,13 @@ impl Replica {
         self.stamp();
     }
 
-    /// It takes a word that it saw of another member of its view, in form and grown from the one
-    /// last seen.
+    /// It takes a word that it saw of another member of its view that it doesn't suspect, in form and
+    /// grown from the one last seen.
     #[inline]
     pub fn look(&mut self, row: u8, column: usize, word: u64)
         requires row { row < self.old.roster }
         requires other { is_other self.old row ≡ true }
+        requires unsuspected { has self.old.suspects row ≡ false }
         requires column { column < self.old.rows.columns }
         requires in_form { IsInForm self.old.roster column word }
         requires grown { HasGrown self.old.roster column (seen self.old.rows row column) word }
@@ -111,6 +115,7 @@ impl Replica {
             Act::Publish => self.publish(),
             Act::Report => self.report(),
             Act::Mark => self.mark(),
+            Act::Suspect { other } => self.suspect(other),
             Act::Halt { end } | Act::Crash { end } => self.end = Some(end),
         }
     }
@@ -200,6 +205,23 @@ impl Replica {
         ensures { self.new ≡ marked self.old }
     {
         self.rows.set_own(DONE_COLUMN, 1);
+    }
+
+    /// It suspects another member of its view: it is wedged, which its own words say, and it looks at
+    /// that member no more.
+    fn suspect(&mut self, other: u8)
+        requires { may_suspect self.old other ≡ true }
+        ensures { self.new ≡ suspected self.old other }
+    {
+        self.suspects.add(other);
+        let wedge = Wedge {
+            shape: self.shape,
+            members: self.members,
+            suspects: self.suspects.mask(),
+            promise: self.suspects.unsuspected().least().unwrap(),
+        };
+        wedge.rewrite(&mut self.rows);
+        self.rows.freeze(other);
     }
 
     /// An act is done: it counts, and its own beat word says so.

@@ -1,12 +1,14 @@
 //! What a replica may do.
-ghost use Rattle.std.specs.Prelude.{◌≡◌, ◌<◌, length, nat_lt};
-ghost use Rattle.dr_program.specs.Replica.{all_done, count, holds_all, is_other, least_seen, me, may_append, may_deliver, may_mark, may_null, may_publish, may_receive, may_report, may_send, next_index};
+ghost use Rattle.std.specs.Prelude.{◌≡◌, ◌<◌, ◌&&◌, length, nat_lt, not};
+ghost use Rattle.dr_history.specs.Members.{has};
+ghost use Rattle.dr_program.specs.Replica.{all_done, count, has_majority, holds_all, is_due, is_other, is_wedged, least_seen, me, may_append, may_deliver, may_mark, may_null, may_publish, may_receive, may_report, may_send, may_suspect, next_index};
 ghost use Rattle.dr_program.specs.Steps.{allows, has_cell};
 ghost use Rattle.dr_ring.specs.Slots.{is_free};
 ghost use Rattle.dr_words.specs.declared.column.TheConstants.{RECEIVED_COLUMN};
 ghost use Rattle.dr_rows.specs.Words.{changed};
 
 use super::Replica;
+use dr_entry::End;
 use dr_machine::Step;
 use dr_pred::{LoggedFront, ReceivedFront, Watch};
 use dr_ring::{free, is_ready};
@@ -29,10 +31,18 @@ impl Replica {
     {
         match step {
             Step::Do(act) => self.may(act),
-            Step::Look { row, column } => self.has_cell(row, column),
+            Step::Look { row, column } => self.may_look(row, column),
             Step::Push { to, column } => self.has_cell(to, column),
             Step::Append => self.may_append(),
         }
+    }
+
+    /// Whether this is another member of the view that it doesn't suspect, and a column of its row.
+    #[inline(always)]
+    fn may_look(&self, row: u8, column: usize) -> bool
+        ensures { result ≡ (not (has self.now.suspects row) && has_cell self.now row column) }
+    {
+        row < self.shape.members && !self.is_suspected(row) && self.has_cell(row, column)
     }
 
     /// Whether this is another member of the view, and a column of its row.
@@ -43,39 +53,51 @@ impl Replica {
         row < self.shape.members && self.is_other(row) && column < self.shape.columns()
     }
 
-    /// Whether an item of the sender is there to be taken.
+    /// Whether it suspects somebody. It then takes, puts and delivers no more items in its view.
+    #[inline(always)]
+    fn is_wedged(&self) -> bool
+        ensures { result ≡ is_wedged self.now }
+    {
+        self.suspects.mask().bits() != 0
+    }
+
+    /// Whether it takes items, and one of the sender is there.
     #[inline(always)]
     pub fn may_receive(&self, sender: u8) -> bool
         requires { sender < self.now.roster }
         ensures { result ≡ may_receive self.now sender }
     {
         let count = self.items.count(sender);
-        self.is_other(sender)
-            && self.items.has_room(sender)
-            && is_ready(&self.rows, &self.shape, sender, count)
+        let takes = !self.is_wedged() && self.items.has_room(sender);
+        takes && self.is_other(sender) && is_ready(&self.rows, &self.shape, sender, count)
     }
 
-    /// Whether it has a message left, and the slot of its next item is free.
+    /// Whether it isn't wedged, has a message left, and the slot of its next item is free.
     pub fn may_send(&self) -> bool
         ensures { result ≡ may_send self.now }
     {
-        self.has_message_left() && self.has_free_slot()
+        !self.is_wedged() && self.has_message_left() && self.has_free_slot()
     }
 
-    /// Whether it has no message left and more items of some sender than it has put, and the slot of
-    /// its next item is free.
+    /// Whether it isn't wedged, has no message left and more items of some sender than it has put, and
+    /// the slot of its next item is free.
     pub fn may_null(&self) -> bool
         ensures { result ≡ may_null self.now }
     {
-        !self.has_message_left() && self.items.is_behind(self.rows.me()) && self.has_free_slot()
+        !self.is_wedged()
+            && !self.has_message_left()
+            && self.items.is_behind(self.rows.me())
+            && self.has_free_slot()
     }
 
-    /// Whether every member of the view is seen to have received the next place, and there is room
-    /// for an entry.
+    /// Whether it isn't wedged, every member of the view is seen to have received the next place, and
+    /// there is room for an entry.
     pub fn may_deliver(&self) -> bool
         ensures { result ≡ may_deliver self.now }
     {
-        (self.next.place < self.received || self.is_received()) && self.history.has_room()
+        !self.is_wedged()
+            && (self.next.place < self.received || self.is_received())
+            && self.history.has_room()
     }
 
     /// Whether every member of the view is seen to have received the next place.
@@ -116,11 +138,12 @@ impl Replica {
         logged.holds(&self.rows)
     }
 
-    /// Whether it holds everything, durably, and hasn't said so yet.
+    /// Whether it isn't wedged, holds everything, durably, and hasn't said so yet.
     pub fn may_mark(&self) -> bool
         ensures { result ≡ may_mark self.now }
     {
-        self.rows.own(DONE_COLUMN) == 0
+        !self.is_wedged()
+            && self.rows.own(DONE_COLUMN) == 0
             && self.holds_all()
             && self.durable == self.history.entries().len() as u64
     }
@@ -135,6 +158,39 @@ impl Replica {
             }
         }
         true
+    }
+
+    /// Whether this is another member of its view that it doesn't suspect yet.
+    pub fn may_suspect(&self, other: u8) -> bool
+        ensures { result ≡ may_suspect self.now other }
+    {
+        other < self.shape.members && self.is_other(other) && !self.is_suspected(other)
+    }
+
+    /// Whether an end that is no fault is due: it is done, or a member that it doesn't suspect suspects
+    /// it, or those that it doesn't suspect are no majority of its view.
+    pub(super) fn is_due(&self, end: End) -> bool
+        ensures { result ≡ is_due self.now end }
+    {
+        match end {
+            End::Done => !self.is_wedged() && self.all_done(),
+            End::Suspected { by } => {
+                by < self.shape.members
+                    && by != self.rows.me()
+                    && self.suspects.is_named_by(&self.rows, by)
+            }
+            End::NoMajority { mask } => {
+                self.has_no_majority() && mask == self.suspects.unsuspected().bits()
+            }
+            _ => false,
+        }
+    }
+
+    /// Whether it is wedged and those that it doesn't suspect are no majority of its view.
+    pub(super) fn has_no_majority(&self) -> bool
+        ensures { result ≡ (is_wedged self.now && not (has_majority self.now)) }
+    {
+        self.is_wedged() && !self.suspects.has_majority()
     }
 
     /// Whether its own word of a column differs from the one last pushed to the member `to`.

@@ -11,6 +11,7 @@ use crate::spot::Spot;
 use dr_entry::{End, Entry, MemberEnd, Seq, ViewSent};
 use dr_program::Setup;
 use dr_rows::Rows;
+use dr_suspect::Suspects;
 use dr_words::LOGGED_COLUMN;
 use std::alloc::{AllocError, Global};
 
@@ -41,6 +42,7 @@ impl Replica {
             rows,
             view: 0,
             members: setup.members,
+            suspects: Suspects::new(setup.me, setup.members),
             items: Items::begin(alloc, setup.members, shape.members, most)?,
             base: history.messages_from(setup.me),
             sent: Vec::with_capacity(alloc, most as usize)?,

@@ -1,5 +1,6 @@
 //! What is known of a replica.
 ghost use Rattle.std.specs.Prelude.{◌≡◌, ◌-◌, ◌<◌, length, slice_get, Some, true};
+ghost use Rattle.dr_history.specs.Members.{has};
 ghost use Rattle.dr_machine.specs.Effects.{one_more};
 ghost use Rattle.dr_program.specs.Form.{HasForm};
 ghost use Rattle.dr_program.specs.Replica.{count, me, may_append};
@@ -43,6 +44,15 @@ impl Replica {
         ensures { result ≡ self.now.members }
     {
         self.members
+    }
+
+    /// Whether it suspects a member.
+    #[inline]
+    pub fn is_suspected(&self, member: u8) -> bool
+        requires { member < 16 }
+        ensures { result ≡ has self.now.suspects member }
+    {
+        self.suspects.mask().has(member)
     }
 
     /// The number of its acts after one more, which is what that act's beat word says.

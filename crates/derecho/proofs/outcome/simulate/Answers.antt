@@ -4,7 +4,7 @@ use Rattle.dr_program_laws.specs.Ended.{AreComplete}
 use Rattle.dr_restart.specs.Groups.{group_of}
 use Rattle.dr_sim.specs.Logged.{IsAmple, NoneStopped}
 use Rattle.derecho.specs.Outcome.{last_of_run}
-use Rattle.derecho.proofs.Undisturbed.{last_alone, none_stopped}
+use Rattle.derecho.proofs.Undisturbed.{last_alone, none_stopped, suspects_nobody}
 use Rattle.derecho.proofs.outcome.simulate.Goals as goal
 
 -- no member of the age was ended by its log
@@ -28,6 +28,7 @@ returns-clause-ran c = (
     agreed = search rules;
     ended = search rules;
     undisturbed = undisturbed c;
+    trusting = c.in_ok-age.ensures.trusting (suspects_nobody c.args.script.now c.requires.built);
     complete =
         subst (λ start. HasTime c.args.script.now
         → AreComplete (group_of c.args.script.now start).opening c.in_ok-age.age.members)

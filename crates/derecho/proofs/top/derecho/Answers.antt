@@ -5,7 +5,7 @@ use Rattle.dr_restart.specs.Groups.{first_group_of}
 use Rattle.dr_complete.specs.Time.{HasTime}
 use Rattle.dr_program_laws.specs.Ended.{AreComplete, HaveEnded}
 use Rattle.dr_restart.specs.Setups.{crashes_of}
-use Rattle.derecho.proofs.Course.{Course, course_of, fault_told, written_of, all_ages, at_most_one, statuses_with_ages, known_status, usage_of, refused_of, read_fault_of, unfinished_of, untimely_of, read_of, undisturbed_of, disk_fault_of, log_full_of}
+use Rattle.derecho.proofs.Course.{Course, course_of, fault_told, written_of, all_ages, at_most_one, statuses_with_ages, known_status, usage_of, refused_of, read_fault_of, unfinished_of, untimely_of, read_of, undisturbed_of, trusting_of, disk_fault_of, log_full_of}
 use Rattle.derecho.proofs.top.derecho.Goals as goal
 
 course : (g : Rattle.derecho.proofs.top.derecho.Given.Over) (c : goal.After-finish g)
@@ -78,6 +78,9 @@ returns-in-Ok-clause-untimely g c = untimely_of (course g c)
 
 pub returns-in-Ok-clause-undisturbed : goal.returns-in-Ok-clause-undisturbed
 returns-in-Ok-clause-undisturbed g c = undisturbed_of (course g c)
+
+pub returns-in-Ok-clause-trusting : goal.returns-in-Ok-clause-trusting
+returns-in-Ok-clause-trusting g c = trusting_of (course g c)
 
 pub returns-in-Ok-clause-disk_fault : goal.returns-in-Ok-clause-disk_fault
 returns-in-Ok-clause-disk_fault g c = disk_fault_of (course g c)

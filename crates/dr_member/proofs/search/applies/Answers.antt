@@ -11,3 +11,9 @@ returns-in-Crash c =
     c.crashes_in_turn.ensures c.args.replica.now c.args.place c.requires.fate
     ∙ sym (and-true (crashes_in_turn r))
     ∙ ap (λ x. applies_at r x c.args.place.row c.args.place.column) (sym c.in-Crash.is ∙ c.part_of.ensures)
+
+pub returns-in-Judge : goal.returns-in-Judge
+returns-in-Judge c =
+    let r = standing c.args.replica.now c.args.fate.now c.args.place in
+    c.may_judge.ensures c.args.place
+    ∙ ap (λ x. applies_at r x c.args.place.row c.args.place.column) (sym c.in-Judge.is ∙ c.part_of.ensures)

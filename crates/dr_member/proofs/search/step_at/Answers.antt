@@ -1,4 +1,5 @@
 use Rattle.std.proofs.Common.{◌≡◌, sym, ap, ◌∙◌, true, false}
+use Rattle.dr_machine.specs.declared.step.Step.TheVariants.{Do}
 use Rattle.dr_program.specs.Running.{crashes_now, push_or_crash, step_at}
 use Rattle.dr_member.specs.Search.{standing}
 use Rattle.dr_member.proofs.search.step_at.Goals as goal
@@ -18,3 +19,9 @@ returns-in-Push-2 c =
     cc (c.crashes_now.ensures c.args.replica.now c.args.place c.requires.fate) in
     ap (λ b. push_or_crash b c.args.place.row c.args.place.column) (sym later)
     ∙ ap (λ x. step_at r x c.args.place.row c.args.place.column) (sym c.in-Push-2.is ∙ c.part_of.ensures)
+
+pub returns-in-Judge : goal.returns-in-Judge
+returns-in-Judge c =
+    let r = standing c.args.replica.now c.args.fate.now c.args.place in
+    ap Do (c.judged.ensures c.args.place)
+    ∙ ap (λ x. step_at r x c.args.place.row c.args.place.column) (sym c.in-Judge.is ∙ c.part_of.ensures)

@@ -6,4 +6,5 @@ pub returns-clause-turned : goal.returns-clause-turned
 returns-clause-turned c = takes_turn
 
 pub returns-clause-none_may_come : goal.returns-clause-none_may_come
-returns-clause-none_may_come c g w m s rested work can = rested.idle s work (asks g w m s can)
+returns-clause-none_may_come c g w m s rested work can =
+    rested.idle s work (asks g w m s (λ idle. absurd (cc (work, idle))) can)

@@ -2,7 +2,9 @@ use Rattle.std.proofs.Common.{rules, sym, ◌∙◌, subst, inl, inr, arith}
 use Rattle.dr_entry.specs.declared.end.AgeEnd.{AgeEnd}
 use Rattle.dr_complete.proofs.Scripts.{completes_by_script}
 use Rattle.dr_program_laws.specs.Ended.{AreComplete, HaveEnded}
+use Rattle.dr_program_laws.specs.Trusting.{NoneLeft}
 use Rattle.dr_program_laws.proofs.Ending.{ended_by_script}
+use Rattle.dr_program_laws.proofs.Trusting.{none_by_script}
 use Rattle.dr_program_laws.proofs.Worlds.{ends_agreed}
 use Rattle.dr_history.specs.Agreement.{EndsAgreed}
 use Rattle.dr_restart.specs.Groups.{group_of}
@@ -82,6 +84,14 @@ returns-clause-ended g c =
     c.requires.ranges.group.lists c.requires.ranges.some_turn c.in_ok-simulation.ensures.begun
     (schedule_ran c.args.script.now.schedule _ p has_run)
     (schedule_ends c.args.script.now.schedule _ p has_run))
+
+pub returns-clause-trusting : goal.returns-clause-trusting
+returns-clause-trusting g c = λ nobody.
+    let (p, has_run, sound, same, served, count) = c.run.ensures in
+    subst (λ (age : AgeEnd). NoneLeft age.members) (sym same)
+    (none_by_script c.args.script.now c.args.start.now c.args.nth _ p sound.group
+    c.requires.ranges.group.lists c.requires.ranges.some_turn nobody c.in_ok-simulation.ensures.begun
+    (schedule_ran c.args.script.now.schedule _ p has_run))
 
 pub returns-clause-complete : goal.returns-clause-complete
 returns-clause-complete g c = λ time.

@@ -1,8 +1,12 @@
 use Rattle.std.proofs.Common.{refl, sym, subst}
 use Rattle.dr_logged.specs.Served.{HasServed, IsReady}
 use Rattle.dr_logged.proofs.Serving.{other_ready, other_served}
-use Rattle.dr_sim.proofs.Deeds.{act_taken, at_act, at_look, at_push, push_taken}
+use Rattle.dr_sim.proofs.Deeds.{act_taken, at_act, at_look, at_push, look_seen, push_taken}
 use Rattle.dr_sim.proofs.deed.take.Goals as goal
+
+pub looked-requires : goal.looked-requires
+looked-requires g c =
+    look_seen c.args.table.now c.args.member.now _ c.requires.sight (sym c.in-Look.ensures.deed)
 
 pub returns-in-Look-clause-ready : goal.returns-in-Look-clause-ready
 returns-in-Look-clause-ready g c =

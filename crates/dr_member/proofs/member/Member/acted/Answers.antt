@@ -6,7 +6,7 @@ use Rattle.dr_program.specs.Running.{goes}
 use Rattle.dr_member.specs.Inside.{view_of}
 use Rattle.dr_member.specs.Search.{standing}
 use Rattle.dr_member.proofs.Answers.{IsAnswer, IsTaken, answer_at, is_answer, is_done}
-use Rattle.dr_member.proofs.Moves.{act_taken, acted_limit, acted_timely, inside_after}
+use Rattle.dr_member.proofs.Moves.{act_allowed, act_taken, acted_limit, acted_timely, inside_after}
 use Rattle.dr_member.proofs.member.Member.acted.Goals as goal
 
 known : (c : goal.After-settle-arg-in-Do-2-1) (word : ℕ)
@@ -27,6 +27,11 @@ answer : (c : goal.After-settle) (word : ℕ)
 answer c word = answer_at word _ c.args.self.now _ c.self.view_is
     (is_answer word _ _ _ _ _ c.settle.new.place
     (known c.before word) c.settle.ensures)
+
+pub take-requires : goal.take-requires
+take-requires c =
+    act_allowed c.args.self.now c.self.inside c.in-Do.act c.self.view_is c.self.invariant c.requires
+    (sym c.step_at.ensures ∙ c.in-Do.is)
 
 pub settle-requires-clause-underway : goal.settle-requires-clause-underway
 settle-requires-clause-underway c = (is_done 0 _ _ _ _ _ (known c 0)).underway

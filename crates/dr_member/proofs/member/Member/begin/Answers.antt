@@ -1,5 +1,6 @@
 use Rattle.std.proofs.Common.{◌≡◌, refl, sym, ap, subst, arith}
 use Rattle.dr_program.specs.Replica.{Replica}
+use Rattle.dr_suspect.specs.Waits.{IsWaits}
 use Rattle.dr_member.specs.declared.fate.Fate.{Fate}
 use Rattle.dr_member.specs.Fate.{IsTimely}
 use Rattle.dr_member.proofs.member.Member.begin.Goals as goal
@@ -15,6 +16,8 @@ invariant_of-result c =
         place = record { part = omega arith; row = omega arith; column = omega arith };
         due = λ none. refl;
         turns = omega (arith, turns);
+        waits = subst IsWaits (sym (ap (λ (x : Fate). x.waits) c.begin-fate.ensures.begun))
+            c.new-waits.ensures.form;
         left = λ none at. omega (arith, turns, limit, c.requires.turns);
       };
       fate = subst (IsTimely c.begin-fate.result) (sym turns)

@@ -1,9 +1,9 @@
-use Rattle.std.proofs.Common.{refl, ◌+◌, ◌<◌, ◌≤◌, arith}
+use Rattle.std.proofs.Common.{refl, ◌+◌, ◌<◌, arith}
 use Rattle.dr_words.specs.Columns.{columns_of}
 use Rattle.dr_machine.specs.declared.step.Step.TheVariants.{Look}
 use Rattle.dr_member.specs.Search.{standing}
 use Rattle.dr_member.proofs.Answers.{IsAnswer}
-use Rattle.dr_member.proofs.Moves.{IsLooked, columns_after, inside_after, is_looked, look_due_at, look_left, looked_past, looked_timely, looked_within}
+use Rattle.dr_member.proofs.Moves.{IsLooked, IsWaited, columns_after, inside_after, is_looked, look_due_at, look_left, looked_past, looked_row_timely, looked_timely, looked_within, waited}
 use Rattle.dr_member.proofs.member.Member.looked.Goals as goal
 
 known : (c : goal.After-look)
@@ -34,22 +34,26 @@ known_past c = is_looked c.args.self.now c.self.inside c.look-else-next-self.new
     c.look-else-next-self.ensures.form c.look-else-next-self.ensures.grown
 
 outer : (c : goal.After-leave_row-arg-else-next-self-2-1)
-    → columns_of c.look-else-next-self.new.self.roster c.look-else-next-self.new.self.window
-    ≤ c.self.inside.place.column + 1
-outer c = omega (
-  arith,
-  c.if-next-self.false,
-  columns_after c.self.inside c.look-else-next-self.new.self c.args.word
-      (Look c.self.inside.place.row c.self.inside.place.column) c.self.invariant
-      c.look-else-next-self.ensures.after,
-)
+    → IsWaited c.look-else-next-self.new.self c.self.inside.fate c.self.inside.place
+    c.wait_for.new.patience
+outer c = record {
+  past = omega (
+    arith,
+    c.if-next-self.false,
+    columns_after c.self.inside c.look-else-next-self.new.self c.args.word
+        (Look c.self.inside.place.row c.self.inside.place.column) c.self.invariant
+        c.look-else-next-self.ensures.after,
+  );
+  waits = c.wait_for.ensures.after;
+}
 
 past : (c : goal.After-leave_row)
     → IsAnswer c.args.word c.args.self.now
-    (standing c.look-else-next-self.new.self c.self.inside.fate c.leave_row.new.place)
+    (standing c.look-else-next-self.new.self (waited c.self.inside.fate c.wait_for.new.patience)
+    c.leave_row.new.place)
 past c = looked_past c.args.self.now c.self.inside.replica c.look-else-next-self.new.self c.self.inside.fate
-    c.self.inside.place c.leave_row.new.place c.args.word c.self.view_is (known_past c.before)
-    (outer c.before) c.leave_row.ensures
+    c.self.inside.place c.leave_row.new.place c.args.word c.wait_for.new.patience c.self.view_is
+    (known_past c.before) (outer c.before) c.leave_row.ensures
 
 pub look-requires-clause-in_form : goal.look-requires-clause-in_form
 look-requires-clause-in_form c =
@@ -74,7 +78,12 @@ look-requires-else-next-self-clause-grown c =
 pub leave_row-requires-clause-underway : goal.leave_row-requires-clause-underway
 leave_row-requires-clause-underway c =
     look_left c.self.inside.replica c.look-else-next-self.new.self c.self.inside.fate c.self.inside.place
-    c.args.word (known_past c) (outer c)
+    c.args.word c.wait_for.new.patience (known_past c) (outer c)
+
+pub leave_row-requires-clause-fate : goal.leave_row-requires-clause-fate
+leave_row-requires-clause-fate c =
+    looked_row_timely c.self.inside c.look-else-next-self.new.self _ _ c.args.word c.wait_for.new.patience
+    c.self.invariant c.look-else-next-self.ensures.after
 
 pub invariant_of-self : goal.invariant_of-self
 invariant_of-self c = inside_after c.self.inside c.look.new.self c.self.inside.fate
@@ -85,12 +94,12 @@ invariant_of-self c = inside_after c.self.inside c.look.new.self c.self.inside.f
 
 pub invariant_of-self-else-next-self : goal.invariant_of-self-else-next-self
 invariant_of-self-else-next-self c =
-    inside_after c.self.inside c.look-else-next-self.new.self c.self.inside.fate
-    c.leave_row.new.place c.args.word
+    inside_after c.self.inside c.look-else-next-self.new.self
+    (waited c.self.inside.fate c.wait_for.new.patience) c.leave_row.new.place c.args.word
     (Look c.self.inside.place.row c.self.inside.place.column) c.self.invariant
     c.look-else-next-self.ensures.after (past c).form
-    (looked_timely c.self.inside c.look-else-next-self.new.self _ _ c.args.word c.self.invariant
-    c.look-else-next-self.ensures.after) refl
+    (looked_row_timely c.self.inside c.look-else-next-self.new.self _ _ c.args.word
+    c.wait_for.new.patience c.self.invariant c.look-else-next-self.ensures.after) refl
 
 pub returns-then-next-self-clause-after : goal.returns-then-next-self-clause-after
 returns-then-next-self-clause-after c = (within c).after
@@ -109,3 +118,6 @@ returns-else-next-self-clause-form c = (past c).form
 
 pub returns-else-next-self-clause-falls : goal.returns-else-next-self-clause-falls
 returns-else-next-self-clause-falls c = (past c).done.fewer
+
+pub returns-else-next-self-clause-keeps : goal.returns-else-next-self-clause-keeps
+returns-else-next-self-clause-keeps c = (past c).done.still

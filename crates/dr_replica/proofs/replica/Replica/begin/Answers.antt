@@ -29,6 +29,7 @@ fields c = record {
   rows = c.set_own.new.self;
   view = 0;
   members = c.args.setup.members;
+  suspects = c.new-2.result;
   items = c.in_ok-begin.field-0;
   base = c.messages_from.result;
   sent = c.in_ok-with_capacity.field-0;
@@ -56,6 +57,7 @@ made c = record {
       c.entries-logged.ensures.entries;
   view = refl;
   members = refl;
+  suspects = c.new-2.ensures.value;
   items = c.in_ok-begin.ensures.begun;
   base = c.messages_from.ensures;
   sent = c.in_ok-with_capacity.ensures.items;

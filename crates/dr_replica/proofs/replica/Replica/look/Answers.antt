@@ -1,4 +1,5 @@
 use Rattle.std.proofs.Common.{◌≡◌, ℕ, ◌<◌, ◌≤◌, true, refl, sym, ap, subst, ◌∙◌}
+use Rattle.dr_history.specs.Members.{has}
 use Rattle.dr_rows.specs.Words.{Words, seen}
 use Rattle.dr_words.specs.Columns.{columns_of}
 use Rattle.dr_words.specs.Form.{IsInForm}
@@ -37,7 +38,8 @@ rises : (c : goal.After-look) → Grown c.self.inside.shape.members c.self.insid
     (looked (view_of c.self.inside) c.args.row c.args.column c.args.word).rows.frozen
 rises c =
     looked_rises (view_of c.self.inside) c.args.row c.args.column c.args.word c.self.invariant.form
-    (other c) (column c)
+    (other c) (ap (λ (r : Replica). has r.suspects c.args.row) c.self.view_is ∙ c.requires.unsuspected)
+    (column c)
     (subst (λ (r : Replica). HasGrown r.roster c.args.column
     (seen r.rows c.args.row c.args.column) c.args.word) (sym c.self.view_is) c.requires.grown)
 
@@ -45,6 +47,7 @@ pub invariant_of-self : goal.invariant_of-self
 invariant_of-self c =
     let a = c.self.inside in
     state_kept a c.look.new.self a.logged a.durable a.turns a.acts a.end c.self.invariant
+    (ap (λ (w : Words). w.me) c.look.ensures.after)
     (subst HasForm (sym (there c)) (form c))
     (subst (λ (w : Words). least_seen (view_of a) RECEIVED_COLUMN
     ≤ least_seen (record (view_of a) { rows = w }) RECEIVED_COLUMN) (sym c.look.ensures.after)

@@ -16,6 +16,7 @@ invariant_of-self c =
     ≡ published (view_of a) = ap (λ (w : Words). record (view_of a) { rows = w })
     c.set_own.ensures.after in
     state_kept a c.set_own.new.self a.logged a.durable a.turns a.acts a.end c.self.invariant
+    (ap (λ (w : Words). w.me) c.set_own.ensures.after)
     (subst HasForm (sym there) (published_form (view_of a) c.self.invariant.form))
     (subst (λ (w : Words). least_seen (view_of a) RECEIVED_COLUMN
     ≤ least_seen (record (view_of a) { rows = w }) RECEIVED_COLUMN) (sym c.set_own.ensures.after)

@@ -71,7 +71,7 @@ invariant_of-self c =
     (search rules) c.show_items.ensures in
     items_kept c.self.inside c.show_items.new.rows c.take.new.self c.me-me.result c.args.item
     c.push.new.self c.self.invariant c.take.ensures
-    (le_trans c.self.invariant.sent c.push.ensures.capacity)
+    (le_trans c.self.invariant.sent c.push.ensures.capacity) (ap (λ (r : Replica). r.rows.me) there)
     (subst HasForm (sym there) (put_form (view_of c.self.inside) c.args.name c.args.item
     c.self.invariant.form may))
     (subst (λ (r : Replica). least_seen (view_of c.self.inside) RECEIVED_COLUMN

@@ -33,6 +33,7 @@ pub invariant_of-self : goal.invariant_of-self
 invariant_of-self c =
     items_kept c.self.inside c.show_items.new.rows c.take.new.self c.args.sender c.unwrap-item.result
     c.self.inside.sent c.self.invariant c.take.ensures c.self.invariant.sent
+    (ap (λ (r : Replica). r.rows.me) (there c))
     (subst HasForm (sym (there c))
     (received_form (view_of c.self.inside) c.args.sender c.self.invariant.form (may c)))
     (subst (λ (r : Replica). least_seen (view_of c.self.inside) RECEIVED_COLUMN

@@ -1,9 +1,9 @@
-use Rattle.std.proofs.Common.{◌≡◌, sym, subst, ◌∙◌, ap, ℕ, length, ◌<◌, nat_lt}
+use Rattle.std.proofs.Common.{◌≡◌, sym, subst, ◌∙◌, ap, ℕ, length, ◌<◌, not, nat_lt}
 use Rattle.std.proofs.lemmas.Bool.{and_parts, ltb-true}
 use Rattle.dr_entry.specs.declared.entry.Item.{Item}
 use Rattle.dr_entry.specs.declared.entry.Item.TheVariants.{Text}
 use Rattle.dr_entry.specs.declared.end.SentItem.TheVariants.{Index}
-use Rattle.dr_program.specs.Replica.{next_index, put}
+use Rattle.dr_program.specs.Replica.{is_wedged, next_index, put}
 use Rattle.dr_replica.specs.Puts.{MayPut}
 use Rattle.dr_replica.proofs.Exchanges.{message_read}
 use Rattle.dr_replica.proofs.Keeps.{message_to_send, sending}
@@ -14,7 +14,8 @@ put-requires c = λ form.
     let now = c.args.self.now in
     let left : next_index now < length now.messages =
     ltb-true (next_index now) (length now.messages)
-    (and_parts (nat_lt (next_index now) (length now.messages)) _ c.requires).0 in
+    (and_parts (nat_lt (next_index now) (length now.messages)) _
+    (and_parts (not (is_wedged now)) _ c.requires).1).0 in
     let read : Text c.copy-message.result ≡ message_to_send now =
     message_read c.self.inside now c.next_index-index.result c.index.result.now c.copy-message.result
     c.self.view_is left c.next_index-index.ensures c.index.ensures c.copy-message.ensures in
@@ -27,7 +28,8 @@ returns c =
     let now = c.args.self.now in
     let left : next_index now < length now.messages =
     ltb-true (next_index now) (length now.messages)
-    (and_parts (nat_lt (next_index now) (length now.messages)) _ c.requires).0 in
+    (and_parts (nat_lt (next_index now) (length now.messages)) _
+    (and_parts (not (is_wedged now)) _ c.requires).1).0 in
     let read : Text c.copy-message.result ≡ message_to_send now =
     message_read c.self.inside now c.next_index-index.result c.index.result.now c.copy-message.result
     c.self.view_is left c.next_index-index.ensures c.index.ensures c.copy-message.ensures in

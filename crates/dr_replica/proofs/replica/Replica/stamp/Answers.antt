@@ -1,4 +1,4 @@
-use Rattle.std.proofs.Common.{◌≡◌, ◌≤◌, sym, subst, arith}
+use Rattle.std.proofs.Common.{◌≡◌, ◌≤◌, sym, ap, subst, arith}
 use Rattle.dr_program.specs.Replica.{acted, least_seen}
 use Rattle.dr_rows.specs.Words.{Words}
 use Rattle.dr_program.specs.Form.{HasForm}
@@ -15,7 +15,7 @@ invariant_of-self c =
     let after : view_of (record a { rows = c.set_own.new.self; acts = c.saturating_add-self-inside.result })
     ≡ acted (view_of a) = cc (c.set_own.ensures.after) in
     state_kept a c.set_own.new.self a.logged a.durable a.turns c.saturating_add-self-inside.result a.end
-    c.self.invariant
+    c.self.invariant (ap (λ (w : Words). w.me) c.set_own.ensures.after)
     (subst HasForm (sym after) (acted_keeps (view_of a) c.self.invariant.form))
     (subst (λ (w : Words). least_seen (view_of a) RECEIVED_COLUMN
     ≤ least_seen (record (view_of a) { rows = w }) RECEIVED_COLUMN) (sym c.set_own.ensures.after)

@@ -1,0 +1,361 @@
+-- Members that suspect nobody, and wait for everybody, judge nothing: so nobody is suspected, and no member
+-- is ended by suspicion.
+use Rattle.std.proofs.Common.{◌≡◌, ◌≢◌, refl, sym, ap, ◌∙◌, subst, inl, inr, ℕ, suc, ◌+◌, ◌≤◌, ◌==◌, ◌&&◌, not, Bool, true, false, if◌then◌else◌, All, List, [], ◌∷◌, length, map, arith}
+use Rattle.std.proofs.Math.Path.{fun_ext}
+use Rattle.std.specs.List.{find}
+use Rattle.std.specs.Option.{option_and_then, option_map, option_or}
+use Rattle.std.specs.Prelude.{Option, None, Some, filter_map, is_some, slice_get, slice_index_or, unwrap_or}
+use Rattle.std.proofs.lemmas.Bool.{and_left, and_right, cases_eq}
+use Rattle.std.proofs.lemmas.Option.{get_or_from_slice_get, same_Some, slice_get-get_or, slice_get-map, slice_get_within}
+use Rattle.dr_entry.specs.declared.end.End.{End}
+use Rattle.dr_entry.specs.declared.end.End.TheVariants as ends
+use Rattle.dr_faithful.proofs.Faithfulness.{faithful}
+use Rattle.dr_faithful.specs.Faithful.{Faithful}
+use Rattle.dr_faithful.specs.Tells.{views_of}
+use Rattle.dr_machine.specs.declared.event.Act.TheVariants as acts
+use Rattle.dr_machine.specs.declared.step.Step.{Step}
+use Rattle.dr_machine.specs.declared.step.Step.TheVariants.{Do, Look}
+use Rattle.dr_machine.specs.Group.{Group, IsGroup}
+use Rattle.dr_machine.specs.Run.{IsReached}
+use Rattle.dr_machine.specs.World.{World, opening_world}
+use Rattle.dr_program.specs.declared.outcome.LogWhy.{LogWhy}
+use Rattle.dr_program.specs.declared.place.Part.{Part}
+use Rattle.dr_program.specs.declared.place.Part.TheVariants as parts
+use Rattle.dr_program.specs.declared.setup.Setup.{Setup}
+use Rattle.dr_program.specs.declared.setup.Suspicion.{Suspicion}
+use Rattle.dr_program.specs.Program.{AreSetups, IsRanFrom, Move, Program, after_deed, begun_program, end_of, moved_by, next_sight, step_of}
+use Rattle.dr_program.specs.Reading.{world}
+use Rattle.dr_program.specs.Replica.{Replica, has_majority, is_fault, may_suspect, me}
+use Rattle.dr_program.specs.Replica as replica
+use Rattle.dr_program.specs.Running.{Running, after_step, append_or_end, begun_running, columns, crashes_now, is_scripted, judged, judgement, minority, named_by, next_step, overdue, push_or_crash, scripted, step_at, told, took, waits_after}
+use Rattle.dr_program.specs.Steps.{allows, stepped}
+use Rattle.dr_program.specs.Turn.{part_of}
+use Rattle.dr_program.proofs.Runs.{after_either}
+use Rattle.dr_refine.specs.Programs.{IsProgram}
+use Rattle.dr_refine.proofs.Deeds.{due_allowed, program_member, replicas, rest_changes_nothing, step_is, step_reached}
+use Rattle.dr_refine.proofs.Guards.{seen_is}
+use Rattle.dr_refine.proofs.Steps.{begun_is_program}
+use Rattle.dr_restart.specs.declared.start.Start.{Start}
+use Rattle.dr_restart.specs.Groups.{group_of}
+use Rattle.dr_restart.specs.Setups.{AreSetupsOf, IsBegun, suspicion_in, suspicion_of}
+use Rattle.dr_restart.proofs.Setups.{are_setups}
+use Rattle.dr_rows.specs.Words.{looked, seen}
+use Rattle.dr_script.specs.declared.script.Fault.{Fault}
+use Rattle.dr_script.specs.declared.script.Script.{Script}
+use Rattle.dr_suspect.specs.Answers.{least_where}
+use Rattle.dr_suspect.specs.Suspicion.{is_unsuspected, names, names_me, spreads}
+use Rattle.dr_suspect.specs.Waits.{Waits, is_late, turned}
+use Rattle.dr_turn.proofs.Deeds.{is_verdict}
+use Rattle.dr_turn.proofs.Search.{settle_only}
+use Rattle.dr_words.proofs.Bits.{has_zero}
+use Rattle.dr_words.specs.Masks.{mask_of}
+use Rattle.dr_words.specs.declared.column.TheConstants.{SUSPECTED_COLUMN}
+use Rattle.dr_history.specs.Members.{has}
+use Rattle.dr_program_laws.specs.Trusting.{AreTrusting, IsCalm, IsTrusting, NoneLeft, SuspectsNobody, has_been_left, is_left_out}
+use Rattle.dr_program_laws.proofs.Acts.{has_verdict, is_judge, no_verdict}
+use Rattle.dr_program_laws.proofs.Keeping.{begun_reached}
+use Rattle.dr_program_laws.proofs.Programs.{ran_keeps, replaced_either}
+use Rattle.dr_program_laws.proofs.Worlds.{all_ends, of_there}
+
+-- ---- words
+
+-- nobody suspects anybody in the world of such a program
+pub nobody_suspects : (g : Group) (p : Program) (m : ℕ) → AreTrusting p → (world g p).suspects m ≡ 0
+nobody_suspects g p m trusting = by (slice_get p.members m) refl
+  where
+    by : (o : Option Running) → slice_get p.members m ≡ o → (world g p).suspects m ≡ 0
+    by None none = rw (slice_get-map (λ (x : Running). x.replica) p.members m, none) refl
+    by (Some r) there = of_there p (λ q. q.suspects) (opening_world g).suspects m r there
+        ∙ (trusting m r there).unwedged
+
+-- member m of such a program, in a world that is reached
+pub record IsAmongTrusting (g : Group) (p : Program) (m : ℕ) (r : Running) : Type 0 where
+  pub group : IsGroup g
+  pub program : IsProgram g p
+  pub reached : IsReached g (world g p)
+  pub trusting : AreTrusting p
+  pub there : slice_get p.members m ≡ Some r
+
+-- so no suspected word names anybody: neither the own one, nor any that it has seen
+unsuspecting : (g : Group) (p : Program) (m : ℕ) (r : Running) → IsAmongTrusting g p m r → (i : ℕ)
+    → seen r.replica.rows i SUSPECTED_COLUMN ≡ 0
+unsuspecting g p m r is i = elim (cases_eq i (me r.replica)) [
+  | inl same ↦ rw same ((is.program.form m r is.there).replica.suspected
+      ∙ (is.trusting m r is.there).unwedged)
+  | inr apart ↦
+      let other : i ≢ m = λ same. apart (same ∙ sym (is.program.of m r is.there).number) in
+      sym (seen_is g (replicas p.members) p.table m r.replica i SUSPECTED_COLUMN
+      (program_member g p m r is.group is.program is.there) other)
+      ∙ nothing ((told_truly.old.in_seen m i SUSPECTED_COLUMN other).number)
+      ((told_truly.old.in_table (w.past.view m) m i SUSPECTED_COLUMN).number) own
+]
+  where
+    w : World
+    w = world g p
+
+    told_truly : Faithful g (views_of g w) w
+    told_truly = faithful g w is.group is.reached
+
+    own : w.past.own i (w.past.view m) SUSPECTED_COLUMN ≡ 0
+    own = ap (λ v. w.past.own i v SUSPECTED_COLUMN)
+        (told_truly.beginning.first m ∙ sym (told_truly.beginning.first i))
+        ∙ told_truly.suspicions.told i ∙ nobody_suspects g p i is.trusting
+
+    nothing : {a b c : ℕ} → a ≤ b → b ≤ c → c ≡ 0 → a ≡ 0
+    nothing low high none = omega (arith, low, high, none)
+
+-- ---- judging
+
+-- nothing is found where nothing passes the test
+nothing_found : (test : ℕ → Bool) → ((i : ℕ) → test i ≡ false) → least_where test ≡ None
+nothing_found test none = ap least_where (fun_ext none)
+
+nothing_spreads : (test : ℕ → ℕ → Bool) → ((i j : ℕ) → test i j ≡ false)
+    → option_and_then (λ i. least_where (test i)) (least_where (λ i. is_some (least_where (test i)))) ≡ None
+nothing_spreads test none = ap (λ (t : ℕ → ℕ → Bool). option_and_then (λ i. least_where (t i))
+    (least_where (λ i. is_some (least_where (t i))))) (fun_ext λ i. fun_ext (none i))
+
+-- such a member judges nothing
+judges_nothing : (g : Group) (p : Program) (m : ℕ) (r : Running) → IsAmongTrusting g p m r
+    → judgement r ≡ None
+judges_nothing g p m r is = λ z.
+    option_or (option_map (λ by. acts.Halt (ends.Suspected by)) (named z))
+    (option_or (option_map acts.Suspect (script z))
+    (option_or (option_map acts.Suspect (spread z))
+    (option_or (option_map acts.Suspect (late z)) (few z))))
+  where
+    q : Replica
+    q = r.replica
+
+    so : IsTrusting r
+    so = is.trusting m r is.there
+
+    unnamed : (i j : ℕ) → names q.rows i j ≡ false
+    unnamed i j = ap (λ x. has x j) (unsuspecting g p m r is i) ∙ has_zero j
+
+    named : named_by q ≡ None
+    named = nothing_found (names_me (replica.suspicion_of q) q.rows) (λ i.
+        and_right (is_unsuspected (replica.suspicion_of q) i) (names q.rows i (me q)) (unnamed i (me q)))
+
+    script : scripted r ≡ None
+    script = ap (λ xs. option_map (λ (s : Suspicion). s.other) (find (is_scripted q) xs)) so.unscripted
+
+    spread : told q ≡ None
+    spread = nothing_spreads (spreads (replica.suspicion_of q) q.rows) (λ i j.
+        and_right (is_unsuspected (replica.suspicion_of q) i) _
+        (and_left (names q.rows i j) _ (unnamed i j)))
+
+    late : overdue r ≡ None
+    late = ap (λ n. least_where (λ i. (not (n == 0) && (has (replica.unsuspected q) i && not (i == me q)))
+        && is_late r.waits q.rows i)) so.patient
+
+    few : minority q ≡ None
+    few = ap (λ n. if not (n == 0) && not (has_majority q)
+        then Some (acts.Halt (ends.NoMajority (replica.unsuspected q))) else None) so.unwedged
+
+-- so it never stands where members judge
+pub never_judges : (g : Group) (p : Program) (m : ℕ) (r : Running) → IsAmongTrusting g p m r
+    → r.replica.end ≡ None → is_judge (part_of r.place) ≡ false
+never_judges g p m r is unended = by (part_of r.place) refl
+  where
+    nobody : judged r ≡ acts.Suspect (me r.replica)
+    nobody = ap (λ o. unwrap_or o (acts.Suspect (me r.replica))) (judges_nothing g p m r is)
+
+    not_itself : may_suspect r.replica (me r.replica) ≡ false
+    not_itself = grind arith
+
+    by : (part : Part) → part_of r.place ≡ part → is_judge part ≡ false
+    by parts.Judge at = absurd (cc (
+      sym (ap (λ x. allows r.replica (step_at r x r.place.row r.place.column)) at)
+          ∙ due_allowed r ((is.program.form m r is.there).due unended),
+      ap (λ a. allows r.replica (Do a)) nobody ∙ not_itself,
+    ))
+    by part at = refl
+
+-- ---- other steps
+
+-- the step is an act that members judge
+abbrev judges : Step → Bool
+judges (Do a) = is_verdict a
+judges s = false
+
+-- no other part has such a step
+plain_step : (r : Running) (part : Part) (i c : ℕ) → is_judge part ≡ false → has_verdict part ≡ false
+    → judges (step_at r part i c) ≡ false
+plain_step r parts.Judge i c other none = absurd (cc)
+plain_step r parts.Append i c other none = by r.failed
+  where
+    by : (o : Option LogWhy) → judges (append_or_end o) ≡ false
+    by None = refl
+    by (Some why) = refl
+plain_step r parts.Push i c other none = by (crashes_now r)
+  where
+    by : (b : Bool) → judges (push_or_crash b i c) ≡ false
+    by true = refl
+    by false = refl
+plain_step r (parts.Do a) i c other none = none
+plain_step r part i c other none = refl
+
+-- and no other step makes a member suspect anybody
+suspects_stay : (word : ℕ) (r : Replica) (s : Step) → judges s ≡ false
+    → (stepped word r s).suspects ≡ r.suspects
+suspects_stay word r (Do (acts.Suspect j)) other = absurd (cc)
+suspects_stay word r (Do a) other = refl
+suspects_stay word r s other = refl
+
+-- or ends it by suspicion
+halt_kept : (end : End) → is_verdict (acts.Halt end) ≡ false → is_left_out end ≡ false
+halt_kept (ends.Suspected by) other = absurd (cc)
+halt_kept (ends.NoMajority mask) other = absurd (cc)
+halt_kept end other = refl
+
+crash_kept : (end : End) → is_fault end ≡ true → is_left_out end ≡ false
+crash_kept (ends.Suspected by) fault = absurd (cc)
+crash_kept (ends.NoMajority mask) fault = absurd (cc)
+crash_kept end fault = refl
+
+end_stays : (word : ℕ) (r : Replica) (s : Step) → judges s ≡ false → allows r s ≡ true
+    → has_been_left r.end ≡ false → has_been_left (stepped word r s).end ≡ false
+end_stays word r (Do (acts.Halt end)) other may kept = halt_kept end other
+end_stays word r (Do (acts.Crash end)) other may kept = crash_kept end may
+end_stays word r (Do a) other may kept = kept
+end_stays word r s other may kept = kept
+
+-- no step at all changes for how long it waits
+limit_stays : (word : ℕ) (r : Running) (s : Step) → (waits_after word r s).limit ≡ r.waits.limit
+limit_stays word r (Look i c) =
+    by (c + 1 == columns r) (turned r.waits (looked r.replica.rows i c word) (mask_of (λ k. k == i))) refl
+  where
+    by : (b : Bool) (w : Waits) → w.limit ≡ r.waits.limit → (if b then w else r.waits).limit ≡ r.waits.limit
+    by true w same = same
+    by false w same = refl
+limit_stays word r s = refl
+
+-- ---- a move
+
+-- a member that takes such a step stays as it is
+step_trusts : (word : ℕ) (r : Running) → judges (next_step r) ≡ false → allows r.replica (next_step r) ≡ true
+    → IsTrusting r → IsTrusting (after_step word r)
+step_trusts word r other may so =
+    subst IsTrusting (sym (settle_only _ (took word r (next_step r)))) (record {
+      unwedged = suspects_stay word r.replica (next_step r) other ∙ so.unwedged;
+      patient = limit_stays word r (next_step r) ∙ so.patient;
+      unscripted = so.unscripted;
+      kept = end_stays word r.replica (next_step r) other may so.kept;
+    })
+
+-- the member after its next deed
+deed_trusts : (g : Group) (p : Program) (e : Move) (r : Running) → IsAmongTrusting g p e.member r
+    → r.replica.end ≡ None → IsTrusting (after_deed (next_sight p.table r) e.outcome r (next_step r))
+deed_trusts g p e r is unended =
+    let form = is.program.form e.member r is.there in
+    let so = is.trusting e.member r is.there in
+    after_either IsTrusting p.table e.outcome r (next_step r)
+    (step_trusts (next_sight p.table r) r
+    (plain_step r (part_of r.place) r.place.row r.place.column (never_judges g p e.member r is unended)
+    (no_verdict r.place.part form.place.part))
+    (due_allowed r (form.due unended)) so)
+    (λ why due. record
+    { unwedged = so.unwedged; patient = so.patient; unscripted = so.unscripted; kept = so.kept })
+
+-- a move keeps the members of the program so
+pub move_trusts : (g : Group) (p : Program) (e : Move) → IsGroup g → IsProgram g p
+    → IsReached g (world g p) → AreTrusting p → AreTrusting (step_of p e)
+move_trusts g p e group is run trusting = by (slice_get p.members e.member) refl
+  where
+    at : (r : Running) → slice_get p.members e.member ≡ Some r → (o : Option End) → r.replica.end ≡ o
+        → AreTrusting (step_of p e)
+    at r there (Some x) ended = subst AreTrusting (sym (rest_changes_nothing p e r there (ap is_some ended)))
+        trusting
+    at r there None unended = subst AreTrusting (sym (step_is p e r there unended)) (λ k y here.
+        elim (replaced_either p.members e.member r
+        (after_deed (next_sight p.table r) e.outcome r (next_step r)) there k y here) [
+          | inl moved ↦ subst IsTrusting moved.1 (deed_trusts g p e r (record {
+            group = group;
+            program = is;
+            reached = run;
+            trusting = trusting;
+            there = there;
+          }) unended)
+          | inr other ↦ trusting k y other.1
+        ])
+
+    by : (o : Option Running) → slice_get p.members e.member ≡ o → AreTrusting (step_of p e)
+    by None none = subst AreTrusting (sym (ap (λ o. moved_by p o e) none)) trusting
+    by (Some r) there = at r there r.replica.end refl
+
+-- ---- every run
+
+-- members begin so, where their setups are calm
+pub trusting_begins : (g : Group) (turns : ℕ) (setups : List Setup) → IsGroup g → AreSetups g turns setups
+    → All IsCalm setups → AreTrusting (begun_program g setups)
+trusting_begins g turns setups group are calm m r there =
+    by (slice_get setups m) refl (sym (slice_get-map begun_running setups m) ∙ there)
+  where
+    begun : (s : Setup) → IsCalm s → IsTrusting (begun_running s)
+    begun s so = record { unwedged = refl; patient = so.patient; unscripted = so.unscripted; kept = refl }
+
+    by : (o : Option Setup) → slice_get setups m ≡ o → option_map begun_running o ≡ Some r → IsTrusting r
+    by None e same = absurd (cc)
+    by (Some s) e same = subst IsTrusting (same_Some (begun_running s) r same)
+        (begun s (subst IsCalm (get_or_from_slice_get setups m s s e)
+        (calm m s (slice_get_within setups m s e))))
+
+-- and stay so by any moves
+pub trusting_ran : (g : Group) (turns : ℕ) (setups : List Setup) (p : Program) → IsGroup g → 1 ≤ turns
+    → AreSetups g turns setups → All IsCalm setups → IsRanFrom (begun_program g setups) p → AreTrusting p
+trusting_ran g turns setups p group some are calm (es, same) = subst AreTrusting (sym same)
+    (ran_keeps g (λ q. IsReached g (world g q) × AreTrusting q) (begun_program g setups) es group
+    (begun_is_program g turns setups group some are) (begun_reached g turns setups group are)
+    (λ q e is so. (step_reached g q e group is so.0, move_trusts g q e group is so.0 so.1))
+    (begun_reached g turns setups group are, trusting_begins g turns setups group are calm)).1
+
+-- so none of them ends by suspicion
+none_left : (p : Program) → AreTrusting p → NoneLeft (map end_of p.members)
+none_left p trusting = all_ends (λ e. is_left_out e.end ≡ false) p
+    (λ m r there. by r.replica.end (trusting m r there).kept)
+  where
+    by : (o : Option End) → has_been_left o ≡ false → is_left_out (unwrap_or o ends.Done) ≡ false
+    by None kept = refl
+    by (Some end) kept = kept
+
+pub none_is_left : (g : Group) (turns : ℕ) (setups : List Setup) (p : Program) → IsGroup g → 1 ≤ turns
+    → AreSetups g turns setups → All IsCalm setups → IsRanFrom (begun_program g setups) p
+    → NoneLeft (map end_of p.members)
+none_is_left g turns setups p group some are calm run =
+    none_left p (trusting_ran g turns setups p group some are calm run)
+
+-- ---- scripts
+
+-- nothing comes of a list where nothing comes of each element
+nothing_of : {X Y : Type 0} (h : X → Option Y) (xs : List X) → All (λ x. h x ≡ None) xs
+    → filter_map h xs ≡ []
+nothing_of h [] none = refl
+nothing_of h (x ∷ xs) none = rw (none 0 x (omega arith))
+    (nothing_of h xs (λ k d l. none (suc k) d (omega (arith, l))))
+
+unsuspected : (nth m : ℕ) (f : Fault) → suspicion_in f.what ≡ None → suspicion_of nth m f ≡ None
+unsuspected nth m f none = by ((f.age == nth) && (f.member == m))
+  where
+    by : (b : Bool) → (if b then suspicion_in f.what else None) ≡ None
+    by true = none
+    by false = refl
+
+-- the setups of a script that suspects nobody are calm
+pub calm_setups : (script : Script) (start : Start) (nth : ℕ) (setups : List Setup) → SuspectsNobody script
+    → AreSetupsOf script start nth setups → All IsCalm setups
+calm_setups script start nth setups nobody are k d within =
+    let s = are.each k _ (slice_get-get_or setups k d within) in record {
+      patient = s.patience ∙ nobody.patient;
+      unscripted = s.suspicions ∙ nothing_of (suspicion_of nth k) script.faults
+          (λ i f l. unsuspected nth k (slice_index_or script.faults i f) (nobody.unscripted i f l));
+    }
+
+pub none_by_script : (script : Script) (start : Start) (nth : ℕ) (begun p : Program)
+    → IsGroup (group_of script start) → length script.messages ≡ script.members → 1 ≤ script.turns
+    → SuspectsNobody script → IsBegun script start nth begun → IsRanFrom begun p
+    → NoneLeft (map end_of p.members)
+none_by_script script start nth begun p is lists some nobody (setups, are, same) run =
+    none_is_left (group_of script start) script.turns setups p is some
+    (are_setups script start nth setups lists are) (calm_setups script start nth setups nobody are)
+    (subst (λ b. IsRanFrom b p) same run)

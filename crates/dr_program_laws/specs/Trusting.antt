@@ -1,0 +1,46 @@
+-- Members that suspect nobody, and never will.
+use Rattle.std.specs.Prelude.{◌≡◌, ℕ, All, Bool, true, false, List, [], Option, None, Some, slice_get}
+use Rattle.dr_entry.specs.declared.end.End.{End}
+use Rattle.dr_entry.specs.declared.end.End.TheVariants.{Suspected, NoMajority}
+use Rattle.dr_entry.specs.declared.end.MemberEnd.{MemberEnd}
+use Rattle.dr_program.specs.declared.setup.Setup.{Setup}
+use Rattle.dr_program.specs.Program.{Program}
+use Rattle.dr_program.specs.Running.{Running}
+use Rattle.dr_restart.specs.Setups.{suspicion_in}
+use Rattle.dr_script.specs.declared.script.Fault.{Fault}
+use Rattle.dr_script.specs.declared.script.Script.{Script}
+
+-- the end is by suspicion
+abbrev pub is_left_out : End → Bool
+is_left_out (Suspected by) = true
+is_left_out (NoMajority mask) = true
+is_left_out end = false
+
+abbrev pub has_been_left : Option End → Bool
+has_been_left None = false
+has_been_left (Some end) = is_left_out end
+
+-- no member was ended by suspicion
+abbrev pub NoneLeft : List MemberEnd → Type 0
+NoneLeft members = All (λ (e : MemberEnd). is_left_out e.end ≡ false) members
+
+-- the setup gives no reason to suspect anybody
+pub record IsCalm (s : Setup) : Type 0 where
+  pub patient : s.patience ≡ 0
+  pub unscripted : s.suspicions ≡ []
+
+-- no more does the script, to any member
+pub record SuspectsNobody (s : Script) : Type 0 where
+  pub patient : s.patience ≡ 0
+  pub unscripted : All (λ (f : Fault). suspicion_in f.what ≡ None) s.faults
+
+-- a member suspects nobody, waits for everybody, and was not ended by suspicion
+pub record IsTrusting (r : Running) : Type 0 where
+  pub unwedged : r.replica.suspects ≡ 0
+  pub patient : r.waits.limit ≡ 0
+  pub unscripted : r.suspicions ≡ []
+  pub kept : has_been_left r.replica.end ≡ false
+
+-- all members of the program do
+abbrev pub AreTrusting : Program → Type 0
+AreTrusting p = (m : ℕ) (r : Running) → slice_get p.members m ≡ Some r → IsTrusting r

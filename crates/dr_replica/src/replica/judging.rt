@@ -1,0 +1,61 @@
+//! Whom a replica is told to suspect, and what ends it when it goes on without others.
+ghost use Rattle.std.specs.Prelude.{◌≡◌, ℕ, ◌<◌, ◌==◌};
+ghost use Rattle.dr_program.specs.Replica.{unsuspected};
+ghost use Rattle.dr_program.specs.Running.{minority, named_by, told};
+ghost use Rattle.dr_suspect.specs.Answers.{least_where};
+ghost use Rattle.dr_suspect.specs.Waits.{IsWaits, is_overdue, turned};
+ghost use Rattle.dr_words.specs.Masks.{mask_of};
+
+use super::Replica;
+use dr_entry::End;
+use dr_machine::Act;
+use dr_suspect::Patience;
+use dr_words::Mask;
+
+impl Replica {
+    /// The least member that it doesn't suspect and that suspects it.
+    #[inline]
+    pub fn named_by(&self) -> Option<u8>
+        ensures { result ≡ named_by self.now }
+    {
+        self.suspects.named_by(&self.rows)
+    }
+
+    /// The member to suspect next since a member that it doesn't suspect says so.
+    #[inline]
+    pub fn told(&self) -> Option<u8>
+        ensures { result ≡ told self.now }
+    {
+        self.suspects.next_spread(&self.rows)
+    }
+
+    /// The least member that it has waited for too long.
+    #[inline]
+    pub fn overdue(&self, patience: &Patience) -> Option<u8>
+        ensures { result ≡ least_where (is_overdue patience.now self.now.rows (unsuspected self.now)) }
+    {
+        patience.overdue(self.suspects.unsuspected(), &self.rows)
+    }
+
+    /// Its end, where it suspects so many that the others are no majority of its view.
+    #[inline]
+    pub fn minority(&self) -> Option<Act>
+        ensures { result ≡ minority self.now }
+    {
+        self.has_no_majority().then(|| Act::Halt {
+            end: End::NoMajority {
+                mask: self.suspects.unsuspected().bits(),
+            },
+        })
+    }
+
+    /// It has seen a row whole, which is news of its member where the beat differs from the one before.
+    #[inline]
+    pub fn wait_for(&self, patience: &mut Patience, row: u8)
+        requires { row < self.now.roster }
+        ensures after { patience.new ≡ turned patience.old self.now.rows (mask_of (λ k. k == row)) }
+        ensures form { IsWaits patience.new }
+    {
+        patience.turn(&self.rows, Mask::empty().with(row));
+    }
+}
