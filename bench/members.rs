@@ -23,7 +23,7 @@ use std::fmt::{self, Write};
 use std::process::ExitCode;
 
 /// The most turns that a script may ask for.
-const MOST_TURNS: u32 = 1_000_000;
+const MOST_TURNS: usize = 1_000_000;
 
 /// What the program was told to do.
 struct Task {
@@ -34,6 +34,8 @@ struct Task {
     /// `None` for lockstep.
     seed: Option<u64>,
     turns: u32,
+    /// How many members, the last ones, member 0 suspects.
+    suspected: usize,
     has_report: bool,
 }
 
@@ -44,12 +46,23 @@ fn number(word: &str, least: usize, most: usize) -> Option<usize> {
         .filter(|number| (least..=most).contains(number))
 }
 
+/// The same, but this number where there is no word.
+fn number_or(default: usize, word: Option<&String>, least: usize, most: usize) -> Option<usize> {
+    word.map_or(Some(default), |word| number(word, least, most))
+}
+
+/// The last so many members, as a mask.
+fn last_members(members: usize, count: usize) -> u16 {
+    (members - count..members).fold(0, |mask, member| mask | 1 << member)
+}
+
 fn read_task(words: &[String]) -> Option<Task> {
     let (words, rest) = words.split_at_checked(6)?;
     let has_report = rest.last().is_some_and(|word| word == "report");
-    let turns = match &rest[..rest.len() - usize::from(has_report)] {
-        [] => MOST_TURNS,
-        [turns] => number(turns, 1, MOST_TURNS as usize)? as u32,
+    let (turns, suspected) = match &rest[..rest.len() - usize::from(has_report)] {
+        [] => (None, None),
+        [turns] => (Some(turns), None),
+        [turns, suspected] => (Some(turns), Some(suspected)),
         _ => return None,
     };
     let seed = match words[5].as_str() {
@@ -68,7 +81,8 @@ fn read_task(words: &[String]) -> Option<Task> {
         totals: totals.collect(),
         bytes: number(&words[4], 0, MAX_MESSAGE)? as u8,
         seed,
-        turns,
+        turns: number_or(MOST_TURNS, turns, 1, MOST_TURNS)? as u32,
+        suspected: number_or(0, suspected, 0, members - 1)?,
         has_report,
     })
 }
@@ -83,6 +97,8 @@ fn report(group: &Group) -> Result<String, fmt::Error> {
         let end = match member.end {
             None => "running".to_owned(),
             Some(End::Done) => "done".to_owned(),
+            Some(End::Suspected { by }) => format!("suspected {by}"),
+            Some(End::NoMajority { members }) => format!("nomajority {}", listed(members)),
             Some(End::Spent { turns }) => format!("spent {turns}"),
         };
         let (history, logged, durable) = (&member.history, member.logged, member.durable);
@@ -98,6 +114,13 @@ fn report(group: &Group) -> Result<String, fmt::Error> {
     Ok(text)
 }
 
+/// The numbers in a mask, as `derecho` prints them.
+fn listed(members: u16) -> String {
+    let members = (0..16).filter(|member| (members >> member) & 1 == 1);
+    let members: Vec<String> = members.map(|member| member.to_string()).collect();
+    members.join(",")
+}
+
 fn report_entry(text: &mut String, entry: &Entry) -> fmt::Result {
     match entry {
         Entry::View {
@@ -105,9 +128,7 @@ fn report_entry(text: &mut String, entry: &Entry) -> fmt::Result {
             number,
             members,
         } => {
-            let members = (0..16).filter(|member| (members >> member) & 1 == 1);
-            let members: Vec<String> = members.map(|member| member.to_string()).collect();
-            writeln!(text, "  view {age} {number} {}", members.join(","))
+            writeln!(text, "  view {age} {number} {}", listed(*members))
         }
         Entry::Msg {
             sender,
@@ -132,11 +153,12 @@ fn main() -> ExitCode {
     let words: Vec<String> = env::args().skip(1).collect();
     let Some(task) = read_task(&words) else {
         println!(
-            "usage: members MEMBERS WINDOW SENDERS MESSAGES BYTES lockstep|SEED [TURNS] [report]"
+            "usage: members MEMBERS WINDOW SENDERS MESSAGES BYTES lockstep|SEED [TURNS [SUSPECTED]] [report]"
         );
         return ExitCode::from(2);
     };
-    let mut group = Group::begin(task.shape, &task.totals, task.bytes, task.turns);
+    let suspected = last_members(task.shape.members, task.suspected);
+    let mut group = Group::begin(task.shape, &task.totals, task.bytes, task.turns, suspected);
     let schedule = match task.seed {
         None => {
             group.run_lockstep();

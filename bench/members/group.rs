@@ -18,12 +18,20 @@ pub struct Group {
 
 impl Group {
     /// The members have so many messages by their numbers, each of so many bytes, and take at most so
-    /// many turns.
-    pub fn begin(shape: Shape, totals: &[u32], bytes: u8, turns: u32) -> Group {
+    /// many turns. By its script, member 0 suspects those of this mask.
+    pub fn begin(shape: Shape, totals: &[u32], bytes: u8, turns: u32, suspected: u16) -> Group {
         let begin = |me| {
             let messages =
                 (0..totals[me] as usize).map(|index| Message::numbered(me, index, bytes));
-            Member::begin(shape, me, messages.collect(), totals.to_vec(), turns)
+            let scripted = if me == 0 { suspected } else { 0 };
+            Member::begin(
+                shape,
+                me,
+                messages.collect(),
+                totals.to_vec(),
+                turns,
+                scripted,
+            )
         };
         let members: Vec<Member> = (0..shape.members).map(begin).collect();
         Group {

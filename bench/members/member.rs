@@ -1,7 +1,10 @@
 //! A member of a group, with its place in its turn.
 
 use crate::records::{Entry, Message, Record};
-use crate::rows::{BEAT, DONE, Item, LOGGED, RECEIVED, Rows, Shape};
+use crate::rows::{BEAT, DONE, Item, LOGGED, RECEIVED, Rows, SUSPECTED, Shape};
+
+/// The turn in which a member suspects those whom its script names.
+const SCRIPTED_TURN: u32 = 2;
 
 /// What it has put: a message by its index, or a null. (The members say so at their end, where a
 /// group has more than one view.)
@@ -14,6 +17,8 @@ enum Sent {
 #[derive(Clone, Copy)]
 pub enum End {
     Done,
+    Suspected { by: usize },
+    NoMajority { members: u16 },
     Spent { turns: u32 },
 }
 
@@ -31,6 +36,9 @@ pub enum Deed {
 enum Place {
     Beat,
     Look { row: usize, column: usize },
+    Suspect { other: usize },
+    Suspected { by: usize },
+    NoMajority,
     Receive { sender: usize },
     Send,
     Null,
@@ -84,6 +92,10 @@ pub struct Member {
     /// The members of the view, a bit for each, and ascending.
     members: u16,
     view: Vec<usize>,
+    /// Those of them that it suspects, whose rows it looks at no more, and those that it suspects by
+    /// its script.
+    suspects: u16,
+    scripted: u16,
     counts: Vec<u32>,
     /// Item `k` of member `s` at `k` times the number of members plus `s`.
     items: Vec<Item>,
@@ -109,14 +121,15 @@ pub struct Member {
 }
 
 impl Member {
-    /// A member of View 0, which has everyone, before its first turn, with its messages and the
-    /// number of those of each member. No later call takes memory.
+    /// A member of View 0, which has everyone, before its first turn, with its messages, the number of
+    /// those of each member, and the others that it suspects by its script. No later call takes memory.
     pub fn begin(
         shape: Shape,
         me: usize,
         messages: Vec<Message>,
         totals: Vec<u32>,
         limit: u32,
+        scripted: u16,
     ) -> Member {
         let roster = shape.members;
         let members = u16::MAX >> (16 - roster);
@@ -144,6 +157,8 @@ impl Member {
             rows,
             members,
             view: (0..roster).collect(),
+            suspects: 0,
+            scripted,
             counts: vec![0; roster],
             items: vec![Item::Null; spots],
             front: Spot::FIRST,
@@ -228,6 +243,14 @@ impl Member {
                 self.turns = self.turns.saturating_add(1);
                 self.seek_look(0)
             }
+            Place::Suspect { other } => {
+                self.suspect(other);
+                self.seek_judge()
+            }
+            Place::Suspected { by } => self.halt(End::Suspected { by }),
+            Place::NoMajority => self.halt(End::NoMajority {
+                members: self.unsuspected(),
+            }),
             Place::Receive { sender } => {
                 self.receive(sender);
                 self.seek_receive(sender)
@@ -266,9 +289,24 @@ impl Member {
     // something to do.
 
     fn seek_look(&self, row: usize) -> Place {
-        match self.other_from(row) {
+        let others = self.unsuspected_others();
+        match (row..self.shape.members).find(|row| has(others, *row)) {
             Some(row) => Place::Look { row, column: 0 },
-            None => self.seek_receive(0),
+            None => self.seek_judge(),
+        }
+    }
+
+    fn seek_judge(&self) -> Place {
+        if let Some(by) = self.least_row_naming(1 << self.me) {
+            Place::Suspected { by }
+        } else if let Some(other) = self.next_suspect() {
+            Place::Suspect { other }
+        } else if !self.is_wedged() {
+            self.seek_receive(0)
+        } else if !self.has_majority() {
+            Place::NoMajority
+        } else {
+            self.seek_append()
         }
     }
 
@@ -354,12 +392,46 @@ impl Member {
         }
     }
 
-    fn other_from(&self, from: usize) -> Option<usize> {
-        (from..self.shape.members).find(|other| self.is_other(*other))
+    fn is_other(&self, member: usize) -> bool {
+        member != self.me && has(self.members, member)
     }
 
-    fn is_other(&self, member: usize) -> bool {
-        member != self.me && (self.members >> member) & 1 == 1
+    fn unsuspected(&self) -> u16 {
+        self.members & !self.suspects
+    }
+
+    fn unsuspected_others(&self) -> u16 {
+        self.unsuspected() & !(1 << self.me)
+    }
+
+    /// Who suspects somebody does no more with items, and isn't done any more.
+    fn is_wedged(&self) -> bool {
+        self.suspects != 0
+    }
+
+    fn has_majority(&self) -> bool {
+        2 * self.unsuspected().count_ones() > self.members.count_ones()
+    }
+
+    /// The least other member whom its script has it suspect now, or else whom the rows do.
+    fn next_suspect(&self) -> Option<usize> {
+        let others = self.unsuspected_others();
+        if self.turns == SCRIPTED_TURN && self.scripted & others != 0 {
+            return least_of(self.scripted & others);
+        }
+        let row = self.least_row_naming(others)?;
+        least_of(self.named_by(row) & others)
+    }
+
+    /// The least unsuspected row that says that its member suspects one of these.
+    fn least_row_naming(&self, members: u16) -> Option<usize> {
+        let others = self.unsuspected_others();
+        let mut rows = self.view.iter().copied();
+        rows.find(|row| has(others, *row) && self.named_by(*row) & members != 0)
+    }
+
+    fn named_by(&self, row: usize) -> u16 {
+        self.rows.seen(row, SUSPECTED) as u16
     }
 
     /// The least word of a column over the rows of the view.
@@ -411,13 +483,27 @@ impl Member {
 
     fn may_mark(&self) -> bool {
         let holds_all = |member: &usize| self.delivered[*member] == self.totals[*member];
-        self.rows.own(DONE) == 0
+        !self.is_wedged()
+            && self.rows.own(DONE) == 0
             && self.durable == self.history.len()
             && self.view.iter().all(holds_all)
     }
 
     fn is_all_done(&self) -> bool {
-        self.view.iter().all(|row| self.rows.seen(*row, DONE) == 1)
+        !self.is_wedged() && self.view.iter().all(|row| self.rows.seen(*row, DONE) == 1)
+    }
+
+    /// One more is suspected: the recv words are final, and the accept words have the promise to the
+    /// least member that isn't.
+    fn suspect(&mut self, other: usize) {
+        self.suspects |= 1 << other;
+        self.rows.set_own(SUSPECTED, u64::from(self.suspects));
+        let promise = self.unsuspected().trailing_zeros();
+        self.rows.promise(self.shape.leavers_column(), promise);
+        for sender in &self.view {
+            self.rows.finish(self.shape.recv_column(*sender));
+            self.rows.promise(self.shape.trim_column(*sender), promise);
+        }
     }
 
     fn receive(&mut self, sender: usize) {
@@ -481,4 +567,12 @@ impl Member {
     pub fn is_between_turns(&self) -> bool {
         matches!(self.place, Place::Beat | Place::Rest)
     }
+}
+
+fn has(mask: u16, member: usize) -> bool {
+    (mask >> member) & 1 == 1
+}
+
+fn least_of(mask: u16) -> Option<usize> {
+    (mask != 0).then(|| mask.trailing_zeros() as usize)
 }

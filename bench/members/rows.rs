@@ -3,9 +3,14 @@
 use crate::records::{MAX_MESSAGE, Message};
 
 pub const BEAT: usize = 0;
+pub const SUSPECTED: usize = 1;
 pub const RECEIVED: usize = 2;
 pub const LOGGED: usize = 3;
 pub const DONE: usize = 4;
+/// The bit of a recv word that says that its count is final.
+const FINAL: u64 = 1;
+/// Where the promise of an accept word begins.
+const PROMISE: u32 = 56;
 /// The head of a null; that of a message is its length.
 const NULL_MARK: u32 = u32::MAX;
 /// A head word and the words of the body.
@@ -30,6 +35,14 @@ impl Shape {
 
     pub fn recv_column(&self, sender: usize) -> usize {
         5 + sender
+    }
+
+    pub fn leavers_column(&self) -> usize {
+        5 + self.members
+    }
+
+    pub fn trim_column(&self, sender: usize) -> usize {
+        6 + self.members + sender
     }
 
     /// The column of the head word of the slot of item `k`.
@@ -94,6 +107,17 @@ impl Rows {
 
     pub fn set_own(&mut self, column: usize, word: u64) {
         self.words[self.own_row + column] = word;
+    }
+
+    /// Makes the count in an own recv word final.
+    pub fn finish(&mut self, column: usize) {
+        self.words[self.own_row + column] |= FINAL;
+    }
+
+    /// Puts the promise to this member into an own accept word.
+    pub fn promise(&mut self, column: usize, member: u32) {
+        let word = &mut self.words[self.own_row + column];
+        *word = u64::from(member) << PROMISE | *word & ((1 << PROMISE) - 1);
     }
 
     pub fn seen(&self, row: usize, column: usize) -> u64 {

@@ -4,7 +4,7 @@
 mod members;
 
 use dr_script::Schedule;
-use members::{MEMBERS, members};
+use members::{MEMBERS, MOST_SUSPECTED, members};
 use std::process::ExitCode;
 use std::rt::Env;
 use std::{env, io};
@@ -15,14 +15,20 @@ const SEED: u64 = 7;
 fn main(rt: HostRuntime) -> io::Result<ExitCode> {
     let alloc = rt.alloc();
     let Some(task) = read_task(&rt)? else {
-        println!(rt; "usage: dr_bench_groups lockstep|seeded MESSAGES [SENDERS]")?;
+        println!(rt; "usage: dr_bench_groups lockstep|seeded MESSAGES [SENDERS [SUSPECTED]]")?;
         return Ok(ExitCode::from(2));
     };
     let name = match task.schedule {
         Schedule::Lockstep => "lockstep",
         Schedule::Seed(_) => "seeded",
     };
-    let tally = members(alloc, task.messages, task.senders, task.schedule)?;
+    let tally = members(
+        alloc,
+        task.messages,
+        task.senders,
+        task.suspected,
+        task.schedule,
+    )?;
     let count = tally.count;
     let checksum = tally.checksum;
     println!(rt; "{name}: {count} checksum: {checksum:016x}")?;
@@ -37,6 +43,8 @@ struct Task {
     messages: u32,
     /// How many members have messages: the first so many.
     senders: u8,
+    /// How many members are suspected: the last so many.
+    suspected: u8,
 }
 
 /// The task in the words behind the program's name; `None` where they are none.
@@ -45,7 +53,7 @@ fn read_task(rt: &(impl Env + AllocGlobal)) -> io::Result<Option<Task>> {
     let (Some(schedule), Some(messages)) = (words.next(), words.next()) else {
         return Ok(None);
     };
-    let (senders, None) = (words.next(), words.next()) else {
+    let (senders, suspected, None) = (words.next(), words.next(), words.next()) else {
         return Ok(None);
     };
     let schedule = match schedule.as_str() {
@@ -53,9 +61,10 @@ fn read_task(rt: &(impl Env + AllocGlobal)) -> io::Result<Option<Task>> {
         "seeded" => Schedule::Seed(SEED),
         _ => return Ok(None),
     };
-    let (Ok(messages), Some(senders)) = (
+    let (Ok(messages), Some(senders), Some(suspected)) = (
         messages.as_str().parse(),
         read_senders(senders.as_deref()),
+        read_suspected(suspected.as_deref()),
     ) else {
         return Ok(None);
     };
@@ -63,6 +72,7 @@ fn read_task(rt: &(impl Env + AllocGlobal)) -> io::Result<Option<Task>> {
         schedule,
         messages,
         senders,
+        suspected,
     }))
 }
 
@@ -73,4 +83,13 @@ fn read_senders(word: Option<&str>) -> Option<u8> {
     };
     let senders = word.parse().ok()?;
     (1..=MEMBERS).contains(&senders).then_some(senders)
+}
+
+/// The number of those suspected in a word, at most `MOST_SUSPECTED`; none of them where there is no word.
+fn read_suspected(word: Option<&str>) -> Option<u8> {
+    let Some(word) = word else {
+        return Some(0);
+    };
+    let suspected = word.parse().ok()?;
+    (suspected <= MOST_SUSPECTED).then_some(suspected)
 }

@@ -1,10 +1,12 @@
-ghost use Rattle.std.specs.Prelude.{◌≡◌, ℕ, ◌<◌, ◌≤◌, [], All, IfOk, length, slice_index_or};
+ghost use Rattle.std.specs.Prelude.{◌≡◌, ℕ, ◌+◌, ◌-◌, ◌<◌, ◌≤◌, [], All, IfOk, length, slice_index_or};
+ghost use Rattle.dr_script.specs.declared.script.Fault.{Fault};
+ghost use Rattle.dr_script.specs.declared.script.What.TheVariants.{Suspect};
 ghost use Rattle.dr_script.specs.Ranges.{HasRanges};
 
 use dr_entry::{AgeEnd, Entry, MAX_MESSAGE_LENGTH, MemberEnd, Message, Seq};
 use dr_fresh::logs_of;
 use dr_restart::first_start;
-use dr_script::{Schedule, Script};
+use dr_script::{Fault, Schedule, Script, What};
 use dr_sim::sim_age;
 use std::alloc::{AllocError, Global};
 
@@ -15,6 +17,15 @@ const WINDOW: u8 = 8;
 
 /// The most turns that a member may take: so many that none comes to them.
 const TURNS: u32 = 1_000_000;
+
+/// The most turns where members are suspected: those who suspect them take all of these.
+const WEDGED_TURNS: u32 = 2_000;
+
+/// The turn in which member 0 suspects others.
+const SUSPICION_TURN: u32 = 2;
+
+/// The most members that it may suspect: those left are a majority.
+pub const MOST_SUSPECTED: u8 = 7;
 
 /// The most messages that a member may have.
 const MOST_MESSAGES: u32 = 4096;
@@ -31,15 +42,19 @@ pub struct Tally {
 }
 
 /// Runs the largest group from its opening to the ends of all members, over logs in memory. The first
-/// `senders` of them have so many messages of 64 bytes each, the others none.
+/// `senders` of them have so many messages of 64 bytes each, the others none. Member 0 suspects the last
+/// `suspected` of them.
 #[inline(never)]
 pub fn members(
     alloc: Global,
     messages: u32,
     senders: u8,
+    suspected: u8,
     schedule: Schedule,
 ) -> Result<Tally, AllocError> {
-    let script = script_of(alloc, messages.min(MOST_MESSAGES), senders, schedule)?;
+    let messages = messages.min(MOST_MESSAGES);
+    let suspected = suspected.min(MOST_SUSPECTED);
+    let script = script_of(alloc, messages, senders, suspected, schedule)?;
     let start = first_start(alloc, &script);
     let mut logs = logs_of(alloc, &script, &start)?;
     let age = sim_age(alloc, &script, &start, 0, logs.as_mut_slice())?;
@@ -50,21 +65,45 @@ fn script_of(
     alloc: Global,
     messages: u32,
     senders: u8,
+    suspected: u8,
     schedule: Schedule,
 ) -> Result<Script, AllocError>
-    requires { messages ≤ 4096 }
+    requires messages { messages ≤ 4096 }
+    requires suspected { suspected ≤ 7 }
     ensures { IfOk result HasRanges }
 {
     Ok(Script {
         members: MEMBERS,
         window: WINDOW,
-        turns: TURNS,
+        turns: if suspected == 0 { TURNS } else { WEDGED_TURNS },
         patience: 0,
         ages: 1,
         messages: Seq::of(lists_of(alloc, messages, senders)?),
-        faults: Seq::of(Vec::new(alloc)),
+        faults: Seq::of(faults_of(alloc, suspected)?),
         schedule,
     })
+}
+
+/// The suspicions of member 0: in turn 2 it suspects the last `suspected` members, ascending.
+fn faults_of(alloc: Global, suspected: u8) -> Result<Vec<Fault>, AllocError>
+    requires { suspected ≤ 7 }
+    ensures count { IfOk result (λ faults. length faults.items ≡ suspected) }
+    ensures each { IfOk result (λ faults. (k : ℕ) (d : Fault) → k < suspected
+        → slice_index_or faults.items k d
+        ≡ record { age = 0; member = 0; what = Suspect 2 (16 - suspected + k) }) }
+{
+    let mut faults = Vec::with_capacity(alloc, usize::from(suspected))?;
+    for k in 0..suspected {
+        faults.push(Fault {
+            age: 0,
+            member: 0,
+            what: What::Suspect {
+                turn: SUSPICION_TURN,
+                other: MEMBERS - suspected + k,
+            },
+        })?;
+    }
+    Ok(faults)
 }
 
 /// The messages of all members: the first `senders` have so many each, the others none.
