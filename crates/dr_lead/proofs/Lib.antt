@@ -1,0 +1,5 @@
+mod Below
+mod Filled
+mod Highest
+mod Least
+mod Tagged

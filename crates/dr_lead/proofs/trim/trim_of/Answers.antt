@@ -1,0 +1,16 @@
+use Rattle.std.proofs.Common.{sym, ◌∙◌}
+use Rattle.dr_lead.specs.Changes.{IsLeastReceived}
+use Rattle.dr_lead.proofs.Filled.{filled_more, filled_past}
+use Rattle.dr_lead.proofs.trim.trim_of.Goals as goal
+use Rattle.dr_lead.proofs.trim.trim_of.Goals.{then-has, else-has}
+
+pub loop-sender-preserved : goal.loop-sender-preserved
+loop-sender-preserved c = elim c.if-has.branch [
+  | then-has w ↦ rw (w.trim-is, w.from.ensures)
+      (filled_more (IsLeastReceived c.args.rows.now c.args.of) c.args.senders c.loop-sender.sender
+      w.least_count.result c.loop-sender.trim c.loop-sender.invariant c.loop-sender-test.true
+      (sym c.has.ensures ∙ w.if-has.true) w.least_count.ensures)
+  | else-has w ↦ rw w.trim-is
+      (filled_past (IsLeastReceived c.args.rows.now c.args.of) c.args.senders c.loop-sender.sender
+      c.loop-sender.trim c.loop-sender.invariant (sym c.has.ensures ∙ w.if-has.false))
+]
