@@ -26,9 +26,12 @@ fn put(bytes: &mut Vec<u8>, at: u64, from: &[u8])
     ensures longer { vec_len bytes.new ≤ vec_len bytes.old + length from.now }
 {
     let at = (at as usize).min(bytes.len());
-    let count = from.len().min(bytes.len() - at);
-    bytes[at..at + count].copy_from_slice(&from[..count]);
-    bytes.extend_from_slice(&from[count..]).unwrap();
+    if from.len() < bytes.len() - at {
+        bytes[at..at + from.len()].copy_from_slice(from);
+    } else {
+        bytes.truncate(at);
+        bytes.extend_from_slice(from).unwrap();
+    }
 }
 
 impl Disk for Bytes {

@@ -2,25 +2,27 @@ ghost use Rattle.std.specs.Prelude.{◌≡◌, ◌<◌, IfSome, length, MatchOpt
 ghost use Rattle.dr_entry.specs.Messages.{IsMessage};
 
 use crate::MAX_MESSAGE_LENGTH;
-use arrayvec::ArrayVec;
 use std::fmt;
 use std::marker::Model;
 
 /// A message of a member: at most [`MAX_MESSAGE_LENGTH`] bytes.
 #[derive(Drop)]
 pub struct Message {
-    bytes: ArrayVec<u8, MAX_MESSAGE_LENGTH>,
+    // The message is the first `len` of these.
+    bytes: [u8; MAX_MESSAGE_LENGTH],
+    len: u8,
 }
 
 impl Model for Message {
-    ghost use Rattle.std.specs.Prelude.{List, ℕ};
+    ghost use Rattle.std.specs.Prelude.{◌≤◌, List, ℕ, take};
     ghost use Rattle.dr_entry.specs.Messages.{IsMessage};
+    ghost use Rattle.dr_entry.specs.declared.limits.TheConstants.{MAX_MESSAGE_LENGTH};
 
     ghost Value = { List ℕ };
 
-    ghost view = { λ m. m.bytes.items };
+    ghost view = { λ m. take m.len m.bytes };
 
-    ghost invariant = { λ m. IsMessage m.bytes.items };
+    ghost invariant = { λ m. (m.len ≤ MAX_MESSAGE_LENGTH) × IsMessage (take m.len m.bytes) };
 }
 
 impl Message {
@@ -30,10 +32,15 @@ impl Message {
         ensures value { MatchOption result (64 < length bytes.now) (λ m. m ≡ bytes.now) }
         ensures message { IfSome result IsMessage }
     {
-        match ArrayVec::try_from(bytes) {
-            Ok(bytes) => Some(Message { bytes }),
-            Err(_) => None,
+        if bytes.len() > MAX_MESSAGE_LENGTH {
+            return None;
         }
+        let mut all = [0; MAX_MESSAGE_LENGTH];
+        all[..bytes.len()].copy_from_slice(bytes);
+        Some(Message {
+            bytes: all,
+            len: bytes.len() as u8,
+        })
     }
 
     /// The message's bytes.
@@ -41,16 +48,17 @@ impl Message {
         ensures same { result.now ≡ self.now }
         ensures message { IsMessage self.now }
     {
-        self.bytes.as_slice()
+        &self.bytes[..usize::from(self.len)]
     }
 
     /// An equal message.
     pub fn copy(&self) -> Message
         ensures { result ≡ self.now }
     {
-        let mut bytes = ArrayVec::new();
-        bytes.try_extend_from_slice(self.bytes.as_slice()).unwrap();
-        Message { bytes }
+        Message {
+            bytes: self.bytes,
+            len: self.len,
+        }
     }
 }
 
@@ -64,7 +72,7 @@ impl PartialEq for Message {
     ghost laws = { partial_equiv_from_equiv nat_list_eq_equiv };
 
     fn eq(&self, other: &Self) -> bool {
-        self.bytes.as_slice() == other.bytes.as_slice()
+        self.bytes() == other.bytes()
     }
 }
 
@@ -76,6 +84,6 @@ impl Eq for Message {
 
 impl fmt::Debug for Message {
     fn fmt<W: fmt::Write>(&self, f: &mut fmt::Formatter<W>) -> fmt::Result {
-        self.bytes.as_slice().fmt(f)
+        self.bytes().fmt(f)
     }
 }
