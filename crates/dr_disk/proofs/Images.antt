@@ -8,10 +8,7 @@ use Rattle.dr_disk.specs.Images.{IsImage}
 -- at rest there is one image
 pub image_at_rest : (bytes image : List ℕ) → IsImage (at_rest bytes) image → image ≡ bytes
 image_at_rest bytes image is = ext_get_or 0 image bytes (omega (arith, is.no_shorter, is.no_longer))
-    (λ i l. is.stays i l (omega (arith, l, is.no_longer)) tt)
-
-rest_image : (bytes : List ℕ) → IsImage (at_rest bytes) bytes
-rest_image bytes = record { no_shorter = omega arith; no_longer = omega arith; stays = λ i l k free. refl }
+    (λ i l. is.stays i (omega (arith, l, is.no_longer)) (inr (omega arith)))
 
 -- ---- what a read gives is an image
 
@@ -41,14 +38,14 @@ length-written_past old at bytes l =
     )
 
 -- a write leaves what stands before its range
-written_before : (old : List ℕ) (at : ℕ) (bytes : List ℕ) (i : ℕ) → i < min at (length old)
+pub written_before : (old : List ℕ) (at : ℕ) (bytes : List ℕ) (i : ℕ) → i < min at (length old)
     → get_or (written old at bytes) i 0 ≡ get_or old i 0
 written_before old at bytes i l =
     get_or_append_left (take at old) (bytes ++ drop (at + length bytes) old) 0 i
     (omega (arith, l, length-take at old)) ∙ get_or-take at old i 0 (omega (arith, l))
 
 -- and what stands behind it
-written_behind : (old : List ℕ) (at : ℕ) (bytes : List ℕ) (i : ℕ) → at ≤ length old
+pub written_behind : (old : List ℕ) (at : ℕ) (bytes : List ℕ) (i : ℕ) → at ≤ length old
     → at + length bytes ≤ i → get_or (written old at bytes) i 0 ≡ get_or old i 0
 written_behind old at bytes i inside l =
     get_or-append_right (take at old) (bytes ++ drop (at + length bytes) old) at i 0
@@ -58,64 +55,48 @@ written_behind old at bytes i inside l =
     ∙ get_or-drop (at + length bytes) old (i - at - length bytes) 0
     ∙ ap (λ (n : ℕ). get_or old n 0) (omega (arith, l))
 
-write_keeps : (s : State) (at : ℕ) (bytes : List ℕ) → IsImage s s.content
-    → IsImage (step s (Write at bytes)) (written s.content at bytes)
-write_keeps s at bytes is = ⊎_elim
+-- the length is between the least and the greatest
+pub record IsBetween (s : State) : Type 0 where
+  pub least : s.least ≤ length s.content
+  pub greatest : length s.content ≤ s.greatest
+
+between-write : (s : State) (at : ℕ) (bytes : List ℕ) → IsBetween s → IsBetween (step s (Write at bytes))
+between-write s at bytes is = ⊎_elim
     (λ (past : length s.content < at). record {
-      no_shorter = omega (arith, past, is.no_shorter, length-written_past s.content at bytes past);
-      no_longer = omega (arith, past, is.no_longer, length-written_past s.content at bytes past);
-      stays = λ i l k free. ⊎_elim
-          (λ (h : i < min at (length s.content)). written_before s.content at bytes i h
-          ∙ is.stays i (omega (arith, h)) k free.1)
-          (λ (h : min at (length s.content) + length bytes ≤ i).
-          absurd (omega (arith, h, past, l, length-written_past s.content at bytes past)))
-          free.0;
+      least = omega (arith, past, is.least, length-written_past s.content at bytes past);
+      greatest = omega (arith, past, is.greatest, length-written_past s.content at bytes past);
     })
     (λ (inside : at ≤ length s.content). record {
-      no_shorter = omega (arith, inside, is.no_shorter, length-written s.content at bytes inside);
-      no_longer = omega (arith, inside, is.no_longer, length-written s.content at bytes inside);
-      stays = λ i l k free. ⊎_elim
-          (λ (h : i < min at (length s.content)). written_before s.content at bytes i h
-          ∙ is.stays i (omega (arith, h)) k free.1)
-          (λ (h : min at (length s.content) + length bytes ≤ i).
-          written_behind s.content at bytes i inside (omega (arith, h, inside))
-          ∙ is.stays i (omega (arith, h, inside, l, length-written s.content at bytes inside)) k free.1)
-          free.0;
+      least = omega (arith, inside, is.least, length-written s.content at bytes inside);
+      greatest = omega (arith, inside, is.greatest, length-written s.content at bytes inside);
     })
     (cases_lt (length s.content) at)
 
-cut_keeps : (s : State) (to : ℕ) → IsImage s s.content → IsImage (step s (Cut to)) (take to s.content)
-cut_keeps s to is = record {
-  no_shorter = omega (arith, is.no_shorter, length-take to s.content);
-  no_longer = omega (arith, is.no_longer, length-take to s.content);
-  stays = λ i l k free. get_or-take to s.content i 0 (omega (arith, l, length-take to s.content))
-      ∙ is.stays i (omega (arith, l, length-take to s.content)) k free;
+pub between-step : (s : State) (call : Call) → IsBetween s → IsBetween (step s call)
+between-step s (Write at bytes) is = between-write s at bytes is
+between-step s (FailedWrite at count) is = record {
+  least = is.least;
+  greatest = omega (arith, is.greatest);
 }
+between-step s (Cut to) is = record {
+  least = omega (arith, is.least, length-take to s.content);
+  greatest = omega (arith, is.greatest, length-take to s.content);
+}
+between-step s (FailedCut to) is = record {
+  least = omega (arith, is.least);
+  greatest = is.greatest;
+}
+between-step s Sync is = record { least = omega arith; greatest = omega arith }
 
-step_keeps : (s : State) (call : Call) → IsImage s s.content → IsImage (step s call) (step s call).content
-step_keeps s (Write at bytes) is = write_keeps s at bytes is
-step_keeps s (FailedWrite at count) is = record {
-  no_shorter = is.no_shorter;
-  no_longer = omega (arith, is.no_longer);
-  stays = λ i l k free. is.stays i l k free.1;
-}
-step_keeps s (Cut to) is = cut_keeps s to is
-step_keeps s (FailedCut to) is = record {
-  no_shorter = omega (arith, is.no_shorter);
-  no_longer = is.no_longer;
-  stays = is.stays;
-}
-step_keeps s Sync is = rest_image s.content
-
--- what a read gives is an image of any disk that began with one
-reads_image_from : (s : State) (calls : List Call) → IsImage s s.content → IsImage (run_from s calls)
-    (run_from s calls).content
-reads_image_from s [] is = is
-reads_image_from s (call ∷ calls) is = reads_image_from (step s call) calls (step_keeps s call is)
+pub between-run : (s : State) (calls : List Call) → IsBetween s → IsBetween (run_from s calls)
+between-run s [] is = is
+between-run s (call ∷ calls) is = between-run (step s call) calls (between-step s call is)
 
 -- what a read gives is an image
 pub reads_image : (calls : List Call) → IsImage (run calls) (content_after calls)
-reads_image calls = reads_image_from (at_rest []) calls (rest_image [])
+reads_image calls =
+    let is = between-run (at_rest []) calls (record { least = omega arith; greatest = omega arith }) in
+    record { no_shorter = is.least; no_longer = is.greatest; stays = λ i l free. refl }
 
 -- ---- a write, or one that failed, on a disk at rest
 
@@ -126,17 +107,33 @@ pub record Torn (at n : ℕ) (old image : List ℕ) : Type 0 where
   pub stays : (i : ℕ) → i < length old → (i < at) ⊎ (at + n ≤ i) → get_or image i 0
       ≡ get_or old i 0
 
+-- what a write inside leaves outside its range
+written_outside : (old : List ℕ) (at : ℕ) (bytes : List ℕ) (i : ℕ) → at ≤ length old
+    → (i < at) ⊎ (at + length bytes ≤ i) → get_or (written old at bytes) i 0 ≡ get_or old i 0
+written_outside old at bytes i inside (inl h) = written_before old at bytes i (omega (arith, h, inside))
+written_outside old at bytes i inside (inr h) = written_behind old at bytes i inside h
+
+-- before it is synced, a write inside may leave what was there
+pub unwritten_image : (old : List ℕ) (at : ℕ) (bytes : List ℕ) → at ≤ length old
+    → IsImage (step (at_rest old) (Write at bytes)) old
+unwritten_image old at bytes inside = record {
+  no_shorter = omega arith;
+  no_longer = omega arith;
+  stays = λ i l free. sym (written_outside old at bytes i inside
+      (⊎_elim (λ (h : i < min (length old) at). inl (omega (arith, h)))
+      (λ (h : max 0 (at + length bytes) ≤ i). inr (omega (arith, h))) free));
+}
+
 -- a write leaves such images
-pub torn_by_write : (old : List ℕ) (at : ℕ) (bytes image : List ℕ)
+pub torn_by_write : (old : List ℕ) (at : ℕ) (bytes image : List ℕ) → at ≤ length old
     → IsImage (step (at_rest old) (Write at bytes)) image → Torn at (length bytes) old image
-torn_by_write old at bytes image is = record {
+torn_by_write old at bytes image inside is = record {
   no_shorter = is.no_shorter;
   no_longer = is.no_longer;
-  stays = λ i l free. is.stays i (omega (arith, l, is.no_shorter)) l (
-    ⊎_elim (λ (h : i < at). inl (omega (arith, h, l))) (λ (h : at + length bytes ≤ i).
-        inr (omega (arith, h))) free,
-    tt,
-  );
+  stays = λ i l free. is.stays i l
+      (⊎_elim (λ (h : i < at). inl (omega (arith, h, l))) (λ (h : at + length bytes ≤ i).
+      inr (omega (arith, h))) free)
+      ∙ written_outside old at bytes i inside free;
 }
 
 -- so does one that failed
@@ -145,7 +142,8 @@ pub torn_by_fault : (old : List ℕ) (at n : ℕ) (image : List ℕ)
 torn_by_fault old at n image is = record {
   no_shorter = is.no_shorter;
   no_longer = is.no_longer;
-  stays = λ i l free. is.stays i (omega (arith, l, is.no_shorter)) l (free, tt);
+  stays = λ i l free. is.stays i l
+      (⊎_elim (λ (h : i < at). inl (omega (arith, h, l))) (λ (h : at + n ≤ i). inr (omega (arith, h))) free);
 }
 
 -- what stands before the range is the old
@@ -184,18 +182,27 @@ torn_byte at old image inside torn =
 -- ---- calls that are done in part
 
 -- a part of a write leaves no more than the whole
-pub part_of_write : (s : State) (at k : ℕ) (bytes image : List ℕ)
+pub part_of_write : (s : State) (at k : ℕ) (bytes image : List ℕ) → at ≤ length s.content
     → IsImage (step s (Write at (take k bytes))) image → IsImage (step s (Write at bytes)) image
-part_of_write s at k bytes image is = record {
+part_of_write s at k bytes image inside is = record {
   no_shorter = is.no_shorter;
   no_longer = omega (arith, is.no_longer, length-take k bytes);
-  stays = λ i l m free. is.stays i l m (
-    ⊎_elim (λ (h : i < min at (length s.content)). inl h)
-        (λ (h : min at (length s.content) + length bytes ≤ i).
-        inr (omega (arith, h, length-take k bytes))) free.0,
-    free.1,
-  );
+  stays = λ i l free.
+      is.stays i l (smaller i free)
+      ∙ written_outside s.content at (take k bytes) i inside (outside (length (take k bytes)) i
+      (omega (arith, length-take k bytes)) free)
+      ∙ sym (written_outside s.content at bytes i inside (outside (length bytes) i (omega arith) free));
 }
+  where
+    smaller : (i : ℕ) → (i < min s.first at) ⊎ (max s.behind (at + length bytes) ≤ i)
+        → (i < min s.first at) ⊎ (max s.behind (at + length (take k bytes)) ≤ i)
+    smaller i (inl h) = inl h
+    smaller i (inr h) = inr (omega (arith, h, length-take k bytes))
+
+    outside : (n i : ℕ) → n ≤ length bytes
+        → (i < min s.first at) ⊎ (max s.behind (at + length bytes) ≤ i) → (i < at) ⊎ (at + n ≤ i)
+    outside n i l (inl h) = inl (omega (arith, h))
+    outside n i l (inr h) = inr (omega (arith, h, l))
 
 pub part_of_failed_write : (s : State) (at k : ℕ) (bytes image : List ℕ) → at ≤ length s.content
     → IsImage (step s (Write at (take k bytes))) image
@@ -203,12 +210,24 @@ pub part_of_failed_write : (s : State) (at k : ℕ) (bytes image : List ℕ) →
 part_of_failed_write s at k bytes image inside is = record {
   no_shorter = is.no_shorter;
   no_longer = omega (arith, is.no_longer, length-take k bytes);
-  stays = λ i l m free. is.stays i l m (
-    ⊎_elim (λ (h : i < at). inl (omega (arith, h, inside)))
-        (λ (h : at + length bytes ≤ i). inr (omega (arith, h, length-take k bytes))) free.0,
-    free.1,
-  );
+  stays = λ i l free.
+      is.stays i l (smaller i free)
+      ∙ written_outside s.content at (take k bytes) i inside (outside i free);
 }
+  where
+    smaller : (i : ℕ) → (i < min s.first at) ⊎ (max s.behind (at + length bytes) ≤ i)
+        → (i < min s.first at) ⊎ (max s.behind (at + length (take k bytes)) ≤ i)
+    smaller i (inl h) = inl h
+    smaller i (inr h) = inr (omega (arith, h, length-take k bytes))
+
+    outside : (i : ℕ) → (i < min s.first at) ⊎ (max s.behind (at + length bytes) ≤ i)
+        → (i < at) ⊎ (at + length (take k bytes) ≤ i)
+    outside i (inl h) = inl (omega (arith, h))
+    outside i (inr h) = inr (omega (arith, h, length-take k bytes))
+
+-- what a cut leaves before its place
+cut_before : (old : List ℕ) (to i : ℕ) → i < to → get_or (take to old) i 0 ≡ get_or old i 0
+cut_before old to i l = get_or-take to old i 0 l
 
 -- a part of a cut leaves no more than the whole
 pub part_of_cut : (s : State) (to more : ℕ) (image : List ℕ) → to ≤ more
@@ -216,7 +235,9 @@ pub part_of_cut : (s : State) (to more : ℕ) (image : List ℕ) → to ≤ more
 part_of_cut s to more image part is = record {
   no_shorter = omega (arith, is.no_shorter, part);
   no_longer = is.no_longer;
-  stays = is.stays;
+  stays = λ i l free. is.stays i (omega (arith, l, part)) free
+      ∙ cut_before s.content more i (omega (arith, l, part))
+      ∙ sym (cut_before s.content to i (omega (arith, l)));
 }
 
 pub part_of_failed_cut : (s : State) (to more : ℕ) (image : List ℕ) → to ≤ more
@@ -224,5 +245,6 @@ pub part_of_failed_cut : (s : State) (to more : ℕ) (image : List ℕ) → to �
 part_of_failed_cut s to more image part is = record {
   no_shorter = omega (arith, is.no_shorter, part);
   no_longer = is.no_longer;
-  stays = is.stays;
+  stays = λ i l free. is.stays i (omega (arith, l, part)) free
+      ∙ cut_before s.content more i (omega (arith, l, part));
 }

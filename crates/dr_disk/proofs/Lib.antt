@@ -1,3 +1,4 @@
 pub mod Steps
 pub mod Moments
 pub mod Images
+pub mod Ranges

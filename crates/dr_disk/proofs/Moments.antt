@@ -1,7 +1,8 @@
 -- How calls follow one another, and how what is known of each moment goes on.
 use Rattle.std.proofs.Common.{◌≡◌, ℕ, List, [], ◌∷◌, ◌++◌, Option, Some, None, IfSome, refl, sym, ap, subst, ◌∙◌, append_assoc, append-nil}
 use Rattle.dr_disk.specs.Calls.{Call, State, step, run_from, run}
-use Rattle.dr_disk.specs.Images.{AllImages, During, Went, Goes}
+use Rattle.dr_disk.specs.Disk.{Told, Calls, Now, state_of, content_of, after}
+use Rattle.dr_disk.specs.Images.{AllImages, During, WentBy, Went, Goes, IsLeft, LastsDuring, LastsBy, LastsFrom, Lasts}
 
 -- calls behind others begin where these end
 pub run_from-append : (s : State) (first next : List Call) → run_from s (first ++ next) ≡ run_from
@@ -27,27 +28,57 @@ During-weaken s [] P Q f here = λ image is. f image (here image is)
 During-weaken s (call ∷ calls) P Q f here =
     (λ image is. f image (here.0 image is), During-weaken (step s call) calls P Q f here.1)
 
--- the first moment is one of them
-pub During-first : (s : State) (calls : List Call) (P : List ℕ → Type 0) → During s calls P
-    → AllImages s P
-During-first s [] P here = here
-During-first s (call ∷ calls) P here = here.0
-
--- so is the last
+-- the last moment is one of them
 pub During-last : (s : State) (calls : List Call) (P : List ℕ → Type 0) → During s calls P
     → AllImages (run_from s calls) P
 During-last s [] P here = here
 During-last s (call ∷ calls) P here = During-last (step s call) calls P here.1
 
+-- ---- what a disk tells
+
+-- after these calls, one after the other
+abbrev pub after_all : List Call → Told → Told
+after_all [] told = told
+after_all (call ∷ calls) told = after_all calls (after call told)
+
+-- what has become of it after one call more
+pub state-after : (told : Told) (call : Call) → state_of (after call told) ≡ step (state_of told) call
+state-after (Calls calls) call = run-added calls call
+state-after (Now s) call = refl
+
+-- and after these calls
+pub state-after_all : (told : Told) (calls : List Call) → state_of (after_all calls told)
+    ≡ run_from (state_of told) calls
+state-after_all told [] = refl
+state-after_all told (call ∷ calls) = state-after_all (after call told) calls
+    ∙ ap (λ (s : State). run_from s calls) (state-after told call)
+
+calls-after_all : (calls more : List Call) → after_all more (Calls calls) ≡ Calls (calls ++ more)
+calls-after_all calls [] = ap Calls (sym (append-nil calls))
+calls-after_all calls (call ∷ more) = calls-after_all (calls ++ call ∷ []) more
+    ∙ ap Calls (append_assoc calls (call ∷ []) more)
+
+now-after_all : (s : State) (more : List Call) → after_all more (Now s) ≡ Now (run_from s more)
+now-after_all s [] = refl
+now-after_all s (call ∷ more) = now-after_all (step s call) more
+
+-- what holds of each moment of some calls holds of each that the disk tells
+pub went_by : (told : Told) (more : List Call) (P : List ℕ → Type 0) → During (state_of told) more P
+    → Went told (after_all more told) P
+went_by (Calls calls) more P each =
+    subst (λ (t : Told). Went (Calls calls) t P) (sym (calls-after_all calls more))
+    (record { more = more; grown = refl; each = each })
+went_by (Now s) more P each =
+    subst (λ (t : Told). Went (Now s) t P) (sym (now-after_all s more)) (During-last s more P each)
+
 -- while no call is made, what holds of the present moment holds of each
-pub Went-still : (calls : List Call) (P : List ℕ → Type 0) → AllImages (run calls) P
-    → Went calls calls P
-Went-still calls P here = record { more = []; grown = sym (append-nil calls); each = here }
+pub Went-still : (told : Told) (P : List ℕ → Type 0) → AllImages (state_of told) P → Went told told P
+Went-still told P here = went_by told [] P here
 
 -- two spans of time are one
-pub Went-then : (before mid after : List Call) (P : List ℕ → Type 0) → Went before mid P
-    → Went mid after P → Went before after P
-Went-then before mid after P first next = record {
+WentBy-then : (before mid after : List Call) (P : List ℕ → Type 0) → WentBy before mid P
+    → WentBy mid after P → WentBy before after P
+WentBy-then before mid after P first next = record {
   more = first.more ++ next.more;
   grown = next.grown ∙ ap (λ (l : List Call). l ++ next.more) first.grown
       ∙ append_assoc before first.more next.more;
@@ -56,28 +87,44 @@ Went-then before mid after P first next = record {
       ∙ run_from-append _ before first.more) next.each);
 }
 
+pub Went-then : (before mid after : Told) (P : List ℕ → Type 0) → Went before mid P
+    → Went mid after P → Went before after P
+Went-then (Calls before) (Calls mid) (Calls after) P first next = WentBy-then before mid after P first next
+Went-then (Calls before) (Calls mid) (Now after) P first next = absurd next
+Went-then (Calls before) (Now mid) after P first next = absurd first
+Went-then (Now before) (Calls mid) after P first next = absurd first
+Went-then (Now before) (Now mid) (Calls after) P first next = absurd next
+Went-then (Now before) (Now mid) (Now after) P first next = next
+
 -- what follows from a fact of each moment holds of each moment
-pub Went-weaken : (before after : List Call) (P Q : List ℕ → Type 0)
+pub Went-weaken : (before after : Told) (P Q : List ℕ → Type 0)
     → ((image : List ℕ) → P image → Q image) → Went before after P → Went before after Q
-Went-weaken before after P Q f went = record {
+Went-weaken (Calls before) (Calls after) P Q f went = record {
   more = went.more;
   grown = went.grown;
   each = During-weaken (run before) went.more P Q f went.each;
 }
+Went-weaken (Calls before) (Now after) P Q f went = absurd went
+Went-weaken (Now before) (Calls after) P Q f went = absurd went
+Went-weaken (Now before) (Now after) P Q f went = λ image is. f image (went image is)
 
 -- the last moment is one of them
-pub Went-last : (before after : List Call) (P : List ℕ → Type 0) → Went before after P
-    → AllImages (run after) P
-Went-last before after P went =
+pub Went-last : (before after : Told) (P : List ℕ → Type 0) → Went before after P
+    → AllImages (state_of after) P
+Went-last (Calls before) (Calls after) P went =
     subst (λ (s : State). AllImages s P) (sym (ap run went.grown ∙ run_from-append _ before went.more))
     (During-last (run before) went.more P went.each)
+Went-last (Calls before) (Now after) P went = absurd went
+Went-last (Now before) (Calls after) P went = absurd went
+Went-last (Now before) (Now after) P went = went
 
--- The same of disks that may tell. What is known of a span of time may speak of the calls before it. What
--- follows from what is known of each of two spans holds of the two as one.
-pub goes_on : (before mid after : Option (List Call)) (P Q R : List Call → List ℕ → Type 0)
-    → ((calls : List Call) (image : List ℕ) → before ≡ Some calls → P calls image → R calls image)
-    → ((first next : List Call) (image : List ℕ) → before ≡ Some first → mid ≡ Some next
-    → Q next image → R first image)
+-- The same of disks that may tell. What is known of a span of time may speak of what the disk was before
+-- it. What follows from what is known of each of two spans holds of the two as one.
+pub goes_on : (before mid after : Option Told) (P Q R : State → List ℕ → Type 0)
+    → ((first : Told) (image : List ℕ) → before ≡ Some first → P (state_of first) image
+    → R (state_of first) image)
+    → ((first next : Told) (image : List ℕ) → before ≡ Some first → mid ≡ Some next
+    → Q (state_of next) image → R (state_of first) image)
     → Goes before mid P → Goes mid after Q → Goes before after R
 goes_on None None None P Q R f h first next = tt
 goes_on None None (Some after) P Q R f h first next = absurd next
@@ -85,22 +132,95 @@ goes_on None (Some mid) after P Q R f h first next = absurd first
 goes_on (Some before) None after P Q R f h first next = absurd first
 goes_on (Some before) (Some mid) None P Q R f h first next = absurd next
 goes_on (Some before) (Some mid) (Some after) P Q R f h first next =
-    Went-then before mid after (R before)
-    (Went-weaken before mid (P before) (R before) (λ image. f before image refl) first)
-    (Went-weaken mid after (Q mid) (R before) (λ image. h before mid image refl refl) next)
+    Went-then before mid after (R (state_of before))
+    (Went-weaken before mid (P (state_of before)) (R (state_of before)) (λ image. f before image refl) first)
+    (Went-weaken mid after (Q (state_of mid)) (R (state_of before)) (λ image. h before mid image refl refl)
+    next)
 
 -- while no call is made, what holds of the present moment holds of each
-pub stays_at : (told : Option (List Call)) (P : List Call → List ℕ → Type 0)
-    → IfSome told (λ calls. AllImages (run calls) (P calls)) → Goes told told P
+pub stays_at : (told : Option Told) (P : State → List ℕ → Type 0)
+    → IfSome told (λ t. AllImages (state_of t) (P (state_of t))) → Goes told told P
 stays_at None P here = tt
-stays_at (Some calls) P here = Went-still calls (P calls) here
+stays_at (Some told) P here = Went-still told (P (state_of told)) here
 
 -- what follows from a fact of each moment holds of each moment
-pub Goes-weaken : (before after : Option (List Call)) (P Q : List Call → List ℕ → Type 0)
-    → ((calls : List Call) (image : List ℕ) → P calls image → Q calls image) → Goes before after P
+pub Goes-weaken : (before after : Option Told) (P Q : State → List ℕ → Type 0)
+    → ((s : State) (image : List ℕ) → P s image → Q s image) → Goes before after P
     → Goes before after Q
 Goes-weaken None None P Q f goes = tt
 Goes-weaken None (Some after) P Q f goes = absurd goes
 Goes-weaken (Some before) None P Q f goes = absurd goes
-Goes-weaken (Some before) (Some after) P Q f goes = Went-weaken before after (P before) (Q before)
-    (f before) goes
+Goes-weaken (Some before) (Some after) P Q f goes = Went-weaken before after (P (state_of before))
+    (Q (state_of before)) (f (state_of before)) goes
+
+-- the last moment is one of them, for what does not speak of before
+pub Goes-last : (before after : Option Told) (P : List ℕ → Type 0) → Goes before after (λ s. P)
+    → IsLeft after P
+Goes-last None None P goes = tt
+Goes-last None (Some after) P goes = absurd goes
+Goes-last (Some before) None P goes = absurd goes
+Goes-last (Some before) (Some after) P goes = Went-last before after P goes
+
+-- ---- what lasts
+
+-- what lasts during some calls, and each image has before them, each has at every moment of them
+lasts_on : (s : State) (calls : List Call) (P : List ℕ → Type 0) → LastsDuring s calls P → AllImages s P
+    → During s calls P
+lasts_on s [] P lasts here = here
+lasts_on s (call ∷ calls) P lasts here = lasts.0 here
+
+-- what lasts during some calls and during the next ones lasts during all
+lasts_during_both : (s : State) (first next : List Call) (P : List ℕ → Type 0) → LastsDuring s first P
+    → LastsDuring (run_from s first) next P → LastsDuring s (first ++ next) P
+lasts_during_both s [] next P here there = there
+lasts_during_both s (call ∷ first) next P here there = (
+  λ all. During-append s (call ∷ first) next P (here.0 all) (lasts_on (run_from s (call ∷ first)) next P there
+      (During-last s (call ∷ first) P (here.0 all))),
+  lasts_during_both (step s call) first next P here.1 there,
+)
+
+-- what lasts during some calls lasts through the moments that the disk tells
+pub lasts_by : (told : Told) (more : List Call) (P : List ℕ → Type 0)
+    → LastsDuring (state_of told) more P → LastsFrom told (after_all more told) P
+lasts_by (Calls calls) more P each =
+    subst (λ (t : Told). LastsFrom (Calls calls) t P) (sym (calls-after_all calls more))
+    (record { more = more; grown = refl; each = each })
+lasts_by (Now s) more P each =
+    subst (λ (t : Told). LastsFrom (Now s) t P) (sym (now-after_all s more))
+    (λ here. During-last s more P (lasts_on s more P each here))
+
+-- two spans of time are one
+lasts_by_both : (before mid after : List Call) (P : List ℕ → Type 0) → LastsBy before mid P
+    → LastsBy mid after P → LastsBy before after P
+lasts_by_both before mid after P first next = record {
+  more = first.more ++ next.more;
+  grown = next.grown ∙ ap (λ (l : List Call). l ++ next.more) first.grown
+      ∙ append_assoc before first.more next.more;
+  each = lasts_during_both (run before) first.more next.more P first.each
+      (subst (λ (s : State). LastsDuring s next.more P) (ap run first.grown
+      ∙ run_from-append _ before first.more) next.each);
+}
+
+lasts_from_both : (before mid after : Told) (P : List ℕ → Type 0) → LastsFrom before mid P
+    → LastsFrom mid after P → LastsFrom before after P
+lasts_from_both (Calls before) (Calls mid) (Calls after) P first next =
+    lasts_by_both before mid after P first next
+lasts_from_both (Calls before) (Calls mid) (Now after) P first next = absurd next
+lasts_from_both (Calls before) (Now mid) after P first next = absurd first
+lasts_from_both (Now before) (Calls mid) after P first next = absurd first
+lasts_from_both (Now before) (Now mid) (Calls after) P first next = absurd next
+lasts_from_both (Now before) (Now mid) (Now after) P first next = λ here. next (first here)
+
+pub lasts_then : (before mid after : Option Told) (P : List ℕ → Type 0) → Lasts before mid P
+    → Lasts mid after P → Lasts before after P
+lasts_then None None None P first next = tt
+lasts_then None None (Some after) P first next = absurd next
+lasts_then None (Some mid) after P first next = absurd first
+lasts_then (Some before) None after P first next = absurd first
+lasts_then (Some before) (Some mid) None P first next = absurd next
+lasts_then (Some before) (Some mid) (Some after) P first next = lasts_from_both before mid after P first next
+
+-- while no call is made, all lasts
+pub lasts_still : (told : Option Told) (P : List ℕ → Type 0) → Lasts told told P
+lasts_still None P = tt
+lasts_still (Some told) P = lasts_by told [] P tt

@@ -10,17 +10,12 @@ pub data Call : Type 0 where
   FailedCut : (to : ℕ) → Call
   Sync : Call
 
--- so many bytes, from this place on
-pub record Range : Type 0 where
-  pub at : ℕ
-  pub count : ℕ
-
--- A disk: what a read gives, what the last sync left, and of the time since then the ranges that
--- were written, and the least and the greatest length.
+-- A disk: what a read gives; and of the time since the last sync the first place that was written and
+-- the one behind the last, and the least and the greatest length.
 pub record State : Type 0 where
   pub content : List ℕ
-  pub synced : List ℕ
-  pub ranges : List Range
+  pub first : ℕ
+  pub behind : ℕ
   pub least : ℕ
   pub greatest : ℕ
 
@@ -28,8 +23,8 @@ pub record State : Type 0 where
 abbrev pub at_rest : List ℕ → State
 at_rest bytes = record {
   content = bytes;
-  synced = bytes;
-  ranges = [];
+  first = length bytes;
+  behind = 0;
   least = length bytes;
   greatest = length bytes;
 }
@@ -38,33 +33,33 @@ at_rest bytes = record {
 abbrev pub written : List ℕ → ℕ → List ℕ → List ℕ
 written old at bytes = take at old ++ (bytes ++ drop (at + length bytes) old)
 
--- the disk after one call more; a write that begins past the end counts as one at the end
+-- the disk after one call more
 abbrev pub step : State → Call → State
 step s (Write at bytes) = record {
   content = written s.content at bytes;
-  synced = s.synced;
-  ranges = record { at = min at (length s.content); count = length bytes } ∷ s.ranges;
+  first = min s.first at;
+  behind = max s.behind (at + length bytes);
   least = s.least;
   greatest = max s.greatest (at + length bytes);
 }
 step s (FailedWrite at count) = record {
   content = s.content;
-  synced = s.synced;
-  ranges = record { at = at; count = count } ∷ s.ranges;
+  first = min s.first at;
+  behind = max s.behind (at + count);
   least = s.least;
   greatest = max s.greatest (at + count);
 }
 step s (Cut to) = record {
   content = take to s.content;
-  synced = s.synced;
-  ranges = s.ranges;
+  first = s.first;
+  behind = s.behind;
   least = min s.least to;
   greatest = s.greatest;
 }
 step s (FailedCut to) = record {
   content = s.content;
-  synced = s.synced;
-  ranges = s.ranges;
+  first = s.first;
+  behind = s.behind;
   least = min s.least to;
   greatest = s.greatest;
 }

@@ -1,6 +1,7 @@
 pub mod Calls
-pub mod Images
 pub mod Disk
+pub mod Images
+pub mod Ranges
 pub mod Plan
 pub mod Memory
 pub mod Steps

@@ -1,10 +1,16 @@
 -- What a disk in memory is to its callers.
 use Rattle.std.specs.Prelude.{ℕ, List}
-use Rattle.dr_disk.specs.Calls.{Call}
+use Rattle.dr_disk.specs.Calls.{Call, State}
 use Rattle.dr_disk.specs.Plan.{DiskPlan}
+use Rattle.dr_io.specs.Faults.{count_after}
+
+-- what has become of it, and for how many more bytes there is room
+pub record CalmState : Type 0 where
+  pub state : State
+  pub room_bytes : ℕ
 
 -- its calls, and for how many more of them, and how many bytes, there is room
-pub record CalmState : Type 0 where
+pub record KeptState : Type 0 where
   pub calls : List Call
   pub room_calls : ℕ
   pub room_bytes : ℕ
@@ -15,3 +21,7 @@ pub record MemoryState : Type 0 where
   pub room_calls : ℕ
   pub room_bytes : ℕ
   pub plan : DiskPlan
+
+-- the same disk with one fault more
+abbrev pub with_fault : MemoryState → MemoryState
+with_fault disk = record disk { plan = record disk.plan { faults = count_after disk.plan.faults } }

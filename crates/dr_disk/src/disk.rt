@@ -1,17 +1,19 @@
 //! What a disk is.
 
-ghost use Rattle.std.specs.Prelude.{◌≡◌, ◌+◌, ◌≤◌, ℕ, List, Option, IfOk, IfSome, OnOk, OnErr, length, take, drop};
+ghost use Rattle.std.specs.Prelude.{◌≡◌, ◌+◌, ◌≤◌, ℕ, Option, IfOk, IfSome, OnOk, OnErr, length, take, drop};
 ghost use Rattle.dr_io.specs.Faults.{HasCause};
-ghost use Rattle.dr_disk.specs.Calls.{Call, Write, FailedWrite, Cut, FailedCut, Sync, content_after};
-ghost use Rattle.dr_disk.specs.Disk.{added};
+ghost use Rattle.dr_disk.specs.Calls.{Write, FailedWrite, Cut, FailedCut, Sync};
+ghost use Rattle.dr_disk.specs.Disk.{Told, added, content_of};
+ghost use Rattle.dr_disk.specs.Images.{ReadsAnImage};
 
 use dr_io::Failed;
 use std::alloc::AllocError;
 
 /// A file of bytes. What was written counts as safe once a sync has succeeded.
 pub trait Disk: Send + Drop {
-    // The calls that have changed the disk since it was empty, where it tells them.
-    ghost told: { Self → Option (List Call) };
+    // What the disk tells of itself, where it does: the calls that have changed it since it was empty, or
+    // what has become of it.
+    ghost told: { Self → Option Told };
 
     // For how many more calls of `write_at`, `cut` and `sync` there is room, and for how many
     // bytes that they write.
@@ -39,7 +41,7 @@ pub trait Disk: Send + Drop {
     /// The number of bytes.
     fn len(&mut self) -> Result<u64, Failed>
         ensures value { IfOk result (λ n. IfSome (told self.old)
-            (λ calls. n ≡ length (content_after calls))) }
+            (λ told. n ≡ length (content_of told))) }
         ensures told { told self.new ≡ told self.old }
         ensures calls_kept { room_calls self.old ≤ room_calls self.new }
         ensures bytes_kept { room_bytes self.old ≤ room_bytes self.new }
@@ -50,7 +52,7 @@ pub trait Disk: Send + Drop {
     fn read_at(&mut self, at: u64, into: &mut [u8]) -> Result<usize, Failed>
         ensures bound { IfOk result (λ n. n ≤ length into.new) }
         ensures value { IfOk result (λ n. IfSome (told self.old)
-            (λ calls. take n into.new ≡ take (length into.new) (drop at (content_after calls)))) }
+            (λ told. take n into.new ≡ take (length into.new) (drop at (content_of told)))) }
         ensures told { told self.new ≡ told self.old }
         ensures calls_kept { room_calls self.old ≤ room_calls self.new }
         ensures bytes_kept { room_bytes self.old ≤ room_bytes self.new }
@@ -58,7 +60,7 @@ pub trait Disk: Send + Drop {
 
     /// Writes the bytes over those at `at`, and past the end.
     fn write_at(&mut self, at: u64, from: &[u8]) -> Result<(), Failed>
-        requires inside { IfSome (told self.old) (λ calls. at ≤ length (content_after calls)) }
+        requires inside { IfSome (told self.old) (λ told. at ≤ length (content_of told)) }
         requires room_for_call { 1 ≤ room_calls self.old }
         requires room_for_bytes { length from.now ≤ room_bytes self.old }
         ensures ok { OnOk result (told self.new ≡ added (Write at from.now) (told self.old)) }
@@ -82,6 +84,7 @@ pub trait Disk: Send + Drop {
         requires room_for_call { 1 ≤ room_calls self.old }
         ensures ok { OnOk result (told self.new ≡ added Sync (told self.old)) }
         ensures err { OnErr result (told self.new ≡ told self.old) }
+        ensures read { IfSome (told self.old) ReadsAnImage }
         ensures calls_kept { room_calls self.old ≤ room_calls self.new + 1 }
         ensures bytes_kept { room_bytes self.old ≤ room_bytes self.new }
         ensures cause { HasCause (faults self.old) (faults self.new) result };

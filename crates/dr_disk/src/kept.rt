@@ -1,8 +1,9 @@
-//! What the disks in memory share: the record of their calls, and what a read gives.
+//! The record of a disk's calls, and what a read gives.
 
-ghost use Rattle.std.specs.Prelude.{◌≡◌, ◌+◌, ◌≤◌, [], ◌∷◌, ◌++◌, OnOk, length, take, drop, vec_len, vec_capacity};
-ghost use Rattle.dr_disk.specs.Calls.{content_after, written, Write, FailedWrite, Cut, FailedCut, Sync};
+ghost use Rattle.std.specs.Prelude.{◌≡◌, ◌+◌, ◌≤◌, [], ◌∷◌, ◌++◌, OnOk, length, take, drop};
+ghost use Rattle.dr_disk.specs.Calls.{content_after, Write, FailedWrite, Cut, FailedCut, Sync};
 
+use crate::bytes::{copy_front, put};
 use std::alloc::{AllocError, Global};
 use std::marker::Model;
 
@@ -27,10 +28,10 @@ pub(crate) struct Kept {
 
 impl Model for Kept {
     ghost use Rattle.std.specs.Prelude.{◌-◌, min, vec_len, vec_capacity};
-    ghost use Rattle.dr_disk.specs.Memory.{CalmState};
+    ghost use Rattle.dr_disk.specs.Memory.{KeptState};
     ghost use Rattle.dr_disk.specs.Steps.{calls_of, IsWhole};
 
-    ghost Value = { CalmState };
+    ghost Value = { KeptState };
 
     ghost view = { λ a. record {
       calls = calls_of a.steps.items a.text.items;
@@ -142,27 +143,4 @@ impl Kept {
     {
         self.steps.push(Step::Sync).unwrap();
     }
-}
-
-/// Copies the front of `from` to that of `into`, as much as fits, and answers how much.
-fn copy_front(from: &[u8], into: &mut [u8]) -> usize
-    ensures bound { result ≤ length into.new }
-    ensures value { take result into.new ≡ take (length into.new) from.now }
-{
-    let count = from.len().min(into.len());
-    into[..count].copy_from_slice(&from[..count]);
-    count
-}
-
-/// Puts these bytes over those at `at`, and past the end, for which there is room.
-fn put(bytes: &mut Vec<u8>, at: usize, from: &[u8])
-    requires inside { at ≤ vec_len bytes.old }
-    requires room { vec_len bytes.old + length from.now ≤ vec_capacity bytes.old }
-    ensures written { bytes.new.items ≡ written bytes.old.items at from.now }
-    ensures capacity { vec_capacity bytes.old ≤ vec_capacity bytes.new }
-    ensures longer { vec_len bytes.new ≤ vec_len bytes.old + length from.now }
-{
-    let count = from.len().min(bytes.len() - at);
-    bytes[at..at + count].copy_from_slice(&from[..count]);
-    bytes.extend_from_slice(&from[count..]).unwrap();
 }

@@ -3,6 +3,7 @@
 ghost use Rattle.std.specs.Prelude.{◌≡◌, ◌≤◌, [], ◌∷◌, ◌++◌, ℕ, List, length, take};
 ghost use Rattle.dr_disk.specs.Calls.{Call, Write, FailedWrite, Cut, FailedCut, Sync, State, step, run, content_after};
 ghost use Rattle.dr_disk.specs.Images.{IsImage};
+ghost use Rattle.dr_disk.specs.Ranges.{IsImageByRanges};
 
 /// A law: what a read gives is one of the images that a crash may leave.
 pub fn content_is_an_image()
@@ -15,10 +16,17 @@ pub fn syncs_leave_the_content()
         → image ≡ content_after calls }
 {}
 
+/// A law: of a disk that loses no byte outside of the ranges that were written, and of its end, a crash
+/// leaves one of the images. So what is known of all images holds of what such a disk leaves.
+pub fn ranges_leave_no_more()
+    ensures { (calls : List Call) (image : List ℕ) → IsImageByRanges calls image
+        → IsImage (run calls) image }
+{}
+
 /// A law: a write or a cut that is done in part leaves no image that it could not leave as a whole.
 /// So the moments between calls are all that have to be looked at.
 pub fn parts_leave_no_more()
-    ensures write { (s : State) (at k : ℕ) (bytes image : List ℕ)
+    ensures write { (s : State) (at k : ℕ) (bytes image : List ℕ) → at ≤ length s.content
         → IsImage (step s (Write at (take k bytes))) image → IsImage (step s (Write at bytes)) image }
     ensures failed_write { (s : State) (at k : ℕ) (bytes image : List ℕ) → at ≤ length s.content
         → IsImage (step s (Write at (take k bytes))) image

@@ -34,6 +34,7 @@ impl Model for MemoryDisk {
 
 impl MemoryDisk {
     ghost use Rattle.dr_disk.specs.Calls.{content_after};
+    ghost use Rattle.dr_disk.specs.Memory.{with_fault};
     ghost use Rattle.dr_disk.specs.Plan.{plan_of};
 
     /// An empty disk. The calls whose numbers, from 1, are in `fails` fail, and all calls after the
@@ -58,27 +59,30 @@ impl MemoryDisk {
     {
         self.kept.bytes()
     }
-}
 
-/// Counts a call, and fails where it is planned to, which counts as a fault.
-fn begin(plan: &mut Plan) -> Result<(), Failed>
-    ensures planned { IsErr result ↔ IsPlanned plan.old }
-    ensures after { plan.new ≡ plan_after result plan.old }
-    ensures cause { HasCause plan.old.faults plan.new.faults result }
-{
-    if plan.count_call() {
-        plan.count_fault();
-        return Err(Failed);
+    /// How many calls have failed.
+    pub fn faults(&self) -> u64
+        ensures { result ≡ self.now.plan.faults }
+    {
+        self.plan.faults()
     }
-    Ok(())
+
+    /// Counts a fault that is not one of its calls: that of a yard which could not lend it.
+    pub fn count_fault(&mut self)
+        ensures after { self.new ≡ with_fault self.old }
+        ensures later { self.old.plan.faults ≤ self.new.plan.faults }
+    {
+        self.plan.count_fault();
+    }
 }
 
 impl Disk for MemoryDisk {
     ghost use Rattle.std.specs.Prelude.{Some};
     ghost use Rattle.dr_disk.specs.Calls.{Write, FailedWrite, Cut, FailedCut, Sync, content_after};
-    ghost use Rattle.dr_disk.specs.Disk.{added};
+    ghost use Rattle.dr_disk.specs.Disk.{Calls, added};
+    ghost use Rattle.dr_disk.specs.Images.{ReadsAnImage};
 
-    ghost told = { λ disk. Some disk.calls };
+    ghost told = { λ disk. Some (Calls disk.calls) };
 
     ghost room_calls = { λ disk. disk.room_calls };
 
@@ -86,13 +90,23 @@ impl Disk for MemoryDisk {
 
     ghost faults = { λ disk. disk.plan.faults };
 
-    fn reserve(&mut self, calls: u64, bytes: u64) -> Result<(), AllocError> {
+    fn reserve(&mut self, calls: u64, bytes: u64) -> Result<(), AllocError>
+        ensures told { Some (Calls self.new.calls) ≡ Some (Calls self.old.calls) }
+        ensures calls { OnOk result (calls ≤ self.new.room_calls) }
+        ensures bytes { OnOk result (bytes ≤ self.new.room_bytes) }
+        ensures calls_kept { self.old.room_calls ≤ self.new.room_calls }
+        ensures bytes_kept { self.old.room_bytes ≤ self.new.room_bytes }
+        ensures faults { self.new.plan.faults ≡ self.old.plan.faults }
+
+        // It is no call with a number.
+        ensures plan { self.new.plan ≡ self.old.plan }
+    {
         self.kept.reserve(calls, bytes)
     }
 
     fn len(&mut self) -> Result<u64, Failed>
         ensures value { IfOk result (λ n. n ≡ length (content_after self.old.calls)) }
-        ensures told { Some self.new.calls ≡ Some self.old.calls }
+        ensures told { Some (Calls self.new.calls) ≡ Some (Calls self.old.calls) }
         ensures calls_kept { self.old.room_calls ≤ self.new.room_calls }
         ensures bytes_kept { self.old.room_bytes ≤ self.new.room_bytes }
         ensures cause { HasCause self.old.plan.faults self.new.plan.faults result }
@@ -100,7 +114,7 @@ impl Disk for MemoryDisk {
         ensures fails { IsErr result ↔ IsPlanned self.old.plan }
         ensures plan { self.new.plan ≡ plan_after result self.old.plan }
     {
-        begin(&mut self.plan)?;
+        self.plan.begin_call()?;
         Ok(self.kept.bytes().len() as u64)
     }
 
@@ -108,7 +122,7 @@ impl Disk for MemoryDisk {
         ensures bound { IfOk result (λ n. n ≤ length into.new) }
         ensures value { IfOk result
             (λ n. take n into.new ≡ take (length into.new) (drop at (content_after self.old.calls))) }
-        ensures told { Some self.new.calls ≡ Some self.old.calls }
+        ensures told { Some (Calls self.new.calls) ≡ Some (Calls self.old.calls) }
         ensures calls_kept { self.old.room_calls ≤ self.new.room_calls }
         ensures bytes_kept { self.old.room_bytes ≤ self.new.room_bytes }
         ensures cause { HasCause self.old.plan.faults self.new.plan.faults result }
@@ -116,7 +130,7 @@ impl Disk for MemoryDisk {
         ensures fails { IsErr result ↔ IsPlanned self.old.plan }
         ensures plan { self.new.plan ≡ plan_after result self.old.plan }
     {
-        begin(&mut self.plan)?;
+        self.plan.begin_call()?;
         Ok(self.kept.read_at(at, into))
     }
 
@@ -124,9 +138,9 @@ impl Disk for MemoryDisk {
         requires inside { at ≤ length (content_after self.old.calls) }
         requires room_for_call { 1 ≤ self.old.room_calls }
         requires room_for_bytes { length from.now ≤ self.old.room_bytes }
-        ensures ok { OnOk result (Some self.new.calls ≡ added (Write at from.now) (Some self.old.calls)) }
-        ensures err { OnErr result (Some self.new.calls
-            ≡ added (FailedWrite at (length from.now)) (Some self.old.calls)) }
+        ensures ok { OnOk result (Some (Calls self.new.calls) ≡ added (Write at from.now) (Some (Calls self.old.calls))) }
+        ensures err { OnErr result (Some (Calls self.new.calls)
+            ≡ added (FailedWrite at (length from.now)) (Some (Calls self.old.calls))) }
         ensures calls_kept { self.old.room_calls ≤ self.new.room_calls + 1 }
         ensures bytes_kept { self.old.room_bytes ≤ self.new.room_bytes + length from.now }
         ensures cause { HasCause self.old.plan.faults self.new.plan.faults result }
@@ -134,7 +148,7 @@ impl Disk for MemoryDisk {
         ensures fails { IsErr result ↔ IsPlanned self.old.plan }
         ensures plan { self.new.plan ≡ plan_after result self.old.plan }
     {
-        if let Err(failed) = begin(&mut self.plan) {
+        if let Err(failed) = self.plan.begin_call() {
             self.kept.fail_write(at, from.len());
             return Err(failed);
         }
@@ -144,8 +158,8 @@ impl Disk for MemoryDisk {
 
     fn cut(&mut self, to: u64) -> Result<(), Failed>
         requires room_for_call { 1 ≤ self.old.room_calls }
-        ensures ok { OnOk result (Some self.new.calls ≡ added (Cut to) (Some self.old.calls)) }
-        ensures err { OnErr result (Some self.new.calls ≡ added (FailedCut to) (Some self.old.calls)) }
+        ensures ok { OnOk result (Some (Calls self.new.calls) ≡ added (Cut to) (Some (Calls self.old.calls))) }
+        ensures err { OnErr result (Some (Calls self.new.calls) ≡ added (FailedCut to) (Some (Calls self.old.calls))) }
         ensures calls_kept { self.old.room_calls ≤ self.new.room_calls + 1 }
         ensures bytes_kept { self.old.room_bytes ≤ self.new.room_bytes }
         ensures cause { HasCause self.old.plan.faults self.new.plan.faults result }
@@ -153,7 +167,7 @@ impl Disk for MemoryDisk {
         ensures fails { IsErr result ↔ IsPlanned self.old.plan }
         ensures plan { self.new.plan ≡ plan_after result self.old.plan }
     {
-        if let Err(failed) = begin(&mut self.plan) {
+        if let Err(failed) = self.plan.begin_call() {
             self.kept.fail_cut(to);
             return Err(failed);
         }
@@ -163,8 +177,9 @@ impl Disk for MemoryDisk {
 
     fn sync(&mut self) -> Result<(), Failed>
         requires room_for_call { 1 ≤ self.old.room_calls }
-        ensures ok { OnOk result (Some self.new.calls ≡ added Sync (Some self.old.calls)) }
-        ensures err { OnErr result (Some self.new.calls ≡ Some self.old.calls) }
+        ensures ok { OnOk result (Some (Calls self.new.calls) ≡ added Sync (Some (Calls self.old.calls))) }
+        ensures err { OnErr result (Some (Calls self.new.calls) ≡ Some (Calls self.old.calls)) }
+        ensures read { ReadsAnImage (Calls self.old.calls) }
         ensures calls_kept { self.old.room_calls ≤ self.new.room_calls + 1 }
         ensures bytes_kept { self.old.room_bytes ≤ self.new.room_bytes }
         ensures cause { HasCause self.old.plan.faults self.new.plan.faults result }
@@ -172,7 +187,7 @@ impl Disk for MemoryDisk {
         ensures fails { IsErr result ↔ IsPlanned self.old.plan }
         ensures plan { self.new.plan ≡ plan_after result self.old.plan }
     {
-        begin(&mut self.plan)?;
+        self.plan.begin_call()?;
         self.kept.sync();
         Ok(())
     }

@@ -1,13 +1,14 @@
 //! Which calls of a disk in memory are to fail.
 
-ghost use Rattle.std.specs.Prelude.{◌≡◌, ◌+◌, ◌≤◌, ◌↔◌, Contains, IfOk, IsTrue, IsSomeAnd};
+ghost use Rattle.std.specs.Prelude.{◌≡◌, ◌+◌, ◌≤◌, ◌↔◌, Contains, IfOk, IsErr, IsTrue, IsSomeAnd};
 
+use dr_io::Failed;
 use std::alloc::{AllocError, Global};
 use std::marker::Model;
 
-/// Counts the calls and the faults of a disk in memory, and knows which calls are to fail.
+/// Counts the calls and the faults of an object in memory, and knows which calls are to fail.
 #[derive(Debug, Drop)]
-pub(crate) struct Plan {
+pub struct Plan {
     fails: Vec<u64>,
     stop: Option<u64>,
     calls: u64,
@@ -24,12 +25,16 @@ impl Model for Plan {
 }
 
 impl Plan {
-    ghost use Rattle.dr_io.specs.Faults.{count_after};
-    ghost use Rattle.dr_disk.specs.Plan.{IsPlanned, plan_of};
+    ghost use Rattle.dr_io.specs.Faults.{HasCause, count_after};
+    ghost use Rattle.dr_disk.specs.Plan.{IsPlanned, plan_after, plan_of};
 
     /// The plan by which the calls with these numbers, from 1, fail, and all calls after the first
     /// `stop`.
-    pub(crate) fn new(alloc: Global, fails: &[u64], stop: Option<u64>) -> Result<Plan, AllocError>
+    ///
+    /// # Errors
+    ///
+    /// Want of memory alone.
+    pub fn new(alloc: Global, fails: &[u64], stop: Option<u64>) -> Result<Plan, AllocError>
         ensures { IfOk result (λ plan. plan ≡ plan_of fails.now stop) }
     {
         Ok(Plan {
@@ -40,8 +45,32 @@ impl Plan {
         })
     }
 
-    /// Counts one call, and answers whether it is to fail. Then it counts as a fault too.
-    pub(crate) fn count_call(&mut self) -> bool
+    /// How many calls have failed.
+    pub(crate) fn faults(&self) -> u64
+        ensures { result ≡ self.now.faults }
+    {
+        self.faults
+    }
+
+    /// Counts one call, and fails where it is to fail, which counts as a fault.
+    ///
+    /// # Errors
+    ///
+    /// At the planned calls, and at no others.
+    pub fn begin_call(&mut self) -> Result<(), Failed>
+        ensures planned { IsErr result ↔ IsPlanned self.old }
+        ensures after { self.new ≡ plan_after result self.old }
+        ensures cause { HasCause self.old.faults self.new.faults result }
+    {
+        if self.count_call() {
+            self.count_fault();
+            return Err(Failed);
+        }
+        Ok(())
+    }
+
+    /// Counts one call, and answers whether it is to fail.
+    fn count_call(&mut self) -> bool
         ensures planned { IsTrue result ↔ IsPlanned self.old }
         ensures calls { self.new.calls ≡ count_after self.old.calls }
         ensures faults { self.new.faults ≡ self.old.faults }

@@ -2,7 +2,7 @@ use Rattle.std.proofs.Common.{◌≡◌, [], ◌∷◌, ◌++◌, List, ap, ◌�
 use Rattle.dr_disk.specs.Calls.{written}
 use Rattle.dr_disk.specs.Calls as calls
 use Rattle.dr_disk.specs.declared.kept.Step.TheVariants.{FailedCut}
-use Rattle.dr_disk.specs.Memory.{CalmState}
+use Rattle.dr_disk.specs.Memory.{KeptState}
 use Rattle.dr_disk.proofs.Steps.{whole_still, calls_still}
 use Rattle.dr_disk.proofs.kept.Kept.fail_cut.Goals as goal
 
@@ -20,4 +20,4 @@ returns-clause-told c =
     calls_still old.steps.items _ old.text.items old.bytes.items
     (FailedCut c.args.to) c.self.invariant pushed
     ∙ ap (λ (l : List calls.Call). l ++ calls.FailedCut c.args.to ∷ [])
-    (ap (λ (v : CalmState). v.calls) c.self.view_is)
+    (ap (λ (v : KeptState). v.calls) c.self.view_is)

@@ -2,7 +2,7 @@ use Rattle.std.proofs.Common.{◌≡◌, [], ◌∷◌, ◌++◌, List, ℕ, len
 use Rattle.dr_disk.specs.Calls.{written, content_after}
 use Rattle.dr_disk.specs.Calls as calls
 use Rattle.dr_disk.specs.declared.kept.Step.TheVariants.{Write}
-use Rattle.dr_disk.specs.Memory.{CalmState}
+use Rattle.dr_disk.specs.Memory.{KeptState}
 use Rattle.dr_disk.specs.Steps.{calls_of}
 use Rattle.std.proofs.lemmas.List.{take_all}
 use Rattle.dr_disk.proofs.Steps.{whole_after, calls_after}
@@ -34,4 +34,4 @@ returns-clause-told c =
     calls_of old.steps.items old.text.items ++ calls.Write c.args.at bytes ∷ [])
     (take_all (length from) from (omega arith))
     ∙ ap (λ (l : List calls.Call). l ++ calls.Write c.args.at from ∷ [])
-    (ap (λ (v : CalmState). v.calls) c.self.view_is)
+    (ap (λ (v : KeptState). v.calls) c.self.view_is)
