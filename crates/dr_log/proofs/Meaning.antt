@@ -1,11 +1,14 @@
 -- Bytes stand for one list of records, or are damaged at one place.
 use Rattle.std.proofs.Common.{◌≡◌, ◌≢◌, ℕ, ◌+◌, List, [], ◌∷◌, ◌++◌, length, take, drop, Result, Ok, inl, inr, refl, sym, ap, ◌∙◌, append_assoc, arith, take_at, drop_at}
+use Rattle.dr_entry.specs.declared.entry.Entry.{Entry}
 use Rattle.dr_entry.specs.declared.record.Record.{Record}
+use Rattle.dr_entry.specs.declared.record.Vote.{Vote}
 use Rattle.dr_entry.specs.declared.reading.DecodeFault.{DecodeFault}
 use Rattle.dr_entry.specs.Spelling.{IsValid, Fits, spelling}
 use Rattle.dr_entry.specs.Grammar.{decoded}
 use Rattle.dr_entry.proofs.RoundTrip.{decoded_again}
 use Rattle.dr_log.specs.Grammar.{blocks, AreSpelled, IsLog, Recovered, IsBroken, BreaksAt, IsNoLog, IsDamaged}
+use Rattle.dr_log.specs.Standing.{StandsFor, entries_in, votes_in}
 
 -- no block begins these bytes
 abbrev pub IsEnd : List ℕ → Type 0
@@ -111,3 +114,23 @@ pub recovered_or_damaged : (bytes : List ℕ) (rs : List Record) (at : ℕ) → 
     → IsDamaged bytes at → ⊥
 recovered_or_damaged bytes rs at (inl a) b = omega (arith, a.0, b.0)
 recovered_or_damaged bytes rs at (inr a) b = log_or_none bytes rs at a.1 b.1
+
+-- ---- entries and votes
+
+-- bytes stand for one list of entries
+pub one_list : (bytes : List ℕ) (es fs : List Entry) (vs ws : List Vote) → StandsFor bytes es vs
+    → StandsFor bytes fs ws → es ≡ fs
+one_list bytes es fs vs ws a b =
+    sym a.entries
+    ∙ (ap entries_in (recovered_once bytes a.records b.records a.recovered b.recovered) ∙ b.entries)
+
+-- and for one list of votes
+pub one_list_of_votes : (bytes : List ℕ) (es fs : List Entry) (vs ws : List Vote) → StandsFor bytes es vs
+    → StandsFor bytes fs ws → vs ≡ ws
+one_list_of_votes bytes es fs vs ws a b =
+    sym a.votes ∙ (ap votes_in (recovered_once bytes a.records b.records a.recovered b.recovered) ∙ b.votes)
+
+-- and then they aren't damaged
+pub stands_or_damaged : (bytes : List ℕ) (es : List Entry) (vs : List Vote) (at : ℕ)
+    → StandsFor bytes es vs → IsDamaged bytes at → ⊥
+stands_or_damaged bytes es vs at stands = recovered_or_damaged bytes stands.records at stands.recovered

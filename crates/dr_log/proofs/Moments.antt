@@ -139,7 +139,7 @@ pub written_images : (old x : List ℕ) (rs : List Record) (q p : ℕ) (r : Reco
     → AllImages (step (at_rest old) (Write p x)) (IsBeforeOrAfter (entries_in rs) (votes_in rs) r)
 written_images old x rs q p r log gate place image is =
     inl (log_stands image rs _ _ (torn_behind old image rs q p (length x) log gate place
-    (torn_by_write old p x image is)) refl refl)
+    (torn_by_write old p x image (omega (arith, gate_inside old rs q log gate, place)) is)) refl refl)
 
 -- where that failed
 pub unwritten_images : (old : List ℕ) (n : ℕ) (rs : List Record) (q p : ℕ) (r : Record) → IsLog old rs
@@ -165,7 +165,7 @@ pub opened_images : (staged : List ℕ) (rs : List Record) (q : ℕ) (r : Record
     → AllImages (step (at_rest staged) (Write q (1 ∷ [])))
     (IsBeforeOrAfter (entries_in rs) (votes_in rs) r)
 opened_images staged rs q r is valid fits image here = torn_gate staged image rs q r is valid fits
-    (torn_by_write staged q (1 ∷ []) image here)
+    (torn_by_write staged q (1 ∷ []) image (omega (arith, is.inside)) here)
 
 -- where that failed
 pub unopened_images : (staged : List ℕ) (rs : List Record) (q : ℕ) (r : Record) → IsStaged staged rs q r

@@ -1,88 +1,91 @@
 -- What a log's calls make of a disk that may tell: what a crash leaves at each moment, and what the
 -- disk is then.
-use Rattle.std.proofs.Common.{◌≡◌, ℕ, ◌+◌, ◌-◌, ◌≤◌, List, [], ◌∷◌, ◌++◌, length, Option, Some, None, IfSome, inl, inr, refl, sym, ap, subst, ◌∙◌, append_assoc, arith}
+use Rattle.std.proofs.Common.{◌≡◌, ℕ, ◌+◌, ◌-◌, ◌≤◌, List, [], ◌∷◌, ◌++◌, length, Option, Some, None, IfSome, inl, inr, refl, sym, ap, subst, ◌∙◌, arith}
 use Rattle.dr_entry.specs.declared.entry.Entry.{Entry}
 use Rattle.dr_entry.specs.declared.record.Record.{Record}
 use Rattle.dr_entry.specs.declared.record.Vote.{Vote}
 use Rattle.dr_entry.specs.Spelling.{IsValid, Fits, spelling}
-use Rattle.dr_disk.specs.Calls.{Call, Write, FailedWrite, Cut, Sync, State, at_rest, written, step, run_from, run, content_after}
-use Rattle.dr_disk.specs.Images.{IsImage, AllImages, During, Went, Goes}
-use Rattle.dr_disk.specs.Disk.{added}
+use Rattle.dr_disk.specs.Calls.{Call, Write, FailedWrite, Cut, Sync, State, at_rest, written, step, run_from}
+use Rattle.dr_disk.specs.Disk.{Told, state_of, content_of, after, added}
+use Rattle.dr_disk.specs.Images.{IsImage, AllImages, During, Goes, IsLeft, LastsDuring, Lasts}
 use Rattle.dr_disk.proofs.Images.{image_at_rest, length-written}
-use Rattle.dr_disk.proofs.Moments.{run-added, run_from-append, During-weaken, Went-still}
+use Rattle.dr_disk.proofs.Moments.{after_all, state-after, state-after_all, During-weaken, went_by, Went-still, lasts_by}
 use Rattle.dr_log.specs.Grammar.{magic, blocks, IsLog}
-use Rattle.dr_log.specs.Standing.{StandsFor, IsBeforeOrAfter, entries_in, votes_in, with_entry, with_vote, log_length}
+use Rattle.dr_log.specs.Standing.{StandsFor, IsBeforeOrAfter, LosesNone, entries_in, votes_in, with_entry, with_vote, log_length}
 use Rattle.dr_log.specs.Appending.{staged, opened, StopsOpening}
 use Rattle.dr_log.specs.Kept.{IsSettled}
 use Rattle.dr_log.proofs.Growing.{length_of_log, entries-added, votes-added, log_stands}
+use Rattle.dr_log.proofs.Lasting.{Witnessed, lasts_during, rest_witness, unwritten_witness}
 use Rattle.dr_log.proofs.Moments.{gate_inside, staged_is, before_images, written_images, unwritten_images, opened_images, unopened_images, opened_is, after_images}
 
 -- what a read gives after one call more
-pub content-added : (calls : List Call) (call : Call) → content_after (calls ++ call ∷ []) ≡
-    (step (run calls) call).content
-content-added calls call = ap (λ (s : State). s.content) (run-added calls call)
+pub content-after : (told : Told) (call : Call) → content_of (after call told) ≡
+    (step (state_of told) call).content
+content-after told call = ap (λ (s : State). s.content) (state-after told call)
+
+-- and after these calls
+pub content-after_all : (told : Told) (calls : List Call) → content_of (after_all calls told) ≡
+    (run_from (state_of told) calls).content
+content-after_all told calls = ap (λ (s : State). s.content) (state-after_all told calls)
 
 -- once some bytes are written and synced, the disk reaches to where they began
-pub reaches_staged : (told new : Option (List Call)) (at : ℕ) (bytes : List ℕ)
-    → new ≡ staged at bytes told → IfSome told (λ calls. at ≤ length (content_after calls))
-    → IfSome new (λ calls. at - 1 ≤ length (content_after calls))
-reaches_staged None new at bytes is inside = subst (λ (o : Option (List Call)).
-    IfSome o (λ calls. at - 1 ≤ length (content_after calls))) (sym is) tt
-reaches_staged (Some calls) new at bytes is inside =
-    let now = content-added (calls ++ Write at bytes ∷ []) Sync ∙ content-added calls (Write at bytes) in
-    let long : at - 1 ≤ length (content_after ((calls ++ Write at bytes ∷ []) ++ Sync ∷ [])) =
-    omega (arith, inside, ap length now, length-written (content_after calls) at bytes inside) in
-    subst (λ (o : Option (List Call)). IfSome o (λ calls. at - 1 ≤ length (content_after calls)))
-    (sym is) long
+pub reaches_staged : (told new : Option Told) (at : ℕ) (bytes : List ℕ)
+    → new ≡ staged at bytes told → IfSome told (λ t. at ≤ length (content_of t))
+    → IfSome new (λ t. at - 1 ≤ length (content_of t))
+reaches_staged None new at bytes is inside = subst (λ (o : Option Told).
+    IfSome o (λ t. at - 1 ≤ length (content_of t))) (sym is) tt
+reaches_staged (Some told) new at bytes is inside =
+    let now = content-after_all told (Write at bytes ∷ Sync ∷ []) in
+    let long : at - 1 ≤ length (content_of (after_all (Write at bytes ∷ Sync ∷ []) told)) =
+    omega (arith, inside, ap length now, length-written (content_of told) at bytes inside) in
+    subst (λ (o : Option Told). IfSome o (λ t. at - 1 ≤ length (content_of t))) (sym is) long
 
 -- once the magic is written over a disk that was cut, the disk reaches to its end
-pub reaches_magic : (told new : Option (List Call)) → new ≡ staged 0 magic (added (Cut 0) told)
-    → IfSome new (λ calls. 8 ≤ length (content_after calls))
-reaches_magic None new is = subst (λ (o : Option (List Call)).
-    IfSome o (λ calls. 8 ≤ length (content_after calls))) (sym is) tt
-reaches_magic (Some calls) new is =
-    let cut = calls ++ Cut 0 ∷ [] in
-    let now = content-added (cut ++ Write 0 magic ∷ []) Sync ∙ content-added cut (Write 0 magic) in
-    let long : 8 ≤ length (content_after ((cut ++ Write 0 magic ∷ []) ++ Sync ∷ [])) =
-    omega (arith, ap length now, length-written (content_after cut) 0 magic (omega arith)) in
-    subst (λ (o : Option (List Call)). IfSome o (λ calls. 8 ≤ length (content_after calls))) (sym is) long
+pub reaches_magic : (told new : Option Told) → new ≡ staged 0 magic (added (Cut 0) told)
+    → IfSome new (λ t. 8 ≤ length (content_of t))
+reaches_magic None new is = subst (λ (o : Option Told).
+    IfSome o (λ t. 8 ≤ length (content_of t))) (sym is) tt
+reaches_magic (Some told) new is =
+    let now = content-after_all told (Cut 0 ∷ Write 0 magic ∷ Sync ∷ []) in
+    let long : 8 ≤ length (content_of (after_all (Cut 0 ∷ Write 0 magic ∷ Sync ∷ []) told)) =
+    omega (arith, ap length now) in
+    subst (λ (o : Option Told). IfSome o (λ t. 8 ≤ length (content_of t))) (sym is) long
 
 -- ---- a log at rest
 
 -- each image of a settled disk stands for what is on the log
-pub settled_images : (es : List Entry) (vs : List Vote) (calls : List Call) → IsSettled es vs calls
-    → AllImages (run calls) (λ image. StandsFor image es vs)
-settled_images es vs calls is image here =
-    let same = image_at_rest (content_after calls) image
+pub settled_images : (es : List Entry) (vs : List Vote) (t : Told) → IsSettled es vs t
+    → AllImages (state_of t) (λ image. StandsFor image es vs)
+settled_images es vs t is image here =
+    let same = image_at_rest (content_of t) image
     (subst (λ (s : State). IsImage s image) is.rests here) in
     subst (λ (l : List ℕ). StandsFor l es vs) (sym same)
-    (log_stands (content_after calls) is.records es vs is.log is.entries is.votes)
+    (log_stands (content_of t) is.records es vs is.log is.entries is.votes)
 
 -- so does what it reads
-pub settled_content : (es : List Entry) (vs : List Vote) (calls : List Call) → IsSettled es vs calls
-    → StandsFor (content_after calls) es vs
-settled_content es vs calls is =
-    log_stands (content_after calls) is.records es vs is.log is.entries is.votes
+pub settled_content : (es : List Entry) (vs : List Vote) (t : Told) → IsSettled es vs t
+    → StandsFor (content_of t) es vs
+settled_content es vs t is =
+    log_stands (content_of t) is.records es vs is.log is.entries is.votes
 
 -- the same where it may not tell
-pub images_told : (es : List Entry) (vs : List Vote) (told : Option (List Call))
-    → IfSome told (IsSettled es vs)
-    → IfSome told (λ calls. AllImages (run calls) (λ image. StandsFor image es vs))
+pub images_told : (es : List Entry) (vs : List Vote) (told : Option Told)
+    → IfSome told (IsSettled es vs) → IsLeft told (λ image. StandsFor image es vs)
 images_told es vs None is = tt
-images_told es vs (Some calls) is = settled_images es vs calls is
+images_told es vs (Some t) is = settled_images es vs t is
 
--- and where neither its calls nor what is on the log has changed
-pub images_still : (es es' : List Entry) (vs vs' : List Vote) (told new : Option (List Call))
+-- and where neither what it tells nor what is on the log has changed
+pub images_still : (es es' : List Entry) (vs vs' : List Vote) (told new : Option Told)
     → IfSome told (IsSettled es vs) → new ≡ told → es' ≡ es → vs' ≡ vs
-    → IfSome new (λ calls. AllImages (run calls) (λ image. StandsFor image es' vs'))
+    → IsLeft new (λ image. StandsFor image es' vs')
 images_still es es' vs vs' told new is same entries votes =
     rw (same, entries, votes) (images_told es vs told is)
 
-pub reaches_end : (es : List Entry) (vs : List Vote) (told : Option (List Call)) (len : ℕ)
+pub reaches_end : (es : List Entry) (vs : List Vote) (told : Option Told) (len : ℕ)
     → len ≡ log_length es vs → IfSome told (IsSettled es vs)
-    → IfSome told (λ calls. len ≤ length (content_after calls))
+    → IfSome told (λ t. len ≤ length (content_of t))
 reaches_end es vs None len long is = tt
-reaches_end es vs (Some calls) len long is =
+reaches_end es vs (Some t) len long is =
     let lengths = length_of_log is.records in
     let same = ap (λ (l : List Entry). log_length l (votes_in is.records)) is.entries
     ∙ ap (log_length es) is.votes in
@@ -91,31 +94,31 @@ reaches_end es vs (Some calls) len long is =
       long,
       lengths,
       same,
-      gate_inside (content_after calls) is.records
+      gate_inside (content_of t) is.records
           (8 + length (blocks is.records)) is.log refl,
     )
 
 -- while no call is made, images stand for the records from before
-pub still_goes : (es : List Entry) (vs : List Vote) (told : Option (List Call)) (r : Record)
-    → IfSome told (IsSettled es vs) → Goes told told (λ calls. IsBeforeOrAfter es vs r)
+pub still_goes : (es : List Entry) (vs : List Vote) (told : Option Told) (r : Record)
+    → IfSome told (IsSettled es vs) → Goes told told (λ s. IsBeforeOrAfter es vs r)
 still_goes es vs None r is = tt
-still_goes es vs (Some calls) r is = Went-still calls (IsBeforeOrAfter es vs r)
-    (λ image here. inl (settled_images es vs calls is image here))
+still_goes es vs (Some t) r is = Went-still t (IsBeforeOrAfter es vs r)
+    (λ image here. inl (settled_images es vs t is image here))
 
 -- ---- an append
 
 -- a settled disk by its place of the gate, and the record to come
-record Setting (es : List Entry) (vs : List Vote) (calls : List Call) (at : ℕ) (r : Record) : Type 0 where
-  is : IsSettled es vs calls
+record Setting (es : List Entry) (vs : List Vote) (t : Told) (at : ℕ) (r : Record) : Type 0 where
+  is : IsSettled es vs t
   valid : IsValid r
   fits : Fits r
   gate : at - 1 ≡ 8 + length (blocks is.records)
   place : at ≡ (at - 1) + 1
 
-abbrev setting : (es : List Entry) (vs : List Vote) (calls : List Call) (at : ℕ) (r : Record)
-    → IsSettled es vs calls → at ≡ log_length es vs → IsValid r → Fits r
-    → Setting es vs calls at r
-setting es vs calls at r is long valid fits =
+abbrev setting : (es : List Entry) (vs : List Vote) (t : Told) (at : ℕ) (r : Record)
+    → IsSettled es vs t → at ≡ log_length es vs → IsValid r → Fits r
+    → Setting es vs t at r
+setting es vs t at r is long valid fits =
     let lengths = length_of_log is.records in
     let same = ap (λ (l : List Entry). log_length l (votes_in is.records)) is.entries
     ∙ ap (log_length es) is.votes in
@@ -128,38 +131,73 @@ setting es vs calls at r is long valid fits =
     }
 
 -- an image that stands for these records in terms of the list stands for the entries and votes
-by_kind : (es : List Entry) (vs : List Vote) (calls : List Call) (r : Record)
-    (is : IsSettled es vs calls) (image : List ℕ) → IsBeforeOrAfter (entries_in is.records)
+by_kind : (es : List Entry) (vs : List Vote) (t : Told) (r : Record)
+    (is : IsSettled es vs t) (image : List ℕ) → IsBeforeOrAfter (entries_in is.records)
     (votes_in is.records) r image → IsBeforeOrAfter es vs r image
-by_kind es vs calls r is image here =
+by_kind es vs t r is image here =
     subst (λ (l : List Entry). IsBeforeOrAfter l vs r image) is.entries
     (subst (λ (l : List Vote). IsBeforeOrAfter (entries_in is.records) l r image) is.votes here)
 
+-- at each moment of an append an image stands for the records from before or for one more, and what no crash
+-- loses at one moment no crash loses later on
+pub record GoesWell (es : List Entry) (vs : List Vote) (r : Record) (told new : Option Told) : Type 0 where
+  pub goes : Goes told new (λ s. IsBeforeOrAfter es vs r)
+  pub lasts : (first : List Entry) (kept : List Vote) → Lasts told new (LosesNone first kept)
+
+goes_silent : (es : List Entry) (vs : List Vote) (r : Record) → GoesWell es vs r None None
+goes_silent es vs r = record { goes = tt; lasts = λ first kept. tt }
+
 -- the moments of calls that begin on a settled disk
-from_rest : (es : List Entry) (vs : List Vote) (calls more : List Call) (after : List Call) (r : Record)
-    (is : IsSettled es vs calls) → after ≡ calls ++ more
-    → During (at_rest (content_after calls)) more (IsBeforeOrAfter (entries_in is.records)
-    (votes_in is.records) r) → Went calls after (IsBeforeOrAfter es vs r)
-from_rest es vs calls more after r is grown each = record {
-  more = more;
-  grown = grown;
-  each = During-weaken (run calls) more (IsBeforeOrAfter (entries_in is.records)
-      (votes_in is.records) r) (IsBeforeOrAfter es vs r) (by_kind es vs calls r is)
+from_rest : (es : List Entry) (vs : List Vote) (t : Told) (more : List Call) (r : Record)
+    (is : IsSettled es vs t)
+    → During (at_rest (content_of t)) more (IsBeforeOrAfter (entries_in is.records)
+    (votes_in is.records) r)
+    → Witnessed (entries_in is.records) (votes_in is.records) (at_rest (content_of t)) more
+    → GoesWell es vs r (Some t) (Some (after_all more t))
+from_rest es vs t more r is each seen = record {
+  goes = went_by t more (IsBeforeOrAfter es vs r)
+      (During-weaken (state_of t) more (IsBeforeOrAfter (entries_in is.records)
+      (votes_in is.records) r) (IsBeforeOrAfter es vs r) (by_kind es vs t r is)
       (subst (λ (s : State).
       During s more (IsBeforeOrAfter (entries_in is.records) (votes_in is.records) r))
-      (sym is.rests) each);
+      (sym is.rests) each));
+  lasts = λ first kept. lasts_by t more (LosesNone first kept)
+      (subst (λ (s : State). LastsDuring s more (LosesNone first kept)) (sym is.rests)
+      (lasts_during (entries_in is.records) first (votes_in is.records) kept r (at_rest (content_of t)) more
+      each seen));
 }
 
+-- until the gate is open for good some image stands for the records from before
+seen_before : (es : List Entry) (vs : List Vote) (t : Told) (at : ℕ) (r : Record) (s : Setting es vs t at r)
+    → Witnessed (entries_in s.is.records) (votes_in s.is.records) (at_rest (content_of t))
+    (Write at (spelling r ++ (0 ∷ [])) ∷ Sync ∷ Write (at - 1) (1 ∷ []) ∷ Sync ∷ [])
+seen_before es vs t at r s =
+    let old = content_of t in let rs = s.is.records in let x = spelling r ++ (0 ∷ []) in
+    let staged = staged_is old rs (at - 1) at r s.is.log s.gate s.place in (
+      rest_witness old rs s.is.log,
+      (
+        unwritten_witness old rs at x s.is.log
+            (omega (arith, gate_inside old rs (at - 1) s.is.log s.gate, s.place)),
+        (
+          rest_witness (written old at x) rs staged.log,
+          (
+            unwritten_witness (written old at x) rs (at - 1) (1 ∷ []) staged.log
+                (omega (arith, staged.inside)),
+            tt,
+          ),
+        ),
+      ),
+    )
+
 -- the calls of an append that succeeded
-opened_went : (es : List Entry) (vs : List Vote) (calls : List Call) (at : ℕ) (r : Record)
-    → Setting es vs calls at r
-    → Went calls ((((calls ++ Write at (spelling r ++ (0 ∷ [])) ∷ []) ++ Sync ∷ []) ++ Write (at - 1)
-    (1 ∷ []) ∷ []) ++ Sync ∷ []) (IsBeforeOrAfter es vs r)
-opened_went es vs calls at r s =
-    let old = content_after calls in let rs = s.is.records in let x = spelling r ++ (0 ∷ []) in
+opened_went : (es : List Entry) (vs : List Vote) (t : Told) (at : ℕ) (r : Record)
+    → Setting es vs t at r
+    → GoesWell es vs r (Some t) (Some (after_all (Write at (spelling r ++ (0 ∷ [])) ∷ Sync ∷ Write (at - 1)
+    (1 ∷ []) ∷ Sync ∷ []) t))
+opened_went es vs t at r s =
+    let old = content_of t in let rs = s.is.records in let x = spelling r ++ (0 ∷ []) in
     let staged = staged_is old rs (at - 1) at r s.is.log s.gate s.place in
-    from_rest es vs calls (Write at x ∷ Sync ∷ Write (at - 1) (1 ∷ []) ∷ Sync ∷ []) _ r s.is
-    (simp append_assoc) (
+    from_rest es vs t (Write at x ∷ Sync ∷ Write (at - 1) (1 ∷ []) ∷ Sync ∷ []) r s.is (
       before_images old rs r s.is.log,
       (
         written_images old x rs (at - 1) at r s.is.log s.gate s.place,
@@ -172,43 +210,44 @@ opened_went es vs calls at r s =
           ),
         ),
       ),
-    )
+    ) (seen_before es vs t at r s)
 
 -- of an append, any image stands for the records from before or for one more
-pub opened_goes : (es : List Entry) (vs : List Vote) (told new : Option (List Call)) (at : ℕ)
+pub opened_goes : (es : List Entry) (vs : List Vote) (told new : Option Told) (at : ℕ)
     (r : Record) → IfSome told (IsSettled es vs) → at ≡ log_length es vs → IsValid r → Fits r
-    → new ≡ opened at (spelling r ++ (0 ∷ [])) told
-    → Goes told new (λ calls. IsBeforeOrAfter es vs r)
-opened_goes es vs None new at r is long valid fits e = subst (λ (o : Option (List Call)).
-    Goes None o (λ calls. IsBeforeOrAfter es vs r)) (sym e) tt
-opened_goes es vs (Some calls) new at r is long valid fits e =
-    subst (λ (o : Option (List Call)). Goes (Some calls) o (λ calls. IsBeforeOrAfter es vs r)) (sym e)
-    (opened_went es vs calls at r (setting es vs calls at r is long valid fits))
+    → new ≡ opened at (spelling r ++ (0 ∷ [])) told → GoesWell es vs r told new
+opened_goes es vs None new at r is long valid fits e =
+    subst (GoesWell es vs r None) (sym e) (goes_silent es vs r)
+opened_goes es vs (Some t) new at r is long valid fits e =
+    subst (GoesWell es vs r (Some t)) (sym e)
+    (opened_went es vs t at r (setting es vs t at r is long valid fits))
 
 -- so of one that failed
-stops_went : (es : List Entry) (vs : List Vote) (calls : List Call) (new : Option (List Call)) (at : ℕ)
-    (r : Record) → Setting es vs calls at r
-    → StopsOpening at (spelling r ++ (0 ∷ [])) (Some calls) new → Goes (Some calls) new
-    (λ calls. IsBeforeOrAfter es vs r)
-stops_went es vs calls new at r s (inl (inl e)) =
-    let old = content_after calls in let rs = s.is.records in let x = spelling r ++ (0 ∷ []) in
-    subst (λ (o : Option (List Call)). Goes (Some calls) o (λ calls. IsBeforeOrAfter es vs r)) (sym e)
-    (from_rest es vs calls (FailedWrite at (length x) ∷ []) _ r s.is refl (
+stops_went : (es : List Entry) (vs : List Vote) (t : Told) (new : Option Told) (at : ℕ)
+    (r : Record) → Setting es vs t at r
+    → StopsOpening at (spelling r ++ (0 ∷ [])) (Some t) new → GoesWell es vs r (Some t) new
+stops_went es vs t new at r s (inl (inl e)) =
+    let old = content_of t in let rs = s.is.records in let x = spelling r ++ (0 ∷ []) in
+    let seen = seen_before es vs t at r s in
+    subst (GoesWell es vs r (Some t)) (sym e)
+    (from_rest es vs t (FailedWrite at (length x) ∷ []) r s.is (
       before_images old rs r s.is.log,
       unwritten_images old (length x) rs
           (at - 1) at r s.is.log s.gate s.place,
-    ))
-stops_went es vs calls new at r s (inl (inr e)) =
-    let old = content_after calls in let rs = s.is.records in let x = spelling r ++ (0 ∷ []) in
-    subst (λ (o : Option (List Call)). Goes (Some calls) o (λ calls. IsBeforeOrAfter es vs r)) (sym e)
-    (from_rest es vs calls (Write at x ∷ []) _ r s.is refl
-    (before_images old rs r s.is.log, written_images old x rs (at - 1) at r s.is.log s.gate s.place))
-stops_went es vs calls new at r s (inr (inl e)) =
-    let old = content_after calls in let rs = s.is.records in let x = spelling r ++ (0 ∷ []) in
+    ) (seen.0, tt))
+stops_went es vs t new at r s (inl (inr e)) =
+    let old = content_of t in let rs = s.is.records in let x = spelling r ++ (0 ∷ []) in
+    let seen = seen_before es vs t at r s in
+    subst (GoesWell es vs r (Some t)) (sym e)
+    (from_rest es vs t (Write at x ∷ []) r s.is
+    (before_images old rs r s.is.log, written_images old x rs (at - 1) at r s.is.log s.gate s.place)
+    (seen.0, tt))
+stops_went es vs t new at r s (inr (inl e)) =
+    let old = content_of t in let rs = s.is.records in let x = spelling r ++ (0 ∷ []) in
     let staged = staged_is old rs (at - 1) at r s.is.log s.gate s.place in
-    subst (λ (o : Option (List Call)). Goes (Some calls) o (λ calls. IsBeforeOrAfter es vs r)) (sym e)
-    (from_rest es vs calls (Write at x ∷ Sync ∷ FailedWrite (at - 1) 1 ∷ []) _ r s.is
-    (simp append_assoc) (
+    let seen = seen_before es vs t at r s in
+    subst (GoesWell es vs r (Some t)) (sym e)
+    (from_rest es vs t (Write at x ∷ Sync ∷ FailedWrite (at - 1) 1 ∷ []) r s.is (
       before_images old rs r s.is.log,
       (
         written_images old x rs (at - 1) at r s.is.log s.gate s.place,
@@ -217,13 +256,13 @@ stops_went es vs calls new at r s (inr (inl e)) =
           unopened_images (written old at x) rs (at - 1) r staged s.valid s.fits,
         ),
       ),
-    ))
-stops_went es vs calls new at r s (inr (inr e)) =
-    let old = content_after calls in let rs = s.is.records in let x = spelling r ++ (0 ∷ []) in
+    ) (seen.0, (seen.1.0, (seen.1.1.0, tt))))
+stops_went es vs t new at r s (inr (inr e)) =
+    let old = content_of t in let rs = s.is.records in let x = spelling r ++ (0 ∷ []) in
     let staged = staged_is old rs (at - 1) at r s.is.log s.gate s.place in
-    subst (λ (o : Option (List Call)). Goes (Some calls) o (λ calls. IsBeforeOrAfter es vs r)) (sym e)
-    (from_rest es vs calls (Write at x ∷ Sync ∷ Write (at - 1) (1 ∷ []) ∷ []) _ r s.is
-    (simp append_assoc) (
+    let seen = seen_before es vs t at r s in
+    subst (GoesWell es vs r (Some t)) (sym e)
+    (from_rest es vs t (Write at x ∷ Sync ∷ Write (at - 1) (1 ∷ []) ∷ []) r s.is (
       before_images old rs r s.is.log,
       (
         written_images old x rs (at - 1) at r s.is.log s.gate s.place,
@@ -232,53 +271,49 @@ stops_went es vs calls new at r s (inr (inr e)) =
           opened_images (written old at x) rs (at - 1) r staged s.valid s.fits,
         ),
       ),
-    ))
+    ) (seen.0, (seen.1.0, (seen.1.1.0, tt))))
 
-gone_silent : (new : Option (List Call)) (at : ℕ) (bytes : List ℕ) → StopsOpening at bytes None new
+gone_silent : (new : Option Told) (at : ℕ) (bytes : List ℕ) → StopsOpening at bytes None new
     → new ≡ None
 gone_silent new at bytes (inl (inl e)) = e
 gone_silent new at bytes (inl (inr e)) = e
 gone_silent new at bytes (inr (inl e)) = e
 gone_silent new at bytes (inr (inr e)) = e
 
-pub stops_goes : (es : List Entry) (vs : List Vote) (told new : Option (List Call)) (at : ℕ)
+pub stops_goes : (es : List Entry) (vs : List Vote) (told new : Option Told) (at : ℕ)
     (r : Record) → IfSome told (IsSettled es vs) → at ≡ log_length es vs → IsValid r → Fits r
-    → StopsOpening at (spelling r ++ (0 ∷ [])) told new
-    → Goes told new (λ calls. IsBeforeOrAfter es vs r)
+    → StopsOpening at (spelling r ++ (0 ∷ [])) told new → GoesWell es vs r told new
 stops_goes es vs None new at r is long valid fits stops =
-    subst (λ (o : Option (List Call)). Goes None o (λ calls. IsBeforeOrAfter es vs r))
-    (sym (gone_silent new at (spelling r ++ (0 ∷ [])) stops)) tt
-stops_goes es vs (Some calls) new at r is long valid fits stops = stops_went es vs calls new at r
-    (setting es vs calls at r is long valid fits) stops
+    subst (GoesWell es vs r None) (sym (gone_silent new at (spelling r ++ (0 ∷ [])) stops))
+    (goes_silent es vs r)
+stops_goes es vs (Some t) new at r is long valid fits stops = stops_went es vs t new at r
+    (setting es vs t at r is long valid fits) stops
 
 -- the disk after the calls of an append on one at rest
-opened_run : (calls : List Call) (at : ℕ) (x : List ℕ) → run calls ≡ at_rest (content_after calls)
-    → run ((((calls ++ Write at x ∷ []) ++ Sync ∷ []) ++ Write (at - 1)
-    (1 ∷ []) ∷ []) ++ Sync ∷ []) ≡ at_rest (written (written (content_after calls) at x) (at - 1)
-    (1 ∷ []))
-opened_run calls at x rests =
+opened_run : (t : Told) (at : ℕ) (x : List ℕ) → state_of t ≡ at_rest (content_of t)
+    → state_of (after_all (Write at x ∷ Sync ∷ Write (at - 1) (1 ∷ []) ∷ Sync ∷ []) t)
+    ≡ at_rest (written (written (content_of t) at x) (at - 1) (1 ∷ []))
+opened_run t at x rests =
     let more = Write at x ∷ Sync ∷ Write (at - 1) (1 ∷ []) ∷ Sync ∷ [] in
-    let same : (((calls ++ Write at x ∷ []) ++ Sync ∷ []) ++ Write (at - 1)
-    (1 ∷ []) ∷ []) ++ Sync ∷ [] ≡ calls ++ more = simp append_assoc in
-    ap run same ∙ run_from-append _ calls more ∙ ap (λ (s : State). run_from s more) rests
+    state-after_all t more ∙ ap (λ (s : State). run_from s more) rests
 
 -- once an append has succeeded, the disk is settled with one record more
-pub opened_settled : (es : List Entry) (vs : List Vote) (told new : Option (List Call)) (at : ℕ)
+pub opened_settled : (es : List Entry) (vs : List Vote) (told new : Option Told) (at : ℕ)
     (r : Record) → IfSome told (IsSettled es vs) → at ≡ log_length es vs → IsValid r → Fits r
     → new ≡ opened at (spelling r ++ (0 ∷ [])) told
     → IfSome new (IsSettled (with_entry r es) (with_vote r vs))
-opened_settled es vs None new at r is long valid fits e = subst (λ (o : Option (List Call)).
+opened_settled es vs None new at r is long valid fits e = subst (λ (o : Option Told).
     IfSome o (IsSettled (with_entry r es) (with_vote r vs))) (sym e) tt
-opened_settled es vs (Some calls) new at r is long valid fits e =
-    let s = setting es vs calls at r is long valid fits in
+opened_settled es vs (Some t) new at r is long valid fits e =
+    let s = setting es vs t at r is long valid fits in
     let rs = is.records in let x = spelling r ++ (0 ∷ []) in
-    let old = content_after calls in
+    let old = content_of t in
     let staged = staged_is old rs (at - 1) at r is.log s.gate s.place in
     let bytes = written (written old at x) (at - 1) (1 ∷ []) in
-    let ran = opened_run calls at x is.rests in
+    let ran = opened_run t at x is.rests in
     let reads = ap (λ (t : State). t.content) ran in
     let settled : IsSettled (with_entry r es) (with_vote r vs)
-    ((((calls ++ Write at x ∷ []) ++ Sync ∷ []) ++ Write (at - 1) (1 ∷ []) ∷ []) ++ Sync ∷ []) =
+    (after_all (Write at x ∷ Sync ∷ Write (at - 1) (1 ∷ []) ∷ Sync ∷ []) t) =
     record {
       rests = ran ∙ ap at_rest (sym reads);
       records = rs ++ r ∷ [];
@@ -287,11 +322,11 @@ opened_settled es vs (Some calls) new at r is long valid fits e =
       entries = entries-added rs r ∙ ap (with_entry r) is.entries;
       votes = votes-added rs r ∙ ap (with_vote r) is.votes;
     } in
-    subst (λ (o : Option (List Call)). IfSome o (IsSettled (with_entry r es) (with_vote r vs)))
+    subst (λ (o : Option Told). IfSome o (IsSettled (with_entry r es) (with_vote r vs)))
     (sym e) settled
 
 -- the same, where the lists are known to be these
-pub opened_settled_as : (es es' : List Entry) (vs vs' : List Vote) (told new : Option (List Call))
+pub opened_settled_as : (es es' : List Entry) (vs vs' : List Vote) (told new : Option Told)
     (at : ℕ) (r : Record) → IfSome told (IsSettled es vs) → at ≡ log_length es vs → IsValid r
     → Fits r
     → new ≡ opened at (spelling r ++ (0 ∷ [])) told → es' ≡ with_entry r es → vs'

@@ -1,30 +1,36 @@
 -- The calls of a disk that a log makes.
-use Rattle.std.specs.Prelude.{◌≡◌, ℕ, ◌-◌, List, [], ◌∷◌, length, Option, ◌⊎◌}
-use Rattle.dr_disk.specs.Calls.{Call, Write, FailedWrite, Cut, FailedCut, Sync}
-use Rattle.dr_disk.specs.Disk.{added}
+use Rattle.std.specs.Prelude.{◌≡◌, ℕ, ◌-◌, ◌<◌, ◌≤◌, List, [], ◌∷◌, length, Option, IfSome, ◌⊎◌}
+use Rattle.dr_disk.specs.Calls.{Write, FailedWrite, Cut, FailedCut, Sync}
+use Rattle.dr_disk.specs.Disk.{Told, added, content_of}
 use Rattle.dr_log.specs.Grammar.{magic}
 
 -- these bytes were written at this place, and synced
-abbrev pub staged : ℕ → List ℕ → Option (List Call) → Option (List Call)
+abbrev pub staged : ℕ → List ℕ → Option Told → Option Told
 staged at bytes told = added Sync (added (Write at bytes) told)
 
 -- then the gate before them was opened, and synced
-abbrev pub opened : ℕ → List ℕ → Option (List Call) → Option (List Call)
+abbrev pub opened : ℕ → List ℕ → Option Told → Option Told
 opened at bytes told = staged (at - 1) (1 ∷ []) (staged at bytes told)
 
 -- some of the calls of `opened`, and then one that failed
-abbrev pub StopsOpening : ℕ → List ℕ → Option (List Call) → Option (List Call) → Type 0
+abbrev pub StopsOpening : ℕ → List ℕ → Option Told → Option Told → Type 0
 StopsOpening at bytes old new =
     ((new ≡ added (FailedWrite at (length bytes)) old) ⊎ (new ≡ added (Write at bytes) old))
     ⊎ ((new ≡ added (FailedWrite (at - 1) 1) (staged at bytes old))
     ⊎ (new ≡ added (Write (at - 1) (1 ∷ [])) (staged at bytes old)))
 
 -- an empty log was made
-abbrev pub made : Option (List Call) → Option (List Call)
+abbrev pub made : Option Told → Option Told
 made told = staged 8 (0 ∷ []) (staged 0 magic (added (Cut 0) told))
 
+-- A mount made these calls: a sync, and then an empty log of at most nine bytes.
+abbrev pub IsMounted : Option Told → Option Told → Type 0
+IsMounted old new = IfSome old (λ t.
+    ((length (content_of t) ≤ 9) × (new ≡ made (added Sync old)))
+    ⊎ ((9 < length (content_of t)) × (new ≡ added Sync old)))
+
 -- some of the calls of `made`, and then one that failed
-abbrev pub StopsMaking : Option (List Call) → Option (List Call) → Type 0
+abbrev pub StopsMaking : Option Told → Option Told → Type 0
 StopsMaking old new =
     (new ≡ added (FailedCut 0) old)
     ⊎ ((new ≡ added (FailedWrite 0 8) (added (Cut 0) old))

@@ -5,7 +5,7 @@ use Rattle.dr_entry.specs.declared.record.Record.{Record}
 use Rattle.dr_entry.specs.declared.record.Record.TheVariants as records
 use Rattle.dr_entry.specs.declared.record.Vote.{Vote}
 use Rattle.dr_entry.specs.Spelling.{spelling, entry_spelling, vote_spelling}
-use Rattle.dr_disk.specs.Calls.{Call, run}
+use Rattle.dr_disk.specs.Calls.{State}
 use Rattle.dr_disk.specs.Images.{IsImage}
 use Rattle.dr_log.specs.Grammar.{Recovered, StandAlike}
 
@@ -26,6 +26,12 @@ pub record StandsFor (bytes : List ℕ) (es : List Entry) (vs : List Vote) : Typ
   pub entries : entries_in records ≡ es
   pub votes : votes_in records ≡ vs
 
+-- bytes stand for these entries and votes, and maybe for more behind them: they have lost none
+pub record LosesNone (entries : List Entry) (votes : List Vote) (bytes : List ℕ) : Type 0 where
+  pub more_entries : List Entry
+  pub more_votes : List Vote
+  pub stands : StandsFor bytes (entries ++ more_entries) (votes ++ more_votes)
+
 -- the entries, and the votes, with one record more
 abbrev pub with_entry : Record → List Entry → List Entry
 with_entry (records.Entry entry) entries = entries ++ entry ∷ []
@@ -41,9 +47,9 @@ IsBeforeOrAfter entries votes r bytes =
     StandsFor bytes entries votes ⊎ StandsFor bytes (with_entry r entries) (with_vote r votes)
 
 -- an image stands for what some image of the disk from before stood for
-pub record KeepsRecords (calls : List Call) (image : List ℕ) : Type 0 where
+pub record KeepsRecords (s : State) (image : List ℕ) : Type 0 where
   pub before : List ℕ
-  pub was : IsImage (run calls) before
+  pub was : IsImage s before
   pub alike : StandAlike before image
 
 -- how many bytes a record takes with its gate

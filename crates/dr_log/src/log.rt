@@ -1,15 +1,17 @@
 //! A member's log.
 
-ghost use Rattle.std.specs.Prelude.{◌≡◌, ◌+◌, ◌*◌, ◌≤◌, ◌++◌, [], ◌∷◌, ℕ, max, false, IfOk, IfErr, IfSome, IsErrOf, OnOk, OnErr};
+ghost use Rattle.std.specs.Prelude.{◌≡◌, ◌≢◌, ◌+◌, ◌*◌, ◌≤◌, ◌++◌, [], ◌∷◌, ℕ, List, max, false, IfOk, IfErr, IfSome, IsErrOf, OnOk, OnErr};
 ghost use Rattle.dr_io.specs.Faults.{Rose};
-ghost use Rattle.dr_disk.specs.Calls.{content_after, run};
-ghost use Rattle.dr_disk.specs.Images.{AllImages, Goes};
+ghost use Rattle.dr_disk.specs.Disk.{content_of};
+ghost use Rattle.dr_disk.specs.Images.{Goes, IsLeft, Lasts, ReadsAnImage};
+ghost use Rattle.dr_entry.specs.declared.entry.Entry.{Entry};
+ghost use Rattle.dr_entry.specs.declared.record.Vote.{Vote};
 ghost use Rattle.dr_entry.specs.Spelling.{IsValid, spelling};
 ghost use Rattle.dr_log.specs.declared.fault.LogFault.TheVariants.{DiskFault, LogFull};
 ghost use Rattle.dr_log.specs.declared.fault.MountWhy.TheVariants as why;
-ghost use Rattle.dr_log.specs.Appending.{opened};
+ghost use Rattle.dr_log.specs.Appending.{IsMounted, opened};
 ghost use Rattle.dr_log.specs.Grammar.{IsDamaged};
-ghost use Rattle.dr_log.specs.Standing.{StandsFor, IsBeforeOrAfter, KeepsRecords, block_length, log_length};
+ghost use Rattle.dr_log.specs.Standing.{StandsFor, IsBeforeOrAfter, KeepsRecords, LosesNone, block_length, log_length};
 ghost use Rattle.dr_log.specs.State.{KeepsLimit, appended, broken_off, as_entry, as_vote};
 
 use crate::appending::put_behind;
@@ -76,20 +78,29 @@ impl<D: Disk> Log<D> {
         requires { 9 ≤ limit }
         // What was on the disk is on the log, and safe.
         ensures records { IfOk result (λ log. IfSome (D.told disk)
-            (λ calls. StandsFor (content_after calls) log.entries log.votes)) }
-        ensures durable { IfOk result (λ log. IfSome (D.told log.disk)
-            (λ calls. AllImages (run calls) (λ image. StandsFor image log.entries log.votes))) }
+            (λ told. StandsFor (content_of told) log.entries log.votes)) }
+        // That is what a crash might have left before.
+        ensures read { IfOk result (λ _. IfSome (D.told disk) ReadsAnImage) }
+        ensures durable { IfOk result (λ log. IsLeft (D.told log.disk)
+            (λ image. StandsFor image log.entries log.votes)) }
         ensures limit { IfOk result (λ log. log.limit ≡ limit) }
         ensures whole { IfOk result (λ log. log.failed ≡ false) }
         // At any moment a crash leaves what it might have left before, as far as records go.
         ensures any_moment { IfOk result (λ log. Goes (D.told disk) (D.told log.disk) KeepsRecords) }
         ensures any_moment_err { IfErr result (λ e. Goes (D.told disk) (D.told e.disk) KeepsRecords) }
+        ensures calls { IfOk result (λ log. IsMounted (D.told disk) (D.told log.disk)) }
         ensures damaged { IfErr result (λ e. (at : ℕ) → e.why ≡ why.Damaged at → IfSome (D.told disk)
-            (λ calls. IsDamaged (content_after calls) at)) }
+            (λ told. IsDamaged (content_of told) at)) }
+        // That is what a crash might have left before too.
+        ensures read_damaged { IfErr result (λ e. (at : ℕ) → e.why ≡ why.Damaged at
+            → IfSome (D.told disk) ReadsAnImage) }
         ensures fault { IfErr result
             (λ e. e.why ≡ why.DiskFault → Rose (D.faults disk) (D.faults e.disk)) }
-        ensures faults { IfOk result (λ log. D.faults disk ≤ D.faults log.disk) }
+        // No fault of the disk is hidden.
+        ensures faults { IfOk result (λ log. D.faults log.disk ≡ D.faults disk) }
         ensures faults_err { IfErr result (λ e. D.faults disk ≤ D.faults e.disk) }
+        ensures calm_err { IfErr result
+            (λ e. e.why ≢ why.DiskFault → D.faults e.disk ≡ D.faults disk) }
     {
         let mut disk = disk;
         match open(alloc, &mut disk) {
@@ -121,8 +132,8 @@ impl<D: Disk> Log<D> {
         ensures err { OnErr result (self.new ≡ record self.old { disk = self.new.disk }) }
         ensures told { D.told self.new.disk ≡ D.told self.old.disk }
         // Where no append has failed, each crash leaves what is on the log.
-        ensures safe { self.old.failed ≡ false → IfSome (D.told self.new.disk) (λ calls.
-            AllImages (run calls) (λ image. StandsFor image self.new.entries self.new.votes)) }
+        ensures safe { self.old.failed ≡ false → IsLeft (D.told self.new.disk)
+            (λ image. StandsFor image self.new.entries self.new.votes) }
         ensures faults { D.faults self.new.disk ≡ D.faults self.old.disk }
     {
         let spare_entries = self.spare_entries.max(entries);
@@ -155,13 +166,18 @@ impl<D: Disk> Log<D> {
             (block_length r.now) result }
         // At any moment a crash leaves the records from before, or these and the new one.
         ensures any_moment { Goes (D.told self.old.disk) (D.told self.new.disk)
-            (λ calls. IsBeforeOrAfter self.old.entries self.old.votes r.now) }
+            (λ s. IsBeforeOrAfter self.old.entries self.old.votes r.now) }
+        // What no crash loses at one moment none loses later on.
+        ensures lasting { (entries : List Entry) (votes : List Vote)
+            → Lasts (D.told self.old.disk) (D.told self.new.disk) (LosesNone entries votes) }
         // Once this has answered Ok, each crash leaves the new one too.
-        ensures durable { OnOk result (IfSome (D.told self.new.disk) (λ calls.
-            AllImages (run calls) (λ image. StandsFor image self.new.entries self.new.votes))) }
+        ensures durable { OnOk result (IsLeft (D.told self.new.disk)
+            (λ image. StandsFor image self.new.entries self.new.votes)) }
         ensures calls { OnOk result (D.told self.new.disk
             ≡ opened (log_length self.old.entries self.old.votes) (spelling r.now ++ 0 ∷ [])
             (D.told self.old.disk)) }
+        // No fault of the disk is hidden.
+        ensures calm { OnOk result (D.faults self.new.disk ≡ D.faults self.old.disk) }
         ensures cause { IsErrOf result DiskFault → Rose (D.faults self.old.disk) (D.faults self.new.disk) }
         ensures faults { D.faults self.old.disk ≤ D.faults self.new.disk }
     {

@@ -69,8 +69,9 @@ fn put(over: &mut [u8; ROOM], at: usize, bytes: &[u8]) {
 
 impl Disk for CrashDisk {
     ghost use Rattle.std.specs.Prelude.{Some};
+    ghost use Rattle.dr_disk.specs.Disk.{Calls};
 
-    ghost told = { λ disk. Some disk.disk.calls };
+    ghost told = { λ disk. Some (Calls disk.disk.calls) };
 
     ghost room_calls = { λ disk. disk.disk.room_calls };
 

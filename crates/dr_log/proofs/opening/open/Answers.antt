@@ -1,46 +1,54 @@
 use Rattle.std.proofs.Common.{◌≡◌, ℕ, List, [], length, Option, IfSome, sym, ap, subst, ◌∙◌, rules}
 use Rattle.std.proofs.lemmas.Result.{IfOk-weaker}
-use Rattle.dr_disk.specs.Calls.{Call, Sync, content_after}
-use Rattle.dr_disk.specs.Disk.{added}
+use Rattle.dr_disk.specs.Calls.{Sync}
+use Rattle.dr_disk.specs.Disk.{Told, added, content_of}
 use Rattle.dr_entry.specs.declared.entry.Entry.{Entry}
 use Rattle.dr_entry.specs.declared.record.Vote.{Vote}
-use Rattle.dr_log.specs.Standing.{StandsFor}
+use Rattle.dr_disk.specs.Images.{Goes}
+use Rattle.dr_log.specs.Standing.{StandsFor, KeepsRecords}
 use Rattle.dr_log.specs.Kept.{IsSettled}
 use Rattle.dr_log.specs.Appending.{made, StopsMaking}
 use Rattle.dr_log.specs.Grammar.{IsNoLog}
 use Rattle.dr_log.specs.Parsed.{IsLogFound}
-use Rattle.dr_log.proofs.Mounting.{synced_keeps, found_settled, found_records, found_damaged, made_keeps, stops_keeps, made_records, made_settled}
+use Rattle.dr_log.proofs.Mounting.{mounted_new, mounted_there, keeps_still, synced_keeps, found_settled, found_records, found_damaged, made_keeps, stops_keeps, made_records, made_settled}
 use Rattle.dr_log.proofs.opening.open.Goals as goal
+
+pub returns-in_err-sync-clause-any_moment : goal.returns-in_err-sync-clause-any_moment
+returns-in_err-sync-clause-any_moment g c =
+    let told = g.D.Disk.told in
+    let same : told c.sync.new.self ≡ told c.args.disk.now = search rules in
+    subst (λ (o : Option Told). Goes (told c.args.disk.now) o KeepsRecords) (sym same)
+    (keeps_still (told c.args.disk.now))
 
 pub returns-in_err-len-clause-any_moment : goal.returns-in_err-len-clause-any_moment
 returns-in_err-len-clause-any_moment g c =
     let told = g.D.Disk.told in
     let synced : told c.sync.new.self ≡ added Sync (told c.args.disk.now) = search rules in
-    synced_keeps (told c.args.disk.now) (told c.len.new.self) (c.len.ensures.told ∙ synced)
+    synced_keeps (told c.args.disk.now) (told c.len.new.self) (c.len.ensures.told ∙ synced) (search rules)
 
 pub returns-in_err-make-clause-any_moment : goal.returns-in_err-make-clause-any_moment
 returns-in_err-make-clause-any_moment g c =
     let told = g.D.Disk.told in
     let synced : told c.sync.new.self ≡ added Sync (told c.args.disk.now) = search rules in
-    let long = subst (λ (o : Option (List Call)).
-    IfSome o (λ calls. c.in_ok-len.len ≡ length
-    (content_after calls))) synced c.in_ok-len.ensures.value in
-    stops_keeps (told c.args.disk.now) (told c.make.new.disk) c.in_ok-len.len long c.if-len-le-EMPTY.true
-    (subst (λ (o : Option (List Call)). StopsMaking o (told c.make.new.disk)) (c.len.ensures.told
+    let long = subst (λ (o : Option Told).
+    IfSome o (λ t. c.in_ok-len.len ≡ length
+    (content_of t))) synced c.in_ok-len.ensures.value in
+    stops_keeps (told c.args.disk.now) (told c.make.new.disk) c.in_ok-len.len long c.if-len-le-EMPTY.true (search rules)
+    (subst (λ (o : Option Told). StopsMaking o (told c.make.new.disk)) (c.len.ensures.told
     ∙ synced) c.in_err-make.ensures.err)
 
 pub returns-then-len-le-EMPTY-clause-records : goal.returns-then-len-le-EMPTY-clause-records
 returns-then-len-le-EMPTY-clause-records g c =
     let told = g.D.Disk.told in
     let synced : told c.sync.new.self ≡ added Sync (told c.args.disk.now) = search rules in
-    let long = subst (λ (o : Option (List Call)).
-    IfSome o (λ calls. c.in_ok-len.len ≡ length
-    (content_after calls))) synced c.in_ok-len.ensures.value in
+    let long = subst (λ (o : Option Told).
+    IfSome o (λ t. c.in_ok-len.len ≡ length
+    (content_of t))) synced c.in_ok-len.ensures.value in
     subst (λ (es : List Entry). IfSome (told c.args.disk.now)
-    (λ calls. StandsFor (content_after calls) es c.new-then-len-le-EMPTY.result.items))
+    (λ t. StandsFor (content_of t) es c.new-then-len-le-EMPTY.result.items))
     (sym c.new.ensures.items)
     (subst (λ (vs : List Vote). IfSome (told c.args.disk.now)
-    (λ calls. StandsFor (content_after calls) [] vs)) (sym c.new-then-len-le-EMPTY.ensures.items)
+    (λ t. StandsFor (content_of t) [] vs)) (sym c.new-then-len-le-EMPTY.ensures.items)
     (made_records (told c.args.disk.now) c.in_ok-len.len long c.if-len-le-EMPTY.true))
 
 pub returns-then-len-le-EMPTY-clause-settled : goal.returns-then-len-le-EMPTY-clause-settled
@@ -56,10 +64,10 @@ pub returns-then-len-le-EMPTY-clause-any_moment : goal.returns-then-len-le-EMPTY
 returns-then-len-le-EMPTY-clause-any_moment g c =
     let told = g.D.Disk.told in
     let synced : told c.sync.new.self ≡ added Sync (told c.args.disk.now) = search rules in
-    let long = subst (λ (o : Option (List Call)).
-    IfSome o (λ calls. c.in_ok-len.len ≡ length
-    (content_after calls))) synced c.in_ok-len.ensures.value in
-    made_keeps (told c.args.disk.now) (told c.make.new.disk) c.in_ok-len.len long c.if-len-le-EMPTY.true
+    let long = subst (λ (o : Option Told).
+    IfSome o (λ t. c.in_ok-len.len ≡ length
+    (content_of t))) synced c.in_ok-len.ensures.value in
+    made_keeps (told c.args.disk.now) (told c.make.new.disk) c.in_ok-len.len long c.if-len-le-EMPTY.true (search rules)
     (c.in_ok-make.ensures.ok ∙ ap made (c.len.ensures.told ∙ synced))
 
 pub returns-in_err-bytes-clause-any_moment : goal.returns-in_err-bytes-clause-any_moment
@@ -67,14 +75,14 @@ returns-in_err-bytes-clause-any_moment g c =
     let told = g.D.Disk.told in
     let synced : told c.sync.new.self ≡ added Sync (told c.args.disk.now) = search rules in
     synced_keeps (told c.args.disk.now) (told c.read_all.new.disk) (c.read_all.ensures.told
-    ∙ (c.len.ensures.told ∙ synced))
+    ∙ (c.len.ensures.told ∙ synced)) (search rules)
 
 pub returns-clause-any_moment : goal.returns-clause-any_moment
 returns-clause-any_moment g c =
     let told = g.D.Disk.told in
     let synced : told c.sync.new.self ≡ added Sync (told c.args.disk.now) = search rules in
     synced_keeps (told c.args.disk.now) (told c.read_all.new.disk) (c.read_all.ensures.told
-    ∙ (c.len.ensures.told ∙ synced))
+    ∙ (c.len.ensures.told ∙ synced)) (search rules)
 
 pub returns-clause-records : goal.returns-clause-records
 returns-clause-records g c =
@@ -91,8 +99,8 @@ pub returns-clause-settled : goal.returns-clause-settled
 returns-clause-settled g c =
     let told = g.D.Disk.told in
     let synced : told c.sync.new.self ≡ added Sync (told c.args.disk.now) = search rules in
-    let reads = subst (λ (o : Option (List Call)).
-    IfSome o (λ calls. c.in_ok-bytes.bytes.items ≡ content_after calls))
+    let reads = subst (λ (o : Option Told).
+    IfSome o (λ t. c.in_ok-bytes.bytes.items ≡ content_of t))
     (sym c.read_all.ensures.told) c.in_ok-bytes.ensures.bytes in
     IfOk-weaker c.parse.result _ _ (λ found h. found_settled (told c.args.disk.now)
     (told c.read_all.new.disk) c.in_ok-bytes.bytes.items found.entries.items found.votes.items found.len
@@ -105,9 +113,31 @@ pub returns-clause-damaged : goal.returns-clause-damaged
 returns-clause-damaged g c at e =
     let told = g.D.Disk.told in
     let synced : told c.sync.new.self ≡ added Sync (told c.args.disk.now) = search rules in
-    let long = subst (λ (o : Option (List Call)).
-    IfSome o (λ calls. c.in_ok-len.len ≡ length (content_after calls)))
+    let long = subst (λ (o : Option Told).
+    IfSome o (λ t. c.in_ok-len.len ≡ length (content_of t)))
     (sym c.len.ensures.told) c.in_ok-len.ensures.value in
     found_damaged (told c.args.disk.now) (told c.len.new.self) c.in_ok-bytes.bytes.items c.in_ok-len.len at
     (c.len.ensures.told ∙ synced) long c.if-len-le-EMPTY.false c.in_ok-bytes.ensures.bytes
     (subst (λ (l : List ℕ). IsNoLog l at) c.as_slice.ensures.value (c.parse.ensures.damaged at e))
+
+pub returns-then-len-le-EMPTY-clause-calls : goal.returns-then-len-le-EMPTY-clause-calls
+returns-then-len-le-EMPTY-clause-calls g c =
+    let told = g.D.Disk.told in
+    let synced : told c.sync.new.self ≡ added Sync (told c.args.disk.now) = search rules in
+    let long = subst (λ (o : Option Told).
+    IfSome o (λ t. c.in_ok-len.len ≡ length
+    (content_of t))) synced c.in_ok-len.ensures.value in
+    mounted_new (told c.args.disk.now) (told c.make.new.disk) c.in_ok-len.len long c.if-len-le-EMPTY.true
+    (c.in_ok-make.ensures.ok ∙ ap made (c.len.ensures.told ∙ synced))
+
+pub returns-clause-calls : goal.returns-clause-calls
+returns-clause-calls g c =
+    let told = g.D.Disk.told in
+    let synced : told c.sync.new.self ≡ added Sync (told c.args.disk.now) = search rules in
+    let long = subst (λ (o : Option Told).
+    IfSome o (λ t. c.in_ok-len.len ≡ length
+    (content_of t))) synced c.in_ok-len.ensures.value in
+    IfOk-weaker c.parse.result _ _ (λ found h. mounted_there (told c.args.disk.now)
+    (told c.read_all.new.disk) c.in_ok-len.len long c.if-len-le-EMPTY.false
+    (c.read_all.ensures.told ∙ (c.len.ensures.told ∙ synced)))
+    c.parse.ensures.found

@@ -1,8 +1,9 @@
 use Rattle.std.proofs.Common.{◌≡◌, ℕ, ◌≤◌, List, [], ◌∷◌, ◌++◌, length, false, ap, subst, ◌∙◌, arith, rules}
 use Rattle.dr_entry.specs.Spelling.{spelling}
-use Rattle.dr_disk.specs.Images.{Goes}
+use Rattle.dr_disk.specs.Images.{Goes, Lasts}
+use Rattle.dr_disk.proofs.Moments.{lasts_still}
 use Rattle.dr_log.specs.Appending.{opened, StopsOpening}
-use Rattle.dr_log.specs.Standing.{IsBeforeOrAfter, with_entry, with_vote}
+use Rattle.dr_log.specs.Standing.{IsBeforeOrAfter, LosesNone, with_entry, with_vote, log_length}
 use Rattle.dr_log.specs.State.{LogState, as_entry, as_vote}
 use Rattle.dr_log.proofs.Growing.{longer, length-with_entry, length-with_vote, one_kind}
 use Rattle.dr_log.proofs.Told.{reaches_end, still_goes, opened_goes, stops_goes, opened_settled_as, images_told}
@@ -25,7 +26,7 @@ returns-then-size-saturating_sub-clause-any_moment g c =
     let whole : old.failed ≡ false = ap (λ (s : LogState g.row.D.Denot). s.failed) c.self.view_is
     ∙ c.requires.whole in
     subst (λ (s : LogState g.row.D.Denot). Goes (told s.disk) (told s.disk)
-    (λ calls. IsBeforeOrAfter s.entries s.votes c.args.r.now)) c.self.view_is
+    (λ _. IsBeforeOrAfter s.entries s.votes c.args.r.now)) c.self.view_is
     (still_goes old.entries.items old.votes.items (told old.disk) c.args.r.now
     (c.self.invariant.settled whole))
 
@@ -41,12 +42,12 @@ returns-then-is_err-clause-any_moment g c =
     let stops : StopsOpening old.len c.as_slice.result.now (told old.disk)
     (told c.put_behind.new.disk) = search rules in
     subst (λ (s : LogState g.row.D.Denot). Goes (told s.disk) (told c.put_behind.new.disk)
-    (λ calls. IsBeforeOrAfter s.entries s.votes c.args.r.now)) c.self.view_is
-    (stops_goes old.entries.items old.votes.items (told old.disk)
+    (λ _. IsBeforeOrAfter s.entries s.votes c.args.r.now)) c.self.view_is
+    ((stops_goes old.entries.items old.votes.items (told old.disk)
     (told c.put_behind.new.disk) old.len c.args.r.now
     (c.self.invariant.settled whole) c.self.invariant.long c.requires.valid c.encode.ensures.fits
     (subst (λ (l : List ℕ). StopsOpening old.len l (told old.disk)
-    (told c.put_behind.new.disk)) bytes stops))
+    (told c.put_behind.new.disk)) bytes stops)).goes)
 
 pub returns-clause-any_moment : goal.returns-clause-any_moment
 returns-clause-any_moment g c =
@@ -60,11 +61,11 @@ returns-clause-any_moment g c =
     let did : told c.put_behind.new.disk ≡ opened old.len c.as_slice.result.now (told old.disk) =
     search rules in
     subst (λ (s : LogState g.row.D.Denot). Goes (told s.disk) (told c.put_behind.new.disk)
-    (λ calls. IsBeforeOrAfter s.entries s.votes c.args.r.now)) c.self.view_is
-    (opened_goes old.entries.items old.votes.items (told old.disk)
+    (λ _. IsBeforeOrAfter s.entries s.votes c.args.r.now)) c.self.view_is
+    ((opened_goes old.entries.items old.votes.items (told old.disk)
     (told c.put_behind.new.disk) old.len c.args.r.now
     (c.self.invariant.settled whole) c.self.invariant.long c.requires.valid c.encode.ensures.fits
-    (did ∙ ap (λ (l : List ℕ). opened old.len l (told old.disk)) bytes))
+    (did ∙ ap (λ (l : List ℕ). opened old.len l (told old.disk)) bytes)).goes)
 
 pub returns-clause-durable : goal.returns-clause-durable
 returns-clause-durable g c =
@@ -163,3 +164,59 @@ invariant_of-self-2 g c =
         c.sort_in.ensures.vote_places,
       );
     }
+
+pub returns-clause-calls : goal.returns-clause-calls
+returns-clause-calls g c =
+    let told = g.D.Disk.told in
+    let old = c.self.inside in
+    let x = spelling c.args.r.now ++ (0 ∷ []) in
+    let bytes : c.as_slice.result.now ≡ x =
+    c.as_slice.ensures.value ∙ c.push.ensures.items
+    ∙ ap (λ (l : List ℕ). l ++ (0 ∷ [])) c.encode.ensures.spelled in
+    let did : told c.put_behind.new.disk ≡ opened old.len c.as_slice.result.now (told old.disk) =
+    search rules in
+    subst (λ (s : LogState g.row.D.Denot). told c.put_behind.new.disk
+    ≡ opened (log_length s.entries s.votes) x (told s.disk)) c.self.view_is
+    (did ∙ ap (λ (l : List ℕ). opened old.len l (told old.disk)) bytes
+    ∙ ap (λ (n : ℕ). opened n x (told old.disk)) c.self.invariant.long)
+
+pub returns-then-size-saturating_sub-clause-lasting : goal.returns-then-size-saturating_sub-clause-lasting
+returns-then-size-saturating_sub-clause-lasting g c =
+    λ first kept. lasts_still (g.D.Disk.told c.args.self.now.disk) (LosesNone first kept)
+
+pub returns-then-is_err-clause-lasting : goal.returns-then-is_err-clause-lasting
+returns-then-is_err-clause-lasting g c = λ first kept.
+    let told = g.D.Disk.told in
+    let old = c.self.inside in
+    let whole : old.failed ≡ false = ap (λ (s : LogState g.row.D.Denot). s.failed) c.self.view_is
+    ∙ c.requires.whole in
+    let bytes : c.as_slice.result.now ≡ spelling c.args.r.now ++ (0 ∷ []) =
+    c.as_slice.ensures.value ∙ c.push.ensures.items
+    ∙ ap (λ (l : List ℕ). l ++ (0 ∷ [])) c.encode.ensures.spelled in
+    let stops : StopsOpening old.len c.as_slice.result.now (told old.disk)
+    (told c.put_behind.new.disk) = search rules in
+    subst (λ (s : LogState g.row.D.Denot). Lasts (told s.disk) (told c.put_behind.new.disk)
+    (LosesNone first kept)) c.self.view_is
+    ((stops_goes old.entries.items old.votes.items (told old.disk)
+    (told c.put_behind.new.disk) old.len c.args.r.now
+    (c.self.invariant.settled whole) c.self.invariant.long c.requires.valid c.encode.ensures.fits
+    (subst (λ (l : List ℕ). StopsOpening old.len l (told old.disk)
+    (told c.put_behind.new.disk)) bytes stops)).lasts first kept)
+
+pub returns-clause-lasting : goal.returns-clause-lasting
+returns-clause-lasting g c = λ first kept.
+    let told = g.D.Disk.told in
+    let old = c.self.inside in
+    let whole : old.failed ≡ false = ap (λ (s : LogState g.row.D.Denot). s.failed) c.self.view_is
+    ∙ c.requires.whole in
+    let bytes : c.as_slice.result.now ≡ spelling c.args.r.now ++ (0 ∷ []) =
+    c.as_slice.ensures.value ∙ c.push.ensures.items
+    ∙ ap (λ (l : List ℕ). l ++ (0 ∷ [])) c.encode.ensures.spelled in
+    let did : told c.put_behind.new.disk ≡ opened old.len c.as_slice.result.now (told old.disk) =
+    search rules in
+    subst (λ (s : LogState g.row.D.Denot). Lasts (told s.disk) (told c.put_behind.new.disk)
+    (LosesNone first kept)) c.self.view_is
+    ((opened_goes old.entries.items old.votes.items (told old.disk)
+    (told c.put_behind.new.disk) old.len c.args.r.now
+    (c.self.invariant.settled whole) c.self.invariant.long c.requires.valid c.encode.ensures.fits
+    (did ∙ ap (λ (l : List ℕ). opened old.len l (told old.disk)) bytes)).lasts first kept)
