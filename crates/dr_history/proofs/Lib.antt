@@ -1,6 +1,8 @@
+pub mod Following
 pub mod FrontLemmas
 pub mod Fronts
 pub mod ListLemmas
+pub mod LoopLemmas
 pub mod MemberLemmas
 pub mod NumberedLemmas
 pub mod PlaceLemmas

@@ -4,3 +4,4 @@ pub mod History
 pub mod Order
 pub mod Soundness
 pub mod Agreement
+pub mod Restarting

@@ -7,6 +7,8 @@
 
 mod members;
 mod opening;
+mod view;
 
 pub use members::{has, members_of};
 pub use opening::Opening;
+pub use view::{GroupView, view_of};

@@ -2,4 +2,3 @@ mod Endings
 mod Lists
 mod Numbers
 mod Orders
-mod Views

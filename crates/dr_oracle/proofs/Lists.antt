@@ -1,10 +1,10 @@
--- What a loop over a list has found so far, and what a test decides.
-use Rattle.std.proofs.Common.{◌≡◌, ◌⊎◌, inl, inr, ℕ, ◌+◌, Bool, true, false, cond, ◌==◌, Contains, Decides, List, [], ◌∷◌, ◌++◌, filter, length, take, slice_index_or, ◌<◌, arith, sym, ap, ◌∙◌, refl, Option, None, Some, filter_map, option_to_list}
-use Rattle.std.specs.List.{range_with_len, IsAnyAnswer}
-use Rattle.std.proofs.lemmas.Bool.Decides.{Decides-eqb}
-use Rattle.std.proofs.lemmas.List.Elements.{filter_map-append, contains_decides, Decides-contains}
-use Rattle.std.proofs.lemmas.List.{map-id, take_more}
+-- What a loop over a list has found so far, and what two tests decide.
+use Rattle.std.proofs.Common.{◌≡◌, ◌⊎◌, inl, inr, ℕ, ◌+◌, Bool, true, false, cond, Decides, List, [], ◌∷◌, ◌++◌, filter, length, take, slice_index_or, ◌<◌, arith, sym, ap, ◌∙◌, refl, Option, None, Some, filter_map, option_to_list}
+use Rattle.std.specs.List.{range_with_len}
+use Rattle.std.proofs.lemmas.List.Elements.{filter_map-append}
+use Rattle.std.proofs.lemmas.List.{map-id}
 use Rattle.std.proofs.lemmas.List.FromFn.{filter_of_map_range_with_len_more}
+use Rattle.dr_history.proofs.LoopLemmas.{take_read}
 
 -- the numbers below one more that pass a test
 pub filter_range_more : (p : ℕ → Bool) (len : ℕ)
@@ -13,20 +13,6 @@ pub filter_range_more : (p : ℕ → Bool) (len : ℕ)
 filter_range_more p len =
     rw (map-id (range_with_len 0 (len + 1)), map-id (range_with_len 0 len)) at
     (filter_of_map_range_with_len_more p (λ (n : ℕ). n) 0 len len (omega arith))
-
--- the front of a list and the element that was read behind it
-pub take_read : {X : Type 0} (xs : List X) (i : ℕ) (x : X) → i < length xs
-    → x ≡ slice_index_or xs i x → take (i + 1) xs ≡ take i xs ++ x ∷ []
-take_read xs i x within read = take_more xs i x within ∙ ap (λ y. take i xs ++ y ∷ []) (sym read)
-
--- what `contains` answers of numbers
-pub contains_is : (xs : List ℕ) (x : ℕ) (r : Bool) → IsAnyAnswer (λ y b. (y == x) ≡ b) xs r
-    → Decides r (Contains xs x)
-contains_is xs x r h = Decides-contains xs x r (contains_decides ◌==◌ Decides-eqb xs x r h)
-
--- where an answer decides a fact, the fact decides it
-pub refuted : {P : Type 0} (r : Bool) → Decides r P → r ≡ false → P → ⊥
-refuted r is not p = let given : r ≡ true = is.1 p in absurd (cc)
 
 -- what the elements so far give, and the next one
 pub filter_map_more : {X Y : Type 0} (f : X → Option Y) (xs : List X) (i : ℕ) (x : X) (ys : List Y)

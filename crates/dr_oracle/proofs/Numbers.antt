@@ -10,7 +10,7 @@ use Rattle.dr_history.specs.declared.opening.Opening.{Opening}
 use Rattle.dr_history.specs.History.{IsPrefixOf, messages_of}
 use Rattle.dr_history.specs.Order.{messages_from, numbered_messages}
 use Rattle.dr_history.proofs.NumberedLemmas.{messages_from-append, messages_from-Msg, length-numbered_messages, get_or-numbered_messages, numbered_messages-more}
-use Rattle.dr_oracle.proofs.Lists.{take_read}
+use Rattle.dr_history.proofs.LoopLemmas.{take_read}
 
 -- a sender has no messages in a history, or one at some place
 pub has_message_or_not : (s : ℕ) (h : List Entry)

@@ -7,9 +7,9 @@ ghost use Rattle.dr_history.specs.Agreement.{SamePast, KnowsDurable, EndsAgreed,
 ghost use Rattle.dr_oracle.specs.Agreeing.{AreConsistent, AgreesWithAll};
 
 use crate::prefix::same_entries;
-use crate::{in_order, is_prefix, view_of};
+use crate::{in_order, is_prefix};
 use dr_entry::{Entry, MAX_MEMBERS, MemberEnd};
-use dr_history::{Opening, has};
+use dr_history::{Opening, has, view_of};
 
 /// Whether entry `i` of one history and entry `j` of another, where they are Views of the same age
 /// and number, have the same members and the same entries before them.

@@ -3,9 +3,8 @@ ghost use Rattle.dr_history.specs.History.{sent_of, entry_of, item_at, place_in,
 
 use crate::places::held_places;
 use crate::sent::{entry_of, items_of};
-use crate::{GroupView, view_of};
 use dr_entry::{Entry, MAX_MEMBERS, MemberEnd, SentItem};
-use dr_history::Opening;
+use dr_history::{GroupView, Opening, view_of};
 use std::alloc::{AllocError, Global};
 
 /// The member and the item at a place of a view, where an item was sent there.

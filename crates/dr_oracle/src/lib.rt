@@ -10,11 +10,9 @@ mod order;
 mod places;
 mod prefix;
 mod sent;
-mod view;
 
 pub use agreement::agreed;
 pub use delivery::{item_at, merge, place_at};
 pub use order::in_order;
 pub use places::{held_places, is_front};
 pub use prefix::is_prefix;
-pub use view::{GroupView, view_of};

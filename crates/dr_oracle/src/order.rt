@@ -4,9 +4,9 @@ ghost use Rattle.dr_history.specs.History.{IsPrefixOf, GroupView, view_of, sent_
 ghost use Rattle.dr_history.specs.Order.{InOrder, IsDelivered, MayFollow, first_entries, messages_from, numbered_messages};
 
 use crate::sent::messages_of;
-use crate::{GroupView, is_prefix, item_at, place_at, view_of};
+use crate::{is_prefix, item_at, place_at};
 use dr_entry::{Entry, MemberEnd, Message, SentItem};
-use dr_history::Opening;
+use dr_history::{GroupView, Opening, view_of};
 
 /// Whether a history begins with the start, followed by View 0 of all members.
 fn begins(opening: &Opening, history: &[Entry]) -> bool

@@ -1,7 +1,7 @@
 //! The round robin, and histories that are in order and agree.
 use dr_entry::{End, Entry, MemberEnd, Message, SentItem, Seq, ViewSent};
-use dr_history::Opening;
-use dr_oracle::{GroupView, agreed, in_order, merge};
+use dr_history::{GroupView, Opening};
+use dr_oracle::{agreed, in_order, merge};
 use dr_order::{front, merge_next, null_due};
 use std::alloc::{AllocError, Global};
 use std::test::Fail;

@@ -4,7 +4,7 @@ use Rattle.dr_entry.specs.declared.entry.Entry.{Entry}
 use Rattle.dr_entry.specs.declared.entry.Entry.TheVariants.{Msg}
 use Rattle.dr_history.specs.History.{IsPrefixOf}
 use Rattle.dr_history.specs.Order.{messages_from, numbered_messages}
-use Rattle.dr_oracle.proofs.Lists.{refuted}
+use Rattle.dr_history.proofs.LoopLemmas.{refuted}
 use Rattle.dr_oracle.proofs.Numbers.{has_message_or_not}
 use Rattle.dr_oracle.proofs.order.all_are_numbered.Goals as goal
 

@@ -1,7 +1,8 @@
 use Rattle.std.proofs.Common.{◌≡◌, ℕ, List, length, inl, inr, ap}
 use Rattle.dr_entry.specs.declared.entry.Entry.{Entry}
 use Rattle.dr_history.specs.History.{sent_of}
-use Rattle.dr_oracle.proofs.Lists.{both_decide, same_decides, refuted}
+use Rattle.dr_oracle.proofs.Lists.{both_decide, same_decides}
+use Rattle.dr_history.proofs.LoopLemmas.{refuted}
 use Rattle.dr_oracle.proofs.Orders.{ViewsFollow, AllPlaced, PlacesRise, AllNumbered, InOrder-from_parts, parts_from_InOrder, whole_from_InOrder}
 use Rattle.dr_oracle.proofs.order.in_order.Goals as goal
 use Rattle.dr_oracle.proofs.order.in_order.Goals.{then-begins, else-begins, then-views_follow, else-views_follow, then-messages_are_placed, else-messages_are_placed, then-places_rise, else-places_rise}

@@ -1,6 +1,6 @@
 use Rattle.std.proofs.Common.{refl, arith}
 use Rattle.dr_history.specs.History.{sent_of}
-use Rattle.dr_oracle.proofs.Lists.{refuted}
+use Rattle.dr_history.proofs.LoopLemmas.{refuted}
 use Rattle.dr_oracle.proofs.Orders.{place_at-within}
 use Rattle.dr_oracle.proofs.order.places_rise.Goals as goal
 

@@ -1,8 +1,8 @@
 use Rattle.std.proofs.Common.{ℕ, List, All, Contains, get_or, refl, subst}
 use Rattle.std.proofs.lemmas.List.{take_all}
 use Rattle.std.proofs.lemmas.List.Elements.{All-more, All-get_or}
-use Rattle.dr_oracle.proofs.Lists.{contains_is, refuted}
-use Rattle.dr_oracle.proofs.view.are_members.Goals as goal
+use Rattle.dr_history.proofs.LoopLemmas.{contains_is, refuted}
+use Rattle.dr_history.proofs.view.are_members.Goals as goal
 
 pub returns-then-not-contains : goal.returns-then-not-contains
 returns-then-not-contains c =

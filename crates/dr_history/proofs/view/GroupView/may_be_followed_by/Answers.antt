@@ -1,7 +1,7 @@
 use Rattle.std.proofs.Common.{arith, ℕ, ◌+◌, ap, sym, ◌∙◌}
 use Rattle.dr_history.specs.History.{GroupView}
-use Rattle.dr_oracle.proofs.Views.{MayFollow-decides}
-use Rattle.dr_oracle.proofs.view.GroupView.may_be_followed_by.Goals as goal
+use Rattle.dr_history.proofs.Following.{MayFollow-decides}
+use Rattle.dr_history.proofs.view.GroupView.may_be_followed_by.Goals as goal
 
 pub returns : goal.returns
 returns c =

@@ -1,9 +1,9 @@
 use Rattle.std.proofs.Common.{sym}
-use Rattle.dr_oracle.proofs.Lists.{take_read}
+use Rattle.dr_history.proofs.LoopLemmas.{take_read}
 use Rattle.dr_history.proofs.ViewLemmas.{view_of-View, view_of-Msg}
-use Rattle.dr_oracle.proofs.Views.{view_of-nil}
-use Rattle.dr_oracle.proofs.view.view_of.Goals as goal
-use Rattle.dr_oracle.proofs.view.view_of.Goals.{in-View, in_default}
+use Rattle.dr_history.proofs.Following.{view_of-nil}
+use Rattle.dr_history.proofs.view.view_of.Goals as goal
+use Rattle.dr_history.proofs.view.view_of.Goals.{in-View, in_default}
 
 pub loop-entry-init : goal.loop-entry-init
 loop-entry-init c = sym view_of-nil

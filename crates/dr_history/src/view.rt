@@ -1,9 +1,9 @@
 ghost use Rattle.std.specs.Prelude.{◌≡◌, ◌≢◌, [], ◌<◌, ◌≤◌, ◌↔◌, length, All, Contains, IsTrue};
 ghost use Rattle.dr_history.specs.History.{view_of};
 
+use crate::members::members_of;
 use arrayvec::ArrayVec;
 use dr_entry::{Entry, MAX_MEMBERS};
-use dr_history::members_of;
 use std::marker::Model;
 
 /// A view of the group: its age, its number within the age, and its members, ascending.
@@ -35,6 +35,13 @@ impl GroupView {
             number,
             members: members_of(members),
         }
+    }
+
+    /// The age of the view.
+    pub fn age(&self) -> u16
+        ensures { result ≡ self.now.age }
+    {
+        self.age
     }
 
     /// The number of the view within its age.
