@@ -1,21 +1,22 @@
--- A sound start is short: each of its ages has at most 16 views, and each member no more messages than by
--- the script.
-use Rattle.std.proofs.Common.{◌≡◌, ◌≢◌, refl, ap, sym, ◌∙◌, ◌⊎◌, inl, inr, subst, ℕ, zero, suc, ◌+◌, ◌*◌, ◌-◌, ◌^◌, ◌==◌, ◌<◌, ◌≤◌, arith, false, ne_eqb, List, [], ◌∷◌, ◌++◌, length, take, Contains, Option, None, Some, slice_get, IsSomeAnd, length-append}
+-- Entries that may stand are few, and so is a sound start: each age has at most 16 views, and each member no
+-- more messages than by the script.
+use Rattle.std.proofs.Common.{◌≡◌, ◌≢◌, refl, ap, sym, ◌∙◌, ◌⊎◌, inl, inr, subst, ℕ, zero, suc, ◌+◌, ◌*◌, ◌-◌, ◌^◌, ◌==◌, ◌<◌, ◌≤◌, arith, false, ne_eqb, List, [], ◌∷◌, ◌++◌, length, take, Contains, Option, None, Some, IsSomeAnd, length-append}
 use Rattle.std.proofs.lemmas.List.{take_all}
 use Rattle.std.proofs.lemmas.List.FromFn.{length-range_with_len}
-use Rattle.std.proofs.lemmas.Option.{same_Some, slice_get-get_or, slice_get_within}
+use Rattle.std.proofs.lemmas.Option.{same_Some}
 use Rattle.dr_entry.specs.declared.entry.Entry.{Entry}
 use Rattle.dr_entry.specs.declared.entry.Entry.TheVariants.{View, Msg}
 use Rattle.dr_history.specs.declared.opening.Opening.{Opening}
 use Rattle.dr_history.specs.Members.{members_of}
 use Rattle.dr_history.specs.History.{GroupView, view_after, view_of, messages_of}
 use Rattle.dr_history.specs.Order.{MayFollow, messages_from}
-use Rattle.dr_history.specs.Soundness.{IsLaterAge, Opens, Sound, MayStand}
+use Rattle.dr_history.specs.Restarting.{AllStand, next_age}
+use Rattle.dr_history.specs.Soundness.{IsLaterAge, Sound, MayStand}
 use Rattle.dr_history.proofs.NumberedLemmas.{messages_from-View, messages_from-Msg, messages_from-other, length-numbered_messages}
 use Rattle.dr_history.proofs.ViewLemmas.{view_of-View, view_of-Msg}
 use Rattle.dr_history_laws.proofs.Lists.{slice_get-some, take-next}
 use Rattle.dr_history_laws.proofs.Members.{members_of-few, members_of-lt, members_of-ones}
-use Rattle.dr_history_laws.proofs.Openings.{numbered_start}
+use Rattle.dr_history_laws.proofs.Openings.{numbered_stood}
 
 -- ---- messages
 
@@ -142,7 +143,7 @@ some_member m (Some u) a k follows = not_none (members_of m) follows.some
     not_none [] some = absurd (some refl)
     not_none (x ∷ xs) some = omega arith
 
--- ---- the start
+-- ---- entries that may stand
 
 -- each entry that may stand behind short entries leaves them short
 IsShort-next : (o : Opening) (h : List Entry) (e : Entry) → 1 ≤ length o.messages → length o.messages
@@ -166,45 +167,65 @@ no_view : (v : GroupView) → view_of [] ≡ Some v → ⊥
 unfolding view_after
 no_view v e = absurd cc
 
-IsShort-front : (o : Opening) (n : ℕ) → Sound o → 1 ≤ length o.messages → length o.messages ≤ 16
-    → n ≤ length o.start
-    → IsShort (take n o.start)
-IsShort-front o zero sound one most l = record { short = omega arith; views = λ v e. absurd (no_view v e) }
-IsShort-front o (suc n) sound one most l =
-    let x = slice_get-some o.start n (omega arith) in
+IsShort-front : (o : Opening) (es : List Entry) (n : ℕ) → AllStand o es → 1 ≤ length o.messages
+    → length o.messages ≤ 16 → n ≤ length es → IsShort (take n es)
+IsShort-front o es zero stand one most l = record { short = omega arith; views = λ v e. absurd (no_view v e) }
+IsShort-front o es (suc n) stand one most l =
+    let x = slice_get-some es n (omega arith) in
     let next : n + 1 ≡ suc n = omega arith in
-    subst IsShort (sym (take-next o.start n x.0 x.1) ∙ ap (λ k. take k o.start) next)
-    (IsShort-next o (take n o.start) x.0 one most (IsShort-front o n sound one most (omega arith))
-    (sound.entries n x.0 x.1))
+    subst IsShort (sym (take-next es n x.0 x.1) ∙ ap (λ k. take k es) next)
+    (IsShort-next o (take n es) x.0 one most (IsShort-front o es n stand one most (omega arith))
+    (stand n x.0 x.1))
 
--- at most 16 views of each of 65,536 ages, and at most 4096 messages of each of 16 members
-pub start-short : (o : Opening) → Sound o → o.age < 2 ^ 16 → 1 ≤ length o.messages
-    → length o.messages ≤ 16
-    → ((s : ℕ) → length (messages_of o s) ≤ 4096) → length o.start < 2 ^ 31
+-- at most 16 views of each age up to that of the last one, and at most 4096 messages of each of 16 members
+pub stood-short : (o : Opening) (es : List Entry) → AllStand o es → 1 ≤ length o.messages
+    → length o.messages ≤ 16 → ((s : ℕ) → length (messages_of o s) ≤ 4096)
+    → length es ≤ 16 * next_age (view_of es) + 16 * 4096
 unfolding worth
-start-short o sound age one most few = by (view_of o.start) refl
+stood-short o es stand one most few = by (view_of es) refl
   where
-    all : take (length o.start) o.start ≡ o.start
-    all = take_all (length o.start) o.start (omega arith)
+    all : take (length es) es ≡ es
+    all = take_all (length es) es (omega arith)
 
-    start : IsShort o.start
-    start = subst IsShort all (IsShort-front o (length o.start) sound one most (omega arith))
+    whole : IsShort es
+    whole = subst IsShort all (IsShort-front o es (length es) stand one most (omega arith))
 
-    each : (s : ℕ) → length (messages_from s o.start) ≤ 4096
+    each : (s : ℕ) → length (messages_from s es) ≤ 4096
     each s =
-        let numbered = numbered_start o s (length o.start) sound (omega arith) in
+        let numbered = numbered_stood o es s (length es) stand (omega arith) in
         omega (
           arith,
-          ap (λ es. length (messages_from s es)) all,
+          ap (λ fs. length (messages_from s fs)) all,
           ap length numbered.1,
-          length-append (messages_from s (take (length o.start) o.start)) numbered.0,
+          length-append (messages_from s (take (length es) es)) numbered.0,
           length-numbered_messages o s,
           few s,
         )
 
-    messages : messages_below 16 o.start ≤ 16 * 4096
-    messages = messages_below-few 16 o.start each
+    messages : messages_below 16 es ≤ 16 * 4096
+    messages = messages_below-few 16 es each
 
-    by : (z : Option GroupView) → view_of o.start ≡ z → length o.start < 2 ^ 31
-    by None e = omega (arith, start.short, ap worth e, messages)
-    by (Some v) e = omega (arith, start.short, ap worth e, messages, sound.later v e, age)
+    by : (z : Option GroupView) → view_of es ≡ z → length es ≤ 16 * next_age (view_of es) + 16 * 4096
+    by None e = omega (arith, whole.short, ap worth e, messages)
+    by (Some v) e = omega (arith, whole.short, ap worth e, messages, (whole.views v e).some, ap next_age e)
+
+-- of 65,536 ages a sound start has at most so many entries
+pub start-few : (o : Opening) → Sound o → o.age < 2 ^ 16 → 1 ≤ length o.messages
+    → length o.messages ≤ 16
+    → ((s : ℕ) → length (messages_of o s) ≤ 4096) → length o.start ≤ 2097152
+start-few o sound age one most few = by (view_of o.start) refl
+  where
+    by : (z : Option GroupView) → view_of o.start ≡ z → length o.start ≤ 2097152
+    by None e = omega (arith, stood-short o o.start sound.entries one most few, ap next_age e)
+    by (Some v) e = omega (
+      arith,
+      stood-short o o.start sound.entries one most few,
+      ap next_age e,
+      sound.later v e,
+      age,
+    )
+
+pub start-short : (o : Opening) → Sound o → o.age < 2 ^ 16 → 1 ≤ length o.messages
+    → length o.messages ≤ 16
+    → ((s : ℕ) → length (messages_of o s) ≤ 4096) → length o.start < 2 ^ 31
+start-short o sound age one most few = omega (arith, start-few o sound age one most few)

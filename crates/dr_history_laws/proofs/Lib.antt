@@ -10,8 +10,11 @@ pub mod Members
 pub mod Merging
 pub mod Openings
 pub mod Ordered
+pub mod Keeping
+pub mod Parts
 pub mod Places
 pub mod Pushing
 pub mod SendingLemmas
+pub mod Standing
 pub mod Steady
 pub mod Views

@@ -39,7 +39,7 @@ abbrev pub CountsAll : Sent → GroupView → (ℕ → ℕ) → Type 0
 CountsAll sent v counts = (s : ℕ) → Contains v.members s → length (sent s v.number) ≤ counts s
 
 -- the count of a rank
-count-rank : (counts : ℕ → ℕ) (ms : List ℕ) (rank s : ℕ) → slice_get ms rank ≡ Some s
+pub count-rank : (counts : ℕ → ℕ) (ms : List ℕ) (rank s : ℕ) → slice_get ms rank ≡ Some s
     → slice_index (map counts ms) rank ≡ counts s
 count-rank counts ms rank s e =
     get_or-map counts ms rank 0 0 (slice_get_within ms rank s e)

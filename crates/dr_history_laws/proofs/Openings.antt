@@ -1,5 +1,5 @@
 -- What every history of an age begins with is a history in order.
-use Rattle.std.proofs.Common.{◌≡◌, refl, ap, sym, ◌∙◌, subst, ℕ, zero, suc, ◌+◌, ◌<◌, ◌≤◌, arith, [], ◌∷◌, ◌++◌, length, take, Some, slice_get, append-nil, length-append}
+use Rattle.std.proofs.Common.{◌≡◌, refl, ap, sym, ◌∙◌, subst, ℕ, zero, suc, ◌+◌, ◌<◌, ◌≤◌, arith, List, [], ◌∷◌, ◌++◌, length, take, Some, slice_get, append-nil, length-append}
 use Rattle.std.specs.List.{range_with_len}
 use Rattle.std.proofs.lemmas.List.{take_all}
 use Rattle.std.proofs.lemmas.Option.{slice_get_within}
@@ -9,6 +9,7 @@ use Rattle.dr_history.specs.declared.opening.Opening.{Opening}
 use Rattle.dr_history.specs.Members.{members_of}
 use Rattle.dr_history.specs.History.{IsPrefixOf, Sent}
 use Rattle.dr_history.specs.Order.{InOrder, first_entries, messages_from, numbered_messages}
+use Rattle.dr_history.specs.Restarting.{AllStand}
 use Rattle.dr_history.specs.Soundness.{Sound, MayStand}
 use Rattle.dr_history.proofs.NumberedLemmas.{messages_from-View}
 use Rattle.dr_history_laws.specs.Laid.{EndsWithView, first_view}
@@ -17,30 +18,28 @@ use Rattle.dr_history_laws.proofs.Members.{members_of-ones}
 use Rattle.dr_history_laws.proofs.Pushing.{numbered-push}
 use Rattle.dr_history_laws.proofs.LooseOrder.{place_at-within}
 
--- the messages of a sender among the first entries of a sound start are its first ones
-pub numbered_start : (o : Opening) (s n : ℕ) → Sound o → n ≤ length o.start
-    → IsPrefixOf (messages_from s (take n o.start)) (numbered_messages o s)
-numbered_start o s zero sound l = (numbered_messages o s, refl)
-numbered_start o s (suc n) sound l =
-    by (slice_get-some o.start n (omega arith)) (numbered_start o s n sound (omega arith))
+-- the messages of a sender among the first of entries that may stand are its first ones
+pub numbered_stood : (o : Opening) (es : List Entry) (s n : ℕ) → AllStand o es → n ≤ length es
+    → IsPrefixOf (messages_from s (take n es)) (numbered_messages o s)
+numbered_stood o es s zero stand l = (numbered_messages o s, refl)
+numbered_stood o es s (suc n) stand l =
+    by (slice_get-some es n (omega arith)) (numbered_stood o es s n stand (omega arith))
   where
     next : n + 1 ≡ suc n
     next = omega arith
 
-    more : (e : Entry) → slice_get o.start n ≡ Some e → take n o.start ++ e ∷ []
-        ≡ take (suc n) o.start
-    more e at = sym (take-next o.start n e at) ∙ ap (λ k. take k o.start) next
+    more : (e : Entry) → slice_get es n ≡ Some e → take n es ++ e ∷ [] ≡ take (suc n) es
+    more e at = sym (take-next es n e at) ∙ ap (λ k. take k es) next
 
-    by : (e : Entry) × (slice_get o.start n ≡ Some e)
-        → IsPrefixOf (messages_from s (take n o.start)) (numbered_messages o s)
-        → IsPrefixOf (messages_from s (take (suc n) o.start)) (numbered_messages o s)
-    by (View a k m, at) pre = subst (λ es. IsPrefixOf es (numbered_messages o s))
-        (sym (messages_from-View s (take n o.start) a k m) ∙ ap (messages_from s) (more (View a k m) at))
-        pre
+    by : (e : Entry) × (slice_get es n ≡ Some e)
+        → IsPrefixOf (messages_from s (take n es)) (numbered_messages o s)
+        → IsPrefixOf (messages_from s (take (suc n) es)) (numbered_messages o s)
+    by (View a k m, at) pre = subst (λ ms. IsPrefixOf ms (numbered_messages o s))
+        (sym (messages_from-View s (take n es) a k m) ∙ ap (messages_from s) (more (View a k m) at)) pre
     by (Msg t i b, at) pre =
-        let stands : MayStand o (take n o.start) (Msg t i b) = sound.entries n (Msg t i b) at in
-        subst (λ es. IsPrefixOf (messages_from s es) (numbered_messages o s)) (more (Msg t i b) at)
-        (numbered-push o s t (take n o.start) i b pre stands.1 stands.2)
+        let stands : MayStand o (take n es) (Msg t i b) = stand n (Msg t i b) at in
+        subst (λ fs. IsPrefixOf (messages_from s fs) (numbered_messages o s)) (more (Msg t i b) at)
+        (numbered-push o s t (take n es) i b pre stands.1 stands.2)
 
 -- and so with View 0
 numbered_first : (o : Opening) (s : ℕ) → Sound o
@@ -49,7 +48,7 @@ numbered_first o s sound =
     subst (λ es. IsPrefixOf es (numbered_messages o s))
     (ap (messages_from s) (take_all (length o.start) o.start (omega arith))
     ∙ sym (messages_from-View s o.start o.age 0 o.members))
-    (numbered_start o s (length o.start) sound (omega arith))
+    (numbered_stood o o.start s (length o.start) sound.entries (omega arith))
 
 -- no entry stands behind View 0
 first_within : (o : Opening) (i : ℕ) → i < length (first_entries o) → length o.start < i → ⊥

@@ -1,6 +1,5 @@
 -- The Views of a history rise: each is later than the view before it.
-use Rattle.std.proofs.Common.{◌≡◌, refl, ap, sym, ◌∙◌, ◌⊎◌, inl, inr, subst, ℕ, zero, suc, ◌+◌, ◌-◌, ◌<◌, ◌≤◌, arith, le_refl, List, [], ◌∷◌, length, take, Some, slice_get, append_assoc}
-use Rattle.std.proofs.lemmas.List.{take_at}
+use Rattle.std.proofs.Common.{◌≡◌, refl, ap, sym, ◌∙◌, ◌⊎◌, inl, inr, ℕ, zero, suc, ◌+◌, ◌-◌, ◌<◌, ◌≤◌, arith, le_refl, List, length, take, Some, slice_get}
 use Rattle.std.proofs.lemmas.Option.{same_Some, slice_get_within}
 use Rattle.dr_entry.specs.declared.entry.Entry.{Entry}
 use Rattle.dr_entry.specs.declared.entry.Entry.TheVariants.{View, Msg}
@@ -9,10 +8,12 @@ use Rattle.dr_history.specs.Members.{members_of}
 use Rattle.dr_history.specs.History.{IsPrefixOf, GroupView, Sent, view_of}
 use Rattle.dr_history.specs.Order.{InOrder, MayFollow}
 use Rattle.dr_history.specs.Agreement.{SamePast}
+use Rattle.dr_history.specs.Restarting.{AllStand}
 use Rattle.dr_history.specs.Soundness.{Sound, MayStand}
 use Rattle.dr_history.proofs.ViewLemmas.{view_of-View, view_of-Msg}
-use Rattle.dr_history_laws.proofs.Lists.{slice_get-seam, slice_get-some, slice_get-prefix, take-next, take-prefix, IsSomeAnd-at}
-use Rattle.dr_history_laws.proofs.LooseOrder.{InLooseOrder, InLooseOrder-from}
+use Rattle.dr_history_laws.proofs.Lists.{slice_get-some, slice_get-prefix, take-next, take-prefix, IsSomeAnd-at}
+use Rattle.dr_history_laws.proofs.LooseOrder.{InLooseOrder}
+use Rattle.dr_history_laws.proofs.Standing.{history-stands}
 
 -- an age and a number are later than those of a view
 abbrev pub IsLater : GroupView → ℕ → ℕ → Type 0
@@ -37,7 +38,7 @@ come_on : (a n b m c l : ℕ) → (a < b) ⊎ ((a ≡ b) × (n ≤ m)) → (b < 
 come_on a n b m c l h k = grind arith
 
 -- a view stays or a later one comes
-view-after : (h : List Entry) (from i d : ℕ) (u : GroupView) → ViewsRise from h → from ≤ i
+pub view-after : (h : List Entry) (from i d : ℕ) (u : GroupView) → ViewsRise from h → from ≤ i
     → i + d ≤ length h
     → view_of (take i h) ≡ Some u
     → (w : GroupView) × (view_of (take (i + d) h) ≡ Some w) × HasCome u.age u.number w
@@ -98,19 +99,11 @@ View-once h i j age number m n rise at_i at_j = by (apart i j)
         (omega arith) l at_j at_i in grind arith
 
 -- a View that may follow a view is later
-MayFollow-later : (u : GroupView) (age number members : ℕ) → MayFollow u age number members
+pub MayFollow-later : (u : GroupView) (age number members : ℕ) → MayFollow u age number members
     → IsLater u age number
 MayFollow-later u age number members f = inr (sym f.same_age, omega (arith, f.next_number))
 
--- behind View 0 the Views rise
-ViewsRise-behind_start : (o : Opening) (sent : Sent) (h : List Entry) → InLooseOrder o sent h
-    → ViewsRise (suc (length o.start)) h
-ViewsRise-behind_start o sent h order i age number members l at u e =
-    MayFollow-later u age number members
-    (IsSomeAnd-at (view_of (take i h)) (λ v. MayFollow v age number members) u e
-    (order.views i age number members (omega arith) at))
-
--- so do the numbers of the views
+-- the numbers of the views behind View 0 rise
 number_after : (o : Opening) (sent : Sent) (h : List Entry) (i d : ℕ) (u : GroupView)
     → InLooseOrder o sent h → length o.start < i
     → i + d ≤ length h → view_of (take i h) ≡ Some u → (w : GroupView)
@@ -157,47 +150,19 @@ number-before o sent h i j a n m u order l less at e =
     (order.views j a n m (omega (arith, l, less)) at) in
     omega (arith, r.2, follows.next_number)
 
--- with a sound start all of them do
-ViewsRise-sound : (o : Opening) (sent : Sent) (h : List Entry) → Sound o → InLooseOrder o sent h
-    → ViewsRise 0 h
-ViewsRise-sound o sent h sound order i age number members l at u e = by (apart i (length o.start))
+-- they do where every entry may stand
+pub ViewsRise-standing : (o : Opening) (es : List Entry) → AllStand o es → ViewsRise 0 es
+ViewsRise-standing o es stand i age number members l at u e = by (stand i (View age number members) at)
   where
-    apart : (i j : ℕ) → (i < j) ⊎ ((i ≡ j) ⊎ (j < i))
-    apart i j = grind arith
+    by : MayStand o (take i es) (View age number members) → IsLater u age number
+    by (inl opens) = inl (opens.later u e)
+    by (inr follows) = MayFollow-later u age number members
+        (IsSomeAnd-at (view_of (take i es)) (λ v. MayFollow v age number members) u e follows)
 
-    starts : IsPrefixOf o.start h
-    starts = (
-      View o.age 0 o.members
-          ∷ order.begins.0,
-      sym (append_assoc o.start (View o.age 0 o.members ∷ []) order.begins.0)
-          ∙ order.begins.1,
-    )
-
-    stood : MayStand o (take i o.start) (View age number members) → view_of (take i o.start) ≡ Some u
-        → IsLater u age number
-    stood (inl opens) before = inl (opens.later u before)
-    stood (inr follows) before = MayFollow-later u age number members
-        (IsSomeAnd-at (view_of (take i o.start)) (λ v. MayFollow v age number members) u before follows)
-
-    by : (i < length o.start) ⊎ ((i ≡ length o.start) ⊎ (length o.start < i)) → IsLater u age number
-    by (inl less) =
-        let here = slice_get-some o.start i less in
-        let same : here.0 ≡ View age number members = same_Some here.0 (View age number members)
-        (sym (slice_get-prefix o.start h i here.0 starts here.1) ∙ at) in
-        stood (sound.entries i (View age number members) (here.1 ∙ ap Some same))
-        (ap view_of (sym (take-prefix o.start h i starts (omega arith))) ∙ e)
-    by (inr (inl is)) =
-        let before : take i h ≡ o.start = ap (λ j. take j h) is ∙
-        (ap (take (length o.start)) (sym starts.1) ∙ take_at o.start starts.0 (length o.start) refl) in
-        let first : slice_get h i ≡ Some (View o.age 0 o.members) = ap (slice_get h) is ∙
-        (ap (λ es. slice_get es (length o.start)) (sym starts.1)
-        ∙ slice_get-seam o.start (View o.age 0 o.members) order.begins.0) in
-        let same : View o.age 0 o.members
-        ≡ View age number members = same_Some (View o.age 0 o.members) (View age number members)
-        (sym first ∙ at) in
-        let same_age : o.age ≡ age = cc in
-        inl (subst (λ a. u.age < a) same_age (sound.later u (sym (ap view_of before) ∙ e)))
-    by (inr (inr more)) = ViewsRise-behind_start o sent h order i age number members (omega arith) at u e
+-- so they do in a history in order with a sound start
+ViewsRise-sound : (o : Opening) (sent : Sent) (h : List Entry) → Sound o → InOrder o sent h
+    → ViewsRise 0 h
+ViewsRise-sound o sent h sound order = ViewsRise-standing o h (history-stands o sent h sound order)
 
 -- where the Views rise, a View that also stands in a front part has its past there
 SamePast-prefix : (g h : List Entry) → ViewsRise 0 h → IsPrefixOf g h → SamePast g h
@@ -222,6 +187,6 @@ pub SamePast-either : (o : Opening) (sent : Sent) (g h : List Entry) → Sound o
     → InOrder o sent h
     → IsPrefixOf g h ⊎ IsPrefixOf h g → SamePast g h
 SamePast-either o sent g h sound og oh (inl pre) =
-    SamePast-prefix g h (ViewsRise-sound o sent h sound (InLooseOrder-from o sent h oh)) pre
+    SamePast-prefix g h (ViewsRise-sound o sent h sound oh) pre
 SamePast-either o sent g h sound og oh (inr pre) = SamePast-sym h g
-    (SamePast-prefix h g (ViewsRise-sound o sent g sound (InLooseOrder-from o sent g og)) pre)
+    (SamePast-prefix h g (ViewsRise-sound o sent g sound og) pre)

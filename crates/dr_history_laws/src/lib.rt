@@ -8,8 +8,10 @@
 
 mod laying;
 mod order;
+mod restarting;
 mod sending;
 
 pub use laying::{laying_laws, merge_laws};
 pub use order::{agreement_law, opening_laws, order_laws, view_laws};
+pub use restarting::{restarting_laws, standing_laws};
 pub use sending::sending_laws;

@@ -1,0 +1,143 @@
+-- An age that starts with the longest of the logs that the members of another leave.
+use Rattle.std.proofs.Common.{◌≡◌, refl, ap, sym, ◌∙◌, ◌⊎◌, inl, inr, subst, ℕ, ◌+◌, ◌-◌, ◌<◌, ◌≤◌, arith, List, [], ◌∷◌, ◌++◌, length, take, drop, Some, slice_get, Option, None, append_assoc, length-append, take_at, length-take}
+use Rattle.std.proofs.lemmas.List.{take-append-drop, take_all}
+use Rattle.std.proofs.lemmas.Option.{slice_get_within}
+use Rattle.std.specs.Prelude.{All, Contains, IsSomeAnd}
+use Rattle.dr_entry.specs.declared.entry.Entry.{Entry}
+use Rattle.dr_entry.specs.declared.entry.Entry.TheVariants.{View}
+use Rattle.dr_history.specs.declared.opening.Opening.{Opening}
+use Rattle.dr_history.specs.Members.{members_of}
+use Rattle.dr_history.specs.History.{IsPrefixOf, GroupView, view_of}
+use Rattle.dr_history.specs.Order.{first_entries}
+use Rattle.dr_history.specs.Agreement.{Account, Accounts, Agreed, KnowsDurable}
+use Rattle.dr_history.specs.Soundness.{IsPresentIn, Sound}
+use Rattle.dr_history.specs.Restarting.{AreLeftBy, IsLeftBy, IsLongest, Kept}
+use Rattle.dr_history.proofs.ViewLemmas.{view_of-View}
+use Rattle.dr_history_laws.proofs.Lists.{slice_get-seam, slice_get-prefix, take-next, take-prefix}
+use Rattle.dr_history_laws.proofs.Views.{ViewsRise-standing, view-after}
+
+-- a prefix of a prefix is one
+pub prefix_then : {X : Type 0} (xs ys zs : List X) → IsPrefixOf xs ys → IsPrefixOf ys zs
+    → IsPrefixOf xs zs
+prefix_then xs ys zs p q = (
+  p.0 ++ q.0,
+  sym (append_assoc xs p.0 q.0) ∙ (ap (λ l. l ++ q.0) p.1 ∙ q.1),
+)
+
+-- of two prefixes of a list the shorter one is a prefix of the other
+pub prefix_beside : {X : Type 0} (xs ys zs : List X) → IsPrefixOf xs zs → IsPrefixOf ys zs
+    → length xs ≤ length ys → IsPrefixOf xs ys
+prefix_beside xs ys zs p q l =
+    let front : take (length xs) zs ≡ xs = ap (take (length xs)) (sym p.1) ∙ take_at xs p.0 (length xs) refl in
+    let same : xs ≡ take (length xs) ys = sym front ∙ take-prefix ys zs (length xs) q l in
+    (drop (length xs) ys, ap (λ t. t ++ drop (length xs) ys) same ∙ take-append-drop (length xs) ys)
+
+pub prefix_shorter : {X : Type 0} (xs ys : List X) → IsPrefixOf xs ys → length xs ≤ length ys
+prefix_shorter xs ys p = omega (arith, ap length p.1, length-append xs p.0)
+
+-- ---- the logs that are left
+
+-- a log that is left is a part of its member's history, and has all that the member tells
+pub left_part : (a : Account) (log : List Entry) → IsPrefixOf a.log a.history → IsLeftBy a log
+    → IsPrefixOf log a.history
+left_part a log told (inl is) = subst (λ l. IsPrefixOf l a.history) (sym is) told
+left_part a log told (inr more) = more.2
+
+left_long : (a : Account) (log : List Entry) → IsLeftBy a log → length a.log ≤ length log
+left_long a log (inl is) = omega (arith, ap length is)
+left_long a log (inr more) = omega (arith, ap length more.1, length-append a.log (more.0 ∷ []))
+
+-- who knows so much to be durable has so much on its own log
+pub durable_logged : (accounts : Accounts) (i : ℕ) → KnowsDurable accounts i
+    → (accounts i).durable ≤ length (accounts i).log
+durable_logged accounts i knows = by (view_of (accounts i).history) knows
+  where
+    by : (o : Option GroupView) → IsSomeAnd o
+        (λ v. Contains v.members i × All (λ j. (accounts i).durable ≤ length (accounts j).log) v.members)
+        → (accounts i).durable ≤ length (accounts i).log
+    by None h = absurd h
+    by (Some v) h = subst (λ j. (accounts i).durable ≤ length (accounts j).log) h.0.2
+        (h.1 h.0.0 i h.0.1)
+
+-- what a member knows to be durable is the front of a longest log
+durable_kept : (o : Opening) (accounts : Accounts) (lists : List (List Entry)) (start : List Entry)
+    (i : ℕ) → Agreed o accounts → AreLeftBy o accounts lists → IsLongest lists start → IsPresentIn o i
+    → IsPrefixOf (take (accounts i).durable (accounts i).history) start
+durable_kept o accounts lists start i agreed left longest present =
+    by (agreed.prefix i longest.place present here.0)
+  where
+    here : IsPresentIn o longest.place × IsLeftBy (accounts longest.place) start
+    here = left.each longest.place start longest.one
+
+    mine : (l : List Entry) × (slice_get lists i ≡ Some l)
+    mine = left.all i present
+
+    h : List Entry
+    h = (accounts i).history
+
+    d : ℕ
+    d = (accounts i).durable
+
+    delivered : IsPrefixOf start (accounts longest.place).history
+    delivered = left_part (accounts longest.place) start (agreed.logged longest.place here.0) here.1
+
+    front : IsPrefixOf (take d h) h
+    front = (drop d h, take-append-drop d h)
+
+    long : length (take d h) ≤ length start
+    long = omega (
+      arith,
+      length-take d h,
+      durable_logged accounts i (agreed.durable i present),
+      left_long (accounts i) mine.0 (left.each i mine.0 mine.1).1,
+      longest.longest i mine.0 mine.1,
+    )
+
+    by : IsPrefixOf h (accounts longest.place).history ⊎ IsPrefixOf (accounts longest.place).history h
+        → IsPrefixOf (take d h) start
+    by (inl p) = prefix_beside (take d h) start (accounts longest.place).history
+        (prefix_then (take d h) h (accounts longest.place).history front p) delivered long
+    by (inr p) = prefix_beside (take d h) start h front
+        (prefix_then start (accounts longest.place).history h delivered p) long
+
+-- so the age keeps it
+pub longest_keeps : (o next : Opening) (accounts : Accounts) (lists : List (List Entry))
+    → Agreed o accounts → AreLeftBy o accounts lists → IsLongest lists next.start → o.age < next.age
+    → Kept o accounts next
+longest_keeps o next accounts lists agreed left longest later =
+    let here = left.each longest.place next.start longest.one in
+    record {
+      later = later;
+      delivered = (
+        longest.place,
+        here.0,
+        left_part (accounts longest.place) next.start (agreed.logged longest.place here.0) here.1,
+      );
+      durable = λ i present. durable_kept o accounts lists next.start i agreed left longest present;
+    }
+
+-- ---- the age is a later one
+
+pub sound_later : (o next : Opening) → Sound next → IsPrefixOf (first_entries o) next.start
+    → o.age < next.age
+sound_later o next sound begins =
+    let n = length o.start in
+    let first = View o.age 0 o.members in
+    let at : slice_get next.start n ≡ Some first = slice_get-prefix (first_entries o) next.start n first begins
+    (slice_get-seam o.start first []) in
+    let within = slice_get_within next.start n first at in
+    let view : GroupView = record { age = o.age; number = 0; members = members_of o.members } in
+    let here : view_of (take (n + 1) next.start) ≡ Some view =
+    ap view_of (take-next next.start n first at) ∙ view_of-View (take n next.start) o.age 0 o.members in
+    let d = length next.start - (n + 1) in
+    let end : n + 1 + d ≡ length next.start = omega (arith, within) in
+    let r = view-after next.start 0 (n + 1) d view
+    (ViewsRise-standing next next.start sound.entries) (omega arith)
+    (omega (arith, end)) here in
+    let last : view_of next.start ≡ Some r.0 = sym (ap view_of
+    (ap (λ k. take k next.start) end ∙ take_all (length next.start) next.start (omega arith))) ∙ r.1 in
+    let come = sound.later r.0 last in
+    by o.age r.0.age next.age 0 r.0.number r.2 come
+  where
+    by : (a b c n m : ℕ) → (a < b) ⊎ ((a ≡ b) × (n ≤ m)) → b < c → a < c
+    by a b c n m h l = grind arith
