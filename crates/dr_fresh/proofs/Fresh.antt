@@ -1,17 +1,15 @@
 -- What an empty disk rules out, and that a group has members.
-use Rattle.std.proofs.Common.{◌≡◌, subst, ℕ, ◌^◌, ◌<◌, ◌≤◌, arith, List, [], length, Option, Some, IfSome}
+use Rattle.std.proofs.Common.{◌≡◌, ap, ℕ, ◌^◌, ◌<◌, ◌≤◌, arith, List, [], length, Option, None, Some, IfSome, IsSomeAnd}
 use Rattle.std.proofs.Math.Pow.{pow_mono}
-use Rattle.dr_disk.specs.Calls.{Call, content_after}
+use Rattle.dr_disk.specs.Disk.{Told, content_of}
 use Rattle.dr_log.specs.Grammar.{IsDamaged}
 use Rattle.dr_machine.specs.Group.{Group, IsGroup}
 
 -- an empty disk is not damaged
-pub none_damaged : (told : Option (List Call)) (at : ℕ) → told ≡ Some []
-    → IfSome told (λ calls. IsDamaged (content_after calls) at) → ⊥
-none_damaged told at none damaged =
-    let of : IsDamaged (content_after []) at = subst
-    (λ (o : Option (List Call)). IfSome o (λ calls. IsDamaged (content_after calls) at)) none damaged in
-    omega (arith, of.0)
+pub none_damaged : (told : Option Told) (at : ℕ) → IsSomeAnd told (λ t. content_of t ≡ [])
+    → IfSome told (λ t. IsDamaged (content_of t) at) → ⊥
+none_damaged None at none damaged = absurd none
+none_damaged (Some t) at none damaged = omega (arith, damaged.0, ap length none)
 
 -- a group has members in its first view
 pub some_members : (g : Group) → IsGroup g → 0 < g.opening.members

@@ -1,5 +1,6 @@
 //! A fresh log, on any disk.
-ghost use Rattle.std.specs.Prelude.{◌≡◌, ◌<◌, ◌≤◌, IfOk, IsErrOf, Some, []};
+ghost use Rattle.std.specs.Prelude.{◌≡◌, ◌<◌, ◌≤◌, IfOk, IsErrOf, IsSomeAnd, []};
+ghost use Rattle.dr_disk.specs.Disk.{content_of};
 ghost use Rattle.dr_io.specs.Faults.{Rose};
 ghost use Rattle.dr_fresh.specs.declared.on_disk.FreshFault.TheVariants.{DiskFault, LogFull};
 ghost use Rattle.dr_fresh.specs.Fresh.{IsEmpty, IsFresh};
@@ -42,7 +43,7 @@ pub fn fresh_log<D: Disk>(
     limit: u64,
     start: &Start,
 ) -> Result<Log<D>, FreshFault>
-    requires empty { D.told disk ≡ Some [] }
+    requires empty { IsSomeAnd (D.told disk) (λ told. content_of told ≡ []) }
     requires limit { 9 ≤ limit }
     requires some { 0 < start.now.members }
     ensures fresh { IfOk result (IsFresh start.now limit) }
@@ -66,7 +67,7 @@ pub fn fresh_log<D: Disk>(
 
 /// A log without a record, on an empty disk.
 fn empty_log<D: Disk>(alloc: Global, disk: D, limit: u64) -> Result<Log<D>, FreshFault>
-    requires empty { D.told disk ≡ Some [] }
+    requires empty { IsSomeAnd (D.told disk) (λ told. content_of told ≡ []) }
     requires limit { 9 ≤ limit }
     ensures empty { IfOk result (IsEmpty limit) }
     ensures later { IfOk result (λ log. D.faults disk ≤ D.faults log.disk) }

@@ -8,13 +8,14 @@ use Rattle.dr_entry.specs.declared.entry.Entry.{Entry}
 use Rattle.dr_entry.specs.declared.entry.Entry.TheVariants.{View}
 use Rattle.dr_entry.specs.declared.record.Record.{Record}
 use Rattle.dr_entry.specs.declared.record.Record.TheVariants as records
-use Rattle.dr_disk.specs.Calls.{Call}
-use Rattle.dr_disk.specs.Images.{Goes}
-use Rattle.dr_disk.proofs.Moments.{Went-last, goes_on, stays_at}
+use Rattle.dr_disk.specs.Disk.{Told}
+use Rattle.dr_disk.specs.Images.{Goes, IsLeft}
+use Rattle.dr_disk.proofs.Moments.{Goes-last, goes_on, lasts_still, lasts_then, stays_at}
 use Rattle.dr_io.specs.Faults.{Rose}
-use Rattle.dr_log.specs.Standing.{IsBeforeOrAfter, StandsFor, block_length, log_length}
+use Rattle.dr_log.specs.Standing.{IsBeforeOrAfter, LosesNone, StandsFor, block_length, log_length}
 use Rattle.dr_log.specs.State.{LogState, appended, broken_off as log_broken_off}
 use Rattle.dr_log.proofs.Growing.{length_of_more}
+use Rattle.dr_log.proofs.Lasting.{none_lost}
 use Rattle.dr_machine.specs.declared.event.Act.TheVariants as acts
 use Rattle.dr_machine.specs.declared.step.Step.{Step}
 use Rattle.dr_machine.specs.declared.step.Step.TheVariants.{Do, Look, Push, Append}
@@ -28,7 +29,7 @@ use Rattle.dr_program.specs.Turn.{part_of, places_in}
 use Rattle.dr_program.specs.declared.place.TheConstants.{TURN}
 use Rattle.dr_turn.proofs.Failing.{append_at}
 use Rattle.dr_turn.proofs.Search.{settle_only}
-use Rattle.dr_logged.specs.Served.{HasCome, HasServed, IsLeft, IsReady, IsRoomy, IsSafe, LosesNone, WentSo, is_append, next_record}
+use Rattle.dr_logged.specs.Served.{HasCome, HasServed, IsReady, IsRoomy, IsSafe, LosesNothing, WentSo, is_append, next_record}
 
 -- ---- what a step other than an append leaves
 
@@ -77,7 +78,7 @@ before (x ∷ h) more zero l = refl
 before (x ∷ h) more (suc k) l = before h more k (omega (arith, l))
 
 -- how the last append went is not changed by what is delivered
-went_on : {D : Type 0} (told : D → Option (List Call)) (faults : D → ℕ) (base log : LogState D)
+went_on : {D : Type 0} (told : D → Option Told) (faults : D → ℕ) (base log : LogState D)
     (h more : List Entry) (k : ℕ) (why : Option LogWhy) → WentSo told faults base log h k why
     → WentSo told faults base log (h ++ more) k why
 went_on told faults base log h more k None went = went
@@ -99,7 +100,7 @@ went_on told faults base log h more k (Some (whys.LogFull len)) went = (
   },
 )
 
-come_on : {D : Type 0} (told : D → Option (List Call)) (faults : D → ℕ) (base log : LogState D)
+come_on : {D : Type 0} (told : D → Option Told) (faults : D → ℕ) (base log : LogState D)
     (h more : List Entry) (k : ℕ) (why : Option LogWhy) → k ≤ length h
     → HasCome told faults base log h k why → HasCome told faults base log (h ++ more) k why
 come_on told faults base log h more k why within come = record {
@@ -110,11 +111,13 @@ come_on told faults base log h more k why within come = record {
   within = come.within;
   last = went_on told faults base log h more k why come.last;
   moments = come.moments;
+  lasting = come.lasting;
+  calm = come.calm;
   later = come.later;
 }
 
 -- the log of a member that takes another deed than an append has served it
-pub other_served : {D : Type 0} (told : D → Option (List Call)) (faults : D → ℕ) (base log : LogState D)
+pub other_served : {D : Type 0} (told : D → Option Told) (faults : D → ℕ) (base log : LogState D)
     (word : ℕ) (r : Running) → is_append (next_step r) ≡ false → r.replica.logged ≤ length r.replica.history
     → HasServed told faults base log r → HasServed told faults base log (after_step word r)
 other_served told faults base log word r other within served =
@@ -141,32 +144,7 @@ other_ready log word r other ready =
 pub unfailed : (r : Running) → next_step r ≡ Append → r.failed ≡ None
 unfailed r is = (append_at r (part_of r.place) r.place.row r.place.column is).1
 
--- images that have the records of a log, or one more, have lost none of those that it began with
-none_lost : {D : Type 0} (base log : LogState D) (r : Record) (es : List Entry) (image : List ℕ)
-    → log.entries ≡ base.entries ++ es → log.votes ≡ base.votes
-    → IsBeforeOrAfter log.entries log.votes r image → LosesNone base.entries base.votes image
-none_lost base log (records.Entry e) es image entries votes (inl is) = record {
-  more_entries = es;
-  more_votes = [];
-  stands = rw (← entries, append-nil, ← votes) is;
-}
-none_lost base log (records.Entry e) es image entries votes (inr is) = record {
-  more_entries = es ++ e ∷ [];
-  more_votes = [];
-  stands = rw (← append_assoc base.entries es (e ∷ []), ← entries, append-nil, ← votes) is;
-}
-none_lost base log (records.Vote v) es image entries votes (inl is) = record {
-  more_entries = es;
-  more_votes = [];
-  stands = rw (← entries, append-nil, ← votes) is;
-}
-none_lost base log (records.Vote v) es image entries votes (inr is) = record {
-  more_entries = es;
-  more_votes = v ∷ [];
-  stands = rw (← entries, ← votes) is;
-}
-
-moments_on : {D : Type 0} (told : D → Option (List Call)) (base log new : LogState D) (r : Record)
+moments_on : {D : Type 0} (told : D → Option Told) (base log new : LogState D) (r : Record)
     (es : List Entry) → log.entries ≡ base.entries ++ es → log.votes ≡ base.votes
     → Goes (told base.disk) (told log.disk) (λ calls. LosesNone base.entries base.votes)
     → Goes (told log.disk) (told new.disk) (λ calls. IsBeforeOrAfter log.entries log.votes r)
@@ -174,15 +152,15 @@ moments_on : {D : Type 0} (told : D → Option (List Call)) (base log new : LogS
 moments_on told base log new r es entries votes first next =
     goes_on (told base.disk) (told log.disk) (told new.disk) (λ calls. LosesNone base.entries base.votes)
     (λ calls. IsBeforeOrAfter log.entries log.votes r) (λ calls. LosesNone base.entries base.votes)
-    (λ calls image at is. is) (λ calls more image at there is. none_lost base log r es image entries votes is)
+    (λ calls image at is. is) (λ calls more image at there is. none_lost log.entries base.entries es log.votes
+    base.votes [] r image entries (votes ∙ sym (append-nil base.votes)) is)
     first next
 
--- what is so of each image at every moment is so of those that are left
-left_now : (old new : Option (List Call)) (P : List ℕ → Type 0) → Goes old new (λ calls. P) → IsLeft new P
-left_now None None P goes = tt
-left_now None (Some after) P goes = absurd goes
-left_now (Some before) None P goes = absurd goes
-left_now (Some before) (Some after) P goes = Went-last before after P goes
+lasting_on : {D : Type 0} (told : D → Option Told) (base log new : LogState D)
+    → LosesNothing told base log → LosesNothing told log new → LosesNothing told base new
+lasting_on told base log new first next = λ entries votes.
+    lasts_then (told base.disk) (told log.disk) (told new.disk) (LosesNone entries votes)
+    (first entries votes) (next entries votes)
 
 -- a count that rose from a later value rose from an earlier one
 rose_since : (base old new : ℕ) → base ≤ old → Rose old new → Rose base new
@@ -190,7 +168,7 @@ rose_since base old new later rose =
     le_trans (le-min (omega (arith, min-le_left (base + 1) (2 ^ 64 - 1), later)) (min-le_right _ _)) rose
 
 -- an append that goes well puts the next record on the log
-pub appended_served : {D : Type 0} (told : D → Option (List Call)) (faults : D → ℕ)
+pub appended_served : {D : Type 0} (told : D → Option Told) (faults : D → ℕ)
     (base log new : LogState D) (word : ℕ) (r : Running) → next_step r ≡ Append → r.replica.logged < length r.replica.history
     → HasServed told faults base log r
     → new ≡ appended log (next_record r.replica.history r.replica.logged) new.disk
@@ -198,9 +176,9 @@ pub appended_served : {D : Type 0} (told : D → Option (List Call)) (faults : D
     ≤ log.limit
     → Goes (told log.disk) (told new.disk)
     (λ calls. IsBeforeOrAfter log.entries log.votes (next_record r.replica.history r.replica.logged))
-    → IsSafe told new → faults log.disk ≤ faults new.disk
+    → LosesNothing told log new → IsSafe told new → faults new.disk ≡ faults log.disk
     → HasServed told faults base new (after_step word r)
-appended_served {D} told faults base log new word r is within served made fits goes safe later =
+appended_served {D} told faults base log new word r is within served made fits goes lasting safe calm =
     subst (HasServed told faults base new) (sym (settled_same word r))
     (subst (λ s. HasCome told faults base new (stepped word r.replica s).history
     (stepped word r.replica s).logged r.failed) (sym is) come)
@@ -245,7 +223,9 @@ appended_served {D} told faults base log new word r is within served made fits g
       last = rw (unfailed r is) (failed ∙ went.0, safe);
       moments = moments_on told base log new (records.Entry e) served.more.0 served.more.1 served.votes
           served.moments goes;
-      later = le_trans served.later later;
+      lasting = lasting_on told base log new served.lasting lasting;
+      calm = λ unbroken. calm ∙ served.calm unbroken;
+      later = omega (arith, served.later, calm);
     }
 
 -- and leaves it ready for the next one
@@ -267,15 +247,15 @@ appended_ready {D} log new word r is some ready made =
     })
 
 -- an append whose disk fails
-pub failed_served : {D : Type 0} (told : D → Option (List Call)) (faults : D → ℕ) (base log new : LogState D)
+pub failed_served : {D : Type 0} (told : D → Option Told) (faults : D → ℕ) (base log new : LogState D)
     (r : Running) → next_step r ≡ Append → r.replica.logged < length r.replica.history
     → HasServed told faults base log r
     → new ≡ log_broken_off log (next_record r.replica.history r.replica.logged) new.disk
     → Goes (told log.disk) (told new.disk)
     (λ calls. IsBeforeOrAfter log.entries log.votes (next_record r.replica.history r.replica.logged))
-    → Rose (faults log.disk) (faults new.disk) → faults log.disk ≤ faults new.disk
+    → LosesNothing told log new → Rose (faults log.disk) (faults new.disk) → faults log.disk ≤ faults new.disk
     → HasServed told faults base new (broken_off whys.DiskFault r)
-failed_served {D} told faults base log new r is within served made goes rose later = record {
+failed_served {D} told faults base log new r is within served made goes lasting rose later = record {
   entries = entries ∙ served.entries;
   more = (served.more.0, entries ∙ served.more.1);
   votes = votes ∙ served.votes;
@@ -289,12 +269,14 @@ failed_served {D} told faults base log new r is within served made goes rose lat
     record {
       failed = ap (λ (l : LogState D). l.failed) made;
       rose = rose_since (faults base.disk) (faults log.disk) (faults new.disk) served.later rose;
-      left = rw (entries, votes) (left_now (told log.disk) (told new.disk)
+      left = rw (entries, votes) (Goes-last (told log.disk) (told new.disk)
           (IsBeforeOrAfter log.entries log.votes (next_record r.replica.history r.replica.logged)) goes);
     },
   );
   moments = moments_on told base log new (next_record r.replica.history r.replica.logged) served.more.0
       served.more.1 served.votes served.moments goes;
+  lasting = lasting_on told base log new served.lasting lasting;
+  calm = λ unbroken. absurd (unbroken refl);
   later = le_trans served.later later;
 }
   where
@@ -308,7 +290,7 @@ failed_served {D} told faults base log new r is within served made goes rose lat
     limit = ap (λ (l : LogState D). l.limit) made
 
 -- an append for which the log has no room
-pub full_served : {D : Type 0} (told : D → Option (List Call)) (faults : D → ℕ) (base log : LogState D)
+pub full_served : {D : Type 0} (told : D → Option Told) (faults : D → ℕ) (base log : LogState D)
     (r : Running) (len : ℕ) → next_step r ≡ Append → r.replica.logged < length r.replica.history
     → HasServed told faults base log r → len ≡ log_length log.entries log.votes
     → log.limit < len + block_length (next_record r.replica.history r.replica.logged)
@@ -321,6 +303,8 @@ full_served {D} told faults base log r len is within served long over = record {
   within = served.within;
   last = (within, record { whole = went.0; safe = went.1; length = long; over = over });
   moments = served.moments;
+  lasting = served.lasting;
+  calm = λ unbroken. served.calm (rw (unfailed r is) (λ broken. cc broken));
   later = served.later;
 }
   where
@@ -335,7 +319,7 @@ failed_ready log why r = record { whole = λ none. absurd (cc none); spare = λ 
 -- ---- the beginning
 
 -- a log that has all of its member's history, and got room, has served it so far and is ready
-pub begins : {D : Type 0} (told : D → Option (List Call)) (faults : D → ℕ) (old new : LogState D)
+pub begins : {D : Type 0} (told : D → Option Told) (faults : D → ℕ) (old new : LogState D)
     (r : Running)
     → IsRoomy told faults r old new → old.failed ≡ false → old.entries ≡ r.replica.history
     → r.replica.logged ≡ length r.replica.history → r.failed ≡ None
@@ -351,6 +335,8 @@ begins {D} told faults old new r roomy whole has all none = (
     last = rw none (failed, roomy.safe whole);
     moments = rw roomy.tells (stays_at (told old.disk) (λ calls. LosesNone old.entries old.votes)
         (rw (← roomy.tells) (keeps (told new.disk) (roomy.safe whole))));
+    lasting = λ entries votes. rw roomy.tells (lasts_still (told old.disk) (LosesNone entries votes));
+    calm = λ unbroken. roomy.calm;
     later = omega (arith, roomy.calm);
   },
   record { whole = λ n. failed; spare = λ n. omega (arith, roomy.spare) },
@@ -372,7 +358,7 @@ begins {D} told faults old new r roomy whole has all none = (
       stands = rw (append-nil, append-nil, ← entries, ← votes) is;
     }
 
-    keeps : (t : Option (List Call)) → IsLeft t (λ image. StandsFor image new.entries new.votes)
+    keeps : (t : Option Told) → IsLeft t (λ image. StandsFor image new.entries new.votes)
         → IsLeft t (LosesNone old.entries old.votes)
     keeps None safe = tt
     keeps (Some calls) safe = λ image is. stands image (safe image is)

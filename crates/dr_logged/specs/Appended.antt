@@ -1,6 +1,6 @@
 -- What an append of the next entry has come to, by the contract of a log.
-use Rattle.std.specs.Prelude.{◌≡◌, ℕ, ◌+◌, ◌<◌, ◌≤◌, List, length, Option}
-use Rattle.dr_disk.specs.Calls.{Call}
+use Rattle.std.specs.Prelude.{◌≡◌, ℕ, ◌+◌, ◌<◌, ◌≤◌, length, Option}
+use Rattle.dr_disk.specs.Disk.{Told}
 use Rattle.dr_disk.specs.Images.{Goes}
 use Rattle.dr_entry.specs.declared.record.Record.{Record}
 use Rattle.dr_io.specs.Faults.{Rose}
@@ -8,7 +8,7 @@ use Rattle.dr_log.specs.Standing.{IsBeforeOrAfter, block_length, log_length}
 use Rattle.dr_log.specs.State.{LogState, appended, broken_off}
 use Rattle.dr_machine.specs.declared.step.Step.TheVariants.{Append}
 use Rattle.dr_program.specs.Running.{Running, next_step}
-use Rattle.dr_logged.specs.Served.{IsSafe, next_record}
+use Rattle.dr_logged.specs.Served.{IsSafe, LosesNothing, next_record}
 
 -- the member is due to append, and the next entry is there
 pub record IsAppendDue (r : Running) : Type 0 where
@@ -21,21 +21,23 @@ abbrev pub record_due : Running → Record
 record_due r = next_record r.replica.history r.replica.logged
 
 -- it stands on the log, and is safe
-pub record HasAppended {D : Type 0} (told : D → Option (List Call)) (faults : D → ℕ) (log new : LogState D)
+pub record HasAppended {D : Type 0} (told : D → Option Told) (faults : D → ℕ) (log new : LogState D)
     (r : Running) : Type 0 where
   pub made : new ≡ appended log (record_due r) new.disk
   pub fits : log_length log.entries log.votes + block_length (record_due r) ≤ log.limit
   pub goes : Goes (told log.disk) (told new.disk)
-      (λ calls. IsBeforeOrAfter log.entries log.votes (record_due r))
+      (λ s. IsBeforeOrAfter log.entries log.votes (record_due r))
+  pub lasting : LosesNothing told log new
   pub safe : IsSafe told new
-  pub later : faults log.disk ≤ faults new.disk
+  pub calm : faults new.disk ≡ faults log.disk
 
 -- the disk failed
-pub record HasBroken {D : Type 0} (told : D → Option (List Call)) (faults : D → ℕ) (log new : LogState D)
+pub record HasBroken {D : Type 0} (told : D → Option Told) (faults : D → ℕ) (log new : LogState D)
     (r : Running) : Type 0 where
   pub made : new ≡ broken_off log (record_due r) new.disk
   pub goes : Goes (told log.disk) (told new.disk)
-      (λ calls. IsBeforeOrAfter log.entries log.votes (record_due r))
+      (λ s. IsBeforeOrAfter log.entries log.votes (record_due r))
+  pub lasting : LosesNothing told log new
   pub rose : Rose (faults log.disk) (faults new.disk)
   pub later : faults log.disk ≤ faults new.disk
 

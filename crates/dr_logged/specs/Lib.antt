@@ -1,2 +1,3 @@
 pub mod Served
 pub mod Appended
+pub mod Left

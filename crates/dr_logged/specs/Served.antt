@@ -1,5 +1,5 @@
 -- The logs of members that run: what comes of each while its member takes its deeds.
-use Rattle.std.specs.Prelude.{◌≡◌, Bool, ℕ, ◌+◌, ◌-◌, ◌<◌, ◌≤◌, max, true, false, List, ◌++◌, length, take, slice_get, slice_index_or, Option, None, Some, IfSome}
+use Rattle.std.specs.Prelude.{◌≡◌, ◌≢◌, Bool, ℕ, ◌+◌, ◌-◌, ◌<◌, ◌≤◌, max, true, false, List, ◌++◌, length, take, slice_get, slice_index_or, Option, None, Some}
 use Rattle.dr_entry.specs.declared.entry.Entry.{Entry}
 use Rattle.dr_entry.specs.declared.entry.Entry.TheVariants.{View}
 use Rattle.dr_entry.specs.declared.record.Record.{Record}
@@ -7,9 +7,9 @@ use Rattle.dr_entry.specs.declared.record.Record.TheVariants as records
 use Rattle.dr_entry.specs.declared.record.Vote.{Vote}
 use Rattle.dr_entry.specs.Spelling.{IsValid}
 use Rattle.dr_io.specs.Faults.{Rose}
-use Rattle.dr_disk.specs.Calls.{Call, run}
-use Rattle.dr_disk.specs.Images.{AllImages, Goes}
-use Rattle.dr_log.specs.Standing.{IsBeforeOrAfter, StandsFor, block_length, log_length}
+use Rattle.dr_disk.specs.Disk.{Told}
+use Rattle.dr_disk.specs.Images.{Goes, IsLeft, Lasts}
+use Rattle.dr_log.specs.Standing.{IsBeforeOrAfter, LosesNone, StandsFor, block_length, log_length}
 use Rattle.dr_log.specs.State.{LogState}
 use Rattle.dr_machine.specs.declared.step.Step.{Step}
 use Rattle.dr_machine.specs.declared.step.Step.TheVariants.{Append}
@@ -19,33 +19,28 @@ use Rattle.dr_program.specs.declared.outcome.LogWhy.TheVariants as whys
 use Rattle.dr_program.specs.Program.{Program}
 use Rattle.dr_program.specs.Running.{Running, next_deed}
 
--- bytes stand for these entries and votes, and maybe for more behind them: they have lost none
-pub record LosesNone (entries : List Entry) (votes : List Vote) (image : List ℕ) : Type 0 where
-  pub more_entries : List Entry
-  pub more_votes : List Vote
-  pub stands : StandsFor image (entries ++ more_entries) (votes ++ more_votes)
-
--- where the disk tells, whatever a crash leaves of it now has P
-abbrev pub IsLeft : Option (List Call) → (List ℕ → Type 0) → Type 0
-IsLeft told P = IfSome told (λ calls. AllImages (run calls) P)
-
 -- the log's own entries and votes are safe
-abbrev pub IsSafe : {D : Type 0} → (D → Option (List Call)) → LogState D → Type 0
+abbrev pub IsSafe : {D : Type 0} → (D → Option Told) → LogState D → Type 0
 IsSafe told log = IsLeft (told log.disk) (λ image. StandsFor image log.entries log.votes)
+
+-- what no crash would have lost at one moment since `base` none would have lost later on
+abbrev pub LosesNothing : {D : Type 0} → (D → Option Told) → LogState D → LogState D → Type 0
+LosesNothing told base log = (entries : List Entry) (votes : List Vote)
+    → Lasts (told base.disk) (told log.disk) (LosesNone entries votes)
 
 -- the record that comes behind so many entries of a history
 abbrev pub next_record : List Entry → ℕ → Record
 next_record history logged = records.Entry (slice_index_or history logged (View 0 0 0))
 
 -- a disk failed since `base`: whatever a crash leaves has what is on the log, or the next record besides
-pub record BrokeOff {D : Type 0} (told : D → Option (List Call)) (faults : D → ℕ) (base log : LogState D)
+pub record BrokeOff {D : Type 0} (told : D → Option Told) (faults : D → ℕ) (base log : LogState D)
     (next : Record) : Type 0 where
   pub failed : log.failed ≡ true
   pub rose : Rose (faults base.disk) (faults log.disk)
   pub left : IsLeft (told log.disk) (IsBeforeOrAfter log.entries log.votes next)
 
 -- a log of this length has no room for the next record, and is safe
-pub record IsFull {D : Type 0} (told : D → Option (List Call)) (log : LogState D) (len : ℕ)
+pub record IsFull {D : Type 0} (told : D → Option Told) (log : LogState D) (len : ℕ)
     (next : Record) : Type 0 where
   pub whole : log.failed ≡ false
   pub safe : IsSafe told log
@@ -53,7 +48,7 @@ pub record IsFull {D : Type 0} (told : D → Option (List Call)) (log : LogState
   pub over : log.limit < len + block_length next
 
 -- how the last append to a log of so many entries of a history has gone: well, or it failed for this reason
-abbrev pub WentSo : {D : Type 0} → (D → Option (List Call)) → (D → ℕ) → LogState D → LogState D
+abbrev pub WentSo : {D : Type 0} → (D → Option Told) → (D → ℕ) → LogState D → LogState D
     → List Entry → ℕ → Option LogWhy → Type 0
 WentSo told faults base log history logged None = (log.failed ≡ false) × IsSafe told log
 WentSo told faults base log history logged (Some whys.DiskFault) =
@@ -63,7 +58,7 @@ WentSo told faults base log history logged (Some (whys.LogFull len)) =
 
 -- what has come of a log since `base`, with which its member began: it has logged so many entries of its
 -- history, and its last append failed for this reason, if one did
-pub record HasCome {D : Type 0} (told : D → Option (List Call)) (faults : D → ℕ) (base log : LogState D)
+pub record HasCome {D : Type 0} (told : D → Option Told) (faults : D → ℕ) (base log : LogState D)
     (history : List Entry) (logged : ℕ) (why : Option LogWhy) : Type 0 where
   -- it has the first entries of the history, behind those that it had, and the votes that it had
   pub entries : log.entries ≡ take logged history
@@ -74,12 +69,15 @@ pub record HasCome {D : Type 0} (told : D → Option (List Call)) (faults : D �
   pub within : log_length log.entries log.votes ≤ max log.limit (log_length base.entries base.votes)
   -- how its last append went
   pub last : WentSo told faults base log history logged why
-  -- at no moment a crash would have lost what it had
-  pub moments : Goes (told base.disk) (told log.disk) (λ calls. LosesNone base.entries base.votes)
+  -- at no moment a crash would have lost what it had, nor what it could not have lost at an earlier one
+  pub moments : Goes (told base.disk) (told log.disk) (λ s. LosesNone base.entries base.votes)
+  pub lasting : LosesNothing told base log
+  -- its disk has counted no fault, unless one ended the last append
+  pub calm : why ≢ Some whys.DiskFault → faults log.disk ≡ faults base.disk
   pub later : faults base.disk ≤ faults log.disk
 
 -- so it is with the log of a running member
-abbrev pub HasServed : {D : Type 0} → (D → Option (List Call)) → (D → ℕ) → LogState D → LogState D → Running
+abbrev pub HasServed : {D : Type 0} → (D → Option Told) → (D → ℕ) → LogState D → LogState D → Running
     → Type 0
 HasServed told faults base log r = HasCome told faults base log r.replica.history r.replica.logged r.failed
 
@@ -108,7 +106,7 @@ pub record AreReady {D : Type 0} (logs : List (LogState D)) (members : List Runn
       → slice_get members m ≡ Some r → IsReady log r
 
 -- each log has served the member of its number, since these bases
-abbrev pub HaveServed : {D : Type 0} → (D → Option (List Call)) → (D → ℕ) → List (LogState D)
+abbrev pub HaveServed : {D : Type 0} → (D → Option Told) → (D → ℕ) → List (LogState D)
     → List (LogState D) → List Running → Type 0
 HaveServed {D} told faults bases logs members = (m : ℕ) (base log : LogState D) (r : Running)
     → slice_get bases m ≡ Some base → slice_get logs m ≡ Some log → slice_get members m ≡ Some r
@@ -116,7 +114,7 @@ HaveServed {D} told faults bases logs members = (m : ℕ) (base log : LogState D
 
 -- a log got room for all that its member may still append, and is else as it was: what it has is safe where
 -- no append has failed
-pub record IsRoomy {D : Type 0} (told : D → Option (List Call)) (faults : D → ℕ) (r : Running)
+pub record IsRoomy {D : Type 0} (told : D → Option Told) (faults : D → ℕ) (r : Running)
     (old new : LogState D) : Type 0 where
   pub spare : r.replica.room - r.replica.logged ≤ new.spare_entries
   pub is : new ≡ record old {
@@ -128,7 +126,7 @@ pub record IsRoomy {D : Type 0} (told : D → Option (List Call)) (faults : D �
   pub calm : faults new.disk ≡ faults old.disk
   pub safe : old.failed ≡ false → IsSafe told new
 
-abbrev pub AreRoomy : {D : Type 0} → (D → Option (List Call)) → (D → ℕ) → List Running → List (LogState D)
+abbrev pub AreRoomy : {D : Type 0} → (D → Option Told) → (D → ℕ) → List Running → List (LogState D)
     → List (LogState D) → Type 0
 AreRoomy {D} told faults members olds news = (m : ℕ) (r : Running) (old new : LogState D)
     → slice_get members m ≡ Some r → slice_get olds m ≡ Some old → slice_get news m ≡ Some new

@@ -1,11 +1,17 @@
 //! Laws of members and their logs.
-ghost use Rattle.std.specs.Prelude.{◌≡◌, ℕ, false, length, None};
+ghost use Rattle.std.specs.Prelude.{◌≡◌, ℕ, false, List, Option, length, None, Some};
+ghost use Rattle.dr_disk.specs.Disk.{Told, content_of};
+ghost use Rattle.dr_disk.specs.Images.{ReadsAnImage};
+ghost use Rattle.dr_entry.specs.declared.entry.Entry.{Entry};
+ghost use Rattle.dr_entry.specs.declared.record.Vote.{Vote};
+ghost use Rattle.dr_log.specs.Standing.{StandsFor};
+ghost use Rattle.dr_logged.specs.Left.{IsLeftOf};
 ghost use Rattle.dr_log.specs.State.{LogState};
 ghost use Rattle.dr_program.specs.declared.outcome.LogWhy.{LogWhy};
 ghost use Rattle.dr_program.specs.declared.outcome.LogWhy.TheVariants as whys;
 ghost use Rattle.dr_program.specs.Form.{HasForm};
 ghost use Rattle.dr_program.specs.Running.{Running, after_step, broken_off, next_step};
-ghost use Rattle.dr_logged.specs.Served.{HasServed, IsReady, IsRoomy, is_append};
+ghost use Rattle.dr_logged.specs.Served.{HasCome, HasServed, IsReady, IsRoomy, is_append};
 ghost use Rattle.dr_logged.specs.Appended.{HasAppended, HasBroken, IsAppendDue, IsOver};
 
 use dr_disk::Disk;
@@ -38,4 +44,13 @@ pub fn appends_serve_logs<D: Disk>()
         → HasServed D.told D.faults base log r → IsOver log len r
         → HasServed D.told D.faults base log (broken_off (whys.LogFull len) r) }
     ensures ready { (log : LogState D) (why : LogWhy) (r : Running) → IsReady log (broken_off why r) }
+{}
+
+/// What a mount finds on the disk of a log, once its member has ended, is what the member has logged. Where
+/// the last append has failed it may be the next entry of the history besides.
+pub fn logs_are_left<D: Disk>()
+    ensures { (base log : LogState D) (history es : List Entry) (vs : List Vote) (logged : ℕ)
+        → (why : Option LogWhy) (told : Told) → HasCome D.told D.faults base log history logged why
+        → D.told log.disk ≡ Some told → ReadsAnImage told → StandsFor (content_of told) es vs
+        → IsLeftOf history logged es }
 {}

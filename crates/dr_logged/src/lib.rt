@@ -6,4 +6,4 @@
 
 mod laws;
 
-pub use laws::{appends_serve_logs, logs_begin, other_deeds_leave_logs};
+pub use laws::{appends_serve_logs, logs_are_left, logs_begin, other_deeds_leave_logs};

@@ -4,7 +4,7 @@ use Rattle.std.proofs.lemmas.List.{length-map}
 use Rattle.std.specs.Prelude.{All, IsTrue, Option, None, Some, is_some, option_map, slice_get, slice_index_or, unwrap_or}
 use Rattle.std.proofs.lemmas.Option.{get_or_from_slice_get, same_Some, slice_get-map, slice_get_cases, slice_get_within}
 use Rattle.std.proofs.lemmas.List.Elements.{All-take}
-use Rattle.dr_disk.specs.Calls.{Call}
+use Rattle.dr_disk.specs.Disk.{Told}
 use Rattle.dr_entry.specs.declared.end.End.{End}
 use Rattle.dr_entry.specs.declared.end.End.TheVariants as ends
 use Rattle.dr_entry.specs.declared.end.MemberEnd.{MemberEnd}
@@ -80,7 +80,7 @@ each_at P xs m x all there = subst P (get_or_from_slice_get xs m x x there)
     (all m x (slice_get_within xs m x there))
 
 -- logs that got room are ready for their members, which have begun
-ready_begins : {D : Type 0} (told : D → Option (List Call)) (count : D → ℕ) (g : Group) (limit : ℕ)
+ready_begins : {D : Type 0} (told : D → Option Told) (count : D → ℕ) (g : Group) (limit : ℕ)
     (setups : List Setup) (p : Program) (olds news : List (LogState D)) → AreSetups g limit setups
     → p ≡ begun_program g setups → AreOpened g olds → length news ≡ length olds
     → AreRoomy told count p.members olds news
@@ -141,7 +141,7 @@ tells_why r is ended = by r.failed refl r.replica.end refl ended
     ]
 
 -- a program of an age that is over, with its logs since these bases
-pub record IsOver {D : Type 0} (told : D → Option (List Call)) (count : D → ℕ) (g : Group)
+pub record IsOver {D : Type 0} (told : D → Option Told) (count : D → ℕ) (g : Group)
     (bases logs : List (LogState D)) (p : Program) : Type 0 where
   pub sound : IsSound g p
   pub ended : AllEnded p
@@ -151,7 +151,7 @@ pub record IsOver {D : Type 0} (told : D → Option (List Call)) (count : D → 
   pub served : HaveServed told count bases logs p.members
 
 -- each of its members tells why its last append failed
-over_tells : {D : Type 0} (told : D → Option (List Call)) (count : D → ℕ) (g : Group)
+over_tells : {D : Type 0} (told : D → Option Told) (count : D → ℕ) (g : Group)
     (bases logs : List (LogState D)) (p : Program) (m : ℕ) (r : Running)
     → IsOver told count g bases logs p → slice_get p.members m ≡ Some r → why_ended (end_of r).end ≡ r.failed
 over_tells told count g bases logs p m r over there =
@@ -159,7 +159,7 @@ over_tells told count g bases logs p m r over there =
     (each_at (λ (x : Running). IsTrue (is_some x.replica.end)) p.members m r over.ended there)
 
 -- so the logs have come to what their members' ends tell
-pub have_come : {D : Type 0} (told : D → Option (List Call)) (count : D → ℕ) (g : Group)
+pub have_come : {D : Type 0} (told : D → Option Told) (count : D → ℕ) (g : Group)
     (bases logs : List (LogState D)) (p : Program) → IsOver told count g bases logs p
     → HaveCome told count bases logs (map end_of p.members)
 have_come {D} told count g bases logs p over = λ m base log e from there end.
@@ -176,7 +176,7 @@ have_come {D} told count g bases logs p over = λ m base log e from there end.
         (sym (over_tells told count g bases logs p m r over at)) (over.served m base log r from there at))
 
 -- where no member was ended by its log, no append has failed
-pub none_failed : {D : Type 0} (told : D → Option (List Call)) (count : D → ℕ) (g : Group)
+pub none_failed : {D : Type 0} (told : D → Option Told) (count : D → ℕ) (g : Group)
     (bases logs : List (LogState D)) (p : Program) → IsOver told count g bases logs p
     → NoneStopped (map end_of p.members) → SomeFailed p → ⊥
 none_failed told count g bases logs p over stopped (m, r, why, there, at) =
@@ -187,7 +187,7 @@ none_failed told count g bases logs p over stopped (m, r, why, there, at) =
 -- ---- ample logs
 
 -- a log with room enough isn't full for a member of a sound program
-ample_log : {D : Type 0} (told : D → Option (List Call)) (count : D → ℕ) (g : Group) (p : Program) (m : ℕ)
+ample_log : {D : Type 0} (told : D → Option Told) (count : D → ℕ) (g : Group) (p : Program) (m : ℕ)
     (r : Running) (base log : LogState D) (len : ℕ) → IsSound g p → slice_get p.members m ≡ Some r
     → IsAmple g base → r.failed ≡ Some (whys.LogFull len) → HasServed told count base log r → ⊥
 ample_log {D} told count g p m r base log len is there ample at served =
@@ -234,7 +234,7 @@ ample_log {D} told count g p m r base log len is there ample at served =
     )
 
 -- so none is full where all are ample
-pub none_full : {D : Type 0} (told : D → Option (List Call)) (count : D → ℕ) (g : Group)
+pub none_full : {D : Type 0} (told : D → Option Told) (count : D → ℕ) (g : Group)
     (bases logs : List (LogState D)) (p : Program) → IsOver told count g bases logs p
     → All (IsAmple g) bases → NoneFull (map end_of p.members)
 none_full {D} told count g bases logs p over ample = λ k d within.
@@ -290,7 +290,7 @@ all_failing script start nth begun p group lists some (setups, are, is) ran = λ
     (are_setups script start nth setups lists are) (subst (λ b. IsRanFrom b p) is ran) there
 
 -- its logs, once they have room, are ready for its members
-pub ready_with : {D : Type 0} (told : D → Option (List Call)) (count : D → ℕ) (script : Script)
+pub ready_with : {D : Type 0} (told : D → Option Told) (count : D → ℕ) (script : Script)
     (start : Start) (nth : ℕ) (begun : Program) (olds news : List (LogState D)) → length script.messages ≡ script.members
     → IsBegun script start nth begun → AreOpened (group_of script start) olds → length news ≡ length olds
     → AreRoomy told count begun.members olds news

@@ -3,7 +3,7 @@ use Rattle.std.proofs.Common.{◌≡◌, sym, ap, ◌∙◌, subst, inl, inr, �
 use Rattle.std.specs.Prelude.{Option, Some, slice_get, slice_set}
 use Rattle.std.proofs.lemmas.Bool.{cases_eq}
 use Rattle.std.proofs.lemmas.Option.{same_Some, slice_get-get_or, slice_get_within}
-use Rattle.dr_disk.specs.Calls.{Call}
+use Rattle.dr_disk.specs.Disk.{Told}
 use Rattle.dr_log.specs.State.{LogState}
 use Rattle.dr_machine.specs.Group.{Group}
 use Rattle.dr_program.specs.Program.{Program}
@@ -29,7 +29,7 @@ ready_on logs log p q m ready same others at within = record {
 }
 
 -- and has served it
-pub served_on : {D : Type 0} (told : D → Option (List Call)) (count : D → ℕ) (bases logs : List (LogState D))
+pub served_on : {D : Type 0} (told : D → Option Told) (count : D → ℕ) (bases logs : List (LogState D))
     (log : LogState D) (p q : Program) (m : ℕ) → AreOthers p m q → m < length logs
     → ((base : LogState D) → slice_get bases m ≡ Some base → AtMember q m (HasServed told count base log))
     → HaveServed told count bases logs p.members → HaveServed told count bases (slice_set logs m log) q.members
@@ -56,7 +56,7 @@ log_at logs log p m r ready there =
     ready.each m (get_or logs m log) r (slice_get-get_or logs m log (omega (arith, within, ready.all))) there
 
 -- and has served its member
-pub served_at : {D : Type 0} (told : D → Option (List Call)) (count : D → ℕ) (bases logs : List (LogState D))
+pub served_at : {D : Type 0} (told : D → Option Told) (count : D → ℕ) (bases logs : List (LogState D))
     (base log : LogState D) (p : Program) (m : ℕ) → HaveServed told count bases logs p.members
     → slice_get bases m ≡ Some base → m < length logs
     → AtMember p m (HasServed told count base (get_or logs m log))

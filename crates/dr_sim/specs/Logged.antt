@@ -4,7 +4,7 @@ use Rattle.dr_entry.specs.declared.end.End.{End}
 use Rattle.dr_entry.specs.declared.end.End.TheVariants as ends
 use Rattle.dr_entry.specs.declared.end.MemberEnd.{MemberEnd}
 use Rattle.dr_entry.specs.declared.limits.TheConstants.{MAX_MEMBERS, MAX_MESSAGES}
-use Rattle.dr_disk.specs.Calls.{Call}
+use Rattle.dr_disk.specs.Disk.{Told}
 use Rattle.dr_history.specs.Order.{first_entries}
 use Rattle.dr_log.specs.State.{LogState}
 use Rattle.dr_machine.specs.Group.{Group, roster}
@@ -29,7 +29,7 @@ why_ended (ends.LogFull len) = Some (whys.LogFull len)
 why_ended end = None
 
 -- what has come of each log since `bases`, by how the member of its number ended
-abbrev pub HaveCome : {D : Type 0} → (D → Option (List Call)) → (D → ℕ) → List (LogState D)
+abbrev pub HaveCome : {D : Type 0} → (D → Option Told) → (D → ℕ) → List (LogState D)
     → List (LogState D) → List MemberEnd → Type 0
 HaveCome {D} told faults bases logs members = (m : ℕ) (base log : LogState D) (e : MemberEnd)
     → slice_get bases m ≡ Some base → slice_get logs m ≡ Some log → slice_get members m ≡ Some e
@@ -60,3 +60,8 @@ pub record IsAsBefore {D : Type 0} (old new : LogState D) : Type 0 where
 abbrev pub AreAsBefore : {D : Type 0} → List (LogState D) → List (LogState D) → Type 0
 AreAsBefore {D} olds news = (m : ℕ) (old new : LogState D) → slice_get olds m ≡ Some old
     → slice_get news m ≡ Some new → IsAsBefore old new
+
+-- the disk of each log tells what it told, and has counted no further fault
+abbrev pub AreCalm : {D : Type 0} → (D → Option Told) → (D → ℕ) → List (LogState D) → List (LogState D) → Type 0
+AreCalm {D} tells faults olds news = (m : ℕ) (old new : LogState D) → slice_get olds m ≡ Some old
+    → slice_get news m ≡ Some new → (tells new.disk ≡ tells old.disk) × (faults new.disk ≡ faults old.disk)

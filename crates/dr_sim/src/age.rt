@@ -11,7 +11,7 @@ ghost use Rattle.dr_restart.specs.Setups.{crashes_of};
 ghost use Rattle.dr_script.specs.Ranges.{HasRanges};
 ghost use Rattle.dr_log.specs.State.{LogState};
 ghost use Rattle.dr_logged.specs.Served.{AreReady, HaveServed};
-ghost use Rattle.dr_sim.specs.Logged.{AreAsBefore, AreOpened, HaveCome, IsAmple, NoneFull, NoneStopped};
+ghost use Rattle.dr_sim.specs.Logged.{AreAsBefore, AreCalm, AreOpened, HaveCome, IsAmple, NoneFull, NoneStopped};
 ghost use Rattle.dr_sim.specs.Simulated.{HasRun, IsSimulated};
 ghost use Rattle.dr_sim.specs.Sound.{IsSound};
 
@@ -55,6 +55,7 @@ pub fn sim_age<D: Disk>(
     ensures ample { IfOk result (λ age. All (IsAmple (group_of script.now start.now)) logs.old
         → NoneFull age.members) }
     ensures kept { OnErr result (AreAsBefore logs.old logs.new) }
+    ensures calm { OnErr result (AreCalm D.told D.faults logs.old logs.new) }
     ensures count { length logs.new ≡ length logs.old }
     ensures members { IfOk result (λ age. length age.members ≡ length logs.old) }
 {

@@ -6,7 +6,7 @@ ghost use Rattle.dr_restart.specs.Groups.{group_of};
 ghost use Rattle.dr_restart.specs.Setups.{IsBegun};
 ghost use Rattle.dr_script.specs.Ranges.{HasRanges};
 ghost use Rattle.dr_log.specs.State.{LogState};
-ghost use Rattle.dr_sim.specs.Logged.{AreAsBefore};
+ghost use Rattle.dr_sim.specs.Logged.{AreAsBefore, AreCalm};
 ghost use Rattle.dr_logged.specs.Served.{AreRoomy, AtMember, HasServed, IsReady};
 ghost use Rattle.dr_sim.specs.Sound.{AreOthers, IsSound, TookDeed, TookTurn};
 
@@ -71,6 +71,7 @@ impl Simulation {
         requires all { length logs.old ≡ length self.now.members }
         ensures room { OnOk result (AreRoomy D.told D.faults self.now.members logs.old logs.new) }
         ensures kept { AreAsBefore logs.old logs.new }
+        ensures calm { AreCalm D.told D.faults logs.old logs.new }
         ensures count { length logs.new ≡ length logs.old }
     {
         for m in 0..logs.len() {

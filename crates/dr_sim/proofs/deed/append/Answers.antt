@@ -21,7 +21,7 @@ returns-in-Ok-clause-ready g c =
     let at = at_append c.args.member.now c.in-Append.record c.requires.form (sym c.in-Append.ensures.deed) in
     let did = did_append g.D.Disk.told g.D.Disk.faults c.args.log.now c.append.new.self c.args.member.now
     c.in-Append.record at.1 c.in-Ok.ensures.ok c.in-Ok.ensures.limit c.in-Ok.ensures.any_moment
-    c.in-Ok.ensures.durable c.in-Ok.ensures.faults in
+    c.in-Ok.ensures.lasting c.in-Ok.ensures.durable c.in-Ok.ensures.calm in
     subst (IsReady c.append.new.self) (sym (c.appended.ensures.after 0))
     (appended_ready c.args.log.now c.append.new.self 0 c.args.member.now at.0.step
     (omega (arith, at.0.some, at.0.room)) c.requires.ready did.made)
@@ -31,10 +31,10 @@ returns-in-Ok-clause-served g c = λ base served.
     let at = at_append c.args.member.now c.in-Append.record c.requires.form (sym c.in-Append.ensures.deed) in
     let did = did_append g.D.Disk.told g.D.Disk.faults c.args.log.now c.append.new.self c.args.member.now
     c.in-Append.record at.1 c.in-Ok.ensures.ok c.in-Ok.ensures.limit c.in-Ok.ensures.any_moment
-    c.in-Ok.ensures.durable c.in-Ok.ensures.faults in
+    c.in-Ok.ensures.lasting c.in-Ok.ensures.durable c.in-Ok.ensures.calm in
     subst (HasServed g.D.Disk.told g.D.Disk.faults base c.append.new.self) (sym (c.appended.ensures.after 0))
     (appended_served _ _ base c.args.log.now c.append.new.self 0 c.args.member.now at.0.step at.0.some served
-    did.made did.fits did.goes did.safe did.later)
+    did.made did.fits did.goes did.lasting did.safe did.calm)
 
 pub returns-in-Err-clause-served : goal.returns-in-Err-clause-served
 returns-in-Err-clause-served g c = λ base served.
@@ -43,4 +43,4 @@ returns-in-Err-clause-served g c = λ base served.
     (sym (c.append_failed.ensures.after ∙ ap (λ why. broken_off why c.args.member.now) c.why_of.ensures))
     (did_fail _ _ _ base c.args.log.now c.append.new.self c.args.member.now c.in-Append.record c.in-Err.fault
     at.0 at.1 c.in-Err.ensures.fault c.in-Err.ensures.full c.in-Err.ensures.limit c.in-Err.ensures.any_moment
-    c.in-Err.ensures.cause c.in-Err.ensures.faults served)
+    c.in-Err.ensures.lasting c.in-Err.ensures.cause c.in-Err.ensures.faults served)

@@ -1,7 +1,7 @@
 use Rattle.std.proofs.Common.{ap, arith}
 use Rattle.std.proofs.lemmas.Option.{slice_get_within}
 use Rattle.dr_log.specs.State.{LogState}
-use Rattle.dr_sim.proofs.Rooms.{none_made, one_more_made, roomy, same_set}
+use Rattle.dr_sim.proofs.Rooms.{calm_set, none_made, one_more_made, roomy, same_set}
 use Rattle.dr_sim.proofs.Steps.{member_there}
 use Rattle.dr_sim.proofs.simulation.Simulation.make_room.Goals as goal
 
@@ -15,6 +15,12 @@ returns-in_err-reserve-clause-kept g c =
       entries = ap (λ (l : LogState g.row.D.Denot). l.entries) c.in_err-reserve.ensures.err;
       votes = ap (λ (l : LogState g.row.D.Denot). l.votes) c.in_err-reserve.ensures.err;
     })
+
+pub returns-in_err-reserve-clause-calm : goal.returns-in_err-reserve-clause-calm
+returns-in_err-reserve-clause-calm g c =
+    calm_set g.D.Disk.told g.D.Disk.faults c.args.logs.now c.loop-m.logs c.loop-m.m c.index-logs-m.result c.reserve.new.self
+    c.loop-m.invariant.calm (omega (arith, c.loop-m-test.true, c.loop-m.invariant.all))
+    c.in_err-reserve.ensures.told c.in_err-reserve.ensures.faults
 
 pub loop-m-preserved : goal.loop-m-preserved
 loop-m-preserved g c =
