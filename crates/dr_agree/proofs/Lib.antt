@@ -1,1 +1,2 @@
+mod Durable
 mod Runs

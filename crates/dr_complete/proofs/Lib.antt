@@ -1,11 +1,12 @@
-mod Come
-mod Rings
-mod Takes
-mod DoneWords
-mod Whole
 mod Along
 mod Between
-mod Turns
-mod Rounds
+mod Come
 pub mod Completeness
+mod DoneWords
+mod Later
+mod Rings
+mod Rounds
 pub mod Scripts
+mod Takes
+mod Turns
+mod Whole

@@ -1,9 +1,15 @@
 //! Laws of groups that lose nothing.
-ghost use Rattle.std.specs.Prelude.{◌≡◌, ℕ, ◌+◌, ◌*◌, ◌^◌, ◌<◌, ◌≤◌, All, List, [], map, slice_get, Some};
+ghost use Rattle.std.specs.Prelude.{◌≡◌, ℕ, ◌+◌, ◌*◌, ◌^◌, ◌<◌, ◌≤◌, ◌++◌, All, List, [], length, map, slice_get, Some};
 ghost use Rattle.dr_complete.specs.Reached.{AllShowDone, RingsKeep, SeesSlot};
 ghost use Rattle.dr_entry.specs.declared.end.End.TheVariants.{Done};
 ghost use Rattle.dr_entry.specs.declared.end.MemberEnd.{MemberEnd};
-ghost use Rattle.dr_history_laws.specs.Remaining.{messages_left};
+ghost use Rattle.dr_entry.specs.declared.entry.Entry.{Entry};
+ghost use Rattle.dr_history.specs.Agreement.{accounts_of};
+ghost use Rattle.dr_history.specs.declared.opening.Opening.{Opening};
+ghost use Rattle.dr_history.specs.Order.{first_entries};
+ghost use Rattle.dr_history.specs.Restarting.{AreLeftBy, IsLongest};
+ghost use Rattle.dr_history.specs.Soundness.{Sound};
+ghost use Rattle.dr_history_laws.specs.Remaining.{messages_left, remaining};
 ghost use Rattle.dr_machine.specs.Group.{Group, IsGroup, roster};
 ghost use Rattle.dr_machine.specs.Guards.{IsOther, seen_slot};
 ghost use Rattle.dr_machine.specs.Run.{IsReached};
@@ -62,4 +68,18 @@ pub fn scripts_complete()
         → IsGroup (group_of script start) → HasRanges script → HasTime script
         → IsBegun script start nth begun → AllOk es → IsLockstep begun es p
         → AreComplete (group_of script start).opening (map end_of p.members) }
+{}
+
+/// Where all members of an age are complete, whatever they leave of their logs makes the next age start with
+/// their whole history, and leaves no message to it. So a member that is complete there has the start and
+/// View 0, and nothing else.
+pub fn complete_ages_leave_nothing()
+    ensures start { (g : Group) (next : Opening) (ends : List MemberEnd) (lists : List (List Entry))
+        → IsGroup g → length ends ≡ roster g → AreComplete g.opening ends
+        → AreLeftBy g.opening (accounts_of ends) lists → IsLongest lists next.start
+        → next.start ≡ first_entries g.opening ++ remaining g.opening }
+    ensures nothing { (g : Group) (next : Opening) (ends : List MemberEnd) (lists : List (List Entry))
+        → IsGroup g → length ends ≡ roster g → AreComplete g.opening ends
+        → AreLeftBy g.opening (accounts_of ends) lists → IsLongest lists next.start → Sound next
+        → g.opening.messages ≡ next.messages → remaining next ≡ [] }
 {}

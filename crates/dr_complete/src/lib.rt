@@ -9,6 +9,6 @@
 mod laws;
 
 pub use laws::{
-    all_show_done_where_one_has_ended, lockstep_completes, nothing_ready_is_overlooked,
-    rings_keep_their_items, scripts_complete,
+    all_show_done_where_one_has_ended, complete_ages_leave_nothing, lockstep_completes,
+    nothing_ready_is_overlooked, rings_keep_their_items, scripts_complete,
 };

@@ -1,4 +1,4 @@
-use dr_agree::{agree, agreed_run};
+use dr_agree::{agree, agreed_run, kept};
 use dr_entry::Entry;
 use dr_restart::first_start;
 use dr_script::read_script;
@@ -83,5 +83,7 @@ fn a_silent_member_fills_its_place(rt: HostRuntime) -> Result<(), Fail> {
     assert!(rt; world.members() == 2);
     assert!(rt; world.received(0, 1) == 1 && world.history(0).len() == 2);
     assert!(rt; agree(&world));
+    // An age is no later one than itself.
+    assert!(rt; !kept(&world, &world));
     Ok(())
 }

@@ -8,3 +8,4 @@ pub mod Remaining
 pub mod SentItems
 mod OneView
 pub mod Reached
+pub mod Wholes

@@ -37,7 +37,7 @@ index_is : (i j : ℕ) → ◌≡◌ {A = SentItem} (Index i) (Index j) → i �
 index_is i j e = cc
 
 -- the messages that the start leaves go on from the first entries
-left-goes_on : (o : Opening) (v : GroupView) → GoesOn o (to_send o) (first_entries o) v
+pub left-goes_on : (o : Opening) (v : GroupView) → GoesOn o (to_send o) (first_entries o) v
 left-goes_on o v = record {
   index = λ s k i member e. named s k i e ∙ sym (before s k i e);
   scripted = λ s k i member e. omega (arith, named s k i e, left_within o s v.number k (Index i) e);

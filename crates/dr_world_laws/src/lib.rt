@@ -6,7 +6,7 @@
 //! `docs/PROOFS.md` shows how.
 #![tactic(auto)]
 
-ghost use Rattle.std.specs.Prelude.{◌≡◌, ℕ, ◌<◌, List, ◌++◌, All, length, Some};
+ghost use Rattle.std.specs.Prelude.{◌≡◌, ℕ, ◌<◌, List, [], ◌++◌, All, length, Some};
 ghost use Rattle.dr_entry.specs.declared.end.End.TheVariants.{Done, Suspected, NoMajority};
 ghost use Rattle.dr_entry.specs.Spelling.{IsValidEntry};
 ghost use Rattle.dr_faithful.specs.Tells.{Views};
@@ -15,7 +15,9 @@ ghost use Rattle.dr_machine.specs.Group.{Group, IsGroup, roster};
 ghost use Rattle.dr_machine.specs.World.{World, opening_world};
 ghost use Rattle.dr_machine.specs.Guards.{HoldsAll};
 ghost use Rattle.dr_machine.specs.Run.{Run, IsReached, WorldAgreed};
+ghost use Rattle.dr_history.specs.declared.opening.Opening.{Opening};
 ghost use Rattle.dr_history.specs.Order.{first_entries};
+ghost use Rattle.dr_history.specs.Soundness.{Sound};
 ghost use Rattle.dr_history_laws.specs.Remaining.{remaining};
 ghost use Rattle.dr_world_laws.specs.Ends.{IsLeftOut};
 ghost use Rattle.dr_world_laws.specs.Historic.{AreLaid, Heads, HoldsMessages, IsMerged};
@@ -66,6 +68,12 @@ pub fn whole_histories_are_one()
     ensures { (g : Group) (w : World) (m : ℕ) → IsGroup g → IsReached g w
         → m < roster g → HoldsAll g w m
         → w.past.history m ≡ first_entries g.opening ++ remaining g.opening }
+{}
+
+/// An age that starts with such a history of another, by the same script, leaves no message to be delivered.
+pub fn whole_histories_leave_nothing()
+    ensures { (o next : Opening) → Sound o → Sound next → o.messages ≡ next.messages
+        → next.start ≡ first_entries o ++ remaining o → remaining next ≡ [] }
 {}
 
 /// A member of a reached world that was ended by suspicion was so by another member of View 0, or was left

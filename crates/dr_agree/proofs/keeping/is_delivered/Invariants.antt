@@ -1,0 +1,8 @@
+use Rattle.std.proofs.Common.{ℕ, ◌<◌}
+use Rattle.dr_history.specs.History.{IsPrefixOf}
+use Rattle.dr_world.specs.Held.{its_world}
+use Rattle.dr_agree.proofs.keeping.is_delivered.Given as goal
+
+abbrev pub invariant-loop-m : goal.invariant-loop-m
+invariant-loop-m l = (i : ℕ) → i < l.m → IsPrefixOf l.entries ((its_world l.world).past.history i)
+    → ⊥

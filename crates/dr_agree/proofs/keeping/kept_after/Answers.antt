@@ -1,0 +1,16 @@
+use Rattle.std.proofs.Common.{arith}
+use Rattle.dr_history_laws.proofs.Keeping.{longest_keeps}
+use Rattle.dr_machine.specs.Run.{accounts_in}
+use Rattle.dr_restart.specs.Groups.{group_of}
+use Rattle.dr_world_laws.proofs.Agreeing.{agreed}
+use Rattle.dr_world_laws.proofs.Reached.{known}
+use Rattle.dr_agree.specs.Left.{entries_of}
+use Rattle.dr_agree.proofs.keeping.kept_after.Goals as goal
+
+pub returns : goal.returns
+returns c w next run is longest =
+    let g = group_of c.args.script.now c.args.start.now in
+    longest_keeps g.opening (group_of c.args.script.now next).opening (accounts_in w)
+    (entries_of c.args.choice.now)
+    (agreed g w c.requires.group (known g w c.requires.group (c.args.events.now, run)))
+    (c.requires.choice w run).entries longest (omega (arith, c.requires.later, is))
