@@ -1,0 +1,15 @@
+//! Yards: where the disks of a group's members are kept while no age runs; and disks that are files.
+#![tactic(auto)]
+
+mod calm_yard;
+mod file_disk;
+mod file_yard;
+mod memory_yard;
+mod place;
+mod yard;
+
+pub use calm_yard::CalmYard;
+pub use file_disk::FileDisk;
+pub use file_yard::FileYard;
+pub use memory_yard::MemoryYard;
+pub use yard::Yard;
