@@ -1,0 +1,125 @@
+-- The start that logs make is that of a group of the script.
+use Rattle.std.proofs.Common.{◌≡◌, ◌≢◌, refl, sym, ap, ◌∙◌, ℕ, ◌+◌, ◌-◌, ◌^◌, ◌<◌, ◌≤◌, ◌⊎◌, inl, inr, arith, All, List, [], length, take, None, Some, zero, suc, append-nil, slice_get, get_or}
+use Rattle.std.specs.Prelude.{Option, IsSomeAnd}
+use Rattle.std.proofs.Math.Pow.{pow_mono}
+use Rattle.std.proofs.lemmas.Option.{slice_get-get_or, same_Some}
+use Rattle.dr_entry.specs.declared.entry.Entry.{Entry}
+use Rattle.dr_entry.specs.declared.entry.Entry.TheVariants.{View, Msg}
+use Rattle.dr_entry.specs.Spelling.{IsValidEntry}
+use Rattle.dr_history.specs.Members.{members_below, members_of}
+use Rattle.dr_history.specs.History.{GroupView, IsPrefixOf, view_of}
+use Rattle.dr_history.specs.Order.{MayFollow}
+use Rattle.dr_history.specs.Restarting.{AreAlong, next_age}
+use Rattle.dr_history.specs.Soundness.{MayStand}
+use Rattle.dr_history_laws.proofs.Keeping.{prefix_beside}
+use Rattle.dr_history_laws.proofs.Standing.{stands-by}
+use Rattle.dr_machine.specs.Group.{IsGroup}
+use Rattle.dr_restart.proofs.Groups.{first_group}
+use Rattle.dr_restart.specs.declared.start.Start.{Start}
+use Rattle.dr_restart.specs.Groups.{group_of}
+use Rattle.dr_script.specs.declared.script.Script.{Script}
+use Rattle.dr_script.specs.Ranges.{HasGroupRanges}
+use Rattle.dr_gather.specs.Gathering.{IsStartOf, judged_by}
+use Rattle.dr_gather.proofs.Stands.{sender_small}
+
+-- the entries of the start are those of a log that was found sound
+start_stands : (script : Script) (lists : List (List Entry)) (start : Start) → IsStartOf script lists start
+    → (i : ℕ) (e : Entry) → slice_get start.entries i ≡ Some e
+    → MayStand (judged_by script) (take i start.entries) e
+start_stands script lists start is i e at =
+    is.restart.sound is.restart.longest.place start.entries is.restart.longest.one i e at
+
+later_age : (o : Option GroupView) (age : ℕ) (v : GroupView) → age ≡ next_age o → o ≡ Some v → v.age < age
+later_age o age v is some =
+    let next : age ≡ v.age + 1 = is ∙ ap next_age some in omega (arith, next)
+
+pub start_group : (script : Script) (lists : List (List Entry)) (start : Start) → HasGroupRanges script
+    → start.age < 2 ^ 16 → IsStartOf script lists start → IsGroup (group_of script start)
+start_group script lists start ranges small is =
+    let first = first_group script ranges in
+    record {
+      some_member = first.some_member;
+      most_members = first.most_members;
+      some_slot = first.some_slot;
+      most_slots = first.most_slots;
+      messages = first.messages;
+      short = first.short;
+      bytes = first.bytes;
+      age = small;
+      sound = record {
+        entries = λ i e at. stands-by (judged_by script) (group_of script start).opening
+            (take i start.entries) e refl (start_stands script lists start is i e at);
+        later = λ v some. later_age (view_of start.entries) start.age v is.restart.next some;
+        whole = is.members ∙ ap (λ (n : ℕ). 2 ^ n - 1) (sym ranges.lists);
+        present = is.present ∙ ap (λ (n : ℕ). 2 ^ n - 1) (sym ranges.lists);
+      };
+    }
+
+-- ---- its entries are valid
+
+none_in_none : members_of 0 ≡ []
+unfolding members_of members_below
+none_in_none = refl
+
+some_in : (m : ℕ) → members_of m ≢ [] → 0 < m
+some_in m some = by m refl
+  where
+    by : (n : ℕ) → m ≡ n → 0 < m
+    by zero e = absurd (some (ap members_of e ∙ none_in_none))
+    by (suc n) e = omega (arith, e)
+
+valid_entry : (script : Script) (read : List Entry) (e : Entry) → HasGroupRanges script
+    → MayStand (judged_by script) read e → IsValidEntry e
+valid_entry script read (View a n m) ranges (inl opens) =
+    let few : 1 ≤ length script.messages = omega (arith, ranges.some_member, ranges.lists) in
+    let some : 2 ^ 1 ≤ 2 ^ length script.messages = pow_mono few in
+    omega (arith, some, opens.whole)
+valid_entry script read (View a n m) ranges (inr follows) = by (view_of read) follows
+  where
+    by : (o : Option GroupView) → IsSomeAnd o (λ v. MayFollow v a n m) → 0 < m
+    by None h = absurd h
+    by (Some v) h = some_in m h.some
+valid_entry script read (Msg s i b) ranges stands =
+    (sender_small script s i b ranges stands.2, (first_group script ranges).short s i b stands.2)
+
+pub start_valid : (script : Script) (lists : List (List Entry)) (start : Start) → HasGroupRanges script
+    → IsStartOf script lists start → All IsValidEntry start.entries
+start_valid script lists start ranges is i d l =
+    valid_entry script (take i start.entries) (get_or start.entries i d) ranges
+    (start_stands script lists start is i (get_or start.entries i d) (slice_get-get_or start.entries i d l))
+
+-- ---- each log has a part of them
+
+pub part_of_start : (script : Script) (lists : List (List Entry)) (start : Start) (m : ℕ) (es : List Entry)
+    → IsStartOf script lists start → slice_get lists m ≡ Some es → IsPrefixOf es start.entries
+part_of_start script lists start m es is at = by (apart m place)
+  where
+    place : ℕ
+    place = is.restart.longest.place
+
+    all : List Entry
+    all = start.entries
+
+    shorter : length es ≤ length all
+    shorter = is.restart.longest.longest m es at
+
+    apart : (i j : ℕ) → (i < j) ⊎ ((i ≡ j) ⊎ (j < i))
+    apart i j = grind arith
+
+    of_longer : IsPrefixOf all es → IsPrefixOf es all
+    of_longer p = prefix_beside es all es ([], append-nil es) p shorter
+
+    by : (m < place) ⊎ ((m ≡ place) ⊎ (place < m)) → IsPrefixOf es all
+    by (inl l) = along (is.restart.along m place es all l at is.restart.longest.one)
+      where
+        along : AreAlong es all → IsPrefixOf es all
+        along (inl p) = p
+        along (inr p) = of_longer p
+    by (inr (inl e)) =
+        let same : es ≡ all = same_Some es all (sym at ∙ (ap (slice_get lists) e ∙ is.restart.longest.one)) in
+        ([], append-nil es ∙ same)
+    by (inr (inr l)) = along (is.restart.along place m all es l is.restart.longest.one at)
+      where
+        along : AreAlong all es → IsPrefixOf es all
+        along (inl p) = of_longer p
+        along (inr p) = p

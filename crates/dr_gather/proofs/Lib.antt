@@ -1,0 +1,8 @@
+pub mod Accepting
+pub mod Catching
+pub mod Following
+pub mod Grouping
+pub mod Logs
+pub mod Refusing
+pub mod Stands
+pub mod Walks

@@ -1,0 +1,4 @@
+pub mod Gathering
+pub mod CatchingUp
+pub mod Leaving
+pub mod Parts
