@@ -1,0 +1,173 @@
+-- Yards whose disks are back under the logs that stand on them.
+use Rattle.std.proofs.Common.{◌≡◌, ◌≢◌, refl, sym, ap, ◌∙◌, subst, ℕ, ◌+◌, ◌<◌, ◌≤◌, ◌⊎◌, inl, inr, le_refl, arith, List, [], ◌∷◌, ◌++◌, length, length-append}
+use Rattle.std.specs.Prelude.{Option, None, Some, slice_get}
+use Rattle.std.specs.Option.{option_map_or}
+use Rattle.std.proofs.lemmas.Bool.{cases_eq}
+use Rattle.std.proofs.lemmas.Option.{slice_get_cases, slice_get_past, slice_get_within}
+use Rattle.dr_disk.specs.Disk.{Told}
+use Rattle.dr_history_laws.proofs.Lists.{slice_get-left, slice_get-seam, slice_get-some}
+use Rattle.dr_log.specs.State.{LogState}
+use Rattle.dr_yard.specs.Yards.{Passes, YardState}
+use Rattle.dr_ages.specs.Lent.{AreMounted, GoesOn, with_logs}
+use Rattle.dr_ages.specs.Opened.{AreLater}
+use Rattle.dr_ages.proofs.Caught.{on_then}
+
+-- nothing stands behind the end of a list
+slice_get_none : {A : Type 0} (xs : List A) (k : ℕ) → slice_get xs k ≡ None → length xs ≤ k
+slice_get_none xs k none = elim (slice_get_cases xs k).1 [
+  | inl found ↦ absurd (cc (found.2, none))
+  | inr past ↦ past.0
+]
+
+-- yards that tell the same are in one state
+pub same_yard : (one other : YardState) → ((m : ℕ) → one.told m ≡ other.told m)
+    → ((m : ℕ) → one.faults m ≡ other.faults m) → one ≡ other
+same_yard one other told faults = λ i. record { told = λ m. told m i; faults = λ m. faults m i }
+
+-- what is told of a disk under a log
+pub told_at : {D : Type 0} (tells : D → Option Told) (faults : D → ℕ) (yard : YardState)
+    (logs : List (LogState D)) (m : ℕ) (log : LogState D) → slice_get logs m ≡ Some log
+    → (with_logs tells faults yard logs).told m ≡ tells log.disk
+told_at {D} tells faults yard logs m log here =
+    ap (λ (o : Option (LogState D)). option_map_or (λ (log : LogState D). tells log.disk) o (yard.told m)) here
+
+pub faults_at : {D : Type 0} (tells : D → Option Told) (faults : D → ℕ) (yard : YardState)
+    (logs : List (LogState D)) (m : ℕ) (log : LogState D) → slice_get logs m ≡ Some log
+    → (with_logs tells faults yard logs).faults m ≡ faults log.disk
+faults_at {D} tells faults yard logs m log here =
+    ap (λ (o : Option (LogState D)). option_map_or (λ (log : LogState D). faults log.disk) o (yard.faults m)) here
+
+-- logs over the same other disks
+pub same_rest : {D : Type 0} (tells : D → Option Told) (faults : D → ℕ) (one other : YardState)
+    (logs : List (LogState D)) (m : ℕ)
+    → (length logs ≤ m → (one.told m ≡ other.told m) × (one.faults m ≡ other.faults m))
+    → ((with_logs tells faults one logs).told m ≡ (with_logs tells faults other logs).told m)
+    × ((with_logs tells faults one logs).faults m ≡ (with_logs tells faults other logs).faults m)
+same_rest {D} tells faults one other logs m rest = by (slice_get logs m) refl
+  where
+    by : (o : Option (LogState D)) → slice_get logs m ≡ o
+        → (option_map_or (λ (log : LogState D). tells log.disk) o (one.told m)
+        ≡ option_map_or (λ (log : LogState D). tells log.disk) o (other.told m))
+        × (option_map_or (λ (log : LogState D). faults log.disk) o (one.faults m)
+        ≡ option_map_or (λ (log : LogState D). faults log.disk) o (other.faults m))
+    by None at = rest (slice_get_none logs m at)
+    by (Some log) at = (refl, refl)
+
+-- disks of mounted logs that went on since, and others that did too
+pub passed_with : {D : Type 0} (tells : D → Option Told) (faults : D → ℕ) (before yard : YardState)
+    (olds news : List (LogState D)) → AreMounted tells faults before olds → AreLater tells faults olds news
+    → length news ≡ length olds
+    → ((m : ℕ) → length olds ≤ m → GoesOn (before.told m) (before.faults m) (yard.told m) (yard.faults m))
+    → Passes before (with_logs tells faults yard news)
+passed_with {D} tells faults before yard olds news mounted later count rest = record {
+  tells = λ m. (each m).tells;
+  later = λ m. (each m).later;
+}
+  where
+    by : (m : ℕ) (o : Option (LogState D)) → slice_get news m ≡ o
+        → GoesOn (before.told m) (before.faults m)
+        (option_map_or (λ (log : LogState D). tells log.disk) o (yard.told m))
+        (option_map_or (λ (log : LogState D). faults log.disk) o (yard.faults m))
+    by m None at = rest m (omega (arith, slice_get_none news m at, count))
+    by m (Some new) at =
+        let old = slice_get-some olds m (omega (arith, slice_get_within news m new at, count)) in
+        on_then (before.told m) (tells old.0.disk) (tells new.disk) (before.faults m) (faults old.0.disk)
+        (faults new.disk) (mounted m old.0 old.1).on (later m old.0 new old.1 at)
+
+    each : (m : ℕ) → GoesOn (before.told m) (before.faults m) ((with_logs tells faults yard news).told m)
+        ((with_logs tells faults yard news).faults m)
+    each m = by m (slice_get news m) refl
+
+-- what is told behind them, where the disks are back and the others are as they were
+pub after_is : {D : Type 0} (tells : D → Option Told) (faults : D → ℕ) (before mid after : YardState)
+    (logs : List (LogState D))
+    → ((m : ℕ) → length logs ≤ m → (mid.told m ≡ before.told m) × (mid.faults m ≡ before.faults m))
+    → ((m : ℕ) → (after.told m ≡ (with_logs tells faults mid logs).told m)
+    × (after.faults m ≡ (with_logs tells faults mid logs).faults m))
+    → with_logs tells faults before logs ≡ after
+after_is tells faults before mid after logs rest back =
+    same_yard (with_logs tells faults before logs) after
+    (λ m. sym ((back m).0 ∙ (same_rest tells faults mid before logs m (rest m)).0))
+    (λ m. sym ((back m).1 ∙ (same_rest tells faults mid before logs m (rest m)).1))
+
+pub passed_back : {D : Type 0} (tells : D → Option Told) (faults : D → ℕ) (before mid after : YardState)
+    (olds news : List (LogState D)) → AreMounted tells faults before olds → AreLater tells faults olds news
+    → length news ≡ length olds
+    → ((m : ℕ) → length olds ≤ m → GoesOn (before.told m) (before.faults m) (mid.told m) (mid.faults m))
+    → ((m : ℕ) → (after.told m ≡ (with_logs tells faults mid news).told m)
+    × (after.faults m ≡ (with_logs tells faults mid news).faults m))
+    → Passes before after
+passed_back tells faults before mid after olds news mounted later count rest back =
+    subst (Passes before)
+    (sym (same_yard after (with_logs tells faults mid news) (λ m. (back m).0) (λ m. (back m).1)))
+    (passed_with tells faults before mid olds news mounted later count rest)
+
+-- a disk that is back has counted no fewer faults than its yard had
+pub later_back : {D : Type 0} (tells : D → Option Told) (faults : D → ℕ) (mid after : YardState)
+    (logs : List (LogState D))
+    → ((m : ℕ) (log : LogState D) → slice_get logs m ≡ Some log → mid.faults m ≤ faults log.disk)
+    → ((m : ℕ) → (after.told m ≡ (with_logs tells faults mid logs).told m)
+    × (after.faults m ≡ (with_logs tells faults mid logs).faults m))
+    → (m : ℕ) → mid.faults m ≤ after.faults m
+later_back {D} tells faults mid after logs counted back m =
+    subst (λ (n : ℕ). mid.faults m ≤ n) (sym (back m).1) (by (slice_get logs m) refl)
+  where
+    by : (o : Option (LogState D)) → slice_get logs m ≡ o
+        → mid.faults m ≤ option_map_or (λ (log : LogState D). faults log.disk) o (mid.faults m)
+    by None at = le_refl (mid.faults m)
+    by (Some log) at = counted m log at
+
+-- ---- disks that are given back, the last one first
+
+pub record AreBack {D : Type 0} (tells : D → Option Told) (faults : D → ℕ) (first : YardState)
+    (all : List (LogState D)) (yard : YardState) (logs : List (LogState D)) : Type 0 where
+  pub few : length logs ≤ length all
+  pub same : (m : ℕ) → m < length logs → slice_get logs m ≡ slice_get all m
+  pub back : (m : ℕ) → length logs ≤ m → (yard.told m ≡ (with_logs tells faults first all).told m)
+      × (yard.faults m ≡ (with_logs tells faults first all).faults m)
+
+pub none_back : {D : Type 0} (tells : D → Option Told) (faults : D → ℕ) (first : YardState)
+    (all : List (LogState D)) → AreBack tells faults first all first all
+none_back {D} tells faults first all = record {
+  few = omega arith;
+  same = λ m l. refl;
+  back = λ m past. (
+    ap (λ (o : Option (LogState D)). option_map_or (λ (log : LogState D). tells log.disk) o (first.told m))
+        (sym (slice_get_past all m past)),
+    ap (λ (o : Option (LogState D)). option_map_or (λ (log : LogState D). faults log.disk) o (first.faults m))
+        (sym (slice_get_past all m past)),
+  );
+}
+
+pub one_more_back : {D : Type 0} (tells : D → Option Told) (faults : D → ℕ) (first : YardState)
+    (all : List (LogState D)) (old new : YardState) (logs rest : List (LogState D)) (log : LogState D)
+    → AreBack tells faults first all old logs → logs ≡ rest ++ log ∷ []
+    → new.told (length rest) ≡ tells log.disk → new.faults (length rest) ≡ faults log.disk
+    → ((m : ℕ) → m ≢ length rest → (new.told m ≡ old.told m) × (new.faults m ≡ old.faults m))
+    → AreBack tells faults first all new rest
+one_more_back {D} tells faults first all old new logs rest log are parts told count others = record {
+  few = omega (arith, are.few, long);
+  same = λ m l. sym (slice_get-left rest (log ∷ []) m l)
+      ∙ (ap (λ (xs : List (LogState D)). slice_get xs m) (sym parts) ∙ are.same m (omega (arith, l, long)));
+  back = λ m past. by m past (cases_eq m (length rest));
+}
+  where
+    long : length logs ≡ length rest + 1
+    long = ap length parts ∙ length-append rest (log ∷ [])
+
+    here : slice_get all (length rest) ≡ Some log
+    here = sym (are.same (length rest) (omega (arith, long)))
+        ∙ (ap (λ (xs : List (LogState D)). slice_get xs (length rest)) parts ∙ slice_get-seam rest log [])
+
+    by : (m : ℕ) → length rest ≤ m → (m ≡ length rest) ⊎ (m ≢ length rest)
+        → (new.told m ≡ (with_logs tells faults first all).told m)
+        × (new.faults m ≡ (with_logs tells faults first all).faults m)
+    by m past (inl at) =
+        let there : slice_get all m ≡ Some log = ap (slice_get all) at ∙ here in (
+          ap new.told at ∙ (told ∙ sym (told_at tells faults first all m log there)),
+          ap new.faults at ∙ (count ∙ sym (faults_at tells faults first all m log there)),
+        )
+    by m past (inr apart) =
+        let o = others m apart in
+        let b = are.back m (omega (arith, past, apart, long)) in
+        (o.0 ∙ b.0, o.1 ∙ b.1)

@@ -1,0 +1,259 @@
+-- Runs over empty disks.
+use Rattle.std.proofs.Common.{◌≡◌, refl, sym, ap, ◌∙◌, subst, ℕ, zero, suc, ◌+◌, ◌^◌, ◌<◌, ◌≤◌, arith, List, [], ◌∷◌, length, take, length-append, length-take, take_at}
+use Rattle.std.specs.Prelude.{All, IsSomeAnd, IsTrue, Option, None, Some, is_some, slice_get}
+use Rattle.std.proofs.Math.Pow.{pow_mono}
+use Rattle.std.proofs.lemmas.List.Elements.{All-append, All-cons, All-nil, All-take}
+use Rattle.std.proofs.lemmas.Option.{same_Some, slice_get_within}
+use Rattle.dr_disk.specs.Disk.{Told, content_of}
+use Rattle.dr_entry.specs.declared.end.AgeEnd.{AgeEnd}
+use Rattle.dr_entry.specs.declared.entry.Entry.{Entry}
+use Rattle.dr_entry.specs.declared.entry.Entry.TheVariants.{View, Msg}
+use Rattle.dr_entry.specs.declared.record.Vote.{Vote}
+use Rattle.dr_entry.specs.Spelling.{IsValidEntry}
+use Rattle.dr_gather.specs.Gathering.{IsStartOf}
+use Rattle.dr_gather.proofs.Grouping.{start_group, start_valid}
+use Rattle.dr_history.specs.declared.opening.Opening.{Opening}
+use Rattle.dr_history.specs.Agreement.{accounts_of, sent_by}
+use Rattle.dr_history.specs.History.{GroupView, IsPrefixOf, Sent, view_after, view_of}
+use Rattle.dr_history.specs.Members.{members_of}
+use Rattle.dr_history.specs.Order.{InOrder, MayFollow, first_entries}
+use Rattle.dr_history.specs.Restarting.{IsLongest, next_age}
+use Rattle.dr_history.proofs.ViewLemmas.{view_of-View, view_of-Msg}
+use Rattle.dr_history_laws.proofs.Lengths.{start-few}
+use Rattle.dr_history_laws.proofs.Lists.{IsSomeAnd-at, slice_get-some, take-next}
+use Rattle.dr_log.specs.Standing.{block_length, log_length}
+use Rattle.dr_log.proofs.Growing.{short_block, short_log_length}
+use Rattle.dr_logged.specs.Served.{next_record}
+use Rattle.dr_restart.specs.declared.start.Start.{Start}
+use Rattle.dr_restart.specs.Groups.{group_of}
+use Rattle.dr_script.specs.declared.script.Script.{Script}
+use Rattle.dr_script.specs.Ranges.{HasGroupRanges}
+use Rattle.dr_sim.specs.Logged.{NoneFull}
+use Rattle.dr_yard.specs.Yards.{AllTell, AreEmpty, YardState}
+use Rattle.dr_ages.specs.declared.stop.Stop.{Stop}
+use Rattle.dr_ages.specs.declared.stop.Stop.TheVariants.{OutOfMemory, DiskFault, LogFull, Damaged, Disagree, Foreign, AgesUsedUp}
+use Rattle.dr_ages.specs.Ages.{AreAges, IsAgeOf, opening_of}
+use Rattle.dr_ages.specs.Found.{AreFound}
+use Rattle.dr_ages.specs.Stops.{HasStopped, IsOutside, IsTooFull}
+use Rattle.dr_ages.proofs.Chain.{tell_on}
+use Rattle.dr_ages.proofs.Good.{IsGood, age_leaves_good, empty_found, empty_good, good_never, part_of_history}
+use Rattle.dr_ages.proofs.Keeping.{IsBehind, found_left, longest_begins}
+
+-- ---- the view of what an age leaves
+
+-- behind View 0 a history in order is in views of its age
+age_after : (o : Opening) (sent : Sent) (h : List Entry) (i d : ℕ) (u : GroupView) → InOrder o sent h
+    → length o.start < i → i + d ≤ length h → view_of (take i h) ≡ Some u
+    → (w : GroupView) × (view_of (take (i + d) h) ≡ Some w) × (w.age ≡ u.age)
+age_after o sent h i zero u order l within e =
+    let same : i + 0 ≡ i = omega arith in
+    (u, ap (λ j. view_of (take j h)) same ∙ e, refl)
+age_after o sent h i (suc d) u order l within e =
+    next (age_after o sent h i d u order l (omega arith) e) (slice_get-some h (i + d) (omega arith))
+  where
+    place : i + suc d ≡ i + d + 1
+    place = omega arith
+
+    next : (w : GroupView) × (view_of (take (i + d) h) ≡ Some w) × (w.age ≡ u.age)
+        → (x : Entry) × (slice_get h (i + d) ≡ Some x)
+        → (w : GroupView) × (view_of (take (i + suc d) h) ≡ Some w) × (w.age ≡ u.age)
+    next r (View a n m, at) =
+        let follows = IsSomeAnd-at (view_of (take (i + d) h)) (λ v. MayFollow v a n m) r.0 r.1
+        (order.views (i + d) a n m (omega (arith, l)) at) in (
+          record { age = a; number = n; members = members_of m },
+          ap (λ j. view_of (take j h)) place
+              ∙ (ap view_of (take-next h (i + d) (View a n m) at) ∙ view_of-View (take (i + d) h) a n m),
+          follows.same_age ∙ r.2,
+        )
+    next r (Msg s j b, at) = (
+      r.0,
+      ap (λ j. view_of (take j h)) place
+          ∙ (ap view_of (take-next h (i + d) (Msg s j b) at)
+          ∙ (view_of-Msg (take (i + d) h) s j b ∙ r.1)),
+      r.2,
+    )
+
+-- so the age behind a part of it is the next one
+next_of_part : (o : Opening) (sent : Sent) (es h : List Entry) → InOrder o sent h
+    → IsPrefixOf (first_entries o) es → IsPrefixOf es h → next_age (view_of es) ≡ o.age + 1
+next_of_part o sent es h order begins part =
+    let n = length o.start in
+    let i = length (first_entries o) in
+    let first : take i h ≡ first_entries o =
+    ap (take i) (sym order.begins.1) ∙ take_at (first_entries o) order.begins.0 i refl in
+    let view : view_of (take i h) ≡ Some (record { age = o.age; number = 0; members = members_of o.members }) =
+    ap view_of first ∙ view_of-View o.start o.age 0 o.members in
+    let long : i ≡ n + 1 = omega (arith, length-append o.start (View o.age 0 o.members ∷ [])) in
+    let far : i + length begins.0 ≡ length es =
+    omega (arith, ap length begins.1, length-append (first_entries o) begins.0) in
+    let within : length es ≤ length h = omega (arith, ap length part.1, length-append es part.0) in
+    let r = age_after o sent h i (length begins.0)
+    (record { age = o.age; number = 0; members = members_of o.members }) order (omega (arith, long))
+    (omega (arith, far, within)) view in
+    let all : take (i + length begins.0) h ≡ es =
+    ap (λ k. take k h) far ∙ (ap (take (length es)) (sym part.1) ∙ take_at es part.0 (length es) refl) in
+    let last : view_of es ≡ Some r.0 = ap view_of (sym all) ∙ r.1 in
+    ap next_age last ∙ omega (arith, r.2)
+
+no_age : next_age (view_of []) ≡ 0
+unfolding view_after
+no_age = refl
+
+-- ---- disks behind so many ages from empty ones
+
+pub record IsFreshAt (script : Script) (k : ℕ) (yard : YardState) : Type 0 where
+  pub tell : AllTell script.members yard
+  pub good : IsGood script yard
+  pub bare : (lists : List (List Entry)) (votes : ℕ → List Vote) → AreFound script.members yard lists votes
+      → (m : ℕ) → m < script.members → votes m ≡ []
+  pub next : (lists : List (List Entry)) (votes : ℕ → List Vote) → AreFound script.members yard lists votes
+      → (es : List Entry) → IsLongest lists es → next_age (view_of es) ≡ k
+
+pub fresh_first : (script : Script) (yard : YardState) → AreEmpty script.members yard → IsFreshAt script 0 yard
+fresh_first script yard empty = record {
+  tell = λ m l. tells (yard.told m) (empty m l);
+  good = empty_good script yard empty;
+  bare = λ lists votes found m l.
+      let es = slice_get-some lists m (omega (arith, l, found.all)) in
+      (empty_found script yard lists votes m es.0 empty found es.1).1;
+  next = λ lists votes found es longest.
+      ap (λ (l : List Entry). next_age (view_of l))
+      (empty_found script yard lists votes longest.place es empty found longest.one).0 ∙ no_age;
+}
+  where
+    tells : (o : Option Told) → IsSomeAnd o (λ t. content_of t ≡ []) → IsTrue (is_some o)
+    tells None is = absurd is
+    tells (Some t) is = refl
+
+-- the age has the number of those before it
+age_number : (script : Script) (k nth : ℕ) (before yard : YardState) (age : AgeEnd) → IsFreshAt script k before
+    → IsAgeOf script nth before yard age → age.age ≡ k
+age_number script k nth before yard age fresh is =
+    is.starts.restart.next ∙ fresh.next is.lists is.votes is.found age.start is.starts.restart.longest
+
+-- the first age starts with nothing
+pub fresh_start : (script : Script) (nth : ℕ) (before : YardState) (ages : List AgeEnd) (last : YardState)
+    (a : AgeEnd) → AreEmpty script.members before → AreAges script nth before ages last
+    → slice_get ages 0 ≡ Some a → a.start ≡ []
+fresh_start script nth before [] last a empty are at = absurd (omega (arith, slice_get_within [] 0 a at))
+fresh_start script nth before (one ∷ ages) last a empty are at =
+    ap (λ (x : AgeEnd). x.start) (sym (same_Some one a at))
+    ∙ (empty_found script before are.1.lists are.1.votes are.1.starts.restart.longest.place one.start empty
+    are.1.found are.1.starts.restart.longest.one).0
+
+fresh_next : (script : Script) (k nth : ℕ) (before yard : YardState) (age : AgeEnd) → HasGroupRanges script
+    → IsFreshAt script k before → IsAgeOf script nth before yard age → IsFreshAt script (k + 1) yard
+fresh_next script k nth before yard age ranges fresh is = record {
+  tell = tell;
+  good = age_leaves_good script nth before yard age ranges is tell;
+  bare = λ lists votes found m l.
+      let e = slice_get-some age.members m (omega (arith, l, is.roster)) in
+      let es = slice_get-some lists m (omega (arith, l, found.all)) in
+      (found_left script yard age lists votes m e.0 es.0 (behind lists votes found) e.1 es.1).1
+      ∙ fresh.bare is.lists is.votes is.found m l;
+  next = λ lists votes found es longest.
+      let p = part_of_history script yard age lists votes longest.place es (behind lists votes found) longest.one in
+      next_of_part (opening_of script age) (sent_by (accounts_of age.members)) es
+      (accounts_of age.members longest.place).history (is.agreed.agreed.ordered longest.place p.0)
+      (longest_begins script yard age lists votes es (behind lists votes found) longest) p.1
+      ∙ ap (λ (n : ℕ). n + 1) (age_number script k nth before yard age fresh is);
+}
+  where
+    tell : AllTell script.members yard
+    tell = tell_on script.members before yard is.passes fresh.tell
+
+    behind : (lists : List (List Entry)) (votes : ℕ → List Vote) → AreFound script.members yard lists votes
+        → IsBehind script yard age lists votes
+    behind lists votes found = record {
+      ranges = ranges;
+      nth = nth;
+      before = before;
+      is = is;
+      tell = tell;
+      found = found;
+    }
+
+pub fresh_last : (script : Script) (k nth : ℕ) (before : YardState) (ages : List AgeEnd) (last : YardState)
+    → HasGroupRanges script → IsFreshAt script k before → AreAges script nth before ages last
+    → IsFreshAt script (k + length ages) last
+fresh_last script k nth before [] last ranges fresh are =
+    subst (λ (n : ℕ). IsFreshAt script n last) (omega arith) (subst (IsFreshAt script k) are fresh)
+fresh_last script k nth before (age ∷ ages) last ranges fresh are =
+    subst (λ (n : ℕ). IsFreshAt script n last) (omega arith)
+    (fresh_last script (k + 1) (nth + 1) are.0 ages last ranges
+    (fresh_next script k nth before are.0 age ranges fresh are.1) are.2)
+
+pub fresh_ages : (script : Script) (k nth : ℕ) (before : YardState) (ages : List AgeEnd) (last : YardState)
+    (i : ℕ) (a : AgeEnd) → HasGroupRanges script → IsFreshAt script k before → AreAges script nth before ages last
+    → slice_get ages i ≡ Some a → (a.age ≡ k + i) × NoneFull a.members
+fresh_ages script k nth before [] last i a ranges fresh are at = absurd (omega (arith, slice_get_within [] i a at))
+fresh_ages script k nth before (age ∷ ages) last zero a ranges fresh are at =
+    subst (λ (x : AgeEnd). (x.age ≡ k + 0) × NoneFull x.members) (same_Some age a at) (
+      omega (arith, age_number script k nth before are.0 age fresh are.1),
+      are.1.ample (fresh.bare are.1.lists are.1.votes are.1.found),
+    )
+fresh_ages script k nth before (age ∷ ages) last (suc i) a ranges fresh are at =
+    let r = fresh_ages script (k + 1) (nth + 1) are.0 ages last i a ranges
+    (fresh_next script k nth before are.0 age ranges fresh are.1) are.2 at in
+    (omega (arith, r.0), r.1)
+
+-- ---- no log is full
+
+-- a start has at most 2^21 entries
+pub start_small : (script : Script) (lists : List (List Entry)) (start : Start) → HasGroupRanges script
+    → start.age < 2 ^ 16 → IsStartOf script lists start → length start.entries ≤ 2097152
+start_small script lists start ranges small is =
+    let g = start_group script lists start ranges small is in
+    start-few (group_of script start).opening g.sound small g.some_member g.most_members g.messages
+
+-- what an age begins with is valid
+first_valid : (script : Script) (lists : List (List Entry)) (start : Start) → HasGroupRanges script
+    → IsStartOf script lists start → All IsValidEntry (first_entries (group_of script start).opening)
+first_valid script lists start ranges is =
+    All-append IsValidEntry start.entries (View start.age 0 start.members ∷ [])
+    (start_valid script lists start ranges is) one
+  where
+    some : 0 < start.members
+    some = let l : 2 ^ 1 ≤ 2 ^ script.members = pow_mono ranges.some_member in omega (arith, l, is.members)
+
+    one : All IsValidEntry (View start.age 0 start.members ∷ [])
+    one = All-cons IsValidEntry (View start.age 0 start.members) [] some (All-nil IsValidEntry)
+
+full_never : (script : Script) (before after : YardState) (m len : ℕ) → HasGroupRanges script
+    → (is : IsTooFull script before after m len) → is.votes m ≡ [] → ⊥
+full_never script before after m len ranges is bare =
+    let whole = first_entries (group_of script is.start).opening in
+    let valid = first_valid script is.lists is.start ranges is.starts in
+    let few = start_small script is.lists is.start ranges is.small is.starts in
+    let log = short_log_length (take is.count whole) (All-take IsValidEntry is.count whole valid) in
+    let block : block_length (next_record whole is.count) ≤ 72 =
+    short_block _ (valid is.count (View 0 0 0) is.more) in
+    omega (
+      arith,
+      few,
+      log,
+      block,
+      is.over,
+      is.long,
+      is.more,
+      length-append is.start.entries (View is.start.age 0 is.start.members ∷ []),
+      ap (log_length (take is.count whole)) bare,
+      length-take is.count whole,
+    )
+
+-- ---- what stops a run
+
+pub fresh_stop : (script : Script) (k : ℕ) (last after : YardState) (s : Stop) → HasGroupRanges script
+    → IsFreshAt script k last → k < 2 ^ 16 → HasStopped script last after s → IsOutside s
+fresh_stop script k last after OutOfMemory ranges fresh few is = tt
+fresh_stop script k last after (DiskFault m) ranges fresh few is = tt
+fresh_stop script k last after (LogFull m len) ranges fresh few is =
+    full_never script last after m len ranges is (fresh.bare is.lists is.votes is.found m is.below)
+fresh_stop script k last after (Damaged m at) ranges fresh few is =
+    good_never script last after (Damaged m at) fresh.good is tt
+fresh_stop script k last after (Disagree a b p) ranges fresh few is =
+    good_never script last after (Disagree a b p) fresh.good is tt
+fresh_stop script k last after (Foreign m p) ranges fresh few is =
+    good_never script last after (Foreign m p) fresh.good is tt
+fresh_stop script k last after AgesUsedUp ranges fresh few is =
+    omega (arith, few, is.3.last, fresh.next is.0 is.1 is.2 is.3.entries is.3.longest)

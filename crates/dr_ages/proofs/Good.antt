@@ -1,0 +1,162 @@
+-- Disks whose logs are never refused: empty ones, and those that an age leaves.
+use Rattle.std.proofs.Common.{◌≡◌, refl, sym, ap, ◌∙◌, subst, ℕ, ◌<◌, inl, inr, arith, List, [], ◌++◌, length}
+use Rattle.std.specs.Prelude.{IfSome, IsSomeAnd, IsTrue, Option, None, Some, is_some, slice_get}
+use Rattle.std.specs.Option.{option_map_or}
+use Rattle.std.proofs.lemmas.Option.{slice_get_within}
+use Rattle.dr_disk.specs.Disk.{Told, content_of}
+use Rattle.dr_entry.specs.declared.end.AgeEnd.{AgeEnd}
+use Rattle.dr_entry.specs.declared.end.MemberEnd.{MemberEnd}
+use Rattle.dr_entry.specs.declared.entry.Entry.{Entry}
+use Rattle.dr_entry.specs.declared.record.Vote.{Vote}
+use Rattle.dr_gather.specs.Gathering.{judged_by}
+use Rattle.dr_gather.specs.Parts.{AreFirstPartsOf}
+use Rattle.dr_gather.proofs.Accepting.{ended_along, ended_sound}
+use Rattle.dr_gather.proofs.Following.{is_there}
+use Rattle.dr_gather.proofs.Grouping.{start_group}
+use Rattle.dr_gather.proofs.Refusing.{disagreement_not_along, foreign_not_sound}
+use Rattle.dr_history.specs.Agreement.{accounts_of}
+use Rattle.dr_history.specs.History.{IsPrefixOf}
+use Rattle.dr_history.specs.Restarting.{AreAllAlong, AreSound}
+use Rattle.dr_history.specs.Soundness.{IsPresentIn}
+use Rattle.dr_history_laws.proofs.Lists.{slice_get-some}
+use Rattle.dr_log.specs.Grammar.{Recovered}
+use Rattle.dr_log.specs.Standing.{entries_in, votes_in}
+use Rattle.dr_log.proofs.Meaning.{stands_or_damaged}
+use Rattle.dr_machine.specs.Group.{IsGroup, roster}
+use Rattle.dr_restart.specs.Groups.{group_of}
+use Rattle.dr_script.specs.declared.script.Script.{Script}
+use Rattle.dr_script.specs.Ranges.{HasGroupRanges}
+use Rattle.dr_yard.specs.Yards.{AllTell, AreEmpty, YardState}
+use Rattle.dr_ages.specs.declared.stop.Stop.{Stop}
+use Rattle.dr_ages.specs.declared.stop.Stop.TheVariants.{OutOfMemory, DiskFault, LogFull, Damaged, Disagree, Foreign, AgesUsedUp}
+use Rattle.dr_ages.specs.Ages.{IsAgeOf, opening_of, start_of}
+use Rattle.dr_ages.specs.Found.{AreFound, ReadsAs}
+use Rattle.dr_ages.specs.Left.{HasLeft}
+use Rattle.dr_ages.specs.Stops.{HasStopped, IsBadLogs, ReadsDamaged}
+use Rattle.dr_ages.proofs.Keeping.{IsBehind, found_left, left_part}
+
+-- whatever is found on the disks makes sound lists that are along one another, and no disk is damaged
+pub record IsGood (script : Script) (yard : YardState) : Type 0 where
+  pub sound : (lists : List (List Entry)) (votes : ℕ → List Vote) → AreFound script.members yard lists votes
+      → AreSound (judged_by script) lists
+  pub along : (lists : List (List Entry)) (votes : ℕ → List Vote) → AreFound script.members yard lists votes
+      → AreAllAlong lists
+  pub whole : (m at : ℕ) → m < script.members → IfSome (yard.told m) (ReadsDamaged at) → ⊥
+
+-- so their logs are never refused
+pub good_never : (script : Script) (last after : YardState) (s : Stop) → IsGood script last
+    → HasStopped script last after s → IsBadLogs s → ⊥
+good_never script last after (Damaged m at) good is bad = good.whole m at is.below is.damaged
+good_never script last after (Disagree a b p) good is bad =
+    disagreement_not_along is.0 a b p is.3.1 (good.along is.0 is.1 is.2)
+good_never script last after (Foreign m p) good is bad =
+    foreign_not_sound (judged_by script) is.0 m p is.3 (good.sound is.0 is.1 is.2)
+good_never script last after OutOfMemory good is bad = bad
+good_never script last after (DiskFault m) good is bad = bad
+good_never script last after (LogFull m len) good is bad = bad
+good_never script last after AgesUsedUp good is bad = bad
+
+-- ---- empty disks
+
+-- nothing is read of one
+pub empty_reads : (o : Option Told) (es : List Entry) (vs : List Vote) → IsSomeAnd o (λ t. content_of t ≡ [])
+    → IfSome o (ReadsAs es vs) → (es ≡ []) × (vs ≡ [])
+empty_reads None es vs empty reads = absurd empty
+empty_reads (Some t) es vs empty reads = by reads.stands.recovered
+  where
+    by : Recovered (content_of t) reads.stands.records → (es ≡ []) × (vs ≡ [])
+    by (inl few) = (
+      sym reads.stands.entries ∙ ap entries_in few.1,
+      sym reads.stands.votes ∙ ap votes_in few.1,
+    )
+    by (inr more) = absurd (omega (arith, more.0, ap length empty))
+
+pub empty_found : (script : Script) (yard : YardState) (lists : List (List Entry)) (votes : ℕ → List Vote) (m : ℕ)
+    (es : List Entry) → AreEmpty script.members yard → AreFound script.members yard lists votes
+    → slice_get lists m ≡ Some es → (es ≡ []) × (votes m ≡ [])
+empty_found script yard lists votes m es empty found at =
+    empty_reads (yard.told m) es (votes m) (empty m (omega (arith, slice_get_within lists m es at, found.all)))
+    (found.each m es at)
+
+pub empty_good : (script : Script) (yard : YardState) → AreEmpty script.members yard → IsGood script yard
+empty_good script yard empty = record {
+  sound = λ lists votes found m es at i e there.
+      absurd (omega (
+        arith,
+        slice_get_within es i e there,
+        ap length (empty_found script yard lists votes m es empty found at).0,
+      ));
+  along = λ lists votes found a b g h l at_a at_b.
+      inl (h, ap (λ (xs : List Entry). xs ++ h) (empty_found script yard lists votes a g empty found at_a).0);
+  whole = λ m at l. none (yard.told m) at (empty m l);
+}
+  where
+    none : (o : Option Told) (at : ℕ) → IsSomeAnd o (λ t. content_of t ≡ []) → IfSome o (ReadsDamaged at) → ⊥
+    none None at is reads = is
+    none (Some t) at is reads = absurd (omega (arith, reads.damaged.0, ap length is))
+
+-- ---- the disks that an age leaves
+
+-- who left the log of a number was there, and its entries are a part of its history
+pub part_of_history : (script : Script) (yard : YardState) (age : AgeEnd) (lists : List (List Entry))
+    (votes : ℕ → List Vote) (m : ℕ) (es : List Entry) → IsBehind script yard age lists votes
+    → slice_get lists m ≡ Some es
+    → IsPresentIn (opening_of script age) m × IsPrefixOf es (accounts_of age.members m).history
+part_of_history script yard age lists votes m es b at =
+    let within : m < script.members = omega (arith, slice_get_within lists m es at, b.found.all) in
+    let e = slice_get-some age.members m (omega (arith, within, b.is.roster)) in (
+      is_there (opening_of script age) script.members m refl within,
+      subst (λ (end : Option MemberEnd). IsPrefixOf es (option_map_or (λ (x : MemberEnd). x.history) end []))
+          (sym e.1) (left_part e.0 es (found_left script yard age lists votes m e.0 es b e.1 at).0),
+    )
+
+pub age_leaves_good : (script : Script) (nth : ℕ) (before yard : YardState) (age : AgeEnd)
+    → HasGroupRanges script → IsAgeOf script nth before yard age → AllTell script.members yard
+    → IsGood script yard
+age_leaves_good script nth before yard age ranges is tell = record {
+  sound = λ lists votes found.
+      ended_sound script (start_of script age) age.members lists group is.agreed all (parts lists votes found);
+  along = λ lists votes found.
+      ended_along script (start_of script age) age.members lists group is.agreed all (parts lists votes found);
+  whole = whole;
+}
+  where
+    group : IsGroup (group_of script (start_of script age))
+    group = start_group script is.lists (start_of script age) ranges is.small is.starts
+
+    all : length age.members ≡ roster (group_of script (start_of script age))
+    all = is.roster ∙ sym ranges.lists
+
+    behind : (lists : List (List Entry)) (votes : ℕ → List Vote) → AreFound script.members yard lists votes
+        → IsBehind script yard age lists votes
+    behind lists votes found = record {
+      ranges = ranges;
+      nth = nth;
+      before = before;
+      is = is;
+      tell = tell;
+      found = found;
+    }
+
+    -- each log has a first part of its member's history
+    parts : (lists : List (List Entry)) (votes : ℕ → List Vote) → AreFound script.members yard lists votes
+        → AreFirstPartsOf age.members lists
+    parts lists votes found m es at =
+        let e = slice_get-some age.members m (omega (arith, slice_get_within lists m es at, found.all, is.roster)) in (
+          m,
+          e.0,
+          e.1,
+          left_part e.0 es (found_left script yard age lists votes m e.0 es (behind lists votes found) e.1 at).0,
+        )
+
+    whole : (m at : ℕ) → m < script.members → IfSome (yard.told m) (ReadsDamaged at) → ⊥
+    whole m at l =
+        let e = slice_get-some age.members m (omega (arith, l, is.roster)) in
+        readable (yard.told m) at e.0 (is.votes m) (tell m l) (is.left m e.0 e.1)
+      where
+        readable : (t : Option Told) (at : ℕ) (e : MemberEnd) (vs : List Vote) → IsTrue (is_some t)
+            → HasLeft t e vs → IfSome t (ReadsDamaged at) → ⊥
+        readable None at e vs some left reads = absurd (cc)
+        readable (Some t) at e vs some left reads =
+            let s = left (content_of t) reads.image in
+            stands_or_damaged (content_of t) s.entries vs at s.stands reads.damaged

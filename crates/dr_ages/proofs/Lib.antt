@@ -1,0 +1,10 @@
+mod Backs
+mod Caught
+mod Chain
+mod Fresh
+mod Good
+mod Keeping
+mod Loans
+mod Runs
+mod Simulated
+mod Stopping

@@ -1,0 +1,214 @@
+-- The disks of a yard that are lent, with one more, and the logs on them.
+use Rattle.std.proofs.Common.{◌≡◌, ◌≢◌, refl, sym, ap, ◌∙◌, subst, ⊎_elim, inl, inr, ℕ, ◌+◌, ◌<◌, ◌≤◌, ◌⊎◌, le_trans, Bool, true, false, nat_lt, List, [], ◌∷◌, ◌++◌, length, arith, length-append}
+use Rattle.std.specs.Prelude.{IfSome, Option, None, Some, slice_get}
+use Rattle.std.specs.Option.{option_map_or}
+use Rattle.std.proofs.lemmas.Bool.{cases_eq, cases_lt, lt-ltb, le-ltb}
+use Rattle.std.proofs.lemmas.List.{length-map}
+use Rattle.std.proofs.lemmas.Option.{same_Some, slice_get_within}
+use Rattle.dr_disk.specs.Disk.{Told, content_of}
+use Rattle.dr_disk.specs.Images.{ReadsAnImage}
+use Rattle.dr_entry.specs.declared.entry.Entry.{Entry}
+use Rattle.dr_entry.specs.declared.record.Vote.{Vote}
+use Rattle.dr_gather.specs.Gathering.{entries_on}
+use Rattle.dr_history_laws.proofs.Lists.{slice_get-left, slice_get-push_cases, slice_get-seam, slice_get-some}
+use Rattle.dr_io.specs.Faults.{Rose}
+use Rattle.dr_log.specs.declared.fault.MountWhy.{MountWhy}
+use Rattle.dr_log.specs.declared.fault.MountWhy.TheVariants as whys
+use Rattle.dr_log.specs.Grammar.{IsDamaged}
+use Rattle.dr_log.specs.State.{LogState}
+use Rattle.dr_script.specs.declared.script.Script.{Script}
+use Rattle.dr_yard.specs.Yards.{YardState}
+use Rattle.dr_ages.specs.declared.stop.Stop.{Stop}
+use Rattle.dr_ages.specs.declared.stop.Stop.TheVariants.{OutOfMemory, DiskFault, LogFull, Damaged, Disagree, Foreign, AgesUsedUp}
+use Rattle.dr_ages.specs.Found.{AreFound, ReadsAs}
+use Rattle.dr_ages.specs.Lent.{AreLent, AreMounted, IsMounted, WasRefused, WereRefused}
+use Rattle.dr_ages.specs.Opened.{AreLater}
+use Rattle.dr_ages.specs.Stops.{HasStopped, ReadsDamaged}
+use Rattle.dr_ages.proofs.Caught.{entries_at}
+
+-- below one more number there is that number
+below_more_lent : (k m n : ℕ) → k ≢ m → n ≡ m + 1 → nat_lt k m ≡ nat_lt k n
+below_more_lent k m n apart is = ⊎_elim
+    (λ (l : k < m). lt-ltb k m l ∙ sym (lt-ltb k n (omega (arith, l, is))))
+    (λ (l : m ≤ k). le-ltb k m l ∙ sym (le-ltb k n (omega (arith, l, is, apart))))
+    (cases_lt k m)
+
+pub lent_more : {Y D : Type 0} (is_lent : Y → ℕ → Bool) (yard_faults : Y → ℕ → ℕ) (faults : D → ℕ)
+    (old new : Y) (logs : List (LogState D)) (log : LogState D) (m : ℕ)
+    → AreLent is_lent yard_faults faults old logs → length logs ≡ m → m < 16 → is_lent new m ≡ true
+    → yard_faults new m ≤ faults log.disk
+    → ((k : ℕ) → k ≢ m → (is_lent new k ≡ is_lent old k) × (yard_faults new k ≡ yard_faults old k))
+    → AreLent is_lent yard_faults faults new (logs ++ log ∷ [])
+lent_more {Y} {D} is_lent yard_faults faults old new logs log m are at small lent counted others = record {
+  few = omega (arith, long, small);
+  lent = λ k l. ⊎_elim
+      (λ (e : k ≡ m). ap (is_lent new) e ∙ (lent ∙ (sym (lt-ltb m n (omega (arith, long)))
+      ∙ ap (λ (j : ℕ). nat_lt j n) (sym e))))
+      (λ (apart : k ≢ m). (others k apart).0 ∙ (are.lent k l ∙ (ap (nat_lt k) at
+      ∙ below_more_lent k m n apart long)))
+      (cases_eq k m);
+  counted = λ k x here. ⊎_elim
+      (λ (l : k < length logs).
+      let apart : k ≢ m = λ e. absurd (omega (arith, l, at, e)) in
+      omega (
+        arith,
+        are.counted k x (sym (slice_get-left logs (log ∷ []) k l) ∙ here),
+        (others k apart).1,
+      ))
+      (λ (more : length logs ≤ k).
+      let same : k ≡ length logs = omega (
+        arith,
+        more,
+        slice_get_within (logs ++ log ∷ []) k x here,
+        length-append logs (log ∷ []),
+      ) in
+      let is : log ≡ x = same_Some log x (sym (slice_get-seam logs log [])
+      ∙ (ap (slice_get (logs ++ log ∷ [])) (sym same) ∙ here)) in
+      subst (λ (z : LogState D). yard_faults new k ≤ faults z.disk) is
+      (subst (λ (j : ℕ). yard_faults new j ≤ faults log.disk) (sym (same ∙ at)) counted))
+      (cases_lt k (length logs));
+}
+  where
+    n : ℕ
+    n = length (logs ++ log ∷ [])
+
+    long : n ≡ m + 1
+    long = omega (arith, length-append logs (log ∷ []), at)
+
+-- and with the last one given back
+pub lent_less : {Y D : Type 0} (is_lent : Y → ℕ → Bool) (yard_faults : Y → ℕ → ℕ) (faults : D → ℕ)
+    (old new : Y) (logs rest : List (LogState D)) (log : LogState D)
+    → AreLent is_lent yard_faults faults old logs → logs ≡ rest ++ log ∷ []
+    → is_lent new (length rest) ≡ false
+    → ((k : ℕ) → k ≢ length rest → (is_lent new k ≡ is_lent old k) × (yard_faults new k ≡ yard_faults old k))
+    → AreLent is_lent yard_faults faults new rest
+lent_less {Y} {D} is_lent yard_faults faults old new logs rest log are parts here others = record {
+  few = omega (arith, are.few, long);
+  lent = λ k l. ⊎_elim
+      (λ (e : k ≡ length rest). ap (is_lent new) e ∙ (here ∙ sym (le-ltb k (length rest) (omega (arith, e)))))
+      (λ (apart : k ≢ length rest). (others k apart).0 ∙ (are.lent k l
+      ∙ sym (below_more_lent k (length rest) (length logs) apart long)))
+      (cases_eq k (length rest));
+  counted = λ k x at.
+      let l : k < length rest = slice_get_within rest k x at in
+      let apart : k ≢ length rest = λ e. absurd (omega (arith, l, e)) in
+      let there : slice_get logs k ≡ Some x = ap (λ (xs : List (LogState D)). slice_get xs k) parts
+      ∙ (slice_get-left rest (log ∷ []) k l ∙ at) in
+      omega (arith, are.counted k x there, (others k apart).1);
+}
+  where
+    long : length logs ≡ length rest + 1
+    long = ap length parts ∙ length-append rest (log ∷ [])
+
+-- with one log more all were mounted
+pub mounted_more : {D : Type 0} (tells : D → Option Told) (faults : D → ℕ) (before : YardState)
+    (logs : List (LogState D)) (log : LogState D) (k : ℕ) → AreMounted tells faults before logs
+    → length logs ≡ k → IsMounted tells faults (before.told k) (before.faults k) log
+    → AreMounted tells faults before (logs ++ log ∷ [])
+mounted_more {D} tells faults before logs log k are at is m x here = by (slice_get-push_cases logs log x m here)
+  where
+    by : ((m < length logs) × (slice_get logs m ≡ Some x)) ⊎ ((m ≡ length logs) × (log ≡ x))
+        → IsMounted tells faults (before.told m) (before.faults m) x
+    by (inl old) = are m x old.1
+    by (inr new) =
+        subst (λ (j : ℕ). IsMounted tells faults (before.told j) (before.faults j) x) (sym (new.0 ∙ at))
+        (subst (λ (y : LogState D). IsMounted tells faults (before.told k) (before.faults k) y) new.1 is)
+
+-- the same logs later
+pub lent_later : {Y D : Type 0} (is_lent : Y → ℕ → Bool) (yard_faults : Y → ℕ → ℕ) (tells : D → Option Told)
+    (faults : D → ℕ) (yard : Y) (olds news : List (LogState D)) → AreLent is_lent yard_faults faults yard olds
+    → AreLater tells faults olds news → length news ≡ length olds → AreLent is_lent yard_faults faults yard news
+lent_later is_lent yard_faults tells faults yard olds news are later count = record {
+  few = omega (arith, are.few, count);
+  lent = λ m l. are.lent m l ∙ ap (nat_lt m) (sym count);
+  counted = λ m log at.
+      let old = slice_get-some olds m (omega (arith, slice_get_within news m log at, count)) in
+      omega (arith, are.counted m old.0 old.1, (later m old.0 log old.1 at).later);
+}
+
+-- ---- what was found on them
+
+-- the votes of each log, by number
+abbrev pub votes_on : {D : Type 0} → List (LogState D) → ℕ → List Vote
+votes_on {D} logs m = option_map_or (λ (log : LogState D). log.votes) (slice_get logs m) []
+
+pub votes_at : {D : Type 0} (logs : List (LogState D)) (m : ℕ) (log : LogState D)
+    → slice_get logs m ≡ Some log → votes_on logs m ≡ log.votes
+votes_at {D} logs m log here =
+    ap (λ (o : Option (LogState D)). option_map_or (λ (log : LogState D). log.votes) o []) here
+
+pub are_found : {D : Type 0} (tells : D → Option Told) (faults : D → ℕ) (before : YardState)
+    (logs : List (LogState D)) (n : ℕ) → AreMounted tells faults before logs → length logs ≡ n
+    → AreFound n before (entries_on logs) (votes_on logs)
+are_found {D} tells faults before logs n are count = record {
+  all = length-map logs (λ (log : LogState D). log.entries) ∙ count;
+  each = λ m es at.
+      let log = slice_get-some logs m (omega (
+        arith,
+        slice_get_within (entries_on logs) m es at,
+        length-map logs (λ (log : LogState D). log.entries),
+      )) in
+      let same : log.0.entries ≡ es = same_Some log.0.entries es (sym (entries_at logs m log.0 log.1) ∙ at) in
+      subst (λ (vs : List Vote). IfSome (before.told m) (ReadsAs es vs)) (sym (votes_at logs m log.0 log.1))
+      (subst (λ (l : List Entry). IfSome (before.told m) (ReadsAs l log.0.votes)) same
+      (are m log.0 log.1).found);
+}
+
+-- ---- why one was not mounted
+
+pub was_refused : (member : ℕ) (told : Option Told) (before after : ℕ) (why : MountWhy) (stop : Stop)
+    → (why ≡ whys.OutOfMemory → stop ≡ OutOfMemory) → (why ≡ whys.DiskFault → stop ≡ DiskFault member)
+    → ((at : ℕ) → why ≡ whys.Damaged at → stop ≡ Damaged member at)
+    → (why ≡ whys.DiskFault → Rose before after)
+    → ((at : ℕ) → why ≡ whys.Damaged at → IfSome told ReadsAnImage)
+    → ((at : ℕ) → why ≡ whys.Damaged at → IfSome told (λ t. IsDamaged (content_of t) at))
+    → WasRefused member told before after stop
+was_refused member told before after whys.OutOfMemory stop memory disk bytes rose image damaged =
+    subst (WasRefused member told before after) (sym (memory refl)) tt
+was_refused member told before after whys.DiskFault stop memory disk bytes rose image damaged =
+    subst (WasRefused member told before after) (sym (disk refl)) (refl, rose refl)
+was_refused member told before after (whys.Damaged at) stop memory disk bytes rose image damaged =
+    subst (WasRefused member told before after) (sym (bytes at refl))
+    (refl, both told (image at refl) (damaged at refl))
+  where
+    both : (o : Option Told) → IfSome o ReadsAnImage → IfSome o (λ t. IsDamaged (content_of t) at)
+        → IfSome o (ReadsDamaged at)
+    both None i d = tt
+    both (Some t) i d = record { image = i; damaged = d }
+
+pub were_refused : {D : Type 0} (tells : D → Option Told) (faults : D → ℕ) (n k : ℕ)
+    (before mid after : YardState) (logs : List (LogState D)) (stop : Stop) → k < n
+    → AreMounted tells faults before logs → length logs ≡ k
+    → mid.told k ≡ before.told k → mid.faults k ≡ before.faults k
+    → WasRefused k (mid.told k) (mid.faults k) (after.faults k) stop → WereRefused n before after stop
+were_refused tells faults n k before mid after logs OutOfMemory below are count told same is = tt
+were_refused tells faults n k before mid after logs (DiskFault m) below are count told same is = record {
+  below = omega (arith, is.0, below);
+  rose = subst (λ (j : ℕ). Rose (before.faults j) (after.faults j)) (sym is.0)
+      (subst (λ (x : ℕ). Rose x (after.faults k)) same is.1);
+}
+were_refused tells faults n k before mid after logs (Damaged m at) below are count told same is = record {
+  below = omega (arith, is.0, below);
+  damaged = subst (λ (j : ℕ). IfSome (before.told j) (ReadsDamaged at)) (sym is.0)
+      (subst (λ (o : Option Told). IfSome o (ReadsDamaged at)) told is.1);
+  lists = entries_on logs;
+  votes = votes_on logs;
+  found = are_found tells faults before logs m are (count ∙ sym is.0);
+}
+were_refused tells faults n k before mid after logs (LogFull m len) below are count told same is = absurd is
+were_refused tells faults n k before mid after logs (Disagree a b p) below are count told same is = absurd is
+were_refused tells faults n k before mid after logs (Foreign m p) below are count told same is = absurd is
+were_refused tells faults n k before mid after logs AgesUsedUp below are count told same is = absurd is
+
+-- so the next age was not opened
+pub refused_stop : (script : Script) (before mid after : YardState) (stop : Stop)
+    → ((m : ℕ) → mid.faults m ≤ after.faults m) → WereRefused script.members before mid stop
+    → HasStopped script before after stop
+refused_stop script before mid after OutOfMemory later is = tt
+refused_stop script before mid after (DiskFault m) later is =
+    record { below = is.below; rose = le_trans is.rose (later m) }
+refused_stop script before mid after (Damaged m at) later is = is
+refused_stop script before mid after (LogFull m len) later is = absurd is
+refused_stop script before mid after (Disagree a b p) later is = absurd is
+refused_stop script before mid after (Foreign m p) later is = absurd is
+refused_stop script before mid after AgesUsedUp later is = absurd is

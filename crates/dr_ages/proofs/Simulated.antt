@@ -1,0 +1,331 @@
+-- An age that was simulated over logs that were mounted and brought up to its start.
+use Rattle.std.proofs.Common.{◌≡◌, refl, sym, ap, ◌∙◌, subst, ℕ, ◌+◌, ◌^◌, ◌<◌, inl, inr, arith, List, [], ◌∷◌, ◌++◌, length, take, drop, get_or}
+use Rattle.std.specs.Prelude.{All, Option, None, Some, is_some, slice_get}
+use Rattle.std.proofs.lemmas.List.{take-append-drop, take_all, take_more}
+use Rattle.std.proofs.lemmas.Option.{slice_get-get_or, slice_get_within}
+use Rattle.dr_complete.specs.Time.{HasTime}
+use Rattle.dr_disk.specs.Disk.{Told}
+use Rattle.dr_disk.specs.Images.{IsLeft}
+use Rattle.dr_entry.specs.declared.end.AgeEnd.{AgeEnd}
+use Rattle.dr_entry.specs.declared.end.End.{End}
+use Rattle.dr_entry.specs.declared.end.End.TheVariants as ends
+use Rattle.dr_entry.specs.declared.end.MemberEnd.{MemberEnd}
+use Rattle.dr_entry.specs.declared.entry.Entry.{Entry}
+use Rattle.dr_entry.specs.declared.entry.Entry.TheVariants.{View}
+use Rattle.dr_entry.specs.declared.record.Vote.{Vote}
+use Rattle.dr_gather.specs.CatchingUp.{opened_with}
+use Rattle.dr_gather.specs.Gathering.{IsStartOf, entries_on}
+use Rattle.dr_gather.proofs.Catching.{rose_since}
+use Rattle.dr_history.specs.Agreement.{EndsAgreed}
+use Rattle.dr_history.specs.History.{IsPrefixOf}
+use Rattle.dr_history.specs.Order.{first_entries}
+use Rattle.dr_history_laws.proofs.Lists.{slice_get-some}
+use Rattle.dr_io.specs.Faults.{Rose}
+use Rattle.dr_log.specs.Standing.{IsBeforeOrAfter, LosesNone, StandsFor, block_length, log_length}
+use Rattle.dr_log.specs.State.{LogState}
+use Rattle.dr_logged.specs.Served.{HasCome, WentSo, next_record}
+use Rattle.dr_program.specs.declared.outcome.LogWhy.{LogWhy}
+use Rattle.dr_program.specs.declared.outcome.LogWhy.TheVariants as logs
+use Rattle.dr_program_laws.specs.Ended.{AreComplete, HaveEnded}
+use Rattle.dr_program_laws.specs.Trusting.{NoneLeft, SuspectsNobody}
+use Rattle.dr_restart.specs.declared.start.Start.{Start}
+use Rattle.dr_restart.specs.Groups.{group_of}
+use Rattle.dr_restart.specs.Setups.{crashes_of}
+use Rattle.dr_script.specs.declared.script.Script.{Script}
+use Rattle.dr_script.specs.Ranges.{HasRanges}
+use Rattle.dr_sim.specs.Logged.{AreCalm, AreOpened, HaveCome, IsAmple, NoneFull, NoneStopped, why_ended}
+use Rattle.dr_sim.specs.Simulated.{IsSimulated}
+use Rattle.dr_yard.specs.Yards.{YardState}
+use Rattle.dr_ages.specs.Ages.{IsAgeOf, start_of}
+use Rattle.dr_ages.specs.Left.{HasLeft, IsFullAt, StandsAsLeft}
+use Rattle.dr_ages.specs.Lent.{AreMounted, GoesOn, IsMounted, with_logs}
+use Rattle.dr_ages.specs.Opened.{AreCaughtUp, AreLater, IsCaughtUp}
+use Rattle.dr_ages.proofs.Backs.{faults_at, passed_with, told_at}
+use Rattle.dr_ages.proofs.Caught.{caught_later, goes_tells, on_then}
+use Rattle.dr_ages.proofs.Fresh.{start_small}
+use Rattle.dr_ages.proofs.Loans.{are_found, votes_at, votes_on}
+
+-- logs that were all brought up to a start are those with which its age opens
+pub are_opened : {D : Type 0} (told : D → Option Told) (faults : D → ℕ) (script : Script) (start : Start)
+    (olds news : List (LogState D)) → length script.messages ≡ script.members → length olds ≡ script.members
+    → AreCaughtUp told faults (opened_with start start.members) olds news (length olds)
+    → AreOpened (group_of script start) news
+are_opened told faults script start olds news lists all caught = record {
+  all = caught.all ∙ (all ∙ sym lists);
+  each = λ k d l.
+      let whole = opened_with start start.members in
+      let old = slice_get-some olds k (omega (arith, l, caught.all)) in
+      let up = caught.done k old.0 (get_or news k d) (omega (arith, l, caught.all)) old.1 (slice_get-get_or news k d l) in
+      record {
+        entries = up.0.entries ∙ take_all (length whole) whole (omega arith);
+        whole = up.1;
+      };
+}
+
+-- ---- the disks go on
+
+come_on : {D : Type 0} (tells : D → Option Told) (faults : D → ℕ) (base log : LogState D)
+    (history : List Entry) (logged : ℕ) (why : Option LogWhy)
+    → HasCome tells faults base log history logged why
+    → GoesOn (tells base.disk) (faults base.disk) (tells log.disk) (faults log.disk)
+come_on tells faults base log history logged why come = record {
+  tells = goes_tells (tells base.disk) (tells log.disk) (λ s. LosesNone base.entries base.votes) come.moments;
+  later = come.later;
+}
+
+pub later_by_come : {D : Type 0} (tells : D → Option Told) (faults : D → ℕ) (olds mids news : List (LogState D))
+    (members : List MemberEnd) → AreLater tells faults olds mids → length mids ≡ length olds
+    → length members ≡ length mids → HaveCome tells faults mids news members → AreLater tells faults olds news
+later_by_come tells faults olds mids news members first count all come m old new there here =
+    let within = slice_get_within olds m old there in
+    let mid = slice_get-some mids m (omega (arith, within, count)) in
+    let e = slice_get-some members m (omega (arith, within, count, all)) in
+    on_then (tells old.disk) (tells mid.0.disk) (tells new.disk) (faults old.disk) (faults mid.0.disk)
+    (faults new.disk) (first m old mid.0 there mid.1)
+    (come_on tells faults mid.0 new e.0.history e.0.logged (why_ended e.0.end)
+    (come m mid.0 new e.0 mid.1 here e.1))
+
+pub later_by_calm : {D : Type 0} (tells : D → Option Told) (faults : D → ℕ) (olds mids news : List (LogState D))
+    → AreLater tells faults olds mids → length mids ≡ length olds → AreCalm tells faults mids news
+    → AreLater tells faults olds news
+later_by_calm tells faults olds mids news first count calm m old new there here =
+    let within = slice_get_within olds m old there in
+    let mid = slice_get-some mids m (omega (arith, within, count)) in
+    let still = calm m mid.0 new mid.1 here in
+    on_then (tells old.disk) (tells mid.0.disk) (tells new.disk) (faults old.disk) (faults mid.0.disk)
+    (faults new.disk) (first m old mid.0 there mid.1)
+    (record { tells = ap (λ o. is_some o) (sym still.0); later = omega (arith, still.1) })
+
+-- ---- what is left on a disk
+
+-- what holds of all that a crash may leave, and what follows from it
+left_so : (o : Option Told) (P Q : List ℕ → Type 0) → ((image : List ℕ) → P image → Q image) → IsLeft o P
+    → IsLeft o Q
+left_so None P Q more left = tt
+left_so (Some t) P Q more left = λ image is. more image (left image is)
+
+-- whom a disk ended
+by_disk : (end : End) → why_ended end ≡ Some logs.DiskFault → end ≡ ends.DiskFault
+by_disk ends.DiskFault e = refl
+by_disk (ends.LogFull len) e = absurd (cc)
+by_disk end e = absurd (cc)
+
+left_by : {D : Type 0} (tells : D → Option Told) (faults : D → ℕ) (base log : LogState D) (e : MemberEnd)
+    (votes : List Vote) → HasCome tells faults base log e.history e.logged (why_ended e.end)
+    → log.votes ≡ votes → HasLeft (tells log.disk) e votes
+left_by {D} tells faults base log e votes come kept = by (why_ended e.end) refl come.last
+  where
+    before : (image : List ℕ) → StandsFor image log.entries log.votes → StandsAsLeft e votes image
+    before image stands = record {
+      entries = log.entries;
+      stands = subst (λ (vs : List Vote). StandsFor image log.entries vs) kept stands;
+      left = inl come.entries;
+    }
+
+    after : e.end ≡ ends.DiskFault → e.logged < length e.history → (image : List ℕ)
+        → IsBeforeOrAfter log.entries log.votes (next_record e.history e.logged) image
+        → StandsAsLeft e votes image
+    after end more image (inl stands) = before image stands
+    after end more image (inr stands) =
+        let next : Entry = get_or e.history e.logged (View 0 0 0) in
+        let same : log.entries ++ next ∷ [] ≡ take e.logged e.history ++ next ∷ [] =
+        ap (λ (l : List Entry). l ++ next ∷ []) come.entries in
+        let front : log.entries ++ next ∷ [] ≡ take (e.logged + 1) e.history =
+        same ∙ sym (take_more e.history e.logged (View 0 0 0) more) in
+        record {
+          entries = log.entries ++ next ∷ [];
+          stands = subst (λ (vs : List Vote). StandsFor image (log.entries ++ next ∷ []) vs) kept stands;
+          left = inr (
+            end,
+            inr (
+              next,
+              same,
+              (
+                drop (e.logged + 1) e.history,
+                ap (λ (l : List Entry). l ++ drop (e.logged + 1) e.history) front
+                    ∙ take-append-drop (e.logged + 1) e.history,
+              ),
+            ),
+          );
+        }
+
+    by : (why : Option LogWhy) → why_ended e.end ≡ why → WentSo tells faults base log e.history e.logged why
+        → HasLeft (tells log.disk) e votes
+    by None is went =
+        left_so (tells log.disk) (λ image. StandsFor image log.entries log.votes) (StandsAsLeft e votes) before
+        went.1
+    by (Some (logs.LogFull len)) is went =
+        left_so (tells log.disk) (λ image. StandsFor image log.entries log.votes) (StandsAsLeft e votes) before
+        went.1.safe
+    by (Some logs.DiskFault) is went =
+        left_so (tells log.disk) (IsBeforeOrAfter log.entries log.votes (next_record e.history e.logged))
+        (StandsAsLeft e votes) (after (by_disk e.end is) went.0) went.1.left
+
+-- ---- the age
+
+-- an age that was simulated over these logs: as they were mounted, as it began, and as they are
+pub record WasSimulated {D : Type 0} (tells : D → Option Told) (faults : D → ℕ) (script : Script) (nth : ℕ)
+    (before : YardState) (start : Start) (olds mids news : List (LogState D)) (age : AgeEnd) : Type 0 where
+  pub ranges : HasRanges script
+  pub all : length olds ≡ script.members
+  pub mounted : AreMounted tells faults before olds
+  pub starts : IsStartOf script (entries_on olds) start
+  pub small : start.age < 2 ^ 16
+  pub caught : AreCaughtUp tells faults (opened_with start start.members) olds mids (length olds)
+  pub run : IsSimulated script start nth age
+  pub agreed : EndsAgreed (group_of script start).opening age.members
+  pub ended : HaveEnded (group_of script start).opening script.turns (crashes_of script.faults nth) age.members
+  pub trusting : SuspectsNobody script → NoneLeft age.members
+  pub complete : HasTime script → NoneStopped age.members
+      → AreComplete (group_of script start).opening age.members
+  pub come : HaveCome tells faults mids news age.members
+  pub ample : All (IsAmple (group_of script start)) mids → NoneFull age.members
+  pub count : length news ≡ length mids
+  pub members : length age.members ≡ length mids
+
+-- its start is the one that its end tells
+same_start : {D : Type 0} (tells : D → Option Told) (faults : D → ℕ) (script : Script) (nth : ℕ)
+    (before : YardState) (start : Start) (olds mids news : List (LogState D)) (age : AgeEnd)
+    → WasSimulated tells faults script nth before start olds mids news age → start ≡ start_of script age
+same_start tells faults script nth before start olds mids news age w = λ i. record {
+  age = sym (ap (λ (a : AgeEnd). a.age) w.run.4) i;
+  members = w.starts.members i;
+  present = w.starts.present i;
+  entries = sym (ap (λ (a : AgeEnd). a.start) w.run.4) i;
+}
+
+-- a member of it, with its log
+record IsOf {D : Type 0} (tells : D → Option Told) (faults : D → ℕ) (whole : List Entry) (yard : YardState)
+    (olds mids news : List (LogState D)) (m : ℕ) (e : MemberEnd) : Type 0 where
+  old : LogState D
+  mid : LogState D
+  new : LogState D
+  from : slice_get olds m ≡ Some old
+  by : slice_get mids m ≡ Some mid
+  to : slice_get news m ≡ Some new
+  mounted : IsMounted tells faults (yard.told m) (yard.faults m) old
+  caught : IsCaughtUp tells faults whole old mid
+  come : HasCome tells faults mid new e.history e.logged (why_ended e.end)
+
+is_of : {D : Type 0} (tells : D → Option Told) (faults : D → ℕ) (script : Script) (nth : ℕ)
+    (before : YardState) (start : Start) (olds mids news : List (LogState D)) (age : AgeEnd) (m : ℕ)
+    (e : MemberEnd) → WasSimulated tells faults script nth before start olds mids news age
+    → slice_get age.members m ≡ Some e
+    → IsOf tells faults (opened_with start start.members) before olds mids news m e
+is_of tells faults script nth before start olds mids news age m e w at =
+    let within : m < length mids = omega (arith, slice_get_within age.members m e at, w.members) in
+    let old = slice_get-some olds m (omega (arith, within, w.caught.all)) in
+    let mid = slice_get-some mids m within in
+    let new = slice_get-some news m (omega (arith, within, w.count)) in
+    record {
+      old = old.0;
+      mid = mid.0;
+      new = new.0;
+      from = old.1;
+      by = mid.1;
+      to = new.1;
+      mounted = w.mounted m old.0 old.1;
+      caught = w.caught.done m old.0 mid.0 (omega (arith, within, w.caught.all)) old.1 mid.1;
+      come = w.come m mid.0 new.0 e mid.1 new.1 at;
+    }
+
+pub is_age : {D : Type 0} (tells : D → Option Told) (faults : D → ℕ) (script : Script) (nth : ℕ)
+    (before : YardState) (start : Start) (olds mids news : List (LogState D)) (age : AgeEnd)
+    → WasSimulated tells faults script nth before start olds mids news age
+    → IsAgeOf script nth before (with_logs tells faults before news) age
+is_age {D} tells faults script nth before start olds mids news age w = record {
+  lists = entries_on olds;
+  votes = votes_on olds;
+  found = are_found tells faults before olds script.members w.mounted w.all;
+  starts = subst (IsStartOf script (entries_on olds)) same w.starts;
+  small = omega (arith, w.small, ap (λ (s : Start). s.age) same);
+  roster = w.members ∙ (w.caught.all ∙ w.all);
+  run = subst (λ (s : Start). IsSimulated script s nth age) same w.run;
+  agreed = subst (λ (s : Start). EndsAgreed (group_of script s).opening age.members) same w.agreed;
+  ended = subst (λ (s : Start). HaveEnded (group_of script s).opening script.turns
+      (crashes_of script.faults nth) age.members) same w.ended;
+  trusting = w.trusting;
+  complete = subst (λ (s : Start). HasTime script → NoneStopped age.members
+      → AreComplete (group_of script s).opening age.members) same w.complete;
+  opened = λ m e at. subst (λ (s : Start). IsPrefixOf (first_entries (group_of script s).opening)
+      (take e.logged e.history)) same (opened m e at);
+  left = left;
+  failed = failed;
+  full = full;
+  ample = λ none. w.ample (λ k d l. ample none k d l);
+  passes = passed_with tells faults before before olds news w.mounted
+      (later_by_come tells faults olds mids news age.members
+      (caught_later tells faults (opened_with start start.members) olds mids (length olds) w.caught)
+      w.caught.all w.members w.come) (w.count ∙ w.caught.all)
+      (λ m past. record { tells = refl; later = omega arith });
+}
+  where
+    same : start ≡ start_of script age
+    same = same_start tells faults script nth before start olds mids news age w
+
+    whole : List Entry
+    whole = opened_with start start.members
+
+    one : (m : ℕ) (e : MemberEnd) → slice_get age.members m ≡ Some e
+        → IsOf tells faults whole before olds mids news m e
+    one m e at = is_of tells faults script nth before start olds mids news age m e w at
+
+    opened : (m : ℕ) (e : MemberEnd) → slice_get age.members m ≡ Some e
+        → IsPrefixOf whole (take e.logged e.history)
+    opened m e at =
+        let x = one m e at in
+        let up : x.mid.entries ≡ whole = x.caught.0.entries ∙ take_all (length whole) whole (omega arith) in (
+          x.come.more.0,
+          ap (λ (l : List Entry). l ++ x.come.more.0) (sym up) ∙ (sym x.come.more.1 ∙ x.come.entries),
+        )
+
+    votes : (m : ℕ) (e : MemberEnd) (at : slice_get age.members m ≡ Some e) → (one m e at).new.votes ≡ votes_on olds m
+    votes m e at =
+        let x = one m e at in
+        x.come.votes ∙ (x.caught.0.votes ∙ sym (votes_at olds m x.old x.from))
+
+    left : (m : ℕ) (e : MemberEnd) → slice_get age.members m ≡ Some e
+        → HasLeft ((with_logs tells faults before news).told m) e (votes_on olds m)
+    left m e at =
+        let x = one m e at in
+        subst (λ (o : Option Told). HasLeft o e (votes_on olds m)) (sym (told_at tells faults before news m x.new x.to))
+        (left_by tells faults x.mid x.new e (votes_on olds m) x.come (votes m e at))
+
+    failed : (m : ℕ) (e : MemberEnd) → slice_get age.members m ≡ Some e → e.end ≡ ends.DiskFault
+        → Rose (before.faults m) ((with_logs tells faults before news).faults m)
+    failed m e at end =
+        let x = one m e at in
+        let went : (e.logged < length e.history) × _ =
+        subst (λ (y : End). WentSo tells faults x.mid x.new e.history e.logged (why_ended y)) end x.come.last in
+        subst (Rose (before.faults m)) (sym (faults_at tells faults before news m x.new x.to))
+        (rose_since (before.faults m) (faults x.mid.disk) (faults x.new.disk)
+        (omega (arith, x.mounted.on.later, x.caught.0.later)) went.1.rose)
+
+    full : (m : ℕ) (e : MemberEnd) (len : ℕ) → slice_get age.members m ≡ Some e → e.end ≡ ends.LogFull len
+        → IsFullAt e (votes_on olds m) len
+    full m e len at end =
+        let x = one m e at in
+        let went : (e.logged < length e.history) × _ =
+        subst (λ (y : End). WentSo tells faults x.mid x.new e.history e.logged (why_ended y)) end x.come.last in
+        record {
+          long = went.1.length ∙ (ap (λ (l : List Entry). log_length l x.new.votes) x.come.entries
+              ∙ ap (log_length (take e.logged e.history)) (votes m e at));
+          over = subst (λ (n : ℕ). n < len + block_length (next_record e.history e.logged))
+              (x.come.limit ∙ (x.caught.0.limit ∙ x.mounted.limit)) went.1.over;
+        }
+
+    ample : ((m : ℕ) → m < script.members → votes_on olds m ≡ []) → (k : ℕ) (d : LogState D) → k < length mids
+        → IsAmple (group_of script start) (get_or mids k d)
+    ample none k d l =
+        let old = slice_get-some olds k (omega (arith, l, w.caught.all)) in
+        let up = w.caught.done k old.0 (get_or mids k d) (omega (arith, l, w.caught.all)) old.1
+        (slice_get-get_or mids k d l) in
+        record {
+          votes = up.0.votes ∙ (sym (votes_at olds k old.0 old.1) ∙ none k (omega (arith, l, w.caught.all, w.all)));
+          limit = omega (
+            arith,
+            up.0.limit,
+            (w.mounted k old.0 old.1).limit,
+            start_small script (entries_on olds) start w.ranges.group w.small w.starts,
+          );
+        }

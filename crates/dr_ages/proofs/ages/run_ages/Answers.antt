@@ -1,0 +1,55 @@
+use Rattle.std.proofs.Common.{◌≡◌, ◌∙◌, refl, sym, ap, subst, arith, rules, List, [], ◌∷◌, ◌++◌, length, length-append}
+use Rattle.std.specs.Prelude.{None, Some}
+use Rattle.dr_entry.specs.declared.end.AgeEnd.{AgeEnd}
+use Rattle.dr_yard.specs.Yards.{YardState, state_by}
+use Rattle.dr_ages.specs.Ages.{AreAges}
+use Rattle.dr_ages.specs.declared.stop.Stop.TheVariants.{OutOfMemory}
+use Rattle.dr_ages.specs.Runs.{IsRunOf}
+use Rattle.dr_ages.proofs.Chain.{ages_more, passes_none}
+use Rattle.dr_ages.proofs.Runs.{a_run}
+use Rattle.dr_ages.proofs.ages.run_ages.Goals as goal
+
+pub loop-nth-preserved : goal.loop-nth-preserved
+loop-nth-preserved g c =
+    let items : c.push.new.self.items ≡ c.loop-nth.ages.items ++ c.in-Ok-run_age.age ∷ [] = search rules in
+    let before : YardState = state_by g.Y.Yard.told g.Y.Yard.faults c.args.yard.now in
+    let mid : YardState = state_by g.Y.Yard.told g.Y.Yard.faults c.loop-nth.yard in
+    let after : YardState = state_by g.Y.Yard.told g.Y.Yard.faults c.run_age.new.yard in (
+      ap length items ∙ (length-append c.loop-nth.ages.items (c.in-Ok-run_age.age ∷ [])
+          ∙ omega (arith, c.loop-nth.invariant.0)),
+      search rules,
+      c.in-Ok-run_age.ensures.here,
+      subst (λ (ages : List AgeEnd). AreAges c.args.script.now 0 before ages after) (sym items)
+          (ages_more c.args.script.now 0 c.loop-nth.nth before c.loop-nth.ages.items mid after
+          c.in-Ok-run_age.age (omega (arith, c.loop-nth.invariant.0)) c.loop-nth.invariant.3
+          c.in-Ok-run_age.ensures.age),
+    )
+
+pub returns-in_default-clause-run : goal.returns-in_default-clause-run
+returns-in_default-clause-run g c =
+    let before : YardState = state_by g.Y.Yard.told g.Y.Yard.faults c.args.yard.now in
+    subst (λ (ages : List AgeEnd). IsRunOf c.args.script.now before before ages (Some OutOfMemory))
+    (sym (c.of.ensures ∙ c.new.ensures.items))
+    (a_run c.args.script.now before [] before before (Some OutOfMemory) c.requires.ranges refl
+    (omega (arith, c.requires.ranges.some_age), tt) (passes_none before))
+
+pub returns-in-Err-clause-run : goal.returns-in-Err-clause-run
+returns-in-Err-clause-run g c =
+    let before : YardState = state_by g.Y.Yard.told g.Y.Yard.faults c.args.yard.now in
+    let last : YardState = state_by g.Y.Yard.told g.Y.Yard.faults c.loop-nth.yard in
+    let after : YardState = state_by g.Y.Yard.told g.Y.Yard.faults c.run_age.new.yard in
+    subst (λ (ages : List AgeEnd). IsRunOf c.args.script.now before after ages (Some c.in-Err.stop))
+    (sym c.of-in-Err.ensures)
+    (a_run c.args.script.now before c.loop-nth.ages.items last after (Some c.in-Err.stop) c.requires.ranges
+    c.loop-nth.invariant.3
+    (omega (arith, c.loop-nth.invariant.0, c.loop-nth-test.true), c.in-Err.ensures.stopped)
+    c.run_age.ensures.passes)
+
+pub returns-clause-run : goal.returns-clause-run
+returns-clause-run g c =
+    let before : YardState = state_by g.Y.Yard.told g.Y.Yard.faults c.args.yard.now in
+    let last : YardState = state_by g.Y.Yard.told g.Y.Yard.faults c.loop-nth.yard in
+    subst (λ (ages : List AgeEnd). IsRunOf c.args.script.now before last ages None) (sym c.of-2.ensures)
+    (a_run c.args.script.now before c.loop-nth.ages.items last last None c.requires.ranges c.loop-nth.invariant.3
+    (omega (arith, c.loop-nth.invariant.0, c.loop-nth-test.false, c.loop-nth.auto.nth-end), refl)
+    (passes_none last))

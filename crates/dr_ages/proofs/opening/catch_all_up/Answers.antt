@@ -1,0 +1,102 @@
+use Rattle.std.proofs.Common.{◌≡◌, ◌∙◌, subst, arith, ℕ, false, get_or, length}
+use Rattle.std.specs.Prelude.{Err}
+use Rattle.dr_gather.specs.Gathering.{entries_on}
+use Rattle.dr_gather.specs.CatchingUp.{HasCaughtUp, WentSo, opened_with}
+use Rattle.dr_gather.proofs.Grouping.{start_valid, part_of_start}
+use Rattle.dr_log.specs.State.{LogState}
+use Rattle.dr_ages.specs.Opened.{AreCaughtUp, IsCaughtUp}
+use Rattle.dr_ages.proofs.Caught.{all_at, caught_later, caught_on, entries_at, later_set, one_more_caught, some_members, still_there}
+use Rattle.dr_ages.proofs.Stopping.{catch_stops}
+use Rattle.dr_ages.proofs.opening.catch_all_up.Goals as goal
+
+pub catch_up-requires-clause-valid : goal.catch_up-requires-clause-valid
+catch_up-requires-clause-valid g c κs h =
+    start_valid c.args.script.now (entries_on c.args.logs.now) c.args.start.now c.requires.ranges c.requires.start
+
+pub catch_up-requires-clause-some : goal.catch_up-requires-clause-some
+catch_up-requires-clause-some g c κs h =
+    some_members c.args.script.now.members c.of-members.result c.requires.ranges.some_member
+    (c.of-members.ensures ∙ c.requires.start.members)
+
+pub catch_up-requires-clause-part : goal.catch_up-requires-clause-part
+catch_up-requires-clause-part g c κs h =
+    let at = still_there g.D.Disk.told g.D.Disk.faults (opened_with c.args.start.now c.args.start.now.members)
+    c.args.logs.now c.loop-m.logs c.loop-m.m c.index-logs-m.result c.loop-m.invariant
+    (omega (arith, c.loop-m-test.true, c.loop-m.invariant.all)) in
+    part_of_start c.args.script.now (entries_on c.args.logs.now) c.args.start.now c.loop-m.m _ c.requires.start
+    (entries_at c.args.logs.now c.loop-m.m _ at)
+
+pub catch_up-requires-clause-whole : goal.catch_up-requires-clause-whole
+catch_up-requires-clause-whole g c κs h =
+    all_at c.args.logs.now c.loop-m.m _ c.loop-m-test.true c.requires.whole
+    (still_there g.D.Disk.told g.D.Disk.faults (opened_with c.args.start.now c.args.start.now.members)
+    c.args.logs.now c.loop-m.logs c.loop-m.m c.index-logs-m.result c.loop-m.invariant
+    (omega (arith, c.loop-m-test.true, c.loop-m.invariant.all)))
+
+pub overflow_cast-m : goal.overflow_cast-m
+overflow_cast-m g c =
+    omega (arith, c.loop-m-test.true, c.requires.all, c.requires.ranges.most_members)
+
+pub loop-m-preserved : goal.loop-m-preserved
+loop-m-preserved g c =
+    let told = g.D.Disk.told in
+    let faults = g.D.Disk.faults in
+    let new = c.catch_up.new.log in
+    let old : LogState g.row.D.Denot = get_or c.loop-m.logs c.loop-m.m c.index-logs-m.result in
+    let came = c.in_default.ensures in
+    let came_whole = opened_with c.args.start.now c.of-members.result in
+    let went : (came.0 ≡ length came_whole) × (new.failed ≡ false) × _ = came.2 in
+    let caught : IsCaughtUp told faults came_whole old new =
+    (subst (λ (n : ℕ). HasCaughtUp told faults came_whole old new n) went.0 came.1, went.1) in
+    one_more_caught told faults (opened_with c.args.start.now c.args.start.now.members) c.args.logs.now
+    c.loop-m.logs c.loop-m.m c.index-logs-m.result new c.loop-m.invariant
+    (omega (arith, c.loop-m-test.true, c.loop-m.invariant.all))
+    (subst (λ (k : ℕ). IsCaughtUp told faults (opened_with c.args.start.now k) old new) c.of-members.ensures caught)
+
+pub returns-in-Err-clause-later : goal.returns-in-Err-clause-later
+returns-in-Err-clause-later g c =
+    let old : LogState g.row.D.Denot = get_or c.loop-m.logs c.loop-m.m c.index-logs-m.result in
+    let came = c.in-Err.ensures in
+    later_set g.D.Disk.told g.D.Disk.faults c.args.logs.now c.loop-m.logs c.loop-m.m c.index-logs-m.result
+    c.catch_up.new.log
+    (caught_later g.D.Disk.told g.D.Disk.faults (opened_with c.args.start.now c.args.start.now.members)
+    c.args.logs.now c.loop-m.logs c.loop-m.m c.loop-m.invariant)
+    (omega (arith, c.loop-m-test.true, c.loop-m.invariant.all))
+    (caught_on g.D.Disk.told g.D.Disk.faults (opened_with c.args.start.now c.of-members.result) old
+    c.catch_up.new.log came.0 came.1)
+
+pub returns-in-Err-clause-stopped : goal.returns-in-Err-clause-stopped
+returns-in-Err-clause-stopped g c before mounted =
+    let told = g.D.Disk.told in
+    let faults = g.D.Disk.faults in
+    let old : LogState g.row.D.Denot = get_or c.loop-m.logs c.loop-m.m c.index-logs-m.result in
+    let new = c.catch_up.new.log in
+    let came = c.in-Err.ensures in
+    let same = c.of-members.ensures in
+    catch_stops (Unit {0}) told faults c.args.script.now before c.args.start.now c.args.logs.now c.loop-m.logs c.loop-m.m
+    came.0 old new c.in-Err.fault c.of_catch.result (record {
+      below = omega (arith, c.loop-m-test.true, c.requires.all);
+      all = c.requires.all;
+      mounted = mounted;
+      starts = c.requires.start;
+      small = c.requires.small;
+      from = still_there told faults (opened_with c.args.start.now c.args.start.now.members) c.args.logs.now
+          c.loop-m.logs c.loop-m.m c.index-logs-m.result c.loop-m.invariant
+          (omega (arith, c.loop-m-test.true, c.loop-m.invariant.all));
+      within = omega (arith, c.loop-m-test.true, c.loop-m.invariant.all);
+    })
+    (subst (λ (k : ℕ). HasCaughtUp told faults (opened_with c.args.start.now k) old new came.0) same came.1)
+    (subst (λ (k : ℕ). WentSo told faults (opened_with c.args.start.now k) old new came.0
+    {T = Unit {0}} (Err c.in-Err.fault)) same
+    came.2)
+    c.of_catch.ensures.memory c.of_catch.ensures.disk c.of_catch.ensures.full
+
+pub returns-clause-caught : goal.returns-clause-caught
+returns-clause-caught g c = subst (λ (n : ℕ). AreCaughtUp g.D.Disk.told g.D.Disk.faults
+    (opened_with c.args.start.now c.args.start.now.members) c.args.logs.now c.loop-m.logs n)
+    (omega (arith, c.loop-m-test.false, c.loop-m.auto.m-end)) c.loop-m.invariant
+
+pub returns-clause-later : goal.returns-clause-later
+returns-clause-later g c =
+    caught_later g.D.Disk.told g.D.Disk.faults (opened_with c.args.start.now c.args.start.now.members)
+    c.args.logs.now c.loop-m.logs c.loop-m.m c.loop-m.invariant

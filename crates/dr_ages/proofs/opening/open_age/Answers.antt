@@ -1,0 +1,24 @@
+use Rattle.dr_gather.specs.Gathering.{entries_on}
+use Rattle.dr_gather.proofs.Grouping.{start_group}
+use Rattle.dr_ages.proofs.Caught.{on_still}
+use Rattle.dr_ages.proofs.Loans.{are_found, votes_on}
+use Rattle.dr_ages.proofs.Stopping.{gather_stops}
+use Rattle.dr_ages.specs.Lent.{with_logs}
+use Rattle.dr_ages.proofs.opening.open_age.Goals as goal
+
+pub returns-in-Ok-catch_all_up-clause-group : goal.returns-in-Ok-catch_all_up-clause-group
+returns-in-Ok-catch_all_up-clause-group g c =
+    start_group c.args.script.now (entries_on c.args.logs.now) c.in-Ok.start c.requires.ranges
+    c.in-Ok.ensures.small c.in-Ok.ensures.start
+
+pub returns-in-Err-clause-stopped : goal.returns-in-Err-clause-stopped
+returns-in-Err-clause-stopped g c before mounted =
+    gather_stops _ c.args.script.now before (with_logs g.D.Disk.told g.D.Disk.faults before c.args.logs.now)
+    (entries_on c.args.logs.now) (votes_on c.args.logs.now) c.in-Err.fault c.of_gather.result
+    (are_found g.D.Disk.told g.D.Disk.faults before c.args.logs.now c.args.script.now.members
+    mounted c.requires.all)
+    c.in-Err.ensures.foreign c.in-Err.ensures.disagree c.in-Err.ensures.used_up
+    c.of_gather.ensures.memory c.of_gather.ensures.foreign c.of_gather.ensures.disagree c.of_gather.ensures.used_up
+
+pub returns-in-Err-clause-later : goal.returns-in-Err-clause-later
+returns-in-Err-clause-later g c = on_still g.D.Disk.told g.D.Disk.faults c.args.logs.now

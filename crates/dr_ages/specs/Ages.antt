@@ -1,0 +1,75 @@
+-- The ages of a run.
+use Rattle.std.specs.Prelude.{◌≡◌, ℕ, ◌+◌, ◌-◌, ◌^◌, ◌<◌, List, [], ◌∷◌, length, slice_get, take, Some}
+use Rattle.dr_complete.specs.Time.{HasTime}
+use Rattle.dr_entry.specs.declared.end.AgeEnd.{AgeEnd}
+use Rattle.dr_entry.specs.declared.end.End.TheVariants.{DiskFault, LogFull}
+use Rattle.dr_entry.specs.declared.end.MemberEnd.{MemberEnd}
+use Rattle.dr_entry.specs.declared.entry.Entry.{Entry}
+use Rattle.dr_entry.specs.declared.record.Vote.{Vote}
+use Rattle.dr_gather.specs.Gathering.{IsStartOf}
+use Rattle.dr_history.specs.declared.opening.Opening.{Opening}
+use Rattle.dr_history.specs.Agreement.{EndsAgreed}
+use Rattle.dr_history.specs.History.{IsPrefixOf}
+use Rattle.dr_history.specs.Order.{first_entries}
+use Rattle.dr_io.specs.Faults.{Rose}
+use Rattle.dr_program_laws.specs.Ended.{AreComplete, HaveEnded}
+use Rattle.dr_program_laws.specs.Trusting.{NoneLeft, SuspectsNobody}
+use Rattle.dr_restart.specs.declared.start.Start.{Start}
+use Rattle.dr_restart.specs.Groups.{group_of}
+use Rattle.dr_restart.specs.Setups.{crashes_of}
+use Rattle.dr_script.specs.declared.script.Script.{Script}
+use Rattle.dr_sim.specs.Logged.{NoneFull, NoneStopped}
+use Rattle.dr_sim.specs.Simulated.{IsSimulated}
+use Rattle.dr_yard.specs.Yards.{Passes, YardState}
+use Rattle.dr_ages.specs.Found.{AreFound}
+use Rattle.dr_ages.specs.Left.{HasLeft, IsFullAt}
+
+-- the start that the end of an age tells: the whole roster takes part
+abbrev pub start_of : Script → AgeEnd → Start
+start_of script age = record {
+  age = age.age;
+  members = 2 ^ script.members - 1;
+  present = 2 ^ script.members - 1;
+  entries = age.start;
+}
+
+-- what the members of the age have begun with
+abbrev pub opening_of : Script → AgeEnd → Opening
+opening_of script age = (group_of script (start_of script age)).opening
+
+-- this is age number nth of a run, from 0, over disks that were so before it and are so behind it
+pub record IsAgeOf (script : Script) (nth : ℕ) (before after : YardState) (age : AgeEnd) : Type 0 where
+  -- it starts with what is found on the disks
+  pub lists : List (List Entry)
+  pub votes : ℕ → List Vote
+  pub found : AreFound script.members before lists votes
+  pub starts : IsStartOf script lists (start_of script age)
+  pub small : age.age < 2 ^ 16
+  -- it is the run of the script's schedule from there on, and its members agree, and end as they should
+  pub roster : length age.members ≡ script.members
+  pub run : IsSimulated script (start_of script age) nth age
+  pub agreed : EndsAgreed (opening_of script age) age.members
+  pub ended : HaveEnded (opening_of script age) script.turns (crashes_of script.faults nth) age.members
+  pub trusting : SuspectsNobody script → NoneLeft age.members
+  pub complete : HasTime script → NoneStopped age.members → AreComplete (opening_of script age) age.members
+  -- each log begins with what every history of the age does
+  pub opened : (m : ℕ) (e : MemberEnd) → slice_get age.members m ≡ Some e
+      → IsPrefixOf (first_entries (opening_of script age)) (take e.logged e.history)
+  -- whatever a crash leaves of each disk is what its member may leave, with the votes that were found
+  pub left : (m : ℕ) (e : MemberEnd) → slice_get age.members m ≡ Some e
+      → HasLeft (after.told m) e (votes m)
+  -- who ends by its disk has one that failed, and who ends by a full log has one
+  pub failed : (m : ℕ) (e : MemberEnd) → slice_get age.members m ≡ Some e → e.end ≡ DiskFault
+      → Rose (before.faults m) (after.faults m)
+  pub full : (m : ℕ) (e : MemberEnd) (len : ℕ) → slice_get age.members m ≡ Some e → e.end ≡ LogFull len
+      → IsFullAt e (votes m) len
+  -- logs without votes have room for all that an age may bring
+  pub ample : ((m : ℕ) → m < script.members → votes m ≡ []) → NoneFull age.members
+  pub passes : Passes before after
+
+-- these ages came one after the other, the first of them as number nth of the run
+abbrev pub AreAges : Script → ℕ → YardState → List AgeEnd → YardState → Type 0
+AreAges script nth before [] after = before ≡ after
+AreAges script nth before (age ∷ ages) after =
+    (between : YardState) × IsAgeOf script nth before between age
+    × AreAges script (nth + 1) between ages after

@@ -1,0 +1,61 @@
+-- The disks of a yard that are lent, and the logs on them.
+use Rattle.std.specs.Prelude.{◌≡◌, ⊤, ℕ, ◌<◌, ◌≤◌, Bool, nat_lt, false, List, length, slice_get, Option, Some, IfSome, is_some}
+use Rattle.std.specs.Option.{option_map_or}
+use Rattle.dr_disk.specs.Disk.{Told}
+use Rattle.dr_entry.specs.declared.limits.TheConstants.{MAX_MEMBERS}
+use Rattle.dr_io.specs.Faults.{Rose}
+use Rattle.dr_log.specs.State.{LogState}
+use Rattle.dr_yard.specs.Yards.{YardState}
+use Rattle.dr_ages.specs.declared.lending.TheConstants.{LOG_LIMIT}
+use Rattle.dr_ages.specs.declared.stop.Stop.{Stop}
+use Rattle.dr_ages.specs.declared.stop.Stop.TheVariants.{OutOfMemory, DiskFault, Damaged}
+use Rattle.dr_ages.specs.Found.{ReadsAs}
+use Rattle.dr_ages.specs.Stops.{HasDamaged, HasFailed, ReadsDamaged}
+
+-- the disks of the first members are lent, and stand under these logs, by number; a disk has counted no fewer
+-- faults than the yard has
+pub record AreLent {Y D : Type 0} (is_lent : Y → ℕ → Bool) (yard_faults : Y → ℕ → ℕ) (faults : D → ℕ)
+    (yard : Y) (logs : List (LogState D)) : Type 0 where
+  pub few : length logs ≤ MAX_MEMBERS
+  pub lent : (m : ℕ) → m < MAX_MEMBERS → is_lent yard m ≡ nat_lt m (length logs)
+  pub counted : (m : ℕ) (log : LogState D) → slice_get logs m ≡ Some log
+      → yard_faults yard m ≤ faults log.disk
+
+-- a disk that told so, and had counted so many faults, goes on telling or not telling, and counts no fewer
+pub record GoesOn (told : Option Told) (count : ℕ) (now : Option Told) (faults : ℕ) : Type 0 where
+  pub tells : is_some told ≡ is_some now
+  pub later : count ≤ faults
+
+-- a log was mounted from a disk that told so and had counted so many faults: it is what was read
+pub record IsMounted {D : Type 0} (tells : D → Option Told) (faults : D → ℕ) (told : Option Told) (count : ℕ)
+    (log : LogState D) : Type 0 where
+  pub found : IfSome told (ReadsAs log.entries log.votes)
+  pub limit : log.limit ≡ LOG_LIMIT
+  pub whole : log.failed ≡ false
+  pub on : GoesOn told count (tells log.disk) (faults log.disk)
+
+-- these logs were mounted from the disks of a yard, by number
+abbrev pub AreMounted : {D : Type 0} → (D → Option Told) → (D → ℕ) → YardState → List (LogState D) → Type 0
+AreMounted {D} tells faults before logs = (m : ℕ) (log : LogState D) → slice_get logs m ≡ Some log
+    → IsMounted tells faults (before.told m) (before.faults m) log
+
+-- the state of a yard that has the disks of these logs in the place of its own
+abbrev pub with_logs : {D : Type 0} → (D → Option Told) → (D → ℕ) → YardState → List (LogState D) → YardState
+with_logs {D} tells faults yard logs = record {
+  told = λ m. option_map_or (λ (log : LogState D). tells log.disk) (slice_get logs m) (yard.told m);
+  faults = λ m. option_map_or (λ (log : LogState D). faults log.disk) (slice_get logs m) (yard.faults m);
+}
+
+-- why the log of a member was not mounted, from a disk that told so, while the count of its faults went so
+abbrev pub WasRefused : ℕ → Option Told → ℕ → ℕ → Stop → Type 0
+WasRefused member told before after OutOfMemory = ⊤
+WasRefused member told before after (DiskFault m) = (m ≡ member) × Rose before after
+WasRefused member told before after (Damaged m at) = (m ≡ member) × IfSome told (ReadsDamaged at)
+WasRefused member told before after stop = ⊥
+
+-- why the logs of the first n members were not all mounted
+abbrev pub WereRefused : ℕ → YardState → YardState → Stop → Type 0
+WereRefused n before after OutOfMemory = ⊤
+WereRefused n before after (DiskFault m) = HasFailed n before after m
+WereRefused n before after (Damaged m at) = HasDamaged n before m at
+WereRefused n before after stop = ⊥

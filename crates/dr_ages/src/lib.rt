@@ -1,0 +1,11 @@
+//! The ages of a run, one after the other: each starts with what the logs of the one before have left.
+#![tactic(auto)]
+
+mod ages;
+mod lending;
+mod opening;
+mod stop;
+
+pub use ages::{AgesEnd, run_ages};
+pub use lending::LOG_LIMIT;
+pub use stop::Stop;
