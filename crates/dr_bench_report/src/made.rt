@@ -1,29 +1,37 @@
-ghost use Rattle.std.specs.Prelude.{◌≡◌, IfOk, string_bytes};
+ghost use Rattle.std.specs.Prelude.{◌≡◌, IfOk};
 ghost use Rattle.dr_text.specs.Report.{report_text};
 ghost use Rattle.dr_text.specs.declared.last.Last.{Last};
 
+use crate::counter::Counter;
 use dr_entry::AgeEnd;
-use dr_text::{Last, report};
+use dr_text::{Last, Report};
 use std::alloc::{AllocError, Global};
 
 /// A report that was made several times.
 #[derive(Drop)]
 pub struct Made {
-    pub text: String,
-    /// The bytes of the text, as often as it was made.
+    pub report: Report,
+    /// The bytes of its text, as often as it was made.
     pub bytes: u64,
 }
 
-/// Makes the report of these ages so many times, at least once.
+/// Makes the report of these ages so many times, at least once, and writes it to a counter each time.
 pub fn report_again(alloc: Global, ages: &[AgeEnd], rounds: u32) -> Result<Made, AllocError>
-    ensures { IfOk result (λ made. string_bytes made.text ≡ report_text ages.now Last.Done) }
+    ensures { IfOk result (λ made. made.report ≡ report_text ages.now Last.Done) }
 {
-    let mut bytes = 0u64;
+    let mut counter = Counter { bytes: 0 };
     for _ in 1..rounds {
-        let text = report(alloc, ages, &Last::Done)?;
-        bytes = bytes.wrapping_add(text.as_str().len() as u64);
+        write(&Report::of(alloc, ages, &Last::Done)?, &mut counter);
     }
-    let text = report(alloc, ages, &Last::Done)?;
-    bytes = bytes.wrapping_add(text.as_str().len() as u64);
-    Ok(Made { text, bytes })
+    let report = Report::of(alloc, ages, &Last::Done)?;
+    write(&report, &mut counter);
+    Ok(Made {
+        report,
+        bytes: counter.bytes,
+    })
+}
+
+/// Writes a report to the counter, which takes all of it.
+fn write(report: &Report, counter: &mut Counter) {
+    let _ = report.write_to(counter);
 }

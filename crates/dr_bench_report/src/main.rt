@@ -1,12 +1,13 @@
-//! Makes the report of a large age again and again, so that a clock outside can tell its speed.
+//! Makes the report of a large age and writes it, again and again, so that a clock outside can tell its speed.
 #![tactic(auto)]
 
 mod ages;
+mod counter;
 mod made;
 
 use ages::age_of;
+use dr_io::OutputSink;
 use made::report_again;
-use std::io::Write;
 use std::process::ExitCode;
 use std::rt::Env;
 use std::{env, io};
@@ -19,7 +20,13 @@ fn main(rt: HostRuntime) -> io::Result<ExitCode> {
     };
     let ages = [age_of(alloc, messages)?];
     let made = report_again(alloc, &ages, rounds)?;
-    rt.stdout().write_all(made.text.as_bytes())?;
+    if made
+        .report
+        .write_to(&mut OutputSink::new(rt.stdout()))
+        .is_err()
+    {
+        return Ok(ExitCode::from(5));
+    }
     let bytes = made.bytes;
     println!(rt; "bytes: {bytes}")?;
     Ok(ExitCode::SUCCESS)

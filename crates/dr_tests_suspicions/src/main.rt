@@ -7,10 +7,11 @@
 
 use dr_entry::{AgeEnd, Seq};
 use dr_fresh::logs_of;
+use dr_io::OutputSink;
 use dr_restart::first_start;
 use dr_script::read_script;
 use dr_sim::sim_age;
-use dr_text::{Last, report};
+use dr_text::{Last, Report};
 use std::alloc::Global;
 use std::io::{BufRead, BufReader};
 
@@ -31,12 +32,12 @@ fn ended(alloc: Global, script: &[u8]) -> anyhow::Result<AgeEnd> {
 }
 
 /// Prints the turns of each member of an age, and its report.
-fn print_age(rt: &impl Print, alloc: Global, age: AgeEnd) -> anyhow::Result<()> {
+fn print_age(rt: &HostRuntime, alloc: Global, age: AgeEnd) -> anyhow::Result<()> {
     for (me, member) in age.members.as_slice().iter().enumerate() {
         println!(rt; "turns of {me}: {}", member.turns)?;
     }
     let mut ages = Vec::new(alloc);
     ages.push(age)?;
-    print!(rt; "{}", report(alloc, ages.as_slice(), &Last::Done)?)?;
+    Report::of(alloc, ages.as_slice(), &Last::Done)?.write_to(&mut OutputSink::new(rt.stdout()))?;
     Ok(())
 }

@@ -1,5 +1,6 @@
+use crate::written::written;
 use dr_entry::{AgeEnd, End, Entry, MemberEnd, Message, Seq};
-use dr_text::{Last, report};
+use dr_text::Last;
 use std::alloc::Global;
 use std::test::Fail;
 
@@ -59,7 +60,7 @@ fn three_members_that_delivered_three_messages(rt: HostRuntime) -> Result<(), Fa
         members.push(member)?;
     }
     let ages = [age(0, Vec::new(alloc), members)];
-    let text = report(alloc, &ages, &Last::Done)?;
+    let sink = written(alloc, &ages, &Last::Done)?;
     let expected = "\
 age 0 start 0
 member 0 done history 4 logged 4 durable 4
@@ -79,7 +80,7 @@ member 2 done history 4 logged 4 durable 4
   msg 2 0 63
 ok
 ";
-    assert_eq!(rt; text.as_str(), expected);
+    assert_eq!(rt; sink.bytes(), expected.as_bytes());
     Ok(())
 }
 
@@ -111,7 +112,7 @@ fn histories_differ_behind_a_start(rt: HostRuntime) -> Result<(), Fail> {
         member(alloc, End::Spent { turns: 9 }, other),
     ]?;
     let ages = [age(0, Vec::new(alloc), alone), age(1, start, members)];
-    let text = report(alloc, &ages, &Last::Unfinished)?;
+    let sink = written(alloc, &ages, &Last::Unfinished)?;
     let expected = "\
 age 0 start 0
 member 0 done history 1 logged 1 durable 0
@@ -131,7 +132,7 @@ member 2 spent 9 history 5 logged 5 durable 4
   view 1 1 0,2
 unfinished
 ";
-    assert_eq!(rt; text.as_str(), expected);
+    assert_eq!(rt; sink.bytes(), expected.as_bytes());
     Ok(())
 }
 
@@ -153,7 +154,7 @@ fn each_end_has_its_words(rt: HostRuntime) -> Result<(), Fail> {
         members.push(member(alloc, end, Vec::new(alloc)))?;
     }
     let ages = [age(65_535, Vec::new(alloc), members)];
-    let text = report(alloc, &ages, &Last::Unfinished)?;
+    let sink = written(alloc, &ages, &Last::Unfinished)?;
     let expected = "\
 age 65535 start 0
 member 0 done history 0 logged 0 durable 0
@@ -166,6 +167,6 @@ member 6 logfull 2147483600 history 0 logged 0 durable 0
 member 7 spent 1000000 history 0 logged 0 durable 0
 unfinished
 ";
-    assert_eq!(rt; text.as_str(), expected);
+    assert_eq!(rt; sink.bytes(), expected.as_bytes());
     Ok(())
 }

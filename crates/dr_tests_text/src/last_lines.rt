@@ -1,5 +1,6 @@
+use crate::written::written;
 use dr_entry::Text;
-use dr_text::{Last, report};
+use dr_text::Last;
 use std::test::Fail;
 
 #[test]
@@ -47,8 +48,8 @@ fn where_no_age_ran_the_last_line_stands_alone(rt: HostRuntime) -> Result<(), Fa
         ),
     ];
     for (last, line) in lines {
-        let text = report(alloc, &[], &last)?;
-        assert_eq!(rt; text.as_str(), line);
+        let sink = written(alloc, &[], &last)?;
+        assert_eq!(rt; sink.bytes(), line.as_bytes());
     }
     Ok(())
 }

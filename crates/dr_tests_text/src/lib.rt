@@ -5,3 +5,5 @@
 mod ages;
 #[cfg(test)]
 mod last_lines;
+#[cfg(test)]
+mod written;

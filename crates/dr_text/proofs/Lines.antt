@@ -1,22 +1,15 @@
 -- Printing one line more, and the text of the first lines.
-use Rattle.std.proofs.Common.{IsTrue, ◌≡◌, ℕ, ◌+◌, ◌-◌, ◌≤◌, ◌<◌, ◌⊎◌, inl, inr, List, [], ◌∷◌, ◌++◌, length, take, drop, get_or, refl, sym, ap, ◌∙◌, arith, append_assoc, subst, min}
-use Rattle.std.specs.List.{flat_map, slice_range}
-use Rattle.std.specs.Str.{IsCharBoundary, IsUtf8, is_utf8}
+use Rattle.std.proofs.Common.{◌≡◌, ℕ, ◌+◌, ◌≤◌, ◌<◌, ◌⊎◌, inl, inr, List, [], ◌∷◌, ◌++◌, length, take, drop, get_or, refl, sym, ap, ◌∙◌, arith, append_assoc, subst}
+use Rattle.std.specs.List.{flat_map}
 use Rattle.std.proofs.Math.Seq.{take-append_seam, take-length, get_or-append_seam}
 use Rattle.std.proofs.Math.ListN.{get_or-append}
 use Rattle.std.proofs.lemmas.Bool.{cases_lt}
-use Rattle.std.proofs.lemmas.List.{take-append-drop, take_more, length-append, length-take, append-nil}
-use Rattle.std.proofs.lemmas.Grind.{flat_map-append, get_or_default_zero}
-use Rattle.std.proofs.lemmas.Str.{IsCharBoundary-from_take, IsUtf8-from_is_utf8, IsUtf8-nil, is_utf8-from_IsUtf8}
+use Rattle.std.proofs.lemmas.List.{length-append}
+use Rattle.std.proofs.lemmas.Grind.{get_or_default_zero}
 use Rattle.dr_entry.specs.declared.entry.Entry.{Entry}
 use Rattle.dr_text.specs.Report.{entry_text}
 use Rattle.dr_text.specs.Printed.{ArePrinted, lines}
-
--- the text of a list is that of its first elements, followed by that of the rest
-text_parts : {A B : Type 0} (f : A → List B) (xs : List A) (n : ℕ)
-    → flat_map f xs ≡ flat_map f (take n xs) ++ flat_map f (drop n xs)
-text_parts f xs n =
-    ap (flat_map f) (sym (take-append-drop n xs)) ∙ flat_map-append f (take n xs) (drop n xs)
+use Rattle.dr_text.proofs.Texts.{text_parts, text_more}
 
 -- the text of the first elements begins the text of all
 first_text : {A B : Type 0} (f : A → List B) (xs : List A) (n : ℕ)
@@ -50,10 +43,6 @@ up_to_none P first i within = let e : 0 ≡ i = omega arith in subst P e first
 abbrev IsEnd : List Entry → List ℕ → ℕ → Type 0
 IsEnd entries ends i = get_or ends i 0 ≡ length (lines entries i)
 
--- the lines of the first i entries are UTF-8
-abbrev AreUtf8 : List Entry → ℕ → Type 0
-AreUtf8 entries i = IsTrue (is_utf8 (lines entries i))
-
 -- no line is printed yet
 pub none_printed : (entries : List Entry) (text ends : List ℕ)
     → text ≡ [] → ends ≡ 0 ∷ [] → ArePrinted entries 0 text ends
@@ -61,30 +50,22 @@ none_printed entries text ends empty zero_alone = record {
   printed = empty;
   many = ap length zero_alone;
   each = up_to_none (IsEnd entries ends) (ap (λ xs. get_or xs 0 0) zero_alone);
-  utf8 = up_to_none (AreUtf8 entries) (is_utf8-from_IsUtf8 [] IsUtf8-nil);
 }
-
--- the lines of one entry more
-lines_more : (entries : List Entry) (n : ℕ) (e : Entry) → n < length entries → e ≡ get_or entries n e
-    → lines entries (n + 1) ≡ lines entries n ++ entry_text e
-lines_more entries n e below is =
-    rw (take_more entries n e below, flat_map-append, ← is, append-nil) refl
 
 -- one line more is printed
 pub printed_more : (entries : List Entry) (n : ℕ) (e : Entry) (text ends text' ends' : List ℕ)
     → n < length entries → e ≡ get_or entries n e → ArePrinted entries n text ends
-    → text' ≡ text ++ entry_text e → IsUtf8 text' → ends' ≡ ends ++ length text' ∷ []
+    → text' ≡ text ++ entry_text e → ends' ≡ ends ++ length text' ∷ []
     → ArePrinted entries (n + 1) text' ends'
-printed_more entries n e text ends text' ends' below is before after valid marked = record {
+printed_more entries n e text ends text' ends' below is before after marked = record {
   printed = whole;
   many = rw (marked, length-append, before.many) refl;
   each = up_to_more (IsEnd entries ends') n earlier last;
-  utf8 = up_to_more (AreUtf8 entries) n before.utf8
-      (is_utf8-from_IsUtf8 (lines entries (n + 1)) (subst IsUtf8 whole valid));
 }
   where
     whole : text' ≡ lines entries (n + 1)
-    whole = after ∙ ap (λ t. t ++ entry_text e) before.printed ∙ sym (lines_more entries n e below is)
+    whole = after ∙ ap (λ t. t ++ entry_text e) before.printed
+        ∙ sym (text_more entry_text entries n e below is)
 
     earlier : (i : ℕ) → i ≤ n → IsEnd entries ends' i
     earlier i within =
@@ -118,28 +99,3 @@ pub first_lines : (entries : List Entry) (text ends : List ℕ) (count end : ℕ
 first_lines entries text ends count end all within is =
     let at = first_end entries text ends count end all within is in
     rw (at, all_printed entries text ends all) (first_text entry_text entries count)
-
--- that end is no place within a character
-pub first_boundary : (entries : List Entry) (text ends : List ℕ) (count end : ℕ)
-    → ArePrinted entries (length entries) text ends → count ≤ length entries
-    → end ≡ get_or ends count end
-    → IsUtf8 text → IsCharBoundary text end
-first_boundary entries text ends count end all within is valid =
-    IsCharBoundary-from_take text end valid fits (subst IsUtf8 (sym front) first)
-  where
-    front : take end text ≡ lines entries count
-    front = first_lines entries text ends count end all within is
-
-    first : IsUtf8 (lines entries count)
-    first = IsUtf8-from_is_utf8 (lines entries count) (all.utf8 count within)
-
-    fits : end ≤ length text
-    fits =
-        let at = first_end entries text ends count end all within is in
-        let whole : length (take end text) ≡ end = ap length front ∙ sym at in
-        let least : length (take end text) ≡ min end (length text) = length-take end text in
-        omega arith
-
--- a front part is a slice from 0
-pub front_slice : {A : Type 0} (xs : List A) (n : ℕ) → slice_range xs 0 n ≡ take n xs
-front_slice xs n = let e : n - 0 ≡ n = omega arith in ap (λ k. take k xs) e

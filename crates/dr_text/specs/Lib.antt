@@ -1,2 +1,4 @@
 pub mod Report
+pub mod Pieces
 pub mod Printed
+pub mod Writing

@@ -1,7 +1,6 @@
--- Lines that stand ready to be copied.
-use Rattle.std.specs.Prelude.{ℕ, ◌≡◌, ◌+◌, ◌≤◌, List, length, take, get_or, IsTrue}
+-- Lines that are printed once for several members.
+use Rattle.std.specs.Prelude.{ℕ, ◌≡◌, ◌+◌, ◌≤◌, List, length, take, get_or}
 use Rattle.std.specs.List.{flat_map}
-use Rattle.std.specs.Str.{is_utf8}
 use Rattle.dr_entry.specs.declared.entry.Entry.{Entry}
 use Rattle.dr_text.specs.Report.{entry_text}
 
@@ -15,4 +14,3 @@ pub record ArePrinted (entries : List Entry) (count : ℕ) (text ends : List ℕ
   pub printed : text ≡ lines entries count
   pub many : length ends ≡ count + 1
   pub each : (i : ℕ) → i ≤ count → get_or ends i 0 ≡ length (lines entries i)
-  pub utf8 : (i : ℕ) → i ≤ count → IsTrue (is_utf8 (lines entries i))

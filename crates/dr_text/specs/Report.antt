@@ -47,25 +47,32 @@ end_text DiskFault = codes "diskfault"
 end_text (LogFull len) = codes "logfull " ++ decimal len
 end_text (Spent turns) = codes "spent " ++ decimal turns
 
--- a member with this number: its line, and the entries of its history after the age's first `start` ones
-abbrev pub member_text : ℕ → ℕ → MemberEnd → List ℕ
-member_text start number m =
+-- the line of a member with this number
+abbrev pub member_line : ℕ → MemberEnd → List ℕ
+member_line number m =
     concat
     (codes "member " ∷ decimal number ∷ codes " " ∷ end_text m.end
     ∷ codes " history " ∷ decimal (length m.history)
-    ∷ codes " logged " ∷ decimal m.logged ∷ codes " durable " ∷ decimal m.durable ∷ codes "\n"
-    ∷ flat_map entry_text (drop start m.history) ∷ [])
+    ∷ codes " logged " ∷ decimal m.logged ∷ codes " durable " ∷ decimal m.durable ∷ codes "\n" ∷ [])
+
+-- a member with this number: its line, and the entries of its history after the age's first `start` ones
+abbrev pub member_text : ℕ → ℕ → MemberEnd → List ℕ
+member_text start number m = member_line number m ++ flat_map entry_text (drop start m.history)
 
 -- the members of an age that started with so many entries, numbered from 0
 abbrev pub members_text : ℕ → List MemberEnd → List ℕ
 members_text start ms = flat_map (λ t. member_text start t.0 t.1) (enumerate_from 0 ms)
 
--- an age: its line, the entries that it started with, and its members
-abbrev pub age_text : AgeEnd → List ℕ
-age_text a =
+-- the line of an age, and the entries that it started with
+abbrev pub age_head : AgeEnd → List ℕ
+age_head a =
     concat
     (codes "age " ∷ decimal a.age ∷ codes " start " ∷ decimal (length a.start) ∷ codes "\n"
-    ∷ flat_map entry_text a.start ∷ members_text (length a.start) a.members ∷ [])
+    ∷ flat_map entry_text a.start ∷ [])
+
+-- an age: its line, the entries that it started with, and its members
+abbrev pub age_text : AgeEnd → List ℕ
+age_text a = age_head a ++ members_text (length a.start) a.members
 
 -- the line that names a broken rule and its place
 abbrev pub rule_text : ℕ → List ℕ → List ℕ

@@ -1,9 +1,7 @@
-ghost use Rattle.std.specs.Prelude.{◌≡◌, ◌↔◌, IsTrue, ◌≤◌, ◌++◌, IfOk, OnOk, string_bytes, length, take, drop};
-ghost use Rattle.std.specs.List.{flat_map};
-ghost use Rattle.dr_text.specs.Report.{entry_text};
+ghost use Rattle.std.specs.Prelude.{◌≡◌, ◌↔◌, IsTrue, ◌≤◌, IfOk, string_bytes, length, take, drop};
 ghost use Rattle.dr_text.specs.Printed.{ArePrinted, lines};
 
-use crate::entries::{push_entries, push_entry};
+use crate::entries::push_entry;
 use dr_entry::Entry;
 use std::alloc::{AllocError, Global};
 
@@ -36,31 +34,27 @@ impl<'a> Printed<'a> {
         })
     }
 
-    /// The number of bytes of the lines.
-    pub(crate) fn len(&self) -> usize
-        ensures { result ≡ length (string_bytes self.now.text) }
+    /// How many of these entries, from the first on, are those that are printed.
+    pub(crate) fn count_same(&self, entries: &[Entry]) -> usize
+        ensures within { (result ≤ length self.now.entries.now) × (result ≤ length entries.now) }
+        ensures same { take result self.now.entries.now ≡ take result entries.now }
     {
-        self.text.as_str().len()
+        count_same(self.entries, entries)
     }
 
-    /// The lines of the first `count` entries.
-    fn first(&self, count: usize) -> &str
+    /// Where the lines of the first `count` entries end.
+    pub(crate) fn end_of(&self, count: usize) -> usize
         requires { count ≤ length self.now.entries.now }
-        ensures { result.now ≡ lines self.now.entries.now count }
+        ensures { take result (string_bytes self.now.text) ≡ lines self.now.entries.now count }
     {
-        let end = self.ends[count];
-        &self.text.as_str()[..end]
+        self.ends[count]
     }
 
-    /// Appends a line for each of these entries. As long as they are those that are printed, their
-    /// lines are copied.
-    pub(crate) fn push_entries(&self, out: &mut String, entries: &[Entry]) -> Result<(), AllocError>
-        ensures { OnOk result
-            (string_bytes out.new ≡ string_bytes out.old ++ flat_map entry_text entries.now) }
+    /// The text of all lines.
+    pub(crate) fn into_text(self) -> String
+        ensures { string_bytes result ≡ string_bytes self.entry.text }
     {
-        let same = count_same(self.entries, entries);
-        out.push_str(self.first(same))?;
-        push_entries(out, behind(entries, same))
+        self.text
     }
 }
 

@@ -1,5 +1,5 @@
 use Rattle.std.proofs.Common.{◌≤◌, All, drop, length, take}
-use Rattle.dr_text.proofs.text.longest.Given as goal
+use Rattle.dr_text.proofs.age.longest.Given as goal
 
 abbrev pub invariant-loop-member : goal.invariant-loop-member
 invariant-loop-member l =
