@@ -1,519 +1,422 @@
--- What a call may come to, and what its clauses say in each case.
-use Rattle.std.proofs.Common.{◌≡◌, ◌≢◌, ◌⊎◌, inl, inr, ℕ, zero, suc, ◌<◌, ◌≤◌, Bool, true, false, true≢false, IsTrue, List, [], ◌∷◌, length, slice_index_or, All, Contains, Option, Some, None, MatchOption, Result, Ok, Err, IfOk, String, get_or, if◌then◌else◌, refl, sym, ap, subst, ◌∙◌, arith}
-use Rattle.std.proofs.lemmas.List.Elements.{All-nil}
-use Rattle.std.proofs.lemmas.List.Folds.{list_any_none}
-use Rattle.std.proofs.lemmas.Option.{slice_get-get_or}
-use Rattle.std.specs.Prelude.{◌||◌}
+-- Why the status of a call is what it is, and what its clauses say in each case.
+use Rattle.std.proofs.Common.{◌≡◌, ◌⊎◌, refl, sym, ap, ap₂, ◌∙◌, subst, inl, inr, ℕ, ◌<◌, ◌≤◌, Bool, true, false, true≢false, IsTrue, arith, List, [], ◌∷◌, Contains, Option, None, Some, is_some, IsSomeAnd, MatchOption, if◌then◌else◌, String}
 use Rattle.std.specs.declared.alloc.Global.{Global}
+use Rattle.std.proofs.lemmas.Bool.{cases_Bool, or_parts}
+use Rattle.std.proofs.lemmas.Option.{same_Some}
+use Rattle.dr_ages.specs.declared.stop.Stop.{Stop}
+use Rattle.dr_ages.specs.Ages.{AreAges}
+use Rattle.dr_complete.specs.Time.{HasTime}
 use Rattle.dr_entry.specs.declared.end.AgeEnd.{AgeEnd}
 use Rattle.dr_io.specs.Faults.{Rose}
-use Rattle.dr_restart.specs.Groups.{first_group_of, first_start_of}
 use Rattle.dr_script.specs.declared.script.Script.{Script}
 use Rattle.dr_script.specs.Reading.{Reading, reading_of, TooLong as TooLongText, NotJson as NoJsonText, Wrong, Reads}
-use Rattle.dr_program_laws.specs.Trusting.{NoneLeft}
-use Rattle.dr_sim.specs.Logged.{NoneStopped, why_ended}
-use Rattle.dr_sim.specs.Simulated.{IsSimulated}
 use Rattle.dr_text.specs.declared.last.Last.{Last}
-use Rattle.dr_text.specs.declared.last.Last.TheVariants.{Done, Usage, SourceFault, Unfinished}
-use Rattle.derecho.specs.declared.status.TheConstants.{DONE, USAGE, SCRIPT_REFUSED, READ_FAULT, WRITE_FAULT, DISK_FAULT, UNFINISHED, OUT_OF_MEMORY, LOG_FULL}
-use Rattle.derecho.specs.declared.outcome.Outcome.{Outcome}
-use Rattle.derecho.specs.Words.{IsCommand}
-use Rattle.derecho.specs.Built.{runnable, refusal}
+use Rattle.dr_yard.specs.Yards.{YardState, empty_yard}
+use Rattle.derecho.specs.declared.last.Kind.TheVariants.{DiskFault, LogFull, Spent}
+use Rattle.derecho.specs.Built.{refusal, runnable}
+use Rattle.derecho.specs.Last.{first_end, first_told, is_memory, last_by, last_of, refusal_of, some_end, some_so, stopped_by}
+use Rattle.derecho.specs.Outcome.{Course, no_memory, no_command, no_source, read, Exactly, HasRun, IsRunInMemory, RanNothing, Wrote, WroteOrNot, status_of}
 use Rattle.derecho.specs.Reading.{IsNoScript, IsScript, WasRead}
-use Rattle.derecho.specs.Ages.{IsRunOf, RanAlone, is_disk_fault, is_log_full, is_spent, some_end, some_spent}
-use Rattle.dr_complete.specs.Time.{HasTime}
-use Rattle.dr_program_laws.specs.Ended.{AreComplete}
-use Rattle.dr_history.specs.declared.opening.Opening.{Opening}
-use Rattle.dr_entry.specs.declared.end.End.{End}
-use Rattle.dr_entry.specs.declared.end.MemberEnd.{MemberEnd}
-use Rattle.derecho.proofs.Undisturbed.{no_disk_fault, no_log_full, none_end}
-use Rattle.derecho.specs.Outcome.{Exactly, GaveUp, IsDue, IsRunOver, MayBeUnread, RanRead, Wrote, last_of_run, status_of}
+use Rattle.derecho.specs.Words.{IsCommand, asked_by}
+use Rattle.derecho.proofs.Lasts.{end_so, refusal_status, told_so}
+use Rattle.derecho.proofs.Runs.{memory_accepts, memory_has_room, memory_holds, none_spent}
 
--- the status is the one that is due, or that of a write fault
-abbrev IsOr : ℕ → ℕ → Type 0
-IsOr due status = (status ≡ due) ⊎ (status ≡ WRITE_FAULT)
+-- a call: its words, its source and its yard before and after, and what it ran
+pub record Call : Type 0 where
+  pub words : List (String Global)
+  pub old : Option (List ℕ)
+  pub new : Option (List ℕ)
+  pub failed : ℕ
+  pub fails : ℕ
+  pub before : YardState
+  pub after : YardState
+  pub ages : List AgeEnd
+  pub stop : Option Stop
 
--- a script was read, and the ages are its run
-pub record Ran (old new : Option (List ℕ)) (ages : List AgeEnd) : Type 0 where
-  pub bytes : List ℕ
+abbrev pub IsCourse : Call → Option Last → Type 0
+IsCourse c last = Course c.words c.old c.new c.failed c.fails c.before c.after c.ages c.stop last
+
+-- a script was read, and run with all the memory that it needed
+pub record Ran (c : Call) : Type 0 where
+  pub folder : Option (List ℕ)
+  pub asked : asked_by c.words ≡ Some folder
   pub script : Script
-  pub age : AgeEnd
-  pub read : WasRead old new bytes
-  pub is : runnable (reading_of bytes) ≡ Some script
-  pub alone : ages ≡ age ∷ []
-  pub run : IsRunOf script age
+  pub is : IsScript c.old c.new script
+  pub run : HasRun folder script c.before c.after c.ages c.stop
+  pub ample : is_memory c.stop ≡ false
 
--- what is due over the bytes that were read
-pub due_read : {E : Type 0} (words : List (String Global)) (old new : Option (List ℕ))
-    (before after : ℕ) (bytes : List ℕ) (result : Result Outcome E)
-    → IsCommand words → WasRead old new bytes
-    → IfOk result (λ (o : Outcome). IsRunOver bytes o.ages o.last)
-    → IfOk result (λ (o : Outcome). IsDue words old new before after o.ages o.last)
-due_read words old new before after bytes (Ok o) known read over = inr (inr (known, (bytes, read, over)))
-due_read words old new before after bytes (Err e) known read over = tt
+-- nothing that a status tells has come
+pub record IsQuiet (c : Call) : Type 0 where
+  pub disk : some_so DiskFault c.ages c.stop ≡ false
+  pub logs : is_some (refusal_of c.stop) ≡ false
+  pub full : some_so LogFull c.ages c.stop ≡ false
+  pub turns : some_end Spent c.ages ≡ false
 
--- what a call may come to
-pub data Course (words : List (String Global)) (old new : Option (List ℕ)) (before after status : ℕ)
-    (ages : List AgeEnd) : Type 0 where
-  no_memory : status ≡ OUT_OF_MEMORY → ages ≡ [] → Course words old new before after status ages
-  no_command : ¬ IsCommand words → ages ≡ [] → IsOr USAGE status
-      → Course words old new before after status ages
-  no_read : IsCommand words → ages ≡ [] → Rose before after → IsOr READ_FAULT status
-      → Course words old new before after status ages
-  no_script : IsCommand words → ages ≡ [] → (bytes : List ℕ) → WasRead old new bytes
-      → runnable (reading_of bytes) ≡ None → IsOr SCRIPT_REFUSED status
-      → Course words old new before after status ages
-  done : IsCommand words → Ran old new ages → some_spent ages ≡ false → IsOr DONE status
-      → Course words old new before after status ages
-  unfinished : IsCommand words → Ran old new ages → some_spent ages ≡ true → IsOr UNFINISHED status
-      → Course words old new before after status ages
+-- the status behind the ages of a run, by the first of these that has come
+pub data Rank (c : Call) (status : ℕ) : Type 0 where
+  by_disk : status ≡ 6 → some_so DiskFault c.ages c.stop ≡ true → Rank c status
+  by_logs : status ≡ 7 → some_so DiskFault c.ages c.stop ≡ false → is_some (refusal_of c.stop) ≡ true
+      → Rank c status
+  by_full : status ≡ 11 → some_so DiskFault c.ages c.stop ≡ false → is_some (refusal_of c.stop) ≡ false
+      → some_so LogFull c.ages c.stop ≡ true → Rank c status
+  by_turns : status ≡ 8 → some_so DiskFault c.ages c.stop ≡ false → is_some (refusal_of c.stop) ≡ false
+      → some_so LogFull c.ages c.stop ≡ false → some_end Spent c.ages ≡ true → Rank c status
+  by_none : status ≡ 0 → IsQuiet c → Rank c status
 
--- a source that failed is told by the status, unless a write failed or memory was wanting
-pub fault_told : (held holds : Option (List ℕ)) (before after status : ℕ) (ages all : List AgeEnd)
-    (last : Last) → last ≡ SourceFault
-    → GaveUp held holds status ages ⊎ ((ages ≡ all) × Wrote held holds before after status all last)
-    → (status ≡ 4) ⊎ (status ≡ 5) ⊎ (status ≡ 10)
-fault_told held holds before after status ages all last is (inl gave) = inr (inr gave.0)
-fault_told held holds before after status ages all last is (inr (same, inl wrote)) =
-    inl (wrote.0 ∙ ap status_of is)
-fault_told held holds before after status ages all last is (inr (same, inr failed)) = inr (inl failed.0)
+-- the status comes before all others
+abbrev IsEarly : ℕ → Type 0
+IsEarly status = (status ≡ 10) ⊎ (status ≡ 5)
 
--- the status behind a last line
-or_of : (old new : Option (List ℕ)) (before after status : ℕ) (ages : List AgeEnd) (last due : Last)
-    → Wrote old new before after status ages last → last ≡ due → IsOr (status_of due) status
-or_of old new before after status ages last due (inl (is, gained)) same = inl (is ∙ ap status_of same)
-or_of old new before after status ages last due (inr (is, rose, front)) same = inr is
+-- why the status is what it is
+pub data Standing (c : Call) (status : ℕ) : Type 0 where
+  early : IsEarly status → Standing c status
+  bad_words : status ≡ 2 → (IsCommand c.words → ⊥) → IsQuiet c → Standing c status
+  bad_source : status ≡ 4 → IsCommand c.words → Rose c.failed c.fails → IsQuiet c → Standing c status
+  bad_script : status ≡ 3 → IsCommand c.words → IsNoScript c.old c.new → IsQuiet c → Standing c status
+  has_run : Ran c → Rank c status → Standing c status
 
--- a text that was written by a run
-ran_course : (words : List (String Global)) (old new held held' : Option (List ℕ))
-    (before after fall rise status : ℕ) (ages : List AgeEnd) (last : Last)
-    (spent : Bool) → IsCommand words → Ran old new ages → some_spent ages ≡ spent → last
-    ≡ last_of_run ages
-    → Wrote held held' fall rise status ages last → Course words old new before after status ages
-ran_course words old new held held' before after fall rise status ages last false known ran is same wrote =
-    done known ran is (or_of held held' fall rise status ages last Done wrote
-    (same ∙ ap (λ spent. if spent then Unfinished else Done) is))
-ran_course words old new held held' before after fall rise status ages last true known ran is same wrote =
-    unfinished known ran is (or_of held held' fall rise status ages last Unfinished wrote
-    (same ∙ ap (λ spent. if spent then Unfinished else Done) is))
+quiet : (c : Call) → RanNothing c.before c.after c.ages c.stop → IsQuiet c
+quiet c nothing = record {
+  disk = ap₂ (some_so DiskFault) nothing.none nothing.unstopped;
+  logs = ap (λ stop. is_some (refusal_of stop)) nothing.unstopped;
+  full = ap₂ (some_so LogFull) nothing.none nothing.unstopped;
+  turns = ap (some_end Spent) nothing.none;
+}
+
+-- the status behind a last line, and behind none
+said : (held holds : Option (List ℕ)) (fell falls status : ℕ) (ages : List AgeEnd) (last : Option Last)
+    (line : Last) → WroteOrNot held holds fell falls status ages last → last ≡ Some line
+    → IsEarly status ⊎ (status ≡ status_of line)
+said held holds fell falls status ages last line (inl gave) is = inl (inl gave.0)
+said held holds fell falls status ages last line (inr wrote) is =
+    elim (subst (λ o. IsSomeAnd o (Wrote held holds fell falls status ages)) is wrote) [
+      | inl whole ↦ inr whole.0
+      | inr part ↦ inl (inr part.0)
+    ]
+
+unsaid : (held holds : Option (List ℕ)) (fell falls status : ℕ) (ages : List AgeEnd) (last : Option Last)
+    → WroteOrNot held holds fell falls status ages last → last ≡ None → IsEarly status
+unsaid held holds fell falls status ages last (inl gave) is = inl gave.0
+unsaid held holds fell falls status ages last (inr wrote) is =
+    absurd (subst (λ o. IsSomeAnd o (Wrote held holds fell falls status ages)) is wrote)
+
+-- the first of what a status tells decides
+rank_by : (c : Call) (status : ℕ) (disk : Option ℕ) (logs : Option Last) (full turns : Option ℕ)
+    → first_told DiskFault c.ages c.stop ≡ disk → refusal_of c.stop ≡ logs
+    → first_told LogFull c.ages c.stop ≡ full → first_end Spent c.ages ≡ turns
+    → status ≡ status_of (last_by disk logs full turns) → Rank c status
+rank_by c status (Some m) logs full turns d l f t is =
+    by_disk is (sym (told_so DiskFault c.ages c.stop) ∙ ap is_some d)
+rank_by c status None (Some line) full turns d l f t is =
+    by_logs (is ∙ refusal_status c.stop line l) (sym (told_so DiskFault c.ages c.stop) ∙ ap is_some d)
+    (ap is_some l)
+rank_by c status None None (Some m) turns d l f t is =
+    by_full is (sym (told_so DiskFault c.ages c.stop) ∙ ap is_some d) (ap is_some l)
+    (sym (told_so LogFull c.ages c.stop) ∙ ap is_some f)
+rank_by c status None None None (Some m) d l f t is =
+    by_turns is (sym (told_so DiskFault c.ages c.stop) ∙ ap is_some d) (ap is_some l)
+    (sym (told_so LogFull c.ages c.stop) ∙ ap is_some f) (sym (end_so Spent c.ages) ∙ ap is_some t)
+rank_by c status None None None None d l f t is = by_none is (record {
+  disk = sym (told_so DiskFault c.ages c.stop) ∙ ap is_some d;
+  logs = ap is_some l;
+  full = sym (told_so LogFull c.ages c.stop) ∙ ap is_some f;
+  turns = sym (end_so Spent c.ages) ∙ ap is_some t;
+})
 
 -- the status of every refusal of a text
-refused_status : (r : Reading) → status_of (refusal r) ≡ SCRIPT_REFUSED
+refused_status : (r : Reading) → status_of (refusal r) ≡ 3
 refused_status TooLongText = refl
 refused_status NoJsonText = refl
 refused_status (Wrong rule path) = refl
 refused_status (Reads s) = refl
 
--- a text that was written over the bytes that were read
-over_course : (words : List (String Global)) (old new held held' : Option (List ℕ))
-    (before after fall rise status : ℕ) (ages : List AgeEnd) (last : Last)
-    (bytes : List ℕ) (o : Option Script) → runnable (reading_of bytes) ≡ o → IsCommand words
-    → WasRead old new bytes
-    → MatchOption o ((last ≡ refusal (reading_of bytes)) × (ages ≡ []))
-    (λ s. (last ≡ last_of_run ages) × RanAlone s ages)
-    → Wrote held held' fall rise status ages last → Course words old new before after status ages
-over_course words old new held held' before after fall rise status ages last bytes None is known read
-    (same, none) wrote =
-    no_script known none bytes read is
-    (subst (λ due. IsOr due status) (refused_status (reading_of bytes))
-    (or_of held held' fall rise status ages last (refusal (reading_of bytes)) wrote same))
-over_course words old new held held' before after fall rise status ages last bytes (Some s) is known read
-    (same, (a, alone, run)) wrote =
-    ran_course
-    words
-    old
-    new
-    held
-    held'
-    before
-    after
-    fall
-    rise
-    status
-    ages
-    last
-    (some_spent ages)
-    known
-    (record { bytes = bytes; script = s; age = a; read = read; is = is; alone = alone; run = run })
-    refl
-    same
-    wrote
-
--- a text that was written
-wrote_course : (words : List (String Global)) (old new held held' : Option (List ℕ))
-    (before after fall rise status : ℕ) (ages : List AgeEnd) (last : Last)
-    → IsDue words old new before after ages last → Wrote held held' fall rise status ages last
-    → Course words old new before after status ages
-wrote_course words old new held held' before after fall rise status ages last
-    (inl (other, same, none, kept)) wrote =
-    no_command other none (or_of held held' fall rise status ages last Usage wrote same)
-wrote_course words old new held held' before after fall rise status ages last
-    (inr (inl (known, same, none, rose))) wrote =
-    no_read known none rose (or_of held held' fall rise status ages last SourceFault wrote same)
-wrote_course words old new held held' before after fall rise status ages last
-    (inr (inr (known, (bytes, read, over)))) wrote =
-    over_course words old new held held' before after fall rise status ages last bytes
-    (runnable (reading_of bytes)) refl known read over wrote
-
--- a call that has finished
-pub course_of : (words : List (String Global)) (old new held held' : Option (List ℕ))
-    (before after fall rise status : ℕ) (due ages : List AgeEnd)
-    (last : Last) → IsDue words old new before after due last
-    → GaveUp held held' status ages ⊎ ((ages ≡ due) × Wrote held held' fall rise status due last)
-    → Course words old new before after status ages
-course_of words old new held held' before after fall rise status due ages last is_due
-    (inl (is, none, nothing)) = no_memory is none
-course_of words old new held held' before after fall rise status due ages last is_due (inr (same, wrote)) =
-    let P : List AgeEnd → Type 0 = λ all. Course words old new before after status all in
-    subst P (sym same) (wrote_course words old new held held' before after fall rise status due last is_due
-    wrote)
-
--- what a call that did not give up has written
-pub written_of : (words : List (String Global)) (old new held held' : Option (List ℕ))
-    (before after fall rise status : ℕ) (due ages : List AgeEnd)
-    (last : Last) → IsDue words old new before after due last
-    → GaveUp held held' status ages ⊎ ((ages ≡ due) × Wrote held held' fall rise status due last)
-    → status ≢ OUT_OF_MEMORY
-    → (line : Last) × IsDue words old new before after ages line
-    × Wrote held held' fall rise status ages line
-written_of words old new held held' before after fall rise status due ages last is_due
-    (inl (is, none, nothing)) not = absurd (not is)
-written_of words old new held held' before after fall rise status due ages last is_due
-    (inr (same, wrote)) not =
-    let P : List AgeEnd → Type 0 = λ all. (line : Last) × IsDue words old new before after all line
-    × Wrote held held' fall rise status all line in
-    subst P (sym same) (last, is_due, wrote)
-
--- a fact of one element is a fact of each element of the list of it alone
-all_one : {A : Type 0} (P : A → Type 0) (x : A) → P x → All P (x ∷ [])
-all_one P x here zero d below = here
-all_one P x here (suc k) d below = absurd (omega arith)
-
--- a fact that holds of the run of every script that was read holds of each age
-pub all_ages : {words : List (String Global)} {old new : Option (List ℕ)} {before after status : ℕ}
-    {ages : List AgeEnd} (P : Script → AgeEnd → Type 0)
-    → Course words old new before after status ages
-    → ((s : Script) (a : AgeEnd) → IsRunOf s a → P s a)
-    → All (λ a. (s : Script) × IsScript old new s × IsSimulated s (first_start_of s) 0 a × P s a) ages
-all_ages {words} {old} {new} {before} {after} {status} {ages} P course step =
-    let Q : AgeEnd → Type 0 = λ a. (s : Script) × IsScript old new s
-    × IsSimulated s (first_start_of s) 0 a × P s a in
-    let R : List AgeEnd → Type 0 = λ all. All Q all in
-    let nil : ages ≡ [] → All Q ages = λ none. subst R (sym none) (All-nil Q) in
-    let one : Ran old new ages → All Q ages =
-    λ r. subst R (sym r.alone) (all_one Q r.age
-    (r.script, (r.bytes, r.read, r.is), r.run.run, step r.script r.age r.run)) in
-    elim course [
-      | no_memory is none ↦ nil none
-      | no_command other none due ↦ nil none
-      | no_read known none rose due ↦ nil none
-      | no_script known none bytes read is due ↦ nil none
-      | done known r is due ↦ one r
-      | unfinished known r is due ↦ one r
+-- a call whose script was read
+read_standing : (c : Call) (held holds : Option (List ℕ)) (fell falls status : ℕ) (last : Option Last)
+    (folder : Option (List ℕ)) → asked_by c.words ≡ Some folder → (bytes : List ℕ)
+    → WasRead c.old c.new bytes → (o : Option Script) → runnable (reading_of bytes) ≡ o
+    → MatchOption o
+    (RanNothing c.before c.after c.ages c.stop × (last ≡ Some (refusal (reading_of bytes))))
+    (λ script. HasRun folder script c.before c.after c.ages c.stop × (last ≡ last_of c.ages c.stop))
+    → WroteOrNot held holds fell falls status c.ages last → Standing c status
+read_standing c held holds fell falls status last folder asked bytes was None is (nothing, line) wrote =
+    elim (said held holds fell falls status c.ages last (refusal (reading_of bytes)) wrote line) [
+      | inl first ↦ early first
+      | inr due ↦ bad_script (due ∙ refused_status (reading_of bytes)) (ap is_some asked) (bytes, was, is)
+          (quiet c nothing)
     ]
-
--- a call runs at most one age
-pub at_most_one : {words : List (String Global)} {old new : Option (List ℕ)} {before after status : ℕ}
-    {ages : List AgeEnd}
-    → Course words old new before after status ages → length ages ≤ 1
-at_most_one {words} {old} {new} {before} {after} {status} {ages} course =
-    let nil : ages ≡ [] → length ages ≤ 1 = λ none. omega (arith, ap length none) in
-    let one : Ran old new ages → length ages ≤ 1 = λ r. omega (arith, ap length r.alone) in
-    elim course [
-      | no_memory is none ↦ nil none
-      | no_command other none due ↦ nil none
-      | no_read known none rose due ↦ nil none
-      | no_script known none bytes read is due ↦ nil none
-      | done known r is due ↦ one r
-      | unfinished known r is due ↦ one r
+read_standing c held holds fell falls status last folder asked bytes was (Some script) is (ran, line) wrote =
+    elim (cases_Bool (is_memory c.stop)) [
+      | inl wanting ↦ early (unsaid held holds fell falls status c.ages last wrote
+          (line ∙ ap (λ b. if b then None else Some told) wanting))
+      | inr ample ↦
+          elim (said held holds fell falls status c.ages last told wrote
+          (line ∙ ap (λ b. if b then None else Some told) ample)) [
+            | inl first ↦ early first
+            | inr due ↦ has_run
+                (record {
+                  folder = folder;
+                  asked = asked;
+                  script = script;
+                  is = (bytes, was, is);
+                  run = ran;
+                  ample = ample;
+                })
+                (rank_by c status (first_told DiskFault c.ages c.stop) (refusal_of c.stop)
+                (first_told LogFull c.ages c.stop) (first_end Spent c.ages) refl refl refl refl due)
+          ]
     ]
+  where
+    told : Last
+    told = last_by (first_told DiskFault c.ages c.stop) (refusal_of c.stop) (first_told LogFull c.ages c.stop)
+        (first_end Spent c.ages)
 
--- a call that ran an age ends as done, as unfinished or with a write fault
-pub statuses_with_ages : {words : List (String Global)} {old new : Option (List ℕ)}
-    {before after status : ℕ} {ages : List AgeEnd}
-    → Course words old new before after status ages → ages ≢ [] → (status ≡ DONE)
-    ⊎ (status ≡ UNFINISHED) ⊎ (status ≡ WRITE_FAULT)
-statuses_with_ages {words} {old} {new} {before} {after} {status} {ages} course some =
-    elim course [
-      | no_memory is none ↦ absurd (some none)
-      | no_command other none due ↦ absurd (some none)
-      | no_read known none rose due ↦ absurd (some none)
-      | no_script known none bytes read is due ↦ absurd (some none)
-      | done known r is due ↦ elim due [ inl e ↦ inl e | inr e ↦ inr (inr e) ]
-      | unfinished known r is due ↦ inr due
-    ]
+-- a call that has been written
+pub standing_of : (c : Call) (held holds : Option (List ℕ)) (fell falls status : ℕ) (last : Option Last)
+    → IsCourse c last → WroteOrNot held holds fell falls status c.ages last → Standing c status
+standing_of c held holds fell falls status last course wrote = elim course [
+  | no_memory nothing is ↦ early (unsaid held holds fell falls status c.ages last wrote is)
+  | no_command other kept nothing is ↦
+      elim (said held holds fell falls status c.ages last _ wrote is) [
+        | inl first ↦ early first
+        | inr due ↦ bad_words due other (quiet c nothing)
+      ]
+  | no_source known rose nothing is ↦
+      elim (said held holds fell falls status c.ages last _ wrote is) [
+        | inl first ↦ early first
+        | inr due ↦ bad_source due known rose (quiet c nothing)
+      ]
+  | read folder asked bytes was over ↦
+      read_standing c held holds fell falls status last folder asked bytes was (runnable (reading_of bytes))
+      refl over wrote
+]
 
--- the status of each course is one of these
-pub known_status : {words : List (String Global)} {old new : Option (List ℕ)} {before after status : ℕ}
-    {ages : List AgeEnd}
-    → Course words old new before after status ages
-    → Contains (DONE ∷ USAGE ∷ SCRIPT_REFUSED ∷ READ_FAULT ∷ WRITE_FAULT ∷ UNFINISHED
-    ∷ OUT_OF_MEMORY ∷ []) status
-known_status {words} {old} {new} {before} {after} {status} {ages} course =
-    let at : (k : ℕ) → k < 7 → slice_index_or
-    (DONE ∷ USAGE ∷ SCRIPT_REFUSED ∷ READ_FAULT ∷ WRITE_FAULT ∷ UNFINISHED ∷ OUT_OF_MEMORY
-    ∷ []) k status ≡ status
-    → Contains (DONE ∷ USAGE ∷ SCRIPT_REFUSED ∷ READ_FAULT ∷ WRITE_FAULT ∷ UNFINISHED
-    ∷ OUT_OF_MEMORY ∷ []) status
-    = λ k below is. (k, below, is) in
-    elim course [
-      | no_memory is none ↦ at 6 (omega arith) (sym is)
-      | no_command other none due ↦
-          elim due [ inl e ↦ at 1 (omega arith) (sym e) | inr e ↦ at 4 (omega arith) (sym e) ]
-      | no_read known none rose due ↦
-          elim due [ inl e ↦ at 3 (omega arith) (sym e) | inr e ↦ at 4 (omega arith) (sym e) ]
-      | no_script known none bytes read is due ↦
-          elim due [ inl e ↦ at 2 (omega arith) (sym e) | inr e ↦ at 4 (omega arith) (sym e) ]
-      | done known r is due ↦ elim due
-          [ inl e ↦ at 0 (omega arith) (sym e) | inr e ↦ at 4 (omega arith) (sym e) ]
-      | unfinished known r is due ↦
-          elim due [ inl e ↦ at 5 (omega arith) (sym e) | inr e ↦ at 4 (omega arith) (sym e) ]
-    ]
+in_early : (rest : List ℕ) (status : ℕ) → IsEarly status → Contains (10 ∷ 5 ∷ rest) status
+in_early rest status (inl is) = (0, omega arith, sym is)
+in_early rest status (inr is) = (1, omega arith, sym is)
 
--- a status is neither the one that is due nor that of a write fault
-differs : (status due other : ℕ) → IsOr due status → status ≡ other → (due ≡ other → ⊥)
-    → (WRITE_FAULT ≡ other → ⊥) → ⊥
-differs status due other (inl e) is not fault = not (sym e ∙ is)
-differs status due other (inr e) is not fault = fault (sym e ∙ is)
+-- the status is not an early one
+late : (due status : ℕ) → status ≡ due → (due ≡ 10 → ⊥) → (due ≡ 5 → ⊥) → IsEarly status → ⊥
+late due status is ten five (inl e) = ten (sym is ∙ e)
+late due status is ten five (inr e) = five (sym is ∙ e)
 
--- the status is USAGE exactly where the words are no command
-pub usage_of : {words : List (String Global)} {old new : Option (List ℕ)} {before after status : ℕ}
-    {ages : List AgeEnd}
-    → Course words old new before after status ages → Exactly status USAGE (¬ IsCommand words)
-usage_of {words} {old} {new} {before} {after} {status} {ages} course =
-    record {
-      only =
-          λ is.
-          elim course [
-            | no_memory e none ↦ absurd (omega arith)
-            | no_command other none due ↦ other
-            | no_read known none rose due ↦
-                absurd (differs status READ_FAULT USAGE due is (λ e. omega arith) (λ e. omega arith))
-            | no_script known none bytes read e due ↦
-                absurd (differs status SCRIPT_REFUSED USAGE due is (λ e. omega arith) (λ e. omega arith))
-            | done known r e due ↦ absurd
-                (differs status DONE USAGE due is (λ e. omega arith) (λ e. omega arith))
-            | unfinished known r e due ↦ absurd
-                (differs status UNFINISHED USAGE due is (λ e. omega arith) (λ e. omega arith))
-          ];
-      unless =
-          λ not.
-          elim course [
-            | no_memory e none ↦ inr (inr e)
-            | no_command other none due ↦ elim due [ inl e ↦ inl e | inr e ↦ inr (inl e) ]
-            | no_read known none rose due ↦ absurd (not known)
-            | no_script known none bytes read e due ↦ absurd (not known)
-            | done known r e due ↦ absurd (not known)
-            | unfinished known r e due ↦ absurd (not known)
-          ];
-    }
+-- a status behind the ages is none of those without ages
+ranked : (c : Call) (status : ℕ) → Rank c status → 1 ≤ status → status ≤ 5 → ⊥
+ranked c status rank low high = elim rank [
+  | by_disk e disk ↦ omega (arith, high, e)
+  | by_logs e disk logs ↦ omega (arith, high, e)
+  | by_full e disk logs full ↦ omega (arith, high, e)
+  | by_turns e disk logs full turns ↦ omega (arith, high, e)
+  | by_none e calm ↦ omega (arith, low, e)
+]
 
--- the status READ_FAULT tells that the count of read faults rose
-pub read_fault_of : {words : List (String Global)} {old new : Option (List ℕ)} {before after status : ℕ}
-    {ages : List AgeEnd}
-    → Course words old new before after status ages → status ≡ READ_FAULT → Rose before after
-read_fault_of {words} {old} {new} {before} {after} {status} {ages} course is =
-    elim course [
-      | no_memory e none ↦ absurd (omega arith)
-      | no_command other none due ↦
-          absurd (differs status USAGE READ_FAULT due is (λ e. omega arith) (λ e. omega arith))
-      | no_read known none rose due ↦ rose
-      | no_script known none bytes read e due ↦
-          absurd (differs status SCRIPT_REFUSED READ_FAULT due is (λ e. omega arith) (λ e. omega arith))
-      | done known r e due ↦ absurd
-          (differs status DONE READ_FAULT due is (λ e. omega arith) (λ e. omega arith))
-      | unfinished known r e due ↦ absurd
-          (differs status UNFINISHED READ_FAULT due is (λ e. omega arith) (λ e. omega arith))
-    ]
+-- a high status tells of a run
+run_of : (c : Call) (due status : ℕ) → status ≡ due → 5 < due → (due ≡ 10 → ⊥) → Standing c status
+    → Ran c × Rank c status
+run_of c due status is above ten standing = elim standing [
+  | early e ↦ absurd (late due status is ten (λ five. omega (arith, above, five)) e)
+  | bad_words e other calm ↦ absurd (omega (arith, above, is, e))
+  | bad_source e known rose calm ↦ absurd (omega (arith, above, is, e))
+  | bad_script e known bad calm ↦ absurd (omega (arith, above, is, e))
+  | has_run ran rank ↦ (ran, rank)
+]
 
--- the status SCRIPT_REFUSED tells that what was read is no script that can be run
-pub refused_of : {words : List (String Global)} {old new : Option (List ℕ)} {before after status : ℕ}
-    {ages : List AgeEnd}
-    → Course words old new before after status ages → status ≡ SCRIPT_REFUSED → IsNoScript old new
-refused_of {words} {old} {new} {before} {after} {status} {ages} course is =
-    elim course [
-      | no_memory e none ↦ absurd (omega arith)
-      | no_command other none due ↦
-          absurd (differs status USAGE SCRIPT_REFUSED due is (λ e. omega arith) (λ e. omega arith))
-      | no_read known none rose due ↦
-          absurd (differs status READ_FAULT SCRIPT_REFUSED due is (λ e. omega arith) (λ e. omega arith))
-      | no_script known none bytes read e due ↦ (bytes, read, e)
-      | done known r e due ↦ absurd
-          (differs status DONE SCRIPT_REFUSED due is (λ e. omega arith) (λ e. omega arith))
-      | unfinished known r e due ↦ absurd
-          (differs status UNFINISHED SCRIPT_REFUSED due is (λ e. omega arith) (λ e. omega arith))
-    ]
+-- what has come is told, unless something earlier is
+unless_of : (c : Call) (status due : ℕ) (rest : List ℕ) (test : Bool) → test ≡ true
+    → (IsQuiet c → test ≡ false) → (Rank c status → (status ≡ due) ⊎ Contains (10 ∷ 5 ∷ rest) status)
+    → Standing c status → (status ≡ due) ⊎ Contains (10 ∷ 5 ∷ rest) status
+unless_of c status due rest test came silent ranks standing = elim standing [
+  | early e ↦ inr (in_early rest status e)
+  | bad_words e other calm ↦ absurd (true≢false (sym came ∙ silent calm))
+  | bad_source e known rose calm ↦ absurd (true≢false (sym came ∙ silent calm))
+  | bad_script e known bad calm ↦ absurd (true≢false (sym came ∙ silent calm))
+  | has_run ran rank ↦ ranks rank
+]
 
--- the status is UNFINISHED exactly where some member spent its turns
-pub unfinished_of : {words : List (String Global)} {old new : Option (List ℕ)} {before after status : ℕ}
-    {ages : List AgeEnd}
-    → Course words old new before after status ages → Exactly status UNFINISHED (IsTrue (some_spent ages))
-unfinished_of {words} {old} {new} {before} {after} {status} {ages} course =
-    record {
-      only =
-          λ is.
-          elim course [
-            | no_memory e none ↦ absurd (omega arith)
-            | no_command other none due ↦
-                absurd (differs status USAGE UNFINISHED due is (λ e. omega arith) (λ e. omega arith))
-            | no_read known none rose due ↦
-                absurd (differs status READ_FAULT UNFINISHED due is (λ e. omega arith) (λ e. omega arith))
-            | no_script known none bytes read e due ↦
-                absurd (differs status SCRIPT_REFUSED UNFINISHED due is (λ e. omega arith)
-                (λ e. omega arith))
-            | done known r e due ↦ absurd
-                (differs status DONE UNFINISHED due is (λ e. omega arith) (λ e. omega arith))
-            | unfinished known r spent due ↦ spent
-          ];
-      unless =
-          λ spent.
-          elim course [
-            | no_memory e none ↦ inr (inr e)
-            | no_command other none due ↦ absurd (true≢false (sym spent ∙ ap some_spent none))
-            | no_read known none rose due ↦ absurd (true≢false (sym spent ∙ ap some_spent none))
-            | no_script known none bytes read e due ↦
-                absurd (true≢false (sym spent ∙ ap some_spent none))
-            | done known r quiet due ↦ absurd (true≢false (sym spent ∙ quiet))
-            | unfinished known r spent due ↦ elim due [ inl e ↦ inl e | inr e ↦ inr (inl e) ]
-          ];
-    }
+pub usage_of : {c : Call} {status : ℕ} → Standing c status
+    → Exactly status 2 (10 ∷ 5 ∷ []) (IsCommand c.words → ⊥)
+usage_of {c} {status} standing = record {
+  only = λ is. elim standing [
+    | early e ↦ absurd (late 2 status is (λ e. omega (arith, e)) (λ e. omega (arith, e)) e)
+    | bad_words e other calm ↦ other
+    | bad_source e known rose calm ↦ absurd (omega (arith, is, e))
+    | bad_script e known bad calm ↦ absurd (omega (arith, is, e))
+    | has_run ran rank ↦ absurd (ranked c status rank (omega (arith, is)) (omega (arith, is)))
+  ];
+  unless = λ other. elim standing [
+    | early e ↦ inr (in_early [] status e)
+    | bad_words e not calm ↦ inl e
+    | bad_source e known rose calm ↦ absurd (other known)
+    | bad_script e known bad calm ↦ absurd (other known)
+    | has_run ran rank ↦ absurd (other (ap is_some ran.asked))
+  ];
+}
 
--- where all members are complete, none has spent its turns
-none_spent : (o : Opening) (a : AgeEnd) → AreComplete o a.members → some_spent (a ∷ []) ≡ false
-none_spent o a complete =
-    ap (λ b. b || false) (list_any_none (λ (m : MemberEnd). is_spent m.end) a.members
-    (λ k d l. ap is_spent (complete k (get_or a.members k d) (slice_get-get_or a.members k d l)).end))
+pub refused_of : {c : Call} {status : ℕ} → Standing c status → status ≡ 3 → IsNoScript c.old c.new
+refused_of {c} {status} standing is = elim standing [
+  | early e ↦ absurd (late 3 status is (λ e. omega (arith, e)) (λ e. omega (arith, e)) e)
+  | bad_words e other calm ↦ absurd (omega (arith, is, e))
+  | bad_source e known rose calm ↦ absurd (omega (arith, is, e))
+  | bad_script e known bad calm ↦ bad
+  | has_run ran rank ↦ absurd (ranked c status rank (omega (arith, is)) (omega (arith, is)))
+]
 
--- so a script whose members spend their turns gives them too little time
-pub untimely_of : {words : List (String Global)} {old new : Option (List ℕ)} {before after status : ℕ}
-    {ages : List AgeEnd}
-    → Course words old new before after status ages → status ≡ UNFINISHED
-    → (s : Script) × IsScript old new s × ¬ HasTime s
-untimely_of {words} {old} {new} {before} {after} {status} {ages} course is =
-    elim course [
-      | no_memory e none ↦ absurd (omega arith)
-      | no_command other none due ↦
-          absurd (differs status USAGE UNFINISHED due is (λ e. omega arith) (λ e. omega arith))
-      | no_read known none rose due ↦
-          absurd (differs status READ_FAULT UNFINISHED due is (λ e. omega arith) (λ e. omega arith))
-      | no_script known none bytes read e due ↦
-          absurd (differs status SCRIPT_REFUSED UNFINISHED due is (λ e. omega arith) (λ e. omega arith))
-      | done known r e due ↦ absurd
-          (differs status DONE UNFINISHED due is (λ e. omega arith) (λ e. omega arith))
-      | unfinished known r spent due ↦ (
-        r.script,
-        (r.bytes, r.read, r.is),
-        λ time. true≢false (sym spent ∙ ap some_spent r.alone
-            ∙ none_spent (first_group_of r.script).opening r.age (r.run.complete time)),
+pub disk_fault_of : {c : Call} {status : ℕ} → Standing c status
+    → Exactly status 6 (10 ∷ 5 ∷ []) (IsTrue (some_so DiskFault c.ages c.stop))
+disk_fault_of {c} {status} standing = record {
+  only = λ is. elim (run_of c 6 status is (omega arith) (λ e. omega (arith, e)) standing).1 [
+    | by_disk e disk ↦ disk
+    | by_logs e disk logs ↦ absurd (omega (arith, is, e))
+    | by_full e disk logs full ↦ absurd (omega (arith, is, e))
+    | by_turns e disk logs full turns ↦ absurd (omega (arith, is, e))
+    | by_none e calm ↦ absurd (omega (arith, is, e))
+  ];
+  unless = λ came. unless_of c status 6 [] (some_so DiskFault c.ages c.stop) came (λ calm. calm.disk)
+      (λ rank. elim rank [
+        | by_disk e disk ↦ inl e
+        | by_logs e disk logs ↦ absurd (true≢false (sym came ∙ disk))
+        | by_full e disk logs full ↦ absurd (true≢false (sym came ∙ disk))
+        | by_turns e disk logs full turns ↦ absurd (true≢false (sym came ∙ disk))
+        | by_none e calm ↦ absurd (true≢false (sym came ∙ calm.disk))
+      ]) standing;
+}
+
+pub logs_refused_of : {c : Call} {status : ℕ} → Standing c status
+    → Exactly status 7 (10 ∷ 5 ∷ 6 ∷ []) (IsTrue (is_some (refusal_of c.stop)))
+logs_refused_of {c} {status} standing = record {
+  only = λ is. elim (run_of c 7 status is (omega arith) (λ e. omega (arith, e)) standing).1 [
+    | by_disk e disk ↦ absurd (omega (arith, is, e))
+    | by_logs e disk logs ↦ logs
+    | by_full e disk logs full ↦ absurd (omega (arith, is, e))
+    | by_turns e disk logs full turns ↦ absurd (omega (arith, is, e))
+    | by_none e calm ↦ absurd (omega (arith, is, e))
+  ];
+  unless = λ came. unless_of c status 7 (6 ∷ []) (is_some (refusal_of c.stop)) came (λ calm. calm.logs)
+      (λ rank. elim rank [
+        | by_disk e disk ↦ inr (2, omega arith, sym e)
+        | by_logs e disk logs ↦ inl e
+        | by_full e disk logs full ↦ absurd (true≢false (sym came ∙ logs))
+        | by_turns e disk logs full turns ↦ absurd (true≢false (sym came ∙ logs))
+        | by_none e calm ↦ absurd (true≢false (sym came ∙ calm.logs))
+      ]) standing;
+}
+
+pub log_full_of : {c : Call} {status : ℕ} → Standing c status
+    → Exactly status 11 (10 ∷ 5 ∷ 6 ∷ 7 ∷ []) (IsTrue (some_so LogFull c.ages c.stop))
+log_full_of {c} {status} standing = record {
+  only = λ is. elim (run_of c 11 status is (omega arith) (λ e. omega (arith, e)) standing).1 [
+    | by_disk e disk ↦ absurd (omega (arith, is, e))
+    | by_logs e disk logs ↦ absurd (omega (arith, is, e))
+    | by_full e disk logs full ↦ full
+    | by_turns e disk logs full turns ↦ absurd (omega (arith, is, e))
+    | by_none e calm ↦ absurd (omega (arith, is, e))
+  ];
+  unless = λ came. unless_of c status 11 (6 ∷ 7 ∷ []) (some_so LogFull c.ages c.stop) came
+      (λ calm. calm.full)
+      (λ rank. elim rank [
+        | by_disk e disk ↦ inr (2, omega arith, sym e)
+        | by_logs e disk logs ↦ inr (3, omega arith, sym e)
+        | by_full e disk logs full ↦ inl e
+        | by_turns e disk logs full turns ↦ absurd (true≢false (sym came ∙ full))
+        | by_none e calm ↦ absurd (true≢false (sym came ∙ calm.full))
+      ]) standing;
+}
+
+pub unfinished_of : {c : Call} {status : ℕ} → Standing c status
+    → Exactly status 8 (10 ∷ 5 ∷ 6 ∷ 7 ∷ 11 ∷ []) (IsTrue (some_end Spent c.ages))
+unfinished_of {c} {status} standing = record {
+  only = λ is. elim (run_of c 8 status is (omega arith) (λ e. omega (arith, e)) standing).1 [
+    | by_disk e disk ↦ absurd (omega (arith, is, e))
+    | by_logs e disk logs ↦ absurd (omega (arith, is, e))
+    | by_full e disk logs full ↦ absurd (omega (arith, is, e))
+    | by_turns e disk logs full turns ↦ turns
+    | by_none e calm ↦ absurd (omega (arith, is, e))
+  ];
+  unless = λ came. unless_of c status 8 (6 ∷ 7 ∷ 11 ∷ []) (some_end Spent c.ages) came (λ calm. calm.turns)
+      (λ rank. elim rank [
+        | by_disk e disk ↦ inr (2, omega arith, sym e)
+        | by_logs e disk logs ↦ inr (3, omega arith, sym e)
+        | by_full e disk logs full ↦ inr (4, omega arith, sym e)
+        | by_turns e disk logs full turns ↦ inl e
+        | by_none e calm ↦ absurd (true≢false (sym came ∙ calm.turns))
+      ]) standing;
+}
+
+-- the ages of a run, over whatever disks
+ages_of : (folder : Option (List ℕ)) (script : Script) (before after : YardState) (ages : List AgeEnd)
+    (stop : Option Stop) → HasRun folder script before after ages stop
+    → (from : YardState) × (to : YardState) × AreAges script 0 from ages to
+ages_of (Some name) script before after ages stop run = (before, run.last, run.course)
+ages_of None script before after ages stop run = (empty_yard, run.1.run.last, run.1.run.course)
+
+-- a script whose members spend their turns gives them too little time
+pub untimely_of : {c : Call} {status : ℕ} → Standing c status → status ≡ 8
+    → (s : Script) × IsScript c.old c.new s × (HasTime s → ⊥)
+untimely_of {c} {status} standing is =
+    let has = run_of c 8 status is (omega arith) (λ e. omega (arith, e)) standing in
+    let ran = has.0 in
+    let course = ages_of ran.folder ran.script c.before c.after c.ages c.stop ran.run in
+    elim has.1 [
+      | by_disk e disk ↦ absurd (omega (arith, is, e))
+      | by_logs e disk logs ↦ absurd (omega (arith, is, e))
+      | by_full e disk logs full ↦ absurd (omega (arith, is, e))
+      | by_turns e disk logs full turns ↦ (
+        ran.script,
+        ran.is,
+        λ time. true≢false (sym turns ∙ none_spent ran.script 0 course.0 course.1 c.ages course.2 time
+            (or_parts (some_end DiskFault c.ages) (is_some (stopped_by DiskFault c.stop)) disk).0
+            (or_parts (some_end LogFull c.ages) (is_some (stopped_by LogFull c.stop)) full).0),
       )
+      | by_none e calm ↦ absurd (omega (arith, is, e))
     ]
 
--- what was read, decided by what it is
-ran_read : (old new : Option (List ℕ)) (status : ℕ) (ages : List AgeEnd) (r : Ran old new ages)
-    → (status ≡ SCRIPT_REFUSED → ⊥)
-    → RanRead old new status ages
-ran_read old new status ages r not =
-    let P : Option Script → Type 0 =
-    λ o. MatchOption
-    o
-    ((ages ≡ []) × ((status ≡ SCRIPT_REFUSED) ⊎ (status ≡ WRITE_FAULT)))
-    (λ s. ((a : AgeEnd) × (ages ≡ a ∷ []) × IsSimulated s (first_start_of s) 0 a)
-    × (status ≢ SCRIPT_REFUSED)) in
-    (r.bytes, r.read, subst P (sym r.is) ((r.age, r.alone, r.run.run), not))
+-- the status of each call is one of these
+pub status_known : {c : Call} {status : ℕ} → Standing c status
+    → Contains (0 ∷ 2 ∷ 3 ∷ 4 ∷ 5 ∷ 6 ∷ 7 ∷ 8 ∷ 10 ∷ 11 ∷ []) status
+status_known {c} {status} standing = elim standing [
+  | early e ↦ elim e [ inl e ↦ (8, omega arith, sym e) | inr e ↦ (4, omega arith, sym e) ]
+  | bad_words e other calm ↦ (1, omega arith, sym e)
+  | bad_source e known rose calm ↦ (3, omega arith, sym e)
+  | bad_script e known bad calm ↦ (2, omega arith, sym e)
+  | has_run ran rank ↦ elim rank [
+    | by_disk e disk ↦ (5, omega arith, sym e)
+    | by_logs e disk logs ↦ (6, omega arith, sym e)
+    | by_full e disk logs full ↦ (9, omega arith, sym e)
+    | by_turns e disk logs full turns ↦ (7, omega arith, sym e)
+    | by_none e calm ↦ (0, omega arith, sym e)
+  ]
+]
 
-refused_read : (old new : Option (List ℕ)) (status : ℕ) (ages : List AgeEnd) (bytes : List ℕ)
-    → WasRead old new bytes → runnable (reading_of bytes) ≡ None
-    → ages ≡ [] → IsOr SCRIPT_REFUSED status → RanRead old new status ages
-refused_read old new status ages bytes read is none due =
-    let P : Option Script → Type 0 =
-    λ o. MatchOption
-    o
-    ((ages ≡ []) × ((status ≡ SCRIPT_REFUSED) ⊎ (status ≡ WRITE_FAULT)))
-    (λ s. ((a : AgeEnd) × (ages ≡ a ∷ []) × IsSimulated s (first_start_of s) 0 a)
-    × (status ≢ SCRIPT_REFUSED)) in
-    (bytes, read, subst P (sym is) (none, due))
+-- and one of these where the words name no folder
+pub memory_status : {c : Call} {status : ℕ} → Standing c status → asked_by c.words ≡ Some None
+    → Contains (0 ∷ 3 ∷ 4 ∷ 5 ∷ 8 ∷ 10 ∷ []) status
+memory_status {c} {status} standing asked = elim standing [
+  | early e ↦ elim e [ inl e ↦ (5, omega arith, sym e) | inr e ↦ (3, omega arith, sym e) ]
+  | bad_words e other calm ↦ absurd (other (ap is_some asked))
+  | bad_source e known rose calm ↦ (2, omega arith, sym e)
+  | bad_script e known bad calm ↦ (1, omega arith, sym e)
+  | has_run ran rank ↦ elim rank [
+    | by_disk e disk ↦
+        absurd (true≢false (sym disk ∙ memory_holds ran.script c.ages c.stop (in_memory ran) ran.ample))
+    | by_logs e disk logs ↦
+        absurd (true≢false (sym logs ∙ memory_accepts ran.script c.ages c.stop (in_memory ran)))
+    | by_full e disk logs full ↦
+        absurd (true≢false (sym full ∙ memory_has_room ran.script c.ages c.stop (in_memory ran)))
+    | by_turns e disk logs full turns ↦ (4, omega arith, sym e)
+    | by_none e calm ↦ (0, omega arith, sym e)
+  ]
+]
+  where
+    in_memory : (ran : Ran c) → IsRunInMemory ran.script c.ages c.stop
+    in_memory ran =
+        (subst (λ folder. HasRun folder ran.script c.before c.after c.ages c.stop)
+        (same_Some ran.folder None (sym ran.asked ∙ asked)) ran.run).1
 
--- a call of a command may not have read its script, or ran what it read
-pub read_of : {words : List (String Global)} {old new : Option (List ℕ)} {before after status : ℕ}
-    {ages : List AgeEnd}
-    → Course words old new before after status ages → IsCommand words
-    → MayBeUnread before after status ⊎ RanRead old new status ages
-read_of {words} {old} {new} {before} {after} {status} {ages} course command =
-    elim course [
-      | no_memory e none ↦ inl (inr (inl e))
-      | no_command other none due ↦ absurd (other command)
-      | no_read known none rose due ↦
-          elim due [ inl e ↦ inl (inl e) | inr e ↦ inl (inr (inr (e, rose))) ]
-      | no_script known none bytes read e due ↦ inr (refused_read old new status ages bytes read e none due)
-      | done known r e due ↦ inr (ran_read old new status ages r
-          (λ is. differs status DONE SCRIPT_REFUSED due is (λ e. omega arith) (λ e. omega arith)))
-      | unfinished known r e due ↦
-          inr (ran_read old new status ages r
-          (λ is. differs status UNFINISHED SCRIPT_REFUSED due is (λ e. omega arith)
-          (λ e. omega arith)))
+-- a source that failed is told by the status, unless an earlier one is
+pub fault_told : (held holds : Option (List ℕ)) (fell falls status : ℕ) (ages : List AgeEnd)
+    (last : Option Last) (line : Last) → last ≡ Some line → status_of line ≡ 4
+    → WroteOrNot held holds fell falls status ages last → Contains (4 ∷ 10 ∷ 5 ∷ []) status
+fault_told held holds fell falls status ages last line is four wrote =
+    elim (said held holds fell falls status ages last line wrote is) [
+      | inl first ↦ elim first [ inl e ↦ (1, omega arith, sym e) | inr e ↦ (2, omega arith, sym e) ]
+      | inr due ↦ (0, omega arith, sym (due ∙ four))
     ]
-
--- no log has ended a member of an age
-pub undisturbed_of : {words : List (String Global)} {old new : Option (List ℕ)} {before after status : ℕ}
-    {ages : List AgeEnd}
-    → Course words old new before after status ages → All (λ (a : AgeEnd). NoneStopped a.members) ages
-undisturbed_of course k d below =
-    (all_ages (λ s a. NoneStopped a.members) course (λ s a run. run.undisturbed) k d below).3
-
--- no suspicion has
-pub trusting_of : {words : List (String Global)} {old new : Option (List ℕ)} {before after status : ℕ}
-    {ages : List AgeEnd}
-    → Course words old new before after status ages → All (λ (a : AgeEnd). NoneLeft a.members) ages
-trusting_of course k d below =
-    (all_ages (λ s a. NoneLeft a.members) course (λ s a run. run.trusting) k d below).3
-
--- a status that no course comes to
-other_status : {words : List (String Global)} {old new : Option (List ℕ)} {before after status : ℕ}
-    {ages : List AgeEnd} (other : ℕ)
-    → Course words old new before after status ages → 5 < other → other ≢ UNFINISHED
-    → other ≢ OUT_OF_MEMORY → status ≡ other → ⊥
-other_status {status = status} other course above apart far is =
-    elim course [
-      | no_memory e none ↦ far (sym is ∙ e)
-      | no_command not none due ↦
-          differs status USAGE other due is (λ e. omega (arith, above, e)) (λ e. omega (arith, above, e))
-      | no_read known none rose due ↦
-          differs status READ_FAULT other due is (λ e. omega (arith, above, e))
-          (λ e. omega (arith, above, e))
-      | no_script known none bytes read e due ↦
-          differs status SCRIPT_REFUSED other due is (λ e. omega (arith, above, e))
-          (λ e. omega (arith, above, e))
-      | done known r e due ↦
-          differs status DONE other due is (λ e. omega (arith, above, e)) (λ e. omega (arith, above, e))
-      | unfinished known r e due ↦
-          differs status UNFINISHED other due is (λ e. apart (sym e)) (λ e. omega (arith, above, e))
-    ]
-
--- it comes exactly where a log has ended a member so, which is nowhere
-never_of : {words : List (String Global)} {old new : Option (List ℕ)} {before after status : ℕ}
-    {ages : List AgeEnd} (other : ℕ) (ended_so : End → Bool)
-    → Course words old new before after status ages → 5 < other → other ≢ UNFINISHED
-    → other ≢ OUT_OF_MEMORY → ((e : End) → why_ended e ≡ None → ended_so e ≡ false)
-    → Exactly status other (IsTrue (some_end ended_so ages))
-never_of {ages = ages} other ended_so course above apart far not =
-    record {
-      only = λ is. absurd (other_status other course above apart far is);
-      unless =
-          λ some. absurd (true≢false (sym some ∙ none_end ended_so ages not (undisturbed_of course)));
-    }
-
-pub disk_fault_of : {words : List (String Global)} {old new : Option (List ℕ)} {before after status : ℕ}
-    {ages : List AgeEnd}
-    → Course words old new before after status ages
-    → Exactly status DISK_FAULT (IsTrue (some_end is_disk_fault ages))
-disk_fault_of course =
-    never_of DISK_FAULT is_disk_fault course (omega arith) (λ e. omega (arith, e)) (λ e. omega (arith, e))
-    no_disk_fault
-
-pub log_full_of : {words : List (String Global)} {old new : Option (List ℕ)} {before after status : ℕ}
-    {ages : List AgeEnd}
-    → Course words old new before after status ages
-    → Exactly status LOG_FULL (IsTrue (some_end is_log_full ages))
-log_full_of course =
-    never_of LOG_FULL is_log_full course (omega arith) (λ e. omega (arith, e)) (λ e. omega (arith, e))
-    no_log_full

@@ -1,3 +1,4 @@
 pub mod Steps
+pub mod Lasts
+pub mod Runs
 pub mod Course
-pub mod Undisturbed

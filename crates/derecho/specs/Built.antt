@@ -14,9 +14,9 @@ abbrev pub is_crash : What → Bool
 is_crash (Crash turn push) = true
 is_crash (Suspect turn other) = false
 
--- whether a script uses only what is built: no patience, one age, and no suspicion
+-- whether a script uses only what is built: no patience, and no suspicion
 abbrev pub is_built : Script → Bool
-is_built s = (s.patience == 0) && (s.ages == 1) && list_all (λ (f : Fault). is_crash f.what) s.faults
+is_built s = (s.patience == 0) && list_all (λ (f : Fault). is_crash f.what) s.faults
 
 -- the script to run, where a text is one that can be run
 abbrev pub runnable : Reading → Option Script

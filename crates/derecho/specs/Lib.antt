@@ -1,6 +1,5 @@
 pub mod Words
 pub mod Reading
-pub mod Writing
 pub mod Built
-pub mod Ages
+pub mod Last
 pub mod Outcome

@@ -10,7 +10,7 @@ use dr_script::{Fault, Script, What};
 pub(crate) fn is_built(script: &Script) -> bool
     ensures { result ≡ is_built script.now }
 {
-    script.patience == 0 && script.ages == 1 && are_crashes(script.faults.as_slice())
+    script.patience == 0 && are_crashes(script.faults.as_slice())
 }
 
 /// Whether each fault is a crash.

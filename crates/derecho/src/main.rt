@@ -1,15 +1,16 @@
-//! Runs a group by a script, and prints what each of its members delivered.
+//! Runs the ages of a group by a script, and prints what each of its members delivered.
 #![tactic(auto)]
 
 mod built;
+mod last;
 mod outcome;
 mod reading;
 mod status;
 mod top;
 mod words;
-mod writing;
 
 use dr_io::{InputSource, OutputSink};
+use dr_yard::FileYard;
 pub use status::{
     DISK_FAULT, DONE, LOG_FULL, LOGS_REFUSED, NO_MAJORITY, OUT_OF_MEMORY, READ_FAULT,
     SCRIPT_REFUSED, UNFINISHED, USAGE, WRITE_FAULT,
@@ -26,6 +27,9 @@ mod tests;
 
 fn main(rt: HostRuntime) -> ExitCode {
     let alloc = rt.alloc();
+    let Ok(files) = rt.clone() else {
+        return ExitCode::from(OUT_OF_MEMORY);
+    };
     let words = match words_of(&rt, alloc) {
         Ok(words) => words,
         Err(error) if error.kind() == ErrorKind::OutOfMemory => {
@@ -36,7 +40,8 @@ fn main(rt: HostRuntime) -> ExitCode {
     };
     let mut source = InputSource::new(rt.stdin());
     let mut sink = OutputSink::new(rt.stdout());
-    let ended = derecho(&rt, alloc, &words, &mut source, &mut sink);
+    let mut yard = FileYard::new(files);
+    let ended = derecho(&rt, alloc, &words, &mut source, &mut sink, &mut yard);
     ExitCode::from(ended.status)
 }
 

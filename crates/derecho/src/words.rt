@@ -1,12 +1,42 @@
-ghost use Rattle.std.specs.Prelude.{◌≡◌, map, string_bytes};
-ghost use Rattle.derecho.specs.Words.{is_command};
+ghost use Rattle.std.specs.Prelude.{◌≡◌, map, option_map, string_bytes};
+ghost use Rattle.derecho.specs.Words.{command_of, folder_behind, folder_word};
 
-/// Whether the words are those of a command.
-pub(crate) fn is_command(words: &[String]) -> bool
-    ensures { result ≡ is_command (map string_bytes words.now) }
+/// What the words of a call ask for.
+#[derive(Debug, Drop)]
+pub(crate) struct Command<'a> {
+    /// The folder of the logs. Without one they are kept in memory.
+    pub folder: Option<&'a str>,
+}
+
+/// What the words ask for, where they are those of a command.
+pub(crate) fn command_of(words: &[String]) -> Option<Command<'_>>
+    ensures { option_map (λ c. option_map (λ f. f.now) c.folder) result
+        ≡ command_of (map string_bytes words.now) }
 {
-    match words {
-        [mode] => mode.as_str() == "sim",
-        _ => false,
+    let (mode, folder) = match words {
+        [mode] => (mode, None),
+        [mode, option] => (mode, Some(folder_behind(option.as_str())?)),
+        [mode, option, folder] if option.as_str() == "--logs" => {
+            (mode, Some(folder_word(folder.as_str())?))
+        }
+        _ => return None,
+    };
+    (mode.as_str() == "sim").then_some(Command { folder })
+}
+
+/// The folder that a word of its own names: one that is not empty and does not begin with a dash.
+fn folder_word(word: &str) -> Option<&str>
+    ensures { option_map (λ f. f.now) result ≡ folder_word word.now }
+{
+    (!word.is_empty() && !word.starts_with('-')).then_some(word)
+}
+
+/// The folder that `--logs=` names: one that is not empty.
+fn folder_behind(word: &str) -> Option<&str>
+    ensures { option_map (λ f. f.now) result ≡ folder_behind word.now }
+{
+    match word.strip_prefix("--logs=") {
+        Some(folder) if !folder.is_empty() => Some(folder),
+        _ => None,
     }
 }

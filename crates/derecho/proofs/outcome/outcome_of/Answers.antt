@@ -1,36 +1,16 @@
-use Rattle.std.proofs.Common.{◌≡◌, ◌⊎◌, inl, rules, Result, Ok, Err, subst, IfOk, OnErr}
-use Rattle.dr_text.specs.declared.last.Last.TheVariants.{SourceFault}
-use Rattle.derecho.specs.declared.outcome.Outcome.{Outcome}
-use Rattle.derecho.specs.Outcome.{IsRunOver}
-use Rattle.derecho.proofs.Course.{due_read}
+use Rattle.std.proofs.Common.{List, ℕ, inl, inr, option_map, subst, sym}
+use Rattle.dr_yard.specs.Yards.{state_by}
+use Rattle.derecho.specs.Outcome.{IsRunOver, no_memory, read}
 use Rattle.derecho.proofs.outcome.outcome_of.Goals as goal
 
-pub returns-in-Ok-clause-due : goal.returns-in-Ok-clause-due
-returns-in-Ok-clause-due g c =
-    due_read
-    c.args.words.now
-    (g.S.Source.left c.args.source.now)
-    (g.S.Source.left c.read_all.new.source)
-    (g.S.Source.faults c.args.source.now)
-    (g.S.Source.faults c.read_all.new.source)
-    c.in-Ok.bytes.items
-    c.judge.result
-    (search rules)
-    c.in-Ok.ensures.bytes
-    (subst (λ bytes. IfOk c.judge.result (λ (o : Outcome). IsRunOver bytes o.ages o.last))
-    c.deref.ensures.value c.judge.ensures)
-
-told_of : {A E : Type 0} (r : Result Outcome E) → A
-    → IfOk r (λ (o : Outcome). A ⊎ (o.last ≡ SourceFault))
-told_of (Ok o) same = inl same
-told_of (Err e) same = search rules
-
-calm_of : {A E : Type 0} (r : Result Outcome E) → A → OnErr r A
-calm_of (Ok o) same = search rules
-calm_of (Err e) same = same
-
-pub returns-in-Ok-clause-told : goal.returns-in-Ok-clause-told
-returns-in-Ok-clause-told g c = told_of c.judge.result c.in-Ok.ensures.calm
-
-pub returns-in-Ok-clause-calm : goal.returns-in-Ok-clause-calm
-returns-in-Ok-clause-calm g c = calm_of c.judge.result c.in-Ok.ensures.calm
+pub returns-in-Ok-clause-course : goal.returns-in-Ok-clause-course
+returns-in-Ok-clause-course g c = elim c.judge.ensures.over [
+  | inl wanting ↦ no_memory wanting.0 wanting.1
+  | inr over ↦
+      let folder = option_map (λ f. f.now) c.in-Some.command.folder in
+      read folder (sym c.in-Some.ensures) c.in-Ok.bytes.items c.in-Ok.ensures.bytes
+      (subst (λ (bytes : List ℕ). IsRunOver folder bytes
+      (state_by g.Y.Yard.told g.Y.Yard.faults c.args.yard.now)
+      (state_by g.Y.Yard.told g.Y.Yard.faults c.judge.new.yard) c.judge.result.ages c.judge.result.stop
+      c.judge.result.last) c.deref.ensures.value over)
+]

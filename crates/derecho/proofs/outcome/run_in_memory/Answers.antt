@@ -1,0 +1,12 @@
+use Rattle.std.proofs.Common.{inr, refl}
+use Rattle.dr_yard.specs.Places.{place_told}
+use Rattle.derecho.proofs.Runs.{in_memory}
+use Rattle.derecho.proofs.outcome.run_in_memory.Goals as goal
+
+pub returns-in-Ok : goal.returns-in-Ok
+returns-in-Ok c = inr (
+  in_memory c.args.script.now c.run_over.result.ages c.run_over.result.stop (place_told c.in-Ok.yard)
+      (record { told = place_told c.run_over.new.yard; faults = λ m. 0 }) c.in-Ok.ensures.empty (λ m. refl)
+      c.run_over.ensures.run,
+  c.run_over.ensures.last,
+)
