@@ -19,7 +19,7 @@ use member::End;
 use records::{Entry, MAX_MESSAGE};
 use rows::Shape;
 use std::env;
-use std::fmt::{self, Write};
+use std::io::{self, BufWriter, Write};
 use std::process::ExitCode;
 
 /// The most turns that a script may ask for.
@@ -87,9 +87,8 @@ fn read_task(words: &[String]) -> Option<Task> {
     })
 }
 
-/// The turns of each member, and the age as `derecho` prints it.
-fn report(group: &Group) -> Result<String, fmt::Error> {
-    let mut text = String::new();
+/// Writes the turns of each member, and the age as `derecho` prints it.
+fn report(group: &Group, text: &mut impl Write) -> io::Result<()> {
     let turns = group.members.iter().map(|member| member.turns.to_string());
     let turns = turns.collect::<Vec<_>>().join(" ");
     writeln!(text, "turns {turns}\nage 0 start 0")?;
@@ -108,10 +107,10 @@ fn report(group: &Group) -> Result<String, fmt::Error> {
             "member {m} {end} history {len} logged {logged} durable {durable}"
         )?;
         for entry in history {
-            report_entry(&mut text, entry)?;
+            report_entry(text, entry)?;
         }
     }
-    Ok(text)
+    text.flush()
 }
 
 /// The numbers in a mask, as `derecho` prints them.
@@ -121,7 +120,7 @@ fn listed(members: u16) -> String {
     members.join(",")
 }
 
-fn report_entry(text: &mut String, entry: &Entry) -> fmt::Result {
+fn report_entry(text: &mut impl Write, entry: &Entry) -> io::Result<()> {
     match entry {
         Entry::View {
             age,
@@ -138,13 +137,12 @@ fn report_entry(text: &mut String, entry: &Entry) -> fmt::Result {
             write!(text, "  msg {sender} {index} ")?;
             let bytes = bytes.bytes();
             if bytes.is_empty() {
-                text.push('-');
+                write!(text, "-")?;
             }
             for byte in bytes {
                 write!(text, "{byte:02x}")?;
             }
-            text.push('\n');
-            Ok(())
+            writeln!(text)
         }
     }
 }
@@ -175,11 +173,8 @@ fn main() -> ExitCode {
         group.checksum()
     );
     println!("deeds: {} most turns: {}", group.deeds, group.rounds());
-    if task.has_report {
-        match report(&group) {
-            Ok(text) => print!("{text}"),
-            Err(_) => return ExitCode::FAILURE,
-        }
+    if task.has_report && report(&group, &mut BufWriter::new(io::stdout())).is_err() {
+        return ExitCode::FAILURE;
     }
     ExitCode::SUCCESS
 }

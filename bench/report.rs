@@ -1,5 +1,5 @@
 //! The report of a large age in plain Rust, made in the way of `dr_text`: the lines of the longest
-//! history once, and then copied for each member as far as its own entries are the same.
+//! history once, and then written for each member as far as its own entries are the same.
 
 #[path = "log/records.rs"]
 #[allow(dead_code)]
@@ -42,6 +42,22 @@ fn member(messages: u32) -> Member {
     Member { history }
 }
 
+/// Counts the bytes that are written, and keeps none.
+struct Counter {
+    bytes: usize,
+}
+
+impl Write for Counter {
+    fn write(&mut self, from: &[u8]) -> io::Result<usize> {
+        self.bytes += black_box(from).len();
+        Ok(from.len())
+    }
+
+    fn flush(&mut self) -> io::Result<()> {
+        Ok(())
+    }
+}
+
 fn main() -> io::Result<ExitCode> {
     let words: Vec<String> = env::args().skip(1).collect();
     let numbers: Vec<u32> = words.iter().filter_map(|word| word.parse().ok()).collect();
@@ -51,13 +67,11 @@ fn main() -> io::Result<ExitCode> {
     };
     let messages = messages.min(MOST_MESSAGES);
     let members: Vec<Member> = (0..MEMBERS).map(|_| member(messages)).collect();
-    let mut bytes = 0;
-    for _ in 1..rounds {
-        bytes += black_box(report(&members)).len();
+    let mut counter = Counter { bytes: 0 };
+    for _ in 0..rounds.max(1) {
+        report(&members, &mut counter)?;
     }
-    let text = report(&members);
-    bytes += text.len();
-    io::stdout().write_all(&text)?;
-    println!("bytes: {bytes}");
+    report(&members, &mut io::stdout())?;
+    println!("bytes: {}", counter.bytes);
     Ok(ExitCode::SUCCESS)
 }

@@ -1,7 +1,7 @@
 //! The text of one age's members, as `derecho` prints it.
 
 use crate::records::{Entry, MAX_MESSAGE};
-use std::io::Write;
+use std::io::{self, Write};
 
 /// The two digits of each byte.
 const DIGITS: [[u8; 2]; 256] = {
@@ -42,33 +42,35 @@ impl<'a> Printed<'a> {
         }
     }
 
-    fn push_entries(&self, out: &mut Vec<u8>, entries: &[Entry]) {
+    fn write_entries(&self, out: &mut impl Write, entries: &[Entry]) -> io::Result<()> {
         let both = self.entries.iter().zip(entries);
         let same = both.take_while(|(ours, theirs)| ours == theirs).count();
-        out.extend_from_slice(&self.text[..self.ends[same]]);
+        out.write_all(&self.text[..self.ends[same]])?;
+        let mut rest = Vec::new();
         for entry in &entries[same..] {
-            push_entry(out, entry);
+            push_entry(&mut rest, entry);
         }
+        out.write_all(&rest)
     }
 }
 
-/// The report of one age with an empty start.
+/// Writes the report of one age with an empty start.
 #[inline(never)]
-pub fn report(members: &[Member]) -> Vec<u8> {
-    let mut out = b"age 0 start 0\n".to_vec();
+pub fn report(members: &[Member], out: &mut impl Write) -> io::Result<()> {
+    out.write_all(b"age 0 start 0\n")?;
     let histories = members.iter().map(|member| member.history.as_slice());
     let printed = Printed::of(histories.max_by_key(|history| history.len()).unwrap_or(&[]));
-    out.reserve(printed.text.len() * members.len());
     for (number, member) in members.iter().enumerate() {
         let count = member.history.len();
+        let mut line = Vec::new();
         push_text(
-            &mut out,
+            &mut line,
             format_args!("member {number} done history {count} logged {count} durable {count}\n"),
         );
-        printed.push_entries(&mut out, &member.history);
+        out.write_all(&line)?;
+        printed.write_entries(out, &member.history)?;
     }
-    out.extend_from_slice(b"ok\n");
-    out
+    out.write_all(b"ok\n")
 }
 
 /// Appends a line that there are few of.
