@@ -2,7 +2,8 @@
 
 ghost use Rattle.std.specs.Prelude.{◌≡◌, ◌≢◌, ◌+◌, ◌*◌, ◌≤◌, ◌++◌, [], ◌∷◌, ℕ, List, max, false, IfOk, IfErr, IfSome, IsErrOf, OnOk, OnErr};
 ghost use Rattle.dr_io.specs.Faults.{Rose};
-ghost use Rattle.dr_disk.specs.Disk.{content_of};
+ghost use Rattle.dr_disk.specs.Calls.{Sync};
+ghost use Rattle.dr_disk.specs.Disk.{added, content_of};
 ghost use Rattle.dr_disk.specs.Images.{Goes, IsLeft, Lasts, ReadsAnImage};
 ghost use Rattle.dr_entry.specs.declared.entry.Entry.{Entry};
 ghost use Rattle.dr_entry.specs.declared.record.Vote.{Vote};
@@ -94,6 +95,9 @@ impl<D: Disk> Log<D> {
         // That is what a crash might have left before too.
         ensures read_damaged { IfErr result (λ e. (at : ℕ) → e.why ≡ why.Damaged at
             → IfSome (D.told disk) ReadsAnImage) }
+        // Damaged bytes are synced, and left as they are.
+        ensures left_damaged { IfErr result (λ e. (at : ℕ) → e.why ≡ why.Damaged at
+            → D.told e.disk ≡ added Sync (D.told disk)) }
         ensures fault { IfErr result
             (λ e. e.why ≡ why.DiskFault → Rose (D.faults disk) (D.faults e.disk)) }
         // No fault of the disk is hidden.

@@ -2,7 +2,8 @@
 
 ghost use Rattle.std.specs.Prelude.{◌≡◌, ◌≢◌, ◌≤◌, ℕ, IfOk, IfErr, IfSome, IsErrOf, OnOk, Err, length};
 ghost use Rattle.dr_io.specs.Faults.{Rose, HasCause};
-ghost use Rattle.dr_disk.specs.Disk.{content_of};
+ghost use Rattle.dr_disk.specs.Calls.{Sync};
+ghost use Rattle.dr_disk.specs.Disk.{added, content_of};
 ghost use Rattle.dr_disk.specs.Images.{Goes, ReadsAnImage};
 ghost use Rattle.dr_log.specs.declared.fault.MountWhy.TheVariants.{DiskFault, Damaged};
 ghost use Rattle.dr_log.specs.Appending.{IsMounted};
@@ -33,6 +34,8 @@ pub(crate) fn open<D: Disk>(alloc: Global, disk: &mut D) -> Result<Found, MountW
         → IfSome (D.told disk.old) (λ told. IsDamaged (content_of told) at) }
     ensures read_damaged { (at : ℕ) → result ≡ Err (Damaged at)
         → IfSome (D.told disk.old) ReadsAnImage }
+    ensures left_damaged { (at : ℕ) → result ≡ Err (Damaged at)
+        → D.told disk.new ≡ added Sync (D.told disk.old) }
     ensures fault { IsErrOf result DiskFault → Rose (D.faults disk.old) (D.faults disk.new) }
     ensures calm { OnOk result (D.faults disk.new ≡ D.faults disk.old) }
     ensures calm_err { IfErr result (λ why. why ≢ DiskFault → D.faults disk.new ≡ D.faults disk.old) }

@@ -141,3 +141,9 @@ returns-clause-calls g c =
     (told c.read_all.new.disk) c.in_ok-len.len long c.if-len-le-EMPTY.false
     (c.read_all.ensures.told ∙ (c.len.ensures.told ∙ synced)))
     c.parse.ensures.found
+
+pub returns-clause-left_damaged : goal.returns-clause-left_damaged
+returns-clause-left_damaged g c at e =
+    let told = g.D.Disk.told in
+    let synced : told c.sync.new.self ≡ added Sync (told c.args.disk.now) = search rules in
+    c.read_all.ensures.told ∙ (c.len.ensures.told ∙ synced)
