@@ -10,8 +10,7 @@ use Rattle.dr_entry.specs.declared.end.End.TheVariants as ends
 use Rattle.dr_rows.specs.Words.{own, changed, looked}
 use Rattle.dr_suspect.specs.Answers.{least_where}
 use Rattle.dr_suspect.specs.Suspicion.{names_me, spread_of}
-use Rattle.dr_suspect.specs.Waits.{Waits, begun, is_overdue, turned}
-use Rattle.dr_words.specs.Masks.{mask_of}
+use Rattle.dr_suspect.specs.Waits.{Waits, begun, compared, is_overdue}
 use Rattle.dr_words.specs.Columns.{columns_of}
 use Rattle.dr_program.specs.declared.outcome.LogWhy.{LogWhy}
 use Rattle.dr_program.specs.declared.outcome.LogWhy.TheVariants as whys
@@ -194,7 +193,7 @@ pushes_after pushes s = pushes
 -- turn before
 abbrev pub waits_after : ℕ → Running → Step → Waits
 waits_after word r (steps.Look i c) =
-    if c + 1 == columns r then turned r.waits (looked r.replica.rows i c word) (mask_of (λ k. k == i))
+    if c + 1 == columns r then compared r.waits (looked r.replica.rows i c word) i
     else r.waits
 waits_after word r s = r.waits
 

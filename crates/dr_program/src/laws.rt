@@ -1,5 +1,6 @@
 //! Laws of programs.
-ghost use Rattle.std.specs.Prelude.{◌≡◌, ℕ, ◌<◌, ◌≤◌, List, ◌++◌};
+ghost use Rattle.std.specs.Prelude.{◌≡◌, ℕ, ◌<◌, ◌≤◌, List, [], ◌∷◌, ◌++◌};
+ghost use Rattle.dr_program.specs.declared.place.TheConstants.{PARTS, TURN};
 ghost use Rattle.dr_program.specs.declared.setup.Setup.{Setup};
 ghost use Rattle.dr_machine.specs.Group.{Group, IsGroup, roster};
 ghost use Rattle.dr_machine.specs.World.{opening_world};
@@ -7,6 +8,9 @@ ghost use Rattle.dr_program.specs.Running.{begun_running};
 ghost use Rattle.dr_program.specs.Program.{Program, Move, ran, IsSetup, AreSetups, begun_program};
 ghost use Rattle.dr_program.specs.Reading.{world};
 ghost use Rattle.dr_program.specs.Form.{CanBegin, IsRunningMember, IsOf};
+
+use crate::place::Part;
+use dr_machine::Act;
 
 /// A program may take more deeds after others.
 pub fn deeds_follow_one_another()
@@ -23,4 +27,12 @@ pub fn programs_begin_at_the_opening()
         → IsRunningMember (begun_running s) × IsOf g m (begun_running s).replica }
     ensures begin { (g : Group) (turns m : ℕ) (s : Setup) → IsGroup g → m < roster g
         → IsSetup g turns m s → CanBegin s }
+{}
+
+/// The law of the turn: how many parts it has, and which, by their names in their order.
+pub fn turn_law()
+    ensures count { PARTS ≡ 15 }
+    ensures parts { TURN ≡ Part.Look ∷ Part.Judge ∷ Part.Receive ∷ Part.Do Act.Send ∷ Part.Do Act.Null
+        ∷ Part.Do Act.Deliver ∷ Part.Append ∷ Part.Do Act.Publish ∷ Part.Do Act.Report ∷ Part.Do Act.Mark
+        ∷ Part.Push ∷ Part.Crash ∷ Part.Done ∷ Part.Spent ∷ Part.Do Act.Beat ∷ [] }
 {}
