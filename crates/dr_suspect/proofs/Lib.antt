@@ -1,3 +1,2 @@
 mod Finds
-mod Turns
 mod Unsuspected

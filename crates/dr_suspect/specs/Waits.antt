@@ -1,6 +1,5 @@
 -- How long a member has waited for news of others.
-use Rattle.std.specs.Prelude.{◌≡◌, ℕ, suc, ◌-◌, ◌^◌, ◌==◌, Bool, ◌&&◌, not, nat_lt, min, if◌then◌else◌, List, length, map, replicate, slice_index}
-use Rattle.std.specs.List.{range_with_len}
+use Rattle.std.specs.Prelude.{◌≡◌, ℕ, suc, ◌-◌, ◌^◌, ◌==◌, Bool, ◌&&◌, not, nat_lt, min, if◌then◌else◌, List, length, replicate, slice_index, slice_set}
 use Rattle.dr_entry.specs.declared.limits.TheConstants.{MAX_MEMBERS}
 use Rattle.dr_history.specs.Members.{has}
 use Rattle.dr_words.specs.declared.column.TheConstants.{BEAT_COLUMN, DONE_COLUMN}
@@ -31,37 +30,27 @@ abbrev pub begun : ℕ → Waits
 begun limit =
     record { limit = limit; counts = replicate MAX_MEMBERS 0; beats = replicate MAX_MEMBERS 0 }
 
--- whether news of the row is waited for: where there is a limit, of an unsuspected member other than the own
-abbrev pub is_awaited : Waits → Words → ℕ → ℕ → Bool
-is_awaited w rows unsuspected i = not (w.limit == 0) && (has unsuspected i && not (i == rows.me))
-
 -- the count after one turn more, where this beat was compared last: 0 where the beat is another, else one
 -- more, as far as 32 bits go
 abbrev pub next_count : ℕ → ℕ → ℕ → ℕ
 next_count count last beat = if beat == last then min (suc count) (2 ^ 32 - 1) else 0
 
--- the count of a row after a turn: the one of a row that isn't awaited stays
-abbrev pub turned_count : Waits → Words → ℕ → ℕ → ℕ
-turned_count w rows unsuspected i =
-    if is_awaited w rows unsuspected i then next_count (count_of w i) (beat_of w i) (seen rows i BEAT_COLUMN)
-    else count_of w i
-
--- the beat that is kept of a row after a turn: the one seen, where the row is awaited
-abbrev pub turned_beat : Waits → Words → ℕ → ℕ → ℕ
-turned_beat w rows unsuspected i =
-    if is_awaited w rows unsuspected i then seen rows i BEAT_COLUMN else beat_of w i
-
--- the waits after a turn
-abbrev pub turned : Waits → Words → ℕ → Waits
-turned w rows unsuspected = record w {
-  counts = map (turned_count w rows unsuspected) (range_with_len 0 MAX_MEMBERS);
-  beats = map (turned_beat w rows unsuspected) (range_with_len 0 MAX_MEMBERS);
+-- the waits once a row was seen whole: its beat is compared with the one that was compared last, and kept
+abbrev pub compared : Waits → Words → ℕ → Waits
+compared w rows i = record w {
+  counts = slice_set w.counts i (next_count (count_of w i) (beat_of w i) (seen rows i BEAT_COLUMN));
+  beats = slice_set w.beats i (seen rows i BEAT_COLUMN);
 }
 
 -- whether the count of a row has reached the limit, and its member isn't done
 abbrev pub is_late : Waits → Words → ℕ → Bool
 is_late w rows i = not (nat_lt (count_of w i) w.limit) && seen rows i DONE_COLUMN == 0
 
--- whether the row is waited for, and late
+-- whether news of the row is waited for: of an unsuspected member other than the own
+abbrev pub is_awaited : Words → ℕ → ℕ → Bool
+is_awaited rows unsuspected i = has unsuspected i && not (i == rows.me)
+
+-- whether there is a limit, and the row is waited for, and late
 abbrev pub is_overdue : Waits → Words → ℕ → ℕ → Bool
-is_overdue w rows unsuspected i = is_awaited w rows unsuspected i && is_late w rows i
+is_overdue w rows unsuspected i =
+    not (w.limit == 0) && (is_awaited rows unsuspected i && is_late w rows i)

@@ -1,8 +1,8 @@
-ghost use Rattle.std.specs.Prelude.{◌≡◌, ◌≢◌, ℕ, ◌<◌, true, false};
+ghost use Rattle.std.specs.Prelude.{◌≡◌, ◌<◌};
 ghost use Rattle.dr_entry.specs.declared.limits.TheConstants.{MAX_MEMBERS};
-ghost use Rattle.dr_words.specs.declared.column.TheConstants.{DONE_COLUMN};
+ghost use Rattle.dr_words.specs.declared.column.TheConstants.{BEAT_COLUMN, DONE_COLUMN};
 ghost use Rattle.dr_suspect.specs.Answers.{AreOfGroup, IsLeastOrNone, least_where};
-ghost use Rattle.dr_suspect.specs.Waits.{IsWaits, beat_of, begun, count_of, is_late, is_overdue, next_count, turned};
+ghost use Rattle.dr_suspect.specs.Waits.{IsWaits, begun, compared, is_late, is_overdue};
 
 use crate::others::others;
 use dr_entry::MAX_MEMBERS;
@@ -44,24 +44,24 @@ impl Patience {
         }
     }
 
-    /// One turn more: compares the beat of each other unsuspected member with the one that it compared
-    /// last, and keeps it. The same beat again is a turn without news. Where there is no limit, nothing is
-    /// waited for and kept.
-    #[tactic(auto, using(crate::proofs::Turns::turned_more, crate::proofs::Turns::turned_past))]
-    pub fn turn(&mut self, rows: &Rows, unsuspected: Mask)
-        requires { AreOfGroup unsuspected rows.now }
-        ensures after { self.new ≡ turned self.old rows.now unsuspected }
+    /// A row has been seen whole: compares its beat with the one that it compared last, and keeps it. The
+    /// same beat again is a turn without news.
+    #[inline]
+    pub fn compare(&mut self, rows: &Rows, row: u8)
+        requires row { row < rows.now.members }
+        requires most { row < MAX_MEMBERS }
+        requires column { BEAT_COLUMN < rows.now.columns }
+        ensures after { self.new ≡ compared self.old rows.now row }
         ensures form { IsWaits self.new }
     {
-        if self.limit == 0 {
-            return;
-        }
-        let awaited = others(unsuspected, rows.me());
-        for row in 0..MAX_MEMBERS as u8 {
-            if awaited.has(row) {
-                self.compare(row, rows.seen(row, BEAT_COLUMN));
-            }
-        }
+        let beat = rows.seen(row, BEAT_COLUMN);
+        let row = usize::from(row);
+        self.counts[row] = if beat == self.beats[row] {
+            self.counts[row].saturating_add(1)
+        } else {
+            0
+        };
+        self.beats[row] = beat;
     }
 
     /// The least other unsuspected row that is waited for too long: without news for as many turns as
@@ -89,26 +89,6 @@ impl Patience {
         ensures form { IsWaits self.new }
     {
         *self = Patience::new(self.limit);
-    }
-
-    // Compares the beat of a row with the one compared last, and keeps it.
-    fn compare(&mut self, row: u8, beat: u64)
-        requires { row < MAX_MEMBERS }
-        ensures limit { self.new.limit ≡ self.old.limit }
-        ensures count { count_of self.new row
-            ≡ next_count (count_of self.old row) (beat_of self.old row) beat }
-        ensures beat { beat_of self.new row ≡ beat }
-        ensures other_counts { (i : ℕ) → i ≢ row → count_of self.new i ≡ count_of self.old i }
-        ensures other_beats { (i : ℕ) → i ≢ row → beat_of self.new i ≡ beat_of self.old i }
-        ensures form { IsWaits self.new }
-    {
-        let row = usize::from(row);
-        self.counts[row] = if beat == self.beats[row] {
-            self.counts[row].saturating_add(1)
-        } else {
-            0
-        };
-        self.beats[row] = beat;
     }
 
     // Whether the count of a row has reached the limit, and its member isn't done.

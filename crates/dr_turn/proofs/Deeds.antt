@@ -23,9 +23,8 @@ use Rattle.dr_program.specs.Turn.{after, is_beat, IsIn, part_of, places_in, rows
 use Rattle.dr_program.specs.Replica.{Replica, has_majority, is_wedged, me, unsuspected}
 use Rattle.dr_rows.specs.Words as rows
 use Rattle.dr_rows.specs.Words.{Words, is_frozen}
-use Rattle.dr_suspect.specs.Waits.{IsWaits, Waits, turned, turned_beat, turned_count}
-use Rattle.dr_words.specs.Masks.{mask_of}
-use Rattle.std.proofs.lemmas.List.FromFn.{length-map-range_with_len}
+use Rattle.dr_suspect.specs.Waits.{IsWaits, Waits, compared}
+use Rattle.std.proofs.lemmas.List.{length-set}
 use Rattle.dr_program.specs.Steps.{NoWordFell, allows, has_cell, stepped}
 use Rattle.dr_program.specs.Running.{Running, members, columns, asks, judged, named_by, overdue, scripted, told, waits_after, step_at, settled, goes, pushes_after, took, next_step, crashes_now, push_or_crash, append_or_end, end_by, after_step}
 use Rattle.dr_program.specs.Form.{HasForm, IsOf, IsRunningMember}
@@ -205,11 +204,11 @@ judged_fewer word r a is none u less = absurd (cc)
 
 -- ---- waiting
 
--- after a turn there is a count and a beat of each member of the greatest group
-turned_form : (w : Waits) (rows : Words) (unsuspected : ℕ) → IsWaits (turned w rows unsuspected)
-turned_form w rows unsuspected = record {
-  counts = length-map-range_with_len (turned_count w rows unsuspected) 0 16;
-  beats = length-map-range_with_len (turned_beat w rows unsuspected) 0 16;
+-- when a row was compared there is a count and a beat of each member of the greatest group
+compared_form : (w : Waits) (rows : Words) (i : ℕ) → IsWaits w → IsWaits (compared w rows i)
+compared_form w rows i is = record {
+  counts = length-set w.counts i _ ∙ is.counts;
+  beats = length-set w.beats i _ ∙ is.beats;
 }
 
 -- and so after each step
@@ -217,9 +216,8 @@ waits_keep : (word : ℕ) (r : Running) (s : Step) → IsWaits r.waits → IsWai
 waits_keep word r (steps.Look i c) is = by (c + 1 == columns r)
   where
     by : (b : Bool)
-        → IsWaits (if b then turned r.waits (rows.looked r.replica.rows i c word) (mask_of (λ k. k == i))
-        else r.waits)
-    by true = turned_form r.waits (rows.looked r.replica.rows i c word) (mask_of (λ k. k == i))
+        → IsWaits (if b then compared r.waits (rows.looked r.replica.rows i c word) i else r.waits)
+    by true = compared_form r.waits (rows.looked r.replica.rows i c word) i is
     by false = is
 waits_keep word r s is = is
 

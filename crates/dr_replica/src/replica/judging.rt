@@ -1,16 +1,14 @@
 //! Whom a replica is told to suspect, and what ends it when it goes on without others.
-ghost use Rattle.std.specs.Prelude.{◌≡◌, ℕ, ◌<◌, ◌==◌};
+ghost use Rattle.std.specs.Prelude.{◌≡◌, ℕ, ◌<◌};
 ghost use Rattle.dr_program.specs.Replica.{unsuspected};
 ghost use Rattle.dr_program.specs.Running.{minority, named_by, told};
 ghost use Rattle.dr_suspect.specs.Answers.{least_where};
-ghost use Rattle.dr_suspect.specs.Waits.{IsWaits, is_overdue, turned};
-ghost use Rattle.dr_words.specs.Masks.{mask_of};
+ghost use Rattle.dr_suspect.specs.Waits.{IsWaits, compared, is_overdue};
 
 use super::Replica;
 use dr_entry::End;
 use dr_machine::Act;
 use dr_suspect::Patience;
-use dr_words::Mask;
 
 impl Replica {
     /// The least member that it doesn't suspect and that suspects it.
@@ -53,9 +51,9 @@ impl Replica {
     #[inline]
     pub fn wait_for(&self, patience: &mut Patience, row: u8)
         requires { row < self.now.roster }
-        ensures after { patience.new ≡ turned patience.old self.now.rows (mask_of (λ k. k == row)) }
+        ensures after { patience.new ≡ compared patience.old self.now.rows row }
         ensures form { IsWaits patience.new }
     {
-        patience.turn(&self.rows, Mask::empty().with(row));
+        patience.compare(&self.rows, row);
     }
 }
