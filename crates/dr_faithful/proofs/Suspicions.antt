@@ -186,7 +186,7 @@ plain_kept own n members mask promise m v a u c l d =
 
 -- ---- the mask and the promise
 
-abbrev mask_after : World → ℕ → ℕ → ℕ
+abbrev pub mask_after : World → ℕ → ℕ → ℕ
 mask_after w m j = with_member (w.suspects m) j
 
 abbrev promise_after : World → ℕ → ℕ → ℕ
@@ -224,7 +224,7 @@ has_mask g V w m j i is can f =
     (le_trans (f.views.within (w.past.view m) j view) is.most_members)
 
 -- one that was suspected still is
-mask_grown : (g : Group) (V : Views) (w : World) (m j : ℕ) → IsGroup g → CanSuspect g w m j
+pub mask_grown : (g : Group) (V : Views) (w : World) (m j : ℕ) → IsGroup g → CanSuspect g w m j
     → Faithful g V w → IsPartOf (w.suspects m) (mask_after w m j)
 mask_grown g V w m j is can f i h = grind (arith, has_mask g V w m j i is can f, h)
 

@@ -24,12 +24,11 @@ use Rattle.dr_restart.specs.declared.start.Start.{Start}
 use Rattle.dr_restart.specs.Groups.{group_of}
 use Rattle.dr_restart.specs.Setups.{IsBegun, crashes_of}
 use Rattle.dr_restart.proofs.Setups.{are_setups}
-use Rattle.dr_world_laws.specs.Ends.{IsLeftOut}
 use Rattle.dr_world_laws.proofs.Leavings.{IsLeftSo, left_so}
 use Rattle.dr_world_laws.proofs.Agreeing.{done-durable, done-whole}
 use Rattle.dr_world_laws.proofs.Remaining.{holds-remaining}
 use Rattle.dr_world_laws.proofs.Reached.{Known, known}
-use Rattle.dr_program_laws.specs.Ended.{HasEnded, HaveEnded, IsBeforeCrash, IsDone, is_log_end}
+use Rattle.dr_program_laws.specs.Ended.{HasEnded, HaveEnded, IsBeforeCrash, IsDone, IsLeftOut, is_log_end}
 use Rattle.dr_program_laws.proofs.Keeping.{deeds_kept}
 use Rattle.dr_program_laws.proofs.Programs.{AllStand, all_stand}
 use Rattle.dr_program_laws.proofs.Standing.{IsProper, Stands}
@@ -104,9 +103,9 @@ done g p points m r is program run there end uncrashed = record {
 -- an end by suspicion is as the world has it
 left_so_there : (g : Group) (p : Program) (m : ℕ) (r : Running) → IsGroup g → IsProgram g p
     → IsReached g (world g p) → slice_get p.members m ≡ Some r
-    → IsLeftSo g.opening m r.replica.end
+    → IsLeftSo g (world g p) m r.replica.end
 left_so_there g p m r is program run there =
-    subst (IsLeftSo g.opening m) (of_there p (λ q. q.end) (opening_world g).end m r there)
+    subst (IsLeftSo g (world g p) m) (of_there p (λ q. q.end) (opening_world g).end m r there)
     (left_so g (world g p) is run m (of_roster g p m r program there))
 
 -- ---- a member that has ended
@@ -125,11 +124,11 @@ has_ended g p limit points m r is program run there ended v = by r.replica.end r
     }))))
 
     left : (end : End) → r.replica.end ≡ Some end
-        → (IsLeftSo g.opening m (Some end) → IsLeftOut g.opening m end)
+        → (IsLeftSo g (world g p) m (Some end) → IsLeftOut g.opening m end)
         → HasEnded g.opening limit m points (end_of r)
     left end e out = inr (inr (inr (inr (record {
       end = subst (λ o. IsLeftOut g.opening m (unwrap_or o ends.Done)) (sym e)
-          (out (subst (IsLeftSo g.opening m) e (left_so_there g p m r is program run there)));
+          (out (subst (IsLeftSo g (world g p) m) e (left_so_there g p m r is program run there)));
       first = v.later;
     }))))
 
@@ -141,8 +140,9 @@ has_ended g p limit points m r is program run there ended v = by r.replica.end r
         inr (inr (inl (record { end = ap (λ x. unwrap_or x ends.Done) e; named = so; first = v.later })))
     by (Some ends.DiskFault) e t so = stopped ends.DiskFault e refl
     by (Some (ends.LogFull len)) e t so = stopped (ends.LogFull len) e refl
-    by (Some (ends.Suspected other)) e t so = left (ends.Suspected other) e (λ out. out)
-    by (Some (ends.NoMajority mask)) e t so = left (ends.NoMajority mask) e (λ out. out)
+    by (Some (ends.Suspected other)) e t so = left (ends.Suspected other) e (λ out. (out.member, out.other))
+    by (Some (ends.NoMajority mask)) e t so =
+        left (ends.NoMajority mask) e (λ out. (out.own, out.members, out.minority))
     by (Some (ends.Spent n)) e t so = inr (inl (record {
       end = ap (λ x. unwrap_or x ends.Done) e ∙ ap ends.Spent so.0;
       turns = so.1;

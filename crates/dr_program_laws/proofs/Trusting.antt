@@ -44,11 +44,10 @@ use Rattle.dr_script.specs.declared.script.Fault.{Fault}
 use Rattle.dr_script.specs.declared.script.Script.{Script}
 use Rattle.dr_suspect.specs.Answers.{least_where}
 use Rattle.dr_suspect.specs.Suspicion.{is_unsuspected, names, names_me, spreads}
-use Rattle.dr_suspect.specs.Waits.{Waits, is_late, turned}
+use Rattle.dr_suspect.specs.Waits.{Waits, compared, is_late}
 use Rattle.dr_turn.proofs.Deeds.{is_verdict}
 use Rattle.dr_turn.proofs.Search.{settle_only}
 use Rattle.dr_words.proofs.Bits.{has_zero}
-use Rattle.dr_words.specs.Masks.{mask_of}
 use Rattle.dr_words.specs.declared.column.TheConstants.{SUSPECTED_COLUMN}
 use Rattle.dr_history.specs.Members.{has}
 use Rattle.dr_program_laws.specs.Trusting.{AreTrusting, IsCalm, IsTrusting, NoneLeft, SuspectsNobody, has_been_left, is_left_out}
@@ -146,8 +145,8 @@ judges_nothing g p m r is = λ z.
         (and_left (names q.rows i j) _ (unnamed i j)))
 
     late : overdue r ≡ None
-    late = ap (λ n. least_where (λ i. (not (n == 0) && (has (replica.unsuspected q) i && not (i == me q)))
-        && is_late r.waits q.rows i)) so.patient
+    late = ap (λ n. least_where (λ i. not (n == 0)
+        && ((has (replica.unsuspected q) i && not (i == me q)) && is_late r.waits q.rows i))) so.patient
 
     few : minority q ≡ None
     few = ap (λ n. if not (n == 0) && not (has_majority q)
@@ -224,7 +223,7 @@ end_stays word r s other may kept = kept
 -- no step at all changes for how long it waits
 limit_stays : (word : ℕ) (r : Running) (s : Step) → (waits_after word r s).limit ≡ r.waits.limit
 limit_stays word r (Look i c) =
-    by (c + 1 == columns r) (turned r.waits (looked r.replica.rows i c word) (mask_of (λ k. k == i))) refl
+    by (c + 1 == columns r) (compared r.waits (looked r.replica.rows i c word) i) refl
   where
     by : (b : Bool) (w : Waits) → w.limit ≡ r.waits.limit → (if b then w else r.waits).limit ≡ r.waits.limit
     by true w same = same

@@ -1,13 +1,14 @@
 -- How the members of an age are to end.
-use Rattle.std.specs.Prelude.{◌≡◌, ◌⊎◌, ℕ, ◌<◌, ◌≤◌, All, Any, Bool, true, false, List, ◌++◌, length, slice_get, Some}
+use Rattle.std.specs.Prelude.{◌≡◌, ◌≢◌, ◌⊎◌, ℕ, ◌<◌, ◌≤◌, All, Any, Bool, true, false, List, ◌++◌, length, slice_get, Some}
 use Rattle.dr_entry.specs.declared.end.End.{End}
-use Rattle.dr_entry.specs.declared.end.End.TheVariants.{Done, Crashed, DiskFault, LogFull, Spent}
+use Rattle.dr_entry.specs.declared.end.End.TheVariants.{Done, Crashed, Suspected, NoMajority, DiskFault, LogFull, Spent}
 use Rattle.dr_entry.specs.declared.end.MemberEnd.{MemberEnd}
 use Rattle.dr_history.specs.declared.opening.Opening.{Opening}
+use Rattle.dr_history.specs.Members.{has}
 use Rattle.dr_history.specs.Order.{first_entries}
 use Rattle.dr_history_laws.specs.Remaining.{remaining}
 use Rattle.dr_program.specs.declared.setup.CrashPoint.{CrashPoint}
-use Rattle.dr_world_laws.specs.Ends.{IsLeftOut}
+use Rattle.dr_words.specs.Masks.{IsMajorityOf, IsPartOf}
 
 -- no crash point names a turn from 1 up to this one
 abbrev pub IsBeforeCrash : List CrashPoint → ℕ → Type 0
@@ -52,6 +53,14 @@ is_log_end end = false
 pub record HasStopped (points : List CrashPoint) (e : MemberEnd) : Type 0 where
   pub end : is_log_end e.end ≡ true
   pub first : All (λ (c : CrashPoint). 1 ≤ c.turn → e.turns ≤ c.turn) points
+
+-- the end is by suspicion: it names another member of View 0 than m, or members of it, m itself among them,
+-- that are no majority
+abbrev pub IsLeftOut : Opening → ℕ → End → Type 0
+IsLeftOut o m (Suspected by) = (has o.members by ≡ true) × (by ≢ m)
+IsLeftOut o m (NoMajority mask) =
+    (has mask m ≡ true) × IsPartOf mask o.members × (¬ IsMajorityOf mask o.members)
+IsLeftOut o m end = ⊥
 
 -- member m has been left out, in no later turn than the first that a crash point names
 pub record HasBeenLeft (o : Opening) (m : ℕ) (points : List CrashPoint) (e : MemberEnd) : Type 0 where

@@ -19,7 +19,7 @@ ghost use Rattle.dr_history.specs.declared.opening.Opening.{Opening};
 ghost use Rattle.dr_history.specs.Order.{first_entries};
 ghost use Rattle.dr_history.specs.Soundness.{Sound};
 ghost use Rattle.dr_history_laws.specs.Remaining.{remaining};
-ghost use Rattle.dr_world_laws.specs.Ends.{IsLeftOut};
+ghost use Rattle.dr_world_laws.specs.Ends.{IsLeftBy, IsLeftWith};
 ghost use Rattle.dr_world_laws.specs.Historic.{AreLaid, Heads, HoldsMessages, IsMerged};
 
 /// In every world that a group reaches its members agree: on their histories, on their logs, and on what
@@ -76,11 +76,12 @@ pub fn whole_histories_leave_nothing()
         → next.start ≡ first_entries o ++ remaining o → remaining next ≡ [] }
 {}
 
-/// A member of a reached world that was ended by suspicion was so by another member of View 0, or was left
-/// with members of it, itself among them, that are no majority.
+/// A member of a reached world that was ended by suspicion was so by another member of View 0, which it does
+/// not suspect and which suspects it, or is left with the members of View 0 that it doesn't suspect, itself
+/// among them, and these are no majority.
 pub fn suspicion_ends_members()
     ensures suspected { (g : Group) (w : World) (m by : ℕ) → IsGroup g → IsReached g w
-        → m < roster g → w.end m ≡ Some (Suspected by) → IsLeftOut g.opening m (Suspected by) }
+        → m < roster g → w.end m ≡ Some (Suspected by) → IsLeftBy g w m by }
     ensures minority { (g : Group) (w : World) (m mask : ℕ) → IsGroup g → IsReached g w
-        → m < roster g → w.end m ≡ Some (NoMajority mask) → IsLeftOut g.opening m (NoMajority mask) }
+        → m < roster g → w.end m ≡ Some (NoMajority mask) → IsLeftWith g w m mask }
 {}

@@ -4,6 +4,6 @@ use Rattle.dr_world_laws.proofs.suspicion_ends_members.Goals as goal
 
 pub returns : goal.returns
 returns c = record {
-  suspected = λ g w m by is r l e. subst (IsLeftSo g.opening m) e (left_so g w is r m l);
-  minority = λ g w m mask is r l e. subst (IsLeftSo g.opening m) e (left_so g w is r m l);
+  suspected = λ g w m by is r l e. subst (IsLeftSo g w m) e (left_so g w is r m l);
+  minority = λ g w m mask is r l e. subst (IsLeftSo g w m) e (left_so g w is r m l);
 }
