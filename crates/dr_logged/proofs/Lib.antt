@@ -1,2 +1,4 @@
 pub mod Serving
 pub mod Leaving
+pub mod Appends
+pub mod Rooms

@@ -4,9 +4,13 @@ use Rattle.dr_disk.specs.Disk.{Told}
 use Rattle.dr_disk.specs.Images.{Goes}
 use Rattle.dr_entry.specs.declared.record.Record.{Record}
 use Rattle.dr_io.specs.Faults.{Rose}
+use Rattle.dr_log.specs.declared.fault.LogFault.{LogFault}
+use Rattle.dr_log.specs.declared.fault.LogFault.TheVariants as faults
 use Rattle.dr_log.specs.Standing.{IsBeforeOrAfter, block_length, log_length}
 use Rattle.dr_log.specs.State.{LogState, appended, broken_off}
 use Rattle.dr_machine.specs.declared.step.Step.TheVariants.{Append}
+use Rattle.dr_program.specs.declared.outcome.LogWhy.{LogWhy}
+use Rattle.dr_program.specs.declared.outcome.LogWhy.TheVariants as whys
 use Rattle.dr_program.specs.Running.{Running, next_step}
 use Rattle.dr_logged.specs.Served.{IsSafe, LosesNothing, next_record}
 
@@ -45,3 +49,8 @@ pub record HasBroken {D : Type 0} (told : D → Option Told) (faults : D → ℕ
 pub record IsOver {D : Type 0} (log : LogState D) (len : ℕ) (r : Running) : Type 0 where
   pub long : len ≡ log_length log.entries log.votes
   pub over : log.limit < len + block_length (record_due r)
+
+-- why an append failed, as its log tells it
+abbrev pub why_of : LogFault → LogWhy
+why_of faults.DiskFault = whys.DiskFault
+why_of (faults.LogFull len) = whys.LogFull len

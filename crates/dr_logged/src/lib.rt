@@ -5,5 +5,7 @@
 #![tactic(auto)]
 
 mod laws;
+mod why;
 
 pub use laws::{appends_serve_logs, logs_are_left, logs_begin, other_deeds_leave_logs};
+pub use why::why_of;

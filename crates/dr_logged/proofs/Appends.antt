@@ -1,0 +1,58 @@
+-- What an append to a log has come to for its member.
+use Rattle.std.proofs.Common.{◌≡◌, refl, sym, subst, ℕ, ◌+◌, ◌<◌, ◌≤◌}
+use Rattle.std.specs.Prelude.{Option, Err, IsErrOf}
+use Rattle.dr_disk.specs.Disk.{Told}
+use Rattle.dr_disk.specs.Images.{Goes}
+use Rattle.dr_entry.specs.declared.record.Record.{Record}
+use Rattle.dr_io.specs.Faults.{Rose}
+use Rattle.dr_log.specs.declared.fault.LogFault.{LogFault}
+use Rattle.dr_log.specs.declared.fault.LogFault.TheVariants as faults
+use Rattle.dr_log.specs.Standing.{IsBeforeOrAfter, block_length, log_length}
+use Rattle.dr_log.specs.State.{KeepsLimit, LogState, appended, broken_off as log_broken_off}
+use Rattle.dr_program.specs.Running.{Running, broken_off}
+use Rattle.dr_logged.specs.Appended.{HasAppended, IsAppendDue, record_due, why_of}
+use Rattle.dr_logged.specs.Served.{HasServed, IsSafe, LosesNothing}
+use Rattle.dr_logged.proofs.Serving.{failed_served, full_served}
+
+-- a record that is the one due was appended
+pub did_append : {D : Type 0} (told : D → Option Told) (count : D → ℕ) (log new : LogState D)
+    (r : Running) (due : Record) → due ≡ record_due r → new ≡ appended log due new.disk
+    → log_length log.entries log.votes + block_length due ≤ log.limit
+    → Goes (told log.disk) (told new.disk) (λ calls. IsBeforeOrAfter log.entries log.votes due)
+    → LosesNothing told log new → IsSafe told new → count new.disk ≡ count log.disk
+    → HasAppended told count log new r
+did_append told count log new r due same made fits goes lasting safe calm = record {
+  made = subst (λ x. new ≡ appended log x new.disk) same made;
+  fits = subst (λ x. log_length log.entries log.votes + block_length x ≤ log.limit) same fits;
+  goes = subst (λ x. Goes (told log.disk) (told new.disk)
+      (λ calls. IsBeforeOrAfter log.entries log.votes x)) same goes;
+  lasting = lasting;
+  safe = safe;
+  calm = calm;
+}
+
+-- or it wasn't, for this reason
+pub did_fail : {D : Type 0} (T : Type 0) (told : D → Option Told) (count : D → ℕ)
+    (base log new : LogState D)
+    (r : Running) (due : Record) (fault : LogFault) → IsAppendDue r → due ≡ record_due r
+    → (IsErrOf {T = T} (Err fault) faults.DiskFault → new ≡ log_broken_off log due new.disk)
+    → ((len : ℕ) → IsErrOf {T = T} (Err fault) (faults.LogFull len) → new ≡ log)
+    → KeepsLimit log.limit (log_length log.entries log.votes) (block_length due) {T = T} (Err fault)
+    → Goes (told log.disk) (told new.disk) (λ calls. IsBeforeOrAfter log.entries log.votes due)
+    → LosesNothing told log new
+    → (IsErrOf {T = T} (Err fault) faults.DiskFault → Rose (count log.disk) (count new.disk))
+    → count log.disk ≤ count new.disk
+    → HasServed told count base log r → HasServed told count base new (broken_off (why_of fault) r)
+did_fail T told count base log new r due faults.DiskFault is same broken full limit goes lasting rose later
+    served =
+    failed_served told count base log new r is.step is.some served
+    (subst (λ x. new ≡ log_broken_off log x new.disk) same (broken refl))
+    (subst (λ x. Goes (told log.disk) (told new.disk)
+    (λ calls. IsBeforeOrAfter log.entries log.votes x)) same goes)
+    lasting (rose refl) later
+did_fail T told count base log new r due (faults.LogFull len) is same broken full limit goes lasting rose later
+    served =
+    subst (λ l. HasServed told count base l (broken_off (why_of (faults.LogFull len)) r)) (sym (full len refl))
+    (full_served told count base log r len is.step is.some served limit.0
+    (subst (λ x. log.limit < len + block_length x) same
+    (subst (λ n. log.limit < n + block_length due) (sym limit.0) limit.1)))
