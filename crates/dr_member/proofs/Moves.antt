@@ -3,8 +3,7 @@ use Rattle.std.proofs.Common.{◌≡◌, refl, sym, ap, ◌∙◌, subst, ℕ, �
 use Rattle.std.proofs.lemmas.Bool.Decides.{nat_tests}
 use Rattle.dr_rows.specs.Words.{changed}
 use Rattle.dr_rows.specs.Words as rows
-use Rattle.dr_suspect.specs.Waits.{Waits, turned}
-use Rattle.dr_words.specs.Masks.{mask_of}
+use Rattle.dr_suspect.specs.Waits.{Waits, compared}
 use Rattle.std.proofs.lemmas.Bool.{and_parts}
 use Rattle.dr_words.specs.Columns.{columns_of}
 use Rattle.dr_machine.specs.Effects.{one_more}
@@ -92,19 +91,19 @@ waits_stay : (word : ℕ) (r : Running) (i c : ℕ) → c + 1 < columns r
 waits_stay word r i c within = by (c + 1 == columns r) (grind (arith, nat_tests, within))
   where
     by : (b : Bool) → b ≡ false
-        → r.waits ≡ (if b then turned r.waits (rows.looked r.replica.rows i c word) (mask_of (λ k. k == i))
+        → r.waits ≡ (if b then compared r.waits (rows.looked r.replica.rows i c word) i
         else r.waits)
     by true e = absurd (cc)
     by false e = refl
 
 waits_turn : (word : ℕ) (r : Running) (i c : ℕ) → c < columns r → columns r ≤ c + 1
-    → turned r.waits (rows.looked r.replica.rows i c word) (mask_of (λ k. k == i))
+    → compared r.waits (rows.looked r.replica.rows i c word) i
     ≡ waits_after word r (steps.Look i c)
 waits_turn word r i c within past = by (c + 1 == columns r) (grind (arith, nat_tests, within, past))
   where
     by : (b : Bool) → b ≡ true
-        → turned r.waits (rows.looked r.replica.rows i c word) (mask_of (λ k. k == i))
-        ≡ (if b then turned r.waits (rows.looked r.replica.rows i c word) (mask_of (λ k. k == i))
+        → compared r.waits (rows.looked r.replica.rows i c word) i
+        ≡ (if b then compared r.waits (rows.looked r.replica.rows i c word) i
         else r.waits)
     by true e = refl
     by false e = absurd (cc)
@@ -116,7 +115,7 @@ waited fate w = record fate { waits = w }
 -- what is known once the row was waited for behind its last column
 pub record IsWaited (q : Replica) (fate : Fate) (p : Place) (w : Waits) : Type 0 where
   pub past : columns_of q.roster q.window ≤ p.column + 1
-  pub waits : w ≡ turned fate.waits q.rows (mask_of (λ k. k == p.row))
+  pub waits : w ≡ compared fate.waits q.rows p.row
 
 -- the fate within a row, and behind its last column
 told_within : (replica q : Replica) (fate : Fate) (p : Place) (word : ℕ)
@@ -133,7 +132,7 @@ told_past : (replica q : Replica) (fate : Fate) (p : Place) (word : ℕ) (w : Wa
 told_past replica q fate p word w l is = record {
   limit = refl;
   waits = is.waits
-      ∙ ap (λ (x : Replica). turned fate.waits x.rows (mask_of (λ k. k == p.row))) l.after
+      ∙ ap (λ (x : Replica). compared fate.waits x.rows p.row) l.after
       ∙ waits_turn word (standing replica fate p) p.row p.column l.due.cell.column
       (subst (λ (x : Replica). columns_of x.roster x.window ≤ p.column + 1) l.after is.past);
   crashes = refl;

@@ -247,6 +247,13 @@ impl Member {
         self.replica.turns()
     }
 
+    /// The number of words of its group's table.
+    pub fn table_words(&self) -> usize
+        ensures { result ≡ table_size self.now }
+    {
+        self.replica.shape().words()
+    }
+
     /// Its history.
     pub fn history(&self) -> &[Entry]
         ensures { result.now ≡ self.now.replica.history }
