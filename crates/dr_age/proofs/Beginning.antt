@@ -1,0 +1,58 @@
+-- An age begins as the program of its script, sound and in the world as the age opens.
+use Rattle.std.proofs.Common.{◌≡◌, sym, ap, ◌∙◌, ℕ, ◌+◌, ◌≤◌, List, [], ◌∷◌, ◌++◌, length, replicate}
+use Rattle.std.proofs.lemmas.List.{map-append}
+use Rattle.dr_script.specs.declared.script.Script.{Script}
+use Rattle.dr_words.specs.Layout.{words_of}
+use Rattle.dr_program.specs.declared.setup.Setup.{Setup}
+use Rattle.dr_machine.specs.Group.{IsGroup}
+use Rattle.dr_program.specs.Running.{Running, begun_running}
+use Rattle.dr_program.specs.Program.{Program}
+use Rattle.dr_program_laws.proofs.Schedules.{age_begins_reached, begun_program_of}
+use Rattle.dr_restart.specs.declared.start.Start.{Start}
+use Rattle.dr_restart.specs.Groups.{group_of}
+use Rattle.dr_restart.specs.Setups.{IsBegun, IsSetupOf}
+use Rattle.dr_restart.proofs.Setups.{more, none}
+use Rattle.dr_age.specs.Begun.{HaveBegun}
+use Rattle.dr_age.specs.Sound.{IsSound}
+
+-- no members have begun as the first none
+pub begun_none : (script : Script) (start : Start) (nth : ℕ) (members : List Running) → members ≡ []
+    → HaveBegun script start nth 0 members
+begun_none script start nth members empty = record { setups = []; are = none script start nth; begun = empty }
+
+-- a member that begins from the next setup, behind the first n, makes them the first n + 1
+pub begun_more : (script : Script) (start : Start) (nth n : ℕ) (rs qs : List Running) (s : Setup)
+    (r : Running) → HaveBegun script start nth n rs
+    → IsSetupOf script start nth n s → r ≡ begun_running s → qs ≡ rs ++ r ∷ []
+    → HaveBegun script start nth (n + 1) qs
+begun_more script start nth n rs qs s r so_far setup begins pushed = record {
+  setups = so_far.setups ++ s ∷ [];
+  are = more script start nth n so_far.setups s so_far.are setup;
+  begun = pushed ∙ (λ z. so_far.begun z ++ begins z ∷ [])
+      ∙ sym (map-append begun_running so_far.setups (s ∷ []));
+}
+
+-- all members, over a table of zeros, are the program as the age opens
+pub is_begun : (script : Script) (start : Start) (nth : ℕ) (members : List Running) (table : List ℕ)
+    → HaveBegun script start nth script.members members → length script.messages ≡ script.members
+    → table ≡ replicate (words_of script.members script.window script.members) 0
+    → IsBegun script start nth (record { members = members; table = table })
+is_begun script start nth members table begun lists zeros = (
+  begun.setups,
+  begun.are,
+  λ z. record {
+    members = begun.begun z;
+    table = (zeros ∙ ap (λ n. replicate (words_of n script.window n) 0) (sym lists)) z;
+  },
+)
+
+-- a program that has begun from a script and a start is sound for its group
+pub begun_is_sound : (script : Script) (start : Start) (nth : ℕ) (p : Program)
+    → IsGroup (group_of script start) → 1 ≤ script.turns
+    → length script.messages ≡ script.members → IsBegun script start nth p
+    → IsSound (group_of script start) p
+begun_is_sound script start nth p group some lists begins = record {
+  group = group;
+  form = begun_program_of script start nth p group lists some begins;
+  reached = age_begins_reached script start nth p group lists begins;
+}

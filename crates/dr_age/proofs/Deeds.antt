@@ -1,0 +1,107 @@
+-- What the next deed of a member says of the step that is due to it.
+use Rattle.std.proofs.Common.{◌≡◌, refl, ap, subst, ℕ, false, true, List, [], length, slice_index, ltb-true}
+use Rattle.std.specs.Prelude.{Option, None, Some, slice_set}
+use Rattle.dr_entry.specs.declared.end.End.{End}
+use Rattle.dr_entry.specs.declared.record.Record.{Record}
+use Rattle.dr_machine.specs.declared.step.Step.{Step}
+use Rattle.dr_machine.specs.declared.step.Step.TheVariants.{Do, Look, Push, Append}
+use Rattle.dr_program.specs.declared.deed.Deed.{Deed}
+use Rattle.dr_program.specs.declared.deed.Deed.TheVariants as deeds
+use Rattle.dr_program.specs.declared.outcome.Outcome.{Outcome}
+use Rattle.dr_program.specs.Form.{IsRunningMember}
+use Rattle.dr_program.specs.Program.{after_deed}
+use Rattle.dr_program.specs.Running.{Running, after_step, deed, deed_of, next_deed, next_step}
+use Rattle.dr_program.specs.Steps.{allows, sight, stored}
+use Rattle.dr_refine.proofs.Deeds.{due_allowed}
+use Rattle.dr_logged.specs.Appended.{IsAppendDue, record_due}
+use Rattle.dr_logged.specs.Served.{is_append}
+
+-- ---- a step, by its deed
+
+-- the step is a look at the word of this index
+pub record IsLookAt (words : List ℕ) (r : Running) (s : Step) (index : ℕ) : Type 0 where
+  pub row : ℕ
+  pub column : ℕ
+  pub look : s ≡ Look row column
+  pub sees : sight words r.replica s ≡ slice_index words index
+
+-- it stores this word at this index
+pub record IsStoreAt (words : List ℕ) (r : Running) (s : Step) (index word : ℕ) : Type 0 where
+  pub other : is_append s ≡ false
+  pub sees : sight words r.replica s ≡ 0
+  pub stores : stored words r.replica s ≡ slice_set words index word
+
+-- what a deed says of its step over these words
+abbrev pub Says : List ℕ → Running → Step → Deed → Type 0
+Says words r s (deeds.Look index) = IsLookAt words r s index
+Says words r s (deeds.Push index word) = IsStoreAt words r s index word
+Says words r s (deeds.Act index word) = IsStoreAt words r s index word
+Says words r s (deeds.Append due) = (s ≡ Append) × (due ≡ record_due r)
+Says words r s (deeds.Rest end) = ⊥
+
+says : (words : List ℕ) (r : Running) (s : Step) → Says words r s (deed_of r s)
+says words r (Do a) = record { other = refl; sees = refl; stores = refl }
+says words r (Look i c) = record { row = i; column = c; look = refl; sees = refl }
+says words r (Push j c) = record { other = refl; sees = refl; stores = refl }
+says words r Append = (refl, refl)
+
+-- so it is with the next deed of a member that has not ended
+pub record IsTold (words : List ℕ) (r : Running) (d : Deed) : Type 0 where
+  pub none : r.replica.end ≡ None
+  pub says : Says words r (next_step r) d
+
+abbrev pub Tells : List ℕ → Running → Deed → Type 0
+Tells words r (deeds.Rest end) = r.replica.end ≡ Some end
+Tells words r d = IsTold words r d
+
+no_rest : (words : List ℕ) (r : Running) (d : Deed) → r.replica.end ≡ None
+    → Says words r (next_step r) d → Tells words r d
+no_rest words r (deeds.Rest end) none h = absurd h
+no_rest words r (deeds.Look index) none h = record { none = none; says = h }
+no_rest words r d none h = record { none = none; says = h }
+
+tells : (words : List ℕ) (r : Running) → Tells words r (next_deed r)
+tells words r = by r.replica.end refl
+  where
+    by : (o : Option End) → r.replica.end ≡ o → Tells words r (deed r o)
+    by None e = no_rest words r (deed_of r (next_step r)) e (says words r (next_step r))
+    by (Some end) e = e
+
+-- what it tells, by its next deed
+pub deed_tells : (words : List ℕ) (r : Running) (d : Deed) → next_deed r ≡ d → Tells words r d
+deed_tells words r d is = subst (Tells words r) is (tells words r)
+
+-- however an append goes, another deed is its step
+pub any_outcome : (word : ℕ) (o : Outcome) (r : Running) (s : Step) → is_append s ≡ false
+    → after_deed word o r s ≡ after_step word r
+any_outcome word o r Append other = absurd (cc)
+any_outcome word o r (Do a) other = refl
+any_outcome word o r (Look i c) other = refl
+any_outcome word o r (Push j c) other = refl
+
+-- ---- which step is due
+
+pub at_look : (r : Running) (index : ℕ) → next_deed r ≡ deeds.Look index → is_append (next_step r) ≡ false
+at_look r index is = ap is_append (deed_tells [] r (deeds.Look index) is).says.look
+
+pub at_push : (r : Running) (index word : ℕ) → next_deed r ≡ deeds.Push index word
+    → is_append (next_step r) ≡ false
+at_push r index word is = (deed_tells [] r (deeds.Push index word) is).says.other
+
+pub at_act : (r : Running) (index word : ℕ) → next_deed r ≡ deeds.Act index word
+    → is_append (next_step r) ≡ false
+at_act r index word is = (deed_tells [] r (deeds.Act index word) is).says.other
+
+-- an append is of the next entry, which is there
+pub at_append : (r : Running) (due : Record) → IsRunningMember r → next_deed r ≡ deeds.Append due
+    → IsAppendDue r × (due ≡ record_due r)
+at_append r due form is =
+    let t = deed_tells [] r (deeds.Append due) is in (
+      record {
+        step = t.says.0;
+        some = ltb-true r.replica.logged (length r.replica.history)
+            (subst (λ s. allows r.replica s ≡ true) t.says.0 (due_allowed r (form.due t.none)));
+        room = form.replica.room;
+      },
+      t.says.1,
+    )

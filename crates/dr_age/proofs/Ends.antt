@@ -1,0 +1,290 @@
+-- The logs of an age: how they begin, and what has come of them where all members have ended.
+use Rattle.std.proofs.Common.{◌≡◌, refl, sym, ap, ◌∙◌, subst, inl, inr, ℕ, ◌+◌, ◌*◌, ◌<◌, ◌≤◌, false, List, [], ◌∷◌, ◌++◌, length, map, true≢false, arith, length-take}
+use Rattle.std.proofs.lemmas.List.{length-map}
+use Rattle.std.specs.Prelude.{All, IsTrue, Option, None, Some, is_some, option_map, slice_get, slice_index_or, unwrap_or}
+use Rattle.std.proofs.lemmas.Option.{get_or_from_slice_get, same_Some, slice_get-map, slice_get_cases, slice_get_within}
+use Rattle.std.proofs.lemmas.List.Elements.{All-take}
+use Rattle.dr_disk.specs.Disk.{Told}
+use Rattle.dr_entry.specs.declared.end.End.{End}
+use Rattle.dr_entry.specs.declared.end.End.TheVariants as ends
+use Rattle.dr_entry.specs.declared.end.MemberEnd.{MemberEnd}
+use Rattle.dr_entry.specs.declared.entry.Entry.TheVariants.{View}
+use Rattle.dr_entry.specs.declared.limits.TheConstants.{MAX_MEMBERS, MAX_MESSAGES}
+use Rattle.dr_entry.specs.Spelling.{IsValidEntry}
+use Rattle.dr_history.specs.Order.{first_entries}
+use Rattle.dr_log.specs.State.{LogState}
+use Rattle.dr_log.specs.Standing.{block_length, log_length}
+use Rattle.dr_log.proofs.Growing.{short_block, short_log_length}
+use Rattle.dr_machine.specs.Group.{Group, IsGroup, roster}
+use Rattle.dr_program.specs.declared.outcome.LogWhy.{LogWhy}
+use Rattle.dr_program.specs.declared.outcome.LogWhy.TheVariants as whys
+use Rattle.dr_program.specs.declared.setup.Setup.{Setup}
+use Rattle.dr_program.specs.Program.{AllEnded, AreSetups, IsRanFrom, IsSetup, Program, begun_program, end_of}
+use Rattle.dr_program.specs.Reading.{world}
+use Rattle.dr_program.specs.Running.{Running, begun_running, end_by}
+use Rattle.dr_program_laws.specs.Ended.{is_log_end}
+use Rattle.dr_program_laws.specs.Failing.{AreFailing, IsFailing, has_log_end}
+use Rattle.dr_program_laws.proofs.Failing.{all_fail}
+use Rattle.dr_restart.specs.declared.start.Start.{Start}
+use Rattle.dr_restart.specs.Groups.{group_of}
+use Rattle.dr_restart.specs.Setups.{IsBegun}
+use Rattle.dr_restart.proofs.Setups.{are_setups}
+use Rattle.dr_script.specs.declared.script.Script.{Script}
+use Rattle.dr_refine.proofs.Bounds.{history_small}
+use Rattle.dr_world_laws.proofs.Messages.{holds_messages, valid_history}
+use Rattle.dr_world_laws.proofs.Reached.{known}
+use Rattle.dr_logged.specs.Served.{AreReady, AreRoomy, HasCome, HasServed, HaveServed, IsReady, WentSo, next_record}
+use Rattle.dr_logged.proofs.Serving.{begins}
+use Rattle.dr_age.specs.Logged.{AreOpened, HaveCome, IsAmple, IsNotFull, IsOpened, NoneFull, why_ended}
+use Rattle.dr_age.specs.Sound.{IsSound}
+use Rattle.dr_age.proofs.Sound.{history_there}
+
+-- ---- the beginning
+
+-- nothing stands behind the end of a list
+slice_get_none : {A : Type 0} (xs : List A) (k : ℕ) → slice_get xs k ≡ None → length xs ≤ k
+slice_get_none xs k none = elim (slice_get_cases xs k).1 [
+  | inl found ↦ absurd (cc (found.2, none))
+  | inr past ↦ past.0
+]
+
+-- what a member has as its age opens
+pub record IsFresh (g : Group) (r : Running) : Type 0 where
+  pub history : r.replica.history ≡ first_entries g.opening
+  pub logged : r.replica.logged ≡ length r.replica.history
+  pub none : r.failed ≡ None
+
+fresh : (g : Group) (limit m : ℕ) (s : Setup) → IsSetup g limit m s → IsFresh g (begun_running s)
+fresh g limit m s is = record {
+  history = λ z. is.start z ++ View (is.age z) 0 (is.view z) ∷ [];
+  logged = refl;
+  none = refl;
+}
+
+pub begun_fresh : (g : Group) (limit : ℕ) (setups : List Setup) (m : ℕ) (r : Running)
+    → AreSetups g limit setups
+    → slice_get (begun_program g setups).members m ≡ Some r → IsFresh g r
+begun_fresh g limit setups m r are there = by (slice_get setups m) refl
+    (sym (slice_get-map begun_running setups m) ∙ there)
+  where
+    by : (o : Option Setup) → slice_get setups m ≡ o → option_map begun_running o ≡ Some r → IsFresh g r
+    by None e at = absurd (cc)
+    by (Some s) e at = subst (IsFresh g) (same_Some (begun_running s) r at)
+        (fresh g limit m s (are.each m s e))
+
+-- an element that stands at a number is so where each is
+pub each_at : {A : Type 0} (P : A → Type 0) (xs : List A) (m : ℕ) (x : A) → All P xs
+    → slice_get xs m ≡ Some x → P x
+each_at P xs m x all there = subst P (get_or_from_slice_get xs m x x there)
+    (all m x (slice_get_within xs m x there))
+
+-- logs that got room are ready for their members, which have begun
+ready_begins : {D : Type 0} (told : D → Option Told) (count : D → ℕ) (g : Group) (limit : ℕ)
+    (setups : List Setup) (p : Program) (olds news : List (LogState D)) → AreSetups g limit setups
+    → p ≡ begun_program g setups → AreOpened g olds → length news ≡ length olds
+    → AreRoomy told count p.members olds news
+    → AreReady news p.members × HaveServed told count olds news p.members
+ready_begins {D} told count g limit setups p olds news are begun opened all roomy = (
+  record {
+    all = all ∙ opened.all ∙ sym (as_many ∙ are.all);
+    each = λ m log r there member. by m log r there member (slice_get olds m) refl;
+  },
+  λ m base log r from there member. (both m base log r from there member).0,
+)
+  where
+    as_many : length p.members ≡ length setups
+    as_many = ap (λ (x : Program). length x.members) begun ∙ length-map setups begun_running
+
+    both : (m : ℕ) (base log : LogState D) (r : Running) → slice_get olds m ≡ Some base
+        → slice_get news m ≡ Some log → slice_get p.members m ≡ Some r
+        → HasServed told count base log r × IsReady log r
+    both m base log r from there member =
+        let is = begun_fresh g limit setups m r are
+        (ap (λ (x : Program). slice_get x.members m) (sym begun) ∙ member) in
+        let was : IsOpened g base = each_at (IsOpened g) olds m base opened.each from in
+        begins told count base log r (roomy m r base log member from there) was.whole
+        (was.entries ∙ sym is.history) is.logged is.none
+
+    by : (m : ℕ) (log : LogState D) (r : Running) → slice_get news m ≡ Some log
+        → slice_get p.members m ≡ Some r → (o : Option (LogState D)) → slice_get olds m ≡ o → IsReady log r
+    by m log r there member (Some base) e = (both m base log r e there member).1
+    by m log r there member None e =
+        absurd (omega (arith, slice_get_within news m log there, all, slice_get_none olds m e))
+
+-- ---- the end
+
+-- what ends a member by its log
+why_of_end : (why : LogWhy) → why_ended (end_by why) ≡ Some why
+why_of_end whys.DiskFault = refl
+why_of_end (whys.LogFull len) = refl
+
+no_why : (end : End) → is_log_end end ≡ false → why_ended end ≡ None
+no_why ends.DiskFault e = absurd (cc)
+no_why (ends.LogFull len) e = absurd (cc)
+no_why end e = refl
+
+-- a member that has ended tells why its last append failed
+tells_why : (r : Running) → IsFailing r → IsTrue (is_some r.replica.end)
+    → why_ended (end_of r).end ≡ r.failed
+tells_why r is ended = by r.failed refl r.replica.end refl ended
+  where
+    by : (why : Option LogWhy) → r.failed ≡ why → (o : Option End) → r.replica.end ≡ o → IsTrue (is_some o)
+        → why_ended (end_of r).end ≡ r.failed
+    by why at None e some = absurd (true≢false (sym some))
+    by None at (Some end) e some =
+        ap (λ o. why_ended (unwrap_or o ends.Done)) e
+        ∙ no_why end (ap has_log_end (sym e) ∙ is.well at) ∙ sym at
+    by (Some why) at (Some end) e some = elim (is.broken why at) [
+      | inl still ↦ absurd (cc (still.0, e))
+      | inr over ↦ ap (λ o. why_ended (unwrap_or o ends.Done)) over ∙ why_of_end why ∙ sym at
+    ]
+
+-- a program of an age that is over, with its logs since these bases
+pub record IsOver {D : Type 0} (told : D → Option Told) (count : D → ℕ) (g : Group)
+    (bases logs : List (LogState D)) (p : Program) : Type 0 where
+  pub sound : IsSound g p
+  pub ended : AllEnded p
+  pub failing : AreFailing p
+  pub all : length bases ≡ roster g
+  pub as_many : length logs ≡ length bases
+  pub served : HaveServed told count bases logs p.members
+
+-- each of its members tells why its last append failed
+pub over_tells : {D : Type 0} (told : D → Option Told) (count : D → ℕ) (g : Group)
+    (bases logs : List (LogState D)) (p : Program) (m : ℕ) (r : Running)
+    → IsOver told count g bases logs p → slice_get p.members m ≡ Some r → why_ended (end_of r).end ≡ r.failed
+over_tells told count g bases logs p m r over there =
+    tells_why r (over.failing m r there)
+    (each_at (λ (x : Running). IsTrue (is_some x.replica.end)) p.members m r over.ended there)
+
+-- so the logs have come to what their members' ends tell
+pub have_come : {D : Type 0} (told : D → Option Told) (count : D → ℕ) (g : Group)
+    (bases logs : List (LogState D)) (p : Program) → IsOver told count g bases logs p
+    → HaveCome told count bases logs (map end_of p.members)
+have_come {D} told count g bases logs p over = λ m base log e from there end.
+    by m base log e from there (slice_get p.members m) refl (sym (slice_get-map end_of p.members m) ∙ end)
+  where
+    by : (m : ℕ) (base log : LogState D) (e : MemberEnd) → slice_get bases m ≡ Some base
+        → slice_get logs m ≡ Some log → (o : Option Running) → slice_get p.members m ≡ o
+        → option_map end_of o ≡ Some e → HasCome told count base log e.history e.logged (why_ended e.end)
+    by m base log e from there None at end = absurd (cc)
+    by m base log e from there (Some r) at end =
+        subst (λ (x : MemberEnd). HasCome told count base log x.history x.logged (why_ended x.end))
+        (same_Some (end_of r) e end)
+        (subst (HasCome told count base log r.replica.history r.replica.logged)
+        (sym (over_tells told count g bases logs p m r over at)) (over.served m base log r from there at))
+
+-- ---- ample logs
+
+-- a log with room enough isn't full for a member of a sound program
+ample_log : {D : Type 0} (told : D → Option Told) (count : D → ℕ) (g : Group) (p : Program) (m : ℕ)
+    (r : Running) (base log : LogState D) (len : ℕ) → IsSound g p → slice_get p.members m ≡ Some r
+    → IsAmple g base → r.failed ≡ Some (whys.LogFull len) → HasServed told count base log r → ⊥
+ample_log {D} told count g p m r base log len is there ample at served =
+    omega (
+      arith,
+      went.0,
+      went.1.over,
+      long,
+      block,
+      length-take r.replica.logged r.replica.history,
+      ap length served.entries,
+      small,
+      ample.limit,
+      served.limit,
+    )
+  where
+    below : m < roster g
+    below = omega (arith, slice_get_within p.members m r there, is.form.all)
+
+    same : (world g p).past.history m ≡ r.replica.history
+    same = history_there g p m r is there
+
+    valid : All IsValidEntry r.replica.history
+    valid = subst (All IsValidEntry) same (valid_history g ((world g p).past.history m) is.group
+        (holds_messages g (world g p) m (known g (world g p) is.group is.reached) below))
+
+    small : length r.replica.history ≤ length g.opening.start + 1 + MAX_MESSAGES * MAX_MEMBERS
+    small = subst (λ h. length h ≤ length g.opening.start + 1 + MAX_MESSAGES * MAX_MEMBERS) same
+        (history_small g (world g p) m is.group is.reached below)
+
+    went : WentSo told count base log r.replica.history r.replica.logged (Some (whys.LogFull len))
+    went = subst (WentSo told count base log r.replica.history r.replica.logged) at served.last
+
+    block : block_length (next_record r.replica.history r.replica.logged) ≤ 72
+    block = short_block _ (valid r.replica.logged (View 0 0 0) went.0)
+
+    long : len ≤ 9 + 72 * length log.entries
+    long = omega (
+      arith,
+      went.1.length,
+      ap (log_length log.entries) (served.votes ∙ ample.votes),
+      short_log_length log.entries (subst (All IsValidEntry) (sym served.entries)
+          (All-take IsValidEntry r.replica.logged r.replica.history valid)),
+    )
+
+-- so none is full where all are ample
+pub none_full : {D : Type 0} (told : D → Option Told) (count : D → ℕ) (g : Group)
+    (bases logs : List (LogState D)) (p : Program) → IsOver told count g bases logs p
+    → All (IsAmple g) bases → NoneFull (map end_of p.members)
+none_full {D} told count g bases logs p over ample = λ k d within.
+    by k (slice_get p.members k) refl (omega (arith, within, length-map p.members end_of)) d
+  where
+    not_full : (end : End) → ((len : ℕ) → why_ended end ≡ Some (whys.LogFull len) → ⊥) → IsNotFull end
+    not_full (ends.LogFull len) full = full len refl
+    not_full ends.DiskFault full = tt
+    not_full end full = tt
+
+    at : (k : ℕ) (r : Running) → slice_get p.members k ≡ Some r → (len : ℕ)
+        → why_ended (end_of r).end ≡ Some (whys.LogFull len) → (b l : Option (LogState D))
+        → slice_get bases k ≡ b → slice_get logs k ≡ l → ⊥
+    at k r there len full (Some base) (Some log) from to =
+        ample_log told count g p k r base log len over.sound there
+        (each_at (IsAmple g) bases k base ample from)
+        (sym (over_tells told count g bases logs p k r over there) ∙ full)
+        (over.served k base log r from to there)
+    at k r there len full None l from to = absurd (omega (
+      arith,
+      slice_get_none bases k from,
+      slice_get_within p.members k r there,
+      over.sound.form.all,
+      over.all,
+    ))
+    at k r there len full (Some base) None from to = absurd (omega (
+      arith,
+      slice_get_none logs k to,
+      slice_get_within p.members k r there,
+      over.sound.form.all,
+      over.all,
+      over.as_many,
+    ))
+
+    by : (k : ℕ) (o : Option Running) → slice_get p.members k ≡ o → k < length p.members → (d : MemberEnd)
+        → IsNotFull (slice_index_or (map end_of p.members) k d).end
+    by k None there within d = absurd (omega (arith, slice_get_none p.members k there, within))
+    by k (Some r) there within d =
+        subst (λ (e : MemberEnd). IsNotFull e.end)
+        (sym (get_or_from_slice_get (map end_of p.members) k (end_of r) d
+        (slice_get-map end_of p.members k ∙ ap (option_map end_of) there)))
+        (not_full (end_of r).end
+        (λ len full. at k r there len full (slice_get bases k) (slice_get logs k) refl refl))
+
+-- ---- a program that ran from the beginning of an age
+
+-- its members end by their appends
+pub all_failing : (script : Script) (start : Start) (nth : ℕ) (begun p : Program)
+    → IsGroup (group_of script start) → length script.messages ≡ script.members → 1 ≤ script.turns → IsBegun script start nth begun
+    → IsRanFrom begun p → AreFailing p
+all_failing script start nth begun p group lists some (setups, are, is) ran = λ m r there.
+    all_fail (group_of script start) script.turns setups p m r group some
+    (are_setups script start nth setups lists are) (subst (λ b. IsRanFrom b p) is ran) there
+
+-- its logs, once they have room, are ready for its members
+pub ready_with : {D : Type 0} (told : D → Option Told) (count : D → ℕ) (script : Script)
+    (start : Start) (nth : ℕ) (begun : Program) (olds news : List (LogState D)) → length script.messages ≡ script.members
+    → IsBegun script start nth begun → AreOpened (group_of script start) olds → length news ≡ length olds
+    → AreRoomy told count begun.members olds news
+    → AreReady news begun.members × HaveServed told count olds news begun.members
+ready_with told count script start nth begun olds news lists (setups, are, is) opened all roomy =
+    ready_begins told count (group_of script start) script.turns setups begun olds news
+    (are_setups script start nth setups lists are) is opened all roomy

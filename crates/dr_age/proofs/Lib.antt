@@ -1,0 +1,4 @@
+pub mod Beginning
+pub mod Deeds
+pub mod Ends
+pub mod Sound

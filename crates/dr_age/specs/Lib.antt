@@ -1,0 +1,4 @@
+pub mod Begun
+pub mod Logged
+pub mod Run
+pub mod Sound

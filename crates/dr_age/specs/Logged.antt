@@ -1,0 +1,67 @@
+-- The logs of an age: how they are before it, and what has come of each by how its member ended.
+use Rattle.std.specs.Prelude.{◌≡◌, ⊤, ℕ, ◌+◌, ◌*◌, ◌≤◌, false, All, List, [], length, slice_get, Option, None, Some}
+use Rattle.dr_entry.specs.declared.end.End.{End}
+use Rattle.dr_entry.specs.declared.end.End.TheVariants as ends
+use Rattle.dr_entry.specs.declared.end.MemberEnd.{MemberEnd}
+use Rattle.dr_entry.specs.declared.limits.TheConstants.{MAX_MEMBERS, MAX_MESSAGES}
+use Rattle.dr_disk.specs.Disk.{Told}
+use Rattle.dr_history.specs.Order.{first_entries}
+use Rattle.dr_log.specs.State.{LogState}
+use Rattle.dr_machine.specs.Group.{Group, roster}
+use Rattle.dr_program.specs.declared.outcome.LogWhy.{LogWhy}
+use Rattle.dr_program.specs.declared.outcome.LogWhy.TheVariants as whys
+use Rattle.dr_logged.specs.Served.{HasCome}
+
+-- a log holds what every history of the age begins with, and no append to it has failed
+pub record IsOpened {D : Type 0} (g : Group) (log : LogState D) : Type 0 where
+  pub entries : log.entries ≡ first_entries g.opening
+  pub whole : log.failed ≡ false
+
+-- the logs of the members of the group, by number
+pub record AreOpened {D : Type 0} (g : Group) (logs : List (LogState D)) : Type 0 where
+  pub all : length logs ≡ roster g
+  pub each : All (IsOpened g) logs
+
+-- why a member's last append failed, by how it ended
+abbrev pub why_ended : End → Option LogWhy
+why_ended ends.DiskFault = Some whys.DiskFault
+why_ended (ends.LogFull len) = Some (whys.LogFull len)
+why_ended end = None
+
+-- what has come of each log since `bases`, by how the member of its number ended
+abbrev pub HaveCome : {D : Type 0} → (D → Option Told) → (D → ℕ) → List (LogState D)
+    → List (LogState D) → List MemberEnd → Type 0
+HaveCome {D} told faults bases logs members = (m : ℕ) (base log : LogState D) (e : MemberEnd)
+    → slice_get bases m ≡ Some base → slice_get logs m ≡ Some log → slice_get members m ≡ Some e
+    → HasCome told faults base log e.history e.logged (why_ended e.end)
+
+-- no member was ended by its log, or by a full one
+abbrev pub NoneStopped : List MemberEnd → Type 0
+NoneStopped members = All (λ (e : MemberEnd). why_ended e.end ≡ None) members
+
+abbrev pub IsNotFull : End → Type 0
+IsNotFull (ends.LogFull len) = ⊥
+IsNotFull end = ⊤
+
+abbrev pub NoneFull : List MemberEnd → Type 0
+NoneFull members = All (λ (e : MemberEnd). IsNotFull e.end) members
+
+-- a log without votes whose limit is enough for all that an age may bring: 72 bytes for each entry of the
+-- start, for View 0, and for each of 4,096 messages of 16 members
+pub record IsAmple {D : Type 0} (g : Group) (log : LogState D) : Type 0 where
+  pub votes : log.votes ≡ []
+  pub limit : 9 + 72 * (length g.opening.start + 1 + MAX_MESSAGES * MAX_MEMBERS) ≤ log.limit
+
+-- a log has the entries and votes of before
+pub record IsAsBefore {D : Type 0} (old new : LogState D) : Type 0 where
+  pub entries : new.entries ≡ old.entries
+  pub votes : new.votes ≡ old.votes
+
+abbrev pub AreAsBefore : {D : Type 0} → List (LogState D) → List (LogState D) → Type 0
+AreAsBefore {D} olds news = (m : ℕ) (old new : LogState D) → slice_get olds m ≡ Some old
+    → slice_get news m ≡ Some new → IsAsBefore old new
+
+-- the disk of each log tells what it told, and has counted no further fault
+abbrev pub AreCalm : {D : Type 0} → (D → Option Told) → (D → ℕ) → List (LogState D) → List (LogState D) → Type 0
+AreCalm {D} tells faults olds news = (m : ℕ) (old new : LogState D) → slice_get olds m ≡ Some old
+    → slice_get news m ≡ Some new → (tells new.disk ≡ tells old.disk) × (faults new.disk ≡ faults old.disk)
