@@ -2,11 +2,8 @@ mod Ranges
 mod Deeds
 mod Steps
 mod Outcomes
-mod Appends
 mod Logs
 mod Rooms
-mod Ends
-mod Beginning
 mod Turns
 mod Choices
 mod Courses

@@ -10,7 +10,8 @@ use Rattle.dr_program.specs.Program.{Program}
 use Rattle.dr_program.specs.Running.{Running}
 use Rattle.dr_program.proofs.Holdings.{replica_kept, replica_set}
 use Rattle.dr_logged.specs.Served.{AreReady, AtMember, HasServed, HaveServed, IsReady}
-use Rattle.dr_sim.specs.Sound.{AreOthers, IsSound}
+use Rattle.dr_age.specs.Sound.{IsSound}
+use Rattle.dr_sim.specs.Sound.{AreOthers}
 
 -- the member's log is ready again, and the others are as they were
 pub ready_on : {D : Type 0} (logs : List (LogState D)) (log : LogState D) (p q : Program) (m : ℕ)

@@ -1,6 +1,5 @@
 -- Room on the logs of members, made one after the other.
-use Rattle.std.proofs.Common.{◌≡◌, refl, sym, ap, ◌∙◌, subst, inl, inr, ℕ, ◌+◌, ◌-◌, ◌<◌, ◌≤◌, max, false, List, length, length-set, le_refl, get_or, arith}
-use Rattle.std.proofs.Math.Nat.{le-max_right}
+use Rattle.std.proofs.Common.{◌≡◌, refl, sym, ap, ◌∙◌, subst, inl, inr, ℕ, ◌+◌, ◌-◌, ◌<◌, ◌≤◌, List, length, length-set, le_refl, get_or, arith}
 use Rattle.std.specs.Prelude.{Option, Some, slice_get, slice_set}
 use Rattle.std.proofs.lemmas.Bool.{cases_eq}
 use Rattle.std.proofs.lemmas.Option.{same_Some, slice_get-get_or}
@@ -8,8 +7,8 @@ use Rattle.dr_disk.specs.Disk.{Told}
 use Rattle.dr_log.specs.State.{LogState}
 use Rattle.dr_program.specs.Running.{Running}
 use Rattle.dr_program.proofs.Holdings.{replica_kept, replica_set}
-use Rattle.dr_logged.specs.Served.{IsRoomy, IsSafe}
-use Rattle.dr_sim.specs.Logged.{AreAsBefore, AreCalm, IsAsBefore}
+use Rattle.dr_logged.specs.Served.{IsRoomy}
+use Rattle.dr_age.specs.Logged.{AreAsBefore, AreCalm, IsAsBefore}
 
 -- the logs below k got room, and the others are as they were
 pub record HasMadeRoom {D : Type 0} (told : D → Option Told) (count : D → ℕ) (members : List Running)
@@ -34,28 +33,6 @@ none_made told count members logs = record {
   calm = λ m old new there here.
       let is = same_Some new old (sym here ∙ there) in
       (ap (λ x. told x.disk) is, ap (λ x. count x.disk) is);
-}
-
--- a log that got room for what a member may still append
-pub roomy : {D : Type 0} (told : D → Option Told) (count : D → ℕ) (r : Running) (old new : LogState D)
-    (n : ℕ) → n ≡ r.replica.room - r.replica.logged
-    → new ≡ record old {
-      disk = new.disk;
-      spare_entries = max old.spare_entries n;
-      spare_votes = max old.spare_votes 0;
-    }
-    → told new.disk ≡ told old.disk → count new.disk ≡ count old.disk
-    → (old.failed ≡ false → IsSafe told new) → IsRoomy told count r old new
-roomy {D} told count r old new n is made tells calm safe = record {
-  spare = omega (arith, is, ap (λ (l : LogState D). l.spare_entries) made, le-max_right old.spare_entries n);
-  is = made ∙ (λ z. record old {
-    disk = new.disk;
-    spare_entries = sym (ap (λ (l : LogState D). l.spare_entries) made) z;
-    spare_votes = sym (ap (λ (l : LogState D). l.spare_votes) made) z;
-  });
-  tells = tells;
-  calm = calm;
-  safe = safe;
 }
 
 -- a log that is as before in the place of one leaves all as before

@@ -15,19 +15,10 @@ use Rattle.dr_refine.proofs.Deeds.{step_is}
 use Rattle.dr_program_laws.proofs.Keeping.{move_kept, sees}
 use Rattle.dr_member.specs.Deeds.{table_size}
 use Rattle.dr_turn.specs.Work.{deeds_left}
-use Rattle.std.specs.Prelude.{All}
-use Rattle.dr_entry.specs.declared.entry.Entry.TheVariants.{View}
-use Rattle.dr_entry.specs.Spelling.{IsValid, IsValidEntry}
-use Rattle.dr_program.specs.Reading.{world}
-use Rattle.dr_program.proofs.Holdings.{held_of}
-use Rattle.dr_refine.proofs.Deeds.{program_member, replicas}
-use Rattle.dr_world_laws.proofs.Messages.{holds_messages, valid_history}
-use Rattle.dr_world_laws.proofs.Reached.{known}
-use Rattle.dr_logged.specs.Served.{AppendsWell}
-use Rattle.dr_sim.proofs.Deeds.{at_append}
 use Rattle.dr_sim.specs.Deeds.{SeesWell, member_after, outcome_by, stores, table_after, went_so}
 use Rattle.dr_sim.specs.Simulated.{SomeFailed}
-use Rattle.dr_sim.specs.Sound.{IsAmong, IsSound, TookDeed, move}
+use Rattle.dr_age.specs.Sound.{IsSound}
+use Rattle.dr_sim.specs.Sound.{IsAmong, TookDeed, move}
 
 -- a sound program stays one over each move
 pub move_sound : (g : Group) (p : Program) (e : Move) → IsSound g p → IsSound g (step_of p e)
@@ -124,24 +115,6 @@ among_read g rs cells words now m r is sound going read same = record {
   there = member_read rs cells now m r is going read;
   table = sym (same ∙ ap (λ (v : Program). v.table) is);
 }
-
--- the history of a member in the program's world
-pub history_there : (g : Group) (p : Program) (m : ℕ) (r : Running) → IsSound g p
-    → slice_get p.members m ≡ Some r → (world g p).past.history m ≡ r.replica.history
-history_there g p m r is there =
-    ap (λ h. h.history) (held_of g (replicas p.members) p.table m r.replica
-    (program_member g p m r is.group is.form there).there)
-
--- so what it appends is a valid record
-pub appends_well : (g : Group) (p : Program) (m : ℕ) (r : Running) → IsSound g p
-    → slice_get p.members m ≡ Some r → AppendsWell r
-appends_well g p m r is there = λ due next.
-    let at = at_append r due (is.form.form m r there) next in
-    let valid = subst (All IsValidEntry) (history_there g p m r is there)
-    (valid_history g ((world g p).past.history m) is.group
-    (holds_messages g (world g p) m (known g (world g p) is.group is.reached)
-    (omega (arith, slice_get_within p.members m r there, is.form.all)))) in
-    subst IsValid (sym at.1) (valid r.replica.logged (View 0 0 0) at.0.some)
 
 -- what is so of the member that was put at a number is so of the one that stands there
 pub at_set : (P : Running → Type 0) (rs : List Running) (m : ℕ) (x r : Running) → m < length rs → P x

@@ -19,7 +19,8 @@ use Rattle.dr_program_laws.proofs.Schedules.{turns_taken}
 use Rattle.dr_program.specs.declared.outcome.Outcome.{Outcome}
 use Rattle.dr_sim.specs.Deeds.{member_after, outcome_by, table_after}
 use Rattle.dr_sim.specs.Simulated.{SomeFailed, WentWell}
-use Rattle.dr_sim.specs.Sound.{IsAmong, IsSound, TookDeed, TookTurn, TookTurns, all_left, move, with_member}
+use Rattle.dr_age.specs.Sound.{IsSound}
+use Rattle.dr_sim.specs.Sound.{IsAmong, TookDeed, TookTurn, TookTurns, all_left, move, with_member}
 use Rattle.dr_sim.proofs.Outcomes.{none_well, well_both, well_one}
 use Rattle.dr_sim.proofs.Ranges.{count_more}
 use Rattle.dr_sim.proofs.Steps.{took}

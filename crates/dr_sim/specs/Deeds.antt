@@ -1,11 +1,8 @@
 -- The deeds that a simulation takes.
 use Rattle.std.specs.Prelude.{◌≡◌, ℕ, List, Option, None, Some}
 use Rattle.dr_entry.specs.declared.end.End.{End}
-use Rattle.dr_log.specs.declared.fault.LogFault.{LogFault}
-use Rattle.dr_log.specs.declared.fault.LogFault.TheVariants as faults
 use Rattle.dr_machine.specs.declared.step.Step.TheVariants.{Look}
 use Rattle.dr_program.specs.declared.outcome.LogWhy.{LogWhy}
-use Rattle.dr_program.specs.declared.outcome.LogWhy.TheVariants as whys
 use Rattle.dr_program.specs.declared.outcome.Outcome.{Outcome}
 use Rattle.dr_program.specs.declared.outcome.Outcome.TheVariants.{Ok, Failed}
 use Rattle.dr_program.specs.Program.{after_deed, next_sight}
@@ -39,8 +36,3 @@ stores table r (Some end) = table
 
 abbrev pub table_after : List ℕ → Running → List ℕ
 table_after table r = stores table r r.replica.end
-
--- why an append failed, as its log tells it
-abbrev pub why_of : LogFault → LogWhy
-why_of faults.DiskFault = whys.DiskFault
-why_of (faults.LogFull len) = whys.LogFull len

@@ -1,23 +1,16 @@
 -- What a simulated age is.
-use Rattle.std.specs.Prelude.{◌≡◌, ◌⊎◌, ℕ, List, map, slice_get, Some}
+use Rattle.std.specs.Prelude.{◌≡◌, ◌⊎◌, ℕ, List, slice_get, Some}
 use Rattle.dr_entry.specs.declared.end.AgeEnd.{AgeEnd}
 use Rattle.dr_script.specs.declared.script.Script.{Script}
 use Rattle.dr_script.specs.declared.script.Schedule.{Schedule}
 use Rattle.dr_script.specs.declared.script.Schedule.TheVariants.{Lockstep, Seed}
 use Rattle.dr_program.specs.declared.outcome.LogWhy.{LogWhy}
-use Rattle.dr_program.specs.declared.setup.Setup.{Setup}
-use Rattle.dr_program.specs.Running.{Running, begun_running}
+use Rattle.dr_program.specs.Running.{Running}
 use Rattle.dr_program.specs.Program.{AllOk, Move, Program, age_of}
 use Rattle.dr_program.specs.Schedule.{IsLockstep, IsSeeded}
 use Rattle.dr_restart.specs.declared.start.Start.{Start}
 use Rattle.dr_restart.specs.Groups.{group_of}
-use Rattle.dr_restart.specs.Setups.{AreFirstSetupsOf, IsBegun}
-
--- the first n members before their first deeds, each by its setup
-pub record HaveBegun (script : Script) (start : Start) (nth n : ℕ) (members : List Running) : Type 0 where
-  pub setups : List Setup
-  pub are : AreFirstSetupsOf script start nth n setups
-  pub begun : members ≡ map begun_running setups
+use Rattle.dr_restart.specs.Setups.{IsBegun}
 
 -- the program has run by the schedule until all its members had ended, by these moves
 abbrev pub IsRunBy : Schedule → Program → List Move → Program → Type 0

@@ -1,22 +1,14 @@
--- Sound programs, and how much is left to them.
+-- What a member of a sound program does, and how much is left to all.
 use Rattle.std.specs.Prelude.{◌≡◌, ◌≢◌, ◌⊎◌, ℕ, ◌<◌, List, slice_get, slice_set, Some, sum_by}
-use Rattle.dr_machine.specs.Group.{Group, IsGroup}
-use Rattle.dr_machine.specs.Run.{IsReached}
+use Rattle.dr_machine.specs.Group.{Group}
 use Rattle.dr_program.specs.Running.{Running}
 use Rattle.dr_program.specs.declared.outcome.Outcome.{Outcome}
 use Rattle.dr_program.specs.declared.outcome.Outcome.TheVariants.{Ok}
 use Rattle.dr_program.specs.Program.{Move, Program, step_of}
-use Rattle.dr_program.specs.Reading.{world}
 use Rattle.dr_program.specs.Schedule.{IsTurn, TakeTurns}
-use Rattle.dr_refine.specs.Programs.{IsProgram}
+use Rattle.dr_age.specs.Sound.{IsSound}
 use Rattle.dr_sim.specs.Simulated.{SomeFailed, WentWell}
 use Rattle.dr_turn.specs.Work.{deeds_left}
-
--- a program of the group, in a world that some events lead to
-pub record IsSound (g : Group) (p : Program) : Type 0 where
-  pub group : IsGroup g
-  pub form : IsProgram g p
-  pub reached : IsReached g (world g p)
 
 -- a member of a sound program, over the words of its table
 pub record IsAmong (g : Group) (p : Program) (m : ℕ) (r : Running) (cells : List ℕ) : Type 0 where

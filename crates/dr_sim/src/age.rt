@@ -1,25 +1,25 @@
 //! An age, from its opening to the ends of all members.
-ghost use Rattle.std.specs.Prelude.{◌≡◌, ◌≤◌, IfOk, OnErr, IsTrue, All, List, [], is_some, length, map, vec_capacity};
+ghost use Rattle.std.specs.Prelude.{◌≡◌, ◌≤◌, IfOk, OnErr, All, List, [], length, vec_capacity};
 ghost use Rattle.dr_complete.specs.Time.{HasTime};
 ghost use Rattle.dr_program_laws.specs.Ended.{AreComplete, HaveEnded};
 ghost use Rattle.dr_program_laws.specs.Trusting.{NoneLeft, SuspectsNobody};
 ghost use Rattle.dr_history.specs.Agreement.{EndsAgreed};
 ghost use Rattle.dr_machine.specs.Group.{Group, IsGroup};
-ghost use Rattle.dr_program.specs.Program.{Program, age_of, end_of};
+ghost use Rattle.dr_program.specs.Program.{Program, age_of};
 ghost use Rattle.dr_restart.specs.Groups.{group_of};
 ghost use Rattle.dr_restart.specs.Setups.{crashes_of};
 ghost use Rattle.dr_script.specs.Ranges.{HasRanges};
 ghost use Rattle.dr_log.specs.State.{LogState};
 ghost use Rattle.dr_logged.specs.Served.{AreReady, HaveServed};
-ghost use Rattle.dr_sim.specs.Logged.{AreAsBefore, AreCalm, AreOpened, HaveCome, IsAmple, NoneFull, NoneStopped};
+ghost use Rattle.dr_age.specs.Logged.{AreAsBefore, AreCalm, AreOpened, HaveCome, IsAmple, NoneFull, NoneStopped};
 ghost use Rattle.dr_sim.specs.Simulated.{HasRun, IsSimulated};
-ghost use Rattle.dr_sim.specs.Sound.{IsSound};
+ghost use Rattle.dr_age.specs.Sound.{IsSound};
 
 use crate::simulation::Simulation;
+use dr_age::ends_of;
 use dr_disk::Disk;
 use dr_entry::{AgeEnd, Entry, MemberEnd, Seq};
 use dr_log::Log;
-use dr_member::Member;
 use dr_restart::{Start, copy_entries};
 use dr_script::{Schedule, Script};
 use std::alloc::{AllocError, Global};
@@ -97,17 +97,4 @@ fn run<D: Disk>(
         start: entries,
         members: Seq::of(ends_of(simulation.into_members(), ends)),
     }
-}
-
-/// How these members ended, in a list that has room for them.
-fn ends_of(members: Vec<Member>, mut ends: Vec<MemberEnd>) -> Vec<MemberEnd>
-    requires ended { All (λ member. IsTrue (is_some member.replica.end)) members.items }
-    requires none { ends.items ≡ [] }
-    requires room { length members.items ≤ vec_capacity ends }
-    ensures { result.items ≡ map end_of members.items }
-{
-    for member in members {
-        ends.push(member.into_end()).unwrap();
-    }
-    ends
 }

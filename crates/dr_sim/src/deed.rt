@@ -6,13 +6,14 @@ ghost use Rattle.dr_program.specs.Program.{Program};
 ghost use Rattle.dr_member.specs.Deeds.{is_append, table_size};
 ghost use Rattle.dr_program.specs.Running.{next_deed};
 ghost use Rattle.dr_turn.specs.Work.{deeds_left};
-ghost use Rattle.dr_sim.specs.Deeds.{SeesWell, member_after, outcome_by, table_after, why_of};
+ghost use Rattle.dr_sim.specs.Deeds.{SeesWell, member_after, outcome_by, table_after};
 ghost use Rattle.dr_logged.specs.Served.{AppendsWell, HasServed, IsReady};
 ghost use Rattle.dr_sim.specs.Sound.{IsAmong, IsSomewhere, TookTurn, with_member};
 
 use dr_disk::Disk;
-use dr_log::{Log, LogFault};
-use dr_member::{Deed, LogWhy, Member};
+use dr_log::Log;
+use dr_logged::why_of;
+use dr_member::{Deed, Member};
 
 /// The member takes its next deed, over the words of the table and its log. Where it has ended nothing
 /// happens.
@@ -66,16 +67,6 @@ fn append<D: Disk>(member: &mut Member, log: &mut Log<D>)
             Ok(()) => member.appended(),
             Err(fault) => member.append_failed(&why_of(fault)),
         }
-    }
-}
-
-/// Why an append failed, as its log tells it.
-fn why_of(fault: LogFault) -> LogWhy
-    ensures { result ≡ why_of fault }
-{
-    match fault {
-        LogFault::DiskFault => LogWhy::DiskFault,
-        LogFault::LogFull { len } => LogWhy::LogFull { len },
     }
 }
 

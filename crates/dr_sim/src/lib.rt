@@ -6,7 +6,6 @@ mod age;
 mod deed;
 mod lcg;
 mod lockstep;
-mod opening;
 mod seeded;
 mod simulation;
 

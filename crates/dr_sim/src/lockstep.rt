@@ -6,7 +6,8 @@ ghost use Rattle.dr_script.specs.declared.script.Schedule.TheVariants.{Lockstep}
 ghost use Rattle.dr_log.specs.State.{LogState};
 ghost use Rattle.dr_logged.specs.Served.{AreReady, HaveServed};
 ghost use Rattle.dr_sim.specs.Simulated.{HasRun};
-ghost use Rattle.dr_sim.specs.Sound.{IsSound, TookTurns, all_left};
+ghost use Rattle.dr_age.specs.Sound.{IsSound};
+ghost use Rattle.dr_sim.specs.Sound.{TookTurns, all_left};
 
 use crate::simulation::Simulation;
 use dr_disk::Disk;

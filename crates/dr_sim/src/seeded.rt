@@ -5,7 +5,8 @@ ghost use Rattle.dr_script.specs.declared.script.Schedule.TheVariants.{Seed};
 ghost use Rattle.dr_log.specs.State.{LogState};
 ghost use Rattle.dr_logged.specs.Served.{AreReady, HaveServed};
 ghost use Rattle.dr_sim.specs.Simulated.{HasRun};
-ghost use Rattle.dr_sim.specs.Sound.{IsSound, TookDeed};
+ghost use Rattle.dr_age.specs.Sound.{IsSound};
+ghost use Rattle.dr_sim.specs.Sound.{TookDeed};
 
 use crate::lcg::Lcg;
 use crate::simulation::Simulation;

@@ -6,12 +6,13 @@ ghost use Rattle.dr_restart.specs.Groups.{group_of};
 ghost use Rattle.dr_restart.specs.Setups.{IsBegun};
 ghost use Rattle.dr_script.specs.Ranges.{HasRanges};
 ghost use Rattle.dr_log.specs.State.{LogState};
-ghost use Rattle.dr_sim.specs.Logged.{AreAsBefore, AreCalm};
+ghost use Rattle.dr_age.specs.Logged.{AreAsBefore, AreCalm};
 ghost use Rattle.dr_logged.specs.Served.{AreRoomy, AtMember, HasServed, IsReady};
-ghost use Rattle.dr_sim.specs.Sound.{AreOthers, IsSound, TookDeed, TookTurn};
+ghost use Rattle.dr_age.specs.Sound.{IsSound};
+ghost use Rattle.dr_sim.specs.Sound.{AreOthers, TookDeed, TookTurn};
 
 use crate::deed::{all_ended, take, take_turn};
-use crate::opening::members_of;
+use dr_age::begun_members;
 use dr_disk::Disk;
 use dr_log::Log;
 use dr_member::Member;
@@ -57,7 +58,7 @@ impl Simulation {
         ensures sound { IfOk result (λ s. IsSound (group_of script.now start.now) s) }
     {
         Ok(Simulation {
-            members: members_of(alloc, script, start, nth)?,
+            members: begun_members(alloc, script, start, nth)?,
             table: vec![in alloc; 0; shape_of(script).words()]?,
         })
     }

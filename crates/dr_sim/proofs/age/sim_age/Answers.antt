@@ -10,10 +10,11 @@ use Rattle.dr_history.specs.Agreement.{EndsAgreed}
 use Rattle.dr_restart.specs.Groups.{group_of}
 use Rattle.dr_restart.specs.Setups.{crashes_of}
 use Rattle.dr_script.specs.declared.script.Schedule.{Schedule}
-use Rattle.dr_sim.specs.Logged.{HaveCome, NoneFull, NoneStopped}
+use Rattle.dr_age.specs.Logged.{HaveCome, NoneFull, NoneStopped}
 use Rattle.dr_sim.specs.Simulated.{IsRunBy}
 use Rattle.dr_sim.proofs.Courses.{schedule_ran, schedule_ends}
-use Rattle.dr_sim.proofs.Ends.{IsOver, all_failing, have_come, none_failed, none_full, ready_with}
+use Rattle.dr_age.proofs.Ends.{IsOver, all_failing, have_come, none_full, ready_with}
+use Rattle.dr_sim.proofs.Outcomes.{none_failed}
 use Rattle.dr_sim.proofs.age.sim_age.Given.{Over}
 use Rattle.dr_sim.proofs.age.sim_age.Goals as goal
 

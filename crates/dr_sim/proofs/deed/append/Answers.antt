@@ -2,8 +2,9 @@ use Rattle.std.proofs.Common.{sym, ap, ◌∙◌, subst, arith}
 use Rattle.dr_program.specs.Running.{broken_off}
 use Rattle.dr_logged.specs.Served.{HasServed, IsReady}
 use Rattle.dr_logged.proofs.Serving.{appended_ready, appended_served}
-use Rattle.dr_sim.proofs.Appends.{did_append, did_fail}
-use Rattle.dr_sim.proofs.Deeds.{append_taken, at_append}
+use Rattle.dr_logged.proofs.Appends.{did_append, did_fail}
+use Rattle.dr_age.proofs.Deeds.{at_append}
+use Rattle.dr_sim.proofs.Deeds.{append_taken}
 use Rattle.dr_sim.proofs.deed.append.Goals as goal
 
 pub returns-in-Ok-clause-member : goal.returns-in-Ok-clause-member

@@ -1,7 +1,8 @@
 use Rattle.std.proofs.Common.{refl, sym, subst}
 use Rattle.dr_logged.specs.Served.{HasServed, IsReady}
 use Rattle.dr_logged.proofs.Serving.{other_ready, other_served}
-use Rattle.dr_sim.proofs.Deeds.{act_taken, at_act, at_look, at_push, look_seen, push_taken}
+use Rattle.dr_age.proofs.Deeds.{at_act, at_look, at_push}
+use Rattle.dr_sim.proofs.Deeds.{act_taken, look_seen, push_taken}
 use Rattle.dr_sim.proofs.deed.take.Goals as goal
 
 pub looked-requires : goal.looked-requires

@@ -1,5 +1,6 @@
 use Rattle.std.proofs.Common.{sym, ◌∙◌, le_of_eq}
-use Rattle.dr_sim.proofs.Steps.{appends_well, sees_well, whole_table}
+use Rattle.dr_age.proofs.Sound.{appends_well}
+use Rattle.dr_sim.proofs.Steps.{sees_well, whole_table}
 use Rattle.dr_sim.proofs.Turns.{amid_goes, going_none, way_among, way_begins, way_ends, way_goes_on}
 use Rattle.dr_sim.proofs.deed.take_turn.Goals as goal
 

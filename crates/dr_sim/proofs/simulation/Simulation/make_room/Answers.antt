@@ -1,7 +1,8 @@
 use Rattle.std.proofs.Common.{ap, arith}
 use Rattle.std.proofs.lemmas.Option.{slice_get_within}
 use Rattle.dr_log.specs.State.{LogState}
-use Rattle.dr_sim.proofs.Rooms.{calm_set, none_made, one_more_made, roomy, same_set}
+use Rattle.dr_logged.proofs.Rooms.{roomy}
+use Rattle.dr_sim.proofs.Rooms.{calm_set, none_made, one_more_made, same_set}
 use Rattle.dr_sim.proofs.Steps.{member_there}
 use Rattle.dr_sim.proofs.simulation.Simulation.make_room.Goals as goal
 

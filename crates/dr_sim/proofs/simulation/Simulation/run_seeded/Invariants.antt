@@ -2,7 +2,8 @@ use Rattle.std.proofs.Common.{◌≡◌, List}
 use Rattle.dr_log.specs.State.{LogState}
 use Rattle.dr_logged.specs.Served.{AreReady, HaveServed}
 use Rattle.dr_program.specs.Schedule.{going}
-use Rattle.dr_sim.specs.Sound.{IsSound, all_left}
+use Rattle.dr_age.specs.Sound.{IsSound}
+use Rattle.dr_sim.specs.Sound.{all_left}
 use Rattle.dr_sim.proofs.Choices.{HasChosen}
 use Rattle.dr_sim.proofs.simulation.Simulation.run_seeded.Given as goal
 

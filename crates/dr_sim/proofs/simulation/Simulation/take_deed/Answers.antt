@@ -9,7 +9,8 @@ use Rattle.dr_program.specs.Running.{Running}
 use Rattle.dr_program.specs.Schedule.{has_ended}
 use Rattle.dr_sim.specs.Deeds.{SeesWell, member_after, outcome_by, table_after}
 use Rattle.dr_sim.specs.Sound.{TookDeed}
-use Rattle.dr_sim.proofs.Steps.{appends_well, at_set, going_there, member_read, sees_well, took, whole_table}
+use Rattle.dr_age.proofs.Sound.{appends_well}
+use Rattle.dr_sim.proofs.Steps.{at_set, going_there, member_read, sees_well, took, whole_table}
 use Rattle.dr_sim.proofs.Turns.{going_none}
 use Rattle.dr_sim.proofs.simulation.Simulation.take_deed.Goals as goal
 
