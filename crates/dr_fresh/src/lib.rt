@@ -6,4 +6,4 @@ mod logs;
 mod on_disk;
 
 pub use logs::{LOG_LIMIT, logs_of};
-pub use on_disk::{FreshFault, fresh_log};
+pub use on_disk::{FreshFault, FreshWhy, fresh_log};

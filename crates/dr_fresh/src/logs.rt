@@ -2,11 +2,11 @@ ghost use Rattle.std.specs.Prelude.{◌≡◌, ◌<◌, All, IfOk, []};
 ghost use Rattle.dr_machine.specs.Group.{IsGroup};
 ghost use Rattle.dr_restart.specs.Groups.{group_of};
 ghost use Rattle.dr_script.specs.Ranges.{HasGroupRanges};
-ghost use Rattle.dr_sim.specs.Logged.{AreOpened, IsAmple};
+ghost use Rattle.dr_age.specs.Logged.{AreOpened, IsAmple};
 ghost use Rattle.dr_fresh.specs.declared.logs.TheConstants.{LOG_LIMIT};
 ghost use Rattle.dr_fresh.specs.Fresh.{IsFresh};
 
-use crate::on_disk::{FreshFault, fresh_log};
+use crate::on_disk::{FreshWhy, fresh_log};
 use dr_disk::CalmDisk;
 use dr_log::Log;
 use dr_restart::Start;
@@ -30,6 +30,7 @@ pub fn logs_of(
     requires group { IsGroup (group_of script.now start.now) }
     requires none { start.now.entries ≡ [] }
     ensures opened { IfOk result (λ logs. AreOpened (group_of script.now start.now) logs.items) }
+    ensures limit { IfOk result (λ logs. All (λ log. log.limit ≡ 2147483648) logs.items) }
     ensures ample { IfOk result (λ logs. All (IsAmple (group_of script.now start.now)) logs.items) }
 {
     let mut logs = Vec::with_capacity(alloc, usize::from(script.members))?;
@@ -46,8 +47,10 @@ fn calm_log(alloc: Global, start: &Start) -> Result<Log<CalmDisk>, AllocError>
 {
     match fresh_log(alloc, CalmDisk::new(alloc), LOG_LIMIT, start) {
         Ok(log) => Ok(log),
-        Err(FreshFault::OutOfMemory) => Err(AllocError),
-        // Such a disk has no faults, and View 0 is short.
-        Err(FreshFault::DiskFault | FreshFault::LogFull) => unreachable!(),
+        Err(fault) => match fault.why {
+            FreshWhy::OutOfMemory => Err(AllocError),
+            // Such a disk has no faults and nothing on it, and View 0 is short.
+            FreshWhy::DiskFault | FreshWhy::LogFull | FreshWhy::Used => unreachable!(),
+        },
     }
 }

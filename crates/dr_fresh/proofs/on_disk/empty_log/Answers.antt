@@ -1,7 +1,11 @@
-use Rattle.dr_fresh.proofs.Fresh.{none_damaged}
+use Rattle.dr_fresh.proofs.Fresh.{damaged_used}
 use Rattle.dr_fresh.proofs.on_disk.empty_log.Goals as goal
+use Rattle.dr_fresh.proofs.on_disk.empty_log.Goals.{in-OutOfMemory, in-DiskFault, in-Damaged}
 
-pub unreachable-requires : goal.unreachable-requires
-unreachable-requires g c =
-    none_damaged (g.D.Disk.told c.args.disk) c.in-Damaged.at c.requires.empty
-    (c.in-Err.ensures.damaged c.in-Damaged.at c.in-Damaged.is)
+pub returns-after-fault-clause-used : goal.returns-after-fault-clause-used
+returns-after-fault-clause-used g c = λ used. elim c.match-fault.branch [
+  | in-OutOfMemory w ↦ absurd (cc (used, w.result-is))
+  | in-DiskFault w ↦ absurd (cc (used, w.result-is))
+  | in-Damaged w ↦ damaged_used (g.D.Disk.told c.args.disk) w.in-Damaged.at
+      (c.in-Err.ensures.damaged w.in-Damaged.at w.in-Damaged.is)
+]
