@@ -1,0 +1,147 @@
+-- Deeds that store, appends, and which program a deed makes.
+use Rattle.std.proofs.Common.{◌≡◌, refl, sym, ap, ◌∙◌, subst, ℕ, true, List, [], ◌∷◌, ◌++◌, set-set, true≢false}
+use Rattle.std.specs.Prelude.{Option, None, Some, slice_get, slice_set}
+use Rattle.std.proofs.lemmas.Option.{slice_get_within}
+use Rattle.dr_entry.specs.declared.end.End.{End}
+use Rattle.dr_machine.specs.declared.step.Step.{Step}
+use Rattle.dr_machine.specs.declared.step.Step.TheVariants.{Do, Look, Push, Append}
+use Rattle.dr_member.specs.Deeds.{is_append}
+use Rattle.dr_program.specs.declared.deed.Deed.{Deed}
+use Rattle.dr_program.specs.declared.deed.Deed.TheVariants as deeds
+use Rattle.dr_program.specs.declared.outcome.Outcome.{Outcome}
+use Rattle.dr_program.specs.declared.outcome.Outcome.TheVariants as outcomes
+use Rattle.dr_program.specs.Program.{IsRanFrom, Move, Program, after_deed, appended_as, next_sight, ran, step_of}
+use Rattle.dr_program.specs.Running.{Running, after_step, deed, deed_of, next_deed, next_step, took}
+use Rattle.dr_program.specs.Steps.{sight, stored}
+use Rattle.dr_program.proofs.Fixed.{Told, told, step_told}
+use Rattle.dr_program.proofs.Holdings.{replica_set}
+use Rattle.dr_program.proofs.Runs.{ran_on}
+use Rattle.dr_refine.proofs.Deeds.{settle_replica, step_is}
+use Rattle.dr_age.proofs.Deeds.{IsStoreAt, deed_tells}
+use Rattle.dr_table.specs.Rule.{number}
+use Rattle.dr_table.specs.Deeds.{IsStore}
+use Rattle.dr_table.specs.Steps.{HasAppended}
+use Rattle.dr_table.proofs.Lists.{set_again}
+
+-- ---- a step, by its deed
+
+-- a deed that stores, be it a push or an act
+pub record StoresAt (words : List ℕ) (r : Running) (index word : ℕ) : Type 0 where
+  pub none : r.replica.end ≡ None
+  pub says : IsStoreAt words r (next_step r) index word
+
+pub stores : (words : List ℕ) (r : Running) (index word : ℕ) → IsStore index word (next_deed r)
+    → StoresAt words r index word
+stores words r index word is = by (next_deed r) refl is
+  where
+    by : (d : Deed) → next_deed r ≡ d → IsStore index word d → StoresAt words r index word
+    by (deeds.Push i w) e (at, same) =
+        let t = deed_tells words r (deeds.Push i w) e in record {
+          none = t.none;
+          says = subst (λ k. IsStoreAt words r (next_step r) k word) at
+              (subst (IsStoreAt words r (next_step r) i) same t.says);
+        }
+    by (deeds.Act i w) e (at, same) =
+        let t = deed_tells words r (deeds.Act i w) e in record {
+          none = t.none;
+          says = subst (λ k. IsStoreAt words r (next_step r) k word) at
+              (subst (IsStoreAt words r (next_step r) i) same t.says);
+        }
+    by (deeds.Look i) e is = absurd is
+    by (deeds.Append x) e is = absurd is
+    by (deeds.Rest x) e is = absurd is
+
+-- a member whose next deed is an append is due to append
+pub append_due : (r : Running) → is_append (next_deed r) ≡ true → (r.replica.end ≡ None)
+    × (next_step r ≡ Append)
+append_due r due = by r.replica.end refl due
+  where
+    step : (s : Step) → next_step r ≡ s → is_append (deed_of r s) ≡ true → next_step r ≡ Append
+    step Append same e = same
+    step (Do a) same e = absurd (true≢false (sym e))
+    step (Look i c) same e = absurd (true≢false (sym e))
+    step (Push j c) same e = absurd (true≢false (sym e))
+
+    by : (o : Option End) → r.replica.end ≡ o → is_append (deed r o) ≡ true
+        → (r.replica.end ≡ None) × (next_step r ≡ Append)
+    by None none e = (none, step (next_step r) refl e)
+    by (Some end) ended e = absurd (true≢false (sym e))
+
+-- ---- what a member was told stays
+
+pub after_told : (word : ℕ) (r : Running) → told (after_step word r).replica ≡ told r.replica
+after_told word r =
+    ap told (settle_replica _ (took word r (next_step r))) ∙ step_told word r.replica (next_step r)
+
+pub appended_told : (o : Outcome) (r : Running) → told (appended_as o r).replica ≡ told r.replica
+appended_told outcomes.Ok r = after_told 0 r
+appended_told (outcomes.Failed why) r = refl
+
+pub appends_told : (os : List Outcome) (r q : Running) → HasAppended os r q
+    → told q.replica ≡ told r.replica
+appends_told [] r q same = ap (λ (x : Running). told x.replica) (sym same)
+appends_told (o ∷ os) r q (due, more) = appends_told os (appended_as o r) q more ∙ appended_told o r
+
+pub same_number : (r x : Running) → told x.replica ≡ told r.replica → number x ≡ number r
+same_number r x same = ap (λ (t : Told). t.number) same
+
+-- ---- programs
+
+-- one deed more
+pub deed_ran : (begun : Program) (words : List ℕ) (members : List Running) (m : ℕ) (o : Outcome)
+    (r : Running) → slice_get members m ≡ Some r → r.replica.end ≡ None
+    → IsRanFrom begun (record { members = members; table = words })
+    → IsRanFrom begun (record {
+      members = slice_set members m (after_deed (next_sight words r) o r (next_step r));
+      table = stored words r.replica (next_step r);
+    })
+unfolding ran
+deed_ran begun words members m o r there none (es, is) = (
+  es ++ e ∷ [],
+  sym (ran_on begun es (e ∷ []) ∙ ap (λ p. step_of p e) (sym is)
+      ∙ step_is (record { members = members; table = words }) e r there none),
+)
+  where
+    e : Move
+    e = record { member = m; outcome = o }
+
+-- appends, one after the other
+pub appends_ran : (begun : Program) (words : List ℕ) (os : List Outcome) (members : List Running) (m : ℕ)
+    (r q : Running) → HasAppended os r q → slice_get members m ≡ Some r
+    → IsRanFrom begun (record { members = members; table = words })
+    → IsRanFrom begun (record { members = slice_set members m q; table = words })
+appends_ran begun words [] members m r q same there ran =
+    subst (λ x. IsRanFrom begun (record { members = slice_set members m x; table = words })) same
+    (subst (λ l. IsRanFrom begun (record { members = l; table = words })) (sym (set_again members m r there))
+    ran)
+appends_ran begun words (o ∷ os) members m r q (due, more) there ran =
+    let (none, step) = append_due r due in
+    let x = appended_as o r in
+    let once : IsRanFrom begun (record { members = slice_set members m x; table = words }) =
+    subst (λ s. IsRanFrom begun (record {
+      members = slice_set members m (after_deed (sight words r.replica s) o r s);
+      table = stored words r.replica s;
+    })) step (deed_ran begun words members m o r there none ran) in
+    subst (λ l. IsRanFrom begun (record { members = l; table = words })) (set-set members m x q)
+    (appends_ran begun words os (slice_set members m x) m x q more
+    (replica_set members m x (slice_get_within members m r there)) once)
+
+-- appends, and then a deed
+pub deeds_ran : (begun : Program) (words cells : List ℕ) (os : List Outcome) (members : List Running) (m : ℕ)
+    (r q x : Running) → HasAppended os r q → slice_get members m ≡ Some r → q.replica.end ≡ None
+    → after_deed (next_sight words q) outcomes.Ok q (next_step q) ≡ x → stored words q.replica (next_step q)
+    ≡ cells
+    → IsRanFrom begun (record { members = members; table = words })
+    → IsRanFrom begun (record { members = slice_set members m x; table = cells })
+deeds_ran begun words cells os members m r q x more there none to stores ran =
+    let caught = appends_ran begun words os members m r q more there ran in
+    let here = replica_set members m q (slice_get_within members m r there) in
+    subst (λ l. IsRanFrom begun (record { members = l; table = cells })) (set-set members m q x)
+    (subst (λ t. IsRanFrom begun (record { members = slice_set (slice_set members m q) m x; table = t }))
+    stores
+    (subst (λ y. IsRanFrom begun
+    (record {
+      members = slice_set (slice_set members m q) m y;
+      table = stored words q.replica (next_step q);
+    })) to
+    (deed_ran begun words (slice_set members m q) m outcomes.Ok q here none caught)))

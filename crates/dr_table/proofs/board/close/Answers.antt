@@ -1,0 +1,33 @@
+use Rattle.std.proofs.Common.{◌≡◌, sym, ap, ◌∙◌, subst, map}
+use Rattle.std.specs.Prelude.{All, Some, slice_get}
+use Rattle.dr_program.specs.Program.{IsRanFrom, Program, begun_program}
+use Rattle.dr_table.specs.Cards.{AreSame, Cards, HasEnded}
+use Rattle.dr_table.specs.Rule.{number}
+use Rattle.dr_table.proofs.Hands.{board_opened, seat_knows}
+use Rattle.dr_table.proofs.Lists.{by_table}
+use Rattle.dr_table.proofs.Room.{whole}
+use Rattle.dr_table.proofs.board.close.Goals as goal
+
+pub returns-clause-ran : goal.returns-clause-ran
+returns-clause-ran c =
+    let final = c.close_with-closed.ensures.values.2 in
+    let s = final.0 in
+    let kept = final.1.0 in
+    let shared = c.board.inside.table.shared in
+    let items = c.hand.inside.members.items in
+    let is = ap (λ (w : Cards). w.members) c.hand.view_is in
+    let knows = seat_knows c.hand.inside.seat.me.0 items c.hand.invariant.ahead
+    (subst (All HasEnded) (sym is) c.requires.ended) in
+    let mine : slice_get s.views c.hand.inside.seat.id ≡ Some items =
+    by_table s.views c.hand.inside.seat.id c.hand.inside.seat.me.0 final.1.1 ∙ ap (λ v. Some v) knows in
+    let all : AreSame shared.key.items items =
+    ap (map number) is ∙ c.requires.all ∙ ap (map number)
+    (sym (ap (λ (w : Cards). w.members) c.board.view_is)) in
+    let same = whole shared.key.items s.words s.views c.hand.inside.seat.id items mine all kept in
+    let begins = board_opened (record { table = shared.table_id; members = shared.key.items }) c.args.board
+    c.board.view_is kept.opening c.board.invariant.1 in (
+      s.words,
+      subst (λ (b : Program). IsRanFrom b (record { members = items; table = s.words })) (sym begins)
+          (subst (λ l. IsRanFrom (begun_program kept.opening.group kept.opening.setups)
+          (record { members = l; table = s.words })) same kept.ran),
+    )

@@ -1,0 +1,5 @@
+pub mod Rule
+pub mod Steps
+pub mod Cards
+pub mod Inside
+pub mod Deeds

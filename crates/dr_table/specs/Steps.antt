@@ -1,0 +1,79 @@
+-- What steps make of the members of a seat, and what they tell.
+use Rattle.std.specs.Prelude.{◌≡◌, ℕ, true, List, [], ◌∷◌, length, slice_get, slice_set, None, Some}
+use Rattle.dr_age.specs.Sound.{IsSound}
+use Rattle.dr_machine.specs.Group.{Group}
+use Rattle.dr_member.specs.Deeds.{is_append}
+use Rattle.dr_program.specs.declared.outcome.Outcome.{Outcome}
+use Rattle.dr_program.specs.Program.{Program, appended_as, next_sight}
+use Rattle.dr_program.specs.Running.{Running, after_step, next_deed}
+use Rattle.dr_table.specs.Rule.{number}
+
+-- r is a member of this sound program of the group
+pub record IsOfProgram (g : Group) (p : Program) (r : Running) : Type 0 where
+  pub sound : IsSound g p
+  pub there : slice_get p.members (number r) ≡ Some r
+
+-- r is a member of some such program
+abbrev pub IsReachedMember : Running → Type 0
+IsReachedMember r = (g : Group) × (p : Program) × IsOfProgram g p r
+
+-- and over the table of that program, its next step sees this word
+abbrev pub MayFind : Running → ℕ → Type 0
+MayFind r word = (g : Group) × (p : Program) × IsOfProgram g p r × (next_sight p.table r ≡ word)
+
+-- the member at this place, now r, has looked at this word
+abbrev pub Looked : ℕ → Running → List Running → ℕ → List Running → Type 0
+Looked at r v word w = (w ≡ slice_set v at (after_step word r)) × MayFind r word
+
+-- the member at this place, now r, has stored the word of its deed
+abbrev pub Stored : ℕ → Running → List Running → List Running → Type 0
+Stored at r v w = w ≡ slice_set v at (after_step 0 r)
+
+-- q is r after these appends
+abbrev pub HasAppended : List Outcome → Running → Running → Type 0
+HasAppended [] r q = r ≡ q
+HasAppended (o ∷ os) r q = (is_append (next_deed r) ≡ true) × HasAppended os (appended_as o r) q
+
+-- q is r after appends that no step has counted yet
+abbrev pub IsAhead : Running → Running → Type 0
+IsAhead r q = (os : List Outcome) × HasAppended os r q
+
+-- so it is place by place
+pub record AreAhead (v members : List Running) : Type 0 where
+  pub all : length v ≡ length members
+  pub each : (k : ℕ) (r q : Running) → slice_get v k ≡ Some r → slice_get members k ≡ Some q → IsAhead r q
+
+-- a member for places at which nobody stands
+abbrev pub nobody : Running
+nobody = record {
+  replica = record {
+    roster = 0;
+    window = 0;
+    banks = 0;
+    messages = [];
+    totals = [];
+    rows = record { members = 0; columns = 0; me = 0; words = []; sent = []; frozen = [] };
+    view = 0;
+    members = 0;
+    suspects = 0;
+    counts = [];
+    items = [];
+    base = 0;
+    sent = [];
+    next = 0;
+    history = [];
+    room = 0;
+    logged = 0;
+    durable = 0;
+    turns = 0;
+    acts = 0;
+    end = None;
+  };
+  place = record { part = 0; row = 0; column = 0 };
+  limit = 0;
+  waits = record { limit = 0; counts = []; beats = [] };
+  crashes = [];
+  suspicions = [];
+  pushes = 0;
+  failed = None;
+}

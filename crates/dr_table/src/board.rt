@@ -1,0 +1,66 @@
+//! The board of an age: its words, dealt and closed.
+ghost use Rattle.std.specs.Prelude.{◌≡◌, All, IfOk, ℕ, List};
+ghost use Rattle.dr_program.specs.Program.{IsRanFrom, begun_program};
+ghost use Rattle.dr_table.specs.Cards.{AreSame, HasEnded, opened};
+ghost use Rattle.dr_table.specs.Rule.{IsDealt};
+
+use crate::hand::Hand;
+use crate::rule::{Ruled, View};
+use atomic_table::Table;
+use dr_member::Member;
+use std::alloc::{AllocError, Global};
+use std::marker::Model;
+
+/// The words of an age, over which its members take their deeds. Contracts see it as the table with the
+/// members that were dealt.
+#[derive(Drop)]
+pub struct Board {
+    pub(crate) table: Table<u64, View, Vec<Member>, Ruled, Global>,
+}
+
+impl Model for Board {
+    ghost use Rattle.std.specs.Prelude.{◌≡◌};
+    ghost use Rattle.dr_table.specs.Cards.{AreOf, Cards};
+
+    ghost Value = { Cards };
+
+    ghost view = { λ b. record { table = b.table.shared.table_id; members = b.table.shared.key.items } };
+
+    ghost invariant = { λ b. (b.table.shared.table_id.slots ≡ 0)
+        × AreOf b.table.shared.table_id.words b.table.shared.key.items };
+}
+
+/// The board of an age, with the members of its group before their first deeds, and the hand of all of
+/// them.
+///
+/// # Errors
+///
+/// Want of memory alone; the members are given up then.
+pub fn deal(alloc: Global, members: Vec<Member>) -> Result<(Board, Hand), AllocError>
+    requires dealt { IsDealt members.items }
+    ensures board { IfOk result (λ r. r.0.members ≡ members.items) }
+    ensures opened { IfOk result (λ r. (d : IsDealt members.items)
+        → opened r.0 ≡ begun_program d.group d.setups) }
+    ensures hand { IfOk result (λ r. (r.1.table ≡ r.0.table) × (r.1.members ≡ members.items)) }
+{
+    let words = vec![in alloc; 0u64; members[0].table_words()]?;
+    let (table, seat) = Table::of_words(alloc, words.as_slice(), &members)?;
+    Ok((Board { table }, Hand { seat, members }))
+}
+
+/// Ends an age: the hand holds all members of the board, in the order in which they were dealt, and all
+/// have ended. They are those of a program that has come from the board's by some deeds.
+pub fn close(board: Board, hand: Hand) -> Vec<Member>
+    requires board { hand.table ≡ board.table }
+    requires all { AreSame board.members hand.members }
+    requires ended { All HasEnded hand.members }
+    ensures members { result.items ≡ hand.members }
+    ensures ran { (words : List ℕ)
+        × IsRanFrom (opened board) (record { members = result.items; table = words }) }
+{
+    let Board { table } = board;
+    let Hand { seat, members } = hand;
+    let closed = table.close_with(seat);
+    closed.free();
+    members
+}

@@ -1,0 +1,214 @@
+//! Hands of members, and the steps that these take.
+ghost use Rattle.std.specs.Prelude.{◌≡◌, ◌≤◌, ◌<◌, ◌+◌, ◌-◌, ◌++◌, true, IfErr, IfOk, drop, length, slice_get, slice_set, Some, take, vec_capacity, vec_len};
+ghost use Rattle.dr_member.specs.Deeds.{is_act, is_append, is_look, is_push};
+ghost use Rattle.dr_program.specs.Running.{Running, broken_off, next_deed};
+ghost use Rattle.dr_table.specs.Cards.{AtPlace, HasFewerLeft, HasGoneOn, HasLooked};
+ghost use Rattle.dr_table.specs.Steps.{IsReachedMember};
+
+use crate::board::Board;
+use crate::moves::{cut_at, look_at, store_at};
+use crate::rule::{Counts, Gathers, View};
+use atomic_table::Seat;
+use dr_member::{Deed, LogWhy, Member};
+use std::alloc::{AllocError, Global};
+use std::marker::{Brand, Model};
+
+/// Some members of an age, and the seat from which they take their steps. Contracts see it as the table
+/// of its board with these members.
+#[derive(Drop)]
+pub struct Hand {
+    pub(crate) seat: Seat<u64, View>,
+    pub(crate) members: Vec<Member>,
+}
+
+impl Model for Hand {
+    ghost use Rattle.dr_table.specs.Cards.{Cards};
+
+    ghost Value = { Cards };
+
+    ghost use Rattle.dr_table.specs.Inside.{IsInside, cards_of};
+
+    ghost view = { cards_of };
+
+    ghost invariant = { IsInside };
+}
+
+impl Hand {
+    /// The number of members.
+    pub fn len(&self) -> usize
+        ensures { result ≡ length self.now.members }
+    {
+        self.members.len()
+    }
+
+    /// The member at a place.
+    pub fn member(&self, i: usize) -> &Member
+        requires within { i < length self.now.members }
+        ensures there { slice_get self.now.members i ≡ Some result.now }
+        ensures reached { IsReachedMember result.now }
+    {
+        &self.members[i]
+    }
+
+    /// The member at a place takes its next deed, a look.
+    #[inline(always)]
+    pub fn look(&mut self, board: &Board, i: usize)
+        requires board { self.old.table ≡ board.now.table }
+        requires within { i < length self.old.members }
+        requires deed { AtPlace self.old.members i (λ r. is_look (next_deed r) ≡ true) }
+        ensures table { self.new.table ≡ self.old.table }
+        ensures members { HasLooked self.old.members i self.new.members }
+        ensures falls { HasFewerLeft self.old.members i self.new.members }
+    {
+        let member = &self.members[i];
+        let Deed::Look(word) = member.next() else {
+            unreachable!()
+        };
+        let found = look_at::<Brand>(board, &mut self.seat, i, member, word);
+        let member = &mut self.members[i];
+        member.looked(found);
+    }
+
+    /// The member at a place takes its next deed, a push.
+    #[inline(always)]
+    pub fn push(&mut self, board: &Board, i: usize)
+        requires board { self.old.table ≡ board.now.table }
+        requires within { i < length self.old.members }
+        requires deed { AtPlace self.old.members i (λ r. is_push (next_deed r) ≡ true) }
+        ensures table { self.new.table ≡ self.old.table }
+        ensures members { HasGoneOn self.old.members i self.new.members }
+        ensures falls { HasFewerLeft self.old.members i self.new.members }
+    {
+        let member = &self.members[i];
+        let Deed::Push(word, new) = member.next() else {
+            unreachable!()
+        };
+        store_at::<Brand>(board, &mut self.seat, i, member, word, new);
+        let member = &mut self.members[i];
+        member.pushed();
+    }
+
+    /// The member at a place takes its next deed, an act. An append that it made before is counted with
+    /// it.
+    #[inline(always)]
+    pub fn act(&mut self, board: &Board, i: usize)
+        requires board { self.old.table ≡ board.now.table }
+        requires within { i < length self.old.members }
+        requires deed { AtPlace self.old.members i (λ r. is_act (next_deed r) ≡ true) }
+        ensures table { self.new.table ≡ self.old.table }
+        ensures members { HasGoneOn self.old.members i self.new.members }
+        ensures falls { HasFewerLeft self.old.members i self.new.members }
+    {
+        let member = &self.members[i];
+        let Deed::Act(word, new) = member.next() else {
+            unreachable!()
+        };
+        store_at::<Brand>(board, &mut self.seat, i, member, word, new);
+        let member = &mut self.members[i];
+        member.acted();
+    }
+
+    /// The log of the member at a place has the record that it appended.
+    pub fn appended(&mut self, i: usize)
+        requires within { i < length self.old.members }
+        requires deed { AtPlace self.old.members i (λ r. is_append (next_deed r) ≡ true) }
+        ensures table { self.new.table ≡ self.old.table }
+        ensures members { HasGoneOn self.old.members i self.new.members }
+        ensures falls { HasFewerLeft self.old.members i self.new.members }
+    {
+        let member = &mut self.members[i];
+        member.appended();
+    }
+
+    /// The append to its log failed, for this reason.
+    pub fn append_failed(&mut self, i: usize, why: &LogWhy)
+        requires within { i < length self.old.members }
+        requires deed { AtPlace self.old.members i (λ r. is_append (next_deed r) ≡ true) }
+        ensures table { self.new.table ≡ self.old.table }
+        ensures members { (r : Running) → slice_get self.old.members i ≡ Some r
+            → self.new.members ≡ slice_set self.old.members i (broken_off why.now r) }
+        ensures falls { HasFewerLeft self.old.members i self.new.members }
+    {
+        let member = &mut self.members[i];
+        member.append_failed(why);
+    }
+
+    /// Two hands of the same board: the first with the first `at` members, the second with the others.
+    ///
+    /// # Errors
+    ///
+    /// Want of memory alone; the hand is as before then.
+    pub fn split(
+        self,
+        alloc: Global,
+        board: &Board,
+        at: usize,
+    ) -> Result<(Hand, Hand), (Hand, AllocError)>
+        requires board { self.table ≡ board.now.table }
+        requires at { at ≤ length self.members }
+        ensures tables { IfOk result (λ r. (r.0.table ≡ board.now.table) × (r.1.table ≡ board.now.table)) }
+        ensures members { IfOk result (λ r.
+            (r.0.members ≡ take at self.members) × (r.1.members ≡ drop at self.members)) }
+        ensures error { IfErr result (λ r. r.0 ≡ self) }
+    {
+        let Hand {
+            mut seat,
+            mut members,
+        } = self;
+        let Ok(mut tail) = Vec::with_capacity(alloc, members.capacity()) else {
+            return Err((Hand { seat, members }, AllocError));
+        };
+        move_tail(&mut members, &mut tail, at);
+        let other = cut_at::<Brand>(board, &mut seat, at);
+        Ok((
+            Hand { seat, members },
+            Hand {
+                seat: other,
+                members: tail,
+            },
+        ))
+    }
+}
+
+/// One hand of the same board: the members of `a`, then those of `b`.
+pub fn gather_hands(board: &Board, a: Hand, b: Hand) -> Hand
+    requires first { a.table ≡ board.now.table }
+    requires second { b.table ≡ board.now.table }
+    ensures table { result.table ≡ board.now.table }
+    ensures members { result.members ≡ a.members ++ b.members }
+{
+    let Hand {
+        mut seat,
+        mut members,
+    } = a;
+    let Hand {
+        seat: other,
+        members: mut more,
+    } = b;
+    board.table.shared.join_seat::<Gathers>(&mut seat, other);
+    board.table.shared.load::<Counts>(&mut seat, 0);
+    if members.is_empty() {
+        return Hand {
+            seat,
+            members: more,
+        };
+    }
+    members.append(&mut more).unwrap();
+    Hand { seat, members }
+}
+
+/// Moves the members from a place on, in their order, to the end of another list that has room for them.
+fn move_tail(from: &mut Vec<Member>, into: &mut Vec<Member>, at: usize)
+    requires at { at ≤ length from.old.items }
+    requires room { vec_len into.old + (length from.old.items - at) ≤ vec_capacity into.old }
+    ensures from { (from.new.items ≡ take at from.old.items)
+        × (vec_capacity from.new ≡ vec_capacity from.old) }
+    ensures into { (into.new.items ≡ into.old.items ++ drop at from.old.items)
+        × (vec_capacity into.new ≡ vec_capacity into.old) }
+{
+    if from.len() > at {
+        let last = from.take_last();
+        move_tail(from, into, at);
+        into.push_reserved(last);
+    }
+}

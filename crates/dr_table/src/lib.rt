@@ -1,0 +1,15 @@
+//! The table of an age that runs in threads: its words, and the hands whose members take their deeds
+//! over them, each deed as one step on a word.
+//!
+//! A rule holds between any two steps, whoever takes them: the words, with the members of all hands, are
+//! a program that the members have come to by some deeds from the beginning of their age. So whatever
+//! order the threads made, it is one of the orders of which the laws of programs speak.
+#![tactic(auto)]
+
+mod board;
+mod hand;
+mod moves;
+mod rule;
+
+pub use board::{Board, close, deal};
+pub use hand::{Hand, gather_hands};

@@ -1,0 +1,75 @@
+//! The steps on the table, one for each kind.
+ghost use Rattle.std.specs.Prelude.{◌≡◌, ◌<◌, [], drop, slice_get, Some, take};
+ghost use Rattle.dr_program.specs.declared.deed.Deed.TheVariants.{Look};
+ghost use Rattle.dr_program.specs.Running.{Running, next_deed};
+ghost use Rattle.dr_table.specs.Deeds.{IsStore};
+ghost use Rattle.dr_table.specs.Steps.{IsAhead, Looked, Stored};
+
+use crate::board::Board;
+use crate::rule::{Cuts, Looks, Place, Stores, View};
+use atomic_table::Seat;
+use dr_member::Member;
+
+/// The member at a place of the seat's hand, which may have made appends since the seat's last step,
+/// looks at a word.
+#[inline(always)]
+pub(crate) fn look_at<J: Place>(
+    board: &Board,
+    seat: &mut Seat<u64, View>,
+    i: usize,
+    member: &Member,
+    word: usize,
+) -> u64
+    requires at { i ≡ J.at }
+    requires now { member.now ≡ J.now }
+    requires table { seat.old.table_id ≡ board.now.table }
+    requires slots { seat.old.me.1 ≡ [] }
+    requires word { word < board.now.table.words }
+    requires there { (r : Running) × (slice_get seat.old.me.0 i ≡ Some r) × IsAhead r member.now }
+    requires deed { next_deed member.now ≡ Look word }
+    ensures table { seat.new.table_id ≡ seat.old.table_id }
+    ensures looked { Looked i member.now seat.old.me.0 result seat.new.me.0 }
+    ensures slots { seat.new.me.1 ≡ [] }
+{
+    board.table.shared.load::<Looks<J>>(seat, word)
+}
+
+/// The same for a deed that stores a word.
+#[inline(always)]
+pub(crate) fn store_at<J: Place>(
+    board: &Board,
+    seat: &mut Seat<u64, View>,
+    i: usize,
+    member: &Member,
+    word: usize,
+    new: u64,
+)
+    requires at { i ≡ J.at }
+    requires now { member.now ≡ J.now }
+    requires table { seat.old.table_id ≡ board.now.table }
+    requires slots { seat.old.me.1 ≡ [] }
+    requires word { word < board.now.table.words }
+    requires there { (r : Running) × (slice_get seat.old.me.0 i ≡ Some r) × IsAhead r member.now }
+    requires deed { IsStore word new (next_deed member.now) }
+    ensures table { seat.new.table_id ≡ seat.old.table_id }
+    ensures stored { Stored i member.now seat.old.me.0 seat.new.me.0 }
+    ensures slots { seat.new.me.1 ≡ [] }
+{
+    board.table.shared.store::<Stores<J>>(seat, word, new);
+}
+
+/// Cuts the hand of a seat at a place. The new seat has what stands from there on.
+pub(crate) fn cut_at<J: Place>(
+    board: &Board,
+    seat: &mut Seat<u64, View>,
+    at: usize,
+) -> Seat<u64, View>
+    requires at { at ≡ J.at }
+    requires table { seat.old.table_id ≡ board.now.table }
+    requires slots { seat.old.me.1 ≡ [] }
+    requires words { 0 < board.now.table.words }
+    ensures seat { (seat.new.table_id ≡ board.now.table) × (seat.new.me ≡ (take at seat.old.me.0, [])) }
+    ensures other { (result.table_id ≡ board.now.table) × (result.me ≡ (drop at seat.old.me.0, [])) }
+{
+    board.table.shared.split_seat::<Cuts<J>>(seat)
+}
