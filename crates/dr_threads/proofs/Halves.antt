@@ -1,0 +1,158 @@
+-- The answers of two halves are the answer of both.
+use Rattle.std.proofs.Common.{◌≡◌, refl, sym, ap, ◌∙◌, subst, inl, inr, ◌⊎◌, ℕ, zero, suc, ◌+◌, List, [], ◌∷◌, ◌++◌, length, length-append, map, take, drop, le_refl, arith}
+use Rattle.std.specs.Prelude.{All, Option, Some, slice_get}
+use Rattle.std.proofs.lemmas.List.{map-append}
+use Rattle.std.proofs.lemmas.Option.{same_Some, slice_get_within}
+use Rattle.atomic_table.specs.Seated.{TableId}
+use Rattle.dr_disk.specs.Disk.{Told}
+use Rattle.dr_history_laws.proofs.Lists.{slice_get-some}
+use Rattle.dr_log.specs.State.{LogState}
+use Rattle.dr_logged.specs.Served.{HaveServed}
+use Rattle.dr_program.specs.Running.{Running}
+use Rattle.dr_table.specs.Cards.{Cards, HasEnded}
+use Rattle.dr_table.specs.Rule.{number}
+use Rattle.dr_table.proofs.Lists.{at_drop, at_take}
+use Rattle.dr_threads.specs.Course.{HaveRun}
+use Rattle.dr_threads.specs.Logs.{AreFor, AreLonger, IsLonger}
+use Rattle.dr_threads.proofs.Runs.{as_many}
+
+-- ---- lists of one length
+
+-- what stands at one place of two lists, each of two parts, stands so in the first parts or in the second
+pairs : {X Y : Type 0} (xs us : List X) (ys vs : List Y) (k : ℕ) (x : X) (y : Y) → length xs ≡ length ys
+    → slice_get (xs ++ us) k ≡ Some x → slice_get (ys ++ vs) k ≡ Some y
+    → ((slice_get xs k ≡ Some x) × (slice_get ys k ≡ Some y))
+    ⊎ ((j : ℕ) × (slice_get us j ≡ Some x) × (slice_get vs j ≡ Some y))
+pairs [] us [] vs k x y e a b = inr (k, a, b)
+pairs [] us (z ∷ zs) vs k x y e a b = absurd (omega arith)
+pairs (w ∷ ws) us [] vs k x y e a b = absurd (omega arith)
+pairs (w ∷ ws) us (z ∷ zs) vs zero x y e a b = inl (a, b)
+pairs (w ∷ ws) us (z ∷ zs) vs (suc k) x y e a b = elim (pairs ws us zs vs k x y (omega arith) a b) [
+  | inl first ↦ inl first
+  | inr second ↦ inr second
+]
+
+triples : {X : Type 0} (xs us ys vs : List X) (rs qs : List Running) (k : ℕ) (x y : X) (r : Running)
+    → length xs ≡ length ys → length xs ≡ length rs → slice_get (xs ++ us) k ≡ Some x
+    → slice_get (ys ++ vs) k ≡ Some y → slice_get (rs ++ qs) k ≡ Some r
+    → ((slice_get xs k ≡ Some x) × (slice_get ys k ≡ Some y) × (slice_get rs k ≡ Some r))
+    ⊎ ((j : ℕ) × (slice_get us j ≡ Some x) × (slice_get vs j ≡ Some y) × (slice_get qs j ≡ Some r))
+triples [] us [] vs [] qs k x y r e f a b c = inr (k, a, b, c)
+triples [] us (z ∷ zs) vs rs qs k x y r e f a b c = absurd (omega arith)
+triples [] us [] vs (t ∷ ts) qs k x y r e f a b c = absurd (omega arith)
+triples (w ∷ ws) us [] vs rs qs k x y r e f a b c = absurd (omega arith)
+triples (w ∷ ws) us (z ∷ zs) vs [] qs k x y r e f a b c = absurd (omega arith)
+triples (w ∷ ws) us (z ∷ zs) vs (t ∷ ts) qs zero x y r e f a b c = inl (a, b, c)
+triples (w ∷ ws) us (z ∷ zs) vs (t ∷ ts) qs (suc k) x y r e f a b c =
+    elim (triples ws us zs vs ts qs k x y r (omega arith) (omega arith) a b c) [
+      | inl first ↦ inl first
+      | inr second ↦ inr second
+    ]
+
+all_append : (P : Running → Type 0) (rs qs : List Running) → All P rs → All P qs → All P (rs ++ qs)
+all_append P [] qs a b k d h = b k d h
+all_append P (r ∷ rs) qs a b zero d h = a 0 d (omega arith)
+all_append P (r ∷ rs) qs a b (suc k) d h = all_append P rs qs (λ j e l. a (suc j) e (omega arith)) b k d
+    (omega arith)
+
+-- ---- answers
+
+module _ {D : Type 0} (told : D → Option Told) (faults : D → ℕ) where
+  -- both halves have run
+  pub both_run : (table : TableId) (before after : List Running) (logs more : List (LogState D))
+      (a b both : Cards) (news newer all : List (LogState D)) → length logs ≡ length before
+      → length more ≡ length after → both.table ≡ table → both.members ≡ a.members ++ b.members
+      → all ≡ news ++ newer → HaveRun told faults table before logs a news
+      → HaveRun told faults table after more b newer
+      → HaveRun told faults table (before ++ after) (logs ++ more) both all
+  both_run table before after logs more a b both news newer all m n home is to h k = record {
+    over = record {
+      home = home;
+      same = ap (map number) is ∙ map-append number a.members b.members
+          ∙ (λ z. h.over.same z ++ k.over.same z)
+          ∙ sym (map-append number before after);
+      ended = subst (λ l. All HasEnded l) (sym is)
+          (all_append HasEnded a.members b.members h.over.ended k.over.ended);
+    };
+    all = ap length to ∙ length-append news newer ∙ (λ z. h.all z + k.all z) ∙ sym (length-append logs more);
+    served = subst (λ l. HaveServed told faults (logs ++ more) l both.members) (sym to)
+        (subst (λ l. HaveServed told faults (logs ++ more) (news ++ newer) l) (sym is)
+        (λ i base log r from there member.
+        elim (triples logs more news newer a.members b.members i base log r (sym h.all)
+        (m ∙ sym (as_many before a.members h.over.same)) from there member) [
+          | inl first ↦ h.served i base log r first.0 first.1 first.2
+          | inr second ↦ k.served second.0 base log r second.1 second.2 second.3
+        ]));
+  }
+
+  -- logs that have served their members are longer
+  pub run_longer : (table : TableId) (before : List Running) (logs : List (LogState D)) (a : Cards)
+      (news : List (LogState D)) → length logs ≡ length before → HaveRun told faults table before logs a news
+      → AreLonger told faults logs news
+  run_longer table before logs a news m h = record {
+    all = h.all;
+    each = λ k old new from there.
+        let (r, member) = slice_get-some a.members k
+        (omega (arith, slice_get_within logs k old from, m, as_many before a.members h.over.same)) in
+        let come = h.served k old new r from there member in
+        record { entries = come.more; votes = come.votes; moments = inr come.moments; later = come.later };
+  }
+
+  pub both_longer : (logs more news newer all : List (LogState D)) → all ≡ news ++ newer
+      → AreLonger told faults logs news → AreLonger told faults more newer → AreLonger told faults
+      (logs ++ more) all
+  both_longer logs more news newer all to a b = record {
+    all = ap length to ∙ length-append news newer ∙ (λ z. a.all z + b.all z) ∙ sym (length-append logs more);
+    each = λ k old new from there. elim (pairs logs more news newer k old new (sym a.all) from
+        (ap (λ l. slice_get l k) (sym to) ∙ there)) [
+          | inl first ↦ a.each k old new first.0 first.1
+          | inr second ↦ b.each second.0 old new second.1 second.2
+        ];
+  }
+
+  -- logs as they were
+  pub same_longer : (logs : List (LogState D)) → AreLonger told faults logs logs
+  same_longer logs = record {
+    all = refl;
+    each = λ k old new from there.
+        let is = same_Some old new (sym from ∙ there) in
+        subst (λ x. IsLonger told faults old x) is
+        (record { entries = ([], nothing old.entries); votes = refl; moments = inl refl; later = le_refl _ });
+  }
+    where
+      nothing : {X : Type 0} (xs : List X) → xs ≡ xs ++ []
+      nothing [] = refl
+      nothing (x ∷ xs) = ap (λ l. x ∷ l) (nothing xs)
+
+-- ---- the two halves of logs and members
+
+pub for_take : {D : Type 0} (n : ℕ) (logs : List (LogState D)) (members : List Running) → AreFor logs members
+    → AreFor (take n logs) (take n members)
+for_take n logs members are = record {
+  all = lengths n logs members are.all;
+  each = λ k log r there here. are.each k log r (at_take n logs k log there).1 (at_take n members k r here).1;
+}
+  where
+    lengths : {X : Type 0} (n : ℕ) (xs : List X) (rs : List Running) → length xs ≡ length rs
+        → length (take n xs) ≡ length (take n rs)
+    lengths zero xs rs e = refl
+    lengths (suc n) [] [] e = refl
+    lengths (suc n) [] (y ∷ ys) e = absurd (omega arith)
+    lengths (suc n) (x ∷ xs) [] e = absurd (omega arith)
+    lengths (suc n) (x ∷ xs) (y ∷ ys) e = ap suc (lengths n xs ys (omega arith))
+
+pub for_drop : {D : Type 0} (n : ℕ) (logs : List (LogState D)) (members : List Running) → AreFor logs members
+    → AreFor (drop n logs) (drop n members)
+for_drop n logs members are = record {
+  all = lengths n logs members are.all;
+  each = λ k log r there here.
+      are.each (n + k) log r (sym (at_drop n logs k) ∙ there) (sym (at_drop n members k) ∙ here);
+}
+  where
+    lengths : {X : Type 0} (n : ℕ) (xs : List X) (rs : List Running) → length xs ≡ length rs
+        → length (drop n xs) ≡ length (drop n rs)
+    lengths zero xs rs e = e
+    lengths (suc n) [] [] e = refl
+    lengths (suc n) [] (y ∷ ys) e = absurd (omega arith)
+    lengths (suc n) (x ∷ xs) [] e = absurd (omega arith)
+    lengths (suc n) (x ∷ xs) (y ∷ ys) e = lengths n xs ys (omega arith)

@@ -1,0 +1,96 @@
+-- The run of one member, deed by deed.
+use Rattle.std.proofs.Common.{◌≡◌, refl, sym, ap, ◌∙◌, subst, ℕ, zero, suc, ◌<◌, true, false, List, [], ◌∷◌, length, map, true≢false, arith}
+use Rattle.std.specs.Prelude.{All, IsTrue, Option, None, Some, is_some, slice_get, slice_set, sum_by}
+use Rattle.std.proofs.lemmas.List.{length-map}
+use Rattle.std.proofs.lemmas.Option.{same_Some}
+use Rattle.dr_disk.specs.Disk.{Told}
+use Rattle.dr_entry.specs.declared.end.End.{End}
+use Rattle.dr_log.specs.State.{LogState}
+use Rattle.dr_logged.specs.Served.{AppendsWell, HasServed, IsReady, is_append}
+use Rattle.dr_logged.proofs.Serving.{other_ready, other_served}
+use Rattle.dr_program.specs.Form.{IsRunningMember}
+use Rattle.dr_program.specs.Running.{Running, after_step, next_step}
+use Rattle.dr_age.proofs.Sound.{appends_well}
+use Rattle.dr_turn.specs.Work.{deeds_left}
+use Rattle.dr_table.specs.Cards.{AreSame, HasEnded, HasFewerLeft}
+use Rattle.dr_table.specs.Rule.{number}
+use Rattle.dr_table.specs.Steps.{IsReachedMember}
+use Rattle.dr_table.proofs.Deeds.{after_told, same_number}
+use Rattle.dr_threads.specs.Course.{HasGone}
+
+-- ---- a member that is reached
+
+-- what it appends is a valid record
+pub reached_well : (r : Running) → IsReachedMember r → AppendsWell r
+reached_well r (g, p, is) = appends_well g p (number r) r is.sound is.there
+
+pub reached_form : (r : Running) → IsReachedMember r → IsRunningMember r
+reached_form r (g, p, is) = is.sound.form.form (number r) r is.there
+
+-- ---- going on
+
+module _ {D : Type 0} (told : D → Option Told) (faults : D → ℕ) where
+  pub gone_none : (rs : List Running) (log : LogState D) → HasGone told faults rs log rs log
+  gone_none rs log = record { same = refl; ready = λ is. is; served = λ base is. is }
+
+  pub gone_more : (rs qs ps : List Running) (log new newer : LogState D) → HasGone told faults rs log qs new
+      → HasGone told faults qs new ps newer → HasGone told faults rs log ps newer
+  gone_more rs qs ps log new newer a b = record {
+    same = b.same ∙ a.same;
+    ready = λ is. b.ready (a.ready is);
+    served = λ base is. b.served base (a.served base is);
+  }
+
+  -- the one member is x now
+  pub gone_by : (rs qs : List Running) (r x : Running) (log new : LogState D) → length rs ≡ 1
+      → slice_get rs 0 ≡ Some r → qs ≡ slice_set rs 0 x → number x ≡ number r
+      → (IsReady log r → IsReady new x)
+      → ((base : LogState D) → HasServed told faults base log r → HasServed told faults base new x)
+      → HasGone told faults rs log qs new
+  gone_by [] qs r x log new one there to same ready served = absurd (omega arith)
+  gone_by (y ∷ z ∷ zs) qs r x log new one there to same ready served = absurd (omega arith)
+  gone_by (y ∷ []) qs r x log new one there to same ready served = record {
+    same = ap (map number) to ∙ ap (λ n. n ∷ []) (same ∙ ap number (sym (same_Some y r there)));
+    ready = λ is q here. subst (IsReady new) (now q here) (ready (is r there));
+    served = λ base is q here. subst (HasServed told faults base new) (now q here) (served base (is r there));
+  }
+    where
+      now : (q : Running) → slice_get qs 0 ≡ Some q → x ≡ q
+      now q here = same_Some x q (sym (ap (λ l. slice_get l 0) to) ∙ here)
+
+  -- by a step that is no append
+  pub gone_step : (rs qs : List Running) (r : Running) (word : ℕ) (log : LogState D) → length rs ≡ 1
+      → slice_get rs 0 ≡ Some r → IsReachedMember r → is_append (next_step r) ≡ false
+      → qs ≡ slice_set rs 0 (after_step word r) → HasGone told faults rs log qs log
+  gone_step rs qs r word log one there reached other to =
+      gone_by rs qs r (after_step word r) log log one there to
+      (same_number r (after_step word r) (after_told word r))
+      (other_ready log word r other)
+      (λ base. other_served told faults base log word r other (reached_form r reached).replica.logged)
+
+-- ---- fewer deeds left
+
+pub left_falls : (rs qs : List Running) → length rs ≡ 1 → length qs ≡ 1 → HasFewerLeft rs 0 qs
+    → sum_by deeds_left qs < sum_by deeds_left rs
+left_falls [] qs one too fewer = absurd (omega arith)
+left_falls (r ∷ s ∷ rs) qs one too fewer = absurd (omega arith)
+left_falls (r ∷ []) [] one too fewer = absurd (omega arith)
+left_falls (r ∷ []) (q ∷ s ∷ qs) one too fewer = absurd (omega arith)
+left_falls (r ∷ []) (q ∷ []) one too fewer = let less = fewer r q refl refl in omega (arith, less)
+
+-- the same members are as many
+pub as_many : (rs qs : List Running) → AreSame rs qs → length qs ≡ length rs
+as_many rs qs same = sym (length-map qs number) ∙ ap length same ∙ length-map rs number
+
+-- the one member has ended
+pub one_ended : (rs : List Running) (r : Running) → length rs ≡ 1 → slice_get rs 0 ≡ Some r → HasEnded r
+    → All HasEnded rs
+one_ended [] r one there ended k d within = absurd (omega arith)
+one_ended (x ∷ y ∷ ys) r one there ended k d within = absurd (omega arith)
+one_ended (x ∷ []) r one there ended zero d within = subst HasEnded (sym (same_Some x r there)) ended
+one_ended (x ∷ []) r one there ended (suc k) d within = absurd (omega arith)
+
+-- a member that tells an end has ended
+pub ended_by : (r : Running) (o : Option End) → o ≡ r.replica.end → is_some o ≡ true → HasEnded r
+ended_by r None is some = absurd (true≢false (sym some))
+ended_by r (Some end) is some = subst (λ x. IsTrue (is_some x)) is refl

@@ -1,0 +1,3 @@
+pub mod Logs
+pub mod Course
+pub mod Answers

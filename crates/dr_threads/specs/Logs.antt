@@ -1,0 +1,38 @@
+-- The logs of a hand's members, before a run and behind it.
+use Rattle.std.specs.Prelude.{◌≡◌, ◌⊎◌, ◌≤◌, ℕ, false, List, ◌++◌, length, slice_get, Option, None, Some}
+use Rattle.dr_disk.specs.Disk.{Told}
+use Rattle.dr_disk.specs.Images.{Goes}
+use Rattle.dr_entry.specs.declared.entry.Entry.{Entry}
+use Rattle.dr_log.specs.Standing.{LosesNone}
+use Rattle.dr_log.specs.State.{LogState}
+use Rattle.dr_program.specs.Running.{Running}
+
+-- a log has all of its member's history, as the age opens, and no append to it has failed
+pub record IsFor {D : Type 0} (log : LogState D) (r : Running) : Type 0 where
+  pub entries : log.entries ≡ r.replica.history
+  pub whole : log.failed ≡ false
+  pub logged : r.replica.logged ≡ length r.replica.history
+  pub none : r.failed ≡ None
+
+-- so it is with the logs of these members, in their order
+pub record AreFor {D : Type 0} (logs : List (LogState D)) (members : List Running) : Type 0 where
+  pub all : length logs ≡ length members
+  pub each : (k : ℕ) (log : LogState D) (r : Running) → slice_get logs k ≡ Some log
+      → slice_get members k ≡ Some r → IsFor log r
+
+-- a log has the entries that it had, and maybe more, and the votes that it had; its disk tells what it told,
+-- or at no moment of what it did would a crash have lost one; and no count of faults fell
+pub record IsLonger {D : Type 0} (told : D → Option Told) (faults : D → ℕ) (old new : LogState D)
+    : Type 0 where
+  pub entries : (more : List Entry) × (new.entries ≡ old.entries ++ more)
+  pub votes : new.votes ≡ old.votes
+  pub moments : (told new.disk ≡ told old.disk)
+      ⊎ Goes (told old.disk) (told new.disk) (λ s. LosesNone old.entries old.votes)
+  pub later : faults old.disk ≤ faults new.disk
+
+-- so it is with all of them, each at its place
+pub record AreLonger {D : Type 0} (told : D → Option Told) (faults : D → ℕ)
+    (olds news : List (LogState D)) : Type 0 where
+  pub all : length news ≡ length olds
+  pub each : (k : ℕ) (old new : LogState D) → slice_get olds k ≡ Some old → slice_get news k ≡ Some new
+      → IsLonger told faults old new
