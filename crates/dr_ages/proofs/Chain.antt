@@ -5,6 +5,7 @@ use Rattle.std.proofs.lemmas.Option.{same_Some}
 use Rattle.dr_entry.specs.declared.end.AgeEnd.{AgeEnd}
 use Rattle.dr_script.specs.declared.script.Script.{Script}
 use Rattle.dr_yard.specs.Yards.{AllTell, Passes, YardState}
+use Rattle.dr_ages.specs.declared.mode.Mode.{Mode}
 use Rattle.dr_ages.specs.Ages.{AreAges, IsAgeOf}
 
 -- ---- how yards pass
@@ -21,60 +22,63 @@ passes_on before mid after first next = record {
 pub tell_on : (n : ℕ) (before after : YardState) → Passes before after → AllTell n before → AllTell n after
 tell_on n before after passes all m l = subst IsTrue (passes.tells m) (all m l)
 
-pub ages_pass : (script : Script) (nth : ℕ) (before : YardState) (ages : List AgeEnd) (after : YardState)
-    → AreAges script nth before ages after → Passes before after
-ages_pass script nth before [] after are = subst (Passes before) are (passes_none before)
-ages_pass script nth before (age ∷ ages) after are =
-    passes_on before are.0 after are.1.passes (ages_pass script (nth + 1) are.0 ages after are.2)
+pub ages_pass : (script : Script) (mode : Mode) (nth : ℕ) (before : YardState) (ages : List AgeEnd) (after : YardState)
+    → AreAges script mode nth before ages after → Passes before after
+ages_pass script mode nth before [] after are = subst (Passes before) are (passes_none before)
+ages_pass script mode nth before (age ∷ ages) after are =
+    passes_on before are.0 after are.1.passes (ages_pass script mode (nth + 1) are.0 ages after are.2)
 
 -- ---- one age more
 
-pub ages_more : (script : Script) (nth n : ℕ) (before : YardState) (ages : List AgeEnd)
-    (mid after : YardState) (age : AgeEnd) → n ≡ nth + length ages → AreAges script nth before ages mid
-    → IsAgeOf script n mid after age → AreAges script nth before (ages ++ age ∷ []) after
-ages_more script nth n before [] mid after age at are is = (
+pub ages_more : (script : Script) (mode : Mode) (nth n : ℕ) (before : YardState) (ages : List AgeEnd)
+    (mid after : YardState) (age : AgeEnd) → n ≡ nth + length ages → AreAges script mode nth before ages mid
+    → IsAgeOf script mode n mid after age → AreAges script mode nth before (ages ++ age ∷ []) after
+ages_more script mode nth n before [] mid after age at are is = (
   after,
-  subst (λ (y : YardState). IsAgeOf script nth y after age) (sym are)
-      (subst (λ (k : ℕ). IsAgeOf script k mid after age) (omega (arith, at)) is),
+  subst (λ (y : YardState). IsAgeOf script mode nth y after age) (sym are)
+      (subst (λ (k : ℕ). IsAgeOf script mode k mid after age) (omega (arith, at)) is),
   refl,
 )
-ages_more script nth n before (one ∷ ages) mid after age at are is = (
+ages_more script mode nth n before (one ∷ ages) mid after age at are is = (
   are.0,
   are.1,
-  ages_more script (nth + 1) n are.0 ages mid after age (omega (arith, at)) are.2 is,
+  ages_more script mode (nth + 1) n are.0 ages mid after age (omega (arith, at)) are.2 is,
 )
 
 -- ---- ages of a chain
 
 -- two ages, the one right behind the other
 pub record AreBeside (script : Script) (start : YardState) (one next : AgeEnd) : Type 0 where
+  pub mode : Mode
   pub nth : ℕ
   pub before : YardState
   pub mid : YardState
   pub after : YardState
-  pub first : IsAgeOf script nth before mid one
-  pub second : IsAgeOf script (nth + 1) mid after next
+  pub first : IsAgeOf script mode nth before mid one
+  pub second : IsAgeOf script mode (nth + 1) mid after next
   pub passes : Passes start mid
 
-pub beside : (script : Script) (nth : ℕ) (before : YardState) (ages : List AgeEnd) (after : YardState) (i : ℕ)
-    (a b : AgeEnd) → AreAges script nth before ages after → slice_get ages i ≡ Some a
+pub beside : (script : Script) (mode : Mode) (nth : ℕ) (before : YardState) (ages : List AgeEnd) (after : YardState) (i : ℕ)
+    (a b : AgeEnd) → AreAges script mode nth before ages after → slice_get ages i ≡ Some a
     → slice_get ages (i + 1) ≡ Some b → AreBeside script before a b
-beside script nth before [] after i a b are at_a at_b = absurd (cc)
-beside script nth before (one ∷ []) after zero a b are at_a at_b = absurd (cc)
-beside script nth before (one ∷ next ∷ ages) after zero a b are at_a at_b = record {
+beside script mode nth before [] after i a b are at_a at_b = absurd (cc)
+beside script mode nth before (one ∷ []) after zero a b are at_a at_b = absurd (cc)
+beside script mode nth before (one ∷ next ∷ ages) after zero a b are at_a at_b = record {
+  mode = mode;
   nth = nth;
   before = before;
   mid = are.0;
   after = are.2.0;
-  first = subst (IsAgeOf script nth before are.0) (same_Some one a at_a) are.1;
-  second = subst (IsAgeOf script (nth + 1) are.0 are.2.0) (same_Some next b at_b) are.2.1;
+  first = subst (IsAgeOf script mode nth before are.0) (same_Some one a at_a) are.1;
+  second = subst (IsAgeOf script mode (nth + 1) are.0 are.2.0) (same_Some next b at_b) are.2.1;
   passes = are.1.passes;
 }
-beside script nth before (one ∷ ages) after (suc i) a b are at_a at_b =
+beside script mode nth before (one ∷ ages) after (suc i) a b are at_a at_b =
     let e : suc (i + 1) ≡ suc i + 1 = omega arith in
-    let r = beside script (nth + 1) are.0 ages after i a b are.2 at_a
+    let r = beside script mode (nth + 1) are.0 ages after i a b are.2 at_a
     (ap (λ (k : ℕ). slice_get (one ∷ ages) k) e ∙ at_b) in
     record {
+      mode = r.mode;
       nth = r.nth;
       before = r.before;
       mid = r.mid;
@@ -87,24 +91,27 @@ beside script nth before (one ∷ ages) after (suc i) a b are at_a at_b =
 -- the last one
 pub record EndsWith (script : Script) (start after : YardState) : Type 0 where
   pub age : AgeEnd
+  pub mode : Mode
   pub nth : ℕ
   pub before : YardState
-  pub is : IsAgeOf script nth before after age
+  pub is : IsAgeOf script mode nth before after age
   pub passes : Passes start before
 
-pub last_age : (script : Script) (nth : ℕ) (before : YardState) (one : AgeEnd) (ages : List AgeEnd)
-    (after : YardState) → AreAges script nth before (one ∷ ages) after → EndsWith script before after
-last_age script nth before one [] after are = record {
+pub last_age : (script : Script) (mode : Mode) (nth : ℕ) (before : YardState) (one : AgeEnd) (ages : List AgeEnd)
+    (after : YardState) → AreAges script mode nth before (one ∷ ages) after → EndsWith script before after
+last_age script mode nth before one [] after are = record {
   age = one;
+  mode = mode;
   nth = nth;
   before = before;
-  is = subst (λ (y : YardState). IsAgeOf script nth before y one) are.2 are.1;
+  is = subst (λ (y : YardState). IsAgeOf script mode nth before y one) are.2 are.1;
   passes = passes_none before;
 }
-last_age script nth before one (next ∷ ages) after are =
-    let r = last_age script (nth + 1) are.0 next ages after are.2 in
+last_age script mode nth before one (next ∷ ages) after are =
+    let r = last_age script mode (nth + 1) are.0 next ages after are.2 in
     record {
       age = r.age;
+      mode = r.mode;
       nth = r.nth;
       before = r.before;
       is = r.is;

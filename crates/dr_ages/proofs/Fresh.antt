@@ -28,8 +28,9 @@ use Rattle.dr_restart.specs.declared.start.Start.{Start}
 use Rattle.dr_restart.specs.Groups.{group_of}
 use Rattle.dr_script.specs.declared.script.Script.{Script}
 use Rattle.dr_script.specs.Ranges.{HasGroupRanges}
-use Rattle.dr_sim.specs.Logged.{NoneFull}
+use Rattle.dr_age.specs.Logged.{NoneFull}
 use Rattle.dr_yard.specs.Yards.{AllTell, AreEmpty, YardState}
+use Rattle.dr_ages.specs.declared.mode.Mode.{Mode}
 use Rattle.dr_ages.specs.declared.stop.Stop.{Stop}
 use Rattle.dr_ages.specs.declared.stop.Stop.TheVariants.{OutOfMemory, DiskFault, LogFull, Damaged, Disagree, Foreign, AgesUsedUp}
 use Rattle.dr_ages.specs.Ages.{AreAges, IsAgeOf, opening_of}
@@ -126,26 +127,26 @@ fresh_first script yard empty = record {
     tells (Some t) is = refl
 
 -- the age has the number of those before it
-age_number : (script : Script) (k nth : ℕ) (before yard : YardState) (age : AgeEnd) → IsFreshAt script k before
-    → IsAgeOf script nth before yard age → age.age ≡ k
+age_number : {mode : Mode} (script : Script) (k nth : ℕ) (before yard : YardState) (age : AgeEnd) → IsFreshAt script k before
+    → IsAgeOf script mode nth before yard age → age.age ≡ k
 age_number script k nth before yard age fresh is =
     is.starts.restart.next ∙ fresh.next is.lists is.votes is.found age.start is.starts.restart.longest
 
 -- the first age starts with nothing
-pub fresh_start : (script : Script) (nth : ℕ) (before : YardState) (ages : List AgeEnd) (last : YardState)
-    (a : AgeEnd) → AreEmpty script.members before → AreAges script nth before ages last
+pub fresh_start : (script : Script) (mode : Mode) (nth : ℕ) (before : YardState) (ages : List AgeEnd) (last : YardState)
+    (a : AgeEnd) → AreEmpty script.members before → AreAges script mode nth before ages last
     → slice_get ages 0 ≡ Some a → a.start ≡ []
-fresh_start script nth before [] last a empty are at = absurd (omega (arith, slice_get_within [] 0 a at))
-fresh_start script nth before (one ∷ ages) last a empty are at =
+fresh_start script mode nth before [] last a empty are at = absurd (omega (arith, slice_get_within [] 0 a at))
+fresh_start script mode nth before (one ∷ ages) last a empty are at =
     ap (λ (x : AgeEnd). x.start) (sym (same_Some one a at))
     ∙ (empty_found script before are.1.lists are.1.votes are.1.starts.restart.longest.place one.start empty
     are.1.found are.1.starts.restart.longest.one).0
 
-fresh_next : (script : Script) (k nth : ℕ) (before yard : YardState) (age : AgeEnd) → HasGroupRanges script
-    → IsFreshAt script k before → IsAgeOf script nth before yard age → IsFreshAt script (k + 1) yard
-fresh_next script k nth before yard age ranges fresh is = record {
+fresh_next : (script : Script) (mode : Mode) (k nth : ℕ) (before yard : YardState) (age : AgeEnd) → HasGroupRanges script
+    → IsFreshAt script k before → IsAgeOf script mode nth before yard age → IsFreshAt script (k + 1) yard
+fresh_next script mode k nth before yard age ranges fresh is = record {
   tell = tell;
-  good = age_leaves_good script nth before yard age ranges is tell;
+  good = age_leaves_good script mode nth before yard age ranges is tell;
   bare = λ lists votes found m l.
       let e = slice_get-some age.members m (omega (arith, l, is.roster)) in
       let es = slice_get-some lists m (omega (arith, l, found.all)) in
@@ -166,6 +167,7 @@ fresh_next script k nth before yard age ranges fresh is = record {
         → IsBehind script yard age lists votes
     behind lists votes found = record {
       ranges = ranges;
+      mode = mode;
       nth = nth;
       before = before;
       is = is;
@@ -173,28 +175,28 @@ fresh_next script k nth before yard age ranges fresh is = record {
       found = found;
     }
 
-pub fresh_last : (script : Script) (k nth : ℕ) (before : YardState) (ages : List AgeEnd) (last : YardState)
-    → HasGroupRanges script → IsFreshAt script k before → AreAges script nth before ages last
+pub fresh_last : (script : Script) (mode : Mode) (k nth : ℕ) (before : YardState) (ages : List AgeEnd) (last : YardState)
+    → HasGroupRanges script → IsFreshAt script k before → AreAges script mode nth before ages last
     → IsFreshAt script (k + length ages) last
-fresh_last script k nth before [] last ranges fresh are =
+fresh_last script mode k nth before [] last ranges fresh are =
     subst (λ (n : ℕ). IsFreshAt script n last) (omega arith) (subst (IsFreshAt script k) are fresh)
-fresh_last script k nth before (age ∷ ages) last ranges fresh are =
+fresh_last script mode k nth before (age ∷ ages) last ranges fresh are =
     subst (λ (n : ℕ). IsFreshAt script n last) (omega arith)
-    (fresh_last script (k + 1) (nth + 1) are.0 ages last ranges
-    (fresh_next script k nth before are.0 age ranges fresh are.1) are.2)
+    (fresh_last script mode (k + 1) (nth + 1) are.0 ages last ranges
+    (fresh_next script mode k nth before are.0 age ranges fresh are.1) are.2)
 
-pub fresh_ages : (script : Script) (k nth : ℕ) (before : YardState) (ages : List AgeEnd) (last : YardState)
-    (i : ℕ) (a : AgeEnd) → HasGroupRanges script → IsFreshAt script k before → AreAges script nth before ages last
+pub fresh_ages : (script : Script) (mode : Mode) (k nth : ℕ) (before : YardState) (ages : List AgeEnd) (last : YardState)
+    (i : ℕ) (a : AgeEnd) → HasGroupRanges script → IsFreshAt script k before → AreAges script mode nth before ages last
     → slice_get ages i ≡ Some a → (a.age ≡ k + i) × NoneFull a.members
-fresh_ages script k nth before [] last i a ranges fresh are at = absurd (omega (arith, slice_get_within [] i a at))
-fresh_ages script k nth before (age ∷ ages) last zero a ranges fresh are at =
+fresh_ages script mode k nth before [] last i a ranges fresh are at = absurd (omega (arith, slice_get_within [] i a at))
+fresh_ages script mode k nth before (age ∷ ages) last zero a ranges fresh are at =
     subst (λ (x : AgeEnd). (x.age ≡ k + 0) × NoneFull x.members) (same_Some age a at) (
       omega (arith, age_number script k nth before are.0 age fresh are.1),
       are.1.ample (fresh.bare are.1.lists are.1.votes are.1.found),
     )
-fresh_ages script k nth before (age ∷ ages) last (suc i) a ranges fresh are at =
-    let r = fresh_ages script (k + 1) (nth + 1) are.0 ages last i a ranges
-    (fresh_next script k nth before are.0 age ranges fresh are.1) are.2 at in
+fresh_ages script mode k nth before (age ∷ ages) last (suc i) a ranges fresh are at =
+    let r = fresh_ages script mode (k + 1) (nth + 1) are.0 ages last i a ranges
+    (fresh_next script mode k nth before are.0 age ranges fresh are.1) are.2 at in
     (omega (arith, r.0), r.1)
 
 -- ---- no log is full

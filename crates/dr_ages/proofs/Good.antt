@@ -27,6 +27,7 @@ use Rattle.dr_restart.specs.Groups.{group_of}
 use Rattle.dr_script.specs.declared.script.Script.{Script}
 use Rattle.dr_script.specs.Ranges.{HasGroupRanges}
 use Rattle.dr_yard.specs.Yards.{AllTell, AreEmpty, YardState}
+use Rattle.dr_ages.specs.declared.mode.Mode.{Mode}
 use Rattle.dr_ages.specs.declared.stop.Stop.{Stop}
 use Rattle.dr_ages.specs.declared.stop.Stop.TheVariants.{OutOfMemory, DiskFault, LogFull, Damaged, Disagree, Foreign, AgesUsedUp}
 use Rattle.dr_ages.specs.Ages.{IsAgeOf, opening_of, start_of}
@@ -110,10 +111,10 @@ part_of_history script yard age lists votes m es b at =
           (sym e.1) (left_part e.0 es (found_left script yard age lists votes m e.0 es b e.1 at).0),
     )
 
-pub age_leaves_good : (script : Script) (nth : ℕ) (before yard : YardState) (age : AgeEnd)
-    → HasGroupRanges script → IsAgeOf script nth before yard age → AllTell script.members yard
+pub age_leaves_good : (script : Script) (mode : Mode) (nth : ℕ) (before yard : YardState) (age : AgeEnd)
+    → HasGroupRanges script → IsAgeOf script mode nth before yard age → AllTell script.members yard
     → IsGood script yard
-age_leaves_good script nth before yard age ranges is tell = record {
+age_leaves_good script mode nth before yard age ranges is tell = record {
   sound = λ lists votes found.
       ended_sound script (start_of script age) age.members lists group is.agreed all (parts lists votes found);
   along = λ lists votes found.
@@ -131,6 +132,7 @@ age_leaves_good script nth before yard age ranges is tell = record {
         → IsBehind script yard age lists votes
     behind lists votes found = record {
       ranges = ranges;
+      mode = mode;
       nth = nth;
       before = before;
       is = is;

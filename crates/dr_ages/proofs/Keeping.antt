@@ -25,6 +25,7 @@ use Rattle.dr_logged.specs.Left.{IsLeftOf}
 use Rattle.dr_script.specs.declared.script.Script.{Script}
 use Rattle.dr_script.specs.Ranges.{HasGroupRanges}
 use Rattle.dr_yard.specs.Yards.{AllTell, YardState}
+use Rattle.dr_ages.specs.declared.mode.Mode.{Mode}
 use Rattle.dr_ages.specs.Ages.{AreAges, IsAgeOf, opening_of, start_of}
 use Rattle.dr_ages.specs.Found.{AreFound, ReadsAs}
 use Rattle.dr_ages.specs.Left.{HasLeft, IsLeftAt}
@@ -74,9 +75,10 @@ left_begins first e es begins left =
 pub record IsBehind (script : Script) (yard : YardState) (age : AgeEnd) (lists : List (List Entry))
     (votes : ℕ → List Vote) : Type 0 where
   pub ranges : HasGroupRanges script
+  pub mode : Mode
   pub nth : ℕ
   pub before : YardState
-  pub is : IsAgeOf script nth before yard age
+  pub is : IsAgeOf script mode nth before yard age
   pub tell : AllTell script.members yard
   pub found : AreFound script.members yard lists votes
 
@@ -109,8 +111,8 @@ pub longest_begins : (script : Script) (yard : YardState) (age : AgeEnd) (lists 
 longest_begins script yard age lists votes es b longest =
     next_begins (opening_of script age) age.members lists es (leave_logs script yard age lists votes b) longest
 
-pub sound_age : (script : Script) (nth : ℕ) (before after : YardState) (age : AgeEnd) → HasGroupRanges script
-    → IsAgeOf script nth before after age → Sound (opening_of script age)
+pub sound_age : {mode : Mode} (script : Script) (nth : ℕ) (before after : YardState) (age : AgeEnd) → HasGroupRanges script
+    → IsAgeOf script mode nth before after age → Sound (opening_of script age)
 sound_age script nth before after age ranges is =
     (start_group script is.lists (start_of script age) ranges is.small is.starts).sound
 
@@ -121,6 +123,7 @@ behind : (script : Script) (start : YardState) (a b : AgeEnd) → HasGroupRanges
     → IsBehind script r.mid a r.second.lists r.second.votes
 behind script start a b ranges tell r = record {
   ranges = ranges;
+  mode = r.mode;
   nth = r.nth;
   before = r.before;
   is = r.first;
@@ -154,17 +157,17 @@ durable_by ends m e start at kept =
     subst (λ (end : Option MemberEnd). IsPrefixOf (take (option_map_or (λ (e : MemberEnd). e.durable) end 0)
     (option_map_or (λ (e : MemberEnd). e.history) end [])) start) at kept
 
-pub are_kept : (script : Script) (before : YardState) (ages : List AgeEnd) (last : YardState)
-    → HasGroupRanges script → AreAges script 0 before ages last → AllTell script.members before
+pub are_kept : (script : Script) (mode : Mode) (before : YardState) (ages : List AgeEnd) (last : YardState)
+    → HasGroupRanges script → AreAges script mode 0 before ages last → AllTell script.members before
     → AreKept script ages
-are_kept script before ages last ranges are tell = record {
+are_kept script mode before ages last ranges are tell = record {
   next = λ i a b at_a at_b. keeps_next script before a b ranges tell (pair i a b at_a at_b);
   ever = λ i j m a b e l at_a at_b there. ever (j - (i + 1)) i j m a b e (omega (arith, l)) at_a at_b there;
 }
   where
     pair : (i : ℕ) (a b : AgeEnd) → slice_get ages i ≡ Some a → slice_get ages (i + 1) ≡ Some b
         → AreBeside script before a b
-    pair i a b at_a at_b = beside script 0 before ages last i a b are at_a at_b
+    pair i a b at_a at_b = beside script mode 0 before ages last i a b are at_a at_b
 
     ever : (d i j m : ℕ) (a b : AgeEnd) (e : MemberEnd) → j ≡ i + 1 + d → slice_get ages i ≡ Some a
         → slice_get ages j ≡ Some b → slice_get a.members m ≡ Some e

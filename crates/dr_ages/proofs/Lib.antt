@@ -5,6 +5,6 @@ mod Fresh
 mod Good
 mod Keeping
 mod Loans
+mod Played
 mod Runs
-mod Simulated
 mod Stopping

@@ -18,9 +18,12 @@ use Rattle.dr_restart.specs.declared.start.Start.{Start}
 use Rattle.dr_restart.specs.Groups.{group_of}
 use Rattle.dr_restart.specs.Setups.{crashes_of}
 use Rattle.dr_script.specs.declared.script.Script.{Script}
-use Rattle.dr_sim.specs.Logged.{NoneFull, NoneStopped}
+use Rattle.dr_age.specs.Logged.{NoneFull, NoneStopped}
+use Rattle.dr_age.specs.Run.{IsRun}
 use Rattle.dr_sim.specs.Simulated.{IsSimulated}
 use Rattle.dr_yard.specs.Yards.{Passes, YardState}
+use Rattle.dr_ages.specs.declared.mode.Mode.{Mode}
+use Rattle.dr_ages.specs.declared.mode.Mode.TheVariants.{Sim, Run}
 use Rattle.dr_ages.specs.Found.{AreFound}
 use Rattle.dr_ages.specs.Left.{HasLeft, IsFullAt}
 
@@ -37,21 +40,28 @@ start_of script age = record {
 abbrev pub opening_of : Script → AgeEnd → Opening
 opening_of script age = (group_of script (start_of script age)).opening
 
+-- the age is that of the script's program, which begins from the start: a simulated one runs by the script's
+-- schedule, and one in threads by some list of deeds
+abbrev pub IsPlayed : Mode → Script → Start → ℕ → AgeEnd → Type 0
+IsPlayed Sim script start nth age = IsSimulated script start nth age
+IsPlayed Run script start nth age = IsRun script start nth age
+
 -- this is age number nth of a run, from 0, over disks that were so before it and are so behind it
-pub record IsAgeOf (script : Script) (nth : ℕ) (before after : YardState) (age : AgeEnd) : Type 0 where
+pub record IsAgeOf (script : Script) (mode : Mode) (nth : ℕ) (before after : YardState) (age : AgeEnd) : Type 0 where
   -- it starts with what is found on the disks
   pub lists : List (List Entry)
   pub votes : ℕ → List Vote
   pub found : AreFound script.members before lists votes
   pub starts : IsStartOf script lists (start_of script age)
   pub small : age.age < 2 ^ 16
-  -- it is the run of the script's schedule from there on, and its members agree, and end as they should
+  -- it is the run of the script's program from there on, and its members agree, and end as they should
   pub roster : length age.members ≡ script.members
-  pub run : IsSimulated script (start_of script age) nth age
+  pub run : IsPlayed mode script (start_of script age) nth age
   pub agreed : EndsAgreed (opening_of script age) age.members
   pub ended : HaveEnded (opening_of script age) script.turns (crashes_of script.faults nth) age.members
   pub trusting : SuspectsNobody script → NoneLeft age.members
-  pub complete : HasTime script → NoneStopped age.members → AreComplete (opening_of script age) age.members
+  pub complete : mode ≡ Sim → HasTime script → NoneStopped age.members
+      → AreComplete (opening_of script age) age.members
   -- each log begins with what every history of the age does
   pub opened : (m : ℕ) (e : MemberEnd) → slice_get age.members m ≡ Some e
       → IsPrefixOf (first_entries (opening_of script age)) (take e.logged e.history)
@@ -68,8 +78,8 @@ pub record IsAgeOf (script : Script) (nth : ℕ) (before after : YardState) (age
   pub passes : Passes before after
 
 -- these ages came one after the other, the first of them as number nth of the run
-abbrev pub AreAges : Script → ℕ → YardState → List AgeEnd → YardState → Type 0
-AreAges script nth before [] after = before ≡ after
-AreAges script nth before (age ∷ ages) after =
-    (between : YardState) × IsAgeOf script nth before between age
-    × AreAges script (nth + 1) between ages after
+abbrev pub AreAges : Script → Mode → ℕ → YardState → List AgeEnd → YardState → Type 0
+AreAges script mode nth before [] after = before ≡ after
+AreAges script mode nth before (age ∷ ages) after =
+    (between : YardState) × IsAgeOf script mode nth before between age
+    × AreAges script mode (nth + 1) between ages after

@@ -6,7 +6,6 @@ use Rattle.dr_entry.specs.declared.limits.TheConstants.{MAX_MEMBERS}
 use Rattle.dr_io.specs.Faults.{Rose}
 use Rattle.dr_log.specs.State.{LogState}
 use Rattle.dr_yard.specs.Yards.{YardState}
-use Rattle.dr_ages.specs.declared.lending.TheConstants.{LOG_LIMIT}
 use Rattle.dr_ages.specs.declared.stop.Stop.{Stop}
 use Rattle.dr_ages.specs.declared.stop.Stop.TheVariants.{OutOfMemory, DiskFault, Damaged}
 use Rattle.dr_ages.specs.Found.{ReadsAs}
@@ -30,7 +29,7 @@ pub record GoesOn (told : Option Told) (count : ℕ) (now : Option Told) (faults
 pub record IsMounted {D : Type 0} (tells : D → Option Told) (faults : D → ℕ) (told : Option Told) (count : ℕ)
     (log : LogState D) : Type 0 where
   pub found : IfSome told (ReadsAs log.entries log.votes)
-  pub limit : log.limit ≡ LOG_LIMIT
+  pub limit : log.limit ≡ 2147483648
   pub whole : log.failed ≡ false
   pub on : GoesOn told count (tells log.disk) (faults log.disk)
 

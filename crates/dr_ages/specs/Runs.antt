@@ -6,8 +6,9 @@ use Rattle.dr_history.specs.Agreement.{accounts_of}
 use Rattle.dr_history.specs.History.{IsPrefixOf}
 use Rattle.dr_history.specs.Restarting.{Kept}
 use Rattle.dr_script.specs.declared.script.Script.{Script}
-use Rattle.dr_sim.specs.Logged.{NoneFull}
+use Rattle.dr_age.specs.Logged.{NoneFull}
 use Rattle.dr_yard.specs.Yards.{AllTell, AreEmpty, Passes, YardState}
+use Rattle.dr_ages.specs.declared.mode.Mode.{Mode}
 use Rattle.dr_ages.specs.declared.stop.Stop.{Stop}
 use Rattle.dr_ages.specs.Ages.{AreAges, opening_of}
 use Rattle.dr_ages.specs.Stops.{HasStopped, IsBadLogs, IsOutside}
@@ -34,12 +35,12 @@ HasFinished script last after ages None = (length ages ≡ script.ages) × (last
 HasFinished script last after ages (Some stop) =
     (length ages < script.ages) × HasStopped script last after stop
 
--- these are the ages of a run of the script, over disks that were so before it and are so behind it, and this
--- is why it ended before its last age, if it did
-pub record IsRunOf (script : Script) (before after : YardState) (ages : List AgeEnd) (stop : Option Stop)
-    : Type 0 where
+-- these are the ages of a run of the script in this mode, over disks that were so before it and are so behind
+-- it, and this is why it ended before its last age, if it did
+pub record IsRunOf (script : Script) (mode : Mode) (before after : YardState) (ages : List AgeEnd)
+    (stop : Option Stop) : Type 0 where
   pub last : YardState
-  pub course : AreAges script 0 before ages last
+  pub course : AreAges script mode 0 before ages last
   pub finish : HasFinished script last after ages stop
   pub passes : Passes before after
   -- over disks that tell, nothing durable is ever lost, and what an age leaves is never refused

@@ -1,25 +1,39 @@
 //! Runs ages one after the other.
 ghost use Rattle.std.specs.Prelude.{◌≡◌, ◌<◌, ℕ, All, IfErr, IfOk, false, length};
+ghost use Rattle.dr_age.specs.Logged.{AreOpened, HaveCome, IsAmple, NoneFull, NoneStopped};
+ghost use Rattle.dr_complete.specs.Time.{HasTime};
 ghost use Rattle.dr_entry.specs.declared.limits.TheConstants.{MAX_MEMBERS};
+ghost use Rattle.dr_history.specs.Agreement.{EndsAgreed};
 ghost use Rattle.dr_log.specs.State.{LogState};
+ghost use Rattle.dr_machine.specs.Group.{IsGroup};
+ghost use Rattle.dr_program_laws.specs.Ended.{AreComplete, HaveEnded};
+ghost use Rattle.dr_program_laws.specs.Trusting.{NoneLeft, SuspectsNobody};
+ghost use Rattle.dr_restart.specs.Groups.{group_of};
+ghost use Rattle.dr_restart.specs.Setups.{crashes_of};
 ghost use Rattle.dr_script.specs.Ranges.{HasRanges};
 ghost use Rattle.dr_yard.specs.Yards.{Passes, YardState, state_by};
-ghost use Rattle.dr_ages.specs.Ages.{IsAgeOf};
+ghost use Rattle.dr_ages.specs.Ages.{IsAgeOf, IsPlayed};
 ghost use Rattle.dr_ages.specs.Lent.{AreMounted, with_logs};
 ghost use Rattle.dr_ages.specs.Opened.{AreLater};
 ghost use Rattle.dr_ages.specs.Runs.{IsRunOf};
 ghost use Rattle.dr_ages.specs.Stops.{HasStopped};
+ghost use Rattle.dr_ages.specs.declared.mode.Mode.TheVariants.{Sim};
 
 use crate::lending::{give_all_back, mount_all};
+use crate::mode::Mode;
 use crate::opening::open_age;
 use crate::stop::Stop;
 use dr_disk::Disk;
 use dr_entry::{AgeEnd, Seq};
 use dr_log::Log;
+use dr_pace::Pace;
+use dr_restart::Start;
+use dr_run::run_script_age;
 use dr_script::Script;
 use dr_sim::sim_age;
 use dr_yard::Yard;
-use std::alloc::Global;
+use std::alloc::{AllocError, Global};
+use std::thread::Threads;
 
 /// How a run ended: the ages that ran to their ends, in order, and why no further one was opened, where the
 /// script asks for more.
@@ -31,14 +45,23 @@ pub struct AgesEnd {
 
 /// Runs the ages of a script, one after the other, over the disks of a yard, those in this folder. For each
 /// age the logs of all members are mounted, ascending, and brought up to the start that they make together;
-/// then the age is simulated, and all disks are given back. The first thing that is in the way of an age
-/// ends the run. No disk of the yard is lent, before and behind it.
-pub fn run_ages<Y: Yard>(alloc: Global, script: &Script, folder: &str, yard: &mut Y) -> AgesEnd
+/// then its members take their deeds, as the mode says, and all disks are given back. The first thing that is
+/// in the way of an age ends the run. No disk of the yard is lent, before and behind it. Threads call the
+/// pace after each turn of a member, a simulation never.
+pub fn run_ages<R: Threads + Sync, Y: Yard, P: Pace + Sync>(
+    rt: &R,
+    alloc: Global,
+    script: &Script,
+    mode: Mode,
+    folder: &str,
+    yard: &mut Y,
+    pace: &P,
+) -> AgesEnd
     requires ranges { HasRanges script.now }
     requires here { (m : ℕ) → m < MAX_MEMBERS → Y.is_lent yard.old m ≡ false }
     ensures here { (m : ℕ) → m < MAX_MEMBERS → Y.is_lent yard.new m ≡ false }
     // How the disks were, and are, tells which ages ran, and why no further one did.
-    ensures run { IsRunOf script.now (state_by Y.told Y.faults yard.old)
+    ensures run { IsRunOf script.now mode (state_by Y.told Y.faults yard.old)
         (state_by Y.told Y.faults yard.new) result.ages result.stop }
 {
     let Ok(mut ages) = Vec::with_capacity(alloc, usize::from(script.ages)) else {
@@ -48,7 +71,7 @@ pub fn run_ages<Y: Yard>(alloc: Global, script: &Script, folder: &str, yard: &mu
         };
     };
     for nth in 0..script.ages {
-        match run_age(alloc, script, folder, nth, yard) {
+        match run_age(rt, alloc, script, mode, folder, nth, yard, pace) {
             Ok(age) => ages.push(age).unwrap(),
             Err(stop) => {
                 return AgesEnd {
@@ -65,17 +88,20 @@ pub fn run_ages<Y: Yard>(alloc: Global, script: &Script, folder: &str, yard: &mu
 }
 
 /// Runs one age. `nth` is its number in the run, from 0.
-fn run_age<Y: Yard>(
+fn run_age<R: Threads + Sync, Y: Yard, P: Pace + Sync>(
+    rt: &R,
     alloc: Global,
     script: &Script,
+    mode: Mode,
     folder: &str,
     nth: u8,
     yard: &mut Y,
+    pace: &P,
 ) -> Result<AgeEnd, Stop>
     requires ranges { HasRanges script.now }
     requires here { (m : ℕ) → m < MAX_MEMBERS → Y.is_lent yard.old m ≡ false }
     ensures here { (m : ℕ) → m < MAX_MEMBERS → Y.is_lent yard.new m ≡ false }
-    ensures age { IfOk result (IsAgeOf script.now nth (state_by Y.told Y.faults yard.old)
+    ensures age { IfOk result (IsAgeOf script.now mode nth (state_by Y.told Y.faults yard.old)
         (state_by Y.told Y.faults yard.new)) }
     ensures stopped { IfErr result (HasStopped script.now (state_by Y.told Y.faults yard.old)
         (state_by Y.told Y.faults yard.new)) }
@@ -84,36 +110,85 @@ fn run_age<Y: Yard>(
     let Ok(mut logs) = Vec::with_capacity(alloc, usize::from(script.members)) else {
         return Err(Stop::OutOfMemory);
     };
-    let ended = match mount_all(alloc, folder, yard, script.members, &mut logs) {
-        Ok(()) => simulate(alloc, script, nth, logs.as_mut_slice()),
-        Err(stop) => Err(stop),
+    let (ended, logs) = match mount_all(alloc, folder, yard, script.members, &mut logs) {
+        Ok(()) => run_over(rt, alloc, script, mode, nth, logs, pace),
+        Err(stop) => (Err(stop), logs),
     };
     give_all_back(yard, logs);
     ended
 }
 
-/// Opens an age over these logs, and simulates it.
-fn simulate<D: Disk>(
+/// Opens an age over these logs, and runs it. The logs come back.
+fn run_over<R: Threads + Sync, D: Disk, P: Pace + Sync>(
+    rt: &R,
     alloc: Global,
     script: &Script,
+    mode: Mode,
     nth: u8,
-    logs: &mut [Log<D>],
-) -> Result<AgeEnd, Stop>
+    mut logs: Vec<Log<D>>,
+    pace: &P,
+) -> (Result<AgeEnd, Stop>, Vec<Log<D>>)
     requires ranges { HasRanges script.now }
-    requires all { length logs.old ≡ script.now.members }
-    requires whole { All (λ (log : LogState D). log.failed ≡ false) logs.old }
+    requires all { length logs.items ≡ script.now.members }
+    requires whole { All (λ (log : LogState D). log.failed ≡ false) logs.items }
     // Over any yard from whose disks these logs were mounted.
-    ensures age { IfOk result (λ age. (before : YardState) → AreMounted D.told D.faults before logs.old
-        → IsAgeOf script.now nth before (with_logs D.told D.faults before logs.new) age) }
-    ensures stopped { IfErr result (λ stop. (before : YardState)
-        → AreMounted D.told D.faults before logs.old
-        → HasStopped script.now before (with_logs D.told D.faults before logs.new) stop) }
-    ensures later { AreLater D.told D.faults logs.old logs.new }
-    ensures count { length logs.new ≡ length logs.old }
+    ensures age { IfOk result.0 (λ age. (before : YardState) → AreMounted D.told D.faults before logs.items
+        → IsAgeOf script.now mode nth before (with_logs D.told D.faults before result.1.items) age) }
+    ensures stopped { IfErr result.0 (λ stop. (before : YardState)
+        → AreMounted D.told D.faults before logs.items
+        → HasStopped script.now before (with_logs D.told D.faults before result.1.items) stop) }
+    ensures later { AreLater D.told D.faults logs.items result.1.items }
+    ensures count { length result.1.items ≡ length logs.items }
 {
-    let start = open_age(alloc, script, logs)?;
-    match sim_age(alloc, script, &start, nth, logs) {
-        Ok(age) => Ok(age),
-        Err(_) => Err(Stop::OutOfMemory),
+    let start = match open_age(alloc, script, logs.as_mut_slice()) {
+        Ok(start) => start,
+        Err(stop) => return (Err(stop), logs),
+    };
+    let (ended, logs) = play_age(rt, alloc, script, mode, &start, nth, logs, pace);
+    match ended {
+        Ok(age) => (Ok(age), logs),
+        Err(_) => (Err(Stop::OutOfMemory), logs),
+    }
+}
+
+/// Runs one age from its start, as the mode says. The logs come back.
+fn play_age<R: Threads + Sync, D: Disk, P: Pace + Sync>(
+    rt: &R,
+    alloc: Global,
+    script: &Script,
+    mode: Mode,
+    start: &Start,
+    nth: u8,
+    mut logs: Vec<Log<D>>,
+    pace: &P,
+) -> (Result<AgeEnd, AllocError>, Vec<Log<D>>)
+    requires ranges { HasRanges script.now }
+    requires group { IsGroup (group_of script.now start.now) }
+    requires logs { AreOpened (group_of script.now start.now) logs.items }
+    ensures run { IfOk result.0 (λ age. IsPlayed mode script.now start.now nth age) }
+    ensures agreed { IfOk result.0 (λ age.
+        EndsAgreed (group_of script.now start.now).opening age.members) }
+    ensures ended { IfOk result.0 (λ age. HaveEnded (group_of script.now start.now).opening
+        script.now.turns (crashes_of script.now.faults nth) age.members) }
+    ensures trusting { IfOk result.0 (λ age. SuspectsNobody script.now → NoneLeft age.members) }
+    ensures complete { IfOk result.0 (λ age. mode ≡ Sim → HasTime script.now → NoneStopped age.members
+        → AreComplete (group_of script.now start.now).opening age.members) }
+    ensures come { IfOk result.0 (λ age.
+        HaveCome D.told D.faults logs.items result.1.items age.members) }
+    ensures ample { IfOk result.0 (λ age. All (IsAmple (group_of script.now start.now)) logs.items
+        → NoneFull age.members) }
+    ensures members { IfOk result.0 (λ age. length age.members ≡ length logs.items) }
+    ensures later { AreLater D.told D.faults logs.items result.1.items }
+    ensures count { length result.1.items ≡ length logs.items }
+{
+    match mode {
+        Mode::Sim => (
+            sim_age(alloc, script, start, nth, logs.as_mut_slice()),
+            logs,
+        ),
+        Mode::Run => match run_script_age(rt, alloc, script, start, nth, logs, pace) {
+            Ok((age, logs)) => (Ok(age), logs),
+            Err((logs, error)) => (Err(error), logs),
+        },
     }
 }

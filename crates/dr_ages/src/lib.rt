@@ -3,9 +3,11 @@
 
 mod ages;
 mod lending;
+mod mode;
 mod opening;
 mod stop;
 
 pub use ages::{AgesEnd, run_ages};
 pub use lending::LOG_LIMIT;
+pub use mode::Mode;
 pub use stop::Stop;

@@ -19,8 +19,8 @@ loop-nth-preserved g c =
           ∙ omega (arith, c.loop-nth.invariant.0)),
       search rules,
       c.in-Ok-run_age.ensures.here,
-      subst (λ (ages : List AgeEnd). AreAges c.args.script.now 0 before ages after) (sym items)
-          (ages_more c.args.script.now 0 c.loop-nth.nth before c.loop-nth.ages.items mid after
+      subst (λ (ages : List AgeEnd). AreAges c.args.script.now c.args.mode 0 before ages after) (sym items)
+          (ages_more c.args.script.now c.args.mode 0 c.loop-nth.nth before c.loop-nth.ages.items mid after
           c.in-Ok-run_age.age (omega (arith, c.loop-nth.invariant.0)) c.loop-nth.invariant.3
           c.in-Ok-run_age.ensures.age),
     )
@@ -28,9 +28,9 @@ loop-nth-preserved g c =
 pub returns-in_default-clause-run : goal.returns-in_default-clause-run
 returns-in_default-clause-run g c =
     let before : YardState = state_by g.Y.Yard.told g.Y.Yard.faults c.args.yard.now in
-    subst (λ (ages : List AgeEnd). IsRunOf c.args.script.now before before ages (Some OutOfMemory))
+    subst (λ (ages : List AgeEnd). IsRunOf c.args.script.now c.args.mode before before ages (Some OutOfMemory))
     (sym (c.of.ensures ∙ c.new.ensures.items))
-    (a_run c.args.script.now before [] before before (Some OutOfMemory) c.requires.ranges refl
+    (a_run c.args.script.now c.args.mode before [] before before (Some OutOfMemory) c.requires.ranges refl
     (omega (arith, c.requires.ranges.some_age), tt) (passes_none before))
 
 pub returns-in-Err-clause-run : goal.returns-in-Err-clause-run
@@ -38,9 +38,9 @@ returns-in-Err-clause-run g c =
     let before : YardState = state_by g.Y.Yard.told g.Y.Yard.faults c.args.yard.now in
     let last : YardState = state_by g.Y.Yard.told g.Y.Yard.faults c.loop-nth.yard in
     let after : YardState = state_by g.Y.Yard.told g.Y.Yard.faults c.run_age.new.yard in
-    subst (λ (ages : List AgeEnd). IsRunOf c.args.script.now before after ages (Some c.in-Err.stop))
+    subst (λ (ages : List AgeEnd). IsRunOf c.args.script.now c.args.mode before after ages (Some c.in-Err.stop))
     (sym c.of-in-Err.ensures)
-    (a_run c.args.script.now before c.loop-nth.ages.items last after (Some c.in-Err.stop) c.requires.ranges
+    (a_run c.args.script.now c.args.mode before c.loop-nth.ages.items last after (Some c.in-Err.stop) c.requires.ranges
     c.loop-nth.invariant.3
     (omega (arith, c.loop-nth.invariant.0, c.loop-nth-test.true), c.in-Err.ensures.stopped)
     c.run_age.ensures.passes)
@@ -49,7 +49,7 @@ pub returns-clause-run : goal.returns-clause-run
 returns-clause-run g c =
     let before : YardState = state_by g.Y.Yard.told g.Y.Yard.faults c.args.yard.now in
     let last : YardState = state_by g.Y.Yard.told g.Y.Yard.faults c.loop-nth.yard in
-    subst (λ (ages : List AgeEnd). IsRunOf c.args.script.now before last ages None) (sym c.of-2.ensures)
-    (a_run c.args.script.now before c.loop-nth.ages.items last last None c.requires.ranges c.loop-nth.invariant.3
+    subst (λ (ages : List AgeEnd). IsRunOf c.args.script.now c.args.mode before last ages None) (sym c.of-2.ensures)
+    (a_run c.args.script.now c.args.mode before c.loop-nth.ages.items last last None c.requires.ranges c.loop-nth.invariant.3
     (omega (arith, c.loop-nth.invariant.0, c.loop-nth-test.false, c.loop-nth.auto.nth-end), refl)
     (passes_none last))

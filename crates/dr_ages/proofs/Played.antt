@@ -1,11 +1,11 @@
--- An age that was simulated over logs that were mounted and brought up to its start.
-use Rattle.std.proofs.Common.{◌≡◌, refl, sym, ap, ◌∙◌, subst, ℕ, ◌+◌, ◌^◌, ◌<◌, inl, inr, arith, List, [], ◌∷◌, ◌++◌, length, take, drop, get_or}
-use Rattle.std.specs.Prelude.{All, Option, None, Some, is_some, slice_get}
+-- An age that was run over logs that were mounted and brought up to its start.
+use Rattle.std.proofs.Common.{◌≡◌, ◌⊎◌, refl, sym, ap, ◌∙◌, subst, ℕ, ◌+◌, ◌^◌, ◌<◌, inl, inr, arith, List, [], ◌∷◌, ◌++◌, length, take, drop, get_or}
+use Rattle.std.specs.Prelude.{All, IfOk, OnErr, Option, None, Some, Result, Ok, Err, is_some, slice_get}
 use Rattle.std.proofs.lemmas.List.{take-append-drop, take_all, take_more}
 use Rattle.std.proofs.lemmas.Option.{slice_get-get_or, slice_get_within}
 use Rattle.dr_complete.specs.Time.{HasTime}
 use Rattle.dr_disk.specs.Disk.{Told}
-use Rattle.dr_disk.specs.Images.{IsLeft}
+use Rattle.dr_disk.specs.Images.{Goes, IsLeft}
 use Rattle.dr_entry.specs.declared.end.AgeEnd.{AgeEnd}
 use Rattle.dr_entry.specs.declared.end.End.{End}
 use Rattle.dr_entry.specs.declared.end.End.TheVariants as ends
@@ -26,6 +26,7 @@ use Rattle.dr_log.specs.State.{LogState}
 use Rattle.dr_logged.specs.Served.{HasCome, WentSo, next_record}
 use Rattle.dr_program.specs.declared.outcome.LogWhy.{LogWhy}
 use Rattle.dr_program.specs.declared.outcome.LogWhy.TheVariants as logs
+use Rattle.dr_program.specs.Program.{Program, age_of}
 use Rattle.dr_program_laws.specs.Ended.{AreComplete, HaveEnded}
 use Rattle.dr_program_laws.specs.Trusting.{NoneLeft, SuspectsNobody}
 use Rattle.dr_restart.specs.declared.start.Start.{Start}
@@ -33,10 +34,12 @@ use Rattle.dr_restart.specs.Groups.{group_of}
 use Rattle.dr_restart.specs.Setups.{crashes_of}
 use Rattle.dr_script.specs.declared.script.Script.{Script}
 use Rattle.dr_script.specs.Ranges.{HasRanges}
-use Rattle.dr_sim.specs.Logged.{AreCalm, AreOpened, HaveCome, IsAmple, NoneFull, NoneStopped, why_ended}
-use Rattle.dr_sim.specs.Simulated.{IsSimulated}
+use Rattle.dr_age.specs.Logged.{AreCalm, AreOpened, HaveCome, IsAmple, NoneFull, NoneStopped, why_ended}
+use Rattle.dr_threads.specs.Logs.{AreLonger, IsLonger}
 use Rattle.dr_yard.specs.Yards.{YardState}
-use Rattle.dr_ages.specs.Ages.{IsAgeOf, start_of}
+use Rattle.dr_ages.specs.declared.mode.Mode.{Mode}
+use Rattle.dr_ages.specs.declared.mode.Mode.TheVariants.{Sim, Run}
+use Rattle.dr_ages.specs.Ages.{IsAgeOf, IsPlayed, start_of}
 use Rattle.dr_ages.specs.Left.{HasLeft, IsFullAt, StandsAsLeft}
 use Rattle.dr_ages.specs.Lent.{AreMounted, GoesOn, IsMounted, with_logs}
 use Rattle.dr_ages.specs.Opened.{AreCaughtUp, AreLater, IsCaughtUp}
@@ -73,28 +76,51 @@ come_on tells faults base log history logged why come = record {
   later = come.later;
 }
 
-pub later_by_come : {D : Type 0} (tells : D → Option Told) (faults : D → ℕ) (olds mids news : List (LogState D))
-    (members : List MemberEnd) → AreLater tells faults olds mids → length mids ≡ length olds
-    → length members ≡ length mids → HaveCome tells faults mids news members → AreLater tells faults olds news
-later_by_come tells faults olds mids news members first count all come m old new there here =
-    let within = slice_get_within olds m old there in
-    let mid = slice_get-some mids m (omega (arith, within, count)) in
-    let e = slice_get-some members m (omega (arith, within, count, all)) in
-    on_then (tells old.disk) (tells mid.0.disk) (tells new.disk) (faults old.disk) (faults mid.0.disk)
-    (faults new.disk) (first m old mid.0 there mid.1)
-    (come_on tells faults mid.0 new e.0.history e.0.logged (why_ended e.0.end)
-    (come m mid.0 new e.0 mid.1 here e.1))
-
-pub later_by_calm : {D : Type 0} (tells : D → Option Told) (faults : D → ℕ) (olds mids news : List (LogState D))
-    → AreLater tells faults olds mids → length mids ≡ length olds → AreCalm tells faults mids news
+pub later_by_come : {D : Type 0} (tells : D → Option Told) (faults : D → ℕ) (olds news : List (LogState D))
+    (members : List MemberEnd) → length members ≡ length olds → HaveCome tells faults olds news members
     → AreLater tells faults olds news
-later_by_calm tells faults olds mids news first count calm m old new there here =
-    let within = slice_get_within olds m old there in
-    let mid = slice_get-some mids m (omega (arith, within, count)) in
-    let still = calm m mid.0 new mid.1 here in
+later_by_come tells faults olds news members all come m old new there here =
+    let e = slice_get-some members m (omega (arith, slice_get_within olds m old there, all)) in
+    come_on tells faults old new e.0.history e.0.logged (why_ended e.0.end) (come m old new e.0 there here e.1)
+
+pub later_by_calm : {D : Type 0} (tells : D → Option Told) (faults : D → ℕ) (olds news : List (LogState D))
+    → AreCalm tells faults olds news → AreLater tells faults olds news
+later_by_calm tells faults olds news calm m old new there here =
+    let still = calm m old new there here in
+    record { tells = ap (λ o. is_some o) (sym still.0); later = omega (arith, still.1) }
+
+pub later_by_longer : {D : Type 0} (tells : D → Option Told) (faults : D → ℕ) (olds news : List (LogState D))
+    → AreLonger tells faults olds news → AreLater tells faults olds news
+later_by_longer tells faults olds news longer m old new there here =
+    let is = longer.each m old new there here in record { tells = by is is.moments; later = is.later }
+  where
+    by : (is : IsLonger tells faults old new)
+        → (tells new.disk ≡ tells old.disk)
+        ⊎ Goes (tells old.disk) (tells new.disk) (λ s. LosesNone old.entries old.votes)
+        → is_some (tells old.disk) ≡ is_some (tells new.disk)
+    by is (inl same) = ap (λ o. is_some o) (sym same)
+    by is (inr goes) = goes_tells (tells old.disk) (tells new.disk) (λ s. LosesNone old.entries old.votes) goes
+
+-- what holds of the value of an answer
+pub ok_at : {X E : Type 0} (P : X → Type 0) (result : Result X E) (x : X) → result ≡ Ok x → IfOk result P → P x
+ok_at P result x is so = subst (λ r. IfOk r P) is so
+
+-- an age that ran, or that had no memory to begin
+pub later_by_result : {D E : Type 0} (tells : D → Option Told) (faults : D → ℕ) (olds news : List (LogState D))
+    (result : Result AgeEnd E) → IfOk result (λ age. length age.members ≡ length olds)
+    → IfOk result (λ age. HaveCome tells faults olds news age.members)
+    → OnErr result (AreCalm tells faults olds news) → AreLater tells faults olds news
+later_by_result tells faults olds news (Ok age) all come calm =
+    later_by_come tells faults olds news age.members all come
+later_by_result tells faults olds news (Err error) all come calm = later_by_calm tells faults olds news calm
+
+pub later_on : {D : Type 0} (tells : D → Option Told) (faults : D → ℕ) (olds mids news : List (LogState D))
+    → length mids ≡ length olds → AreLater tells faults olds mids → AreLater tells faults mids news
+    → AreLater tells faults olds news
+later_on tells faults olds mids news count first next m old new there here =
+    let mid = slice_get-some mids m (omega (arith, slice_get_within olds m old there, count)) in
     on_then (tells old.disk) (tells mid.0.disk) (tells new.disk) (faults old.disk) (faults mid.0.disk)
-    (faults new.disk) (first m old mid.0 there mid.1)
-    (record { tells = ap (λ o. is_some o) (sym still.0); later = omega (arith, still.1) })
+    (faults new.disk) (first m old mid.0 there mid.1) (next m mid.0 new mid.1 here)
 
 -- ---- what is left on a disk
 
@@ -163,8 +189,8 @@ left_by {D} tells faults base log e votes come kept = by (why_ended e.end) refl 
 
 -- ---- the age
 
--- an age that was simulated over these logs: as they were mounted, as it began, and as they are
-pub record WasSimulated {D : Type 0} (tells : D → Option Told) (faults : D → ℕ) (script : Script) (nth : ℕ)
+-- an age that was run over these logs: as they were mounted, as it began, and as they are
+pub record WasPlayed {D : Type 0} (tells : D → Option Told) (faults : D → ℕ) (script : Script) (mode : Mode) (nth : ℕ)
     (before : YardState) (start : Start) (olds mids news : List (LogState D)) (age : AgeEnd) : Type 0 where
   pub ranges : HasRanges script
   pub all : length olds ≡ script.members
@@ -172,26 +198,33 @@ pub record WasSimulated {D : Type 0} (tells : D → Option Told) (faults : D →
   pub starts : IsStartOf script (entries_on olds) start
   pub small : start.age < 2 ^ 16
   pub caught : AreCaughtUp tells faults (opened_with start start.members) olds mids (length olds)
-  pub run : IsSimulated script start nth age
+  pub run : IsPlayed mode script start nth age
   pub agreed : EndsAgreed (group_of script start).opening age.members
   pub ended : HaveEnded (group_of script start).opening script.turns (crashes_of script.faults nth) age.members
   pub trusting : SuspectsNobody script → NoneLeft age.members
-  pub complete : HasTime script → NoneStopped age.members
+  pub complete : mode ≡ Sim → HasTime script → NoneStopped age.members
       → AreComplete (group_of script start).opening age.members
   pub come : HaveCome tells faults mids news age.members
   pub ample : All (IsAmple (group_of script start)) mids → NoneFull age.members
   pub count : length news ≡ length mids
   pub members : length age.members ≡ length mids
 
+-- its end tells the entries of its start, and its number
+told_by : (mode : Mode) (script : Script) (start : Start) (nth : ℕ) (age : AgeEnd)
+    → IsPlayed mode script start nth age
+    → (p : Program) × (age ≡ age_of (group_of script start).opening p)
+told_by Sim script start nth age is = (is.1, is.4)
+told_by Run script start nth age is = (is.over, is.told)
+
 -- its start is the one that its end tells
-same_start : {D : Type 0} (tells : D → Option Told) (faults : D → ℕ) (script : Script) (nth : ℕ)
+same_start : {D : Type 0} (tells : D → Option Told) (faults : D → ℕ) (script : Script) (mode : Mode) (nth : ℕ)
     (before : YardState) (start : Start) (olds mids news : List (LogState D)) (age : AgeEnd)
-    → WasSimulated tells faults script nth before start olds mids news age → start ≡ start_of script age
-same_start tells faults script nth before start olds mids news age w = λ i. record {
-  age = sym (ap (λ (a : AgeEnd). a.age) w.run.4) i;
+    → WasPlayed tells faults script mode nth before start olds mids news age → start ≡ start_of script age
+same_start tells faults script mode nth before start olds mids news age w = λ i. record {
+  age = sym (ap (λ (a : AgeEnd). a.age) (told_by mode script start nth age w.run).1) i;
   members = w.starts.members i;
   present = w.starts.present i;
-  entries = sym (ap (λ (a : AgeEnd). a.start) w.run.4) i;
+  entries = sym (ap (λ (a : AgeEnd). a.start) (told_by mode script start nth age w.run).1) i;
 }
 
 -- a member of it, with its log
@@ -207,12 +240,12 @@ record IsOf {D : Type 0} (tells : D → Option Told) (faults : D → ℕ) (whole
   caught : IsCaughtUp tells faults whole old mid
   come : HasCome tells faults mid new e.history e.logged (why_ended e.end)
 
-is_of : {D : Type 0} (tells : D → Option Told) (faults : D → ℕ) (script : Script) (nth : ℕ)
+is_of : {D : Type 0} (tells : D → Option Told) (faults : D → ℕ) (script : Script) (mode : Mode) (nth : ℕ)
     (before : YardState) (start : Start) (olds mids news : List (LogState D)) (age : AgeEnd) (m : ℕ)
-    (e : MemberEnd) → WasSimulated tells faults script nth before start olds mids news age
+    (e : MemberEnd) → WasPlayed tells faults script mode nth before start olds mids news age
     → slice_get age.members m ≡ Some e
     → IsOf tells faults (opened_with start start.members) before olds mids news m e
-is_of tells faults script nth before start olds mids news age m e w at =
+is_of tells faults script mode nth before start olds mids news age m e w at =
     let within : m < length mids = omega (arith, slice_get_within age.members m e at, w.members) in
     let old = slice_get-some olds m (omega (arith, within, w.caught.all)) in
     let mid = slice_get-some mids m within in
@@ -229,23 +262,23 @@ is_of tells faults script nth before start olds mids news age m e w at =
       come = w.come m mid.0 new.0 e mid.1 new.1 at;
     }
 
-pub is_age : {D : Type 0} (tells : D → Option Told) (faults : D → ℕ) (script : Script) (nth : ℕ)
+pub is_age : {D : Type 0} (tells : D → Option Told) (faults : D → ℕ) (script : Script) (mode : Mode) (nth : ℕ)
     (before : YardState) (start : Start) (olds mids news : List (LogState D)) (age : AgeEnd)
-    → WasSimulated tells faults script nth before start olds mids news age
-    → IsAgeOf script nth before (with_logs tells faults before news) age
-is_age {D} tells faults script nth before start olds mids news age w = record {
+    → WasPlayed tells faults script mode nth before start olds mids news age
+    → IsAgeOf script mode nth before (with_logs tells faults before news) age
+is_age {D} tells faults script mode nth before start olds mids news age w = record {
   lists = entries_on olds;
   votes = votes_on olds;
   found = are_found tells faults before olds script.members w.mounted w.all;
   starts = subst (IsStartOf script (entries_on olds)) same w.starts;
   small = omega (arith, w.small, ap (λ (s : Start). s.age) same);
   roster = w.members ∙ (w.caught.all ∙ w.all);
-  run = subst (λ (s : Start). IsSimulated script s nth age) same w.run;
+  run = subst (λ (s : Start). IsPlayed mode script s nth age) same w.run;
   agreed = subst (λ (s : Start). EndsAgreed (group_of script s).opening age.members) same w.agreed;
   ended = subst (λ (s : Start). HaveEnded (group_of script s).opening script.turns
       (crashes_of script.faults nth) age.members) same w.ended;
   trusting = w.trusting;
-  complete = subst (λ (s : Start). HasTime script → NoneStopped age.members
+  complete = subst (λ (s : Start). mode ≡ Sim → HasTime script → NoneStopped age.members
       → AreComplete (group_of script s).opening age.members) same w.complete;
   opened = λ m e at. subst (λ (s : Start). IsPrefixOf (first_entries (group_of script s).opening)
       (take e.logged e.history)) same (opened m e at);
@@ -254,21 +287,21 @@ is_age {D} tells faults script nth before start olds mids news age w = record {
   full = full;
   ample = λ none. w.ample (λ k d l. ample none k d l);
   passes = passed_with tells faults before before olds news w.mounted
-      (later_by_come tells faults olds mids news age.members
+      (later_on tells faults olds mids news w.caught.all
       (caught_later tells faults (opened_with start start.members) olds mids (length olds) w.caught)
-      w.caught.all w.members w.come) (w.count ∙ w.caught.all)
+      (later_by_come tells faults mids news age.members w.members w.come)) (w.count ∙ w.caught.all)
       (λ m past. record { tells = refl; later = omega arith });
 }
   where
     same : start ≡ start_of script age
-    same = same_start tells faults script nth before start olds mids news age w
+    same = same_start tells faults script mode nth before start olds mids news age w
 
     whole : List Entry
     whole = opened_with start start.members
 
     one : (m : ℕ) (e : MemberEnd) → slice_get age.members m ≡ Some e
         → IsOf tells faults whole before olds mids news m e
-    one m e at = is_of tells faults script nth before start olds mids news age m e w at
+    one m e at = is_of tells faults script mode nth before start olds mids news age m e w at
 
     opened : (m : ℕ) (e : MemberEnd) → slice_get age.members m ≡ Some e
         → IsPrefixOf whole (take e.logged e.history)

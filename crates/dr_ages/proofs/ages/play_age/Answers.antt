@@ -1,0 +1,54 @@
+use Rattle.std.proofs.Common.{◌∙◌, sym, subst, List}
+use Rattle.std.proofs.lemmas.List.{with_items_is}
+use Rattle.std.proofs.lemmas.Result.{IfOk-weaker}
+use Rattle.std.specs.Prelude.{All}
+use Rattle.dr_age.specs.Logged.{HaveCome, IsAmple}
+use Rattle.dr_log.specs.State.{LogState}
+use Rattle.dr_restart.specs.Groups.{group_of}
+use Rattle.dr_ages.specs.Opened.{AreLater}
+use Rattle.dr_ages.proofs.Played.{later_by_come, later_by_longer, later_by_result}
+use Rattle.dr_ages.proofs.ages.play_age.Goals as goal
+
+pub returns-in-Sim-clause-complete : goal.returns-in-Sim-clause-complete
+returns-in-Sim-clause-complete g c =
+    IfOk-weaker c.sim_age.result _ _ (λ age so sim. so) c.sim_age.ensures.complete
+
+pub returns-in-Sim-clause-come : goal.returns-in-Sim-clause-come
+returns-in-Sim-clause-come g c =
+    let told = g.D.Disk.told in
+    let faults = g.D.Disk.faults in
+    let items = with_items_is c.args.logs c.sim_age.new.logs
+    (c.sim_age.ensures.count ∙ c.as_mut_slice.ensures.len) in
+    IfOk-weaker c.sim_age.result _ _
+    (λ age so.
+    subst (λ (l : List (LogState g.row.D.Denot)). HaveCome told faults c.args.logs.items l age.members) (sym items)
+    (subst (λ (l : List (LogState g.row.D.Denot)). HaveCome told faults l c.sim_age.new.logs age.members)
+    c.as_mut_slice.ensures.value so)) c.sim_age.ensures.logged
+
+pub returns-in-Sim-clause-ample : goal.returns-in-Sim-clause-ample
+returns-in-Sim-clause-ample g c =
+    IfOk-weaker c.sim_age.result _ _
+    (λ age so all. so (subst (λ (l : List (LogState g.row.D.Denot)).
+    All (IsAmple (group_of c.args.script.now c.args.start.now)) l) (sym c.as_mut_slice.ensures.value) all))
+    c.sim_age.ensures.ample
+
+pub returns-in-Sim-clause-later : goal.returns-in-Sim-clause-later
+returns-in-Sim-clause-later g c =
+    let told = g.D.Disk.told in
+    let faults = g.D.Disk.faults in
+    let items = with_items_is c.args.logs c.sim_age.new.logs
+    (c.sim_age.ensures.count ∙ c.as_mut_slice.ensures.len) in
+    subst (λ (l : List (LogState g.row.D.Denot)). AreLater told faults c.args.logs.items l) (sym items)
+    (subst (λ (l : List (LogState g.row.D.Denot)). AreLater told faults l c.sim_age.new.logs)
+    c.as_mut_slice.ensures.value
+    (later_by_result told faults c.as_mut_slice.result.now c.sim_age.new.logs c.sim_age.result
+    c.sim_age.ensures.members c.sim_age.ensures.logged c.sim_age.ensures.calm))
+
+pub returns-in-Ok-clause-later : goal.returns-in-Ok-clause-later
+returns-in-Ok-clause-later g c =
+    later_by_come g.D.Disk.told g.D.Disk.faults c.args.logs.items c.in-Ok.logs.items c.in-Ok.age.members
+    c.in-Ok.ensures.members c.in-Ok.ensures.logs
+
+pub returns-in-Err-clause-later : goal.returns-in-Err-clause-later
+returns-in-Err-clause-later g c =
+    later_by_longer g.D.Disk.told g.D.Disk.faults c.args.logs.items c.in-Err.logs.items c.in-Err.ensures.logs
