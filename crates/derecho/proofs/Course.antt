@@ -3,6 +3,8 @@ use Rattle.std.proofs.Common.{◌≡◌, ◌⊎◌, refl, sym, ap, ap₂, ◌∙
 use Rattle.std.specs.declared.alloc.Global.{Global}
 use Rattle.std.proofs.lemmas.Bool.{cases_Bool, or_parts}
 use Rattle.std.proofs.lemmas.Option.{same_Some}
+use Rattle.dr_ages.specs.declared.mode.Mode.{Mode}
+use Rattle.dr_ages.specs.declared.mode.Mode.TheVariants.{Sim}
 use Rattle.dr_ages.specs.declared.stop.Stop.{Stop}
 use Rattle.dr_ages.specs.Ages.{AreAges}
 use Rattle.dr_complete.specs.Time.{HasTime}
@@ -38,11 +40,12 @@ IsCourse c last = Course c.words c.old c.new c.failed c.fails c.before c.after c
 
 -- a script was read, and run with all the memory that it needed
 pub record Ran (c : Call) : Type 0 where
+  pub mode : Mode
   pub folder : Option (List ℕ)
-  pub asked : asked_by c.words ≡ Some folder
+  pub asked : asked_by c.words ≡ Some (mode, folder)
   pub script : Script
   pub is : IsScript c.old c.new script
-  pub run : HasRun folder script c.before c.after c.ages c.stop
+  pub run : HasRun mode folder script c.before c.after c.ages c.stop
   pub ample : is_memory c.stop ≡ false
 
 -- nothing that a status tells has come
@@ -132,19 +135,19 @@ refused_status (Reads s) = refl
 
 -- a call whose script was read
 read_standing : (c : Call) (held holds : Option (List ℕ)) (fell falls status : ℕ) (last : Option Last)
-    (folder : Option (List ℕ)) → asked_by c.words ≡ Some folder → (bytes : List ℕ)
+    (mode : Mode) (folder : Option (List ℕ)) → asked_by c.words ≡ Some (mode, folder) → (bytes : List ℕ)
     → WasRead c.old c.new bytes → (o : Option Script) → runnable (reading_of bytes) ≡ o
     → MatchOption o
     (RanNothing c.before c.after c.ages c.stop × (last ≡ Some (refusal (reading_of bytes))))
-    (λ script. HasRun folder script c.before c.after c.ages c.stop × (last ≡ last_of c.ages c.stop))
+    (λ script. HasRun mode folder script c.before c.after c.ages c.stop × (last ≡ last_of c.ages c.stop))
     → WroteOrNot held holds fell falls status c.ages last → Standing c status
-read_standing c held holds fell falls status last folder asked bytes was None is (nothing, line) wrote =
+read_standing c held holds fell falls status last mode folder asked bytes was None is (nothing, line) wrote =
     elim (said held holds fell falls status c.ages last (refusal (reading_of bytes)) wrote line) [
       | inl first ↦ early first
       | inr due ↦ bad_script (due ∙ refused_status (reading_of bytes)) (ap is_some asked) (bytes, was, is)
           (quiet c nothing)
     ]
-read_standing c held holds fell falls status last folder asked bytes was (Some script) is (ran, line) wrote =
+read_standing c held holds fell falls status last mode folder asked bytes was (Some script) is (ran, line) wrote =
     elim (cases_Bool (is_memory c.stop)) [
       | inl wanting ↦ early (unsaid held holds fell falls status c.ages last wrote
           (line ∙ ap (λ b. if b then None else Some told) wanting))
@@ -154,6 +157,7 @@ read_standing c held holds fell falls status last folder asked bytes was (Some s
             | inl first ↦ early first
             | inr due ↦ has_run
                 (record {
+                  mode = mode;
                   folder = folder;
                   asked = asked;
                   script = script;
@@ -185,8 +189,8 @@ standing_of c held holds fell falls status last course wrote = elim course [
         | inl first ↦ early first
         | inr due ↦ bad_source due known rose (quiet c nothing)
       ]
-  | read folder asked bytes was over ↦
-      read_standing c held holds fell falls status last folder asked bytes was (runnable (reading_of bytes))
+  | read mode folder asked bytes was over ↦
+      read_standing c held holds fell falls status last mode folder asked bytes was (runnable (reading_of bytes))
       refl over wrote
 ]
 
@@ -342,19 +346,20 @@ unfinished_of {c} {status} standing = record {
 }
 
 -- the ages of a run, over whatever disks
-ages_of : (folder : Option (List ℕ)) (script : Script) (before after : YardState) (ages : List AgeEnd)
-    (stop : Option Stop) → HasRun folder script before after ages stop
-    → (from : YardState) × (to : YardState) × AreAges script 0 from ages to
-ages_of (Some name) script before after ages stop run = (before, run.last, run.course)
-ages_of None script before after ages stop run = (empty_yard, run.1.run.last, run.1.run.course)
+ages_of : (mode : Mode) (folder : Option (List ℕ)) (script : Script) (before after : YardState) (ages : List AgeEnd)
+    (stop : Option Stop) → HasRun mode folder script before after ages stop
+    → (from : YardState) × (to : YardState) × AreAges script mode 0 from ages to
+ages_of mode (Some name) script before after ages stop run = (before, run.last, run.course)
+ages_of mode None script before after ages stop run = (empty_yard, run.1.run.last, run.1.run.course)
 
 -- a script whose members spend their turns gives them too little time
-pub untimely_of : {c : Call} {status : ℕ} → Standing c status → status ≡ 8
+pub untimely_of : {c : Call} {status : ℕ} → Standing c status → (folder : Option (List ℕ))
+    → asked_by c.words ≡ Some (Sim, folder) → status ≡ 8
     → (s : Script) × IsScript c.old c.new s × (HasTime s → ⊥)
-untimely_of {c} {status} standing is =
+untimely_of {c} {status} standing folder asked is =
     let has = run_of c 8 status is (omega arith) (λ e. omega (arith, e)) standing in
     let ran = has.0 in
-    let course = ages_of ran.folder ran.script c.before c.after c.ages c.stop ran.run in
+    let course = ages_of ran.mode ran.folder ran.script c.before c.after c.ages c.stop ran.run in
     elim has.1 [
       | by_disk e disk ↦ absurd (omega (arith, is, e))
       | by_logs e disk logs ↦ absurd (omega (arith, is, e))
@@ -362,7 +367,9 @@ untimely_of {c} {status} standing is =
       | by_turns e disk logs full turns ↦ (
         ran.script,
         ran.is,
-        λ time. true≢false (sym turns ∙ none_spent ran.script 0 course.0 course.1 c.ages course.2 time
+        λ time. true≢false (sym turns ∙ none_spent ran.script ran.mode 0 course.0 course.1 c.ages course.2
+            (ap (λ (p : Mode × Option (List ℕ)). p.0)
+            (same_Some (ran.mode, ran.folder) (Sim, folder) (sym ran.asked ∙ asked))) time
             (or_parts (some_end DiskFault c.ages) (is_some (stopped_by DiskFault c.stop)) disk).0
             (or_parts (some_end LogFull c.ages) (is_some (stopped_by LogFull c.stop)) full).0),
       )
@@ -387,29 +394,30 @@ status_known {c} {status} standing = elim standing [
 ]
 
 -- and one of these where the words name no folder
-pub memory_status : {c : Call} {status : ℕ} → Standing c status → asked_by c.words ≡ Some None
-    → Contains (0 ∷ 3 ∷ 4 ∷ 5 ∷ 8 ∷ 10 ∷ []) status
-memory_status {c} {status} standing asked = elim standing [
+pub memory_status : {c : Call} {status : ℕ} → Standing c status → (mode : Mode)
+    → asked_by c.words ≡ Some (mode, None) → Contains (0 ∷ 3 ∷ 4 ∷ 5 ∷ 8 ∷ 10 ∷ []) status
+memory_status {c} {status} standing mode asked = elim standing [
   | early e ↦ elim e [ inl e ↦ (5, omega arith, sym e) | inr e ↦ (3, omega arith, sym e) ]
   | bad_words e other calm ↦ absurd (other (ap is_some asked))
   | bad_source e known rose calm ↦ (2, omega arith, sym e)
   | bad_script e known bad calm ↦ (1, omega arith, sym e)
   | has_run ran rank ↦ elim rank [
     | by_disk e disk ↦
-        absurd (true≢false (sym disk ∙ memory_holds ran.script c.ages c.stop (in_memory ran) ran.ample))
+        absurd (true≢false (sym disk ∙ memory_holds ran.script ran.mode c.ages c.stop (in_memory ran) ran.ample))
     | by_logs e disk logs ↦
-        absurd (true≢false (sym logs ∙ memory_accepts ran.script c.ages c.stop (in_memory ran)))
+        absurd (true≢false (sym logs ∙ memory_accepts ran.script ran.mode c.ages c.stop (in_memory ran)))
     | by_full e disk logs full ↦
-        absurd (true≢false (sym full ∙ memory_has_room ran.script c.ages c.stop (in_memory ran)))
+        absurd (true≢false (sym full ∙ memory_has_room ran.script ran.mode c.ages c.stop (in_memory ran)))
     | by_turns e disk logs full turns ↦ (4, omega arith, sym e)
     | by_none e calm ↦ (0, omega arith, sym e)
   ]
 ]
   where
-    in_memory : (ran : Ran c) → IsRunInMemory ran.script c.ages c.stop
+    in_memory : (ran : Ran c) → IsRunInMemory ran.script ran.mode c.ages c.stop
     in_memory ran =
-        (subst (λ folder. HasRun folder ran.script c.before c.after c.ages c.stop)
-        (same_Some ran.folder None (sym ran.asked ∙ asked)) ran.run).1
+        (subst (λ folder. HasRun ran.mode folder ran.script c.before c.after c.ages c.stop)
+        (ap (λ (p : Mode × Option (List ℕ)). p.1)
+        (same_Some (ran.mode, ran.folder) (mode, None) (sym ran.asked ∙ asked))) ran.run).1
 
 -- a source that failed is told by the status, unless an earlier one is
 pub fault_told : (held holds : Option (List ℕ)) (fell falls status : ℕ) (ages : List AgeEnd)

@@ -6,6 +6,8 @@ use Rattle.std.proofs.lemmas.Bool.{cases_Bool, or_from, or_parts}
 use Rattle.std.proofs.lemmas.List.Elements.{All-cons, All-nil}
 use Rattle.std.proofs.lemmas.List.Folds.{list_any_at, list_any_none}
 use Rattle.std.proofs.lemmas.Option.{slice_get-get_or}
+use Rattle.dr_ages.specs.declared.mode.Mode.{Mode}
+use Rattle.dr_ages.specs.declared.mode.Mode.TheVariants.{Sim}
 use Rattle.dr_ages.specs.declared.stop.Stop.{Stop}
 use Rattle.dr_ages.specs.declared.stop.Stop.TheVariants as stops
 use Rattle.dr_ages.specs.Ages.{AreAges, opening_of}
@@ -21,7 +23,7 @@ use Rattle.dr_entry.specs.declared.limits.TheConstants.{MAX_MEMBERS}
 use Rattle.dr_history.specs.declared.opening.Opening.{Opening}
 use Rattle.dr_program_laws.specs.Ended.{AreComplete}
 use Rattle.dr_script.specs.declared.script.Script.{Script}
-use Rattle.dr_sim.specs.Logged.{IsNotFull, why_ended}
+use Rattle.dr_age.specs.Logged.{IsNotFull, why_ended}
 use Rattle.dr_yard.specs.Yards.{YardState, empty_yard}
 use Rattle.derecho.specs.declared.last.Kind.{Kind}
 use Rattle.derecho.specs.declared.last.Kind.TheVariants.{DiskFault, LogFull, Spent}
@@ -33,20 +35,20 @@ abbrev some_of : Kind → List MemberEnd → Bool
 some_of kind members = list_any (λ (m : MemberEnd). is_of kind m.end) members
 
 -- every age has as many members as the script
-pub few_members : (script : Script) (nth : ℕ) (before after : YardState) (ages : List AgeEnd)
-    → script.members ≤ MAX_MEMBERS → AreAges script nth before ages after
+pub few_members : (script : Script) (mode : Mode) (nth : ℕ) (before after : YardState) (ages : List AgeEnd)
+    → script.members ≤ MAX_MEMBERS → AreAges script mode nth before ages after
     → All (λ (age : AgeEnd). length age.members ≤ MAX_MEMBERS) ages
-few_members script nth before after [] few are = All-nil (λ (age : AgeEnd). length age.members ≤ MAX_MEMBERS)
-few_members script nth before after (age ∷ ages) few (between, is, rest) =
+few_members script mode nth before after [] few are = All-nil (λ (age : AgeEnd). length age.members ≤ MAX_MEMBERS)
+few_members script mode nth before after (age ∷ ages) few (between, is, rest) =
     All-cons (λ (age : AgeEnd). length age.members ≤ MAX_MEMBERS) age ages (omega (arith, is.roster, few))
-    (few_members script (nth + 1) between after ages few rest)
+    (few_members script mode (nth + 1) between after ages few rest)
 
 -- no count of faults falls
-later : (script : Script) (nth : ℕ) (before after : YardState) (ages : List AgeEnd)
-    → AreAges script nth before ages after → (m : ℕ) → before.faults m ≤ after.faults m
-later script nth before after [] are m = omega (arith, ap (λ (yard : YardState). yard.faults m) are)
-later script nth before after (age ∷ ages) (between, is, rest) m =
-    omega (arith, is.passes.later m, later script (nth + 1) between after ages rest m)
+later : (script : Script) (mode : Mode) (nth : ℕ) (before after : YardState) (ages : List AgeEnd)
+    → AreAges script mode nth before ages after → (m : ℕ) → before.faults m ≤ after.faults m
+later script mode nth before after [] are m = omega (arith, ap (λ (yard : YardState). yard.faults m) are)
+later script mode nth before after (age ∷ ages) (between, is, rest) m =
+    omega (arith, is.passes.later m, later script mode (nth + 1) between after ages rest m)
 
 disk_fault_is : (e : End) → is_of DiskFault e ≡ true → e ≡ ends.DiskFault
 disk_fault_is ends.Done is = absurd (true≢false (sym is))
@@ -59,13 +61,13 @@ disk_fault_is (ends.LogFull len) is = absurd (true≢false (sym is))
 disk_fault_is (ends.Spent turns) is = absurd (true≢false (sym is))
 
 -- where no fault is counted no disk has ended a member
-none_failed : (script : Script) (nth : ℕ) (before after : YardState) (ages : List AgeEnd)
-    → AreAges script nth before ages after → ((m : ℕ) → after.faults m ≡ 0) → some_end DiskFault ages ≡ false
-none_failed script nth before after [] are calm = refl
-none_failed script nth before after (age ∷ ages) (between, is, rest) calm =
+none_failed : (script : Script) (mode : Mode) (nth : ℕ) (before after : YardState) (ages : List AgeEnd)
+    → AreAges script mode nth before ages after → ((m : ℕ) → after.faults m ≡ 0) → some_end DiskFault ages ≡ false
+none_failed script mode nth before after [] are calm = refl
+none_failed script mode nth before after (age ∷ ages) (between, is, rest) calm =
     or_from (some_of DiskFault age.members) (some_end DiskFault ages)
     (list_any_none (λ (m : MemberEnd). is_of DiskFault m.end) age.members here)
-    (none_failed script (nth + 1) between after ages rest calm)
+    (none_failed script mode (nth + 1) between after ages rest calm)
   where
     here : All (λ (m : MemberEnd). is_of DiskFault m.end ≡ false) age.members
     here k d within =
@@ -74,7 +76,7 @@ none_failed script nth before after (age ∷ ages) (between, is, rest) calm =
           | inl failed ↦
               let at = slice_get-get_or age.members k d within in
               let rose = is.failed k e at (disk_fault_is e.end failed) in
-              absurd (omega (arith, rose, later script (nth + 1) between after ages rest k, calm k))
+              absurd (omega (arith, rose, later script mode (nth + 1) between after ages rest k, calm k))
           | inr other ↦ other
         ]
 
@@ -103,19 +105,20 @@ none_spends o members complete = list_any_none (λ (m : MemberEnd). is_of Spent 
     ap (is_of Spent) (complete k (get_or members k d) (slice_get-get_or members k d within)).end)
 
 -- with time enough, and unless a log ends one, no member spends its turns
-pub none_spent : (script : Script) (nth : ℕ) (before after : YardState) (ages : List AgeEnd)
-    → AreAges script nth before ages after → HasTime script → some_end DiskFault ages ≡ false
+pub none_spent : (script : Script) (mode : Mode) (nth : ℕ) (before after : YardState) (ages : List AgeEnd)
+    → AreAges script mode nth before ages after → mode ≡ Sim → HasTime script
+    → some_end DiskFault ages ≡ false
     → some_end LogFull ages ≡ false → some_end Spent ages ≡ false
-none_spent script nth before after [] are time failed full = refl
-none_spent script nth before after (age ∷ ages) (between, is, rest) time failed full =
+none_spent script mode nth before after [] are sim time failed full = refl
+none_spent script mode nth before after (age ∷ ages) (between, is, rest) sim time failed full =
     let fails = or_parts (some_of DiskFault age.members) (some_end DiskFault ages) failed in
     let fills = or_parts (some_of LogFull age.members) (some_end LogFull ages) full in
     or_from (some_of Spent age.members) (some_end Spent ages)
-    (none_spends (opening_of script age) age.members (is.complete time
+    (none_spends (opening_of script age) age.members (is.complete sim time
     (λ k d within. unstopped (get_or age.members k d).end
     (none_of (λ (m : MemberEnd). is_of DiskFault m.end) age.members k d fails.0 within)
     (none_of (λ (m : MemberEnd). is_of LogFull m.end) age.members k d fills.0 within))))
-    (none_spent script (nth + 1) between after ages rest time fails.1 fills.1)
+    (none_spent script mode (nth + 1) between after ages rest sim time fails.1 fills.1)
 
 unfull : (e : End) → IsNotFull e → is_of LogFull e ≡ false
 unfull ends.Done room = refl
@@ -128,58 +131,58 @@ unfull (ends.LogFull len) room = absurd room
 unfull (ends.Spent turns) room = refl
 
 -- a run over empty disks
-fresh : (script : Script) (ages : List AgeEnd) (stop : Option Stop) → IsRunInMemory script ages stop
+fresh : (script : Script) (mode : Mode) (ages : List AgeEnd) (stop : Option Stop) → IsRunInMemory script mode ages stop
     → IsFreshRun ages stop
-fresh script ages stop in_memory = in_memory.run.fresh (λ m below. refl)
+fresh script mode ages stop in_memory = in_memory.run.fresh (λ m below. refl)
 
-pub in_memory : (script : Script) (ages : List AgeEnd) (stop : Option Stop) (told : ℕ → Option Told)
+pub in_memory : (script : Script) (mode : Mode) (ages : List AgeEnd) (stop : Option Stop) (told : ℕ → Option Told)
     (after : YardState) → ((m : ℕ) → told m ≡ Some (Now (at_rest []))) → ((m : ℕ) → after.faults m ≡ 0)
-    → IsRunOf script (record { told = told; faults = λ m. 0 }) after ages stop
-    → IsRunInMemory script ages stop
-in_memory script ages stop told after empty calm run = record {
+    → IsRunOf script mode (record { told = told; faults = λ m. 0 }) after ages stop
+    → IsRunInMemory script mode ages stop
+in_memory script mode ages stop told after empty calm run = record {
   after = after;
   calm = calm;
-  run = subst (λ (t : ℕ → Option Told). IsRunOf script (record { told = t; faults = λ m. 0 }) after ages stop)
+  run = subst (λ (t : ℕ → Option Told). IsRunOf script mode (record { told = t; faults = λ m. 0 }) after ages stop)
       (fun_ext empty) run;
 }
 
 -- over empty disks that count no fault, and where memory is not wanting, no disk ends a run or a member
-pub memory_holds : (script : Script) (ages : List AgeEnd) (stop : Option Stop)
-    → IsRunInMemory script ages stop → is_memory stop ≡ false → some_so DiskFault ages stop ≡ false
-memory_holds script ages None in_memory ample =
+pub memory_holds : (script : Script) (mode : Mode) (ages : List AgeEnd) (stop : Option Stop)
+    → IsRunInMemory script mode ages stop → is_memory stop ≡ false → some_so DiskFault ages stop ≡ false
+memory_holds script mode ages None in_memory ample =
     or_from (some_end DiskFault ages) false
-    (none_failed script 0 empty_yard in_memory.run.last ages in_memory.run.course
+    (none_failed script mode 0 empty_yard in_memory.run.last ages in_memory.run.course
     (λ m. ap (λ (yard : YardState). yard.faults m) in_memory.run.finish.1 ∙ in_memory.calm m))
     refl
-memory_holds script ages (Some stops.OutOfMemory) in_memory ample = absurd (true≢false ample)
-memory_holds script ages (Some (stops.DiskFault member)) in_memory ample =
+memory_holds script mode ages (Some stops.OutOfMemory) in_memory ample = absurd (true≢false ample)
+memory_holds script mode ages (Some (stops.DiskFault member)) in_memory ample =
     absurd (omega (arith, in_memory.run.finish.1.rose, in_memory.calm member))
-memory_holds script ages (Some (stops.LogFull member len)) in_memory ample =
-    absurd (fresh script ages (Some (stops.LogFull member len)) in_memory).stopped
-memory_holds script ages (Some (stops.Damaged member at)) in_memory ample =
-    absurd (fresh script ages (Some (stops.Damaged member at)) in_memory).stopped
-memory_holds script ages (Some (stops.Disagree a b place)) in_memory ample =
-    absurd (fresh script ages (Some (stops.Disagree a b place)) in_memory).stopped
-memory_holds script ages (Some (stops.Foreign member place)) in_memory ample =
-    absurd (fresh script ages (Some (stops.Foreign member place)) in_memory).stopped
-memory_holds script ages (Some stops.AgesUsedUp) in_memory ample =
-    absurd (fresh script ages (Some stops.AgesUsedUp) in_memory).stopped
+memory_holds script mode ages (Some (stops.LogFull member len)) in_memory ample =
+    absurd (fresh script mode ages (Some (stops.LogFull member len)) in_memory).stopped
+memory_holds script mode ages (Some (stops.Damaged member at)) in_memory ample =
+    absurd (fresh script mode ages (Some (stops.Damaged member at)) in_memory).stopped
+memory_holds script mode ages (Some (stops.Disagree a b place)) in_memory ample =
+    absurd (fresh script mode ages (Some (stops.Disagree a b place)) in_memory).stopped
+memory_holds script mode ages (Some (stops.Foreign member place)) in_memory ample =
+    absurd (fresh script mode ages (Some (stops.Foreign member place)) in_memory).stopped
+memory_holds script mode ages (Some stops.AgesUsedUp) in_memory ample =
+    absurd (fresh script mode ages (Some stops.AgesUsedUp) in_memory).stopped
 
 -- nor are logs refused
-pub memory_accepts : (script : Script) (ages : List AgeEnd) (stop : Option Stop)
-    → IsRunInMemory script ages stop → is_some (refusal_of stop) ≡ false
-memory_accepts script ages None in_memory = refl
-memory_accepts script ages (Some stops.OutOfMemory) in_memory = refl
-memory_accepts script ages (Some (stops.DiskFault member)) in_memory = refl
-memory_accepts script ages (Some (stops.LogFull member len)) in_memory = refl
-memory_accepts script ages (Some (stops.Damaged member at)) in_memory =
-    absurd (fresh script ages (Some (stops.Damaged member at)) in_memory).stopped
-memory_accepts script ages (Some (stops.Disagree a b place)) in_memory =
-    absurd (fresh script ages (Some (stops.Disagree a b place)) in_memory).stopped
-memory_accepts script ages (Some (stops.Foreign member place)) in_memory =
-    absurd (fresh script ages (Some (stops.Foreign member place)) in_memory).stopped
-memory_accepts script ages (Some stops.AgesUsedUp) in_memory =
-    absurd (fresh script ages (Some stops.AgesUsedUp) in_memory).stopped
+pub memory_accepts : (script : Script) (mode : Mode) (ages : List AgeEnd) (stop : Option Stop)
+    → IsRunInMemory script mode ages stop → is_some (refusal_of stop) ≡ false
+memory_accepts script mode ages None in_memory = refl
+memory_accepts script mode ages (Some stops.OutOfMemory) in_memory = refl
+memory_accepts script mode ages (Some (stops.DiskFault member)) in_memory = refl
+memory_accepts script mode ages (Some (stops.LogFull member len)) in_memory = refl
+memory_accepts script mode ages (Some (stops.Damaged member at)) in_memory =
+    absurd (fresh script mode ages (Some (stops.Damaged member at)) in_memory).stopped
+memory_accepts script mode ages (Some (stops.Disagree a b place)) in_memory =
+    absurd (fresh script mode ages (Some (stops.Disagree a b place)) in_memory).stopped
+memory_accepts script mode ages (Some (stops.Foreign member place)) in_memory =
+    absurd (fresh script mode ages (Some (stops.Foreign member place)) in_memory).stopped
+memory_accepts script mode ages (Some stops.AgesUsedUp) in_memory =
+    absurd (fresh script mode ages (Some stops.AgesUsedUp) in_memory).stopped
 
 unstopped_by_full : (stop : Option Stop) (ages : List AgeEnd) → IsFreshRun ages stop
     → is_some (stopped_by LogFull stop) ≡ false
@@ -193,10 +196,10 @@ unstopped_by_full (Some (stops.Foreign member place)) ages fresh = refl
 unstopped_by_full (Some stops.AgesUsedUp) ages fresh = refl
 
 -- nor is one full
-pub memory_has_room : (script : Script) (ages : List AgeEnd) (stop : Option Stop)
-    → IsRunInMemory script ages stop → some_so LogFull ages stop ≡ false
-memory_has_room script ages stop in_memory =
-    let run = fresh script ages stop in_memory in
+pub memory_has_room : (script : Script) (mode : Mode) (ages : List AgeEnd) (stop : Option Stop)
+    → IsRunInMemory script mode ages stop → some_so LogFull ages stop ≡ false
+memory_has_room script mode ages stop in_memory =
+    let run = fresh script mode ages stop in_memory in
     or_from (some_end LogFull ages) (is_some (stopped_by LogFull stop))
     (list_any_none (λ (age : AgeEnd). some_of LogFull age.members) ages
     (λ k d within. list_any_none (λ (m : MemberEnd). is_of LogFull m.end) (get_or ages k d).members

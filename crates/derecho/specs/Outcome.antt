@@ -1,6 +1,7 @@
 -- What comes of a call: what was run, its last line, and its status.
 use Rattle.std.specs.Prelude.{◌≡◌, ◌⊎◌, ℕ, List, [], Option, Some, None, Contains, IsSomeAnd, MatchOption, String}
 use Rattle.std.specs.declared.alloc.Global.{Global}
+use Rattle.dr_ages.specs.declared.mode.Mode.{Mode}
 use Rattle.dr_ages.specs.declared.stop.Stop.{Stop}
 use Rattle.dr_ages.specs.Runs.{IsRunOf}
 use Rattle.dr_entry.specs.declared.end.AgeEnd.{AgeEnd}
@@ -26,26 +27,27 @@ pub record RanNothing (before after : YardState) (ages : List AgeEnd) (stop : Op
   pub untouched : after ≡ before
 
 -- the ages of a run over empty disks, none of which counts a fault
-pub record IsRunInMemory (script : Script) (ages : List AgeEnd) (stop : Option Stop) : Type 0 where
+pub record IsRunInMemory (script : Script) (mode : Mode) (ages : List AgeEnd) (stop : Option Stop) : Type 0 where
   pub after : YardState
   pub calm : (m : ℕ) → after.faults m ≡ 0
-  pub run : IsRunOf script empty_yard after ages stop
+  pub run : IsRunOf script mode empty_yard after ages stop
 
 -- the ages of a run over the disks of the yard, where the words name a folder, and else over disks in memory,
 -- and then the yard is as it was
-abbrev pub HasRun : Option (List ℕ) → Script → YardState → YardState → List AgeEnd → Option Stop → Type 0
-HasRun (Some folder) script before after ages stop = IsRunOf script before after ages stop
-HasRun None script before after ages stop = (after ≡ before) × IsRunInMemory script ages stop
+abbrev pub HasRun : Mode → Option (List ℕ) → Script → YardState → YardState → List AgeEnd → Option Stop
+    → Type 0
+HasRun mode (Some folder) script before after ages stop = IsRunOf script mode before after ages stop
+HasRun mode None script before after ages stop = (after ≡ before) × IsRunInMemory script mode ages stop
 
 -- what comes of the bytes that were read: a refusal, where they are no script that can be run, and else the
--- run of that script
-abbrev pub IsRunOver : Option (List ℕ) → List ℕ → YardState → YardState → List AgeEnd → Option Stop
+-- run of that script in this mode
+abbrev pub IsRunOver : Mode → Option (List ℕ) → List ℕ → YardState → YardState → List AgeEnd → Option Stop
     → Option Last → Type 0
-IsRunOver folder bytes before after ages stop last =
+IsRunOver mode folder bytes before after ages stop last =
     MatchOption
     (runnable (reading_of bytes))
     (RanNothing before after ages stop × (last ≡ Some (refusal (reading_of bytes))))
-    (λ script. HasRun folder script before after ages stop × (last ≡ last_of ages stop))
+    (λ script. HasRun mode folder script before after ages stop × (last ≡ last_of ages stop))
 
 -- What a call with these words comes to before it is written, by what its source had left and then has, how
 -- many of its calls had failed and then have, and how the yard was and then is: which ages ran, what ended
@@ -62,8 +64,8 @@ pub data Course (words : List (String Global)) (old new : Option (List ℕ)) (fa
   no_source : IsCommand words → Rose failed fails → RanNothing before after ages stop
       → last ≡ Some SourceFault → Course words old new failed fails before after ages stop last
   -- it was read, and what was read decides
-  read : (folder : Option (List ℕ)) → asked_by words ≡ Some folder → (bytes : List ℕ) → WasRead old new bytes
-      → IsRunOver folder bytes before after ages stop last
+  read : (mode : Mode) (folder : Option (List ℕ)) → asked_by words ≡ Some (mode, folder)
+      → (bytes : List ℕ) → WasRead old new bytes → IsRunOver mode folder bytes before after ages stop last
       → Course words old new failed fails before after ages stop last
 
 -- the status of a last line

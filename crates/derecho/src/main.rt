@@ -10,6 +10,7 @@ mod top;
 mod words;
 
 use dr_io::{InputSource, OutputSink};
+use dr_pace::SnoozePace;
 use dr_yard::FileYard;
 pub use status::{
     DISK_FAULT, DONE, LOG_FULL, LOGS_REFUSED, NO_MAJORITY, OUT_OF_MEMORY, READ_FAULT,
@@ -41,7 +42,15 @@ fn main(rt: HostRuntime) -> ExitCode {
     let mut source = InputSource::new(rt.stdin());
     let mut sink = OutputSink::new(rt.stdout());
     let mut yard = FileYard::new(files);
-    let ended = derecho(&rt, alloc, &words, &mut source, &mut sink, &mut yard);
+    let ended = derecho(
+        &rt,
+        alloc,
+        &words,
+        &mut source,
+        &mut sink,
+        &mut yard,
+        &SnoozePace,
+    );
     ExitCode::from(ended.status)
 }
 

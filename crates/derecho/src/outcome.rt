@@ -11,14 +11,16 @@ ghost use Rattle.derecho.specs.Outcome.{Course, HasRun, IsRunInMemory, IsRunOver
 use crate::built::is_built;
 use crate::last::last_of;
 use crate::reading::{ReadFault, read_all};
-use crate::words::command_of;
-use dr_ages::{AgesEnd, Stop, run_ages};
+use crate::words::{Command, command_of};
+use dr_ages::{AgesEnd, Mode, Stop, run_ages};
 use dr_entry::{AgeEnd, Seq};
 use dr_io::Source;
+use dr_pace::Pace;
 use dr_script::{Script, ScriptFault, read_script};
 use dr_text::Last;
 use dr_yard::{CalmYard, Yard};
 use std::alloc::Global;
+use std::thread::Threads;
 
 /// What a call comes to before it is written: its ages, what ended the run before its last age, and what the
 /// last line says. Where memory was wanting there is no last line.
@@ -30,11 +32,13 @@ pub(crate) struct Outcome {
 }
 
 /// Does all that the words ask for, but for the writing.
-pub(crate) fn outcome_of<S: Source, Y: Yard>(
+pub(crate) fn outcome_of<R: Threads + Sync, S: Source, Y: Yard, P: Pace + Sync>(
+    rt: &R,
     alloc: Global,
     words: &[String],
     source: &mut S,
     yard: &mut Y,
+    pace: &P,
 ) -> Outcome
     requires here { (m : ℕ) → m < MAX_MEMBERS → Y.is_lent yard.old m ≡ false }
     ensures here { (m : ℕ) → m < MAX_MEMBERS → Y.is_lent yard.new m ≡ false }
@@ -47,23 +51,31 @@ pub(crate) fn outcome_of<S: Source, Y: Yard>(
         return without_ages(alloc, Some(Last::Usage));
     };
     match read_all(alloc, source) {
-        Ok(bytes) => judge(alloc, &bytes, command.folder, yard),
+        Ok(bytes) => judge(rt, alloc, &bytes, &command, yard, pace),
         Err(ReadFault::Failed) => without_ages(alloc, Some(Last::SourceFault)),
         Err(ReadFault::OutOfMemory) => without_ages(alloc, None),
     }
 }
 
 /// Runs what was read, where it is a script that can be run.
-fn judge<Y: Yard>(alloc: Global, bytes: &[u8], folder: Option<&str>, yard: &mut Y) -> Outcome
+fn judge<R: Threads + Sync, Y: Yard, P: Pace + Sync>(
+    rt: &R,
+    alloc: Global,
+    bytes: &[u8],
+    command: &Command<'_>,
+    yard: &mut Y,
+    pace: &P,
+) -> Outcome
     requires here { (m : ℕ) → m < MAX_MEMBERS → Y.is_lent yard.old m ≡ false }
     ensures here { (m : ℕ) → m < MAX_MEMBERS → Y.is_lent yard.new m ≡ false }
     ensures over { (RanNothing (state_by Y.told Y.faults yard.old) (state_by Y.told Y.faults yard.new)
         result.ages result.stop × (result.last ≡ None))
-        ⊎ IsRunOver (option_map (λ f. f.now) folder.entry) bytes.now (state_by Y.told Y.faults yard.old)
+        ⊎ IsRunOver command.now.mode (option_map (λ f. f.now) command.now.folder) bytes.now
+        (state_by Y.told Y.faults yard.old)
         (state_by Y.told Y.faults yard.new) result.ages result.stop result.last }
 {
     match read_script(alloc, bytes) {
-        Ok(script) if is_built(&script) => run(alloc, &script, folder, yard),
+        Ok(script) if is_built(&script) => run(rt, alloc, &script, command, yard, pace),
         Ok(_) => without_ages(alloc, Some(Last::NotBuilt)),
         Err(ScriptFault::TooLong) => without_ages(alloc, Some(Last::TooLong)),
         Err(ScriptFault::NotJson) => without_ages(alloc, Some(Last::NotJson)),
@@ -75,45 +87,67 @@ fn judge<Y: Yard>(alloc: Global, bytes: &[u8], folder: Option<&str>, yard: &mut 
 }
 
 /// Runs a script over the logs in a folder of the yard, or over empty ones in memory.
-fn run<Y: Yard>(alloc: Global, script: &Script, folder: Option<&str>, yard: &mut Y) -> Outcome
+fn run<R: Threads + Sync, Y: Yard, P: Pace + Sync>(
+    rt: &R,
+    alloc: Global,
+    script: &Script,
+    command: &Command<'_>,
+    yard: &mut Y,
+    pace: &P,
+) -> Outcome
     requires ranges { HasRanges script.now }
     requires here { (m : ℕ) → m < MAX_MEMBERS → Y.is_lent yard.old m ≡ false }
     ensures here { (m : ℕ) → m < MAX_MEMBERS → Y.is_lent yard.new m ≡ false }
     ensures ran { (RanNothing (state_by Y.told Y.faults yard.old) (state_by Y.told Y.faults yard.new)
         result.ages result.stop × (result.last ≡ None))
-        ⊎ (HasRun (option_map (λ f. f.now) folder.entry) script.now (state_by Y.told Y.faults yard.old)
+        ⊎ (HasRun command.now.mode (option_map (λ f. f.now) command.now.folder) script.now
+        (state_by Y.told Y.faults yard.old)
         (state_by Y.told Y.faults yard.new) result.ages result.stop
         × (result.last ≡ last_of result.ages result.stop)) }
 {
-    match folder {
-        Some(folder) => run_over(alloc, script, folder, yard),
-        None => run_in_memory(alloc, script),
+    match command.folder {
+        Some(folder) => run_over(rt, alloc, script, command.mode, folder, yard, pace),
+        None => run_in_memory(rt, alloc, script, command.mode, pace),
     }
 }
 
 /// Runs a script over empty logs in memory, which are gone with the run.
-fn run_in_memory(alloc: Global, script: &Script) -> Outcome
+fn run_in_memory<R: Threads + Sync, P: Pace + Sync>(
+    rt: &R,
+    alloc: Global,
+    script: &Script,
+    mode: Mode,
+    pace: &P,
+) -> Outcome
     requires { HasRanges script.now }
     ensures { ((result.ages ≡ []) × (result.stop ≡ None) × (result.last ≡ None))
-        ⊎ (IsRunInMemory script.now result.ages result.stop
+        ⊎ (IsRunInMemory script.now mode result.ages result.stop
         × (result.last ≡ last_of result.ages result.stop)) }
 {
     match CalmYard::new(alloc) {
-        Ok(mut yard) => run_over(alloc, script, "", &mut yard),
+        Ok(mut yard) => run_over(rt, alloc, script, mode, "", &mut yard, pace),
         Err(_) => without_ages(alloc, None),
     }
 }
 
 /// Runs a script over the logs in a folder of a yard.
-fn run_over<Y: Yard>(alloc: Global, script: &Script, folder: &str, yard: &mut Y) -> Outcome
+fn run_over<R: Threads + Sync, Y: Yard, P: Pace + Sync>(
+    rt: &R,
+    alloc: Global,
+    script: &Script,
+    mode: Mode,
+    folder: &str,
+    yard: &mut Y,
+    pace: &P,
+) -> Outcome
     requires ranges { HasRanges script.now }
     requires here { (m : ℕ) → m < MAX_MEMBERS → Y.is_lent yard.old m ≡ false }
     ensures here { (m : ℕ) → m < MAX_MEMBERS → Y.is_lent yard.new m ≡ false }
-    ensures run { IsRunOf script.now (state_by Y.told Y.faults yard.old)
+    ensures run { IsRunOf script.now mode (state_by Y.told Y.faults yard.old)
         (state_by Y.told Y.faults yard.new) result.ages result.stop }
     ensures last { result.last ≡ last_of result.ages result.stop }
 {
-    let AgesEnd { ages, stop } = run_ages(alloc, script, folder, yard);
+    let AgesEnd { ages, stop } = run_ages(rt, alloc, script, mode, folder, yard, pace);
     let last = last_of(ages.as_slice(), stop);
     Outcome { ages, stop, last }
 }

@@ -3,7 +3,9 @@ ghost use Rattle.dr_entry.specs.declared.limits.TheConstants.{MAX_MEMBERS};
 
 use super::*;
 use dr_disk::{Disk, MemoryDisk};
+use dr_entry::End;
 use dr_io::{MemorySink, MemorySource};
+use dr_pace::{HoldPace, MeetPace, Pace};
 use dr_yard::{CalmYard, MemoryYard, Yard};
 use std::fs;
 use std::process::Abort;
@@ -20,6 +22,33 @@ member 0 done history 1 logged 1 durable 1
   view 0 0 0
 ok
 ";
+
+/// Three members with a message each, and turns enough for a lockstep.
+const THREE: &[u8] =
+    br#"{"members":3,"window":1,"turns":12,"patience":0,"ages":1,"messages":[["a"],["b"],["c"]],"faults":[],"schedule":"lockstep"}"#;
+
+const THREE_TEXT: &[u8] = b"\
+age 0 start 0
+member 0 done history 4 logged 4 durable 4
+  view 0 0 0,1,2
+  msg 0 0 61
+  msg 1 0 62
+  msg 2 0 63
+member 1 done history 4 logged 4 durable 4
+  view 0 0 0,1,2
+  msg 0 0 61
+  msg 1 0 62
+  msg 2 0 63
+member 2 done history 4 logged 4 durable 4
+  view 0 0 0,1,2
+  msg 0 0 61
+  msg 1 0 62
+  msg 2 0 63
+ok
+";
+
+/// How often a member looks at most whether the others have come.
+const LOOKS: u64 = 100_000_000;
 
 /// Two members with a message each, which crash in their second turn and start again.
 const RESTART: &[u8] =
@@ -124,6 +153,28 @@ fn plain_call<'a>(words: &'a [&'a str], script: &'a [u8]) -> Call<'a> {
     }
 }
 
+/// How a call ends, and what it has written.
+fn outcome<Y: Yard, P: Pace + Sync>(
+    rt: &(impl Threads + Sync + Abort),
+    alloc: Global,
+    call: Call<'_>,
+    yard: &mut Y,
+    pace: &P,
+) -> Result<(Ended, MemorySink), Fail>
+    requires { (m : ℕ) → m < MAX_MEMBERS → Y.is_lent yard.old m ≡ false }
+    ensures { IfOk result
+        (λ _. (m : ℕ) → m < MAX_MEMBERS → Y.is_lent yard.new m ≡ false) }
+{
+    let mut words = Vec::new(alloc);
+    for word in call.words {
+        words.push(String::from_str(alloc, word)?)?;
+    }
+    let mut source = MemorySource::new(alloc, call.script, 7, call.fails)?;
+    let mut sink = MemorySink::new(alloc, call.room, &[])?;
+    let ended = derecho(rt, alloc, &words, &mut source, &mut sink, yard, pace);
+    Ok((ended, sink))
+}
+
 /// Shows that a call ends with this status and writes this text.
 fn ends<Y: Yard>(
     rt: &(impl Threads + Sync + Abort),
@@ -137,13 +188,7 @@ fn ends<Y: Yard>(
         (λ _. (m : ℕ) → m < MAX_MEMBERS → Y.is_lent yard.new m ≡ false) }
 {
     let (status, text) = want;
-    let mut words = Vec::new(alloc);
-    for word in call.words {
-        words.push(String::from_str(alloc, word)?)?;
-    }
-    let mut source = MemorySource::new(alloc, call.script, 7, call.fails)?;
-    let mut sink = MemorySink::new(alloc, call.room, &[])?;
-    let ended = derecho(rt, alloc, &words, &mut source, &mut sink, yard);
+    let (ended, sink) = outcome(rt, alloc, call, yard, &SnoozePace)?;
     assert_eq!(rt; ended.status, status);
     assert_eq!(rt; sink.bytes(), text);
     Ok(())
@@ -221,6 +266,46 @@ fn logs_that_do_not_belong_are_refused(rt: HostRuntime) -> Result<(), Fail> {
         let disks = vec![in alloc; disk_with(alloc, zero)?, disk_with(alloc, one)?]?;
         let mut yard = MemoryYard::new(alloc, disks, &[])?;
         ends(&rt, alloc, two_ages, &mut yard, (7, text))?;
+    }
+    Ok(())
+}
+
+/// Members in threads that wait for one another after each turn meet, and print what a lockstep does. Members
+/// that took their turns one after another would miss each other.
+#[test]
+fn members_in_threads_run_at_once(rt: HostRuntime) -> Result<(), Fail> {
+    let alloc = rt.alloc();
+    let mut yard = CalmYard::new(alloc)?;
+    ends(
+        &rt,
+        alloc,
+        plain_call(&["run"], ONE),
+        &mut yard,
+        (0, ONE_TEXT),
+    )?;
+    let pace = MeetPace::new(alloc, 3, LOOKS)?;
+    let three = plain_call(&["run"], THREE);
+    let (ended, sink) = outcome(&rt, alloc, three, &mut yard, &pace)?;
+    assert_eq!(rt; ended.status, 0);
+    assert_eq!(rt; sink.bytes(), THREE_TEXT);
+    assert!(rt; pace.missed() == 0 && pace.met() >= 3);
+    Ok(())
+}
+
+/// Members that are held behind their first turns until another one has spent its own spend theirs, too.
+#[test]
+fn members_that_are_held_spend_their_turns(rt: HostRuntime) -> Result<(), Fail> {
+    let alloc = rt.alloc();
+    let mut yard = CalmYard::new(alloc)?;
+    let pace = HoldPace::new(0, LOOKS);
+    let three = plain_call(&["run"], THREE);
+    let (ended, _) = outcome(&rt, alloc, three, &mut yard, &pace)?;
+    assert!(rt; ended.status == 8 && pace.missed() == 0);
+    for age in ended.ages.as_slice() {
+        assert!(rt; age.members.as_slice().len() == 3);
+        for member in age.members.as_slice() {
+            assert!(rt; matches!(member.end, End::Spent { turns: 12 }));
+        }
     }
     Ok(())
 }

@@ -1,4 +1,6 @@
-ghost use Rattle.std.specs.Prelude.{◌≡◌, ◌≢◌, ◌<◌, ◌⊎◌, ℕ, [], ◌∷◌, Option, Some, None, Contains, IsTrue, false, is_some};
+ghost use Rattle.std.specs.Prelude.{◌≡◌, ◌≢◌, ◌<◌, ◌⊎◌, ℕ, List, [], ◌∷◌, Option, Some, None, Contains, IsTrue, false, is_some};
+ghost use Rattle.dr_ages.specs.declared.mode.Mode.{Mode};
+ghost use Rattle.dr_ages.specs.declared.mode.Mode.TheVariants.{Sim};
 ghost use Rattle.dr_complete.specs.Time.{HasTime};
 ghost use Rattle.dr_entry.specs.declared.limits.TheConstants.{MAX_MEMBERS};
 ghost use Rattle.dr_io.specs.Faults.{Rose};
@@ -20,6 +22,7 @@ use crate::status::{
 use dr_ages::Stop;
 use dr_entry::{AgeEnd, Seq};
 use dr_io::{Sink, Source};
+use dr_pace::Pace;
 use dr_text::{Last, Report};
 use dr_yard::Yard;
 use std::alloc::Global;
@@ -36,25 +39,28 @@ pub struct Ended {
 
 /// Does what the words ask for, and answers how it ended.
 ///
-/// The one command so far is `sim`: a script is read from the source, the ages of its group run, and the
-/// report of the run is written to the sink. With `--logs F` or `--logs=F` each member keeps its log on a
-/// disk of the yard, in the folder `F`, and the first age begins with what is there. Without it each keeps
-/// its log on a disk in memory, which is gone when the run has ended. The status says how that went: see
-/// the constants of this crate.
-pub fn derecho<R: Threads + Sync, S: Source, K: Sink, Y: Yard>(
-    _rt: &R,
+/// A script is read from the source, the ages of its group run, and the report of the run is written to the
+/// sink. With the command `sim` members take their deeds one after the other, by the schedule of the script;
+/// with `run` all at once, each in a thread of its own, which calls the pace after each of its turns. With
+/// `--logs F` or `--logs=F` each member keeps its log on a disk of the yard, in the folder `F`, and the first
+/// age begins with what is there. Without it each keeps its log on a disk in memory, which is gone when the
+/// run has ended. The status says how that went: see the constants of this crate.
+pub fn derecho<R: Threads + Sync, S: Source, K: Sink, Y: Yard, P: Pace + Sync>(
+    rt: &R,
     alloc: Global,
     words: &[String],
     source: &mut S,
     sink: &mut K,
     yard: &mut Y,
+    pace: &P,
 ) -> Ended
     requires here { (m : ℕ) → m < MAX_MEMBERS → Y.is_lent yard.old m ≡ false }
     ensures here { (m : ℕ) → m < MAX_MEMBERS → Y.is_lent yard.new m ≡ false }
 
     // What was read, what was run, and what was written: the report of just these ages. Where a script was
-    // run, `IsRunOf` says of its ages that each is the run of the script's schedule, that its members agree,
-    // when they are complete, and that it keeps all that was durable in the ages before.
+    // run, `IsRunOf` says of its ages that each is a run of the script's program, by its schedule or in
+    // threads, that its members agree, when they are complete, and that it keeps all that was durable in the
+    // ages before.
     ensures course { (last : Option Last)
         × Course words.now (S.left source.old) (S.left source.new)
         (S.faults source.old) (S.faults source.new) (state_by Y.told Y.faults yard.old)
@@ -82,12 +88,14 @@ pub fn derecho<R: Threads + Sync, S: Source, K: Sink, Y: Yard>(
         (IsTrue (some_so LogFull result.ages result.stop)) }
     ensures unfinished { Exactly result.status 8 (10 ∷ 5 ∷ 6 ∷ 7 ∷ 11 ∷ [])
         (IsTrue (some_end Spent result.ages)) }
-    ensures untimely { result.status ≡ 8 → (s : Script)
-        × IsScript (S.left source.old) (S.left source.new) s × ¬ HasTime s }
-    ensures in_memory { asked_by words.now ≡ Some None
+    // A simulation that spends the turns of a member had too few of them. Of threads nothing is said.
+    ensures untimely { (folder : Option (List ℕ)) → asked_by words.now ≡ Some (Sim, folder)
+        → result.status ≡ 8
+        → (s : Script) × IsScript (S.left source.old) (S.left source.new) s × ¬ HasTime s }
+    ensures in_memory { (mode : Mode) → asked_by words.now ≡ Some (mode, None)
         → Contains (0 ∷ 3 ∷ 4 ∷ 5 ∷ 8 ∷ 10 ∷ []) result.status }
 {
-    let outcome = outcome_of(alloc, words, source, yard);
+    let outcome = outcome_of(rt, alloc, words, source, yard, pace);
     let status = tell(alloc, &outcome, sink);
     Ended {
         status,

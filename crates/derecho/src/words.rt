@@ -1,27 +1,42 @@
 ghost use Rattle.std.specs.Prelude.{◌≡◌, map, option_map, string_bytes};
-ghost use Rattle.derecho.specs.Words.{command_of, folder_behind, folder_word};
+ghost use Rattle.derecho.specs.Words.{command_of, folder_behind, folder_word, mode_of};
+
+use dr_ages::Mode;
 
 /// What the words of a call ask for.
 #[derive(Debug, Drop)]
 pub(crate) struct Command<'a> {
+    pub mode: Mode,
     /// The folder of the logs. Without one they are kept in memory.
     pub folder: Option<&'a str>,
 }
 
 /// What the words ask for, where they are those of a command.
 pub(crate) fn command_of(words: &[String]) -> Option<Command<'_>>
-    ensures { option_map (λ c. option_map (λ f. f.now) c.folder) result
+    ensures { option_map (λ c. (c.mode, option_map (λ f. f.now) c.folder)) result
         ≡ command_of (map string_bytes words.now) }
 {
-    let (mode, folder) = match words {
-        [mode] => (mode, None),
-        [mode, option] => (mode, Some(folder_behind(option.as_str())?)),
-        [mode, option, folder] if option.as_str() == "--logs" => {
-            (mode, Some(folder_word(folder.as_str())?))
+    let (word, folder) = match words {
+        [word] => (word, None),
+        [word, option] => (word, Some(folder_behind(option.as_str())?)),
+        [word, option, folder] if option.as_str() == "--logs" => {
+            (word, Some(folder_word(folder.as_str())?))
         }
         _ => return None,
     };
-    (mode.as_str() == "sim").then_some(Command { folder })
+    let mode = mode_of(word.as_str())?;
+    Some(Command { mode, folder })
+}
+
+/// The mode that a word names.
+fn mode_of(word: &str) -> Option<Mode>
+    ensures { result ≡ mode_of word.now }
+{
+    match word {
+        "sim" => Some(Mode::Sim),
+        "run" => Some(Mode::Run),
+        _ => None,
+    }
 }
 
 /// The folder that a word of its own names: one that is not empty and does not begin with a dash.

@@ -8,8 +8,8 @@ returns-in-Ok-clause-course g c = elim c.judge.ensures.over [
   | inl wanting ↦ no_memory wanting.0 wanting.1
   | inr over ↦
       let folder = option_map (λ f. f.now) c.in-Some.command.folder in
-      read folder (sym c.in-Some.ensures) c.in-Ok.bytes.items c.in-Ok.ensures.bytes
-      (subst (λ (bytes : List ℕ). IsRunOver folder bytes
+      read c.in-Some.command.mode folder (sym c.in-Some.ensures) c.in-Ok.bytes.items c.in-Ok.ensures.bytes
+      (subst (λ (bytes : List ℕ). IsRunOver c.in-Some.command.mode folder bytes
       (state_by g.Y.Yard.told g.Y.Yard.faults c.args.yard.now)
       (state_by g.Y.Yard.told g.Y.Yard.faults c.judge.new.yard) c.judge.result.ages c.judge.result.stop
       c.judge.result.last) c.deref.ensures.value over)

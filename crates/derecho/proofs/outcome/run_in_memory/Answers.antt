@@ -4,8 +4,8 @@ use Rattle.derecho.proofs.Runs.{in_memory}
 use Rattle.derecho.proofs.outcome.run_in_memory.Goals as goal
 
 pub returns-in-Ok : goal.returns-in-Ok
-returns-in-Ok c = inr (
-  in_memory c.args.script.now c.run_over.result.ages c.run_over.result.stop (place_told c.in-Ok.yard)
+returns-in-Ok g c = inr (
+  in_memory c.args.script.now c.args.mode c.run_over.result.ages c.run_over.result.stop (place_told c.in-Ok.yard)
       (record { told = place_told c.run_over.new.yard; faults = λ m. 0 }) c.in-Ok.ensures.empty (λ m. refl)
       c.run_over.ensures.run,
   c.run_over.ensures.last,
