@@ -1,0 +1,62 @@
+use Rattle.std.proofs.Common.{rules, sym, ◌<◌, length, get_or}
+use Rattle.dr_examples.proofs.Carrying.{acts, appends, inside, looks, may_see, over, pushes, there_is}
+use Rattle.dr_examples.proofs.members.take_deed.Goals as goal
+
+pub looked-requires : goal.looked-requires
+looked-requires c =
+    let d = c.index-members-m.result in
+    may_see c.requires.sound.0 (over c.args.members.now c.args.words.now) c.args.m
+    (get_or c.args.members.now c.args.m d) c.in-Look.index c.requires.sound.1
+    (there_is c.args.members.now c.args.m d c.requires.within) (sym c.in-Look.ensures.deed)
+
+pub offset_bounds-words-index-in-Push : goal.offset_bounds-words-index-in-Push
+offset_bounds-words-index-in-Push c =
+    let below : c.in-Push.index < length c.args.words.now = inside c.args.members.now c.args.words.now
+    c.args.m c.in-Push.index c.index-members-m.result c.requires.within c.requires.sound c.in-Push.ensures.within in
+    search rules
+
+pub bounds-words-index-in-Push : goal.bounds-words-index-in-Push
+bounds-words-index-in-Push c = inside c.args.members.now c.args.words.now c.args.m c.in-Push.index
+    c.index-members-m.result c.requires.within c.requires.sound c.in-Push.ensures.within
+
+pub offset_bounds-words-index-in-Act : goal.offset_bounds-words-index-in-Act
+offset_bounds-words-index-in-Act c =
+    let below : c.in-Act.index < length c.args.words.now = inside c.args.members.now c.args.words.now
+    c.args.m c.in-Act.index c.index-members-m.result c.requires.within c.requires.sound c.in-Act.ensures.within in
+    search rules
+
+pub bounds-words-index-in-Act : goal.bounds-words-index-in-Act
+bounds-words-index-in-Act c = inside c.args.members.now c.args.words.now c.args.m c.in-Act.index
+    c.index-members-m.result c.requires.within c.requires.sound c.in-Act.ensures.within
+
+pub returns-in-Look : goal.returns-in-Look
+returns-in-Look c = record {
+  sound = λ g is. looks g (over c.args.members.now c.args.words.now) c.args.m
+      (get_or c.args.members.now c.args.m c.index-members-m.result) c.looked.new.self c.in-Look.index is
+      (there_is c.args.members.now c.args.m c.index-members-m.result c.requires.within)
+      (sym c.in-Look.ensures.deed) c.looked.ensures.after;
+}
+
+pub returns-in-Push : goal.returns-in-Push
+returns-in-Push c = record {
+  sound = λ g is. pushes g (over c.args.members.now c.args.words.now) c.args.m
+      (get_or c.args.members.now c.args.m c.index-members-m.result) c.pushed.new.self c.in-Push.index
+      c.in-Push.word is (there_is c.args.members.now c.args.m c.index-members-m.result c.requires.within)
+      (sym c.in-Push.ensures.deed) c.pushed.ensures.after;
+}
+
+pub returns-in-Act : goal.returns-in-Act
+returns-in-Act c = record {
+  sound = λ g is. acts g (over c.args.members.now c.args.words.now) c.args.m
+      (get_or c.args.members.now c.args.m c.index-members-m.result) c.acted.new.self c.in-Act.index
+      c.in-Act.word is (there_is c.args.members.now c.args.m c.index-members-m.result c.requires.within)
+      (sym c.in-Act.ensures.deed) c.acted.ensures.after;
+}
+
+pub returns-in-Append : goal.returns-in-Append
+returns-in-Append c = record {
+  sound = λ g is. appends g (over c.args.members.now c.args.words.now) c.args.m
+      (get_or c.args.members.now c.args.m c.index-members-m.result) c.appended.new.self c.in-Append.field-0 is
+      (there_is c.args.members.now c.args.m c.index-members-m.result c.requires.within)
+      (sym c.in-Append.ensures.deed) c.appended.ensures.after;
+}

@@ -1,0 +1,91 @@
+//! The members of a group, led deed by deed.
+ghost use Rattle.std.specs.Prelude.{◌<◌, IfOk, length};
+ghost use Rattle.dr_age.specs.Sound.{IsSound};
+ghost use Rattle.dr_machine.specs.Group.{Group, IsGroup};
+ghost use Rattle.dr_restart.specs.Groups.{group_of};
+ghost use Rattle.dr_script.specs.Ranges.{HasRanges};
+
+use dr_age::begun_members;
+use dr_member::{Deed, Member};
+use dr_restart::{Start, first_start, shape_of};
+use dr_script::{Script, read_script};
+use std::alloc::{AllocError, Global};
+use std::io::Print;
+
+/// Two members with one message each.
+const SCRIPT: &[u8] = br#"{"members":2,"window":1,"turns":12,"patience":0,"ages":1,
+    "messages":[["a"],["b"]],"faults":[],"schedule":"lockstep"}"#;
+
+/// How many deeds each member takes: more than it has.
+const DEEDS: u32 = 1000;
+
+/// The members of a group take deed after deed. Prints how they ended.
+pub fn show_members(rt: &impl Print, alloc: Global) -> anyhow::Result<()> {
+    let script = read_script(alloc, SCRIPT)?;
+    let start = first_start(alloc, &script);
+    let (mut members, mut words) = opened(alloc, &script, &start)?;
+    lead(&mut members, &mut words);
+    for member in &members {
+        println!(rt;
+            "  member {}: {:?} in turn {}",
+            member.me(),
+            member.end(),
+            member.turns()
+        )?;
+        println!(rt; "    {:?}", member.history())?;
+    }
+    Ok(())
+}
+
+/// The members of a script's group as its age opens, and the words of its table.
+fn opened(
+    alloc: Global,
+    script: &Script,
+    start: &Start,
+) -> Result<(Vec<Member>, Vec<u64>), AllocError>
+    requires ranges { HasRanges script.now }
+    requires group { IsGroup (group_of script.now start.now) }
+    ensures { IfOk result (λ r. IsSound (group_of script.now start.now)
+        (record { members = r.0.items; table = r.1.items })) }
+{
+    Ok((
+        begun_members(alloc, script, start, 0)?,
+        vec![in alloc; 0; shape_of(script).words()]?,
+    ))
+}
+
+/// Leads the members of a group: each takes so many deeds, one at a time.
+fn lead(members: &mut [Member], words: &mut [u64])
+    requires sound { (g : Group) × IsSound g (record { members = members.old; table = words.old }) }
+    ensures sound { (g : Group) → IsSound g (record { members = members.old; table = words.old })
+        → IsSound g (record { members = members.new; table = words.new }) }
+{
+    for _ in 0..DEEDS {
+        for m in 0..members.len() {
+            take_deed(members, words, m);
+        }
+    }
+}
+
+/// The member `m` takes its next deed. Its words go by way of this list; what it appends is not kept.
+fn take_deed(members: &mut [Member], words: &mut [u64], m: usize)
+    requires within { m < length members.old }
+    requires sound { (g : Group) × IsSound g (record { members = members.old; table = words.old }) }
+    ensures sound { (g : Group) → IsSound g (record { members = members.old; table = words.old })
+        → IsSound g (record { members = members.new; table = words.new }) }
+{
+    let member = &mut members[m];
+    match member.next() {
+        Deed::Look(index) => member.looked(words[index]),
+        Deed::Push(index, word) => {
+            words[index] = word;
+            member.pushed();
+        }
+        Deed::Act(index, word) => {
+            words[index] = word;
+            member.acted();
+        }
+        Deed::Append(_) => member.appended(),
+        Deed::Rest(_) => {}
+    }
+}
