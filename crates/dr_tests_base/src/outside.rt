@@ -3,8 +3,8 @@ use dr_io::{Failed, InputSource, MemorySink, MemorySource, OutputSink, Sink, Sou
 use std::io::{self, ErrorKind, Read, Write};
 use std::test::Fail;
 
-/// A reader that is interrupted in its first call, gives two bytes in its second, fails in its third, and
-/// has ended then.
+/// A reader that is interrupted in its first two calls, gives two bytes in its third, fails in its fourth,
+/// and has ended then.
 #[derive(Drop)]
 struct FaultyReader {
     calls: u8,
@@ -14,12 +14,12 @@ impl Read for FaultyReader {
     fn read(&mut self, into: &mut [u8]) -> io::Result<usize> {
         self.calls = self.calls.saturating_add(1);
         match self.calls {
-            1 => Err(ErrorKind::Interrupted.into()),
-            2 if into.len() > 2 => {
+            1 | 2 => Err(ErrorKind::Interrupted.into()),
+            3 if into.len() > 2 => {
                 into[..2].copy_from_slice(b"ho");
                 Ok(2)
             }
-            3 => Err(ErrorKind::TimedOut.into()),
+            4 => Err(ErrorKind::TimedOut.into()),
             _ => Ok(0),
         }
     }
@@ -36,8 +36,8 @@ fn a_source_gives_what_its_reader_gives(rt: HostRuntime) -> Result<(), Fail> {
     Ok(())
 }
 
-/// A writer that is interrupted in its first call, fails in its third, takes one byte in its second and its
-/// fourth, and nothing then.
+/// A writer that is interrupted in its first two calls, fails in its fourth, takes one byte in its third and
+/// its fifth, and nothing then.
 #[derive(Drop)]
 struct FaultyWriter {
     calls: u8,
@@ -47,9 +47,9 @@ impl Write for FaultyWriter {
     fn write(&mut self, from: &[u8]) -> io::Result<usize> {
         self.calls = self.calls.saturating_add(1);
         match self.calls {
-            1 => Err(ErrorKind::Interrupted.into()),
-            2 | 4 => Ok(from.len().min(1)),
-            3 => Err(ErrorKind::TimedOut.into()),
+            1 | 2 => Err(ErrorKind::Interrupted.into()),
+            3 | 5 => Ok(from.len().min(1)),
+            4 => Err(ErrorKind::TimedOut.into()),
             _ => Ok(0),
         }
     }

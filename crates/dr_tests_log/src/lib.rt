@@ -8,4 +8,6 @@ mod crashes;
 #[cfg(test)]
 mod files;
 #[cfg(test)]
+mod long;
+#[cfg(test)]
 mod records;

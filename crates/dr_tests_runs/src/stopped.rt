@@ -1,10 +1,10 @@
 //! Ages in which the log of a member stops it.
-ghost use Rattle.std.specs.Prelude.{◌≤◌, ◌<◌, IfOk};
+ghost use Rattle.std.specs.Prelude.{◌<◌, IfOk};
 ghost use Rattle.dr_fresh.specs.Fresh.{IsFresh};
 
 use dr_disk::MemoryDisk;
 use dr_entry::{AgeEnd, End};
-use dr_fresh::{LOG_LIMIT, fresh_log};
+use dr_fresh::{FreshWhy, LOG_LIMIT, fresh_log};
 use dr_log::Log;
 use dr_restart::{Start, first_start};
 use dr_script::read_script;
@@ -24,9 +24,7 @@ const FIRST_CALL: u64 = 12;
 const TOO_LOW: u64 = 24;
 
 /// The age of the two members, of whom member 0 has this log.
-fn ended(alloc: Global, fails: &[u64], limit: u64) -> Result<(AgeEnd, [Log<MemoryDisk>; 2]), Fail>
-    requires { 9 ≤ limit }
-{
+fn ended(alloc: Global, fails: &[u64], limit: u64) -> Result<(AgeEnd, [Log<MemoryDisk>; 2]), Fail> {
     let script = read_script(alloc, TWO)?;
     if script.members != 2 {
         return Err("there are two members")?;
@@ -42,8 +40,7 @@ fn ended(alloc: Global, fails: &[u64], limit: u64) -> Result<(AgeEnd, [Log<Memor
 
 /// A fresh log on a disk on which these calls fail.
 fn log_on(alloc: Global, fails: &[u64], limit: u64, start: &Start) -> Result<Log<MemoryDisk>, Fail>
-    requires limit { 9 ≤ limit }
-    requires some { 0 < start.now.members }
+    requires { 0 < start.now.members }
     ensures { IfOk result (IsFresh start.now limit) }
 {
     let disk = MemoryDisk::new(alloc, fails, None)?;
@@ -82,5 +79,29 @@ fn a_member_ends_at_its_full_log(rt: HostRuntime) -> Result<(), Fail> {
     let (age, logs) = ended(rt.alloc(), &[], TOO_LOW)?;
     shows_stop(&rt, &age, End::LogFull { len: 16 }, &logs)?;
     assert!(rt; !logs[0].failed() && logs[0].len() == 16);
+    Ok(())
+}
+
+/// A log has room for its View 0 from 16 bytes on.
+#[test]
+fn a_fresh_log_wants_16_bytes(rt: HostRuntime) -> Result<(), Fail> {
+    let alloc = rt.alloc();
+    let script = read_script(alloc, TWO)?;
+    if script.members != 2 {
+        return Err("there are two members")?;
+    }
+    let start = first_start(alloc, &script);
+    let disk = MemoryDisk::new(alloc, &[], None)?;
+    let Err(low) = fresh_log(alloc, disk, 15, &start) else {
+        return Err(Fail::from("fifteen bytes were enough"));
+    };
+    assert!(rt; low.why == FreshWhy::LogFull);
+    let Ok(log) = fresh_log(alloc, low.disk, 16, &start) else {
+        return Err(Fail::from("sixteen bytes were too few"));
+    };
+    let Err(used) = fresh_log(alloc, log.unmount(), 16, &start) else {
+        return Err(Fail::from("a log was made fresh again"));
+    };
+    assert!(rt; used.why == FreshWhy::Used);
     Ok(())
 }

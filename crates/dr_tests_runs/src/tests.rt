@@ -12,6 +12,8 @@ const MESSAGE: &str = "\"0123456789abcdef0123456789ABCDEF0123456789abcdef0123456
 
 const LARGEST: &str = "{\"members\":16,\"window\":8,\"turns\":44,\"schedule\":\"lockstep\"";
 
+const LONG: &str = "{\"members\":2,\"window\":8,\"turns\":1000,\"schedule\":\"lockstep\"";
+
 const SEEDED: &str = "{\"members\":12,\"window\":2,\"turns\":1000000,\"schedule\":7";
 
 /// Two members with one message each. Member 0 crashes in its first turn, before its push number 5.
@@ -86,6 +88,14 @@ fn members_that_a_seed_chooses_deliver_the_same(rt: HostRuntime) -> Result<(), F
     let script = script_of(rt.alloc(), SEEDED, 12, 5)?;
     let age = ended(rt.alloc(), script.as_bytes())?;
     shows_rounds(&rt, &age, 12, 61);
+    Ok(())
+}
+
+#[test]
+fn two_members_deliver_260_messages(rt: HostRuntime) -> Result<(), Fail> {
+    let script = script_of(rt.alloc(), LONG, 2, 130)?;
+    let age = ended(rt.alloc(), script.as_bytes())?;
+    shows_rounds(&rt, &age, 2, 261);
     Ok(())
 }
 
