@@ -2,6 +2,7 @@
 
 use crate::records::{Entry, Message, Record};
 use crate::rows::{BEAT, DONE, Item, LOGGED, RECEIVED, Rows, SUSPECTED, Shape};
+use std::sync::atomic::{AtomicU64, Ordering};
 
 /// The turn in which a member suspects those whom its script names.
 const SCRIPTED_TURN: u32 = 2;
@@ -566,6 +567,47 @@ impl Member {
     #[inline]
     pub fn is_between_turns(&self) -> bool {
         matches!(self.place, Place::Beat | Place::Rest)
+    }
+}
+
+/// Whole rows of deeds at once, over a table that other threads share.
+#[allow(dead_code)]
+impl Member {
+    /// Does all looks of its turn, from the first one on.
+    pub fn look_rows(&mut self, table: &[AtomicU64]) {
+        while let Place::Look { row, .. } = self.place {
+            self.rows.look_row(row, self.copy_of(table, row));
+            self.place = self.seek_look(row + 1);
+        }
+    }
+
+    /// The same, and counts the looks, and those of them that saw another word than the last time.
+    pub fn look_rows_counted(&mut self, table: &[AtomicU64]) -> (u64, u64) {
+        let (mut looks, mut changed) = (0, 0);
+        while let Place::Look { row, .. } = self.place {
+            looks += self.rows.columns as u64;
+            changed += self.rows.look_row_counted(row, self.copy_of(table, row));
+            self.place = self.seek_look(row + 1);
+        }
+        (looks, changed)
+    }
+
+    /// Does all pushes of its turn, from the first one on, and counts them.
+    #[inline]
+    pub fn push_rows(&mut self, table: &[AtomicU64], order: Ordering) -> u64 {
+        let mut pushes = 0;
+        while let Place::Push { to, .. } = self.place {
+            let own_row = to * self.copy_words + self.rows.own_row;
+            let words = &table[own_row..][..self.rows.columns];
+            pushes += self.rows.push_row(to, words, order);
+            self.place = self.seek_push(to + 1);
+        }
+        pushes
+    }
+
+    /// The words of a row in its own copy.
+    fn copy_of<'a>(&self, table: &'a [AtomicU64], row: usize) -> &'a [AtomicU64] {
+        &table[self.own_copy + row * self.rows.columns..][..self.rows.columns]
     }
 }
 

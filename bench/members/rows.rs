@@ -1,6 +1,7 @@
 //! The words that a member has and sees, and the messages in its ring.
 
 use crate::records::{MAX_MESSAGE, Message};
+use std::sync::atomic::{AtomicU64, Ordering};
 
 pub const BEAT: usize = 0;
 pub const SUSPECTED: usize = 1;
@@ -189,5 +190,47 @@ impl Rows {
             let piece = [chunk[0], chunk[1], chunk[2], chunk[3]];
             *word = ring_word(k, u32::from_be_bytes(piece));
         }
+    }
+}
+
+/// Whole rows at once, over words that other threads share.
+#[allow(dead_code)]
+impl Rows {
+    fn row_mut(&mut self, row: usize) -> &mut [u64] {
+        &mut self.words[row * self.columns..][..self.columns]
+    }
+
+    /// Looks at all words of a row.
+    pub fn look_row(&mut self, row: usize, words: &[AtomicU64]) {
+        for (seen, word) in self.row_mut(row).iter_mut().zip(words) {
+            *seen = word.load(Ordering::Acquire);
+        }
+    }
+
+    /// The same, and counts the words that aren't those last seen.
+    pub fn look_row_counted(&mut self, row: usize, words: &[AtomicU64]) -> u64 {
+        let mut changed = 0;
+        for (seen, word) in self.row_mut(row).iter_mut().zip(words) {
+            let word = word.load(Ordering::Acquire);
+            changed += u64::from(*seen != word);
+            *seen = word;
+        }
+        changed
+    }
+
+    /// Pushes the own words that aren't those last pushed to `to`, and counts them.
+    #[inline]
+    pub fn push_row(&mut self, to: usize, words: &[AtomicU64], order: Ordering) -> u64 {
+        let own = &self.words[self.own_row..][..self.columns];
+        let sent = &mut self.sent[to * self.columns..][..self.columns];
+        let mut pushes = 0;
+        for ((own, sent), word) in own.iter().zip(sent).zip(words) {
+            if own != sent {
+                word.store(*own, order);
+                *sent = *own;
+                pushes += 1;
+            }
+        }
+        pushes
     }
 }

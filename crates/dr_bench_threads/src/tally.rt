@@ -1,0 +1,64 @@
+//! What came of a run.
+
+use dr_entry::{AgeEnd, End, Entry, MemberEnd};
+
+/// How many members ended as done, how many have the history of the first one, how many entries all
+/// histories have, and a number made of them in whatever order they are.
+#[derive(Clone, Copy, Debug, PartialEq, Eq)]
+pub struct Tally {
+    pub done: u64,
+    pub agreed: u64,
+    pub entries: u64,
+    pub checksum: u64,
+}
+
+/// What came of an age.
+pub fn tally_of(age: &AgeEnd) -> Tally {
+    let mut tally = Tally {
+        done: 0,
+        agreed: 0,
+        entries: 0,
+        checksum: 0,
+    };
+    let members = age.members.as_slice();
+    for member in members {
+        let is_done = matches!(member.end, End::Done);
+        let has_agreed = member.history == members[0].history;
+        tally.done = tally.done.wrapping_add(u64::from(is_done));
+        tally.agreed = tally.agreed.wrapping_add(u64::from(has_agreed));
+        let count = member.history.as_slice().len() as u64;
+        tally.entries = tally.entries.wrapping_add(count);
+        tally.checksum = tally.checksum.wrapping_add(number_of_member(member));
+    }
+    tally
+}
+
+fn number_of_member(member: &MemberEnd) -> u64 {
+    let mut sum = mixed(member.logged, member.durable);
+    for entry in member.history.as_slice() {
+        sum = sum.wrapping_add(number_of(entry));
+    }
+    sum
+}
+
+/// A View counts by its members, a message by its sender, its index, its length and its first byte.
+fn number_of(entry: &Entry) -> u64 {
+    match entry {
+        Entry::View { members, .. } => u64::from(*members),
+        Entry::Msg {
+            sender,
+            index,
+            bytes,
+        } => {
+            let bytes = bytes.bytes();
+            let sum = mixed(u64::from(*sender), u64::from(*index));
+            let sum = mixed(sum, bytes.len() as u64);
+            mixed(sum, bytes.first().map_or(0, |byte| u64::from(*byte)))
+        }
+    }
+}
+
+/// A number made of numbers, in their order.
+fn mixed(sum: u64, word: u64) -> u64 {
+    sum.wrapping_mul(31).wrapping_add(word)
+}
