@@ -48,7 +48,7 @@ later : (script : Script) (mode : Mode) (nth : ℕ) (before after : YardState) (
     → AreAges script mode nth before ages after → (m : ℕ) → before.faults m ≤ after.faults m
 later script mode nth before after [] are m = omega (arith, ap (λ (yard : YardState). yard.faults m) are)
 later script mode nth before after (age ∷ ages) (between, is, rest) m =
-    omega (arith, is.passes.later m, later script mode (nth + 1) between after ages rest m)
+    omega (arith, (is.passes m).later, later script mode (nth + 1) between after ages rest m)
 
 disk_fault_is : (e : End) → is_of DiskFault e ≡ true → e ≡ ends.DiskFault
 disk_fault_is ends.Done is = absurd (true≢false (sym is))

@@ -7,10 +7,11 @@ use Rattle.std.proofs.lemmas.Option.{slice_get_cases, slice_get_past, slice_get_
 use Rattle.dr_disk.specs.Disk.{Told}
 use Rattle.dr_history_laws.proofs.Lists.{slice_get-left, slice_get-seam, slice_get-some}
 use Rattle.dr_log.specs.State.{LogState}
-use Rattle.dr_yard.specs.Yards.{Passes, YardState}
-use Rattle.dr_ages.specs.Lent.{AreMounted, GoesOn, with_logs}
+use Rattle.dr_yard.specs.Yards.{YardState}
+use Rattle.dr_ages.specs.Lent.{AreMounted, with_logs}
 use Rattle.dr_ages.specs.Opened.{AreLater}
-use Rattle.dr_ages.proofs.Caught.{on_then}
+use Rattle.dr_ages.specs.Passing.{GoesOn, PassOn}
+use Rattle.dr_ages.proofs.Staying.{on_since}
 
 -- nothing stands behind the end of a list
 slice_get_none : {A : Type 0} (xs : List A) (k : ℕ) → slice_get xs k ≡ None → length xs ≤ k
@@ -37,6 +38,13 @@ pub faults_at : {D : Type 0} (tells : D → Option Told) (faults : D → ℕ) (y
 faults_at {D} tells faults yard logs m log here =
     ap (λ (o : Option (LogState D)). option_map_or (λ (log : LogState D). faults log.disk) o (yard.faults m)) here
 
+-- what is told of one under none
+pub told_past : {D : Type 0} (tells : D → Option Told) (faults : D → ℕ) (yard : YardState)
+    (logs : List (LogState D)) (m : ℕ) → length logs ≤ m → (with_logs tells faults yard logs).told m ≡ yard.told m
+told_past {D} tells faults yard logs m past =
+    ap (λ (o : Option (LogState D)). option_map_or (λ (log : LogState D). tells log.disk) o (yard.told m))
+    (slice_get_past logs m past)
+
 -- logs over the same other disks
 pub same_rest : {D : Type 0} (tells : D → Option Told) (faults : D → ℕ) (one other : YardState)
     (logs : List (LogState D)) (m : ℕ)
@@ -58,11 +66,8 @@ pub passed_with : {D : Type 0} (tells : D → Option Told) (faults : D → ℕ) 
     (olds news : List (LogState D)) → AreMounted tells faults before olds → AreLater tells faults olds news
     → length news ≡ length olds
     → ((m : ℕ) → length olds ≤ m → GoesOn (before.told m) (before.faults m) (yard.told m) (yard.faults m))
-    → Passes before (with_logs tells faults yard news)
-passed_with {D} tells faults before yard olds news mounted later count rest = record {
-  tells = λ m. (each m).tells;
-  later = λ m. (each m).later;
-}
+    → PassOn before (with_logs tells faults yard news)
+passed_with {D} tells faults before yard olds news mounted later count rest m = by m (slice_get news m) refl
   where
     by : (m : ℕ) (o : Option (LogState D)) → slice_get news m ≡ o
         → GoesOn (before.told m) (before.faults m)
@@ -71,12 +76,8 @@ passed_with {D} tells faults before yard olds news mounted later count rest = re
     by m None at = rest m (omega (arith, slice_get_none news m at, count))
     by m (Some new) at =
         let old = slice_get-some olds m (omega (arith, slice_get_within news m new at, count)) in
-        on_then (before.told m) (tells old.0.disk) (tells new.disk) (before.faults m) (faults old.0.disk)
-        (faults new.disk) (mounted m old.0 old.1).on (later m old.0 new old.1 at)
-
-    each : (m : ℕ) → GoesOn (before.told m) (before.faults m) ((with_logs tells faults yard news).told m)
-        ((with_logs tells faults yard news).faults m)
-    each m = by m (slice_get news m) refl
+        on_since tells faults (before.told m) (before.faults m) old.0 new (mounted m old.0 old.1)
+        (later m old.0 new old.1 at)
 
 -- what is told behind them, where the disks are back and the others are as they were
 pub after_is : {D : Type 0} (tells : D → Option Told) (faults : D → ℕ) (before mid after : YardState)
@@ -96,9 +97,9 @@ pub passed_back : {D : Type 0} (tells : D → Option Told) (faults : D → ℕ) 
     → ((m : ℕ) → length olds ≤ m → GoesOn (before.told m) (before.faults m) (mid.told m) (mid.faults m))
     → ((m : ℕ) → (after.told m ≡ (with_logs tells faults mid news).told m)
     × (after.faults m ≡ (with_logs tells faults mid news).faults m))
-    → Passes before after
+    → PassOn before after
 passed_back tells faults before mid after olds news mounted later count rest back =
-    subst (Passes before)
+    subst (λ (y : YardState). PassOn before y)
     (sym (same_yard after (with_logs tells faults mid news) (λ m. (back m).0) (λ m. (back m).1)))
     (passed_with tells faults before mid olds news mounted later count rest)
 

@@ -1,19 +1,24 @@
 -- Logs that are brought up to a start, one after the other.
-use Rattle.std.proofs.Common.{◌≡◌, refl, sym, ap, ◌∙◌, subst, inl, inr, ℕ, ◌+◌, ◌<◌, ◌≤◌, false, All, List, length, length-set, le_refl, get_or, arith}
+use Rattle.std.proofs.Common.{◌≡◌, refl, sym, ap, ◌∙◌, subst, inl, inr, ℕ, ◌+◌, ◌<◌, ◌≤◌, false, All, List, length, length-set, length-take, take, drop, le_refl, get_or, arith}
 use Rattle.std.specs.Prelude.{◌^◌, ◌-◌, Option, None, Some, is_some, option_map, slice_get, slice_set}
 use Rattle.std.proofs.Math.Pow.{pow_mono}
 use Rattle.std.proofs.lemmas.Bool.{cases_eq, cases_lt}
+use Rattle.std.proofs.lemmas.List.{take-append-drop}
 use Rattle.std.proofs.lemmas.Option.{same_Some, slice_get-get_or, slice_get-map}
 use Rattle.dr_disk.specs.Calls.{State}
 use Rattle.dr_disk.specs.Disk.{Told}
 use Rattle.dr_disk.specs.Images.{Goes}
+use Rattle.dr_disk.proofs.Moments.{Goes-last}
 use Rattle.dr_entry.specs.declared.entry.Entry.{Entry}
 use Rattle.dr_gather.specs.CatchingUp.{HasCaughtUp, HasFirst}
 use Rattle.dr_gather.specs.Gathering.{entries_on}
+use Rattle.dr_history.specs.History.{IsPrefixOf}
+use Rattle.dr_history_laws.proofs.Keeping.{prefix_beside, prefix_shorter, prefix_then}
+use Rattle.dr_log.specs.Standing.{LosesNone}
 use Rattle.dr_log.specs.State.{LogState}
 use Rattle.dr_program.proofs.Holdings.{replica_kept, replica_set}
-use Rattle.dr_ages.specs.Lent.{GoesOn}
-use Rattle.dr_ages.specs.Opened.{AreCaughtUp, AreLater, IsCaughtUp}
+use Rattle.dr_ages.specs.Opened.{AreCaughtUp, AreLater, IsCaughtUp, IsLater}
+use Rattle.dr_ages.proofs.Staying.{first_kept, later_same, later_then, left_so}
 
 -- before the first
 pub none_caught : {D : Type 0} (told : D → Option Told) (faults : D → ℕ) (whole : List Entry)
@@ -71,21 +76,12 @@ entries_at {D} logs k log at =
 pub some_members : (n k : ℕ) → 1 ≤ n → k ≡ 2 ^ n - 1 → 0 < k
 some_members n k some is = let l : 2 ^ 1 ≤ 2 ^ n = pow_mono some in omega (arith, l, is)
 
--- each disk has gone on
-pub on_still : {D : Type 0} (tells : D → Option Told) (faults : D → ℕ) (logs : List (LogState D))
-    → AreLater tells faults logs logs
-on_still tells faults logs m old new there here =
-    let same = same_Some old new (sym there ∙ here) in
-    record {
-      tells = ap (λ x. is_some (tells x.disk)) same;
-      later = omega (arith, ap (λ x. faults x.disk) same);
-    }
+-- ---- each log goes on
 
-pub on_then : (a b c : Option Told) (k m n : ℕ) → GoesOn a k b m → GoesOn b m c n → GoesOn a k c n
-on_then a b c k m n first next = record {
-  tells = first.tells ∙ next.tells;
-  later = omega (arith, first.later, next.later);
-}
+pub on_still : {D : Type 0} (told : D → Option Told) (faults : D → ℕ) (logs : List (LogState D))
+    → AreLater told faults logs logs
+on_still told faults logs m old new there here =
+    subst (λ z. IsLater told faults old z) (same_Some old new (sym there ∙ here)) (later_same told faults old)
 
 -- what goes so from one moment to another tells at both, or at neither
 pub goes_tells : (before after : Option Told) (P : State → List ℕ → Type 0) → Goes before after P
@@ -95,37 +91,49 @@ goes_tells None (Some t) P goes = absurd goes
 goes_tells (Some t) None P goes = absurd goes
 goes_tells (Some s) (Some t) P goes = refl
 
--- a log that has come to some of the entries has a disk that went on
-pub caught_on : {D : Type 0} (tells : D → Option Told) (faults : D → ℕ) (whole : List Entry)
-    (old new : LogState D) (n : ℕ) → HasCaughtUp tells faults whole old new n
-    → GoesOn (tells old.disk) (faults old.disk) (tells new.disk) (faults new.disk)
-caught_on tells faults whole old new n is = record {
-  tells = goes_tells (tells old.disk) (tells new.disk) (λ s. HasFirst (length old.entries) whole old.votes)
-      is.moments;
+-- a log that has come to some of the entries
+pub caught_on : {D : Type 0} (told : D → Option Told) (faults : D → ℕ) (whole : List Entry)
+    (old new : LogState D) (n : ℕ) → IsPrefixOf old.entries whole → HasCaughtUp told faults whole old new n
+    → IsLater told faults old new
+caught_on told faults whole old new n part is = record {
+  entries = subst (λ (l : List Entry). IsPrefixOf old.entries l) (sym is.entries) (front n is.enough);
+  votes = is.votes;
+  tells = goes_tells (told old.disk) (told new.disk) (λ s. HasFirst (length old.entries) whole old.votes) is.moments;
   later = is.later;
+  stays = λ es vs first kept left.
+      left_so (told new.disk) (HasFirst (length old.entries) whole old.votes) (LosesNone es vs)
+      (λ image has. first_kept es (take has.count whole) vs old.votes image
+      (prefix_then es old.entries (take has.count whole) first (front has.count has.enough)) kept has.stands)
+      (Goes-last (told old.disk) (told new.disk) (HasFirst (length old.entries) whole old.votes) is.moments);
 }
+  where
+    -- all that the log had is among so many
+    front : (k : ℕ) → length old.entries ≤ k → IsPrefixOf old.entries (take k whole)
+    front k enough =
+        prefix_beside old.entries (take k whole) whole part (drop k whole, take-append-drop k whole)
+        (omega (arith, enough, length-take k whole, prefix_shorter old.entries whole part))
 
-pub caught_later : {D : Type 0} (tells : D → Option Told) (faults : D → ℕ) (whole : List Entry)
-    (olds news : List (LogState D)) (n : ℕ) → AreCaughtUp tells faults whole olds news n
-    → AreLater tells faults olds news
-caught_later tells faults whole olds news n so_far m old new there here = elim (cases_lt m n) [
-  | inl below ↦ caught_on tells faults whole old new (length whole) (so_far.done m old new below there here).0
-  | inr above ↦ on_still tells faults olds m old new there (sym (so_far.others m above) ∙ here)
+pub caught_later : {D : Type 0} (told : D → Option Told) (faults : D → ℕ) (whole : List Entry)
+    (olds news : List (LogState D)) (n : ℕ) → AreCaughtUp told faults whole olds news n
+    → AreLater told faults olds news
+caught_later told faults whole olds news n so_far m old new there here = elim (cases_lt m n) [
+  | inl below ↦
+      let up = so_far.done m old new below there here in
+      caught_on told faults whole old new (length whole) up.2 up.0
+  | inr above ↦ on_still told faults olds m old new there (sym (so_far.others m above) ∙ here)
 ]
 
--- so has each where one more log has such a disk
-pub later_set : {D : Type 0} (tells : D → Option Told) (faults : D → ℕ) (olds news : List (LogState D)) (k : ℕ)
-    (x new : LogState D) → AreLater tells faults olds news → k < length news
-    → GoesOn (tells (get_or news k x).disk) (faults (get_or news k x).disk) (tells new.disk) (faults new.disk)
-    → AreLater tells faults olds (slice_set news k new)
-later_set tells faults olds news k x new later within is = λ m old y there here. elim (cases_eq m k) [
+-- with one more log that has gone on
+pub later_set : {D : Type 0} (told : D → Option Told) (faults : D → ℕ) (olds news : List (LogState D)) (k : ℕ)
+    (x new : LogState D) → AreLater told faults olds news → k < length news
+    → IsLater told faults (get_or news k x) new → AreLater told faults olds (slice_set news k new)
+later_set told faults olds news k x new later within is = λ m old y there here. elim (cases_eq m k) [
   | inr other ↦ later m old y there (sym (replica_kept news k m new other) ∙ here)
   | inl at ↦
       let before = later m old (get_or news k x) there
       (ap (slice_get news) at ∙ slice_get-get_or news k x within) in
-      subst (λ z. GoesOn (tells old.disk) (faults old.disk) (tells z.disk) (faults z.disk))
+      subst (λ z. IsLater told faults old z)
       (same_Some new y (sym (replica_set news k new within) ∙ ap (slice_get (slice_set news k new)) (sym at)
       ∙ here))
-      (on_then (tells old.disk) (tells (get_or news k x).disk) (tells new.disk) (faults old.disk)
-      (faults (get_or news k x).disk) (faults new.disk) before is)
+      (later_then told faults old (get_or news k x) new before is)
 ]

@@ -4,27 +4,28 @@ use Rattle.std.specs.Prelude.{IsTrue, Some, slice_get}
 use Rattle.std.proofs.lemmas.Option.{same_Some}
 use Rattle.dr_entry.specs.declared.end.AgeEnd.{AgeEnd}
 use Rattle.dr_script.specs.declared.script.Script.{Script}
-use Rattle.dr_yard.specs.Yards.{AllTell, Passes, YardState}
+use Rattle.dr_yard.specs.Yards.{AllTell, YardState}
 use Rattle.dr_ages.specs.declared.mode.Mode.{Mode}
 use Rattle.dr_ages.specs.Ages.{AreAges, IsAgeOf}
+use Rattle.dr_ages.specs.Passing.{PassOn}
+use Rattle.dr_ages.proofs.Staying.{on_same, on_then}
 
 -- ---- how yards pass
 
-pub passes_none : (yard : YardState) → Passes yard yard
-passes_none yard = record { tells = λ m. refl; later = λ m. le_refl (yard.faults m) }
+pub passes_none : (yard : YardState) → PassOn yard yard
+passes_none yard m = on_same (yard.told m) (yard.told m) (yard.faults m) (yard.faults m) refl (le_refl (yard.faults m))
 
-pub passes_on : (before mid after : YardState) → Passes before mid → Passes mid after → Passes before after
-passes_on before mid after first next = record {
-  tells = λ m. first.tells m ∙ next.tells m;
-  later = λ m. omega (arith, first.later m, next.later m);
-}
+pub passes_on : (before mid after : YardState) → PassOn before mid → PassOn mid after → PassOn before after
+passes_on before mid after first next m =
+    on_then (before.told m) (mid.told m) (after.told m) (before.faults m) (mid.faults m) (after.faults m) (first m)
+    (next m)
 
-pub tell_on : (n : ℕ) (before after : YardState) → Passes before after → AllTell n before → AllTell n after
-tell_on n before after passes all m l = subst IsTrue (passes.tells m) (all m l)
+pub tell_on : (n : ℕ) (before after : YardState) → PassOn before after → AllTell n before → AllTell n after
+tell_on n before after passes all m l = subst IsTrue (passes m).tells (all m l)
 
 pub ages_pass : (script : Script) (mode : Mode) (nth : ℕ) (before : YardState) (ages : List AgeEnd) (after : YardState)
-    → AreAges script mode nth before ages after → Passes before after
-ages_pass script mode nth before [] after are = subst (Passes before) are (passes_none before)
+    → AreAges script mode nth before ages after → PassOn before after
+ages_pass script mode nth before [] after are = subst (λ (y : YardState). PassOn before y) are (passes_none before)
 ages_pass script mode nth before (age ∷ ages) after are =
     passes_on before are.0 after are.1.passes (ages_pass script mode (nth + 1) are.0 ages after are.2)
 
@@ -56,7 +57,7 @@ pub record AreBeside (script : Script) (start : YardState) (one next : AgeEnd) :
   pub after : YardState
   pub first : IsAgeOf script mode nth before mid one
   pub second : IsAgeOf script mode (nth + 1) mid after next
-  pub passes : Passes start mid
+  pub passes : PassOn start mid
 
 pub beside : (script : Script) (mode : Mode) (nth : ℕ) (before : YardState) (ages : List AgeEnd) (after : YardState) (i : ℕ)
     (a b : AgeEnd) → AreAges script mode nth before ages after → slice_get ages i ≡ Some a
@@ -95,7 +96,7 @@ pub record EndsWith (script : Script) (start after : YardState) : Type 0 where
   pub nth : ℕ
   pub before : YardState
   pub is : IsAgeOf script mode nth before after age
-  pub passes : Passes start before
+  pub passes : PassOn start before
 
 pub last_age : (script : Script) (mode : Mode) (nth : ℕ) (before : YardState) (one : AgeEnd) (ages : List AgeEnd)
     (after : YardState) → AreAges script mode nth before (one ∷ ages) after → EndsWith script before after

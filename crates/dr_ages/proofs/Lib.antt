@@ -1,3 +1,4 @@
+mod Staying
 mod Backs
 mod Caught
 mod Chain

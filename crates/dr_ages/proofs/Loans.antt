@@ -5,8 +5,9 @@ use Rattle.std.specs.Option.{option_map_or}
 use Rattle.std.proofs.lemmas.Bool.{cases_eq, cases_lt, lt-ltb, le-ltb}
 use Rattle.std.proofs.lemmas.List.{length-map}
 use Rattle.std.proofs.lemmas.Option.{same_Some, slice_get_within}
-use Rattle.dr_disk.specs.Disk.{Told, content_of}
-use Rattle.dr_disk.specs.Images.{ReadsAnImage}
+use Rattle.dr_disk.specs.Calls.{Sync}
+use Rattle.dr_disk.specs.Disk.{Told, added, content_of}
+use Rattle.dr_disk.specs.Images.{Goes, ReadsAnImage}
 use Rattle.dr_entry.specs.declared.entry.Entry.{Entry}
 use Rattle.dr_entry.specs.declared.record.Vote.{Vote}
 use Rattle.dr_gather.specs.Gathering.{entries_on}
@@ -15,6 +16,7 @@ use Rattle.dr_io.specs.Faults.{Rose}
 use Rattle.dr_log.specs.declared.fault.MountWhy.{MountWhy}
 use Rattle.dr_log.specs.declared.fault.MountWhy.TheVariants as whys
 use Rattle.dr_log.specs.Grammar.{IsDamaged}
+use Rattle.dr_log.specs.Standing.{KeepsRecords, StandsFor}
 use Rattle.dr_log.specs.State.{LogState}
 use Rattle.dr_script.specs.declared.script.Script.{Script}
 use Rattle.dr_yard.specs.Yards.{YardState}
@@ -25,6 +27,7 @@ use Rattle.dr_ages.specs.Lent.{AreLent, AreMounted, IsMounted, WasRefused, WereR
 use Rattle.dr_ages.specs.Opened.{AreLater}
 use Rattle.dr_ages.specs.Stops.{HasStopped, ReadsDamaged}
 use Rattle.dr_ages.proofs.Caught.{entries_at}
+use Rattle.dr_ages.proofs.Staying.{on_alike}
 
 -- below one more number there is that number
 below_more_lent : (k m n : ℕ) → k ≢ m → n ≡ m + 1 → nat_lt k m ≡ nat_lt k n
@@ -114,6 +117,27 @@ mounted_more {D} tells faults before logs log k are at is m x here = by (slice_g
         subst (λ (j : ℕ). IsMounted tells faults (before.told j) (before.faults j) x) (sym (new.0 ∙ at))
         (subst (λ (y : LogState D). IsMounted tells faults (before.told k) (before.faults k) y) new.1 is)
 
+-- a log that was mounted from a disk that was lent
+pub was_mounted : {D : Type 0} (tells : D → Option Told) (faults : D → ℕ) (told : Option Told) (count : ℕ)
+    (disk : D) (log : LogState D) → tells disk ≡ told → IfSome (tells disk) ReadsAnImage
+    → IfSome (tells disk) (λ t. StandsFor (content_of t) log.entries log.votes) → log.limit ≡ 2147483648
+    → log.failed ≡ false → Goes (tells disk) (tells log.disk) KeepsRecords → count ≤ faults log.disk
+    → IsMounted tells faults told count log
+was_mounted {D} tells faults told count disk log same image stands limit whole goes later = record {
+  found = both told (subst (λ (o : Option Told). IfSome o ReadsAnImage) same image)
+      (subst (λ (o : Option Told). IfSome o (λ t. StandsFor (content_of t) log.entries log.votes)) same stands);
+  limit = limit;
+  whole = whole;
+  on = on_alike told (tells log.disk) count (faults log.disk)
+      (subst (λ (o : Option Told). Goes o (tells log.disk) KeepsRecords) same goes) later;
+}
+  where
+    both : (o : Option Told) → IfSome o ReadsAnImage
+        → IfSome o (λ t. StandsFor (content_of t) log.entries log.votes)
+        → IfSome o (ReadsAs log.entries log.votes)
+    both None i s = tt
+    both (Some t) i s = record { image = i; stands = s }
+
 -- the same logs later
 pub lent_later : {Y D : Type 0} (is_lent : Y → ℕ → Bool) (yard_faults : Y → ℕ → ℕ) (tells : D → Option Told)
     (faults : D → ℕ) (yard : Y) (olds news : List (LogState D)) → AreLent is_lent yard_faults faults yard olds
@@ -156,20 +180,21 @@ are_found {D} tells faults before logs n are count = record {
 
 -- ---- why one was not mounted
 
-pub was_refused : (member : ℕ) (told : Option Told) (before after : ℕ) (why : MountWhy) (stop : Stop)
+pub was_refused : (member : ℕ) (told now : Option Told) (before after : ℕ) (why : MountWhy) (stop : Stop)
     → (why ≡ whys.OutOfMemory → stop ≡ OutOfMemory) → (why ≡ whys.DiskFault → stop ≡ DiskFault member)
     → ((at : ℕ) → why ≡ whys.Damaged at → stop ≡ Damaged member at)
     → (why ≡ whys.DiskFault → Rose before after)
     → ((at : ℕ) → why ≡ whys.Damaged at → IfSome told ReadsAnImage)
     → ((at : ℕ) → why ≡ whys.Damaged at → IfSome told (λ t. IsDamaged (content_of t) at))
-    → WasRefused member told before after stop
-was_refused member told before after whys.OutOfMemory stop memory disk bytes rose image damaged =
-    subst (WasRefused member told before after) (sym (memory refl)) tt
-was_refused member told before after whys.DiskFault stop memory disk bytes rose image damaged =
-    subst (WasRefused member told before after) (sym (disk refl)) (refl, rose refl)
-was_refused member told before after (whys.Damaged at) stop memory disk bytes rose image damaged =
-    subst (WasRefused member told before after) (sym (bytes at refl))
-    (refl, both told (image at refl) (damaged at refl))
+    → ((at : ℕ) → why ≡ whys.Damaged at → now ≡ added Sync told)
+    → WasRefused member told now before after stop
+was_refused member told now before after whys.OutOfMemory stop memory disk bytes rose image damaged kept =
+    subst (WasRefused member told now before after) (sym (memory refl)) tt
+was_refused member told now before after whys.DiskFault stop memory disk bytes rose image damaged kept =
+    subst (WasRefused member told now before after) (sym (disk refl)) (refl, rose refl)
+was_refused member told now before after (whys.Damaged at) stop memory disk bytes rose image damaged kept =
+    subst (WasRefused member told now before after) (sym (bytes at refl))
+    (refl, both told (image at refl) (damaged at refl), kept at refl)
   where
     both : (o : Option Told) → IfSome o ReadsAnImage → IfSome o (λ t. IsDamaged (content_of t) at)
         → IfSome o (ReadsDamaged at)
@@ -180,35 +205,47 @@ pub were_refused : {D : Type 0} (tells : D → Option Told) (faults : D → ℕ)
     (before mid after : YardState) (logs : List (LogState D)) (stop : Stop) → k < n
     → AreMounted tells faults before logs → length logs ≡ k
     → mid.told k ≡ before.told k → mid.faults k ≡ before.faults k
-    → WasRefused k (mid.told k) (mid.faults k) (after.faults k) stop → WereRefused n before after stop
+    → WasRefused k (mid.told k) (after.told k) (mid.faults k) (after.faults k) stop
+    → WereRefused n (length logs) before after stop
 were_refused tells faults n k before mid after logs OutOfMemory below are count told same is = tt
 were_refused tells faults n k before mid after logs (DiskFault m) below are count told same is = record {
   below = omega (arith, is.0, below);
   rose = subst (λ (j : ℕ). Rose (before.faults j) (after.faults j)) (sym is.0)
       (subst (λ (x : ℕ). Rose x (after.faults k)) same is.1);
 }
-were_refused tells faults n k before mid after logs (Damaged m at) below are count told same is = record {
-  below = omega (arith, is.0, below);
-  damaged = subst (λ (j : ℕ). IfSome (before.told j) (ReadsDamaged at)) (sym is.0)
-      (subst (λ (o : Option Told). IfSome o (ReadsDamaged at)) told is.1);
-  lists = entries_on logs;
-  votes = votes_on logs;
-  found = are_found tells faults before logs m are (count ∙ sym is.0);
-}
+were_refused tells faults n k before mid after logs (Damaged m at) below are count told same is = (
+  omega (arith, is.0, count),
+  record {
+    below = omega (arith, is.0, below);
+    damaged = subst (λ (j : ℕ). IfSome (before.told j) (ReadsDamaged at)) (sym is.0)
+        (subst (λ (o : Option Told). IfSome o (ReadsDamaged at)) told is.1);
+    kept = subst (λ (j : ℕ). after.told j ≡ added Sync (before.told j)) (sym is.0) (is.2 ∙ ap (added Sync) told);
+    lists = entries_on logs;
+    votes = votes_on logs;
+    found = are_found tells faults before logs m are (count ∙ sym is.0);
+  },
+)
 were_refused tells faults n k before mid after logs (LogFull m len) below are count told same is = absurd is
 were_refused tells faults n k before mid after logs (Disagree a b p) below are count told same is = absurd is
 were_refused tells faults n k before mid after logs (Foreign m p) below are count told same is = absurd is
 were_refused tells faults n k before mid after logs AgesUsedUp below are count told same is = absurd is
 
--- so the next age was not opened
-pub refused_stop : (script : Script) (before mid after : YardState) (stop : Stop)
-    → ((m : ℕ) → mid.faults m ≤ after.faults m) → WereRefused script.members before mid stop
-    → HasStopped script before after stop
-refused_stop script before mid after OutOfMemory later is = tt
-refused_stop script before mid after (DiskFault m) later is =
+-- so the next age was not opened, where the disks of the others are as they were then
+pub refused_stop : (script : Script) (k : ℕ) (before mid after : YardState) (stop : Stop)
+    → ((m : ℕ) → mid.faults m ≤ after.faults m) → ((m : ℕ) → k ≤ m → after.told m ≡ mid.told m)
+    → WereRefused script.members k before mid stop → HasStopped script before after stop
+refused_stop script k before mid after OutOfMemory later back is = tt
+refused_stop script k before mid after (DiskFault m) later back is =
     record { below = is.below; rose = le_trans is.rose (later m) }
-refused_stop script before mid after (Damaged m at) later is = is
-refused_stop script before mid after (LogFull m len) later is = absurd is
-refused_stop script before mid after (Disagree a b p) later is = absurd is
-refused_stop script before mid after (Foreign m p) later is = absurd is
-refused_stop script before mid after AgesUsedUp later is = absurd is
+refused_stop script k before mid after (Damaged m at) later back is = record {
+  below = is.1.below;
+  damaged = is.1.damaged;
+  kept = back m is.0 ∙ is.1.kept;
+  lists = is.1.lists;
+  votes = is.1.votes;
+  found = is.1.found;
+}
+refused_stop script k before mid after (LogFull m len) later back is = absurd is
+refused_stop script k before mid after (Disagree a b p) later back is = absurd is
+refused_stop script k before mid after (Foreign m p) later back is = absurd is
+refused_stop script k before mid after AgesUsedUp later back is = absurd is

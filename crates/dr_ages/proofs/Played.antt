@@ -1,11 +1,12 @@
 -- An age that was run over logs that were mounted and brought up to its start.
-use Rattle.std.proofs.Common.{◌≡◌, ◌⊎◌, refl, sym, ap, ◌∙◌, subst, ℕ, ◌+◌, ◌^◌, ◌<◌, inl, inr, arith, List, [], ◌∷◌, ◌++◌, length, take, drop, get_or}
+use Rattle.std.proofs.Common.{◌≡◌, ◌⊎◌, refl, sym, ap, ◌∙◌, subst, ℕ, ◌+◌, ◌^◌, ◌<◌, inl, inr, arith, List, [], ◌∷◌, ◌++◌, length, take, drop, get_or, append-nil}
 use Rattle.std.specs.Prelude.{All, IfOk, OnErr, Option, None, Some, Result, Ok, Err, is_some, slice_get}
 use Rattle.std.proofs.lemmas.List.{take-append-drop, take_all, take_more}
 use Rattle.std.proofs.lemmas.Option.{slice_get-get_or, slice_get_within}
 use Rattle.dr_complete.specs.Time.{HasTime}
 use Rattle.dr_disk.specs.Disk.{Told}
 use Rattle.dr_disk.specs.Images.{Goes, IsLeft}
+use Rattle.dr_disk.proofs.Moments.{Goes-last}
 use Rattle.dr_entry.specs.declared.end.AgeEnd.{AgeEnd}
 use Rattle.dr_entry.specs.declared.end.End.{End}
 use Rattle.dr_entry.specs.declared.end.End.TheVariants as ends
@@ -34,19 +35,21 @@ use Rattle.dr_restart.specs.Groups.{group_of}
 use Rattle.dr_restart.specs.Setups.{crashes_of}
 use Rattle.dr_script.specs.declared.script.Script.{Script}
 use Rattle.dr_script.specs.Ranges.{HasRanges}
-use Rattle.dr_age.specs.Logged.{AreCalm, AreOpened, HaveCome, IsAmple, NoneFull, NoneStopped, why_ended}
-use Rattle.dr_threads.specs.Logs.{AreLonger, IsLonger}
+use Rattle.dr_age.specs.Logged.{AreAsBefore, AreCalm, AreOpened, HaveCome, IsAmple, NoneFull, NoneStopped, why_ended}
+use Rattle.dr_threads.specs.Logs.{AreLonger}
 use Rattle.dr_yard.specs.Yards.{YardState}
 use Rattle.dr_ages.specs.declared.mode.Mode.{Mode}
 use Rattle.dr_ages.specs.declared.mode.Mode.TheVariants.{Sim, Run}
 use Rattle.dr_ages.specs.Ages.{IsAgeOf, IsPlayed, start_of}
 use Rattle.dr_ages.specs.Left.{HasLeft, IsFullAt, StandsAsLeft}
-use Rattle.dr_ages.specs.Lent.{AreMounted, GoesOn, IsMounted, with_logs}
-use Rattle.dr_ages.specs.Opened.{AreCaughtUp, AreLater, IsCaughtUp}
+use Rattle.dr_ages.specs.Lent.{AreMounted, IsMounted, with_logs}
+use Rattle.dr_ages.specs.Opened.{AreCaughtUp, AreLater, IsCaughtUp, IsLater}
 use Rattle.dr_ages.proofs.Backs.{faults_at, passed_with, told_at}
-use Rattle.dr_ages.proofs.Caught.{caught_later, goes_tells, on_then}
+use Rattle.dr_ages.proofs.Caught.{caught_later, goes_tells}
+use Rattle.dr_ages.proofs.Chain.{passes_none}
 use Rattle.dr_ages.proofs.Fresh.{start_small}
 use Rattle.dr_ages.proofs.Loans.{are_found, votes_at, votes_on}
+use Rattle.dr_ages.proofs.Staying.{fewer_kept, lasts_left, later_then, left_so}
 
 -- logs that were all brought up to a start are those with which its age opens
 pub are_opened : {D : Type 0} (told : D → Option Told) (faults : D → ℕ) (script : Script) (start : Start)
@@ -65,41 +68,68 @@ are_opened told faults script start olds news lists all caught = record {
       };
 }
 
--- ---- the disks go on
+-- ---- the logs go on
 
-come_on : {D : Type 0} (tells : D → Option Told) (faults : D → ℕ) (base log : LogState D)
+come_on : {D : Type 0} (told : D → Option Told) (faults : D → ℕ) (base log : LogState D)
     (history : List Entry) (logged : ℕ) (why : Option LogWhy)
-    → HasCome tells faults base log history logged why
-    → GoesOn (tells base.disk) (faults base.disk) (tells log.disk) (faults log.disk)
-come_on tells faults base log history logged why come = record {
-  tells = goes_tells (tells base.disk) (tells log.disk) (λ s. LosesNone base.entries base.votes) come.moments;
+    → HasCome told faults base log history logged why → IsLater told faults base log
+come_on told faults base log history logged why come = record {
+  entries = (come.more.0, sym come.more.1);
+  votes = come.votes;
+  tells = goes_tells (told base.disk) (told log.disk) (λ s. LosesNone base.entries base.votes) come.moments;
   later = come.later;
+  stays = λ es vs part kept left.
+      lasts_left (told base.disk) (told log.disk) (LosesNone es vs) (come.lasting es vs) left;
 }
 
-pub later_by_come : {D : Type 0} (tells : D → Option Told) (faults : D → ℕ) (olds news : List (LogState D))
-    (members : List MemberEnd) → length members ≡ length olds → HaveCome tells faults olds news members
-    → AreLater tells faults olds news
-later_by_come tells faults olds news members all come m old new there here =
+pub later_by_come : {D : Type 0} (told : D → Option Told) (faults : D → ℕ) (olds news : List (LogState D))
+    (members : List MemberEnd) → length members ≡ length olds → HaveCome told faults olds news members
+    → AreLater told faults olds news
+later_by_come told faults olds news members all come m old new there here =
     let e = slice_get-some members m (omega (arith, slice_get_within olds m old there, all)) in
-    come_on tells faults old new e.0.history e.0.logged (why_ended e.0.end) (come m old new e.0 there here e.1)
+    come_on told faults old new e.0.history e.0.logged (why_ended e.0.end) (come m old new e.0 there here e.1)
 
-pub later_by_calm : {D : Type 0} (tells : D → Option Told) (faults : D → ℕ) (olds news : List (LogState D))
-    → AreCalm tells faults olds news → AreLater tells faults olds news
-later_by_calm tells faults olds news calm m old new there here =
+later_by_calm : {D : Type 0} (told : D → Option Told) (faults : D → ℕ) (olds news : List (LogState D))
+    → AreAsBefore olds news → AreCalm told faults olds news → AreLater told faults olds news
+later_by_calm told faults olds news kept calm m old new there here =
+    let is = kept m old new there here in
     let still = calm m old new there here in
-    record { tells = ap (λ o. is_some o) (sym still.0); later = omega (arith, still.1) }
+    record {
+      entries = ([], append-nil old.entries ∙ sym is.entries);
+      votes = is.votes;
+      tells = ap (λ o. is_some o) (sym still.0);
+      later = omega (arith, still.1);
+      stays = λ es vs part had left. subst (λ (o : Option Told). IsLeft o (LosesNone es vs)) (sym still.0) left;
+    }
 
-pub later_by_longer : {D : Type 0} (tells : D → Option Told) (faults : D → ℕ) (olds news : List (LogState D))
-    → AreLonger tells faults olds news → AreLater tells faults olds news
-later_by_longer tells faults olds news longer m old new there here =
-    let is = longer.each m old new there here in record { tells = by is is.moments; later = is.later }
+pub later_by_longer : {D : Type 0} (told : D → Option Told) (faults : D → ℕ) (olds news : List (LogState D))
+    → AreLonger told faults olds news → AreLater told faults olds news
+later_by_longer told faults olds news longer m old new there here =
+    let is = longer.each m old new there here in
+    record {
+      entries = (is.entries.0, sym is.entries.1);
+      votes = is.votes;
+      tells = tells is.moments;
+      later = is.later;
+      stays = λ es vs part kept left. stays es vs part kept left is.moments;
+    }
   where
-    by : (is : IsLonger tells faults old new)
-        → (tells new.disk ≡ tells old.disk)
-        ⊎ Goes (tells old.disk) (tells new.disk) (λ s. LosesNone old.entries old.votes)
-        → is_some (tells old.disk) ≡ is_some (tells new.disk)
-    by is (inl same) = ap (λ o. is_some o) (sym same)
-    by is (inr goes) = goes_tells (tells old.disk) (tells new.disk) (λ s. LosesNone old.entries old.votes) goes
+    tells : (told new.disk ≡ told old.disk)
+        ⊎ Goes (told old.disk) (told new.disk) (λ s. LosesNone old.entries old.votes)
+        → is_some (told old.disk) ≡ is_some (told new.disk)
+    tells (inl same) = ap (λ o. is_some o) (sym same)
+    tells (inr goes) = goes_tells (told old.disk) (told new.disk) (λ s. LosesNone old.entries old.votes) goes
+
+    stays : (es : List Entry) (vs : List Vote) → IsPrefixOf es old.entries → IsPrefixOf vs old.votes
+        → IsLeft (told old.disk) (LosesNone es vs)
+        → (told new.disk ≡ told old.disk)
+        ⊎ Goes (told old.disk) (told new.disk) (λ s. LosesNone old.entries old.votes)
+        → IsLeft (told new.disk) (LosesNone es vs)
+    stays es vs part kept left (inl same) = subst (λ (o : Option Told). IsLeft o (LosesNone es vs)) (sym same) left
+    stays es vs part kept left (inr goes) =
+        left_so (told new.disk) (LosesNone old.entries old.votes) (LosesNone es vs)
+        (λ image. fewer_kept es old.entries vs old.votes image part kept)
+        (Goes-last (told old.disk) (told new.disk) (LosesNone old.entries old.votes) goes)
 
 -- what holds of the value of an answer
 pub ok_at : {X E : Type 0} (P : X → Type 0) (result : Result X E) (x : X) → result ≡ Ok x → IfOk result P → P x
@@ -109,26 +139,21 @@ ok_at P result x is so = subst (λ r. IfOk r P) is so
 pub later_by_result : {D E : Type 0} (tells : D → Option Told) (faults : D → ℕ) (olds news : List (LogState D))
     (result : Result AgeEnd E) → IfOk result (λ age. length age.members ≡ length olds)
     → IfOk result (λ age. HaveCome tells faults olds news age.members)
-    → OnErr result (AreCalm tells faults olds news) → AreLater tells faults olds news
-later_by_result tells faults olds news (Ok age) all come calm =
+    → OnErr result (AreAsBefore olds news) → OnErr result (AreCalm tells faults olds news)
+    → AreLater tells faults olds news
+later_by_result tells faults olds news (Ok age) all come kept calm =
     later_by_come tells faults olds news age.members all come
-later_by_result tells faults olds news (Err error) all come calm = later_by_calm tells faults olds news calm
+later_by_result tells faults olds news (Err error) all come kept calm =
+    later_by_calm tells faults olds news kept calm
 
 pub later_on : {D : Type 0} (tells : D → Option Told) (faults : D → ℕ) (olds mids news : List (LogState D))
     → length mids ≡ length olds → AreLater tells faults olds mids → AreLater tells faults mids news
     → AreLater tells faults olds news
 later_on tells faults olds mids news count first next m old new there here =
     let mid = slice_get-some mids m (omega (arith, slice_get_within olds m old there, count)) in
-    on_then (tells old.disk) (tells mid.0.disk) (tells new.disk) (faults old.disk) (faults mid.0.disk)
-    (faults new.disk) (first m old mid.0 there mid.1) (next m mid.0 new mid.1 here)
+    later_then tells faults old mid.0 new (first m old mid.0 there mid.1) (next m mid.0 new mid.1 here)
 
 -- ---- what is left on a disk
-
--- what holds of all that a crash may leave, and what follows from it
-left_so : (o : Option Told) (P Q : List ℕ → Type 0) → ((image : List ℕ) → P image → Q image) → IsLeft o P
-    → IsLeft o Q
-left_so None P Q more left = tt
-left_so (Some t) P Q more left = λ image is. more image (left image is)
 
 -- whom a disk ended
 by_disk : (end : End) → why_ended end ≡ Some logs.DiskFault → end ≡ ends.DiskFault
@@ -290,7 +315,7 @@ is_age {D} tells faults script mode nth before start olds mids news age w = reco
       (later_on tells faults olds mids news w.caught.all
       (caught_later tells faults (opened_with start start.members) olds mids (length olds) w.caught)
       (later_by_come tells faults mids news age.members w.members w.come)) (w.count ∙ w.caught.all)
-      (λ m past. record { tells = refl; later = omega arith });
+      (λ m past. passes_none before m);
 }
   where
     same : start ≡ start_of script age

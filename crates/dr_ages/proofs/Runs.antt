@@ -6,10 +6,11 @@ use Rattle.dr_entry.specs.declared.end.AgeEnd.{AgeEnd}
 use Rattle.dr_script.specs.declared.script.Script.{Script}
 use Rattle.dr_script.specs.Ranges.{HasRanges}
 use Rattle.dr_age.specs.Logged.{NoneFull}
-use Rattle.dr_yard.specs.Yards.{AllTell, AreEmpty, Passes, YardState}
+use Rattle.dr_yard.specs.Yards.{AllTell, AreEmpty, YardState}
 use Rattle.dr_ages.specs.declared.mode.Mode.{Mode}
 use Rattle.dr_ages.specs.declared.stop.Stop.{Stop}
 use Rattle.dr_ages.specs.Ages.{AreAges}
+use Rattle.dr_ages.specs.Passing.{PassOn}
 use Rattle.dr_ages.specs.Runs.{HasFinished, IsFreshRun, IsRunOf}
 use Rattle.dr_ages.specs.Stops.{IsBadLogs, IsOutside}
 use Rattle.dr_ages.proofs.Chain.{ages_pass, last_age, passes_on, tell_on}
@@ -61,7 +62,7 @@ fresh_run script mode before ages last after stop ranges are end empty = record 
 
 pub a_run : (script : Script) (mode : Mode) (before : YardState) (ages : List AgeEnd) (last after : YardState)
     (stop : Option Stop) → HasRanges script → AreAges script mode 0 before ages last
-    → HasFinished script last after ages stop → Passes last after → IsRunOf script mode before after ages stop
+    → HasFinished script last after ages stop → PassOn last after → IsRunOf script mode before after ages stop
 a_run script mode before ages last after stop ranges are end passes = record {
   last = last;
   course = are;

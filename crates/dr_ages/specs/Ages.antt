@@ -21,11 +21,12 @@ use Rattle.dr_script.specs.declared.script.Script.{Script}
 use Rattle.dr_age.specs.Logged.{NoneFull, NoneStopped}
 use Rattle.dr_age.specs.Run.{IsRun}
 use Rattle.dr_sim.specs.Simulated.{IsSimulated}
-use Rattle.dr_yard.specs.Yards.{Passes, YardState}
+use Rattle.dr_yard.specs.Yards.{YardState}
 use Rattle.dr_ages.specs.declared.mode.Mode.{Mode}
 use Rattle.dr_ages.specs.declared.mode.Mode.TheVariants.{Sim, Run}
 use Rattle.dr_ages.specs.Found.{AreFound}
 use Rattle.dr_ages.specs.Left.{HasLeft, IsFullAt}
+use Rattle.dr_ages.specs.Passing.{PassOn}
 
 -- the start that the end of an age tells: the whole roster takes part
 abbrev pub start_of : Script → AgeEnd → Start
@@ -75,7 +76,8 @@ pub record IsAgeOf (script : Script) (mode : Mode) (nth : ℕ) (before after : Y
       → IsFullAt e (votes m) len
   -- logs without votes have room for all that an age may bring
   pub ample : ((m : ℕ) → m < script.members → votes m ≡ []) → NoneFull age.members
-  pub passes : Passes before after
+  -- no disk has lost anything
+  pub passes : PassOn before after
 
 -- these ages came one after the other, the first of them as number nth of the run
 abbrev pub AreAges : Script → Mode → ℕ → YardState → List AgeEnd → YardState → Type 0

@@ -1,7 +1,8 @@
 -- The disks of a yard that are lent, and the logs on them.
-use Rattle.std.specs.Prelude.{◌≡◌, ⊤, ℕ, ◌<◌, ◌≤◌, Bool, nat_lt, false, List, length, slice_get, Option, Some, IfSome, is_some}
+use Rattle.std.specs.Prelude.{◌≡◌, ⊤, ℕ, ◌<◌, ◌≤◌, Bool, nat_lt, false, List, length, slice_get, Option, Some, IfSome}
 use Rattle.std.specs.Option.{option_map_or}
-use Rattle.dr_disk.specs.Disk.{Told}
+use Rattle.dr_disk.specs.Calls.{Sync}
+use Rattle.dr_disk.specs.Disk.{Told, added}
 use Rattle.dr_entry.specs.declared.limits.TheConstants.{MAX_MEMBERS}
 use Rattle.dr_io.specs.Faults.{Rose}
 use Rattle.dr_log.specs.State.{LogState}
@@ -9,6 +10,7 @@ use Rattle.dr_yard.specs.Yards.{YardState}
 use Rattle.dr_ages.specs.declared.stop.Stop.{Stop}
 use Rattle.dr_ages.specs.declared.stop.Stop.TheVariants.{OutOfMemory, DiskFault, Damaged}
 use Rattle.dr_ages.specs.Found.{ReadsAs}
+use Rattle.dr_ages.specs.Passing.{GoesOn}
 use Rattle.dr_ages.specs.Stops.{HasDamaged, HasFailed, ReadsDamaged}
 
 -- the disks of the first members are lent, and stand under these logs, by number; a disk has counted no fewer
@@ -19,11 +21,6 @@ pub record AreLent {Y D : Type 0} (is_lent : Y → ℕ → Bool) (yard_faults : 
   pub lent : (m : ℕ) → m < MAX_MEMBERS → is_lent yard m ≡ nat_lt m (length logs)
   pub counted : (m : ℕ) (log : LogState D) → slice_get logs m ≡ Some log
       → yard_faults yard m ≤ faults log.disk
-
--- a disk that told so, and had counted so many faults, goes on telling or not telling, and counts no fewer
-pub record GoesOn (told : Option Told) (count : ℕ) (now : Option Told) (faults : ℕ) : Type 0 where
-  pub tells : is_some told ≡ is_some now
-  pub later : count ≤ faults
 
 -- a log was mounted from a disk that told so and had counted so many faults: it is what was read
 pub record IsMounted {D : Type 0} (tells : D → Option Told) (faults : D → ℕ) (told : Option Told) (count : ℕ)
@@ -45,16 +42,18 @@ with_logs {D} tells faults yard logs = record {
   faults = λ m. option_map_or (λ (log : LogState D). faults log.disk) (slice_get logs m) (yard.faults m);
 }
 
--- why the log of a member was not mounted, from a disk that told so, while the count of its faults went so
-abbrev pub WasRefused : ℕ → Option Told → ℕ → ℕ → Stop → Type 0
-WasRefused member told before after OutOfMemory = ⊤
-WasRefused member told before after (DiskFault m) = (m ≡ member) × Rose before after
-WasRefused member told before after (Damaged m at) = (m ≡ member) × IfSome told (ReadsDamaged at)
-WasRefused member told before after stop = ⊥
+-- why the log of a member was not mounted, from a disk that told so and tells so now, while the count of its
+-- faults went so
+abbrev pub WasRefused : ℕ → Option Told → Option Told → ℕ → ℕ → Stop → Type 0
+WasRefused member told now before after OutOfMemory = ⊤
+WasRefused member told now before after (DiskFault m) = (m ≡ member) × Rose before after
+WasRefused member told now before after (Damaged m at) =
+    (m ≡ member) × IfSome told (ReadsDamaged at) × (now ≡ added Sync told)
+WasRefused member told now before after stop = ⊥
 
--- why the logs of the first n members were not all mounted
-abbrev pub WereRefused : ℕ → YardState → YardState → Stop → Type 0
-WereRefused n before after OutOfMemory = ⊤
-WereRefused n before after (DiskFault m) = HasFailed n before after m
-WereRefused n before after (Damaged m at) = HasDamaged n before m at
-WereRefused n before after stop = ⊥
+-- why the logs of the first n members were not all mounted, but those of the first k
+abbrev pub WereRefused : ℕ → ℕ → YardState → YardState → Stop → Type 0
+WereRefused n k before after OutOfMemory = ⊤
+WereRefused n k before after (DiskFault m) = HasFailed n before after m
+WereRefused n k before after (Damaged m at) = (k ≤ m) × HasDamaged n before after m at
+WereRefused n k before after stop = ⊥

@@ -1,3 +1,4 @@
+pub mod Passing
 pub mod Lent
 pub mod Opened
 pub mod Found

@@ -1,16 +1,19 @@
 -- The logs of an age that opens.
-use Rattle.std.specs.Prelude.{◌≡◌, ℕ, ◌<◌, ◌≤◌, false, List, length, slice_get, Option, Some}
+use Rattle.std.specs.Prelude.{◌≡◌, ℕ, ◌<◌, ◌≤◌, false, List, length, slice_get, Option, Some, is_some}
 use Rattle.dr_disk.specs.Disk.{Told}
+use Rattle.dr_disk.specs.Images.{IsLeft}
 use Rattle.dr_entry.specs.declared.entry.Entry.{Entry}
+use Rattle.dr_entry.specs.declared.record.Vote.{Vote}
 use Rattle.dr_gather.specs.CatchingUp.{HasCaughtUp}
+use Rattle.dr_history.specs.History.{IsPrefixOf}
+use Rattle.dr_log.specs.Standing.{LosesNone}
 use Rattle.dr_log.specs.State.{LogState}
-use Rattle.dr_ages.specs.Lent.{GoesOn}
 
--- a log has come to all of these entries, and may go on
+-- a log that had the first of these entries has come to all of them, and may go on
 abbrev pub IsCaughtUp : {D : Type 0} → (D → Option Told) → (D → ℕ) → List Entry → LogState D → LogState D
     → Type 0
 IsCaughtUp told faults whole old new = HasCaughtUp told faults whole old new (length whole)
-    × (new.failed ≡ false)
+    × (new.failed ≡ false) × IsPrefixOf old.entries whole
 
 -- the first n logs have, and the others are as they were
 pub record AreCaughtUp {D : Type 0} (told : D → Option Told) (faults : D → ℕ) (whole : List Entry)
@@ -20,8 +23,19 @@ pub record AreCaughtUp {D : Type 0} (told : D → Option Told) (faults : D → �
       → IsCaughtUp told faults whole old new
   pub others : (m : ℕ) → n ≤ m → slice_get news m ≡ slice_get olds m
 
--- the disk of each log goes on telling, or not telling, and has counted no fewer faults
+-- a log has gone on since `old`: it has the entries that it had, and maybe more, and its votes. Its disk goes on
+-- telling, or not telling, has counted no fewer faults, and what no crash would have lost of these none would
+-- lose now.
+pub record IsLater {D : Type 0} (told : D → Option Told) (faults : D → ℕ) (old new : LogState D) : Type 0 where
+  pub entries : IsPrefixOf old.entries new.entries
+  pub votes : new.votes ≡ old.votes
+  pub tells : is_some (told old.disk) ≡ is_some (told new.disk)
+  pub later : faults old.disk ≤ faults new.disk
+  pub stays : (es : List Entry) (vs : List Vote) → IsPrefixOf es old.entries → IsPrefixOf vs old.votes
+      → IsLeft (told old.disk) (LosesNone es vs) → IsLeft (told new.disk) (LosesNone es vs)
+
+-- so has each of these logs
 abbrev pub AreLater : {D : Type 0} → (D → Option Told) → (D → ℕ) → List (LogState D) → List (LogState D)
     → Type 0
-AreLater {D} tells faults olds news = (m : ℕ) (old new : LogState D) → slice_get olds m ≡ Some old
-    → slice_get news m ≡ Some new → GoesOn (tells old.disk) (faults old.disk) (tells new.disk) (faults new.disk)
+AreLater {D} told faults olds news = (m : ℕ) (old new : LogState D) → slice_get olds m ≡ Some old
+    → slice_get news m ≡ Some new → IsLater told faults old new

@@ -7,10 +7,11 @@ use Rattle.dr_history.specs.History.{IsPrefixOf}
 use Rattle.dr_history.specs.Restarting.{Kept}
 use Rattle.dr_script.specs.declared.script.Script.{Script}
 use Rattle.dr_age.specs.Logged.{NoneFull}
-use Rattle.dr_yard.specs.Yards.{AllTell, AreEmpty, Passes, YardState}
+use Rattle.dr_yard.specs.Yards.{AllTell, AreEmpty, YardState}
 use Rattle.dr_ages.specs.declared.mode.Mode.{Mode}
 use Rattle.dr_ages.specs.declared.stop.Stop.{Stop}
 use Rattle.dr_ages.specs.Ages.{AreAges, opening_of}
+use Rattle.dr_ages.specs.Passing.{PassOn}
 use Rattle.dr_ages.specs.Stops.{HasStopped, IsBadLogs, IsOutside}
 
 -- each age keeps the one before it, and begins with all that a member of any earlier one knew to be durable
@@ -29,11 +30,12 @@ pub record IsFreshRun (ages : List AgeEnd) (stop : Option Stop) : Type 0 where
   pub roomy : All (λ (age : AgeEnd). NoneFull age.members) ages
   pub stopped : IfSome stop IsOutside
 
--- so many ages ran as the script asks for, or fewer, and this is why the next one was not opened
+-- so many ages ran as the script asks for, or fewer, and this is why the next one was not opened, by which no
+-- disk has lost anything
 abbrev pub HasFinished : Script → YardState → YardState → List AgeEnd → Option Stop → Type 0
 HasFinished script last after ages None = (length ages ≡ script.ages) × (last ≡ after)
 HasFinished script last after ages (Some stop) =
-    (length ages < script.ages) × HasStopped script last after stop
+    (length ages < script.ages) × HasStopped script last after stop × PassOn last after
 
 -- these are the ages of a run of the script in this mode, over disks that were so before it and are so behind
 -- it, and this is why it ended before its last age, if it did
@@ -42,7 +44,8 @@ pub record IsRunOf (script : Script) (mode : Mode) (before after : YardState) (a
   pub last : YardState
   pub course : AreAges script mode 0 before ages last
   pub finish : HasFinished script last after ages stop
-  pub passes : Passes before after
+  -- whatever ended it, no disk has lost anything
+  pub passes : PassOn before after
   -- over disks that tell, nothing durable is ever lost, and what an age leaves is never refused
   pub kept : AllTell script.members before → AreKept script ages
   pub never : AllTell script.members before → ages ≢ [] → IfSome stop (λ s. IsBadLogs s → ⊥)

@@ -1,6 +1,7 @@
 -- Why an age of a run was not opened.
 use Rattle.std.specs.Prelude.{◌≡◌, ⊤, ℕ, ◌+◌, ◌<◌, ◌^◌, List, length, take, IfSome}
-use Rattle.dr_disk.specs.Disk.{Told, content_of}
+use Rattle.dr_disk.specs.Calls.{Sync}
+use Rattle.dr_disk.specs.Disk.{Told, added, content_of}
 use Rattle.dr_disk.specs.Images.{IsLeft, ReadsAnImage}
 use Rattle.dr_entry.specs.declared.entry.Entry.{Entry}
 use Rattle.dr_entry.specs.declared.record.Vote.{Vote}
@@ -47,9 +48,11 @@ pub record ReadsDamaged (at : ℕ) (t : Told) : Type 0 where
   pub damaged : IsDamaged (content_of t) at
 
 -- the log of one of the first n members is damaged, and the logs of those below it can be read
-pub record HasDamaged (n : ℕ) (before : YardState) (member at : ℕ) : Type 0 where
+pub record HasDamaged (n : ℕ) (before after : YardState) (member at : ℕ) : Type 0 where
   pub below : member < n
   pub damaged : IfSome (before.told member) (ReadsDamaged at)
+  -- its bytes were synced, and are as they were
+  pub kept : after.told member ≡ added Sync (before.told member)
   pub lists : List (List Entry)
   pub votes : ℕ → List Vote
   pub found : AreFound member before lists votes
@@ -64,7 +67,7 @@ abbrev pub HasStopped : Script → YardState → YardState → Stop → Type 0
 HasStopped script before after OutOfMemory = ⊤
 HasStopped script before after (DiskFault member) = HasFailed script.members before after member
 HasStopped script before after (LogFull member len) = IsTooFull script before after member len
-HasStopped script before after (Damaged member at) = HasDamaged script.members before member at
+HasStopped script before after (Damaged member at) = HasDamaged script.members before after member at
 HasStopped script before after (Disagree a b place) = AreFoundSo script before
     (λ lists. AreSound (judged_by script) lists × IsFirstDisagreement lists a b place)
 HasStopped script before after (Foreign member place) = AreFoundSo script before

@@ -11,10 +11,11 @@ ghost use Rattle.dr_program_laws.specs.Trusting.{NoneLeft, SuspectsNobody};
 ghost use Rattle.dr_restart.specs.Groups.{group_of};
 ghost use Rattle.dr_restart.specs.Setups.{crashes_of};
 ghost use Rattle.dr_script.specs.Ranges.{HasRanges};
-ghost use Rattle.dr_yard.specs.Yards.{Passes, YardState, state_by};
+ghost use Rattle.dr_yard.specs.Yards.{YardState, state_by};
 ghost use Rattle.dr_ages.specs.Ages.{IsAgeOf, IsPlayed};
 ghost use Rattle.dr_ages.specs.Lent.{AreMounted, with_logs};
 ghost use Rattle.dr_ages.specs.Opened.{AreLater};
+ghost use Rattle.dr_ages.specs.Passing.{PassOn};
 ghost use Rattle.dr_ages.specs.Runs.{IsRunOf};
 ghost use Rattle.dr_ages.specs.Stops.{HasStopped};
 ghost use Rattle.dr_ages.specs.declared.mode.Mode.TheVariants.{Sim};
@@ -46,8 +47,9 @@ pub struct AgesEnd {
 /// Runs the ages of a script, one after the other, over the disks of a yard, those in this folder. For each
 /// age the logs of all members are mounted, ascending, and brought up to the start that they make together;
 /// then its members take their deeds, as the mode says, and all disks are given back. The first thing that is
-/// in the way of an age ends the run. No disk of the yard is lent, before and behind it. Threads call the
-/// pace after each turn of a member, a simulation never.
+/// in the way of an age ends the run. No disk of the yard is lent, before and behind it, and what no crash
+/// would have lost of a log before it none would lose behind it. Threads call the pace after each turn of a
+/// member, a simulation never.
 pub fn run_ages<R: Threads + Sync, Y: Yard, P: Pace + Sync>(
     rt: &R,
     alloc: Global,
@@ -105,7 +107,7 @@ fn run_age<R: Threads + Sync, Y: Yard, P: Pace + Sync>(
         (state_by Y.told Y.faults yard.new)) }
     ensures stopped { IfErr result (HasStopped script.now (state_by Y.told Y.faults yard.old)
         (state_by Y.told Y.faults yard.new)) }
-    ensures passes { Passes (state_by Y.told Y.faults yard.old) (state_by Y.told Y.faults yard.new) }
+    ensures passes { PassOn (state_by Y.told Y.faults yard.old) (state_by Y.told Y.faults yard.new) }
 {
     let Ok(mut logs) = Vec::with_capacity(alloc, usize::from(script.members)) else {
         return Err(Stop::OutOfMemory);

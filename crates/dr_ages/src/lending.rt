@@ -2,7 +2,8 @@
 ghost use Rattle.std.specs.Prelude.{◌≡◌, ◌≢◌, ◌<◌, ◌≤◌, ℕ, false, true, length, vec_capacity, OnOk, OnErr, IfOk, IfErr};
 ghost use Rattle.dr_entry.specs.declared.limits.TheConstants.{MAX_MEMBERS};
 ghost use Rattle.dr_yard.specs.Yards.{state_by};
-ghost use Rattle.dr_ages.specs.Lent.{AreLent, AreMounted, GoesOn, IsMounted, WasRefused, WereRefused, with_logs};
+ghost use Rattle.dr_ages.specs.Lent.{AreLent, AreMounted, IsMounted, WasRefused, WereRefused, with_logs};
+ghost use Rattle.dr_ages.specs.Passing.{GoesOn};
 
 use crate::stop::Stop;
 use dr_log::Log;
@@ -33,8 +34,8 @@ pub(crate) fn mount_all<Y: Yard>(
         → (Y.told yard.new m ≡ Y.told yard.old m) × (Y.faults yard.new m ≡ Y.faults yard.old m)) }
     ensures on { (m : ℕ) → length logs.new.items ≤ m
         → GoesOn (Y.told yard.old m) (Y.faults yard.old m) (Y.told yard.new m) (Y.faults yard.new m) }
-    ensures stopped { IfErr result (WereRefused members (state_by Y.told Y.faults yard.old)
-        (state_by Y.told Y.faults yard.new)) }
+    ensures stopped { IfErr result (WereRefused members (length logs.new.items)
+        (state_by Y.told Y.faults yard.old) (state_by Y.told Y.faults yard.new)) }
 {
     for member in 0..members {
         let log = mount(alloc, folder, yard, member)?;
@@ -59,7 +60,7 @@ fn mount<Y: Yard>(
         (Y.told yard.old member) (Y.faults yard.old member)) }
     ensures on { OnErr result (GoesOn (Y.told yard.old member) (Y.faults yard.old member)
         (Y.told yard.new member) (Y.faults yard.new member)) }
-    ensures stopped { IfErr result (WasRefused member (Y.told yard.old member)
+    ensures stopped { IfErr result (WasRefused member (Y.told yard.old member) (Y.told yard.new member)
         (Y.faults yard.old member) (Y.faults yard.new member)) }
     ensures others { (m : ℕ) → m ≢ member → (Y.told yard.new m ≡ Y.told yard.old m)
         × (Y.is_lent yard.new m ≡ Y.is_lent yard.old m) × (Y.faults yard.new m ≡ Y.faults yard.old m) }

@@ -1,5 +1,5 @@
 -- What a yard is to those that run ages over its disks.
-use Rattle.std.specs.Prelude.{◌≡◌, ◌<◌, ◌≤◌, ℕ, [], Option, Some, IsTrue, IsSomeAnd, is_some}
+use Rattle.std.specs.Prelude.{◌≡◌, ◌<◌, ℕ, [], Option, Some, IsTrue, IsSomeAnd, is_some}
 use Rattle.dr_disk.specs.Calls.{at_rest}
 use Rattle.dr_disk.specs.Disk.{Told, Now, content_of}
 
@@ -23,8 +23,3 @@ AllTell n yard = (m : ℕ) → m < n → IsTrue (is_some (yard.told m))
 -- the disks of the first n members tell that they are empty
 abbrev pub AreEmpty : ℕ → YardState → Type 0
 AreEmpty n yard = (m : ℕ) → m < n → IsSomeAnd (yard.told m) (λ t. content_of t ≡ [])
-
--- each disk goes on telling, or not telling, and no count of faults falls
-pub record Passes (before after : YardState) : Type 0 where
-  pub tells : (m : ℕ) → is_some (before.told m) ≡ is_some (after.told m)
-  pub later : (m : ℕ) → before.faults m ≤ after.faults m

@@ -42,7 +42,7 @@ returns-in-Sim-clause-later g c =
     (subst (λ (l : List (LogState g.row.D.Denot)). AreLater told faults l c.sim_age.new.logs)
     c.as_mut_slice.ensures.value
     (later_by_result told faults c.as_mut_slice.result.now c.sim_age.new.logs c.sim_age.result
-    c.sim_age.ensures.members c.sim_age.ensures.logged c.sim_age.ensures.calm))
+    c.sim_age.ensures.members c.sim_age.ensures.logged c.sim_age.ensures.kept c.sim_age.ensures.calm))
 
 pub returns-in-Ok-clause-later : goal.returns-in-Ok-clause-later
 returns-in-Ok-clause-later g c =

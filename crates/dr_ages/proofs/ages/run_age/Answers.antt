@@ -1,4 +1,4 @@
-use Rattle.std.proofs.Common.{◌≡◌, refl, subst, ℕ, List, get_or, arith}
+use Rattle.std.proofs.Common.{◌≡◌, ◌∙◌, refl, subst, ℕ, List, length, get_or, arith}
 use Rattle.std.proofs.lemmas.Option.{slice_get-get_or}
 use Rattle.std.proofs.lemmas.Result.{IfErr-weaker, IfOk-weaker}
 use Rattle.dr_log.specs.State.{LogState}
@@ -6,8 +6,9 @@ use Rattle.dr_yard.specs.Yards.{YardState, state_by}
 use Rattle.dr_ages.specs.Ages.{IsAgeOf}
 use Rattle.dr_ages.specs.Lent.{with_logs}
 use Rattle.dr_ages.specs.Stops.{HasStopped}
-use Rattle.dr_ages.proofs.Backs.{after_is, later_back, passed_back}
+use Rattle.dr_ages.proofs.Backs.{after_is, later_back, passed_back, told_past}
 use Rattle.dr_ages.proofs.Caught.{on_still}
+use Rattle.dr_ages.proofs.Chain.{passes_none}
 use Rattle.dr_ages.proofs.Loans.{lent_later, refused_stop}
 use Rattle.dr_ages.proofs.ages.run_age.Goals as goal
 use Rattle.dr_ages.proofs.ages.run_age.Goals.{in-Ok-mount_all, in-Err}
@@ -75,9 +76,10 @@ returns-clause-stopped g c =
           let back = subst (λ (l : List (LogState g.row.Y-Store.Denot)). (m : ℕ)
           → (after.told m ≡ (with_logs told faults mid l).told m)
           × (after.faults m ≡ (with_logs told faults mid l).faults m)) same c.give_all_back.ensures.back in
-          rw w.ended-is (refused_stop c.args.script.now before mid after w.in-Err.stop
-          (later_back told faults mid after c.mount_all.new.logs.items c.mount_all.ensures.lent.counted back)
-          w.in-Err.ensures.stopped)
+          let logs = c.mount_all.new.logs.items in
+          rw w.ended-is (refused_stop c.args.script.now (length logs) before mid after w.in-Err.stop
+          (later_back told faults mid after logs c.mount_all.ensures.lent.counted back)
+          (λ m past. (back m).0 ∙ told_past told faults mid logs m past) w.in-Err.ensures.stopped)
     ]
 
 pub returns-clause-passes : goal.returns-clause-passes
@@ -104,3 +106,6 @@ returns-clause-passes g c =
           → (after.told m ≡ (with_logs told faults mid l).told m)
           × (after.faults m ≡ (with_logs told faults mid l).faults m)) same c.give_all_back.ensures.back)
     ]
+
+pub returns-in_default-clause-passes : goal.returns-in_default-clause-passes
+returns-in_default-clause-passes g c = passes_none (state_by g.Y.Yard.told g.Y.Yard.faults c.args.yard.now)

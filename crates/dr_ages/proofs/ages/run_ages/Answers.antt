@@ -31,7 +31,7 @@ returns-in_default-clause-run g c =
     subst (λ (ages : List AgeEnd). IsRunOf c.args.script.now c.args.mode before before ages (Some OutOfMemory))
     (sym (c.of.ensures ∙ c.new.ensures.items))
     (a_run c.args.script.now c.args.mode before [] before before (Some OutOfMemory) c.requires.ranges refl
-    (omega (arith, c.requires.ranges.some_age), tt) (passes_none before))
+    (omega (arith, c.requires.ranges.some_age), tt, passes_none before) (passes_none before))
 
 pub returns-in-Err-clause-run : goal.returns-in-Err-clause-run
 returns-in-Err-clause-run g c =
@@ -41,8 +41,11 @@ returns-in-Err-clause-run g c =
     subst (λ (ages : List AgeEnd). IsRunOf c.args.script.now c.args.mode before after ages (Some c.in-Err.stop))
     (sym c.of-in-Err.ensures)
     (a_run c.args.script.now c.args.mode before c.loop-nth.ages.items last after (Some c.in-Err.stop) c.requires.ranges
-    c.loop-nth.invariant.3
-    (omega (arith, c.loop-nth.invariant.0, c.loop-nth-test.true), c.in-Err.ensures.stopped)
+    c.loop-nth.invariant.3 (
+      omega (arith, c.loop-nth.invariant.0, c.loop-nth-test.true),
+      c.in-Err.ensures.stopped,
+      c.run_age.ensures.passes,
+    )
     c.run_age.ensures.passes)
 
 pub returns-clause-run : goal.returns-clause-run

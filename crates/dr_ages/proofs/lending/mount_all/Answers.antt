@@ -1,10 +1,13 @@
-use Rattle.std.proofs.Common.{◌≡◌, ◌∙◌, sym, ap, subst, arith, rules, ℕ, List, [], ◌∷◌, ◌++◌, length, length-append}
+use Rattle.std.proofs.Common.{◌≡◌, ◌∙◌, sym, ap, subst, inl, inr, arith, rules, ℕ, List, [], ◌∷◌, ◌++◌, length, length-append}
+use Rattle.std.proofs.lemmas.Bool.{cases_eq}
 use Rattle.std.specs.Prelude.{Err, Option}
 use Rattle.dr_disk.specs.Disk.{Told}
 use Rattle.dr_log.specs.State.{LogState}
 use Rattle.dr_yard.specs.Yards.{state_by}
 use Rattle.dr_ages.specs.Lent.{AreLent, AreMounted, IsMounted}
+use Rattle.dr_ages.specs.Passing.{GoesOn}
 use Rattle.dr_ages.proofs.Loans.{lent_more, mounted_more, were_refused}
+use Rattle.dr_ages.proofs.Staying.{on_same, on_then}
 use Rattle.dr_ages.proofs.lending.mount_all.Goals as goal
 
 pub loop-member-preserved : goal.loop-member-preserved
@@ -50,3 +53,30 @@ returns-in_err-log-clause-stopped g c =
     (state_by g.Y.Yard.told g.Y.Yard.faults c.loop-member.yard) after c.loop-member.logs.items c.in_err-log.field-0.0
     (omega (arith, c.loop-member-test.true)) c.loop-member.invariant.3 c.loop-member.invariant.0 same.0 same.1
     c.in_err-log.ensures.stopped)
+
+pub returns-clause-on : goal.returns-clause-on
+returns-clause-on g c m past =
+    let s = c.loop-member.invariant.4 m (omega (arith, past, c.loop-member.invariant.0)) in
+    on_same (g.Y.Yard.told c.args.yard.now m) (g.Y.Yard.told c.loop-member.yard m)
+    (g.Y.Yard.faults c.args.yard.now m) (g.Y.Yard.faults c.loop-member.yard m) s.0 (omega (arith, s.1))
+
+pub returns-in_err-log-clause-on : goal.returns-in_err-log-clause-on
+returns-in_err-log-clause-on g c m past =
+    let k : ℕ = c.loop-member.member in
+    let told = g.Y.Yard.told in
+    let faults = g.Y.Yard.faults in
+    let old = c.args.yard.now in
+    let mid = c.loop-member.yard in
+    let new = c.mount.new.yard in
+    let same = c.loop-member.invariant.4 m (omega (arith, past, c.loop-member.invariant.0)) in
+    elim (cases_eq m k) [
+      | inl at ↦
+          on_then (told old m) (told mid m) (told new m) (faults old m) (faults mid m) (faults new m)
+          (on_same (told old m) (told mid m) (faults old m) (faults mid m) same.0 (omega (arith, same.1)))
+          (subst (λ (j : ℕ). GoesOn (told mid j) (faults mid j) (told new j) (faults new j)) (sym at)
+          c.in_err-log.ensures.on)
+      | inr apart ↦
+          let o = c.in_err-log.ensures.others m apart in
+          on_same (told old m) (told new m) (faults old m) (faults new m) (o.0 ∙ same.0)
+          (omega (arith, o.2, same.1))
+    ]

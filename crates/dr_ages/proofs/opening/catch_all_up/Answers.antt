@@ -1,8 +1,11 @@
 use Rattle.std.proofs.Common.{◌≡◌, ◌∙◌, subst, arith, ℕ, false, get_or, length}
 use Rattle.std.specs.Prelude.{Err}
+use Rattle.dr_entry.specs.declared.entry.Entry.TheVariants.{View}
 use Rattle.dr_gather.specs.Gathering.{entries_on}
 use Rattle.dr_gather.specs.CatchingUp.{HasCaughtUp, WentSo, opened_with}
+use Rattle.dr_gather.proofs.Catching.{part_of_opened}
 use Rattle.dr_gather.proofs.Grouping.{start_valid, part_of_start}
+use Rattle.dr_history.specs.History.{IsPrefixOf}
 use Rattle.dr_log.specs.State.{LogState}
 use Rattle.dr_ages.specs.Opened.{AreCaughtUp, IsCaughtUp}
 use Rattle.dr_ages.proofs.Caught.{all_at, caught_later, caught_on, entries_at, later_set, one_more_caught, some_members, still_there}
@@ -46,8 +49,17 @@ loop-m-preserved g c =
     let came = c.in_default.ensures in
     let came_whole = opened_with c.args.start.now c.of-members.result in
     let went : (came.0 ≡ length came_whole) × (new.failed ≡ false) × _ = came.2 in
-    let caught : IsCaughtUp told faults came_whole old new =
-    (subst (λ (n : ℕ). HasCaughtUp told faults came_whole old new n) went.0 came.1, went.1) in
+    let at = still_there told faults (opened_with c.args.start.now c.args.start.now.members) c.args.logs.now
+    c.loop-m.logs c.loop-m.m c.index-logs-m.result c.loop-m.invariant
+    (omega (arith, c.loop-m-test.true, c.loop-m.invariant.all)) in
+    let part : IsPrefixOf old.entries c.args.start.now.entries = part_of_start c.args.script.now
+    (entries_on c.args.logs.now) c.args.start.now c.loop-m.m old.entries c.requires.start
+    (entries_at c.args.logs.now c.loop-m.m old at) in
+    let caught : IsCaughtUp told faults came_whole old new = (
+      subst (λ (n : ℕ). HasCaughtUp told faults came_whole old new n) went.0 came.1,
+      went.1,
+      part_of_opened old.entries c.args.start.now.entries (View c.args.start.now.age 0 c.of-members.result) part,
+    ) in
     one_more_caught told faults (opened_with c.args.start.now c.args.start.now.members) c.args.logs.now
     c.loop-m.logs c.loop-m.m c.index-logs-m.result new c.loop-m.invariant
     (omega (arith, c.loop-m-test.true, c.loop-m.invariant.all))
@@ -57,13 +69,21 @@ pub returns-in-Err-clause-later : goal.returns-in-Err-clause-later
 returns-in-Err-clause-later g c =
     let old : LogState g.row.D.Denot = get_or c.loop-m.logs c.loop-m.m c.index-logs-m.result in
     let came = c.in-Err.ensures in
+    let at = still_there g.D.Disk.told g.D.Disk.faults (opened_with c.args.start.now c.args.start.now.members)
+    c.args.logs.now c.loop-m.logs c.loop-m.m c.index-logs-m.result c.loop-m.invariant
+    (omega (arith, c.loop-m-test.true, c.loop-m.invariant.all)) in
+    let part : IsPrefixOf old.entries c.args.start.now.entries = part_of_start c.args.script.now
+    (entries_on c.args.logs.now) c.args.start.now c.loop-m.m old.entries c.requires.start
+    (entries_at c.args.logs.now c.loop-m.m old at) in
     later_set g.D.Disk.told g.D.Disk.faults c.args.logs.now c.loop-m.logs c.loop-m.m c.index-logs-m.result
     c.catch_up.new.log
     (caught_later g.D.Disk.told g.D.Disk.faults (opened_with c.args.start.now c.args.start.now.members)
     c.args.logs.now c.loop-m.logs c.loop-m.m c.loop-m.invariant)
     (omega (arith, c.loop-m-test.true, c.loop-m.invariant.all))
     (caught_on g.D.Disk.told g.D.Disk.faults (opened_with c.args.start.now c.of-members.result) old
-    c.catch_up.new.log came.0 came.1)
+    c.catch_up.new.log came.0
+    (part_of_opened old.entries c.args.start.now.entries (View c.args.start.now.age 0 c.of-members.result) part)
+    came.1)
 
 pub returns-in-Err-clause-stopped : goal.returns-in-Err-clause-stopped
 returns-in-Err-clause-stopped g c before mounted =
