@@ -7,3 +7,5 @@ pub mod Tests
 pub mod Forms
 pub mod Order
 pub mod Lasting
+pub mod Values
+pub mod Choices

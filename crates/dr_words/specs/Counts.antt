@@ -1,15 +1,8 @@
 -- Counts of received items over rows.
-use Rattle.std.specs.Prelude.{◌≡◌, ℕ, ◌≤◌, List, All, Any, slice_index}
+use Rattle.std.specs.Prelude.{ℕ, List, slice_index}
 use Rattle.dr_words.specs.Columns.{recv_column}
 use Rattle.dr_words.specs.Packing.{recv_count}
 
 -- how many items of a sender the row's owner has received, by the row's words
 abbrev pub count_of : ℕ → List ℕ → ℕ
 count_of sender row = recv_count (slice_index row (recv_column sender))
-
--- the least count of a sender over the rows
-pub record IsLeastCount (rows : List (List ℕ)) (sender count : ℕ) : Type 0 where
-  -- no row has a lower one
-  pub least : All (λ row. count ≤ count_of sender row) rows
-  -- some row has it
-  pub found : Any (λ row. count ≡ count_of sender row) rows

@@ -5,5 +5,8 @@ pub mod Rows
 pub mod Packing
 pub mod Form
 pub mod Grown
+pub mod Accepts
+pub mod Changes
+pub mod Choices
 pub mod Counts
 pub mod Shapes
