@@ -2,3 +2,4 @@ pub mod Runs
 pub mod Sending
 pub mod Presence
 pub mod Events
+pub mod Voting

@@ -8,8 +8,8 @@ use Rattle.dr_machine.specs.declared.event.Event.{Event}
 use Rattle.dr_machine.specs.Events.{member_of, step_of}
 use Rattle.dr_machine.specs.Group.{Group}
 use Rattle.dr_machine.specs.World.{World}
-use Rattle.dr_machine.specs.Guards.{CanBeat, CanLook, CanPush, CanSend, CanNull, CanReceive, CanDeliver, CanAppend, CanPublish, CanReport, CanMark, CanSuspect, CanHalt, CanCrash}
-use Rattle.dr_machine.specs.Effects.{stamped, beats, looks, pushes, sends, nulls, receives, delivers, appends, publishes, reports, marks, suspects, ends}
+use Rattle.dr_machine.specs.Guards.{CanBeat, CanLook, CanPush, CanSend, CanNull, CanReceive, CanDeliver, CanAppend, CanPublish, CanReport, CanMark, CanSuspect, CanLogVote, CanPropose, CanAccept, CanCommit, CanHalt, CanCrash}
+use Rattle.dr_machine.specs.Effects.{stamped, beats, looks, pushes, sends, nulls, receives, delivers, appends, publishes, reports, marks, suspects, logs_vote, accepts, commits, ends}
 
 -- the act may come
 abbrev pub CanDo : Group → World → ℕ → Act → Type 0
@@ -22,6 +22,9 @@ CanDo g w m acts.Publish = CanPublish g w m
 CanDo g w m acts.Report = CanReport g w m
 CanDo g w m acts.Mark = CanMark g w m
 CanDo g w m (acts.Suspect j) = CanSuspect g w m j
+CanDo g w m acts.Propose = CanPropose g w m
+CanDo g w m acts.Accept = CanAccept g w m
+CanDo g w m acts.Commit = CanCommit g w m
 CanDo g w m (acts.Halt end) = CanHalt g w m end
 CanDo g w m (acts.Crash end) = CanCrash g w m end
 
@@ -31,6 +34,7 @@ CanTake g w m (steps.Do a) = CanDo g w m a
 CanTake g w m (steps.Look i c) = CanLook g w m i c
 CanTake g w m (steps.Push j c) = CanPush g w m j c
 CanTake g w m steps.Append = CanAppend g w m
+CanTake g w m (steps.LogVote v) = CanLogVote g w m v
 
 -- the event may come
 abbrev pub Guard : Group → World → Event → Type 0
@@ -47,6 +51,9 @@ does g w m acts.Publish = publishes w m
 does g w m acts.Report = reports w m
 does g w m acts.Mark = marks w m
 does g w m (acts.Suspect j) = suspects g w m j
+does g w m acts.Propose = accepts g w m
+does g w m acts.Accept = accepts g w m
+does g w m acts.Commit = commits w m
 does g w m (acts.Halt end) = ends w m end
 does g w m (acts.Crash end) = ends w m end
 
@@ -56,6 +63,7 @@ effect_of g w m (steps.Do a) = stamped (does g w m a) m
 effect_of g w m (steps.Look i c) = looks w m i c
 effect_of g w m (steps.Push j c) = pushes w m j c
 effect_of g w m steps.Append = appends w m
+effect_of g w m (steps.LogVote v) = logs_vote g w m v
 
 -- what the event makes of the world
 abbrev pub effect : Group → World → Event → World

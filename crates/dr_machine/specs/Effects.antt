@@ -1,5 +1,5 @@
 -- What each event makes of the world.
-use Rattle.std.specs.Prelude.{ℕ, ◌%◌, ◌+◌, ◌-◌, ◌^◌, ◌==◌, ◌&&◌, ◌||◌, nat_le, nat_lt, min, true, false, Bool, if◌then◌else◌, List, [], ◌∷◌, ◌++◌, length, map, fold, take, drop, slice_index, slice_index_or, unwrap_or, Some}
+use Rattle.std.specs.Prelude.{ℕ, ◌%◌, ◌+◌, ◌-◌, ◌^◌, ◌==◌, ◌&&◌, ◌||◌, nat_le, nat_lt, min, true, false, Bool, if◌then◌else◌, List, [], ◌∷◌, ◌++◌, length, map, fold, take, drop, slice_index, slice_index_or, unwrap_or, None, Some}
 use Rattle.dr_entry.specs.declared.entry.Entry.{Entry}
 use Rattle.dr_entry.specs.declared.entry.Entry.TheVariants.{Msg}
 use Rattle.dr_entry.specs.declared.entry.Item.{Item}
@@ -8,6 +8,8 @@ use Rattle.dr_entry.specs.declared.end.End.{End}
 use Rattle.dr_entry.specs.declared.end.SentItem.{SentItem}
 use Rattle.dr_entry.specs.declared.end.SentItem.TheVariants as sent_items
 use Rattle.dr_entry.specs.declared.end.SentItem.TheVariants.{Index}
+use Rattle.dr_entry.specs.declared.record.Value.{Value}
+use Rattle.dr_entry.specs.declared.record.Vote.{Vote}
 use Rattle.dr_history.specs.Members.{has}
 use Rattle.dr_history.specs.Places.{front_of}
 use Rattle.dr_history.specs.History.{messages_of}
@@ -15,12 +17,14 @@ use Rattle.dr_history.specs.Order.{messages_from}
 use Rattle.dr_ring.specs.Pieces.{pieces}
 use Rattle.dr_ring.specs.Slots.{slot_column, item_in}
 use Rattle.dr_words.specs.declared.column.TheConstants.{BEAT_COLUMN, SUSPECTED_COLUMN, RECEIVED_COLUMN, LOGGED_COLUMN, DONE_COLUMN}
+use Rattle.dr_words.specs.Accepts.{part_of}
 use Rattle.dr_words.specs.Columns.{recv_column, leavers_column, trim_column}
 use Rattle.dr_words.specs.Masks.{least_of, with_member, without}
-use Rattle.dr_words.specs.Packing.{ring_word, recv_count, recv_word, accept_tag, accept_value, accept_word}
+use Rattle.dr_words.specs.Packing.{ring_word, recv_count, recv_word, accept_promise, accept_tag, accept_value, accept_word}
 use Rattle.dr_machine.specs.Writes.{at, at₂, at₃, at₄}
 use Rattle.dr_machine.specs.Group.{Group, roster}
-use Rattle.dr_machine.specs.World.{World, own_word, count_of, shown, view_members, item_at_place}
+use Rattle.dr_machine.specs.Votes.{vote_in}
+use Rattle.dr_machine.specs.World.{World, no_vote, own_word, count_of, shown, view_members, item_at_place}
 use Rattle.dr_machine.specs.Guards.{next_index, seen_slot}
 
 -- one more, and at most the greatest number of so many bits
@@ -178,6 +182,41 @@ suspects g w m j =
       suspects = at w.suspects m mask;
       promise = at w.promise m promise;
     }
+
+-- the vote of m for a value: of its view, and by the ballot of the member that it has promised
+abbrev pub vote_for : Group → World → ℕ → Value → Vote
+vote_for g w m v = vote_in g (w.past.view m) (w.promise m) v
+
+-- it goes on the log of m, which then acts on it
+abbrev pub logs_vote : Group → World → ℕ → Value → World
+logs_vote g w m v = record w {
+  past = record w.past { votes = at w.past.votes m (w.past.votes m ++ vote_for g w m v ∷ []) };
+  pending = at w.pending m (Some (vote_for g w m v));
+}
+
+-- the own word of a column, of one that has accepted this value by this tag in a view of these members: the
+-- accept words have the tag, and each has its part of the value
+abbrev pub accepted_word : ℕ → ℕ → ℕ → Value → ℕ → ℕ → ℕ
+accepted_word n members tag v c word =
+    if is_accept_of n members c then accept_word (accept_promise word) tag (part_of n v c) else word
+
+-- m accepts the value of the vote that it has logged, by the tag of that vote's ballot
+abbrev pub accepts : Group → World → ℕ → World
+accepts g w m =
+    let v = w.past.view m in
+    let vote = unwrap_or (w.pending m) no_vote in
+    let tag = vote.ballot + 1 in record w {
+      past = record w.past {
+        own = at₂ w.past.own m v
+            (λ c. accepted_word (roster g) (w.members m) tag vote.value c (w.past.own m v c));
+      };
+      tag = at w.tag m tag;
+      value = at w.value m vote.value;
+      pending = at w.pending m None;
+    }
+
+abbrev pub commits : World → ℕ → World
+commits w m = record w { committed = at w.committed m (Some (w.value m)) }
 
 abbrev pub ends : World → ℕ → End → World
 ends w m end = record w { end = at w.end m (Some end) }

@@ -1,12 +1,17 @@
 -- When each event may come.
-use Rattle.std.specs.Prelude.{◌≡◌, ◌≢◌, ⊤, ℕ, ◌+◌, ◌-◌, ◌<◌, ◌≤◌, ◌⊎◌, true, false, length, None}
+use Rattle.std.specs.Prelude.{◌≡◌, ◌≢◌, ⊤, ℕ, ◌+◌, ◌-◌, ◌<◌, ◌≤◌, ◌⊎◌, true, false, length, None, Some}
+use Rattle.dr_entry.specs.declared.limits.TheConstants.{MAX_MEMBERS}
 use Rattle.dr_entry.specs.declared.end.End.{End}
 use Rattle.dr_entry.specs.declared.end.End.TheVariants.{Done, Crashed, Suspected, Excluded, NoMajority, DiskFault, LogFull, Spent}
+use Rattle.dr_entry.specs.declared.record.Value.{Value}
+use Rattle.dr_entry.specs.declared.record.Vote.{Vote}
 use Rattle.dr_history.specs.Members.{has}
 use Rattle.dr_history.specs.History.{messages_of, messages_in}
 use Rattle.dr_history.specs.Order.{messages_from}
 use Rattle.dr_ring.specs.Slots.{slot_column, IsReady}
 use Rattle.dr_words.specs.declared.column.TheConstants.{SUSPECTED_COLUMN, RECEIVED_COLUMN, LOGGED_COLUMN, DONE_COLUMN}
+use Rattle.dr_words.specs.Accepts.{Shows, promise_of}
+use Rattle.dr_words.specs.Changes.{IsProposal, MayAccept, MayCommit, MayPropose}
 use Rattle.dr_words.specs.Columns.{recv_column}
 use Rattle.dr_words.specs.Masks.{IsMajorityOf, without}
 use Rattle.dr_words.specs.Packing.{recv_count}
@@ -128,6 +133,48 @@ pub record CanSuspect (g : Group) (w : World) (m j : ℕ) : Type 0 where
 abbrev pub unsuspected_of : World → ℕ → ℕ
 unsuspected_of w m = without (w.members m) (w.suspects m)
 
+-- the rows of m allow it to propose this value
+abbrev pub IsToPropose : Group → World → ℕ → Value → Type 0
+IsToPropose g w m v =
+    MayPropose (roster g) (shown w m) (w.members m) (w.suspects m) m
+    × IsProposal (roster g) (shown w m) (w.members m) (w.suspects m) v
+
+-- or to accept it, as the row of the member that it has promised shows it
+abbrev pub IsToAccept : Group → World → ℕ → Value → Type 0
+IsToAccept g w m v =
+    MayAccept (roster g) (shown w m) (w.members m) (w.suspects m) m
+    × Shows (roster g) (shown w m) (w.members m) (promise_of (roster g) (shown w m) m) v
+
+pub record CanLogVote (g : Group) (w : World) (m : ℕ) (v : Value) : Type 0 where
+  pub may : MayChoose g w m
+  pub wedged : ¬ IsUnwedged w m
+  pub uncommitted : w.committed m ≡ None
+  -- every entry of the history is logged
+  pub logged : length (w.past.history m) ≤ length (w.past.log m)
+  -- the value has a trim for each member that a roster can have
+  pub whole : length v.trim ≡ MAX_MEMBERS
+  pub allowed : IsToPropose g w m v ⊎ IsToAccept g w m v
+
+-- m has logged a vote of its own ballot, and not yet acted on it
+pub record CanPropose (g : Group) (w : World) (m : ℕ) : Type 0 where
+  pub alive : IsRunning g w m
+  pub vote : Vote
+  pub waits : w.pending m ≡ Some vote
+  pub own : vote.ballot ≡ m
+
+-- m has logged a vote of another member's ballot, and not yet acted on it
+pub record CanAccept (g : Group) (w : World) (m : ℕ) : Type 0 where
+  pub alive : IsRunning g w m
+  pub vote : Vote
+  pub waits : w.pending m ≡ Some vote
+  pub other : vote.ballot ≢ m
+
+pub record CanCommit (g : Group) (w : World) (m : ℕ) : Type 0 where
+  pub may : MayChoose g w m
+  pub wedged : ¬ IsUnwedged w m
+  pub uncommitted : w.committed m ≡ None
+  pub rows : MayCommit (roster g) (shown w m) (w.members m) m
+
 -- m is done where it suspects nobody, and every row of the view shows done
 pub record IsDone (w : World) (m : ℕ) : Type 0 where
   pub unwedged : IsUnwedged w m
@@ -145,11 +192,19 @@ pub record IsMinority (w : World) (m mask : ℕ) : Type 0 where
   pub unsuspected : mask ≡ unsuspected_of w m
   pub minority : ¬ IsMajorityOf mask (w.members m)
 
+-- the value that m has committed names it as one that leaves, and the next view has this number
+pub record IsExcluded (w : World) (m view : ℕ) : Type 0 where
+  pub value : Value
+  pub committed : w.committed m ≡ Some value
+  pub named : has value.leavers m ≡ true
+  pub next : view ≡ w.past.view m + 1
+
 -- the end is due, and none of those that come at any time
 abbrev pub IsDue : World → ℕ → End → Type 0
 IsDue w m Done = IsDone w m
 IsDue w m (Suspected by) = IsSuspectedBy w m by
 IsDue w m (NoMajority mask) = IsMinority w m mask
+IsDue w m (Excluded view) = IsExcluded w m view
 IsDue w m end = ⊥
 
 pub record CanHalt (g : Group) (w : World) (m : ℕ) (end : End) : Type 0 where

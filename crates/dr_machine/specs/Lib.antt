@@ -1,6 +1,7 @@
 pub mod Writes
 pub mod Group
 pub mod World
+pub mod Votes
 pub mod Sending
 pub mod Events
 pub mod Guards

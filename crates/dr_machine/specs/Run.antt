@@ -52,6 +52,7 @@ pub record PastGrew (old new : Past) : Type 0 where
   pub sent : (m v : ℕ) → IsPrefixOf (old.sent m v) (new.sent m v)
   pub history : (m : ℕ) → IsPrefixOf (old.history m) (new.history m)
   pub log : (m : ℕ) → IsPrefixOf (old.log m) (new.log m)
+  pub votes : (m : ℕ) → IsPrefixOf (old.votes m) (new.votes m)
   pub durable : (m : ℕ) → old.durable m ≤ new.durable m
   pub acts : (m : ℕ) → old.acts m ≤ new.acts m
 

@@ -67,6 +67,10 @@ pub record World : Type 0 where
 abbrev pub no_value : Value
 no_value = record { leavers = 0; trim = replicate MAX_MEMBERS 0 }
 
+-- no vote
+abbrev pub no_vote : Vote
+no_vote = record { age = 0; view = 0; ballot = 0; members = 0; value = no_value }
+
 -- the world as the age opens: every history is the start and View 0, logged and durable, and nothing has
 -- been put or seen
 abbrev pub opening_world : Group → World

@@ -2,7 +2,7 @@ ghost use Rattle.std.specs.Prelude.{◌≡◌};
 ghost use Rattle.dr_machine.specs.Events.{member_of, step_of};
 
 use crate::step::Step;
-use dr_entry::End;
+use dr_entry::{End, Value};
 
 /// What a member does by itself, of its own choice or as its end: each counts as one more act.
 #[derive(Clone, Copy, Debug, PartialEq, Eq)]
@@ -25,6 +25,12 @@ pub enum Act {
     Mark,
     /// It suspects another member of its view, and is wedged from then on.
     Suspect { other: u8 },
+    /// It proposes the value of the vote that it has logged, of its own ballot.
+    Propose,
+    /// It accepts the value of the vote that it has logged, of another member's ballot.
+    Accept,
+    /// The value that it has accepted is committed.
+    Commit,
     /// It ends as it should.
     Halt { end: End },
     /// It ends by a fault, or with its turns spent.
@@ -32,7 +38,7 @@ pub enum Act {
 }
 
 /// One atomic step of one member `m`: an act of its own, a look at a word, a push of one, or an
-/// append to its log.
+/// append to its log, of an entry or of a vote.
 #[derive(Clone, Copy, Debug, PartialEq, Eq)]
 pub enum Event {
     /// It begins a turn.
@@ -59,6 +65,14 @@ pub enum Event {
     Mark { m: u8 },
     /// It suspects member `j`, and is wedged from then on.
     Suspect { m: u8, j: u8 },
+    /// Its vote for this value goes on its log.
+    LogVote { m: u8, value: Value },
+    /// It proposes the value of the vote that it has logged, of its own ballot.
+    Propose { m: u8 },
+    /// It accepts the value of the vote that it has logged, of another member's ballot.
+    Accept { m: u8 },
+    /// The value that it has accepted is committed.
+    Commit { m: u8 },
     /// It ends as it should.
     Halt { m: u8, end: End },
     /// It ends by a fault, or with its turns spent.
@@ -83,6 +97,10 @@ impl Event {
             | Event::Report { m }
             | Event::Mark { m }
             | Event::Suspect { m, .. }
+            | Event::LogVote { m, .. }
+            | Event::Propose { m }
+            | Event::Accept { m }
+            | Event::Commit { m }
             | Event::Halt { m, .. }
             | Event::Crash { m, .. } => m,
         }
@@ -105,6 +123,10 @@ impl Event {
             Event::Report { .. } => Step::Do(Act::Report),
             Event::Mark { .. } => Step::Do(Act::Mark),
             Event::Suspect { j, .. } => Step::Do(Act::Suspect { other: j }),
+            Event::LogVote { value, .. } => Step::LogVote { value },
+            Event::Propose { .. } => Step::Do(Act::Propose),
+            Event::Accept { .. } => Step::Do(Act::Accept),
+            Event::Commit { .. } => Step::Do(Act::Commit),
             Event::Halt { end, .. } => Step::Do(Act::Halt { end }),
             Event::Crash { end, .. } => Step::Do(Act::Crash { end }),
         }

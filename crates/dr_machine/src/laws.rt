@@ -1,7 +1,9 @@
-//! Laws of runs.
-ghost use Rattle.std.specs.Prelude.{List, ◌++◌};
+//! Laws of runs, and of guards.
+ghost use Rattle.std.specs.Prelude.{◌≡◌, ℕ, List, ◌++◌};
+ghost use Rattle.dr_entry.specs.declared.record.Value.{Value};
 ghost use Rattle.dr_machine.specs.declared.event.Event.{Event};
 ghost use Rattle.dr_machine.specs.Group.{Group};
+ghost use Rattle.dr_machine.specs.Guards.{CanLogVote};
 ghost use Rattle.dr_machine.specs.World.{World};
 ghost use Rattle.dr_machine.specs.Run.{Run};
 
@@ -9,4 +11,10 @@ ghost use Rattle.dr_machine.specs.Run.{Run};
 pub fn runs_follow_one_another()
     ensures { (g : Group) (w mid after : World) (a b : List Event)
         → Run g w a mid → Run g mid b after → Run g w (a ++ b) after }
+{}
+
+/// A member that may log a vote may do so for one value: its rows determine it.
+pub fn votes_are_determined()
+    ensures { (g : Group) (w : World) (m : ℕ) (u v : Value)
+        → CanLogVote g w m u → CanLogVote g w m v → u ≡ v }
 {}

@@ -1,4 +1,5 @@
 use crate::event::Act;
+use dr_entry::Value;
 
 /// What an event is, but for its member.
 #[derive(Clone, Copy, Debug, PartialEq, Eq)]
@@ -11,4 +12,6 @@ pub enum Step {
     Push { to: u8, column: usize },
     /// The next entry of the history goes on the log.
     Append,
+    /// A vote for this value goes on the log.
+    LogVote { value: Value },
 }
