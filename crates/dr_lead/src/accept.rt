@@ -20,11 +20,19 @@ pub fn try_accept(rows: &Rows, s: &Standing) -> Option<Value>
         × Shows rows.now s.now.members (promise_of rows.now s.now.me) v) }
 {
     if may_accept(rows, s) {
-        let promised = promise(rows, &s.shape, s.me);
-        Some(shown(rows, &s.shape, s.members, promised))
+        Some(promised_value(rows, s))
     } else {
         None
     }
+}
+
+/// The value that the row of the promised member shows, whether or not it has come whole.
+pub fn promised_value(rows: &Rows, s: &Standing) -> Value
+    requires { IsStanding rows.now s.now }
+    ensures { Shows rows.now s.now.members (promise_of rows.now s.now.me) result }
+{
+    let promised = promise(rows, &s.shape, s.me);
+    shown(rows, &s.shape, s.members, promised)
 }
 
 // Whether the member may accept.

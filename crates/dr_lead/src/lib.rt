@@ -10,7 +10,7 @@ mod propose;
 mod standing;
 mod trim;
 
-pub use accept::try_accept;
+pub use accept::{promised_value, try_accept};
 pub use commit::try_commit;
 pub use propose::try_propose;
 pub use standing::Standing;
