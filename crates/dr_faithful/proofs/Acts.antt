@@ -16,7 +16,7 @@ use Rattle.dr_machine.specs.World.{Past, World, item_at_place, own_word, shown}
 use Rattle.dr_machine.specs.Writes.{at, at₃}
 use Rattle.dr_faithful.proofs.Forms.{form_done, form_free, grown_done, grown_free}
 use Rattle.dr_faithful.proofs.Lists.{least_all, least_most, least_some, prefix_more, prefix_next}
-use Rattle.dr_faithful.proofs.OwnWords.{IsPlain, counts_word, delivered_word, form_word, old_later, own_grown, suspicions_word}
+use Rattle.dr_faithful.proofs.OwnWords.{IsPlain, accepts_word, counts_word, delivered_word, form_word, old_later, own_grown, suspicions_word}
 use Rattle.dr_faithful.proofs.Pasts.{past_same, prefix_refl, prefix_short, same_past, tells_done, tells_later, tells_logged, words_later}
 use Rattle.dr_faithful.proofs.Shown.{shown_le}
 use Rattle.dr_faithful.proofs.Writes.{at_case, at₃_case}
@@ -38,6 +38,7 @@ beat_keeps g V w m f = record {
   sent = f.sent;
   counts = f.counts;
   suspicions = f.suspicions;
+  accepts = f.accepts;
   words = words_later g V w (beats w m) (past_same w.past) refl refl refl refl f.words;
   logs = f.logs;
   delivered = f.delivered;
@@ -55,6 +56,7 @@ end_keeps g V w m end f = record {
   sent = f.sent;
   counts = f.counts;
   suspicions = f.suspicions;
+  accepts = f.accepts;
   words = words_later g V w (ends w m end) (past_same w.past) refl refl refl refl f.words;
   logs = f.logs;
   delivered = f.delivered;
@@ -66,7 +68,7 @@ end_keeps g V w m end f = record {
 
 -- an own word is not what only grows
 pub word_past : (w : World) (m c x : ℕ) → PastGrew w.past (with_own w m c x).past
-word_past w m c x = same_past w.past (with_own w m c x).past refl refl refl refl refl refl
+word_past w m c x = same_past w.past (with_own w m c x).past refl refl refl refl refl refl refl
 
 -- the words after one own word has grown
 pub word_grew : (g : Group) (w : World) (m c x : ℕ) → HasGrown (roster g) c (own_word w m c) x
@@ -90,6 +92,8 @@ word_keeps g V w m c x plain grown form told f = record {
       (w.past.view m) c x plain f.counts;
   suspicions = suspicions_word g V w.past.view w.suspects w.promise w.past.own m (w.past.view m) c x plain
       f.suspicions;
+  accepts = accepts_word g V w.past.view w.promise w.tag w.value w.pending w.past.own m (w.past.view m) c x
+      plain f.accepts;
   words = record {
     own = at₃_case (λ i v k z. Tells g V past i v k z) w.past.own m (w.past.view m) c x
         (λ i v k. tells_later g V w.past past i v k (w.past.own i v k) grew (f.words.own i v k))
@@ -168,6 +172,7 @@ append_past w m =
       history = same.history;
       log = at_case (λ i l. IsPrefixOf (w.past.log i) l) w.past.log m (w.past.log m ++ one)
           (λ i d. prefix_refl (w.past.log i)) (one, refl);
+      votes = same.votes;
       durable = same.durable;
       acts = same.acts;
     }
@@ -182,6 +187,7 @@ append_keeps g V w m f = record {
   sent = f.sent;
   counts = f.counts;
   suspicions = f.suspicions;
+  accepts = f.accepts;
   words = words_later g V w (appends w m) (append_past w m) refl refl refl refl f.words;
   logs = record {
     bounded = f.logs.bounded;
@@ -219,6 +225,7 @@ report_past g V w m can f =
       sent = same.sent;
       history = same.history;
       log = same.log;
+      votes = same.votes;
       durable = at_case (λ i d. w.past.durable i ≤ d) w.past.durable m (least_shown w m LOGGED_COLUMN)
           (λ i d. le_refl (w.past.durable i)) (report_rises g V w m can f);
       acts = same.acts;
@@ -234,6 +241,7 @@ report_keeps g V w m is can f = record {
   sent = f.sent;
   counts = f.counts;
   suspicions = f.suspicions;
+  accepts = f.accepts;
   words = words_later g V w (reports w m) (report_past g V w m can f) refl refl refl refl f.words;
   logs = record {
     bounded = f.logs.bounded;
@@ -277,6 +285,7 @@ deliver_past w m =
       history = at_case (λ i l. IsPrefixOf (w.past.history i) l) w.past.history m (w.past.history m ++ new)
           (λ i d. prefix_refl (w.past.history i)) (new, refl);
       log = same.log;
+      votes = same.votes;
       durable = same.durable;
       acts = same.acts;
     }
@@ -291,6 +300,7 @@ deliver_keeps g V w m can f = record {
   sent = f.sent;
   counts = f.counts;
   suspicions = f.suspicions;
+  accepts = f.accepts;
   words = words_later g V w (delivers w m) (deliver_past w m) refl refl refl refl f.words;
   logs = record {
     bounded = f.logs.bounded;

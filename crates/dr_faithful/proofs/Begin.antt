@@ -1,10 +1,11 @@
 -- The members are faithful as the age opens.
-use Rattle.std.proofs.Common.{Bool, List, None, Some, [], add-one, append-nil, arith, false, fold, get_or, inl, inr, le_refl, length, length-append, map, max, refl, slice_get, subst, suc, sym, take, true, zero, ℕ, ◌++◌, ◌<◌, ◌==◌, ◌∷◌, ◌≡◌, ◌≢◌, ◌≤◌, ◌⊎◌}
+use Rattle.std.proofs.Common.{Bool, List, None, Some, [], add-one, ap, append-nil, arith, false, fold, get_or, inl, inr, le_refl, length, length-append, map, max, refl, replicate, slice_get, subst, slice_index, suc, sym, take, true, zero, ℕ, ◌++◌, ◌-◌, ◌<◌, ◌==◌, ◌∙◌, ◌∷◌, ◌≡◌, ◌≢◌, ◌≤◌, ◌⊎◌}
 use Rattle.std.proofs.Math.Nat.{mul-zero}
-use Rattle.std.proofs.lemmas.Bool.{cases_eq, eqb-true}
-use Rattle.std.proofs.lemmas.List.{take_all, take_more}
+use Rattle.std.proofs.lemmas.Bool.{cases_eq, cases_lt, eqb-true}
+use Rattle.std.proofs.lemmas.List.{get_or-replicate, get_or_past, length-replicate, take_all, take_more}
 use Rattle.std.proofs.lemmas.Option.{slice_get_cases, slice_get_within}
 use Rattle.dr_words.proofs.Forms.{form_zero}
+use Rattle.dr_entry.specs.declared.limits.TheConstants.{MAX_MEMBERS}
 use Rattle.dr_entry.specs.declared.entry.Entry.{Entry}
 use Rattle.dr_entry.specs.declared.entry.Entry.TheVariants.{Msg, View}
 use Rattle.dr_history.proofs.NumberedLemmas.{messages_from-Msg, messages_from-View, messages_from-other}
@@ -17,7 +18,7 @@ use Rattle.dr_history.specs.declared.opening.Opening.{Opening}
 use Rattle.dr_history_laws.proofs.Lengths.{start-short}
 use Rattle.dr_machine.proofs.Presence.{is_present}
 use Rattle.dr_machine.specs.Group.{Group, IsGroup, IsPresent, roster}
-use Rattle.dr_machine.specs.World.{opening_world}
+use Rattle.dr_machine.specs.World.{no_value, opening_world}
 use Rattle.dr_faithful.proofs.Forms.{form_free, grown_zero}
 use Rattle.dr_faithful.proofs.OwnWords.{accept_columns}
 use Rattle.dr_faithful.proofs.Pasts.{tells_logged, tells_nothing}
@@ -25,9 +26,10 @@ use Rattle.dr_faithful.specs.Faithful.{Faithful}
 use Rattle.dr_faithful.specs.Tells.{Tells, WordsTell}
 use Rattle.dr_words.specs.declared.column.TheConstants.{LOGGED_COLUMN}
 use Rattle.dr_words.proofs.Bits.{has_ones, has_zero}
-use Rattle.dr_words.specs.Columns.{head_column, recv_column}
+use Rattle.dr_words.specs.Accepts.{part_of}
+use Rattle.dr_words.specs.Columns.{head_column, leavers_column, recv_column, trim_column}
 use Rattle.dr_words.specs.Form.{IsInForm}
-use Rattle.dr_words.specs.Packing.{accept_promise}
+use Rattle.dr_words.specs.Packing.{accept_promise, accept_tag, accept_value}
 
 -- ---- the messages of the start
 
@@ -114,13 +116,27 @@ tell g = record {
   seen = λ m i c. tells_nothing g (λ v. g.opening.members) (opening_world g).past i 0 c;
 }
 
+-- no value has parts other than 0
+no_trim : (k s : ℕ) → slice_index (replicate k 0) s ≡ 0
+no_trim k s = by (cases_lt s k)
+  where
+    by : (s < k) ⊎ (k ≤ s) → slice_index (replicate k 0) s ≡ 0
+    by (inl l) = get_or-replicate k s 0 0 l
+    by (inr h) = get_or_past (replicate k 0) s 0 (omega (arith, h, length-replicate {A = ℕ} k 0))
+
+no_part : (n c : ℕ) → part_of n no_value c ≡ 0
+no_part n c = by (cases_eq c (leavers_column n))
+  where
+    by : (c ≡ leavers_column n) ⊎ (c ≢ leavers_column n) → part_of n no_value c ≡ 0
+    by (inl e) = grind arith
+    by (inr d) = grind (arith, no_trim MAX_MEMBERS (c - trim_column n 0))
+
 -- the members are faithful as the age opens
 pub begun : (g : Group) → IsGroup g → Faithful g (λ v. g.opening.members) (opening_world g)
 begun g is = record {
   beginning = record {
     all = λ m l. is_present g m is l;
     first = λ m. refl;
-    idle = λ m. refl;
     start = λ m. refl;
   };
   views = record { own = λ m. refl; present = λ m l. present m l; within = λ v m h. within m h };
@@ -150,7 +166,14 @@ begun g is = record {
     final = λ m s d h. absurd (d refl);
     none = λ m e. refl;
     least = λ m d. absurd (d refl);
-    accept = λ m c is. accepts m c (accept_columns (roster g) g.opening.members c is);
+    accept = λ m c is. ap accept_promise (none m c (accept_columns (roster g) g.opening.members c is));
+  };
+  accepts = record {
+    tagged = λ m c is. ap accept_tag (none m c (accept_columns (roster g) g.opening.members c is));
+    valued = λ m c is. ap accept_value (none m c (accept_columns (roster g) g.opening.members c is))
+        ∙ sym (no_part (roster g) c);
+    low = λ m. omega arith;
+    waits = λ m x e. absurd (cc);
   };
   words = tell g;
   logs = record {
@@ -181,9 +204,9 @@ begun g is = record {
     within : (m : ℕ) → has g.opening.members m ≡ true → m < roster g
     within m h = grind (arith, has_ones (roster g) m, is.sound.whole)
 
-    accepts : (m c : ℕ) → (recv_column (roster g) ≤ c) × (c < head_column (roster g) 0)
-        → accept_promise ((opening_world g).past.own m 0 c) ≡ 0
-    accepts m c l = grind (arith, l.0)
+    none : (m c : ℕ) → (recv_column (roster g) ≤ c) × (c < head_column (roster g) 0)
+        → (opening_world g).past.own m 0 c ≡ 0
+    none m c l = grind (arith, l.0)
 
     own_in_form : (m v c : ℕ) → IsInForm (roster g) c ((opening_world g).past.own m v c)
     own_in_form m v c = by (cases_eq c 3)

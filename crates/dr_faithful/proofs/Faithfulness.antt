@@ -9,7 +9,7 @@ use Rattle.dr_history.specs.Members.{has}
 use Rattle.dr_machine.proofs.Presence.{is_present}
 use Rattle.dr_machine.proofs.Runs.{reached}
 use Rattle.dr_machine.specs.Acts.{CanDo, CanTake, Guard, does, effect, effect_of}
-use Rattle.dr_machine.specs.Effects.{appends, puts, stamped}
+use Rattle.dr_machine.specs.Effects.{appends, logs_vote, puts, stamped}
 use Rattle.dr_machine.specs.Group.{Group, IsGroup, IsPresent, roster}
 use Rattle.dr_machine.specs.Guards.{IsOther, IsRunning, next_index, unsuspected_of}
 use Rattle.dr_machine.specs.Run.{IsReached, NoLaterItem, PastGrew, WordsGrew}
@@ -18,7 +18,7 @@ use Rattle.dr_machine.specs.declared.event.Event.{Event}
 use Rattle.dr_machine.specs.declared.event.Act.{Act}
 use Rattle.dr_machine.specs.declared.event.Act.TheVariants as acts
 use Rattle.dr_machine.specs.declared.step.Step.{Step}
-use Rattle.dr_machine.specs.declared.step.Step.TheVariants.{Do, Look, Push, Append}
+use Rattle.dr_machine.specs.declared.step.Step.TheVariants.{Do, Look, Push, Append, LogVote}
 use Rattle.dr_machine.specs.Events.{member_of, step_of}
 use Rattle.dr_rows.specs.Words.{own, seen}
 use Rattle.dr_faithful.proofs.Acts.{append_keeps, append_past, beat_keeps, deliver_keeps, deliver_past, end_keeps, mark_grew, mark_keeps, publish_grew, publish_keeps, report_keeps, report_past}
@@ -28,6 +28,7 @@ use Rattle.dr_faithful.proofs.Pieces.{sent_item, tag_of_piece}
 use Rattle.dr_faithful.proofs.Receipts.{receive_grew, receive_keeps, receive_past}
 use Rattle.dr_faithful.proofs.Puts.{may_message, may_null, put_grew, put_keeps, put_past}
 use Rattle.dr_faithful.proofs.Suspicions.{promise_least, suspect_grew, suspect_keeps, suspicions_told}
+use Rattle.dr_faithful.proofs.Votes.{accept_grew, accept_keeps, commit_keeps, vote_keeps, vote_past}
 use Rattle.dr_faithful.proofs.Stamps.{stamp_grew, stamp_keeps, stamp_past}
 use Rattle.dr_faithful.proofs.Pasts.{past_on, past_same, same_past}
 use Rattle.dr_faithful.specs.Faithful.{Faithful}
@@ -40,7 +41,8 @@ use Rattle.dr_words.specs.Packing.{ring_tag}
 abbrev pub whole : Group → Views
 whole g v = g.opening.members
 
-act_keeps : (g : Group) (V : Views) (w : World) (m : ℕ) (a : Act) → IsGroup g → CanDo g w m a
+-- each act keeps the members faithful
+pub act_keeps : (g : Group) (V : Views) (w : World) (m : ℕ) (a : Act) → IsGroup g → CanDo g w m a
     → Faithful g V w → Faithful g V (does g w m a)
 act_keeps g V w m acts.Beat is can f = beat_keeps g V w m f
 act_keeps g V w m (acts.Receive s) is can f = receive_keeps g V w m s is can f
@@ -52,15 +54,19 @@ act_keeps g V w m acts.Publish is can f = publish_keeps g V w m f
 act_keeps g V w m acts.Report is can f = report_keeps g V w m is can f
 act_keeps g V w m acts.Mark is can f = mark_keeps g V w m can f
 act_keeps g V w m (acts.Suspect j) is can f = suspect_keeps g V w m j is can f
+act_keeps g V w m acts.Propose is can f = accept_keeps g V w m can.vote is can.waits f
+act_keeps g V w m acts.Accept is can f = accept_keeps g V w m can.vote is can.waits f
+act_keeps g V w m acts.Commit is can f = commit_keeps g V w m f
 act_keeps g V w m (acts.Halt end) is can f = end_keeps g V w m end f
 act_keeps g V w m (acts.Crash end) is can f = end_keeps g V w m end f
 
-step_keeps : (g : Group) (V : Views) (w : World) (m : ℕ) (s : Step) → IsGroup g → CanTake g w m s
+pub step_keeps : (g : Group) (V : Views) (w : World) (m : ℕ) (s : Step) → IsGroup g → CanTake g w m s
     → Faithful g V w → Faithful g V (effect_of g w m s)
 step_keeps g V w m (Do a) is can f = stamp_keeps g V (does g w m a) m (act_keeps g V w m a is can f)
 step_keeps g V w m (Look i c) is can f = look_keeps g V w m i c f
 step_keeps g V w m (Push j c) is can f = push_keeps g V w m j c f
 step_keeps g V w m Append is can f = append_keeps g V w m f
+step_keeps g V w m (LogVote v) is can f = vote_keeps g V w m v can f
 
 -- the members are faithful in every world that is reached
 pub faithful : (g : Group) (w : World) → IsGroup g → IsReached g w → Faithful g (whole g) w
@@ -111,7 +117,7 @@ act_stays : (g : Group) (w : World) (m : ℕ) (a : Act) (i : ℕ) → (does g w 
 act_stays g w m acts.Beat i = refl
 act_stays g w m a i = refl
 
-does_grow : (g : Group) (V : Views) (w : World) (m : ℕ) (a : Act) → IsGroup g → CanDo g w m a
+pub does_grow : (g : Group) (V : Views) (w : World) (m : ℕ) (a : Act) → IsGroup g → CanDo g w m a
     → Faithful g V w → WordsGrew g w (does g w m a)
 does_grow g V w m acts.Send is can f =
     put_grew g V w m (Index (next_index w m)) is (may_message g V w m can f) f
@@ -120,6 +126,8 @@ does_grow g V w m (acts.Receive s) is can f = receive_grew g V w m s is can f
 does_grow g V w m acts.Publish is can f = publish_grew g V w m f
 does_grow g V w m acts.Mark is can f = mark_grew g V w m f
 does_grow g V w m (acts.Suspect j) is can f = suspect_grew g V w m j is can f
+does_grow g V w m acts.Propose is can f = accept_grew g V w m can.vote can.waits f
+does_grow g V w m acts.Accept is can f = accept_grew g V w m can.vote can.waits f
 does_grow g V w m a is can f = same_words g w (does g w m a) refl refl refl
 
 -- the words grow at every step
@@ -131,6 +139,7 @@ grew g V w m (Do a) is can f =
 grew g V w m (Look i c) is can f = look_grew g V w m i c f can.row.other
 grew g V w m (Push j c) is can f = push_grew g V w m j c f
 grew g V w m Append is can f = same_words g w (appends w m) refl refl refl
+grew g V w m (LogVote v) is can f = same_words g w (logs_vote g w m v) refl refl refl
 
 -- the words grow at every event
 pub words_grew : (g : Group) (w : World) (e : Event) → IsGroup g → IsReached g w → Guard g w e
@@ -156,7 +165,7 @@ does_past g V w m acts.Null is can f = put_past g V w m Null is (may_null g V w 
 does_past g V w m (acts.Receive s) is can f = receive_past g V w m s is can f
 does_past g V w m acts.Deliver is can f = deliver_past w m
 does_past g V w m acts.Report is can f = report_past g V w m can f
-does_past g V w m a is can f = same_past w.past (does g w m a).past refl refl refl refl refl refl
+does_past g V w m a is can f = same_past w.past (does g w m a).past refl refl refl refl refl refl refl
 
 step_past : (g : Group) (V : Views) (w : World) (m : ℕ) (s : Step) → IsGroup g → CanTake g w m s
     → Faithful g V w → PastGrew w.past (effect_of g w m s).past
@@ -166,6 +175,7 @@ step_past g V w m (Do a) is can f =
 step_past g V w m (Look i c) is can f = past_same w.past
 step_past g V w m (Push j c) is can f = past_same w.past
 step_past g V w m Append is can f = append_past w m
+step_past g V w m (LogVote v) is can f = vote_past g w m v
 
 -- and so does all else that only grows
 pub past_grew : (g : Group) (w : World) (e : Event) → IsGroup g → IsReached g w → Guard g w e

@@ -1,5 +1,5 @@
 -- A member has one item more of a sender, itself or another: the members stay faithful, and the words grow.
-use Rattle.std.proofs.Common.{ap, arith, false, inl, inr, le_of_eq, le_trans, length, map, subst, sym, true, ℕ, ◌+◌, ◌<◌, ◌∙◌, ◌≡◌, ◌≢◌, ◌≤◌, ◌⊎◌}
+use Rattle.std.proofs.Common.{ap, arith, false, inl, inr, le_of_eq, le_trans, length, map, refl, subst, sym, true, ℕ, ◌+◌, ◌<◌, ◌∙◌, ◌≡◌, ◌≢◌, ◌≤◌, ◌⊎◌}
 use Rattle.std.proofs.lemmas.Bool.{cases_eq}
 use Rattle.dr_entry.specs.declared.entry.Item.{Item}
 use Rattle.dr_history.specs.History.{IsPrefixOf, Sent, messages_of}
@@ -13,7 +13,7 @@ use Rattle.dr_machine.specs.Writes.{at, at₂, at₃}
 use Rattle.dr_faithful.proofs.CountMore.{IsMore, more, more_le, more_or_same, new_count}
 use Rattle.dr_faithful.proofs.Forms.{form_free, form_recv, grown_free, grown_recv}
 use Rattle.dr_faithful.proofs.Fronts.{front_rises, some_members}
-use Rattle.dr_faithful.proofs.OwnWords.{accept_columns, old_later}
+use Rattle.dr_faithful.proofs.OwnWords.{accept_columns, accepts_same, old_later}
 use Rattle.dr_faithful.proofs.Pasts.{item_kept, past_same, tells_later, tells_received, tells_recv, tells_ring}
 use Rattle.dr_faithful.proofs.Writes.{at_case, at_other, at_same, at₂_both, at₂_case, at₂_read}
 use Rattle.dr_faithful.specs.Faithful.{AreCounts, AreInForm, AreItems, AreSent, AreSuspicions, Faithful, Items, Numbers}
@@ -322,6 +322,17 @@ suspicions_gained g V w m s x row sent may f = record {
     final a b d h (inr q) = rw (at_other w.past.own m (at (w.past.own m) (w.past.view m) new) a q)
         (f.suspicions.final a b d h)
 
+-- no accept word is another than before
+pub accept_gained : (g : Group) (V : Views) (w : World) (m s : ℕ) (x : Item) (row : ℕ → ℕ) (sent : Sent)
+    → MayGain g V w m s x row sent → Faithful g V w → (i v c : ℕ)
+    → (recv_column (roster g) ≤ c) × (c < head_column (roster g) 0)
+    → (gained w m s x row sent).past.own i v c ≡ w.past.own i v c
+accept_gained g V w m s x row sent may f i v c between =
+    let within : s < roster g = f.views.within (w.past.view m) s may.sender in
+    at₂_case (λ i v r. r c ≡ w.past.own i v c) w.past.own m (w.past.view m) _ (λ i v. refl)
+    (row_kept g V w m s x row sent _ c may between.1 (omega (arith, between.0))
+    (omega (arith, between.0, within))) i v
+
 -- what only grows has grown
 pub past_gained : (g : Group) (V : Views) (w : World) (m s : ℕ) (x : Item) (row : ℕ → ℕ)
     (sent : Sent) → MayGain g V w m s x row sent
@@ -332,6 +343,7 @@ past_gained g V w m s x row sent may =
       sent = may.grew;
       history = same.history;
       log = same.log;
+      votes = same.votes;
       durable = same.durable;
       acts = same.acts;
     }
@@ -437,6 +449,10 @@ gain_keeps g V w m s x row sent is may f = record {
   sent = may.order;
   counts = counts_gained g V w m s x row sent may f;
   suspicions = suspicions_gained g V w m s x row sent may f;
+  accepts = accepts_same g V w.past.view w.promise w.tag w.value w.pending w.past.own
+      (gained w m s x row sent).past.own
+      (λ i c is. accept_gained g V w m s x row sent may f i (w.past.view i) c
+      (accept_columns (roster g) (V (w.past.view i)) c is)) f.accepts;
   words = words_gained g V w m s x row sent may f;
   logs = f.logs;
   delivered = record {

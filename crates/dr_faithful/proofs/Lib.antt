@@ -4,15 +4,16 @@ mod Lists
 pub mod Pieces
 pub mod Pasts
 mod Begin
-mod OwnWords
-mod Stamps
+pub mod OwnWords
+pub mod Stamps
 pub mod Shown
-mod Copies
+pub mod Copies
 mod Acts
 mod Fronts
 mod CountMore
 mod ItemMore
-mod Receipts
+pub mod Receipts
 pub mod Puts
 pub mod Suspicions
+pub mod Votes
 pub mod Faithfulness

@@ -1,17 +1,20 @@
 -- One own word that rises, in a column below those of the counts: what else its member's words tell stays.
-use Rattle.std.proofs.Common.{List, arith, sym, true, ℕ, ◌<◌, ◌∙◌, ◌≡◌, ◌≢◌, ◌≤◌}
+use Rattle.std.proofs.Common.{List, Option, ap, arith, sym, true, ℕ, ◌<◌, ◌∙◌, ◌≡◌, ◌≢◌, ◌≤◌}
 use Rattle.dr_entry.specs.declared.entry.Entry.{Entry}
+use Rattle.dr_entry.specs.declared.record.Value.{Value}
+use Rattle.dr_entry.specs.declared.record.Vote.{Vote}
 use Rattle.dr_machine.specs.Effects.{is_accept_of}
 use Rattle.dr_machine.specs.Group.{Group, roster}
 use Rattle.dr_machine.specs.Writes.{at₃}
 use Rattle.dr_faithful.proofs.Writes.{at₃_case, at₃_column}
-use Rattle.dr_faithful.specs.Faithful.{AreCounts, AreDelivered, AreInForm, AreOld, AreSuspicions, Numbers, Table}
+use Rattle.dr_faithful.specs.Faithful.{AreAccepts, AreCounts, AreDelivered, AreInForm, AreOld, AreSuspicions, Numbers, Table}
 use Rattle.dr_faithful.specs.Tells.{Views}
 use Rattle.dr_words.proofs.Order.{HasGrown_refl, HasGrown_trans}
 use Rattle.dr_words.specs.declared.column.TheConstants.{RECEIVED_COLUMN, SUSPECTED_COLUMN}
 use Rattle.dr_words.specs.Columns.{head_column, recv_column}
 use Rattle.dr_words.specs.Form.{IsInForm}
 use Rattle.dr_words.specs.Grown.{HasGrown}
+use Rattle.dr_words.specs.Packing.{accept_tag, accept_value}
 
 -- the columns of the beat, logged and done words
 abbrev pub IsPlain : ℕ → Type 0
@@ -51,6 +54,29 @@ suspicions_word g V view suspects promise own m v c x plain f = record {
   accept = λ i k is. rw (at₃_column own m v c x i (view i) k
       (omega (arith, plain.0, accept_columns (roster g) (V (view i)) k is))) (f.accept i k is);
 }
+
+-- what a member has accepted is told as before, where the accept words are
+pub accepts_same : (g : Group) (V : Views) (view promise tag : ℕ → ℕ) (value : ℕ → Value)
+    (pending : ℕ → Option Vote) (own new : Numbers)
+    → ((m c : ℕ) → is_accept_of (roster g) (V (view m)) c ≡ true
+    → new m (view m) c ≡ own m (view m) c)
+    → AreAccepts g V view promise tag value pending own → AreAccepts g V view promise tag value pending new
+accepts_same g V view promise tag value pending own new same f = record {
+  tagged = λ i c is. ap accept_tag (same i c is) ∙ f.tagged i c is;
+  valued = λ i c is. ap accept_value (same i c is) ∙ f.valued i c is;
+  low = f.low;
+  waits = f.waits;
+}
+
+-- and after a write of a plain word
+pub accepts_word : (g : Group) (V : Views) (view promise tag : ℕ → ℕ) (value : ℕ → Value)
+    (pending : ℕ → Option Vote) (own : Numbers) (m v c x : ℕ) → IsPlain c
+    → AreAccepts g V view promise tag value pending own
+    → AreAccepts g V view promise tag value pending (at₃ own m v c x)
+accepts_word g V view promise tag value pending own m v c x plain =
+    accepts_same g V view promise tag value pending own (at₃ own m v c x)
+    (λ i k is. at₃_column own m v c x i (view i) k
+    (omega (arith, plain.0, accept_columns (roster g) (V (view i)) k is)))
 
 -- the received words are as before
 pub delivered_word : (g : Group) (V : Views) (view next : ℕ → ℕ) (own : Numbers)

@@ -2,6 +2,7 @@
 use Rattle.std.proofs.Common.{List, [], append-nil, append_assoc, arith, inl, le_of_eq, le_refl, le_trans, length, length-append, map, refl, slice_index_or, subst, sym, take, ap, get_or, ℕ, ◌++◌, ◌<◌, ◌∙◌, ◌∷◌, ◌≡◌, ◌≤◌}
 use Rattle.std.proofs.lemmas.List.{get_or_append_left, get_or-map, length-map}
 use Rattle.dr_entry.specs.declared.entry.Entry.{Entry}
+use Rattle.dr_entry.specs.declared.record.Vote.{Vote}
 use Rattle.dr_entry.specs.declared.end.SentItem.{SentItem}
 use Rattle.dr_entry.specs.declared.end.SentItem.TheVariants.{Null}
 use Rattle.dr_history.proofs.Fronts.{front_more}
@@ -50,15 +51,16 @@ past_same past = record {
   sent = λ m v. prefix_refl (past.sent m v);
   history = λ m. prefix_refl (past.history m);
   log = λ m. prefix_refl (past.log m);
+  votes = λ m. prefix_refl (past.votes m);
   durable = λ m. le_refl (past.durable m);
   acts = λ m. le_refl (past.acts m);
 }
 
 -- what grows is the same
 pub same_past : (old new : Past) → new.count ≡ old.count → new.sent ≡ old.sent → new.history
-    ≡ old.history → new.log ≡ old.log
+    ≡ old.history → new.log ≡ old.log → new.votes ≡ old.votes
     → new.durable ≡ old.durable → new.acts ≡ old.acts → PastGrew old new
-same_past old new count sent history log durable acts = record {
+same_past old new count sent history log votes durable acts = record {
   count = λ m v s. le_of_eq (sym (ap (λ f. f m v s) count));
   sent = λ m v. subst (λ (f : Sent). IsPrefixOf (old.sent m v) (f m v)) (sym sent)
       (prefix_refl (old.sent m v));
@@ -66,6 +68,8 @@ same_past old new count sent history log durable acts = record {
       (prefix_refl (old.history m));
   log = λ m. subst (λ (f : ℕ → List Entry). IsPrefixOf (old.log m) (f m)) (sym log)
       (prefix_refl (old.log m));
+  votes = λ m. subst (λ (f : ℕ → List Vote). IsPrefixOf (old.votes m) (f m)) (sym votes)
+      (prefix_refl (old.votes m));
   durable = λ m. le_of_eq (sym (ap (λ f. f m) durable));
   acts = λ m. le_of_eq (sym (ap (λ f. f m) acts));
 }
@@ -77,6 +81,7 @@ past_on a b c p q = record {
   sent = λ m v. prefix_on (a.sent m v) (b.sent m v) (c.sent m v) (p.sent m v) (q.sent m v);
   history = λ m. prefix_on (a.history m) (b.history m) (c.history m) (p.history m) (q.history m);
   log = λ m. prefix_on (a.log m) (b.log m) (c.log m) (p.log m) (q.log m);
+  votes = λ m. prefix_on (a.votes m) (b.votes m) (c.votes m) (p.votes m) (q.votes m);
   durable = λ m. le_trans (p.durable m) (q.durable m);
   acts = λ m. le_trans (p.acts m) (q.acts m);
 }

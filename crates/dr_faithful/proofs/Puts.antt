@@ -22,7 +22,7 @@ use Rattle.dr_ring.proofs.Items.{few_pieces}
 use Rattle.dr_ring.specs.Pieces.{pieces}
 use Rattle.dr_ring.specs.Slots.{slot_column}
 use Rattle.dr_faithful.proofs.CountMore.{more, new_count}
-use Rattle.dr_faithful.proofs.ItemMore.{MayGain, counted_row, gain_grew, gain_keeps, gained, past_gained}
+use Rattle.dr_faithful.proofs.ItemMore.{MayGain, accept_gained, counted_row, gain_grew, gain_keeps, gained, past_gained}
 use Rattle.dr_faithful.proofs.Pasts.{item_kept, prefix_refl, prefix_short}
 use Rattle.dr_faithful.proofs.Pieces.{later, named_item, piece_le, sent_item}
 use Rattle.dr_faithful.proofs.Shown.{seen_le}
@@ -31,7 +31,7 @@ use Rattle.dr_machine.specs.Sending.{IsPut}
 use Rattle.dr_faithful.specs.Faithful.{AreSent, Faithful, Numbers}
 use Rattle.dr_faithful.specs.Tells.{TellsPiece, Views, item_named, item_sent, part_column}
 use Rattle.dr_words.specs.declared.column.TheConstants.{PIECES}
-use Rattle.dr_words.specs.Columns.{recv_column}
+use Rattle.dr_words.specs.Columns.{head_column, recv_column}
 use Rattle.dr_words.specs.Packing.{recv_count, ring_word}
 
 -- ---- the row
@@ -303,6 +303,15 @@ put_grew g V w m x is can f =
     subst (λ (u : World). WordsGrew g w u) (sym (puts_is g w m x))
     (gain_grew g V w m m (item_named g m x) (put_row g w m x) (sent_after w m x) is
     (put_gains g V w m x is can f) f)
+
+-- no accept word is another than before
+pub put_accepts : (g : Group) (V : Views) (w : World) (m : ℕ) (x : SentItem) → IsGroup g → MayPut g w m x
+    → Faithful g V w → (i v c : ℕ) → (recv_column (roster g) ≤ c) × (c < head_column (roster g) 0)
+    → (puts g w m x (item_named g m x)).past.own i v c ≡ w.past.own i v c
+put_accepts g V w m x is can f i v c between =
+    subst (λ (u : World). u.past.own i v c ≡ w.past.own i v c) (sym (puts_is g w m x))
+    (accept_gained g V w m m (item_named g m x) (put_row g w m x) (sent_after w m x)
+    (put_gains g V w m x is can f) f i v c between)
 
 -- and the members stay faithful
 pub put_keeps : (g : Group) (V : Views) (w : World) (m : ℕ) (x : SentItem) → IsGroup g

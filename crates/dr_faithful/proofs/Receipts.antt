@@ -1,12 +1,12 @@
 -- Receipts: the item that a member takes is the one that its sender has put.
-use Rattle.std.proofs.Common.{Some, ap, arith, inr, le_refl, le_trans, length, refl, slice_index, sym, ℕ, ◌%◌, ◌+◌, ◌<◌, ◌∙◌, ◌≡◌}
+use Rattle.std.proofs.Common.{Some, ap, arith, inr, le_refl, le_trans, length, refl, slice_index, sym, ℕ, ◌%◌, ◌+◌, ◌<◌, ◌∙◌, ◌≡◌, ◌≤◌}
 use Rattle.std.proofs.lemmas.Nat.{mod_below}
 use Rattle.std.specs.Prelude.{unwrap_or}
 use Rattle.dr_entry.specs.declared.entry.Item.{Item}
 use Rattle.dr_entry.specs.declared.entry.Item.TheVariants.{Null}
 use Rattle.dr_history.specs.Members.{has}
 use Rattle.dr_machine.specs.Effects.{next_item, receives}
-use Rattle.dr_machine.specs.Group.{Group, IsGroup}
+use Rattle.dr_machine.specs.Group.{Group, IsGroup, roster}
 use Rattle.dr_machine.specs.Guards.{CanReceive, seen_slot}
 use Rattle.dr_machine.specs.Run.{PastGrew, WordsGrew}
 use Rattle.dr_machine.specs.World.{World, count_of, own_word}
@@ -14,11 +14,12 @@ use Rattle.dr_ring.proofs.Items.{IsItem}
 use Rattle.dr_ring.specs.Pieces.{pieces}
 use Rattle.dr_ring.specs.Slots.{item_in}
 use Rattle.dr_faithful.proofs.CountMore.{own_same}
-use Rattle.dr_faithful.proofs.ItemMore.{MayGain, gain_grew, gain_keeps, past_gained}
+use Rattle.dr_faithful.proofs.ItemMore.{MayGain, accept_gained, gain_grew, gain_keeps, past_gained}
 use Rattle.dr_faithful.proofs.Pasts.{prefix_refl}
 use Rattle.dr_faithful.proofs.Pieces.{piece_of, ready_item, sent_item}
 use Rattle.dr_faithful.specs.Faithful.{Faithful}
 use Rattle.dr_faithful.specs.Tells.{Views, item_sent, part_column}
+use Rattle.dr_words.specs.Columns.{head_column, recv_column}
 use Rattle.dr_words.specs.Packing.{ring_tag, ring_word}
 
 -- the words that were seen of the next item are pieces of it
@@ -94,6 +95,14 @@ pub receive_grew : (g : Group) (V : Views) (w : World) (m s : ℕ) → IsGroup g
 receive_grew g V w m s is can f =
     gain_grew g V w m s (next_item g w m s) (w.past.own m (w.past.view m)) w.past.sent is
     (receive_may g V w m s is can f) f
+
+-- no accept word is another than before
+pub receive_accepts : (g : Group) (V : Views) (w : World) (m s : ℕ) → IsGroup g → CanReceive g w m s
+    → Faithful g V w → (i v c : ℕ) → (recv_column (roster g) ≤ c) × (c < head_column (roster g) 0)
+    → (receives g w m s).past.own i v c ≡ w.past.own i v c
+receive_accepts g V w m s is can f i v c between =
+    accept_gained g V w m s (next_item g w m s) (w.past.own m (w.past.view m)) w.past.sent
+    (receive_may g V w m s is can f) f i v c between
 
 -- and the members stay faithful
 pub receive_keeps : (g : Group) (V : Views) (w : World) (m s : ℕ) → IsGroup g → CanReceive g w m s

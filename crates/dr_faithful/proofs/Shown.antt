@@ -12,10 +12,11 @@ pub seen_le : (g : Group) (V : Views) (w : World) (m i c : ℕ) → Faithful g V
 seen_le g V w m i c f d = le_trans (f.old.in_seen m i c d).number
     (f.old.in_table (w.past.view m) m i c).number
 
-shown_own : (w : World) (m i c : ℕ) → i ≡ m → shown w m i c ≡ w.past.own i (w.past.view m) c
+-- the own word in the own row, and else the one that was seen
+pub shown_own : (w : World) (m i c : ℕ) → i ≡ m → shown w m i c ≡ w.past.own i (w.past.view m) c
 shown_own w m i c e = grind arith
 
-shown_seen : (w : World) (m i c : ℕ) → i ≢ m → shown w m i c ≡ w.seen m i c
+pub shown_seen : (w : World) (m i c : ℕ) → i ≢ m → shown w m i c ≡ w.seen m i c
 shown_seen w m i c d = grind arith
 
 -- and so is a word that is shown

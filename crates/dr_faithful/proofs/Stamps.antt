@@ -6,7 +6,7 @@ use Rattle.dr_machine.specs.Run.{PastGrew, WordsGrew}
 use Rattle.dr_machine.specs.World.{Past, World, own_word}
 use Rattle.dr_machine.specs.Writes.{at₃, at₄}
 use Rattle.dr_faithful.proofs.Forms.{form_free, grown_free}
-use Rattle.dr_faithful.proofs.OwnWords.{IsPlain, counts_word, delivered_word, form_word, old_later, own_grown, suspicions_word}
+use Rattle.dr_faithful.proofs.OwnWords.{IsPlain, accepts_word, counts_word, delivered_word, form_word, old_later, own_grown, suspicions_word}
 use Rattle.dr_faithful.proofs.Pasts.{past_same, tells_beat, tells_later}
 use Rattle.dr_faithful.proofs.Writes.{at_case, at_same, at₃_case, at₄_case}
 use Rattle.dr_faithful.specs.Faithful.{AreOld, Faithful}
@@ -40,6 +40,7 @@ stamp_past g V w m f =
       sent = same.sent;
       history = same.history;
       log = same.log;
+      votes = same.votes;
       durable = same.durable;
       acts = at_case (λ i n. w.past.acts i ≤ n) w.past.acts m (one_more 64 (w.past.acts m))
           (λ i d. le_refl (w.past.acts i))
@@ -98,6 +99,8 @@ stamp_keeps g V w m f = record {
       (w.past.view m) BEAT_COLUMN acts plain f.counts;
   suspicions = suspicions_word g V w.past.view w.suspects w.promise w.past.own m (w.past.view m) BEAT_COLUMN
       acts plain f.suspicions;
+  accepts = accepts_word g V w.past.view w.promise w.tag w.value w.pending w.past.own m (w.past.view m)
+      BEAT_COLUMN acts plain f.accepts;
   words = record {
     own = at₃_case (λ i v k z. Tells g V past i v k z) w.past.own m (w.past.view m) BEAT_COLUMN acts
         (λ i v k. tells_later g V w.past past i v k (w.past.own i v k) grew (f.words.own i v k))

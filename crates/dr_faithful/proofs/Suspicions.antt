@@ -1,6 +1,7 @@
 -- A member suspects another one: its whole row is written anew, and the members stay faithful.
-use Rattle.std.proofs.Common.{Bool, ap, arith, false, inl, inr, le_trans, refl, subst, sym, true, ℕ, ◌-◌, ◌<◌, ◌==◌, ◌^◌, ◌||◌, ◌∙◌, ◌≡◌, ◌≢◌, ◌≤◌, ◌⊎◌}
+use Rattle.std.proofs.Common.{Bool, ap, arith, false, inl, inr, le_trans, refl, subst, sym, true, Some, ℕ, ◌+◌, ◌-◌, ◌<◌, ◌==◌, ◌^◌, ◌||◌, ◌∙◌, ◌≡◌, ◌≢◌, ◌≤◌, ◌⊎◌}
 use Rattle.std.proofs.lemmas.Bool.{cases_eq}
+use Rattle.dr_entry.specs.declared.record.Vote.{Vote}
 use Rattle.dr_history.specs.Members.{has}
 use Rattle.dr_machine.specs.Effects.{is_accept_of, is_recv_of, suspects, wedged_word}
 use Rattle.dr_machine.specs.Group.{Group, IsGroup, IsPresent, roster}
@@ -12,7 +13,7 @@ use Rattle.dr_faithful.proofs.Forms.{accept_between}
 use Rattle.dr_faithful.proofs.OwnWords.{accept_columns, old_later}
 use Rattle.dr_faithful.proofs.Pasts.{same_past, tells_later, tells_recv, tells_accept, tells_suspected}
 use Rattle.dr_faithful.proofs.Writes.{at_case, at_other, at_same, at₂_case, at₂_read}
-use Rattle.dr_faithful.specs.Faithful.{AreCounts, AreSuspicions, Faithful, Numbers}
+use Rattle.dr_faithful.specs.Faithful.{AreAccepts, AreCounts, AreSuspicions, Faithful, IsWaiting, Numbers}
 use Rattle.dr_faithful.specs.Tells.{SuspicionsTold, Tells, TellsSuspicion, Views, WordsTell}
 use Rattle.dr_words.proofs.Bits.{has_zero}
 use Rattle.dr_words.proofs.Masks.{has_with_member, has_without_mask, in_roster_small, least_of_is, least_of_part, without_small}
@@ -163,14 +164,28 @@ recv_final n members mask promise s word l h =
     grind (arith, is) in
     ap is_final new ∙ now_final word
 
-accept_promised : (n members mask promise c word : ℕ) → is_accept_of n members c ≡ true
-    → accept_promise (wedged_word n members mask promise c word) ≡ promise
-accept_promised n members mask promise c word a =
+pub accept_rewritten : (n members mask promise c word : ℕ) → is_accept_of n members c ≡ true
+    → wedged_word n members mask promise c word
+    ≡ accept_word promise (accept_tag word) (accept_value word)
+accept_rewritten n members mask promise c word a =
     let between = accept_columns n members c a in
     let no : is_recv_of n members c ≡ false = grind (arith, between.0) in
-    let new : wedged_word n members mask promise c word
-    ≡ accept_word promise (accept_tag word) (accept_value word) = grind (arith, a, no, between.0) in
-    ap accept_promise new ∙ new_promise promise word
+    grind (arith, a, no, between.0)
+
+pub accept_promised : (n members mask promise c word : ℕ) → is_accept_of n members c ≡ true
+    → accept_promise (wedged_word n members mask promise c word) ≡ promise
+accept_promised n members mask promise c word a =
+    ap accept_promise (accept_rewritten n members mask promise c word a) ∙ new_promise promise word
+
+pub accept_tagged : (n members mask promise c word : ℕ) → is_accept_of n members c ≡ true
+    → accept_tag (wedged_word n members mask promise c word) ≡ accept_tag word
+accept_tagged n members mask promise c word a =
+    ap accept_tag (accept_rewritten n members mask promise c word a) ∙ same_tag promise word
+
+pub accept_valued : (n members mask promise c word : ℕ) → is_accept_of n members c ≡ true
+    → accept_value (wedged_word n members mask promise c word) ≡ accept_value word
+accept_valued n members mask promise c word a =
+    ap accept_value (accept_rewritten n members mask promise c word a) ∙ same_value promise word
 
 other_kept : (n members mask promise c word : ℕ) → c < recv_column 0 → c ≢ SUSPECTED_COLUMN
     → wedged_word n members mask promise c word ≡ word
@@ -189,10 +204,10 @@ plain_kept own n members mask promise m v a u c l d =
 abbrev pub mask_after : World → ℕ → ℕ → ℕ
 mask_after w m j = with_member (w.suspects m) j
 
-abbrev promise_after : World → ℕ → ℕ → ℕ
+abbrev pub promise_after : World → ℕ → ℕ → ℕ
 promise_after w m j = least_of (without (w.members m) (mask_after w m j))
 
-abbrev row_after : Group → World → ℕ → ℕ → ℕ → ℕ
+abbrev pub row_after : Group → World → ℕ → ℕ → ℕ → ℕ
 row_after g w m j c = wedged_word (roster g) (w.members m) (mask_after w m j) (promise_after w m j) c
     (own_word w m c)
 
@@ -245,7 +260,7 @@ mask_trusted g V w m j is can f =
     ∙ f.suspicions.trusted m
 
 -- somebody is suspected now
-mask_some : (g : Group) (V : Views) (w : World) (m j : ℕ) → IsGroup g → CanSuspect g w m j
+pub mask_some : (g : Group) (V : Views) (w : World) (m j : ℕ) → IsGroup g → CanSuspect g w m j
     → Faithful g V w → mask_after w m j ≢ 0
 mask_some g V w m j is can f none =
     let there : has (mask_after w m j) j ≡ true =
@@ -276,7 +291,7 @@ promise_member g V w m j is can f =
     ))
 
 -- and it rises
-promise_rises : (g : Group) (V : Views) (w : World) (m j : ℕ) → IsGroup g → CanSuspect g w m j
+pub promise_rises : (g : Group) (V : Views) (w : World) (m j : ℕ) → IsGroup g → CanSuspect g w m j
     → Faithful g V w → w.promise m ≤ promise_after w m j
 promise_rises g V w m j is can f = by (cases_eq (w.suspects m) 0)
   where
@@ -319,7 +334,7 @@ own_after g V w m j is can f =
 
 -- a suspicion is not what only grows
 pub suspect_past : (g : Group) (w : World) (m j : ℕ) → PastGrew w.past (suspects g w m j).past
-suspect_past g w m j = same_past w.past (suspects g w m j).past refl refl refl refl refl refl
+suspect_past g w m j = same_past w.past (suspects g w m j).past refl refl refl refl refl refl refl
 
 -- the words grow
 pub suspect_grew : (g : Group) (V : Views) (w : World) (m j : ℕ) → IsGroup g → CanSuspect g w m j
@@ -419,6 +434,45 @@ suspicions_suspected g V w m j is can f = record {
     accept i c (inr d) a = ap accept_promise (others i c d) ∙ f.suspicions.accept i c a
         ∙ sym (at_other w.promise m promise i d)
 
+-- what the members have accepted stays, as the promise rises
+accepts_suspected : (g : Group) (V : Views) (w : World) (m j : ℕ) → IsGroup g → CanSuspect g w m j
+    → Faithful g V w
+    → AreAccepts g V w.past.view (suspects g w m j).promise w.tag w.value w.pending
+    (suspects g w m j).past.own
+accepts_suspected g V w m j is can f = record {
+  tagged = λ i c a. tagged i c (cases_eq i m) a ∙ f.accepts.tagged i c a;
+  valued = λ i c a. valued i c (cases_eq i m) a ∙ f.accepts.valued i c a;
+  low = at_case (λ i p. w.tag i ≤ p + 1) w.promise m promise (λ i d. f.accepts.low i)
+      (omega (arith, f.accepts.low m, promise_rises g V w m j is can f));
+  waits = at_case (λ i p. (x : Vote) → w.pending i ≡ Some x → IsWaiting g p (w.tag i) x) w.promise m
+      promise (λ i d. f.accepts.waits i) (λ x e. absurd (cc (can.may.idle, e)));
+}
+  where
+    mask : ℕ
+    mask = mask_after w m j
+
+    promise : ℕ
+    promise = promise_after w m j
+
+    mine : (c : ℕ) → (suspects g w m j).past.own m (w.past.view m) c ≡ row_after g w m j c
+    mine c = ap (λ r. r c) (at₂_read w.past.own m (w.past.view m) (row_after g w m j))
+
+    others : (i c : ℕ) → i ≢ m → (suspects g w m j).past.own i (w.past.view i) c ≡ own_word w i c
+    others i c d = ap (λ r. r (w.past.view i) c)
+        (at_other w.past.own m (at (w.past.own m) (w.past.view m) (row_after g w m j)) i d)
+
+    tagged : (i c : ℕ) → (i ≡ m) ⊎ (i ≢ m) → is_accept_of (roster g) (V (w.past.view i)) c ≡ true
+        → accept_tag ((suspects g w m j).past.own i (w.past.view i) c) ≡ accept_tag (own_word w i c)
+    tagged i c (inl e) a = rw (e, mine c)
+        (accept_tagged (roster g) (w.members m) mask promise c _ (rw (f.views.own m, ← e) a))
+    tagged i c (inr d) a = ap accept_tag (others i c d)
+
+    valued : (i c : ℕ) → (i ≡ m) ⊎ (i ≢ m) → is_accept_of (roster g) (V (w.past.view i)) c ≡ true
+        → accept_value ((suspects g w m j).past.own i (w.past.view i) c) ≡ accept_value (own_word w i c)
+    valued i c (inl e) a = rw (e, mine c)
+        (accept_valued (roster g) (w.members m) mask promise c _ (rw (f.views.own m, ← e) a))
+    valued i c (inr d) a = ap accept_value (others i c d)
+
 -- the words tell as before
 words_suspected : (g : Group) (V : Views) (w : World) (m j : ℕ) → Faithful g V w
     → WordsTell g V (suspects g w m j)
@@ -449,6 +503,7 @@ suspect_keeps g V w m j is can f = record {
   sent = f.sent;
   counts = counts_suspected g V w m j is can f;
   suspicions = suspicions_suspected g V w m j is can f;
+  accepts = accepts_suspected g V w m j is can f;
   words = words_suspected g V w m j f;
   logs = f.logs;
   delivered = record {

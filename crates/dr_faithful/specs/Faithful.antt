@@ -1,20 +1,22 @@
 -- What is true of every world that is reached: each word tells the truth of its owner, and each item is as
 -- its sender put it.
 -- V gives the members of each view, as a mask, by the view's number.
-use Rattle.std.specs.Prelude.{◌≡◌, ◌≢◌, ℕ, ◌+◌, ◌^◌, ◌<◌, ◌≤◌, true, false, List, length, map, Option, None}
+use Rattle.std.specs.Prelude.{◌≡◌, ◌≢◌, ℕ, ◌+◌, ◌^◌, ◌<◌, ◌≤◌, true, false, List, length, map, slice_index, Option, Some}
 use Rattle.dr_entry.specs.declared.entry.Entry.{Entry}
 use Rattle.dr_entry.specs.declared.entry.Item.{Item}
+use Rattle.dr_entry.specs.declared.record.Value.{Value}
 use Rattle.dr_entry.specs.declared.record.Vote.{Vote}
 use Rattle.dr_history.specs.Members.{has, members_of}
 use Rattle.dr_history.specs.Places.{front_of}
 use Rattle.dr_history.specs.History.{IsPrefixOf, Sent, messages_of}
 use Rattle.dr_history.specs.Order.{first_entries, messages_from}
 use Rattle.dr_words.specs.declared.column.TheConstants.{SUSPECTED_COLUMN, RECEIVED_COLUMN}
+use Rattle.dr_words.specs.Accepts.{part_of}
 use Rattle.dr_words.specs.Columns.{recv_column}
 use Rattle.dr_words.specs.Form.{IsInForm}
 use Rattle.dr_words.specs.Grown.{HasGrown}
 use Rattle.dr_words.specs.Masks.{IsPartOf, least_of, without}
-use Rattle.dr_words.specs.Packing.{accept_promise, recv_count, is_final}
+use Rattle.dr_words.specs.Packing.{accept_promise, accept_tag, accept_value, recv_count, is_final}
 use Rattle.dr_machine.specs.Effects.{is_accept_of}
 use Rattle.dr_machine.specs.Group.{Group, IsPresent, roster}
 use Rattle.dr_machine.specs.Sending.{IsPut}
@@ -34,10 +36,9 @@ abbrev pub Table : Type 0
 Table = ℕ → ℕ → ℕ → ℕ → ℕ
 
 -- so far every member is there, and there is one view
-pub record IsBeginning (g : Group) (view base : ℕ → ℕ) (pending : ℕ → Option Vote) : Type 0 where
+pub record IsBeginning (g : Group) (view base : ℕ → ℕ) : Type 0 where
   pub all : (m : ℕ) → m < roster g → IsPresent g m
   pub first : (m : ℕ) → view m ≡ 0
-  pub idle : (m : ℕ) → pending m ≡ None
   -- each member goes on behind the messages of the start
   pub start : (m : ℕ) → base m ≡ length (messages_from m g.opening.start)
 
@@ -89,6 +90,25 @@ pub record AreSuspicions (g : Group) (V : Views) (view suspects promise : ℕ �
   pub accept : (m c : ℕ) → is_accept_of (roster g) (V (view m)) c ≡ true
       → accept_promise (own m (view m) c) ≡ promise m
 
+-- a vote that a member has logged and not yet acted on is by the ballot of its promise, above its tag, and of
+-- a value that accept words can hold
+pub record IsWaiting (g : Group) (promise tag : ℕ) (x : Vote) : Type 0 where
+  pub ballot : x.ballot ≡ promise
+  pub above : tag ≤ promise
+  pub leavers : x.value.leavers < 2 ^ roster g
+  pub trims : (s : ℕ) → slice_index x.value.trim s < 2 ^ 32
+
+-- the accept words of a member have its tag and its value, and its tag is no higher than that of a proposal
+-- by the member that it has promised
+pub record AreAccepts (g : Group) (V : Views) (view promise tag : ℕ → ℕ) (value : ℕ → Value)
+    (pending : ℕ → Option Vote) (own : Numbers) : Type 0 where
+  pub tagged : (m c : ℕ) → is_accept_of (roster g) (V (view m)) c ≡ true
+      → accept_tag (own m (view m) c) ≡ tag m
+  pub valued : (m c : ℕ) → is_accept_of (roster g) (V (view m)) c ≡ true
+      → accept_value (own m (view m) c) ≡ part_of (roster g) (value m) c
+  pub low : (m : ℕ) → tag m ≤ promise m + 1
+  pub waits : (m : ℕ) (x : Vote) → pending m ≡ Some x → IsWaiting g (promise m) (tag m) x
+
 -- the log of a member is a front of its history, and what it knows to be durable is on all logs
 pub record AreLogs (g : Group) (V : Views) (view : ℕ → ℕ) (acts durable : ℕ → ℕ)
     (log history : ℕ → List Entry) : Type 0 where
@@ -120,12 +140,13 @@ pub record AreInForm (g : Group) (own : Numbers) (table : Table) (seen : Numbers
 
 -- the members of a group are faithful
 pub record Faithful (g : Group) (V : Views) (w : World) : Type 0 where
-  pub beginning : IsBeginning g w.past.view w.base w.pending
+  pub beginning : IsBeginning g w.past.view w.base
   pub views : AreInViews g V w.past.view w.members
   pub items : AreItems g V w.past.view w.past.count w.item w.past.sent
   pub sent : AreSent g w.past.view w.base w.past.sent w.past.count
   pub counts : AreCounts g V w.past.view w.suspects w.past.own w.past.count
   pub suspicions : AreSuspicions g V w.past.view w.suspects w.promise w.past.own
+  pub accepts : AreAccepts g V w.past.view w.promise w.tag w.value w.pending w.past.own
   pub words : WordsTell g V w
   pub logs : AreLogs g V w.past.view w.past.acts w.past.durable w.past.log w.past.history
   pub delivered : AreDelivered g V w.past.view w.next w.past.own w.past.history

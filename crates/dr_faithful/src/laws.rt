@@ -32,8 +32,8 @@ pub fn words_grow()
         → WordsGrew g w (effect g w e) }
 {}
 
-/// Nothing that was done is undone: counts of items, what was put, histories, logs, durable counts and
-/// numbers of acts only grow.
+/// Nothing that was done is undone: counts of items, what was put, histories, logs, votes, durable counts
+/// and numbers of acts only grow.
 pub fn pasts_grow()
     ensures { (g : Group) (w : World) (e : Event) → IsGroup g → IsReached g w → Guard g w e
         → PastGrew w.past (effect g w e).past }

@@ -1,0 +1,533 @@
+-- A member logs a vote, accepts what it has voted for, and commits it: the members stay faithful.
+use Rattle.std.proofs.Common.{Bool, List, None, Some, [], ap, arith, false, inl, inr, refl, slice_index, subst, sym, true, ℕ, ◌++◌, ◌+◌, ◌-◌, ◌<◌, ◌^◌, ◌∙◌, ◌∷◌, ◌≡◌, ◌≢◌, ◌≤◌, ◌⊎◌}
+use Rattle.std.specs.Prelude.{unwrap_or}
+use Rattle.std.proofs.Math.Nat.{pow-le-pow_right}
+use Rattle.std.proofs.lemmas.Bool.{cases_eq}
+use Rattle.dr_entry.specs.declared.record.Value.{Value}
+use Rattle.dr_entry.specs.declared.record.Vote.{Vote}
+use Rattle.dr_history.specs.History.{IsPrefixOf}
+use Rattle.dr_history.specs.Members.{has}
+use Rattle.dr_machine.specs.Effects.{accepted_word, accepts, commits, is_accept_of, logs_vote, vote_for}
+use Rattle.dr_machine.specs.Group.{Group, IsGroup, roster}
+use Rattle.dr_machine.specs.Guards.{CanLogVote, IsToAccept, IsToPropose}
+use Rattle.dr_machine.specs.Run.{PastGrew, WordsGrew}
+use Rattle.dr_machine.specs.World.{Past, World, no_vote, own_word, shown}
+use Rattle.dr_machine.specs.Writes.{at}
+use Rattle.dr_faithful.proofs.OwnWords.{accept_columns, old_later}
+use Rattle.dr_faithful.proofs.Pasts.{past_same, prefix_refl, same_past, tells_accept, tells_later, words_later}
+use Rattle.dr_faithful.proofs.Shown.{shown_own, shown_seen}
+use Rattle.dr_faithful.proofs.Writes.{at_case, at_other, at_same, at₂_case, at₂_read}
+use Rattle.dr_faithful.specs.Faithful.{AreAccepts, AreCounts, AreSuspicions, Faithful, IsWaiting}
+use Rattle.dr_faithful.specs.Tells.{Tells, Views, WordsTell}
+use Rattle.dr_words.proofs.Masks.{in_roster_small}
+use Rattle.dr_words.proofs.Order.{HasGrown_refl, HasGrown_same}
+use Rattle.dr_words.specs.Accepts.{Shows, part_of, promise_of, tag_of}
+use Rattle.dr_words.specs.Changes.{IsFirstValue, IsLeastReceived}
+use Rattle.dr_words.specs.Columns.{leavers_column, recv_column, trim_column}
+use Rattle.dr_words.specs.Form.{IsInForm}
+use Rattle.dr_words.specs.Grown.{HasGrown}
+use Rattle.dr_words.specs.Masks.{without}
+use Rattle.dr_words.specs.Packing.{accept_promise, accept_tag, accept_value, accept_word}
+use Rattle.dr_words.specs.declared.column.TheConstants.{RECEIVED_COLUMN, SUSPECTED_COLUMN}
+
+-- ---- a vote
+
+-- votes only grow
+pub vote_past : (g : Group) (w : World) (m : ℕ) (v : Value)
+    → PastGrew w.past (logs_vote g w m v).past
+vote_past g w m v =
+    let same = past_same w.past in
+    let one : List Vote = vote_for g w m v ∷ [] in record {
+      count = same.count;
+      sent = same.sent;
+      history = same.history;
+      log = same.log;
+      votes = at_case (λ i l. IsPrefixOf (w.past.votes i) l) w.past.votes m (w.past.votes m ++ one)
+          (λ i d. prefix_refl (w.past.votes i)) (one, refl);
+      durable = same.durable;
+      acts = same.acts;
+    }
+
+-- the words of a view that say whom a member has promised, and what it has accepted
+pub leavers_accept : (n members : ℕ) → is_accept_of n members (leavers_column n) ≡ true
+leavers_accept n members = grind arith
+
+-- the own promise and tag, as the member's own row shows them
+pub own_promise : (g : Group) (V : Views) (w : World) (m : ℕ) → Faithful g V w
+    → promise_of (roster g) (shown w m) m ≡ w.promise m
+own_promise g V w m f = ap accept_promise (shown_own w m m (leavers_column (roster g)) refl)
+    ∙ f.suspicions.accept m (leavers_column (roster g)) (leavers_accept (roster g) (V (w.past.view m)))
+
+pub own_tag : (g : Group) (V : Views) (w : World) (m : ℕ) → Faithful g V w
+    → tag_of (roster g) (shown w m) m ≡ w.tag m
+own_tag g V w m f = ap accept_tag (shown_own w m m (leavers_column (roster g)) refl)
+    ∙ f.accepts.tagged m (leavers_column (roster g)) (leavers_accept (roster g) (V (w.past.view m)))
+
+-- words that are shown are in form
+pub shown_form : (g : Group) (V : Views) (w : World) (m i c : ℕ) → Faithful g V w
+    → IsInForm (roster g) c (shown w m i c)
+shown_form g V w m i c f = by (cases_eq i m)
+  where
+    by : (i ≡ m) ⊎ (i ≢ m) → IsInForm (roster g) c (shown w m i c)
+    by (inl e) = rw (shown_own w m i c e) (f.form.in_own i (w.past.view m) c)
+    by (inr d) = rw (shown_seen w m i c d) (f.form.in_seen m i c)
+
+-- a member that may vote has not yet voted by the ballot of its promise
+pub not_yet : (g : Group) (V : Views) (w : World) (m : ℕ) (v : Value) → CanLogVote g w m v
+    → Faithful g V w → w.tag m ≤ w.promise m
+not_yet g V w m v can f = by can.allowed
+  where
+    low : w.tag m ≤ w.promise m + 1
+    low = f.accepts.low m
+
+    by : IsToPropose g w m v ⊎ IsToAccept g w m v → w.tag m ≤ w.promise m
+    by (inl t) = omega (
+      arith,
+      t.0.unproposed,
+      t.0.promised,
+      own_promise g V w m f,
+      own_tag g V w m f,
+      low,
+    )
+    by (inr t) = omega (arith, t.0.unaccepted, own_promise g V w m f, own_tag g V w m f, low)
+
+-- the leavers and the trims of the value that it votes for
+shown_leavers : (g : Group) (V : Views) (w : World) (m i : ℕ) (v : Value) → Faithful g V w
+    → Shows (roster g) (shown w m) (w.members m) i v → v.leavers < 2 ^ roster g
+shown_leavers g V w m i v f shows =
+    rw shows.leavers ((shown_form g V w m i (leavers_column (roster g)) f).leavers refl)
+
+shown_trims : (g : Group) (V : Views) (w : World) (m i : ℕ) (v : Value) → Faithful g V w
+    → Shows (roster g) (shown w m) (w.members m) i v → (s : ℕ) → slice_index v.trim s < 2 ^ 32
+shown_trims g V w m i v f shows s = by (has (w.members m) s) refl
+  where
+    by : (b : Bool) → has (w.members m) s ≡ b → slice_index v.trim s < 2 ^ 32
+    by true h = rw (shows.trims s h) ((shown_form g V w m i (trim_column (roster g) s) f).trim s
+        (f.views.within (w.past.view m) s (ap (λ k. has k s) (sym (f.views.own m)) ∙ h)) refl)
+    by false h = rw (shows.others s h) (omega arith)
+
+first_trims : (g : Group) (V : Views) (w : World) (m : ℕ) (v : Value) → Faithful g V w
+    → IsFirstValue (shown w m) (w.members m) (w.suspects m) v → (s : ℕ)
+    → slice_index v.trim s < 2 ^ 32
+first_trims g V w m v f first s = by (has (w.members m) s) refl
+  where
+    least : has (w.members m) s ≡ true
+        → IsLeastReceived (shown w m) (without (w.members m) (w.suspects m)) s (slice_index v.trim s)
+        → slice_index v.trim s < 2 ^ 32
+    least h t = omega (
+      arith,
+      t.found.2,
+      (shown_form g V w m t.found.0 (recv_column s) f).recv s
+          (f.views.within (w.past.view m) s (ap (λ k. has k s) (sym (f.views.own m)) ∙ h)) refl,
+    )
+
+    by : (b : Bool) → has (w.members m) s ≡ b → slice_index v.trim s < 2 ^ 32
+    by true h = least h (first.trims s h)
+    by false h = rw (first.others s h) (omega arith)
+
+voted_leavers : (g : Group) (V : Views) (w : World) (m : ℕ) (v : Value) → Faithful g V w
+    → IsToPropose g w m v ⊎ IsToAccept g w m v → v.leavers < 2 ^ roster g
+voted_leavers g V w m v f (inl (may, inl t)) = shown_leavers g V w m t.0 v f t.2
+voted_leavers g V w m v f (inl (may, inr t)) = rw t.1.leavers (in_roster_small (roster g) (w.suspects m)
+    (λ i h. f.views.within (w.past.view m) i (f.suspicions.part m i h)))
+voted_leavers g V w m v f (inr t) = shown_leavers g V w m _ v f t.1
+
+voted_trims : (g : Group) (V : Views) (w : World) (m : ℕ) (v : Value) → Faithful g V w
+    → IsToPropose g w m v ⊎ IsToAccept g w m v → (s : ℕ) → slice_index v.trim s < 2 ^ 32
+voted_trims g V w m v f (inl (may, inl t)) = shown_trims g V w m t.0 v f t.2
+voted_trims g V w m v f (inl (may, inr t)) = first_trims g V w m v f t.1
+voted_trims g V w m v f (inr t) = shown_trims g V w m _ v f t.1
+
+-- the vote waits to be acted on
+pub vote_keeps : (g : Group) (V : Views) (w : World) (m : ℕ) (v : Value) → CanLogVote g w m v
+    → Faithful g V w → Faithful g V (logs_vote g w m v)
+vote_keeps g V w m v can f = record {
+  beginning = f.beginning;
+  views = f.views;
+  items = f.items;
+  sent = f.sent;
+  counts = f.counts;
+  suspicions = f.suspicions;
+  accepts = record {
+    tagged = f.accepts.tagged;
+    valued = f.accepts.valued;
+    low = f.accepts.low;
+    waits = at_case (λ i p. (x : Vote) → p ≡ Some x → IsWaiting g (w.promise i) (w.tag i) x) w.pending m
+        (Some (vote_for g w m v)) (λ i d. f.accepts.waits i) waits;
+  };
+  words = words_later g V w (logs_vote g w m v) (vote_past g w m v) refl refl refl refl f.words;
+  logs = f.logs;
+  delivered = f.delivered;
+  old = f.old;
+  form = f.form;
+}
+  where
+    this : IsWaiting g (w.promise m) (w.tag m) (vote_for g w m v)
+    this = record {
+      ballot = refl;
+      above = not_yet g V w m v can f;
+      leavers = voted_leavers g V w m v f can.allowed;
+      trims = voted_trims g V w m v f can.allowed;
+    }
+
+    waits : (x : Vote) → Some (vote_for g w m v) ≡ Some x → IsWaiting g (w.promise m) (w.tag m) x
+    waits x e =
+        let same : vote_for g w m v ≡ x = cc e in
+        subst (λ y. IsWaiting g (w.promise m) (w.tag m) y) same this
+
+-- ---- one accept word
+
+-- the column is that of an accept word of the view, or the word is as before
+abbrev IsAccepted : ℕ → ℕ → ℕ → Value → ℕ → ℕ → ℕ → Type 0
+IsAccepted n members tag v c word new =
+    ((is_accept_of n members c ≡ true) × (new ≡ accept_word (accept_promise word) tag (part_of n v c)))
+    ⊎ ((is_accept_of n members c ≡ false) × (new ≡ word))
+
+accepted : (n members tag : ℕ) (v : Value) (c word : ℕ)
+    → IsAccepted n members tag v c word (accepted_word n members tag v c word)
+accepted n members tag v c word = by (is_accept_of n members c) refl
+  where
+    by : (b : Bool) → is_accept_of n members c ≡ b
+        → IsAccepted n members tag v c word (accepted_word n members tag v c word)
+    by true e = inl (e, grind (arith, e))
+    by false e = inr (e, grind (arith, e))
+
+-- the promise, the tag and the value of such a word
+word_promise : (word tag x : ℕ) → tag < 2 ^ 8 → x < 2 ^ 48
+    → accept_promise (accept_word (accept_promise word) tag x) ≡ accept_promise word
+word_promise word tag x l h = omega arith
+
+word_tag : (word tag x : ℕ) → tag < 2 ^ 8 → x < 2 ^ 48
+    → accept_tag (accept_word (accept_promise word) tag x) ≡ tag
+word_tag word tag x l h = omega arith
+
+word_value : (word tag x : ℕ) → tag < 2 ^ 8 → x < 2 ^ 48
+    → accept_value (accept_word (accept_promise word) tag x) ≡ x
+word_value word tag x l h = omega arith
+
+-- the word grows by a higher tag
+word_grown : (word tag x : ℕ) → accept_tag word < tag → word ≤ accept_word (accept_promise word) tag x
+word_grown word tag x l = omega arith
+
+-- the parts of a value
+pub part_leavers : (n : ℕ) (v : Value) (c : ℕ) → c ≡ leavers_column n → part_of n v c ≡ v.leavers
+part_leavers n v c e = grind (arith, e)
+
+pub part_trim : (n : ℕ) (v : Value) (s c : ℕ) → c ≡ trim_column n s → part_of n v c ≡ slice_index v.trim s
+part_trim n v s c e =
+    let there : c - trim_column n 0 ≡ s = omega (arith, e) in
+    let other : c ≢ leavers_column n = λ q. absurd (omega (arith, e, q)) in
+    grind (arith, there, other)
+
+-- the parts of a value that accept words can hold
+parts_small : (g : Group) (x : Vote) (promise tag c : ℕ) → IsGroup g → IsWaiting g promise tag x
+    → part_of (roster g) x.value c < 2 ^ 48
+parts_small g x promise tag c is waits = by (cases_eq c (leavers_column (roster g)))
+  where
+    few : 2 ^ roster g ≤ 2 ^ 16
+    few = pow-le-pow_right (omega arith) is.most_members
+
+    by : (c ≡ leavers_column (roster g)) ⊎ (c ≢ leavers_column (roster g))
+        → part_of (roster g) x.value c < 2 ^ 48
+    by (inl e) = grind (arith, waits.leavers, few)
+    by (inr d) = grind (arith, waits.trims (c - trim_column (roster g) 0))
+
+-- ---- the row
+
+-- the vote that waits
+abbrev pub vote_waiting : World → ℕ → Vote
+vote_waiting w m = unwrap_or (w.pending m) no_vote
+
+abbrev pub accepted_row : Group → World → ℕ → ℕ → ℕ
+accepted_row g w m c = accepted_word (roster g) (w.members m) ((vote_waiting w m).ballot + 1)
+    (vote_waiting w m).value c (own_word w m c)
+
+pub is_waiting : (g : Group) (V : Views) (w : World) (m : ℕ) (x : Vote) → w.pending m ≡ Some x
+    → Faithful g V w → IsWaiting g (w.promise m) (w.tag m) (vote_waiting w m)
+is_waiting g V w m x e f =
+    subst (λ o. IsWaiting g (w.promise m) (w.tag m) (unwrap_or o no_vote)) (sym e) (f.accepts.waits m x e)
+
+-- what the row holds now
+pub row_accepted : (g : Group) (V : Views) (w : World) (m c : ℕ) → Faithful g V w
+    → is_accept_of (roster g) (w.members m) c ≡ true
+    → accepted_row g w m c ≡ accept_word (accept_promise (own_word w m c)) ((vote_waiting w m).ballot + 1)
+    (part_of (roster g) (vote_waiting w m).value c)
+row_accepted g V w m c f a = grind (arith, a)
+
+pub row_other : (g : Group) (w : World) (m c : ℕ) → is_accept_of (roster g) (w.members m) c ≡ false
+    → accepted_row g w m c ≡ own_word w m c
+row_other g w m c a = grind (arith, a)
+
+no_accept_column : (n members c : ℕ) → c < recv_column n → is_accept_of n members c ≡ false
+no_accept_column n members c l = grind arith
+
+-- the ballot is that of a member of the roster
+pub ballot_small : (g : Group) (V : Views) (w : World) (m : ℕ) → Faithful g V w → w.promise m < roster g
+ballot_small g V w m f =
+    let c : ℕ = leavers_column (roster g) in
+    rw (← f.suspicions.accept m c (leavers_accept (roster g) (V (w.past.view m))))
+    ((f.form.in_own m (w.past.view m) c).promise (inl refl))
+
+-- the promise, the tag and the value of the row's accept words
+pub row_promise : (g : Group) (V : Views) (w : World) (m c : ℕ) (x : Vote) → IsGroup g
+    → w.pending m ≡ Some x → Faithful g V w → is_accept_of (roster g) (w.members m) c ≡ true
+    → accept_promise (accepted_row g w m c) ≡ accept_promise (own_word w m c)
+row_promise g V w m c x is e f a =
+    let waits = is_waiting g V w m x e f in
+    ap accept_promise (row_accepted g V w m c f a)
+    ∙ word_promise (own_word w m c) ((vote_waiting w m).ballot + 1) (part_of (roster g) (vote_waiting w m).value c)
+    (omega (arith, waits.ballot, ballot_small g V w m f, is.most_members))
+    (parts_small g (vote_waiting w m) (w.promise m) (w.tag m) c is waits)
+
+pub row_tag : (g : Group) (V : Views) (w : World) (m c : ℕ) (x : Vote) → IsGroup g
+    → w.pending m ≡ Some x → Faithful g V w → is_accept_of (roster g) (w.members m) c ≡ true
+    → accept_tag (accepted_row g w m c) ≡ (vote_waiting w m).ballot + 1
+row_tag g V w m c x is e f a =
+    let waits = is_waiting g V w m x e f in
+    ap accept_tag (row_accepted g V w m c f a)
+    ∙ word_tag (own_word w m c) ((vote_waiting w m).ballot + 1) (part_of (roster g) (vote_waiting w m).value c)
+    (omega (arith, waits.ballot, ballot_small g V w m f, is.most_members))
+    (parts_small g (vote_waiting w m) (w.promise m) (w.tag m) c is waits)
+
+pub row_value : (g : Group) (V : Views) (w : World) (m c : ℕ) (x : Vote) → IsGroup g
+    → w.pending m ≡ Some x → Faithful g V w → is_accept_of (roster g) (w.members m) c ≡ true
+    → accept_value (accepted_row g w m c) ≡ part_of (roster g) (vote_waiting w m).value c
+row_value g V w m c x is e f a =
+    let waits = is_waiting g V w m x e f in
+    ap accept_value (row_accepted g V w m c f a)
+    ∙ word_value (own_word w m c) ((vote_waiting w m).ballot + 1) (part_of (roster g) (vote_waiting w m).value c)
+    (omega (arith, waits.ballot, ballot_small g V w m f, is.most_members))
+    (parts_small g (vote_waiting w m) (w.promise m) (w.tag m) c is waits)
+
+-- each word of the row has grown
+row_grown : (g : Group) (V : Views) (w : World) (m c : ℕ) (x : Vote) → w.pending m ≡ Some x
+    → Faithful g V w → HasGrown (roster g) c (own_word w m c) (accepted_row g w m c)
+row_grown g V w m c x e f =
+    by (accepted (roster g) (w.members m) ((vote_waiting w m).ballot + 1) (vote_waiting w m).value c
+    (own_word w m c))
+  where
+    higher : is_accept_of (roster g) (w.members m) c ≡ true
+        → accept_tag (own_word w m c) < (vote_waiting w m).ballot + 1
+    higher a =
+        let waits = is_waiting g V w m x e f in
+        let old = f.accepts.tagged m c (rw (← f.views.own m) a) in
+        omega (arith, waits.ballot, waits.above, old)
+
+    by : IsAccepted (roster g) (w.members m) ((vote_waiting w m).ballot + 1) (vote_waiting w m).value c
+        (own_word w m c) (accepted_row g w m c)
+        → HasGrown (roster g) c (own_word w m c) (accepted_row g w m c)
+    by (inl t) =
+        let between = accept_columns (roster g) (w.members m) c t.0 in record {
+          number = rw t.1 (word_grown (own_word w m c) ((vote_waiting w m).ballot + 1)
+              (part_of (roster g) (vote_waiting w m).value c) (higher t.0));
+          suspected = λ e. absurd (omega (arith, e, between));
+          final = λ s l e h. absurd (omega (arith, l, e, between));
+        }
+    by (inr t) = HasGrown_same (roster g) c (own_word w m c) (accepted_row g w m c) t.1
+
+own_after : (g : Group) (V : Views) (w : World) (m : ℕ) (x : Vote) → w.pending m ≡ Some x
+    → Faithful g V w
+    → (i v c : ℕ) → HasGrown (roster g) c (w.past.own i v c) ((accepts g w m).past.own i v c)
+own_after g V w m x e f =
+    at₂_case (λ i v r. (c : ℕ) → HasGrown (roster g) c (w.past.own i v c) (r c)) w.past.own m
+    (w.past.view m) (accepted_row g w m) (λ i v c. HasGrown_refl (roster g) c (w.past.own i v c))
+    (λ c. row_grown g V w m c x e f)
+
+-- columns before the accept words are as before
+pub plain_after : (g : Group) (w : World) (m i v c : ℕ) → c < recv_column (roster g)
+    → (accepts g w m).past.own i v c ≡ w.past.own i v c
+plain_after g w m i v c l =
+    at₂_case (λ i v r. r c ≡ w.past.own i v c) w.past.own m (w.past.view m) (accepted_row g w m)
+    (λ i v. refl) (row_other g w m c (no_accept_column (roster g) (w.members m) c l)) i v
+
+-- and so are the words of others
+others_after : (g : Group) (w : World) (m i c : ℕ) → i ≢ m
+    → (accepts g w m).past.own i (w.past.view i) c ≡ own_word w i c
+others_after g w m i c d = ap (λ r. r (w.past.view i) c)
+    (at_other w.past.own m (at (w.past.own m) (w.past.view m) (accepted_row g w m)) i d)
+
+mine_after : (g : Group) (w : World) (m c : ℕ)
+    → (accepts g w m).past.own m (w.past.view m) c ≡ accepted_row g w m c
+mine_after g w m c = ap (λ r. r c) (at₂_read w.past.own m (w.past.view m) (accepted_row g w m))
+
+-- an acceptance is not what only grows
+pub accept_past : (g : Group) (w : World) (m : ℕ) → PastGrew w.past (accepts g w m).past
+accept_past g w m = same_past w.past (accepts g w m).past refl refl refl refl refl refl refl
+
+-- the words grow
+pub accept_grew : (g : Group) (V : Views) (w : World) (m : ℕ) (x : Vote) → w.pending m ≡ Some x
+    → Faithful g V w → WordsGrew g w (accepts g w m)
+accept_grew g V w m x e f = record {
+  own = own_after g V w m x e f;
+  table = λ v a i c. HasGrown_refl (roster g) c (w.table v a i c);
+  seen = λ a i c e. HasGrown_refl (roster g) c (w.seen a i c);
+}
+
+-- ---- what the words tell
+
+-- whom a member suspects is told as before
+suspicions_after : (g : Group) (V : Views) (w : World) (m : ℕ) (x : Vote) → IsGroup g
+    → w.pending m ≡ Some x → Faithful g V w
+    → AreSuspicions g V w.past.view w.suspects w.promise (accepts g w m).past.own
+suspicions_after g V w m x is e f = record {
+  part = f.suspicions.part;
+  trusted = f.suspicions.trusted;
+  told = λ i. plain_after g w m i (w.past.view i) SUSPECTED_COLUMN (omega arith) ∙ f.suspicions.told i;
+  final = λ i s d h. rw (plain_after g w m i (w.past.view i) (recv_column s)
+      (omega (arith, f.views.within (w.past.view i) s h))) (f.suspicions.final i s d h);
+  none = f.suspicions.none;
+  least = f.suspicions.least;
+  accept = λ i c a. accept i c (cases_eq i m) a ∙ f.suspicions.accept i c a;
+}
+  where
+    accept : (i c : ℕ) → (i ≡ m) ⊎ (i ≢ m) → is_accept_of (roster g) (V (w.past.view i)) c ≡ true
+        → accept_promise ((accepts g w m).past.own i (w.past.view i) c) ≡ accept_promise (own_word w i c)
+    accept i c (inl q) a = rw (q, mine_after g w m c)
+        (row_promise g V w m c x is e f (rw (f.views.own m, ← q) a))
+    accept i c (inr d) a = ap accept_promise (others_after g w m i c d)
+
+-- what the members have accepted
+accepts_after : (g : Group) (V : Views) (w : World) (m : ℕ) (x : Vote) → IsGroup g
+    → w.pending m ≡ Some x → Faithful g V w
+    → AreAccepts g V w.past.view w.promise (accepts g w m).tag (accepts g w m).value
+    (accepts g w m).pending (accepts g w m).past.own
+accepts_after g V w m x is e f = record {
+  tagged = λ i c a. tagged i c (cases_eq i m) a;
+  valued = λ i c a. valued i c (cases_eq i m) a;
+  low = at_case (λ i t. t ≤ w.promise i + 1) w.tag m ((vote_waiting w m).ballot + 1)
+      (λ i d. f.accepts.low i) (omega (arith, (is_waiting g V w m x e f).ballot));
+  waits = waits;
+}
+  where
+    tagged : (i c : ℕ) → (i ≡ m) ⊎ (i ≢ m) → is_accept_of (roster g) (V (w.past.view i)) c ≡ true
+        → accept_tag ((accepts g w m).past.own i (w.past.view i) c) ≡ (accepts g w m).tag i
+    tagged i c (inl q) a = rw (q, mine_after g w m c)
+        (row_tag g V w m c x is e f (rw (f.views.own m, ← q) a)
+        ∙ sym (at_same w.tag m ((vote_waiting w m).ballot + 1)))
+    tagged i c (inr d) a = ap accept_tag (others_after g w m i c d) ∙ f.accepts.tagged i c a
+        ∙ sym (at_other w.tag m ((vote_waiting w m).ballot + 1) i d)
+
+    valued : (i c : ℕ) → (i ≡ m) ⊎ (i ≢ m) → is_accept_of (roster g) (V (w.past.view i)) c ≡ true
+        → accept_value ((accepts g w m).past.own i (w.past.view i) c)
+        ≡ part_of (roster g) ((accepts g w m).value i) c
+    valued i c (inl q) a = rw (q, mine_after g w m c)
+        (row_value g V w m c x is e f (rw (f.views.own m, ← q) a)
+        ∙ ap (λ y. part_of (roster g) y c) (sym (at_same w.value m (vote_waiting w m).value)))
+    valued i c (inr d) a = ap accept_value (others_after g w m i c d) ∙ f.accepts.valued i c a
+        ∙ ap (λ y. part_of (roster g) y c) (sym (at_other w.value m (vote_waiting w m).value i d))
+
+    waits : (i : ℕ) (y : Vote) → (accepts g w m).pending i ≡ Some y
+        → IsWaiting g (w.promise i) ((accepts g w m).tag i) y
+    waits i y p = by (cases_eq i m)
+      where
+        by : (i ≡ m) ⊎ (i ≢ m) → IsWaiting g (w.promise i) ((accepts g w m).tag i) y
+        by (inl q) = absurd (cc (sym (ap (at w.pending m None) q ∙ at_same w.pending m None) ∙ p))
+        by (inr d) = rw (at_other w.tag m ((vote_waiting w m).ballot + 1) i d)
+            (f.accepts.waits i y (sym (at_other w.pending m None i d) ∙ p))
+
+-- the counts are told as before
+counts_after : (g : Group) (V : Views) (w : World) (m : ℕ) → Faithful g V w
+    → AreCounts g V w.past.view w.suspects (accepts g w m).past.own w.past.count
+counts_after g V w m f = record {
+  recv = λ i u s l. rw (plain_after g w m i u (recv_column s) (omega (arith, l))) (f.counts.recv i u s l);
+  unfinished = λ i s l d. rw (plain_after g w m i (w.past.view i) (recv_column s) (omega (arith, l)))
+      (f.counts.unfinished i s l d);
+  received = λ i u. plain_after g w m i u RECEIVED_COLUMN (omega arith) ∙ f.counts.received i u;
+  few = f.counts.few;
+}
+
+-- the words tell as before
+words_after : (g : Group) (V : Views) (w : World) (m : ℕ) → Faithful g V w
+    → WordsTell g V (accepts g w m)
+words_after g V w m f = record {
+  own = at₂_case (λ i v r. (c : ℕ) → Tells g V new i v c (r c)) w.past.own m (w.past.view m)
+      (accepted_row g w m) (λ i v c. later i v c (w.past.own i v c) (f.words.own i v c))
+      (λ c. mine c (accepted (roster g) (w.members m) ((vote_waiting w m).ballot + 1)
+      (vote_waiting w m).value c (own_word w m c)));
+  table = λ v a i c. later i v c (w.table v a i c) (f.words.table v a i c);
+  seen = λ a i c. later i (w.past.view a) c (w.seen a i c) (f.words.seen a i c);
+}
+  where
+    new : Past
+    new = (accepts g w m).past
+
+    later : (i v c word : ℕ) → Tells g V w.past i v c word → Tells g V (accepts g w m).past i v c word
+    later i v c word = tells_later g V w.past new i v c word (accept_past g w m)
+
+    mine : (c : ℕ) → IsAccepted (roster g) (w.members m) ((vote_waiting w m).ballot + 1)
+        (vote_waiting w m).value c (own_word w m c) (accepted_row g w m c)
+        → Tells g V (accepts g w m).past m (w.past.view m) c (accepted_row g w m c)
+    mine c (inl t) = tells_accept g V new m (w.past.view m) c (accepted_row g w m c)
+        (accept_columns (roster g) (w.members m) c t.0)
+    mine c (inr t) = subst (λ (z : ℕ). Tells g V new m (w.past.view m) c z) (sym t.1)
+        (later m (w.past.view m) c (own_word w m c) (f.words.own m (w.past.view m) c))
+
+-- and are in form
+form_after : (g : Group) (V : Views) (w : World) (m c : ℕ) (x : Vote) → IsGroup g
+    → w.pending m ≡ Some x → Faithful g V w
+    → (b : Bool) → is_accept_of (roster g) (w.members m) c ≡ b
+    → IsInForm (roster g) c (accepted_row g w m c)
+form_after g V w m c x is e f true a =
+    let between = accept_columns (roster g) (w.members m) c a in
+    let waits = is_waiting g V w m x e f in
+    let old = f.form.in_own m (w.past.view m) c in
+    let value = row_value g V w m c x is e f a in record {
+      suspected = λ e. absurd (omega (arith, e, between));
+      done = λ e. absurd (omega (arith, e, between));
+      recv = λ s l e. absurd (omega (arith, l, e, between));
+      promise = λ k. rw (row_promise g V w m c x is e f a) (old.promise k);
+      tag = λ k. rw (row_tag g V w m c x is e f a) (omega (arith, waits.ballot, ballot_small g V w m f));
+      leavers = λ k. rw (value, part_leavers (roster g) (vote_waiting w m).value c k) waits.leavers;
+      trim = λ s l k. rw (value, part_trim (roster g) (vote_waiting w m).value s c k) (waits.trims s);
+    }
+form_after g V w m c x is e f false a =
+    subst (λ z. IsInForm (roster g) c z) (sym (row_other g w m c a)) (f.form.in_own m (w.past.view m) c)
+
+-- the members stay faithful
+pub accept_keeps : (g : Group) (V : Views) (w : World) (m : ℕ) (x : Vote) → IsGroup g
+    → w.pending m ≡ Some x → Faithful g V w → Faithful g V (accepts g w m)
+accept_keeps g V w m x is e f = record {
+  beginning = f.beginning;
+  views = f.views;
+  items = f.items;
+  sent = f.sent;
+  counts = counts_after g V w m f;
+  suspicions = suspicions_after g V w m x is e f;
+  accepts = accepts_after g V w m x is e f;
+  words = words_after g V w m f;
+  logs = f.logs;
+  delivered = record {
+    held = λ a i l h. rw (plain_after g w m i (w.past.view a) RECEIVED_COLUMN (omega arith))
+        (f.delivered.held a i l h);
+    short = f.delivered.short;
+  };
+  old = old_later g w.past.view w.past.own (accepts g w m).past.own w.table w.seen
+      (own_after g V w m x e f) f.old;
+  form = record {
+    in_own = at₂_case (λ i v r. (c : ℕ) → IsInForm (roster g) c (r c)) w.past.own m (w.past.view m)
+        (accepted_row g w m) f.form.in_own
+        (λ c. form_after g V w m c x is e f (is_accept_of (roster g) (w.members m) c) refl);
+    in_table = f.form.in_table;
+    in_seen = f.form.in_seen;
+  };
+}
+
+-- ---- a commit
+
+-- and nothing of this changes where a value is committed
+pub commit_keeps : (g : Group) (V : Views) (w : World) (m : ℕ) → Faithful g V w
+    → Faithful g V (commits w m)
+commit_keeps g V w m f = record {
+  beginning = f.beginning;
+  views = f.views;
+  items = f.items;
+  sent = f.sent;
+  counts = f.counts;
+  suspicions = f.suspicions;
+  accepts = f.accepts;
+  words = words_later g V w (commits w m) (past_same w.past) refl refl refl refl f.words;
+  logs = f.logs;
+  delivered = f.delivered;
+  old = f.old;
+  form = f.form;
+}
