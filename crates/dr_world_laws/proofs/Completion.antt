@@ -15,7 +15,7 @@ use Rattle.dr_ring.specs.Slots.{slot_column}
 use Rattle.dr_words.specs.declared.column.TheConstants.{LOGGED_COLUMN, DONE_COLUMN}
 use Rattle.dr_machine.specs.declared.event.Event.{Event}
 use Rattle.dr_machine.specs.declared.event.Act.{Act}
-use Rattle.dr_machine.specs.declared.event.Act.TheVariants.{Send, Null, Receive, Deliver, Publish, Report, Mark, Suspect, Halt, Crash}
+use Rattle.dr_machine.specs.declared.event.Act.TheVariants.{Send, Null, Receive, Deliver, Publish, Report, Mark, Suspect, Propose, Accept, Halt, Crash}
 use Rattle.dr_machine.specs.declared.step.Step.{Step}
 use Rattle.dr_machine.specs.declared.step.Step.TheVariants.{Do}
 use Rattle.dr_machine.specs.Events.{member_of, step_of}
@@ -24,8 +24,9 @@ use Rattle.dr_machine.specs.Acts.{CanDo, CanTake, Guard, does, effect, effect_of
 use Rattle.dr_machine.specs.Guards.{CanReport, CanMark, CanHalt, CanDeliver, IsDue, IsFault}
 use Rattle.dr_machine.specs.Writes.{at, at₂, at₃}
 use Rattle.dr_machine.specs.World.{World, own_word, count_of, shown}
-use Rattle.dr_machine.specs.Effects.{stamped, gains, row_with, puts, delivers, reports, marks, suspects, ends}
+use Rattle.dr_machine.specs.Effects.{stamped, gains, row_with, puts, delivers, reports, marks, suspects, accepts, ends}
 use Rattle.dr_faithful.proofs.Suspicions.{plain_kept}
+use Rattle.dr_faithful.proofs.Votes.{plain_after}
 use Rattle.dr_faithful.specs.Faithful.{Faithful}
 use Rattle.dr_faithful.specs.Tells.{Views}
 use Rattle.dr_world_laws.proofs.Histories.{added}
@@ -193,6 +194,15 @@ suspect_keeps g w m j c = record {
     same k = plain_kept w.past.own (roster g) (w.members m) _ _ m (w.past.view m) k (w.past.view k) 4
         (omega arith) (omega arith)
 
+accept_keeps : (g : Group) (w : World) (m : ℕ) → Complete g w → Complete g (accepts g w m)
+accept_keeps g w m c = record {
+  durable = λ k l e. c.durable k l (sym (same k) ∙ e);
+  shown = λ k l e. same k ∙ c.shown k l e;
+}
+  where
+    same : (k : ℕ) → own_word (accepts g w m) k 4 ≡ own_word w k 4
+    same k = plain_after g w m k (w.past.view k) 4 (omega arith)
+
 halt_shows : (g : Group) (V : Views) (w : World) (m : ℕ) → Faithful g V w → IsDue w m Done
     → m < roster g → own_word w m 4 ≡ 1
 halt_shows g V w m f due l =
@@ -238,6 +248,8 @@ act_completes g V w m Publish f nothing can c =
 act_completes g V w m Report f nothing can c = report_keeps g V w m f can c
 act_completes g V w m Mark f nothing can c = mark_keeps g w m can c
 act_completes g V w m (Suspect j) f nothing can c = suspect_keeps g w m j c
+act_completes g V w m Propose f nothing can c = accept_keeps g w m c
+act_completes g V w m Accept f nothing can c = accept_keeps g w m c
 act_completes g V w m (Halt end) f nothing can c =
     end_keeps g w m end (λ l e. halt_shows g V w m f (subst (IsDue w m) e can.due) l) c
 act_completes g V w m (Crash end) f nothing can c =
