@@ -11,6 +11,7 @@ use Rattle.dr_program.specs.Form.{IsOf}
 -- what a replica was told as its age opened
 pub record Told : Type 0 where
   pub number : ℕ
+  pub age : ℕ
   pub roster : ℕ
   pub window : ℕ
   pub banks : ℕ
@@ -21,6 +22,7 @@ pub record Told : Type 0 where
 abbrev pub told : Replica → Told
 told r = record {
   number = me r;
+  age = r.age;
   roster = r.roster;
   window = r.window;
   banks = r.banks;
@@ -39,6 +41,7 @@ step_told word r s = refl
 pub of_told : (g : Group) (m : ℕ) (r q : Replica) → told q ≡ told r → IsOf g m r → IsOf g m q
 of_told g m r q same of = record {
   number = ap (λ (t : Told). t.number) same ∙ of.number;
+  age = ap (λ (t : Told). t.age) same ∙ of.age;
   members = ap (λ (t : Told). t.roster) same ∙ of.members;
   window = ap (λ (t : Told). t.window) same ∙ of.window;
   banks = ap (λ (t : Told). t.banks) same ∙ of.banks;

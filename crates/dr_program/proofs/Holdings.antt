@@ -15,7 +15,7 @@ use Rattle.dr_entry.specs.declared.record.Vote.{Vote}
 use Rattle.dr_rows.specs.Words.{own, seen}
 use Rattle.dr_machine.specs.Group.{Group, roster}
 use Rattle.dr_machine.specs.World.{World, opening_world}
-use Rattle.dr_program.specs.Replica.{Replica, me, count, item, promise, tag, value, committed, pending, votes}
+use Rattle.dr_program.specs.Replica.{Replica, me, count, item, promise}
 use Rattle.dr_program.specs.Reading.{world_of, word_of, in_view}
 
 -- all that the world has of one member
@@ -116,16 +116,16 @@ holding_of g r =
       sent = λ v. in_view r v r.sent [];
       history = r.history;
       log = take r.logged r.history;
-      votes = votes r;
+      votes = r.votes;
       durable = r.durable;
       acts = r.acts;
       members = r.members;
       suspects = r.suspects;
       promise = promise r;
-      tag = tag r;
-      value = value r;
-      committed = committed r;
-      pending = pending r;
+      tag = r.tag;
+      value = r.value;
+      committed = r.committed;
+      pending = r.pending;
       next = r.next;
       base = r.base;
       seen = λ i c. if i == me r then 0 else seen r.rows i c;

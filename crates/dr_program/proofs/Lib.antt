@@ -5,3 +5,4 @@ pub mod OwnWords
 pub mod Opening
 pub mod OpeningForm
 pub mod Least
+pub mod Voting

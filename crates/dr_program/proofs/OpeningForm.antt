@@ -1,9 +1,9 @@
 -- The members of a program as its age opens have their form.
-use Rattle.std.proofs.Common.{◌≡◌, ◌≢◌, refl, sym, ap, ◌∙◌, subst, ℕ, zero, suc, ◌+◌, ◌*◌, ◌<◌, ◌≤◌, ◌⊎◌, inl, inr, false, max, List, [], ◌∷◌, ◌++◌, length, replicate, map, fold, take, if◌then◌else◌, arith, length-append, add-one}
+use Rattle.std.proofs.Common.{◌≡◌, ◌≢◌, refl, sym, ap, ◌∙◌, subst, ℕ, zero, suc, ◌+◌, ◌-◌, ◌*◌, ◌<◌, ◌≤◌, ◌⊎◌, inl, inr, false, max, List, [], ◌∷◌, ◌++◌, length, replicate, map, fold, take, if◌then◌else◌, arith, length-append, add-one}
 use Rattle.std.specs.Prelude.{Option, Some, None, nat_lt, slice_get, slice_index}
 use Rattle.std.specs.List.{range_with_len}
 use Rattle.std.proofs.lemmas.Bool.{cases_lt, cases_eq}
-use Rattle.std.proofs.lemmas.List.{length-replicate, get_or_past, take_more}
+use Rattle.std.proofs.lemmas.List.{length-replicate, get_or-replicate, get_or_past, take_more}
 use Rattle.std.proofs.lemmas.List.FromFn.{get_or-map-range_with_len, length-map-range_with_len}
 use Rattle.std.proofs.Math.Nat.{mul-le-mul}
 use Rattle.std.proofs.lemmas.Option.{get_or_from_slice_get, slice_get_within, slice_get_cases}
@@ -23,14 +23,16 @@ use Rattle.dr_rows.proofs.Grids.{with_word-column}
 use Rattle.dr_rows.proofs.WordsLemmas.{IsWords-begun, IsWords-looked, IsFresh-begun}
 use Rattle.dr_words.specs.declared.column.TheConstants.{LOGGED_COLUMN, RECEIVED_COLUMN, SUSPECTED_COLUMN}
 use Rattle.dr_words.specs.declared.shape.Shape.{Shape}
-use Rattle.dr_words.specs.Columns.{columns_of, recv_column}
+use Rattle.dr_words.specs.Accepts.{part_of}
+use Rattle.dr_words.specs.Columns.{columns_of, leavers_column, recv_column, trim_column}
 use Rattle.dr_words.specs.Form.{IsInForm, AllInForm}
-use Rattle.dr_words.specs.Packing.{accept_promise, recv_word}
+use Rattle.dr_words.specs.Packing.{accept_promise, accept_tag, accept_value, recv_word}
 use Rattle.dr_words.proofs.Bits.{has_ones, has_zero}
 use Rattle.dr_ring.specs.Slots.{slot_column}
 use Rattle.dr_program.specs.declared.setup.Setup.{Setup}
 use Rattle.dr_history_laws.proofs.Lengths.{start-short}
 use Rattle.dr_machine.specs.Group.{Group, IsGroup, roster}
+use Rattle.dr_machine.specs.World.{no_value}
 use Rattle.dr_program.specs.Replica.{Replica, begun_replica, first_entries_of, count, greatest, view_of}
 use Rattle.dr_program.specs.Running.{begun_running}
 use Rattle.dr_program.specs.Program.{IsSetup}
@@ -162,6 +164,19 @@ members_of_roster g i is = ap (λ x. has x i) is.sound.whole ∙ has_ones (roste
 pub product_within : (a n : ℕ) → a ≤ 4096 → n ≤ 16 → a * n ≤ 65536
 product_within a n l h = mul-le-mul l h
 
+-- no value has parts other than 0
+no_trim : (k s : ℕ) → slice_index (replicate k 0) s ≡ 0
+no_trim k s = elim (cases_lt s k) [
+  | inl l ↦ get_or-replicate k s 0 0 l
+  | inr h ↦ get_or_past (replicate k 0) s 0 (omega (arith, h, length-replicate {A = ℕ} k 0))
+]
+
+no_part : (n c : ℕ) → part_of n no_value c ≡ 0
+no_part n c = elim (cases_eq c (leavers_column n)) [
+  | inl e ↦ grind arith
+  | inr d ↦ grind (arith, no_trim 16 (c - trim_column n 0))
+]
+
 -- a replica that can begin begins in its form
 pub begun_in_form : (s : Setup) → CanBegin s → HasForm (begun_replica s)
 begun_in_form s can =
@@ -204,6 +219,11 @@ begun_in_form s can =
       items = length-replicate (greatest r.totals * n) _;
       recv = λ i l. word (recv_column i) (omega arith) ∙ sym (ap (λ x. recv_word x false) (none i));
       accept = λ c is. ap accept_promise (word c (λ e. absurd (grind (arith, is, e))));
+      tagged = λ c is. ap accept_tag (word c (λ e. absurd (grind (arith, is, e))));
+      valued = λ c is. ap accept_value (word c (λ e. absurd (grind (arith, is, e)))) ∙ sym (no_part n c);
+      low = omega arith;
+      waits = λ x e. absurd (cc e);
+      votes = omega arith;
       received = word RECEIVED_COLUMN (omega arith) ∙ sym (front_of_none n (view_of r));
       beat = omega (arith, word 0 (omega arith));
       acts = omega arith;
@@ -256,6 +276,7 @@ begun_is_of : (g : Group) (limit m : ℕ) (shape : Shape) (told : Setup) → IsG
     → IsOf g m (begun_replica (setup_of g limit m shape told))
 begun_is_of g limit m shape told is of = record {
   number = refl;
+  age = refl;
   members = of.members;
   window = of.window;
   banks = of.banks;
@@ -269,6 +290,7 @@ begun_runs g limit m shape told is of within some = record {
   replica = begun_form g limit m shape told is of within;
   place = record { part = omega arith; row = omega arith; column = omega arith };
   due = λ e. refl;
+  free = inl refl;
   turns = omega arith;
   waits = record { counts = length-replicate {A = ℕ} 16 0; beats = length-replicate {A = ℕ} 16 0 };
   left = λ e b. some;

@@ -2,7 +2,7 @@
 use Rattle.std.specs.Prelude.{◌&&◌, nat_lt, Bool, true}
 use Rattle.dr_machine.specs.declared.event.Act.{Act}
 use Rattle.dr_machine.specs.declared.event.Act.TheVariants as acts
-use Rattle.dr_program.specs.Replica.{Replica, is_due, is_fault, may_receive, may_send, may_null, may_deliver, may_publish, may_report, may_mark, may_suspect, acted, beaten, received, sent, nulled, delivered, published, reported, marked, suspected, ended}
+use Rattle.dr_program.specs.Replica.{Replica, me, is_due, is_fault, is_own, is_others, may_commit, may_receive, may_send, may_null, may_deliver, may_publish, may_report, may_mark, may_suspect, acted, beaten, received, sent, nulled, delivered, published, reported, marked, suspected, accepted, decided, ended}
 
 -- whether it may do the act, where it has no end
 abbrev pub may : Replica → Act → Bool
@@ -15,6 +15,9 @@ may r acts.Publish = may_publish r
 may r acts.Report = may_report r
 may r acts.Mark = may_mark r
 may r (acts.Suspect j) = may_suspect r j
+may r acts.Propose = is_own (me r) r.pending
+may r acts.Accept = is_others (me r) r.pending
+may r acts.Commit = may_commit r
 may r (acts.Halt end) = is_due r end
 may r (acts.Crash end) = is_fault end
 
@@ -29,6 +32,9 @@ done r acts.Publish = published r
 done r acts.Report = reported r
 done r acts.Mark = marked r
 done r (acts.Suspect j) = suspected r j
+done r acts.Propose = accepted r
+done r acts.Accept = accepted r
+done r acts.Commit = decided r
 done r (acts.Halt end) = ended r end
 done r (acts.Crash end) = ended r end
 

@@ -1,5 +1,5 @@
 -- The form that replicas and running members always have, and what ties them to a group.
-use Rattle.std.specs.Prelude.{◌≡◌, ℕ, ◌+◌, ◌*◌, ◌^◌, ◌<◌, ◌≤◌, ◌&&◌, true, List, length, map, slice_index, slice_get, None, Some}
+use Rattle.std.specs.Prelude.{◌≡◌, ℕ, ◌+◌, ◌*◌, ◌^◌, ◌<◌, ◌≤◌, ◌&&◌, true, List, length, map, slice_index, slice_get, Option, None, Some}
 use Rattle.dr_entry.specs.declared.limits.TheConstants.{MAX_MESSAGES, MAX_MESSAGE_LENGTH}
 use Rattle.dr_history.specs.Members.{has}
 use Rattle.dr_history.specs.Places.{front_of}
@@ -7,11 +7,13 @@ use Rattle.dr_history.specs.History.{messages_of}
 use Rattle.dr_history.specs.Order.{messages_from}
 use Rattle.dr_ring.specs.Slots.{slot_column}
 use Rattle.dr_rows.specs.Words.{IsWords, own, is_frozen}
+use Rattle.dr_entry.specs.declared.record.Vote.{Vote}
+use Rattle.dr_words.specs.Accepts.{part_of as value_part}
 use Rattle.dr_words.specs.declared.column.TheConstants.{BEAT_COLUMN, SUSPECTED_COLUMN, RECEIVED_COLUMN, LOGGED_COLUMN, PIECES}
 use Rattle.dr_words.specs.Columns.{columns_of, recv_column}
 use Rattle.dr_words.specs.Form.{AllInForm}
 use Rattle.dr_words.specs.Masks.{IsInRoster}
-use Rattle.dr_words.specs.Packing.{accept_promise, recv_word, ring_tag}
+use Rattle.dr_words.specs.Packing.{accept_promise, accept_tag, accept_value, recv_word, ring_tag}
 use Rattle.dr_suspect.specs.Suspicion.{IsSuspicion}
 use Rattle.dr_suspect.specs.Waits.{IsWaits}
 use Rattle.dr_machine.specs.Effects.{is_accept_of}
@@ -20,7 +22,7 @@ use Rattle.dr_program.specs.Turn.{IsIn, part_of, turn_begins}
 use Rattle.dr_machine.specs.Group.{Group, banks, roster}
 use Rattle.dr_machine.specs.Sending.{IsPut}
 use Rattle.dr_program.specs.Replica.{Replica, me, count, greatest, is_wedged, promise, suspicion_of, view_of}
-use Rattle.dr_program.specs.Running.{Running, members, columns, applies}
+use Rattle.dr_program.specs.Running.{Running, WaitsAt, members, columns, applies}
 
 -- what a replica begins with has its ranges
 pub record CanBegin (s : Setup) : Type 0 where
@@ -39,6 +41,18 @@ pub record CanBegin (s : Setup) : Type 0 where
   -- the start has no more messages of the member than the script, and isn't too long
   pub base : length (messages_from s.me s.start) ≤ length s.messages
   pub start : length s.start < 2 ^ 31
+
+-- how many votes wait
+abbrev pub waiting : Option Vote → ℕ
+waiting None = 0
+waiting (Some x) = 1
+
+-- a vote that a replica has logged and not yet acted on, by its numbers of members, its tag and its promise
+pub record IsVoteDue (n tag promise : ℕ) (x : Vote) : Type 0 where
+  pub ballot : x.ballot ≤ promise
+  pub above : tag ≤ x.ballot
+  pub leavers : x.value.leavers < 2 ^ n
+  pub trims : (s : ℕ) → slice_index x.value.trim s < 2 ^ 32
 
 -- the form that a replica always has
 pub record HasForm (r : Replica) : Type 0 where
@@ -66,6 +80,14 @@ pub record HasForm (r : Replica) : Type 0 where
   pub recv : (s : ℕ) → s < r.roster
       → own r.rows (recv_column s) ≡ recv_word (count r s) (is_wedged r && has r.members s)
   pub accept : (c : ℕ) → is_accept_of r.roster r.members c ≡ true → accept_promise (own r.rows c) ≡ promise r
+  pub tagged : (c : ℕ) → is_accept_of r.roster r.members c ≡ true → accept_tag (own r.rows c) ≡ r.tag
+  pub valued : (c : ℕ) → is_accept_of r.roster r.members c ≡ true
+      → accept_value (own r.rows c) ≡ value_part r.roster r.value c
+  pub low : r.tag ≤ promise r + 1
+  -- a vote that waits is by a ballot up to its promise, above its tag, and of a value that accept words hold
+  pub waits : (x : Vote) → r.pending ≡ Some x → IsVoteDue r.roster r.tag (promise r) x
+  -- it has voted once by each ballot below its tag at most, and by that of the vote that waits
+  pub votes : length r.votes ≤ r.tag + waiting r.pending
   pub received : own r.rows RECEIVED_COLUMN ≡ front_of (map (slice_index r.counts) (view_of r))
   pub beat : own r.rows BEAT_COLUMN ≤ r.acts
   pub acts : r.acts < 2 ^ 64
@@ -90,6 +112,7 @@ pub record HasForm (r : Replica) : Type 0 where
 -- the replica is that of member m of the group
 pub record IsOf (g : Group) (m : ℕ) (r : Replica) : Type 0 where
   pub number : me r ≡ m
+  pub age : r.age ≡ g.opening.age
   pub members : r.roster ≡ roster g
   pub window : r.window ≡ g.window
   pub banks : r.banks ≡ banks g
@@ -102,6 +125,8 @@ pub record IsRunningMember (r : Running) : Type 0 where
   -- it stands at a place of its turn at which there is something to do, unless it has ended
   pub place : IsIn (members r) (columns r) r.place
   pub due : r.replica.end ≡ None → applies r r.place ≡ true
+  -- a vote waits only where it is acted on
+  pub free : WaitsAt r (part_of r.place)
   -- its turns don't exceed the limit, and before a turn one more is left
   pub turns : r.replica.turns ≤ r.limit
   -- it keeps a count and a beat for each member of the greatest group

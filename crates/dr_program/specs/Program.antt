@@ -13,7 +13,7 @@ use Rattle.dr_program.specs.declared.outcome.Outcome.{Outcome}
 use Rattle.dr_program.specs.declared.outcome.Outcome.TheVariants as outcomes
 use Rattle.dr_program.specs.declared.setup.Setup.{Setup}
 use Rattle.dr_machine.specs.declared.step.Step.{Step}
-use Rattle.dr_machine.specs.declared.step.Step.TheVariants.{Append}
+use Rattle.dr_machine.specs.declared.step.Step.TheVariants.{Append, LogVote}
 use Rattle.dr_machine.specs.Group.{Group, banks, roster}
 use Rattle.dr_program.specs.Replica.{Replica}
 use Rattle.dr_program.specs.Running.{Running, begun_running, next_step, after_step, broken_off}
@@ -54,6 +54,7 @@ appended_as (outcomes.Failed why) r = broken_off why r
 -- a member after the step that is due, with the word that it sees: after an append by its outcome
 abbrev pub after_deed : ℕ → Outcome → Running → Step → Running
 after_deed word outcome r Append = appended_as outcome r
+after_deed word outcome r (LogVote v) = appended_as outcome r
 after_deed word outcome r s = after_step word r
 
 -- the program after its member r, with this end, has made this move

@@ -11,7 +11,7 @@ use Rattle.dr_machine.specs.Group.{Group, banks, roster, columns}
 use Rattle.dr_machine.specs.World.{World, opening_world}
 use Rattle.dr_program.specs.declared.outcome.Outcome.{Outcome}
 use Rattle.dr_program.specs.declared.outcome.Outcome.TheVariants as outcomes
-use Rattle.dr_program.specs.Replica.{Replica, me, count, item, promise, tag, value, committed, pending, votes}
+use Rattle.dr_program.specs.Replica.{Replica, me, count, item, promise}
 use Rattle.dr_program.specs.Running.{Running, next_step}
 use Rattle.dr_program.specs.Program.{Program}
 
@@ -40,17 +40,17 @@ world_of g rs table =
         sent = of_member rs (λ r v. in_view r v r.sent []) o.past.sent;
         history = of_member rs (λ r. r.history) o.past.history;
         log = of_member rs (λ r. take r.logged r.history) o.past.log;
-        votes = of_member rs votes o.past.votes;
+        votes = of_member rs (λ r. r.votes) o.past.votes;
         durable = of_member rs (λ r. r.durable) o.past.durable;
         acts = of_member rs (λ r. r.acts) o.past.acts;
       };
       members = of_member rs (λ r. r.members) o.members;
       suspects = of_member rs (λ r. r.suspects) o.suspects;
       promise = of_member rs promise o.promise;
-      tag = of_member rs tag o.tag;
-      value = of_member rs value o.value;
-      committed = of_member rs committed o.committed;
-      pending = of_member rs pending o.pending;
+      tag = of_member rs (λ r. r.tag) o.tag;
+      value = of_member rs (λ r. r.value) o.value;
+      committed = of_member rs (λ r. r.committed) o.committed;
+      pending = of_member rs (λ r. r.pending) o.pending;
       item = of_member rs (λ r s k. if nat_lt s (roster g) then item r s k else Null) o.item;
       next = of_member rs (λ r. r.next) o.next;
       base = of_member rs (λ r. r.base) o.base;
@@ -73,14 +73,15 @@ abbrev pub step_of_member : Running → Option Step
 step_of_member r = step_due r r.replica.end
 
 -- the step of the machine that an append comes to, by its outcome: none where it failed
-abbrev pub append_by : Outcome → Option Step
-append_by outcomes.Ok = Some steps.Append
-append_by (outcomes.Failed why) = None
+abbrev pub append_by : Step → Outcome → Option Step
+append_by s outcomes.Ok = Some s
+append_by s (outcomes.Failed why) = None
 
 -- the step of the machine that a due step comes to: an append by its outcome, any other as it is
 abbrev pub comes_to : Option Step → Outcome → Option Step
 comes_to None outcome = None
-comes_to (Some steps.Append) outcome = append_by outcome
+comes_to (Some steps.Append) outcome = append_by steps.Append outcome
+comes_to (Some (steps.LogVote v)) outcome = append_by (steps.LogVote v) outcome
 comes_to (Some s) outcome = Some s
 
 -- the step of the machine that the next deed of a running member comes to, where an append has this outcome

@@ -1,13 +1,13 @@
 -- A replica: what one member has and has seen, and what each of its acts makes of it. Lists go by the
 -- members' numbers.
-use Rattle.std.specs.Prelude.{ℕ, ◌+◌, ◌*◌, ◌-◌, ◌^◌, ◌/◌, ◌%◌, ◌==◌, ◌&&◌, Bool, if◌then◌else◌, not, nat_lt, min, max, List, [], ◌∷◌, ◌++◌, length, map, fold, replicate, slice_index, slice_index_or, slice_set, unwrap_or, is_some, Option, None, Some, true, false}
+use Rattle.std.specs.Prelude.{ℕ, ◌+◌, ◌*◌, ◌-◌, ◌^◌, ◌/◌, ◌%◌, ◌==◌, ◌&&◌, ◌||◌, Bool, if◌then◌else◌, not, nat_lt, min, max, List, [], ◌∷◌, ◌++◌, length, map, fold, replicate, slice_index, slice_index_or, slice_set, unwrap_or, is_some, Option, None, Some, true, false}
 use Rattle.std.specs.List.{list_all, list_any, range_with_len}
 use Rattle.dr_entry.specs.declared.entry.Entry.{Entry}
 use Rattle.dr_entry.specs.declared.entry.Entry.TheVariants.{View}
 use Rattle.dr_entry.specs.declared.entry.Item.{Item}
 use Rattle.dr_entry.specs.declared.entry.Item.TheVariants.{Null, Text}
 use Rattle.dr_entry.specs.declared.end.End.{End}
-use Rattle.dr_entry.specs.declared.end.End.TheVariants.{Done, Crashed, Suspected, NoMajority, DiskFault, LogFull, Spent}
+use Rattle.dr_entry.specs.declared.end.End.TheVariants.{Done, Crashed, Suspected, Excluded, NoMajority, DiskFault, LogFull, Spent}
 use Rattle.dr_entry.specs.declared.end.SentItem.{SentItem}
 use Rattle.dr_entry.specs.declared.end.SentItem.TheVariants as sent_items
 use Rattle.dr_entry.specs.declared.end.SentItem.TheVariants.{Index}
@@ -19,6 +19,9 @@ use Rattle.dr_ring.specs.Slots.{is_free, item_in, slot_of, with_item}
 use Rattle.dr_rows.specs.Words as rows
 use Rattle.dr_rows.specs.Words.{Words, begun, seen, own, with_frozen}
 use Rattle.dr_suspect.specs.Suspicion.{Suspicion, names_me}
+use Rattle.dr_words.specs.Accepts.{promise_of}
+use Rattle.dr_words.specs.Choices as choices
+use Rattle.dr_words.specs.Choices.{proposal, shown_value}
 use Rattle.dr_words.specs.declared.column.TheConstants.{BEAT_COLUMN, RECEIVED_COLUMN, LOGGED_COLUMN, DONE_COLUMN}
 use Rattle.dr_words.specs.Columns.{columns_of, recv_column}
 use Rattle.dr_words.specs.Masks.{least_of, with_member, without}
@@ -26,12 +29,14 @@ use Rattle.dr_words.specs.Packing.{recv_word}
 use Rattle.dr_program.specs.declared.setup.Setup.{Setup}
 use Rattle.dr_entry.specs.declared.record.Value.{Value}
 use Rattle.dr_entry.specs.declared.record.Vote.{Vote}
-use Rattle.dr_machine.specs.World.{no_value}
-use Rattle.dr_machine.specs.Effects.{entries_of, one_more, wedged_word}
+use Rattle.dr_entry.specs.declared.limits.TheConstants.{MAX_MEMBERS}
+use Rattle.dr_machine.specs.World.{no_value, no_vote}
+use Rattle.dr_machine.specs.Effects.{accepted_word, entries_of, one_more, wedged_word}
 
 pub record Replica : Type 0 where
-  -- the numbers of members, of slots and of banks, the script's messages of this member, and the numbers of
-  -- those of all
+  -- the age, the numbers of members, of slots and of banks, the script's messages of this member, and the
+  -- numbers of those of all
+  pub age : ℕ
   pub roster : ℕ
   pub window : ℕ
   pub banks : ℕ
@@ -44,6 +49,13 @@ pub record Replica : Type 0 where
   pub view : ℕ
   pub members : ℕ
   pub suspects : ℕ
+  -- the tag and the value that it has accepted, the value that it has committed, the vote that it has logged
+  -- and not yet acted on, and the votes on its log
+  pub tag : ℕ
+  pub value : Value
+  pub committed : Option Value
+  pub pending : Option Vote
+  pub votes : List Vote
   -- how many items of each member it has in this view; item k of member s stands at k times the roster plus
   -- s, a null where it has none
   pub counts : List ℕ
@@ -76,6 +88,7 @@ abbrev pub begun_replica : Setup → Replica
 begun_replica s =
     let n = s.shape.members in
     let first = first_entries_of s in record {
+      age = s.age;
       roster = n;
       window = s.shape.window;
       banks = s.shape.banks;
@@ -85,6 +98,11 @@ begun_replica s =
       view = 0;
       members = s.members;
       suspects = 0;
+      tag = 0;
+      value = no_value;
+      committed = None;
+      pending = None;
+      votes = [];
       counts = replicate n 0;
       items = replicate (greatest s.totals * n) Null;
       base = length (messages_from s.me s.start);
@@ -138,22 +156,34 @@ has_majority r = nat_lt (length (view_of r)) (2 * length (members_of (unsuspecte
 abbrev pub promise : Replica → ℕ
 promise r = if is_wedged r then least_of (unsuspected r) else 0
 
--- the tag and the value that it has accepted, the value that it has committed, the vote that it has logged
--- and not yet acted on, and the votes on its log: so far nobody votes
-abbrev pub tag : Replica → ℕ
-tag r = 0
+-- whether its rows allow it to propose, and to accept
+abbrev pub may_propose : Replica → Bool
+may_propose r = choices.may_propose r.roster (seen r.rows) r.members r.suspects (me r)
 
-abbrev pub value : Replica → Value
-value r = no_value
+abbrev pub may_accept : Replica → Bool
+may_accept r = choices.may_accept r.roster (seen r.rows) r.members r.suspects (me r)
 
-abbrev pub committed : Replica → Option Value
-committed r = None
+-- the value that it votes for where it may: the one that it proposes, or the one that the member that it has
+-- promised shows
+abbrev pub value_due : Replica → Value
+value_due r =
+    if may_propose r then proposal r.roster (seen r.rows) r.members r.suspects
+    else shown_value r.roster (seen r.rows) r.members (promise_of r.roster (seen r.rows) (me r))
 
-abbrev pub pending : Replica → Option Vote
-pending r = None
+-- its vote for a value
+abbrev pub vote_of : Replica → Value → Vote
+vote_of r v = record {
+  age = r.age;
+  view = r.view;
+  ballot = promise r;
+  members = r.roster;
+  value = v;
+}
 
-abbrev pub votes : Replica → List Vote
-votes r = []
+-- the two values are one, the second of which has a trim for each member that a roster can have
+abbrev pub is_value : Value → Value → Bool
+is_value u v = (u.leavers == v.leavers) && ((length u.trim == MAX_MEMBERS)
+    && list_all (λ s. slice_index u.trim s == slice_index v.trim s) (range_with_len 0 MAX_MEMBERS))
 
 -- the least word of a column over the rows of its view
 abbrev pub least_seen : Replica → ℕ → ℕ
@@ -218,6 +248,31 @@ may_publish r = nat_lt (own r.rows LOGGED_COLUMN) r.logged
 abbrev pub may_report : Replica → Bool
 may_report r = nat_lt r.durable (least_seen r LOGGED_COLUMN)
 
+-- it is wedged and has committed nothing, its history is logged, its rows allow it to propose or to accept,
+-- and this is the value
+abbrev pub may_vote : Replica → Value → Bool
+may_vote r v = is_wedged r && (not (is_some r.committed) && (not (may_append r)
+    && ((may_propose r || may_accept r) && is_value v (value_due r))))
+
+-- the vote that waits is by its own ballot, or by another member's
+abbrev pub is_own : ℕ → Option Vote → Bool
+is_own me None = false
+is_own me (Some x) = x.ballot == me
+
+abbrev pub is_others : ℕ → Option Vote → Bool
+is_others me None = false
+is_others me (Some x) = not (x.ballot == me)
+
+-- it is wedged and has committed nothing, and its rows allow it to commit
+abbrev pub may_commit : Replica → Bool
+may_commit r = is_wedged r && (not (is_some r.committed)
+    && choices.may_commit r.roster (seen r.rows) r.members (me r))
+
+-- the value that it has committed names it as one that leaves
+abbrev pub is_named : ℕ → Option Value → Bool
+is_named me None = false
+is_named me (Some v) = has v.leavers me
+
 -- another member of its view, not yet suspected
 abbrev pub may_suspect : Replica → ℕ → Bool
 may_suspect r j = nat_lt j r.roster && (is_other r j && not (has r.suspects j))
@@ -228,6 +283,7 @@ abbrev pub is_due : Replica → End → Bool
 is_due r Done = not (is_wedged r) && all_done r
 is_due r (Suspected by) = nat_lt by r.roster && (not (by == me r) && names_me (suspicion_of r) r.rows by)
 is_due r (NoMajority mask) = is_wedged r && ((mask == unsuspected r) && not (has_majority r))
+is_due r (Excluded view) = is_named (me r) r.committed && (view == r.view + 1)
 is_due r end = false
 
 -- the ends that come over a member at any time
@@ -318,6 +374,25 @@ suspected r j =
       suspects = mask;
       rows = with_frozen (rewritten r.rows (wedged_word r.roster r.members mask promise)) j;
     }
+
+-- its vote goes on its log, and waits to be acted on
+abbrev pub voted : Replica → Value → Replica
+voted r v = record r { votes = r.votes ++ vote_of r v ∷ []; pending = Some (vote_of r v) }
+
+-- it accepts the value of the vote that waits, by the tag of its ballot
+abbrev pub accepted : Replica → Replica
+accepted r =
+    let vote = unwrap_or r.pending no_vote in
+    let tag = vote.ballot + 1 in record r {
+      rows = rewritten r.rows (accepted_word r.roster r.members tag vote.value);
+      tag = tag;
+      value = vote.value;
+      pending = None;
+    }
+
+-- it commits what it has accepted
+abbrev pub decided : Replica → Replica
+decided r = record r { committed = Some r.value }
 
 abbrev pub ended : Replica → End → Replica
 ended r end = record r { end = Some end }

@@ -1,10 +1,11 @@
 -- A running member: a replica that goes through its turn, place by place, and does at each what there is to
 -- do.
-use Rattle.std.specs.Prelude.{ℕ, zero, suc, ◌+◌, ◌-◌, ◌==◌, ◌&&◌, ◌||◌, Bool, not, true, if◌then◌else◌, List, length, slice_index_or, Option, None, Some, is_some, unwrap_or}
+use Rattle.std.specs.Prelude.{◌≡◌, ◌⊎◌, ℕ, zero, suc, ◌+◌, ◌-◌, ◌==◌, ◌&&◌, ◌||◌, Bool, not, true, if◌then◌else◌, List, length, slice_index_or, Option, None, Some, is_some, unwrap_or}
 use Rattle.std.specs.List.{find, list_any}
 use Rattle.std.specs.Option.{option_map, option_or}
 use Rattle.dr_entry.specs.declared.entry.Entry.TheVariants.{View}
 use Rattle.dr_entry.specs.declared.record.Record.TheVariants as records
+use Rattle.dr_entry.specs.declared.record.Value.{Value}
 use Rattle.dr_entry.specs.declared.end.End.{End}
 use Rattle.dr_entry.specs.declared.end.End.TheVariants as ends
 use Rattle.dr_rows.specs.Words.{own, changed, looked}
@@ -30,7 +31,7 @@ use Rattle.dr_program.specs.Steps.{allows, stepped, index_in}
 use Rattle.dr_program.specs.declared.deed.Deed.{Deed}
 use Rattle.dr_program.specs.declared.deed.Deed.TheVariants as deeds
 use Rattle.dr_machine.specs.Effects.{one_more}
-use Rattle.dr_program.specs.Replica.{Replica, begun_replica, me, is_other, has_majority, is_wedged, may_suspect, suspicion_of, unsuspected}
+use Rattle.dr_program.specs.Replica.{Replica, begun_replica, me, is_other, is_others, has_majority, is_wedged, may_suspect, suspicion_of, unsuspected, value_due, vote_of}
 
 pub record Running : Type 0 where
   -- the replica
@@ -90,6 +91,11 @@ abbrev pub append_or_end : Option LogWhy → Step
 append_or_end None = steps.Append
 append_or_end (Some why) = steps.Do (acts.Crash (end_by why))
 
+-- a vote, or that end
+abbrev pub vote_or_end : Option LogWhy → Value → Step
+vote_or_end None v = steps.LogVote v
+vote_or_end (Some why) v = steps.Do (acts.Crash (end_by why))
+
 -- the member that the script has it suspect next in this turn, if any: the first in the script's order that
 -- it may suspect
 abbrev pub is_scripted : Replica → Suspicion → Bool
@@ -132,8 +138,10 @@ step_at r parts.Look i c = steps.Look i c
 step_at r parts.Judge i c = steps.Do (judged r)
 step_at r parts.Receive i c = steps.Do (acts.Receive i)
 step_at r parts.Append i c = append_or_end r.failed
+step_at r parts.Vote i c = vote_or_end r.failed (value_due r.replica)
 step_at r parts.Push i c = push_or_crash (crashes_now r) i c
 step_at r parts.Crash i c = steps.Do (acts.Crash ends.Crashed)
+step_at r parts.Excluded i c = steps.Do (acts.Halt (ends.Excluded (r.replica.view + 1)))
 step_at r parts.Done i c = steps.Do (acts.Halt ends.Done)
 step_at r parts.Spent i c = steps.Do (acts.Crash (ends.Spent r.replica.turns))
 step_at r (parts.Do a) i c = steps.Do a
@@ -144,6 +152,11 @@ asks r parts.Push i c = is_other r.replica i && changed r.replica.rows i c
 asks r parts.Crash i c = crashes_in_turn r
 asks r parts.Spent i c = r.replica.turns == r.limit
 asks r part i c = true
+
+-- a vote waits only where the member is to propose it, or to accept it as another's
+abbrev pub WaitsAt : Running → Part → Type 0
+WaitsAt r part = (r.replica.pending ≡ None) ⊎ ((part ≡ parts.Do acts.Propose)
+    ⊎ ((part ≡ parts.Do acts.Accept) × (is_others (me r.replica) r.replica.pending ≡ true)))
 
 -- the step that is due at a place, and whether there is something to do there
 abbrev pub step_of : Running → Place → Step
@@ -178,6 +191,7 @@ settled r = settle (places_in (members r) (columns r) TURN) r
 abbrev pub goes : ℕ → ℕ → Part → Place → Place
 goes n k parts.Look p = after n k p
 goes n k parts.Append p = after n k p
+goes n k parts.Vote p = after n k p
 goes n k (parts.Do acts.Publish) p = record p { part = p.part - 1 }
 goes n k parts.Push p = after n k p
 goes n k (parts.Do acts.Beat) p = after n k p
@@ -224,6 +238,7 @@ deed_of r (steps.Look i c) = deeds.Look (index_in r.replica (me r.replica) i c)
 deed_of r (steps.Push j c) = deeds.Push (index_in r.replica j (me r.replica) c) (own r.replica.rows c)
 deed_of r steps.Append = deeds.Append
     (records.Entry (slice_index_or r.replica.history r.replica.logged (View 0 0 0)))
+deed_of r (steps.LogVote v) = deeds.Append (records.Vote (vote_of r.replica v))
 
 -- the next deed of the member
 abbrev pub deed : Running → Option End → Deed

@@ -1,30 +1,45 @@
 -- What a step makes of a replica and of the table, and when it may.
-use Rattle.std.specs.Prelude.{ℕ, ◌&&◌, not, nat_lt, Bool, is_some, List, slice_index, slice_set}
+use Rattle.std.specs.Prelude.{⊤, ℕ, ◌&&◌, not, nat_lt, Bool, true, is_some, List, slice_index, slice_set}
 use Rattle.dr_history.specs.Members.{has}
 use Rattle.dr_rows.specs.Words.{own}
 use Rattle.dr_words.specs.declared.column.TheConstants.{BEAT_COLUMN}
 use Rattle.dr_words.specs.Columns.{columns_of}
 use Rattle.dr_words.specs.Grown.{Grown}
 use Rattle.dr_words.specs.Layout.{word_index_of}
+use Rattle.dr_machine.specs.declared.event.Act.TheVariants as acts
 use Rattle.dr_machine.specs.declared.step.Step.{Step}
-use Rattle.dr_machine.specs.declared.step.Step.TheVariants.{Do, Look, Push, Append}
+use Rattle.dr_machine.specs.declared.step.Step.TheVariants.{Do, Look, Push, Append, LogVote}
 use Rattle.dr_program.specs.Acts.{may, taken}
 use Rattle.dr_machine.specs.Effects.{one_more}
-use Rattle.dr_program.specs.Replica.{Replica, me, is_other, may_append, looked, pushed, appended}
+use Rattle.dr_program.specs.Replica.{Replica, me, is_other, may_append, may_vote, looked, pushed, appended, voted}
 
 -- another member of the view has a word of this column
 abbrev pub has_cell : Replica → ℕ → ℕ → Bool
 has_cell r i c = nat_lt i r.roster && (is_other r i && nat_lt c (columns_of r.roster r.window))
 
--- the test of a step at a replica without an end, and at any
+-- a member whose vote waits acts on it, or crashes, and does nothing else
+abbrev pub is_free : Replica → Step → Bool
+is_free r (Do acts.Propose) = true
+is_free r (Do acts.Accept) = true
+is_free r (Do (acts.Crash end)) = true
+is_free r s = not (is_some r.pending)
+
+-- the test of a step at a replica without an end, of which no vote waits, and at any
 abbrev pub allows : Replica → Step → Bool
 allows r (Do a) = may r a
 allows r (Look i c) = not (has r.suspects i) && has_cell r i c
 allows r (Push j c) = has_cell r j c
 allows r Append = may_append r
+allows r (LogVote v) = may_vote r v
 
 abbrev pub may_take : Replica → Step → Bool
-may_take r s = not (is_some r.end) && allows r s
+may_take r s = not (is_some r.end) && (is_free r s && allows r s)
+
+-- the step is an append to the log, of an entry or of a vote
+abbrev pub IsAppend : Step → Type 0
+IsAppend Append = ⊤
+IsAppend (LogVote v) = ⊤
+IsAppend s = ⊥
 
 -- the index of a word of the table, in the copy of a member
 abbrev pub index_in : Replica → ℕ → ℕ → ℕ → ℕ
@@ -40,6 +55,7 @@ sight table r (Do a) = 0
 sight table r (Look i c) = found table r i c
 sight table r (Push j c) = 0
 sight table r Append = 0
+sight table r (LogVote v) = 0
 
 -- the replica after the step, with the word that it saw
 abbrev pub stepped : ℕ → Replica → Step → Replica
@@ -47,6 +63,7 @@ stepped word r (Do a) = taken r a
 stepped word r (Look i c) = looked r i c word
 stepped word r (Push j c) = pushed r j c
 stepped word r Append = appended r
+stepped word r (LogVote v) = voted r v
 
 -- the replica after the step over this table
 abbrev pub stepped_over : List ℕ → Replica → Step → Replica
@@ -62,3 +79,4 @@ stored table r (Do a) = slice_set table (index_in r (me r) (me r) BEAT_COLUMN) (
 stored table r (Look i c) = table
 stored table r (Push j c) = slice_set table (index_in r j (me r) c) (own r.rows c)
 stored table r Append = table
+stored table r (LogVote v) = table

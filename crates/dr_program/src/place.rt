@@ -13,6 +13,10 @@ pub enum Part {
     Do(Act),
     /// The next entry goes on the log.
     Append,
+    /// A vote goes on the log.
+    Vote,
+    /// The end of a member that the next view goes on without.
+    Excluded,
     /// The pushes of the own words to the other members.
     Push,
     /// The end of a member that was to crash in this turn, behind its last push.
@@ -24,7 +28,7 @@ pub enum Part {
 }
 
 /// The number of parts of a turn.
-pub const PARTS: usize = 15;
+pub const PARTS: usize = 20;
 
 /// The parts of a turn, in their order. With the last one the next turn begins.
 pub static TURN: [Part; PARTS] = [
@@ -38,6 +42,11 @@ pub static TURN: [Part; PARTS] = [
     Part::Do(Act::Publish),
     Part::Do(Act::Report),
     Part::Do(Act::Mark),
+    Part::Vote,
+    Part::Do(Act::Propose),
+    Part::Do(Act::Accept),
+    Part::Do(Act::Commit),
+    Part::Excluded,
     Part::Push,
     Part::Crash,
     Part::Done,
