@@ -1,12 +1,13 @@
 -- The next deed of a running member is a step of the machine.
-use Rattle.std.proofs.Common.{◌≡◌, refl, sym, ap, ◌∙◌, subst, ℕ, zero, suc, ◌||◌, Bool, true, false, inl, if◌then◌else◌, List, [], ◌∷◌, ◌++◌, map}
+use Rattle.std.proofs.Common.{◌≡◌, refl, sym, ap, ◌∙◌, subst, ℕ, zero, suc, ◌||◌, not, Bool, true, false, inl, inr, if◌then◌else◌, List, [], ◌∷◌, ◌++◌, map}
 use Rattle.std.specs.Prelude.{Option, Some, None, is_some, slice_get, slice_index_or, slice_set, option_map}
 use Rattle.std.proofs.lemmas.List.{set-get_or}
 use Rattle.std.proofs.lemmas.Option.{get_or_from_slice_get, slice_get-map, same_Some}
-use Rattle.std.proofs.lemmas.Bool.{and_parts}
+use Rattle.std.proofs.lemmas.Bool.{and_from, and_parts}
 use Rattle.dr_entry.specs.declared.end.End.{End}
+use Rattle.dr_machine.specs.declared.event.Act.TheVariants as acts
 use Rattle.dr_machine.specs.declared.step.Step.{Step}
-use Rattle.dr_machine.specs.declared.step.Step.TheVariants.{Do, Append}
+use Rattle.dr_machine.specs.declared.step.Step.TheVariants.{Do, Append, LogVote}
 use Rattle.dr_machine.specs.Events.{event_of}
 use Rattle.dr_machine.specs.Events as events
 use Rattle.dr_machine.specs.Group.{Group, IsGroup}
@@ -16,8 +17,8 @@ use Rattle.dr_machine.specs.Run.{Happens, IsReached}
 use Rattle.dr_program.specs.Replica.{Replica}
 use Rattle.dr_program.specs.declared.outcome.Outcome.{Outcome}
 use Rattle.dr_program.specs.declared.outcome.Outcome.TheVariants as outcomes
-use Rattle.dr_program.specs.Steps.{allows, sight, stored}
-use Rattle.dr_program.specs.Running.{Running, after_step, applies, asks, moved, next_step, settle, settled, took}
+use Rattle.dr_program.specs.Steps.{allows, is_free, sight, stored}
+use Rattle.dr_program.specs.Running.{Running, WaitsAt, step_at, after_step, applies, asks, moved, next_step, settle, settled, took}
 use Rattle.dr_program.specs.Turn.{part_of}
 use Rattle.dr_program.specs.Program.{Program, Move, after_deed, moved_by, next_sight, step_of, went}
 use Rattle.dr_program.specs.Reading.{comes_to, step_by, step_due, world, world_of}
@@ -78,6 +79,19 @@ abbrev pub IsStep : Group → Program → Move → Step → Type 0
 IsStep g p e s = CanTake g (world g p) e.member s
     × (world g (step_of p e) ≡ effect_of g (world g p) e.member s)
 
+-- what is due to a member whose vote waits acts on it
+free_none : (q : Replica) (s : Step) → q.pending ≡ None → is_free q s ≡ true
+free_none q (Do acts.Propose) e = refl
+free_none q (Do acts.Accept) e = refl
+free_none q (Do (acts.Crash end)) e = refl
+free_none q (Do a) e = ap (λ o. not (is_some o)) e
+free_none q s e = ap (λ o. not (is_some o)) e
+
+free_step : (r : Running) → WaitsAt r (part_of r.place) → is_free r.replica (next_step r) ≡ true
+free_step r (inl none) = free_none r.replica (next_step r) none
+free_step r (inr (inl e)) = ap (λ x. is_free r.replica (step_at r x r.place.row r.place.column)) e
+free_step r (inr (inr t)) = ap (λ x. is_free r.replica (step_at r x r.place.row r.place.column)) t.0
+
 -- what a member without an end is due to do, it may do
 pub due_allowed : (r : Running) → applies r r.place ≡ true → allows r.replica (next_step r) ≡ true
 due_allowed r due = (and_parts (asks r (part_of r.place) r.place.row r.place.column)
@@ -100,7 +114,8 @@ pub deed_step : (g : Group) (p : Program) (m : ℕ) (o : Outcome) (r : Running) 
 deed_step g p m o r group is there unended takes =
     let member = program_member g p m r group is there in
     let may = due_allowed r ((is.form m r there).due unended) in (
-      ((step_guard g (replicas p.members) p.table m r.replica (next_step r) member unended).0 may).0,
+      ((step_guard g (replicas p.members) p.table m r.replica (next_step r) member unended).0
+          (and_from _ _ (free_step r (is.form m r there).free) may)).0,
       ap (world g) (step_is p (record { member = m; outcome = o }) r there unended)
           ∙ ap (λ x. world g (record
           { members = slice_set p.members m x; table = stored p.table r.replica (next_step r) })) takes
@@ -114,6 +129,8 @@ came_to : (table : List ℕ) (o : Outcome) (r : Running) (due s : Step) → come
     → (due ≡ s) × (after_deed (sight table r.replica due) o r due ≡ after_step (sight table r.replica due) r)
 came_to table outcomes.Ok r Append s came = (same_Some Append s came, refl)
 came_to table (outcomes.Failed why) r Append s came = absurd (cc)
+came_to table outcomes.Ok r (LogVote v) s came = (same_Some (LogVote v) s came, refl)
+came_to table (outcomes.Failed why) r (LogVote v) s came = absurd (cc)
 came_to table o r (Do a) s came = (same_Some (Do a) s came, refl)
 came_to table o r due s came = (same_Some due s came, refl)
 
@@ -153,6 +170,8 @@ fails_alone : (table : List ℕ) (o : Outcome) (r : Running) (due : Step) → co
     × (stored table r.replica due ≡ table)
 fails_alone table (outcomes.Failed why) r Append none = (refl, refl)
 fails_alone table outcomes.Ok r Append none = absurd (cc)
+fails_alone table (outcomes.Failed why) r (LogVote v) none = (refl, refl)
+fails_alone table outcomes.Ok r (LogVote v) none = absurd (cc)
 fails_alone table o r (Do a) none = absurd (cc)
 fails_alone table o r due none = absurd (cc)
 

@@ -9,7 +9,8 @@ use Rattle.std.proofs.lemmas.Bool.Decides.{nat_tests}
 use Rattle.std.proofs.lemmas.List.{get_or_past, length-take-le}
 use Rattle.std.proofs.lemmas.List.Folds.{list_any_at}
 use Rattle.dr_entry.specs.declared.end.End.{End}
-use Rattle.dr_entry.specs.declared.end.End.TheVariants.{Done, Suspected, NoMajority}
+use Rattle.dr_entry.specs.declared.end.End.TheVariants.{Done, Suspected, Excluded, NoMajority}
+use Rattle.dr_entry.specs.declared.record.Value.{Value}
 use Rattle.dr_history.specs.Members.{has, members_of}
 use Rattle.dr_history.specs.History.{messages_in}
 use Rattle.dr_history.specs.Order.{messages_from}
@@ -24,8 +25,8 @@ use Rattle.dr_machine.proofs.Presence.{is_present}
 use Rattle.dr_machine.specs.Group.{Group, roster, columns}
 use Rattle.dr_machine.specs.World.{World, count_of, shown}
 use Rattle.dr_machine.specs.Guards as guards
-use Rattle.dr_machine.specs.Guards.{IsRunning, MayChoose, IsOther, IsFault, CanBeat, CanLook, CanPush, CanSend, CanNull, CanReceive, CanDeliver, CanAppend, CanPublish, CanReport, CanMark, CanSuspect, CanHalt, CanCrash, HasRoom, IsBehind, IsUnwedged, IsDue, IsDone, IsSuspectedBy, IsMinority, seen_slot, unsuspected_of}
-use Rattle.dr_program.specs.Replica.{Replica, me, is_other, count, greatest, least_seen, ready_item, next_index, holds_all, all_done, is_behind, is_wedged, is_due, has_majority, unsuspected, view_of, may_receive, may_send, may_null, may_deliver, may_append, may_publish, may_report, may_mark, may_suspect}
+use Rattle.dr_machine.specs.Guards.{IsRunning, MayChoose, IsOther, IsFault, CanBeat, CanLook, CanPush, CanSend, CanNull, CanReceive, CanDeliver, CanAppend, CanPublish, CanReport, CanMark, CanSuspect, CanHalt, CanCrash, HasRoom, IsBehind, IsUnwedged, IsDue, IsDone, IsExcluded, IsSuspectedBy, IsMinority, seen_slot, unsuspected_of}
+use Rattle.dr_program.specs.Replica.{Replica, me, is_other, count, greatest, least_seen, ready_item, next_index, holds_all, all_done, is_behind, is_wedged, is_due, is_named, has_majority, unsuspected, view_of, may_receive, may_send, may_null, may_deliver, may_append, may_publish, may_report, may_mark, may_suspect}
 use Rattle.dr_program.specs.Reading.{world_of}
 use Rattle.dr_program.proofs.Holdings.{Holding, held_of}
 use Rattle.dr_program.proofs.Least.{received_small}
@@ -37,6 +38,10 @@ use Rattle.dr_refine.proofs.Views.{below_least}
 
 -- ---- the member
 
+-- it has no end, and no vote of it waits
+abbrev pub IsIdle : Replica → Type 0
+IsIdle r = (r.end ≡ None) × (r.pending ≡ None)
+
 -- a replica without an end is a member without one
 pub running : (g : Group) (rs : List Replica) (table : List ℕ) (m : ℕ) (r : Replica)
     → IsMember g rs table m r → r.end ≡ None → IsRunning g (world_of g rs table) m
@@ -47,11 +52,17 @@ running g rs table m r is alive = record {
 
 -- and may take an event of its own choice
 pub may_choose : (g : Group) (rs : List Replica) (table : List ℕ) (m : ℕ) (r : Replica)
-    → IsMember g rs table m r → r.end ≡ None → MayChoose g (world_of g rs table) m
-may_choose g rs table m r is alive = record {
-  alive = running g rs table m r is alive;
-  idle = ap (λ h. h.pending) (held_of g rs table m r is.there);
+    → IsMember g rs table m r → IsIdle r → MayChoose g (world_of g rs table) m
+may_choose g rs table m r is free = record {
+  alive = running g rs table m r is free.0;
+  idle = ap (λ h. h.pending) (held_of g rs table m r is.there) ∙ free.1;
 }
+
+-- where it may, no vote waits
+pub no_vote_waits : (g : Group) (rs : List Replica) (table : List ℕ) (m : ℕ) (r : Replica)
+    → IsMember g rs table m r → MayChoose g (world_of g rs table) m → r.pending ≡ None
+no_vote_waits g rs table m r is may =
+    sym (ap (λ h. h.pending) (held_of g rs table m r is.there)) ∙ may.idle
 
 -- whom it suspects
 pub suspects_are : (g : Group) (rs : List Replica) (table : List ℕ) (m : ℕ) (r : Replica)
@@ -71,7 +82,8 @@ unwedged g rs table m r is =
       λ none. (not_wedged r).1 (sym same ∙ none),
     )
 
-wedged : (g : Group) (rs : List Replica) (table : List ℕ) (m : ℕ) (r : Replica)
+-- and who suspects somebody is
+pub wedged : (g : Group) (rs : List Replica) (table : List ℕ) (m : ℕ) (r : Replica)
     → IsMember g rs table m r
     → (is_wedged r ≡ true) ↔ (¬ IsUnwedged (world_of g rs table) m)
 wedged g rs table m r is =
@@ -84,7 +96,7 @@ wedged g rs table m r is =
     )
 
 -- a number that is not below another
-not_less : (a b : ℕ) → (not (nat_lt a b) ≡ true) ↔ (¬ (a < b))
+pub not_less : (a b : ℕ) → (not (nat_lt a b) ≡ true) ↔ (¬ (a < b))
 not_less a b = (
   λ e less. absurd (grind (arith, nat_tests, e, less)),
   λ no. elim (cases_lt a b) [
@@ -190,7 +202,7 @@ each_below g rs table m r c x is small each =
 
 -- it delivers exactly where that may come, and it has room
 pub deliver_guard : (g : Group) (rs : List Replica) (table : List ℕ) (m : ℕ) (r : Replica)
-    → IsMember g rs table m r → r.end ≡ None
+    → IsMember g rs table m r → IsIdle r
     → (may_deliver r ≡ true) ↔ (CanDeliver g (world_of g rs table) m × (length r.history < r.room))
 deliver_guard g rs table m r is alive =
     let next : (world_of g rs table).next m
@@ -215,7 +227,7 @@ deliver_guard g rs table m r is alive =
 
 -- it reports exactly where that may come
 pub report_guard : (g : Group) (rs : List Replica) (table : List ℕ) (m : ℕ) (r : Replica)
-    → IsMember g rs table m r → r.end ≡ None
+    → IsMember g rs table m r → IsIdle r
     → (may_report r ≡ true) ↔ CanReport g (world_of g rs table) m
 report_guard g rs table m r is alive =
     let durable : (world_of g rs table).past.durable m
@@ -233,7 +245,7 @@ report_guard g rs table m r is alive =
 
 -- it appends exactly where that may come
 pub append_guard : (g : Group) (rs : List Replica) (table : List ℕ) (m : ℕ) (r : Replica)
-    → IsMember g rs table m r → r.end ≡ None
+    → IsMember g rs table m r → IsIdle r
     → (may_append r ≡ true) ↔ CanAppend g (world_of g rs table) m
 append_guard g rs table m r is alive =
     let was = held_of g rs table m r is.there in
@@ -250,7 +262,7 @@ append_guard g rs table m r is alive =
 
 -- it publishes exactly where that may come
 pub publish_guard : (g : Group) (rs : List Replica) (table : List ℕ) (m : ℕ) (r : Replica)
-    → IsMember g rs table m r → r.end ≡ None
+    → IsMember g rs table m r → IsIdle r
     → (may_publish r ≡ true) ↔ CanPublish g (world_of g rs table) m
 publish_guard g rs table m r is alive =
     let was = held_of g rs table m r is.there in
@@ -268,7 +280,7 @@ publish_guard g rs table m r is alive =
 
 -- it marks exactly where that may come
 pub mark_guard : (g : Group) (rs : List Replica) (table : List ℕ) (m : ℕ) (r : Replica)
-    → IsMember g rs table m r → r.end ≡ None
+    → IsMember g rs table m r → IsIdle r
     → (may_mark r ≡ true) ↔ CanMark g (world_of g rs table) m
 mark_guard g rs table m r is alive =
     let w : World = world_of g rs table in
@@ -305,7 +317,7 @@ mark_guard g rs table m r is alive =
 
 -- it suspects exactly where that may come
 pub suspect_guard : (g : Group) (rs : List Replica) (table : List ℕ) (m : ℕ) (r : Replica) (j : ℕ)
-    → IsMember g rs table m r → r.end ≡ None
+    → IsMember g rs table m r → IsIdle r
     → (may_suspect r j ≡ true) ↔ CanSuspect g (world_of g rs table) m j
 suspect_guard g rs table m r j is alive =
     let other = other_member g rs table m r j is in
@@ -406,6 +418,35 @@ minority_due g rs table m r mask is = (
     left = ap (λ k. without k ((world_of g rs table).suspects m)) members
         ∙ ap (without r.members) (suspects_are g rs table m r is)
 
+-- the value that it has committed names it exactly where the world says so
+excluded_due : (g : Group) (rs : List Replica) (table : List ℕ) (m : ℕ) (r : Replica) (view : ℕ)
+    → IsMember g rs table m r
+    → (is_due r (Excluded view) ≡ true) ↔ IsExcluded (world_of g rs table) m view
+excluded_due g rs table m r view is = (
+  λ e. let two = and_parts (is_named (me r) r.committed) (view == r.view + 1) e in
+      from r.committed refl two.0 (eqb-true view (r.view + 1) two.1),
+  λ due. and_from _ _
+      (subst (λ o. is_named (me r) o ≡ true) (sym (sym committed ∙ due.committed))
+      (ap (has due.value.leavers) is.of.number ∙ due.named))
+      (eq-eqb view (r.view + 1) (due.next ∙ ap (λ v. v + 1) number)),
+)
+  where
+    committed : (world_of g rs table).committed m ≡ r.committed
+    committed = ap (λ h. h.committed) (held_of g rs table m r is.there)
+
+    number : (world_of g rs table).past.view m ≡ r.view
+    number = ap (λ h. h.view) (held_of g rs table m r is.there)
+
+    from : (o : Option Value) → r.committed ≡ o → is_named (me r) o ≡ true → view ≡ r.view + 1
+        → IsExcluded (world_of g rs table) m view
+    from None q e next = absurd (cc e)
+    from (Some v) q e next = record {
+      value = v;
+      committed = committed ∙ q;
+      named = ap (has v.leavers) (sym is.of.number) ∙ e;
+      next = next ∙ ap (λ v. v + 1) (sym number);
+    }
+
 -- its end is due exactly where the world says so
 end_due : (g : Group) (rs : List Replica) (table : List ℕ) (m : ℕ) (r : Replica) (end : End)
     → IsMember g rs table m r
@@ -413,11 +454,12 @@ end_due : (g : Group) (rs : List Replica) (table : List ℕ) (m : ℕ) (r : Repl
 end_due g rs table m r Done is = done_due g rs table m r is
 end_due g rs table m r (Suspected i) is = suspected_due g rs table m r i is
 end_due g rs table m r (NoMajority mask) is = minority_due g rs table m r mask is
+end_due g rs table m r (Excluded view) is = excluded_due g rs table m r view is
 end_due g rs table m r end is = (λ e. absurd (cc), λ due. absurd due)
 
 -- it halts exactly where that may come
 pub halt_guard : (g : Group) (rs : List Replica) (table : List ℕ) (m : ℕ) (r : Replica) (end : End)
-    → IsMember g rs table m r → r.end ≡ None
+    → IsMember g rs table m r → IsIdle r
     → (is_due r end ≡ true) ↔ CanHalt g (world_of g rs table) m end
 halt_guard g rs table m r end is alive =
     let same = end_due g rs table m r end is in (
@@ -436,13 +478,13 @@ crash_guard g rs table m r end is alive =
 
 -- it may always begin a turn
 pub beat_guard : (g : Group) (rs : List Replica) (table : List ℕ) (m : ℕ) (r : Replica)
-    → IsMember g rs table m r → r.end ≡ None
+    → IsMember g rs table m r → IsIdle r
     → CanBeat g (world_of g rs table) m
 beat_guard = may_choose
 
 -- it looks exactly where that may come
 pub look_guard : (g : Group) (rs : List Replica) (table : List ℕ) (m : ℕ) (r : Replica) (i c : ℕ)
-    → IsMember g rs table m r → r.end ≡ None → c < columns g
+    → IsMember g rs table m r → IsIdle r → c < columns g
     → ((not (has r.suspects i) ≡ true) × (is_other r i ≡ true)) ↔ CanLook g (world_of g rs table) m i c
 look_guard g rs table m r i c is alive within =
     let other = other_member g rs table m r i is in
@@ -458,7 +500,7 @@ look_guard g rs table m r i c is alive within =
 
 -- it pushes exactly where that may come
 pub push_guard : (g : Group) (rs : List Replica) (table : List ℕ) (m : ℕ) (r : Replica) (j c : ℕ)
-    → IsMember g rs table m r → r.end ≡ None → c < columns g
+    → IsMember g rs table m r → IsIdle r → c < columns g
     → (is_other r j ≡ true) ↔ CanPush g (world_of g rs table) m j c
 push_guard g rs table m r j c is alive within =
     let other = other_member g rs table m r j is in (
@@ -526,7 +568,7 @@ room_guard g rs table m r is = (
 
 -- it sends exactly where that may come
 pub send_guard : (g : Group) (rs : List Replica) (table : List ℕ) (m : ℕ) (r : Replica)
-    → IsMember g rs table m r → r.end ≡ None
+    → IsMember g rs table m r → IsIdle r
     → (may_send r ≡ true) ↔ CanSend g (world_of g rs table) m
 send_guard g rs table m r is alive = unless_wedged g rs table m r _ is (λ none. (
   λ e. let two = and_parts (nat_lt (next_index r) (length r.messages))
@@ -578,7 +620,7 @@ behind_guard g rs table m r is = (
 
 -- it puts a null exactly where that may come
 pub null_guard : (g : Group) (rs : List Replica) (table : List ℕ) (m : ℕ) (r : Replica)
-    → IsMember g rs table m r → r.end ≡ None
+    → IsMember g rs table m r → IsIdle r
     → (may_null r ≡ true) ↔ CanNull g (world_of g rs table) m
 null_guard g rs table m r is alive = unless_wedged g rs table m r _ is (λ none. (
   λ e. let two = and_parts (not (nat_lt (next_index r) (length r.messages))) _ e in
@@ -610,7 +652,7 @@ slot_is g rs table m r s k is other = fun_ext λ part.
 
 -- it receives exactly where that may come, and fewer were taken than anyone has messages
 pub receive_guard : (g : Group) (rs : List Replica) (table : List ℕ) (m : ℕ) (r : Replica) (s : ℕ)
-    → IsMember g rs table m r → r.end ≡ None
+    → IsMember g rs table m r → IsIdle r
     → (may_receive r s ≡ true) ↔ (CanReceive g (world_of g rs table) m s
     × (count r s < greatest r.totals))
 receive_guard g rs table m r s is alive =

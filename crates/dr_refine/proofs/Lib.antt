@@ -7,6 +7,7 @@ pub mod Looks
 pub mod Gains
 pub mod Puts
 pub mod Suspects
+pub mod Votes
 pub mod Deeds
 pub mod Steps
 pub mod Tests

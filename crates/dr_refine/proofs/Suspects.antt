@@ -40,7 +40,7 @@ own_past w c form past =
     (omega (arith, form.rows.width w.me [] (omega (arith, form.rows.height, form.present)), past))
 
 -- the own words, each made of the one before, where what is made past the end is 0
-own_rewritten : (w : Words) (make : ℕ → ℕ → ℕ) (c : ℕ) → IsWords w
+pub own_rewritten : (w : Words) (make : ℕ → ℕ → ℕ) (c : ℕ) → IsWords w
     → (w.columns ≤ c → make c 0 ≡ 0) → own (rewritten w make) c ≡ make c (own w c)
 own_rewritten w make c form nothing =
     ap (λ row. slice_index row c)
@@ -53,10 +53,26 @@ own_rewritten w make c form nothing =
     ]
 
 -- the words of the other rows stay
-seen_rewritten : (w : Words) (make : ℕ → ℕ → ℕ) (i c : ℕ) → i ≢ w.me
+pub seen_rewritten : (w : Words) (make : ℕ → ℕ → ℕ) (i c : ℕ) → i ≢ w.me
     → seen (rewritten w make) i c ≡ seen w i c
 seen_rewritten w make i c other =
     ap (λ row. slice_index row c) (get_or-set_other w.words w.me i (made w make) [] other)
+
+-- a row that is rewritten keeps the form
+pub IsWords-rewritten : (w : Words) (make : ℕ → ℕ → ℕ) → IsWords w → IsWords (rewritten w make)
+IsWords-rewritten w make form = record {
+  few = form.few;
+  narrow = form.narrow;
+  present = form.present;
+  rows = record {
+    height = length-set w.words w.me (made w make) ∙ form.rows.height;
+    width = All-set (λ row. length row ≡ w.columns) w.words w.me (made w make)
+        (length-map-range_with_len (λ d. make d (own w d)) 0 w.columns) form.rows.width;
+  };
+  pushes = form.pushes;
+  marks = form.marks;
+  alive = form.alive;
+}
 
 -- a row that is rewritten and a row of another that is frozen keep the form
 IsWords-suspected : (w : Words) (make : ℕ → ℕ → ℕ) (j : ℕ) → IsWords w → j ≢ w.me

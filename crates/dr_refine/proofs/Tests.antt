@@ -1,5 +1,5 @@
 -- A replica that has no end and passes its test is one whose event may come, and the other way round.
-use Rattle.std.proofs.Common.{◌≡◌, refl, sym, ap, ◌∙◌, ◌↔◌, subst, ℕ, ◌+◌, ◌*◌, ◌<◌, ◌≤◌, ◌&&◌, not, true, List, length, arith, slice_index}
+use Rattle.std.proofs.Common.{◌≡◌, refl, sym, ap, ◌∙◌, ◌↔◌, subst, ℕ, ◌+◌, ◌*◌, ◌<◌, ◌≤◌, ◌&&◌, not, true, Bool, List, length, arith, slice_index}
 use Rattle.std.proofs.lemmas.Bool.Decides.{nat_tests}
 use Rattle.std.specs.Prelude.{Option, None, Some, is_some, nat_lt, slice_set}
 use Rattle.std.proofs.lemmas.Bool.{and_from, and_parts}
@@ -12,17 +12,19 @@ use Rattle.dr_machine.specs.declared.step.Step.TheVariants as steps
 use Rattle.dr_machine.specs.Group.{Group, banks, columns, roster}
 use Rattle.dr_machine.specs.Run.{IsReached}
 use Rattle.dr_machine.specs.World.{World}
-use Rattle.dr_program.specs.Steps.{has_cell, allows, may_take, index_in, found, stepped_over, stored}
+use Rattle.dr_program.specs.Steps.{has_cell, allows, is_free, may_take, index_in, found, stepped_over, stored}
 use Rattle.dr_machine.specs.Acts.{CanDo, CanTake, effect_of}
 use Rattle.dr_program.specs.Acts.{may, taken}
-use Rattle.dr_machine.specs.Guards.{IsRunning, IsFault}
+use Rattle.dr_entry.specs.declared.record.Vote.{Vote}
+use Rattle.dr_machine.specs.Guards.{IsRunning, IsFault, MayChoose}
 use Rattle.dr_machine.specs.declared.event.Act.{Act}
 use Rattle.dr_machine.specs.declared.event.Act.TheVariants as acts
 use Rattle.dr_program.specs.Replica.{Replica, greatest, is_other, is_fault, may_receive, me, looked, pushed}
 use Rattle.dr_program.specs.Reading.{world_of}
 use Rattle.dr_program.proofs.Holdings.{held_of}
 use Rattle.dr_refine.specs.Programs.{HasRoomFor, IsMember, acted_table}
-use Rattle.dr_refine.proofs.Guards.{beat_guard, look_guard, suspect_guard, other_member, other_below, push_guard, send_guard, null_guard, receive_guard, deliver_guard, append_guard, publish_guard, report_guard, mark_guard, halt_guard, crash_guard}
+use Rattle.dr_refine.proofs.Votes.{accept_effect, accept_guard, commit_effect, commit_guard, propose_guard, vote_effect, vote_guard}
+use Rattle.dr_refine.proofs.Guards.{IsIdle, no_vote_waits, beat_guard, look_guard, suspect_guard, other_member, other_below, push_guard, send_guard, null_guard, receive_guard, deliver_guard, append_guard, publish_guard, report_guard, mark_guard, halt_guard, crash_guard}
 use Rattle.dr_rows.specs.Words.{own}
 use Rattle.dr_words.specs.declared.column.TheConstants.{BEAT_COLUMN}
 use Rattle.dr_words.specs.Layout.{word_index_of}
@@ -48,9 +50,34 @@ fault_test (LogFull len) = (λ e. tt, λ f. refl)
 fault_test (Spent turns) = (λ e. tt, λ f. refl)
 fault_test end = (λ e. absurd (cc), λ f. absurd f)
 
+end_guard : (g : Group) (rs : List Replica) (table : List ℕ) (m : ℕ) (r : Replica) (end : End)
+    → IsMember g rs table m r → r.end ≡ None
+    → (is_fault end ≡ true)
+    ↔ (CanDo g (world_of g rs table) m (acts.Crash end) × HasRoomFor r (steps.Do (acts.Crash end)))
+end_guard g rs table m r end is unended = (
+  λ e. ((crash_guard g rs table m r end is unended).0 ((fault_test end).0 e), tt),
+  λ can. (fault_test end).1 ((crash_guard g rs table m r end is unended).1 can.0),
+)
+
+-- a test behind that whether a vote waits
+unless_waiting : (g : Group) (rs : List Replica) (table : List ℕ) (m : ℕ) (r : Replica) (test : Bool)
+    {Can : Type 0} → IsMember g rs table m r → r.end ≡ None
+    → (IsIdle r → (test ≡ true) ↔ Can) → (Can → MayChoose g (world_of g rs table) m)
+    → ((not (is_some r.pending) && test) ≡ true) ↔ Can
+unless_waiting g rs table m r test is unended same may = (
+  λ e. let two = and_parts (not (is_some r.pending)) test e in
+      (same (unended, (idle_test r.pending).0 two.0)).0 two.1,
+  λ can. let idle = no_vote_waits g rs table m r is (may can) in
+      and_from (not (is_some r.pending)) test ((idle_test r.pending).1 idle) ((same (unended, idle)).1 can),
+)
+  where
+    idle_test : (o : Option Vote) → (not (is_some o) ≡ true) ↔ (o ≡ None)
+    idle_test None = (λ e. refl, λ e. refl)
+    idle_test (Some x) = (λ e. absurd (cc), λ e. absurd (cc))
+
 -- a replica without an end may do an act exactly where that may come
 pub act_guard : (g : Group) (rs : List Replica) (table : List ℕ) (m : ℕ) (r : Replica) (a : Act)
-    → IsMember g rs table m r → r.end ≡ None
+    → IsMember g rs table m r → IsIdle r
     → (may r a ≡ true) ↔ (CanDo g (world_of g rs table) m a × HasRoomFor r (steps.Do a))
 act_guard g rs table m r acts.Beat is unended =
     (λ e. (beat_guard g rs table m r is unended, tt), λ can. refl)
@@ -68,11 +95,13 @@ act_guard g rs table m r acts.Report is unended = with_nothing (report_guard g r
 act_guard g rs table m r acts.Mark is unended = with_nothing (mark_guard g rs table m r is unended)
 act_guard g rs table m r (acts.Suspect j) is unended =
     with_nothing (suspect_guard g rs table m r j is unended)
+act_guard g rs table m r acts.Propose is unended =
+    with_nothing (propose_guard g rs table m r is unended.0)
+act_guard g rs table m r acts.Accept is unended =
+    with_nothing (accept_guard g rs table m r is unended.0)
+act_guard g rs table m r acts.Commit is unended = with_nothing (commit_guard g rs table m r is unended)
 act_guard g rs table m r (acts.Halt end) is unended = with_nothing (halt_guard g rs table m r end is unended)
-act_guard g rs table m r (acts.Crash end) is unended = (
-  λ e. ((crash_guard g rs table m r end is unended).0 ((fault_test end).0 e), tt),
-  λ can. (fault_test end).1 ((crash_guard g rs table m r end is unended).1 can.0),
-)
+act_guard g rs table m r (acts.Crash end) is unended = end_guard g rs table m r end is unended.0
 
 -- a test of two and_parts
 pub cell_test : (g : Group) (rs : List Replica) (table : List ℕ) (m : ℕ) (r : Replica) (i c : ℕ)
@@ -92,12 +121,12 @@ cell_test g rs table m r i c is = (
     wide : columns_of r.roster r.window ≡ columns g
     wide = ap (λ n. columns_of n r.window) is.of.members ∙ ap (columns_of (roster g)) is.of.window
 
--- a replica without an end allows a step exactly where that may come
-pub step_guard : (g : Group) (rs : List Replica) (table : List ℕ) (m : ℕ) (r : Replica) (s : Step)
-    → IsMember g rs table m r → r.end ≡ None
+-- a replica of which no vote waits allows a step exactly where that may come
+pub free_guard : (g : Group) (rs : List Replica) (table : List ℕ) (m : ℕ) (r : Replica) (s : Step)
+    → IsMember g rs table m r → IsIdle r
     → (allows r s ≡ true) ↔ (CanTake g (world_of g rs table) m s × HasRoomFor r s)
-step_guard g rs table m r (steps.Do a) is unended = act_guard g rs table m r a is unended
-step_guard g rs table m r (steps.Look i c) is unended = (
+free_guard g rs table m r (steps.Do a) is unended = act_guard g rs table m r a is unended
+free_guard g rs table m r (steps.Look i c) is unended = (
   λ e. let two = and_parts (not (has r.suspects i)) (has_cell r i c) e in
       let cell = (cell_test g rs table m r i c is).0 two.1 in
       ((look_guard g rs table m r i c is unended cell.1).0 (two.0, cell.0), tt),
@@ -105,18 +134,39 @@ step_guard g rs table m r (steps.Look i c) is unended = (
       and_from (not (has r.suspects i)) (has_cell r i c) two.0
       ((cell_test g rs table m r i c is).1 (two.1, can.0.column)),
 )
-step_guard g rs table m r (steps.Push j c) is unended = (
+free_guard g rs table m r (steps.Push j c) is unended = (
   λ e. let cell = (cell_test g rs table m r j c is).0 e in
       ((push_guard g rs table m r j c is unended cell.1).0 cell.0, tt),
   λ can. (cell_test g rs table m r j c is).1
       ((push_guard g rs table m r j c is unended can.0.column).1 can.0, can.0.column),
 )
-step_guard g rs table m r steps.Append is unended = with_nothing (append_guard g rs table m r is unended)
+free_guard g rs table m r steps.Append is unended = with_nothing (append_guard g rs table m r is unended)
+free_guard g rs table m r (steps.LogVote v) is unended =
+    with_nothing (vote_guard g rs table m r v is unended)
+
+-- and one without an end may take it exactly where that may come
+pub step_guard : (g : Group) (rs : List Replica) (table : List ℕ) (m : ℕ) (r : Replica) (s : Step)
+    → IsMember g rs table m r → r.end ≡ None
+    → ((is_free r s && allows r s) ≡ true) ↔ (CanTake g (world_of g rs table) m s × HasRoomFor r s)
+step_guard g rs table m r (steps.Do acts.Propose) is unended =
+    with_nothing (propose_guard g rs table m r is unended)
+step_guard g rs table m r (steps.Do acts.Accept) is unended =
+    with_nothing (accept_guard g rs table m r is unended)
+step_guard g rs table m r (steps.Do (acts.Crash end)) is unended = end_guard g rs table m r end is unended
+step_guard g rs table m r (steps.Do acts.Beat) is unended =
+    unless_waiting g rs table m r true is unended (act_guard g rs table m r acts.Beat is) (λ can. can.0)
+step_guard g rs table m r (steps.Do a) is unended =
+    unless_waiting g rs table m r (may r a) is unended (act_guard g rs table m r a is) (λ can. can.0.may)
+step_guard g rs table m r s is unended =
+    unless_waiting g rs table m r (allows r s) is unended (free_guard g rs table m r s is)
+    (λ can. can.0.may)
 
 -- only members of the roster without an end take steps
 pub step_alive : (g : Group) (w : World) (m : ℕ) (s : Step) → CanTake g w m s → IsRunning g w m
 step_alive g w m (steps.Do acts.Beat) can = can.alive
 step_alive g w m (steps.Do (acts.Crash end)) can = can.alive
+step_alive g w m (steps.Do acts.Propose) can = can.alive
+step_alive g w m (steps.Do acts.Accept) can = can.alive
 step_alive g w m (steps.Do a) can = can.may.alive
 step_alive g w m s can = can.may.alive
 
@@ -129,10 +179,10 @@ pub step_test : (g : Group) (rs : List Replica) (table : List ℕ) (m : ℕ) (r 
     → IsMember g rs table m r
     → (may_take r s ≡ true) ↔ (CanTake g (world_of g rs table) m s × HasRoomFor r s)
 step_test g rs table m r s is = (
-  λ e. let two = and_parts (not (is_some r.end)) (allows r s) e in
+  λ e. let two = and_parts (not (is_some r.end)) (is_free r s && allows r s) e in
       (step_guard g rs table m r s is ((running_test r.end).0 two.0)).0 two.1,
   λ can. let unended = alive g rs table m r is (step_alive g (world_of g rs table) m s can.0) in
-      and_from (not (is_some r.end)) (allows r s) ((running_test r.end).1 unended)
+      and_from (not (is_some r.end)) (is_free r s && allows r s) ((running_test r.end).1 unended)
       ((step_guard g rs table m r s is unended).1 can),
 )
 
@@ -151,6 +201,9 @@ act_effect g rs table m r acts.Publish is may = publish_effect g rs table m r is
 act_effect g rs table m r acts.Report is may = report_effect g rs table m r is
 act_effect g rs table m r acts.Mark is may = mark_effect g rs table m r is
 act_effect g rs table m r (acts.Suspect j) is may = suspect_effect g rs table m r j is may
+act_effect g rs table m r acts.Propose is may = accept_effect g rs table m r is
+act_effect g rs table m r acts.Accept is may = accept_effect g rs table m r is
+act_effect g rs table m r acts.Commit is may = commit_effect g rs table m r is
 act_effect g rs table m r (acts.Halt end) is may = end_effect g rs table m r end is
 act_effect g rs table m r (acts.Crash end) is may = end_effect g rs table m r end is
 
@@ -215,3 +268,4 @@ step_effect g rs table m r (steps.Push j c) is may =
     (index_is g rs table m r j m c is)
     ∙ push_effect g rs table m r j c is cell.0 cell.1
 step_effect g rs table m r steps.Append is may = append_effect g rs table m r is
+step_effect g rs table m r (steps.LogVote v) is may = vote_effect g rs table m r v is
