@@ -1,5 +1,5 @@
 -- Each deed of a running member is done once and for all: it has fewer left then.
-use Rattle.std.proofs.Common.{◌≡◌, refl, sym, ap, ◌∙◌, subst, ℕ, zero, suc, ◌+◌, ◌-◌, ◌*◌, ◌^◌, ◌<◌, ◌≤◌, ◌&&◌, ◌||◌, ◌==◌, if◌then◌else◌, not, Bool, true, false, nat_lt, length, le_trans, suc-le-suc, arith}
+use Rattle.std.proofs.Common.{◌≡◌, refl, sym, ap, ◌∙◌, subst, ℕ, zero, suc, ◌+◌, ◌-◌, ◌*◌, ◌^◌, ◌<◌, ◌≤◌, ◌&&◌, ◌||◌, ◌==◌, ◌⊎◌, inl, inr, if◌then◌else◌, not, Bool, true, false, nat_lt, length, le_trans, suc-le-suc, arith}
 use Rattle.std.specs.Prelude.{Option, Some, None, drop, slice_index_or, unwrap_or}
 use Rattle.std.specs.Option.{option_map, option_or}
 use Rattle.std.proofs.Math.Nat.{min-eq_left, min-le_left}
@@ -20,22 +20,22 @@ use Rattle.dr_program.specs.declared.place.TheConstants.{TURN}
 use Rattle.dr_program.specs.Acts.{may}
 use Rattle.dr_machine.specs.Effects.{one_more}
 use Rattle.dr_program.specs.Turn.{after, is_beat, IsIn, part_of, places_in, rows_in, columns_in, turn_begins}
-use Rattle.dr_program.specs.Replica.{Replica, has_majority, is_wedged, me, unsuspected}
+use Rattle.dr_program.specs.Replica.{Replica, has_majority, is_others, is_wedged, me, unsuspected, value_due}
 use Rattle.dr_rows.specs.Words as rows
 use Rattle.dr_rows.specs.Words.{Words, is_frozen}
 use Rattle.dr_suspect.specs.Waits.{IsWaits, Waits, compared}
 use Rattle.std.proofs.lemmas.List.{length-set}
 use Rattle.dr_program.specs.Steps.{NoWordFell, allows, has_cell, stepped}
-use Rattle.dr_program.specs.Running.{Running, members, columns, asks, judged, named_by, overdue, scripted, told, waits_after, step_at, settled, goes, pushes_after, took, next_step, crashes_now, push_or_crash, append_or_end, end_by, after_step}
+use Rattle.dr_program.specs.Running.{Running, members, columns, asks, judged, named_by, overdue, scripted, told, waits_after, step_at, settled, goes, pushes_after, took, next_step, crashes_now, push_or_crash, append_or_end, vote_or_end, end_by, after_step, WaitsAt}
 use Rattle.dr_program.specs.Form.{HasForm, IsOf, IsRunningMember}
 use Rattle.dr_program.proofs.Fixed.{Told, step_told, of_told}
 use Rattle.dr_program.proofs.Fixed as fixed
 use Rattle.dr_turn.specs.Search.{left, IsUnderway}
 use Rattle.dr_turn.specs.Work.{tasks, work, deeds_of, left_to, may_fail, deeds_left, HasGrownTo, IsDone}
 use Rattle.dr_turn.proofs.Fewer.{NoneRises, fewer_here, fewer_turns, sum_falls, sum_keeps}
-use Rattle.dr_turn.proofs.Order.{after_beat, beat_last, after_in, all_below, each_below, from_part, left_falls, left_small, left_some}
+use Rattle.dr_turn.proofs.Order.{after_beat, after_vote, beat_last, after_in, all_below, each_below, from_part, left_falls, left_small, left_some}
 use Rattle.dr_turn.proofs.Search.{part_before, settle_less, settle_only, settled_running, settled_underway, some_column, some_member}
-use Rattle.dr_turn.proofs.Tasks.{risen, received_less, put_less, delivered_less, reported_less, published_less, marked_less, suspected_less, sender_within, me_within, none_rises}
+use Rattle.dr_turn.proofs.Tasks.{risen, received_less, put_less, delivered_less, reported_less, published_less, marked_less, suspected_less, proposed_less, accepted_less, decided_less, sender_within, me_within, none_rises}
 
 -- ---- the work
 
@@ -100,6 +100,15 @@ lowers_task word r (steps.Do acts.Mark) f may form none =
 lowers_task word r (steps.Do (acts.Suspect j)) f may form none =
     above _ _ (less_by word r (steps.Do (acts.Suspect j)) 5 1 none (omega arith)
     (one_less _ _ (suspected_less r j f may)))
+lowers_task word r (steps.Do acts.Propose) f may form none =
+    above _ _ (less_by word r (steps.Do acts.Propose) 6 1 none (omega arith)
+    (one_less _ _ (proposed_less r f may)))
+lowers_task word r (steps.Do acts.Accept) f may form none =
+    above _ _ (less_by word r (steps.Do acts.Accept) 6 1 none (omega arith)
+    (one_less _ _ (accepted_less r f may)))
+lowers_task word r (steps.Do acts.Commit) f may form none =
+    above _ _ (less_by word r (steps.Do acts.Commit) 7 1 none (omega arith)
+    (one_less _ _ (decided_less r may)))
 lowers_task word r (steps.Do (acts.Halt end)) f may form none = no_more word r (steps.Do (acts.Halt end)) none
 lowers_task word r (steps.Do (acts.Crash end)) f may form none =
     no_more word r (steps.Do (acts.Crash end)) none
@@ -191,6 +200,12 @@ judged_turns : (word : ℕ) (r : Running) (a : Act) → is_verdict a ≡ true
 judged_turns word r (acts.Suspect j) is = refl
 judged_turns word r (acts.Halt end) is = refl
 judged_turns word r a is = absurd (cc)
+
+judged_pending : (word : ℕ) (r : Running) (a : Act) → is_verdict a ≡ true
+    → (judges word r a).replica.pending ≡ r.replica.pending
+judged_pending word r (acts.Suspect j) is = refl
+judged_pending word r (acts.Halt end) is = refl
+judged_pending word r a is = absurd (cc)
 
 -- and it leaves fewer deeds: a member less to trust, or the end
 judged_fewer : (word : ℕ) (r : Running) (a : Act) → is_verdict a ≡ true → r.replica.end ≡ None
@@ -286,8 +301,9 @@ back : (n k : ℕ) (p : Place) → 1 ≤ p.part → p.part < length TURN → par
 unfolding left
 back n k p some inside here before a b =
     let x = from_part n k p.part (p.part + 1) TURN turn_begins (omega arith) inside in
+    let number : p.part - 1 + 1 ≡ p.part = omega (arith, some) in
     let same : places_in n k (drop (p.part - 1 + 1) TURN)
-    ≡ places_in n k (drop p.part TURN) = ap (λ i. places_in n k (drop i TURN)) (omega (arith, some)) in
+    ≡ places_in n k (drop p.part TURN) = ap (λ (i : ℕ). places_in n k (drop i TURN)) number in
     let size = one n k (part_of p) (parts.Do acts.Publish) here refl in
     let size' = one n k (slice_index_or TURN (p.part - 1) turn_begins) parts.Append before refl in
     omega (
@@ -306,6 +322,8 @@ goes_in : (word : ℕ) (r : Running) (part : Part) → IsDue word r part
 goes_in word r parts.Look d = after_in _ _ r.place (some_member r d.underway.replica)
     (some_column r) d.underway.place
 goes_in word r parts.Append d = after_in _ _ r.place (some_member r d.underway.replica)
+    (some_column r) d.underway.place
+goes_in word r parts.Vote d = after_in _ _ r.place (some_member r d.underway.replica)
     (some_column r) d.underway.place
 goes_in word r parts.Push d = after_in _ _ r.place (some_member r d.underway.replica)
     (some_column r) d.underway.place
@@ -347,6 +365,11 @@ turns_keep word r parts.Push d = by (crashes_now r)
 turns_keep word r parts.Append d = by r.failed
   where
     by : (o : Option LogWhy) → (stepped word r.replica (append_or_end o)).turns ≤ r.limit
+    by None = d.underway.turns
+    by (Some why) = d.underway.turns
+turns_keep word r parts.Vote d = by r.failed
+  where
+    by : (o : Option LogWhy) → (stepped word r.replica (vote_or_end o (value_due r.replica))).turns ≤ r.limit
     by None = d.underway.turns
     by (Some why) = d.underway.turns
 turns_keep word r part d = d.underway.turns
@@ -393,6 +416,9 @@ unturned word r parts.Look d none begins =
     absurd (cc (sym d.at ∙ left_behind r d.underway (ap is_beat d.at) begins))
 unturned word r parts.Append d none begins =
     absurd (cc (sym d.at ∙ left_behind r d.underway (ap is_beat d.at) begins))
+unturned word r parts.Vote d none begins =
+    absurd (cc (sym d.at ∙ left_behind r d.underway (ap is_beat d.at) begins))
+unturned word r parts.Excluded d none begins = absurd (cc)
 unturned word r parts.Push d none begins =
     absurd (cc (sym d.at ∙ left_behind r d.underway (ap is_beat d.at) begins))
 unturned word r (parts.Do acts.Beat) d none begins =
@@ -473,6 +499,35 @@ fewer_append word r d less = by r.failed less
               (part_before (members r) (columns r) r.place d.underway.place (ap is_beat d.at)),
         )))
 
+-- a vote, or the end in its place, leaves fewer deeds
+fewer_vote : (word : ℕ) (r : Running) → IsDue word r parts.Vote
+    → Lowers (step_at r parts.Vote r.place.row r.place.column) (work r.replica)
+    (work (does_at word r parts.Vote).replica)
+    → deeds_left (does_at word r parts.Vote) < deeds_left r
+fewer_vote word r d less = by r.failed less
+  where
+    after_append : Step → Running
+    after_append s = record r {
+      replica = stepped word r.replica s;
+      place = after (members r) (columns r) r.place;
+      pushes = pushes_after r.pushes s;
+    }
+
+    by : (o : Option LogWhy)
+        → Lowers (vote_or_end o (value_due r.replica)) (work r.replica)
+        (work (stepped word r.replica (vote_or_end o (value_due r.replica))))
+        → deeds_left (after_append (vote_or_end o (value_due r.replica))) < deeds_left r
+    by (Some why) l = over r (after_append (vote_or_end (Some why) (value_due r.replica))) d.none d.underway
+        (Some (end_by why)) refl refl
+    by None l = lower r (after_append (steps.LogVote (value_due r.replica))) d.none refl
+        (fewer_here (r.limit - r.replica.turns) _ _ _ _ _ _
+        (omega (
+          arith,
+          l,
+          left_falls (members r) (columns r) r.place d.underway.place
+              (part_before (members r) (columns r) r.place d.underway.place (ap is_beat d.at)),
+        )))
+
 fewer : (word : ℕ) (r : Running) (part : Part) → r.limit < 2 ^ 32 → IsDue word r part
     → Lowers (step_at r part r.place.row r.place.column) (work r.replica)
     (work (does_at word r part).replica)
@@ -488,6 +543,9 @@ fewer word r parts.Look fits d less =
     )))
 fewer word r parts.Judge fits d less = judged_fewer word r (judged r) (verdict_of r) d.none d.underway less
 fewer word r parts.Append fits d less = fewer_append word r d less
+fewer word r parts.Vote fits d less = fewer_vote word r d less
+fewer word r parts.Excluded fits d less = over r (does_at word r parts.Excluded) d.none d.underway
+    (Some (ends.Excluded (r.replica.view + 1))) refl refl
 fewer word r parts.Push fits d less = fewer_push word r d less
 fewer word r (parts.Do acts.Publish) fits d less = let at = published_at word r d in
     lower r (does_at word r (parts.Do acts.Publish)) d.none refl
@@ -532,6 +590,47 @@ place_in word r part d q f =
     (goes (members r) (columns r) part r.place)) (sym (ap (λ (t : Told). t.roster) f))
     (goes_in word r part d))
 
+-- no vote waits at a part that doesn't act on it
+abbrev acts_on : Part → Bool
+acts_on (parts.Do acts.Propose) = true
+acts_on (parts.Do acts.Accept) = true
+acts_on part = false
+
+none_waits : (r : Running) (part : Part) → part_of r.place ≡ part → acts_on part ≡ false
+    → WaitsAt r (part_of r.place) → r.replica.pending ≡ None
+none_waits r part at other (inl none) = none
+none_waits r part at other (inr (inl e)) = absurd (cc (sym (ap acts_on e) ∙ ap acts_on at, other))
+none_waits r part at other (inr (inr t)) = absurd (cc (sym (ap acts_on t.0) ∙ ap acts_on at, other))
+
+-- behind a vote it is acted on, and behind any other deed none waits
+free_after : (word : ℕ) (r : Running) (part : Part) → IsDue word r part
+    → WaitsAt (does_at word r part) (part_of (goes (members r) (columns r) part r.place))
+free_after word r parts.Vote d = by r.failed
+  where
+    by : (o : Option LogWhy)
+        → ((stepped word r.replica (vote_or_end o (value_due r.replica))).pending ≡ None)
+        ⊎ ((part_of (after (members r) (columns r) r.place) ≡ parts.Do acts.Propose)
+        ⊎ ((part_of (after (members r) (columns r) r.place) ≡ parts.Do acts.Accept)
+        × (is_others (me (stepped word r.replica (vote_or_end o (value_due r.replica))))
+        (stepped word r.replica (vote_or_end o (value_due r.replica))).pending ≡ true)))
+    by None = inr (inl (after_vote (members r) (columns r) r.place d.underway.place d.at))
+    by (Some why) = inl (none_waits r parts.Vote d.at refl d.underway.free)
+free_after word r (parts.Do acts.Propose) d = inl refl
+free_after word r (parts.Do acts.Accept) d = inl refl
+free_after word r parts.Judge d =
+    inl (judged_pending word r (judged r) (verdict_of r) ∙ none_waits r parts.Judge d.at refl d.underway.free)
+free_after word r parts.Push d = inl (by (crashes_now r))
+  where
+    by : (b : Bool) → (stepped word r.replica (push_or_crash b r.place.row r.place.column)).pending ≡ None
+    by true = none_waits r parts.Push d.at refl d.underway.free
+    by false = none_waits r parts.Push d.at refl d.underway.free
+free_after word r parts.Append d = inl (by r.failed)
+  where
+    by : (o : Option LogWhy) → (stepped word r.replica (append_or_end o)).pending ≡ None
+    by None = none_waits r parts.Append d.at refl d.underway.free
+    by (Some why) = none_waits r parts.Append d.at refl d.underway.free
+free_after word r part d = inl (none_waits r part d.at refl d.underway.free)
+
 -- it is underway behind the deed
 goes_on : (word : ℕ) (r : Running) (part : Part) → IsDue word r part → IsUnderway (does_at word r part)
 goes_on word r part d = record {
@@ -540,6 +639,7 @@ goes_on word r part d = record {
       (step_told word r.replica (step_at r part r.place.row r.place.column));
   turns = turns_keep word r part d;
   waits = waits_keep word r (step_at r part r.place.row r.place.column) d.underway.waits;
+  free = free_after word r part d;
   left = unturned word r part d;
 }
 
@@ -572,7 +672,7 @@ deed_due : (word : ℕ) (r : Running) → IsRunningMember r → r.replica.end �
     → HasForm (took word r (next_step r)).replica → IsDue word r (part_of r.place)
 deed_due word r m none form = record {
   at = refl;
-  underway = record { replica = m.replica; place = m.place; turns = m.turns; waits = m.waits; left = m.left };
+  underway = record { replica = m.replica; place = m.place; turns = m.turns; waits = m.waits; free = m.free; left = m.left };
   none = none;
   allowed = (and_parts (asks r (part_of r.place) r.place.row r.place.column)
       (allows r.replica (next_step r)) (m.due none)).1;

@@ -1,10 +1,16 @@
 -- The tasks of a replica: which of its deeds lowers each, and that no deed raises any.
-use Rattle.std.proofs.Common.{◌≡◌, sym, subst, ◌∙◌, ℕ, ◌+◌, ◌-◌, ◌^◌, ◌<◌, ◌≤◌, ◌==◌, nat_lt, not, true, length, slice_index, le_refl, arith}
+use Rattle.std.proofs.Common.{◌≡◌, refl, ap, inl, sym, subst, ◌∙◌, ℕ, ◌+◌, ◌-◌, ◌^◌, ◌<◌, ◌≤◌, ◌==◌, nat_lt, not, true, length, slice_index, le_refl, arith}
 use Rattle.std.proofs.lemmas.Bool.{and_parts, ltb-true}
 use Rattle.std.proofs.lemmas.Bool.Decides.{nat_tests}
 use Rattle.std.proofs.lemmas.List.{get_or-set_same}
 use Rattle.dr_entry.specs.declared.entry.Item.{Item}
 use Rattle.dr_entry.specs.declared.end.SentItem.{SentItem}
+use Rattle.dr_entry.specs.declared.record.Value.{Value}
+use Rattle.dr_entry.specs.declared.record.Vote.{Vote}
+use Rattle.dr_machine.specs.Effects.{is_accept_of}
+use Rattle.dr_machine.specs.World.{no_vote}
+use Rattle.dr_words.specs.Columns.{leavers_column}
+use Rattle.std.specs.Prelude.{None, Option, Some, is_some, unwrap_or}
 use Rattle.dr_machine.specs.declared.event.Act.TheVariants as acts
 use Rattle.dr_machine.specs.declared.step.Step.{Step}
 use Rattle.dr_machine.specs.declared.step.Step.TheVariants.{Do, Append}
@@ -14,11 +20,11 @@ use Rattle.dr_words.specs.declared.column.TheConstants.{BEAT_COLUMN, RECEIVED_CO
 use Rattle.dr_words.proofs.Masks.{in_roster_small, with_member_greater, with_member_small}
 use Rattle.dr_words.specs.Masks.{with_member}
 use Rattle.dr_program.specs.Acts.{may}
-use Rattle.dr_program.specs.Replica.{Replica, me, greatest, is_other, is_wedged, least_seen, may_deliver, may_mark, may_publish, may_receive, may_report, may_suspect, acted, received, put, delivered, published, reported, marked, suspected}
+use Rattle.dr_program.specs.Replica.{Replica, me, greatest, is_other, is_wedged, least_seen, may_deliver, may_mark, may_publish, may_receive, may_report, may_suspect, acted, received, put, delivered, published, reported, marked, suspected, accepted, decided, is_own, is_others, may_commit, promise}
 use Rattle.dr_program.specs.Steps.{NoWordFell, allows, stepped}
 use Rattle.dr_program.specs.Form.{HasForm}
 use Rattle.dr_program.proofs.Least.{least_fits}
-use Rattle.dr_turn.specs.Work.{items_left, places_left, log_left, reports_left, mark_left, trust_left, tasks}
+use Rattle.dr_turn.specs.Work.{ballots_left, commit_left, items_left, open_count, places_left, log_left, reports_left, mark_left, trust_left, tasks}
 use Rattle.dr_turn.proofs.Fewer.{NoneRises, items_less}
 
 -- ---- the own words
@@ -203,6 +209,76 @@ trust_keeps word r (Do (acts.Suspect j)) form is = omega (arith, suspected_less 
 trust_keeps word r (Do a) form is = le_refl _
 trust_keeps word r s form is = le_refl _
 
+-- ---- votes
+
+leavers_accept : (n members : ℕ) → is_accept_of n members (leavers_column n) ≡ true
+leavers_accept n members = grind arith
+
+-- the member that a replica has promised is of its roster
+promise_small : (r : Replica) → HasForm r → promise r < 16
+promise_small r form =
+    let c : ℕ = leavers_column r.rows.members in
+    let there : is_accept_of r.roster r.members c ≡ true = rw form.members (leavers_accept r.roster r.members) in
+    omega (
+      arith,
+      (form.words r.rows.me c).promise (inl refl),
+      form.accept c there,
+      form.rows.few,
+    )
+
+-- an acceptance leaves fewer ballots to vote by
+accepted_from : (r : Replica) (x : Vote) → HasForm r → r.pending ≡ Some x
+    → ballots_left (acted (accepted r)) < ballots_left r
+unfolding ballots_left
+accepted_from r x form e =
+    let due = form.waits x e in
+    let tag : (accepted r).tag ≡ x.ballot + 1 = ap (λ o. (unwrap_or o no_vote).ballot + 1) e in
+    omega (arith, tag, due.ballot, due.above, promise_small r form)
+
+waits_own : (me : ℕ) (o : Option Vote) → is_own me o ≡ true → (x : Vote) × (o ≡ Some x)
+waits_own me None e = absurd (cc e)
+waits_own me (Some x) e = (x, refl)
+
+waits_others : (me : ℕ) (o : Option Vote) → is_others me o ≡ true → (x : Vote) × (o ≡ Some x)
+waits_others me None e = absurd (cc e)
+waits_others me (Some x) e = (x, refl)
+
+pub proposed_less : (r : Replica) → HasForm r → may r acts.Propose ≡ true
+    → ballots_left (acted (accepted r)) < ballots_left r
+proposed_less r form is = let t = waits_own (me r) r.pending is in accepted_from r t.0 form t.1
+
+pub accepted_less : (r : Replica) → HasForm r → may r acts.Accept ≡ true
+    → ballots_left (acted (accepted r)) < ballots_left r
+accepted_less r form is = let t = waits_others (me r) r.pending is in accepted_from r t.0 form t.1
+
+ballots_keep : (word : ℕ) (r : Replica) (s : Step) → HasForm r → allows r s ≡ true
+    → ballots_left (stepped word r s) ≤ ballots_left r
+unfolding ballots_left
+ballots_keep word r (Do acts.Propose) form is = omega (arith, proposed_less r form is)
+ballots_keep word r (Do acts.Accept) form is = omega (arith, accepted_less r form is)
+ballots_keep word r (Do a) form is = le_refl _
+ballots_keep word r s form is = le_refl _
+
+-- a commit leaves none to come
+open_one : (o : Option Value) → not (is_some o) ≡ true → open_count o ≡ 1
+open_one None e = refl
+open_one (Some v) e = absurd (cc e)
+
+pub decided_less : (r : Replica) → may_commit r ≡ true
+    → commit_left (acted (decided r)) < commit_left r
+unfolding commit_left
+decided_less r is =
+    let one = open_one r.committed (and_parts (not (is_some r.committed)) _
+    (and_parts (is_wedged r) _ is).1).0 in
+    omega (arith, one)
+
+commit_keeps : (word : ℕ) (r : Replica) (s : Step) → allows r s ≡ true
+    → commit_left (stepped word r s) ≤ commit_left r
+unfolding commit_left
+commit_keeps word r (Do acts.Commit) is = omega (arith, decided_less r is)
+commit_keeps word r (Do a) is = le_refl _
+commit_keeps word r s is = le_refl _
+
 -- ---- all of them
 
 -- no step raises any of the tasks
@@ -215,7 +291,13 @@ none_rises word r s f is form rise = (
     places_keep word r s is,
     (
       log_keeps word r s f is rise,
-      (reports_keep word r s is, (mark_keeps word r s rise, (trust_keeps word r s f is, tt))),
+      (
+        reports_keep word r s is,
+        (
+          mark_keeps word r s rise,
+          (trust_keeps word r s f is, (ballots_keep word r s f is, (commit_keeps word r s is, tt))),
+        ),
+      ),
     ),
   ),
 )

@@ -3,7 +3,7 @@ use Rattle.std.specs.Prelude.{◌≡◌, ℕ, ◌+◌, ◌*◌, ◌-◌, ◌<◌
 use Rattle.dr_program.specs.declared.place.Place.{Place}
 use Rattle.dr_program.specs.declared.place.TheConstants.{TURN}
 use Rattle.dr_program.specs.Turn.{IsIn, after, part_of, rows_in, columns_in, places_in, turn_begins}
-use Rattle.dr_program.specs.Running.{Running, members, columns, applies}
+use Rattle.dr_program.specs.Running.{Running, WaitsAt, members, columns, applies}
 use Rattle.dr_program.specs.Form.{HasForm}
 use Rattle.dr_suspect.specs.Waits.{IsWaits}
 
@@ -24,4 +24,5 @@ pub record IsUnderway (r : Running) : Type 0 where
   pub place : IsIn (members r) (columns r) r.place
   pub turns : r.replica.turns ≤ r.limit
   pub waits : IsWaits r.waits
+  pub free : WaitsAt r (part_of r.place)
   pub left : r.replica.end ≡ None → part_of r.place ≡ turn_begins → r.replica.turns < r.limit

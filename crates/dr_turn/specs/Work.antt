@@ -1,6 +1,7 @@
 -- How much a running member still has to do at most: a number that each of its deeds lowers.
 use Rattle.std.specs.Prelude.{ℕ, ◌+◌, ◌*◌, ◌-◌, ◌^◌, ◌<◌, List, [], ◌∷◌, Option, None, Some, sum_by}
 use Rattle.dr_entry.specs.declared.end.End.{End}
+use Rattle.dr_entry.specs.declared.record.Value.{Value}
 use Rattle.dr_entry.specs.declared.limits.TheConstants.{MAX_MEMBERS}
 use Rattle.dr_program.specs.declared.outcome.LogWhy.{LogWhy}
 use Rattle.dr_program.specs.declared.place.TheConstants.{TURN}
@@ -40,8 +41,22 @@ mark_left r = 1 - own r.rows DONE_COLUMN
 unfoldable pub trust_left : Replica → ℕ
 trust_left r = 2 ^ MAX_MEMBERS - r.suspects
 
+-- ballots to vote by
+unfoldable pub ballots_left : Replica → ℕ
+ballots_left r = MAX_MEMBERS + 1 - r.tag
+
+-- the value to commit
+abbrev pub open_count : Option Value → ℕ
+open_count None = 1
+open_count (Some v) = 0
+
+unfoldable pub commit_left : Replica → ℕ
+commit_left r = open_count r.committed
+
 abbrev pub tasks : List (Replica → ℕ)
-tasks = items_left ∷ places_left ∷ log_left ∷ reports_left ∷ mark_left ∷ trust_left ∷ []
+tasks =
+    items_left ∷ places_left ∷ log_left ∷ reports_left ∷ mark_left ∷ trust_left ∷ ballots_left
+    ∷ commit_left ∷ []
 
 -- some tasks together, and all of them
 unfoldable pub sum_of : List (Replica → ℕ) → Replica → ℕ

@@ -1,9 +1,10 @@
 //! Laws of the turn.
 ghost use Rattle.std.specs.Prelude.{◌≡◌, ℕ, ◌^◌, ◌<◌, ◌≤◌, None, is_some, false, true};
-ghost use Rattle.dr_machine.specs.declared.step.Step.TheVariants.{Append, Look};
+ghost use Rattle.dr_machine.specs.declared.step.Step.TheVariants.{Look};
 ghost use Rattle.dr_program.specs.declared.outcome.LogWhy.{LogWhy};
 ghost use Rattle.dr_program.specs.Form.{HasForm, IsRunningMember};
 ghost use Rattle.dr_program.specs.Running.{Running, after_step, applies, broken_off, next_step, settled, took};
+ghost use Rattle.dr_program.specs.Steps.{IsAppend};
 ghost use Rattle.dr_rows.specs.Words.{is_frozen};
 ghost use Rattle.dr_turn.specs.Search.{IsUnderway, Passed};
 ghost use Rattle.dr_turn.specs.Work.{HasGrownTo, IsDone, deeds_left};
@@ -32,9 +33,9 @@ pub fn deeds_keep_members()
         → HasForm (took word r (next_step r)).replica → HasGrownTo r (took word r (next_step r))
         → IsDone r (after_step word r) }
     ensures failed_form { (why : LogWhy) (r : Running) → IsRunningMember r → r.replica.end ≡ None
-        → next_step r ≡ Append → IsRunningMember (broken_off why r) }
+        → IsAppend (next_step r) → IsRunningMember (broken_off why r) }
     ensures failed_done { (why : LogWhy) (r : Running) → IsRunningMember r → r.replica.end ≡ None
-        → next_step r ≡ Append → IsDone r (broken_off why r) }
+        → IsAppend (next_step r) → IsDone r (broken_off why r) }
 {}
 
 /// No member's next deed is a look at a row that is frozen for it.
