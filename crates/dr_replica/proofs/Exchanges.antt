@@ -180,4 +180,5 @@ items_kept a rows t s item puts inside took room me form rise = record {
   sent = room;
   past = inside.past;
   end = inside.end;
+  votes = inside.votes;
 }

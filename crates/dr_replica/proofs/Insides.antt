@@ -1,5 +1,5 @@
 -- The fields keep their invariant.
-use Rattle.std.proofs.Common.{◌≡◌, ℕ, ◌+◌, ◌*◌, ◌/◌, ◌%◌, ◌^◌, ◌<◌, ◌≤◌, Bool, true, not, nat_lt, map, slice_index, slice_index_or, List, ◌++◌, length, Option, sym, ap, subst, ◌∙◌, arith, le_trans}
+use Rattle.std.proofs.Common.{◌≡◌, ℕ, ◌+◌, ◌*◌, ◌/◌, ◌%◌, ◌^◌, ◌<◌, ◌≤◌, Bool, true, not, nat_lt, map, slice_index, slice_index_or, List, ◌++◌, [], ◌∷◌, length, Option, None, unwrap_or, refl, sym, ap, subst, ◌∙◌, arith, le_trans}
 use Rattle.std.proofs.lemmas.Bool.{and_parts, ltb-true}
 use Rattle.dr_entry.specs.declared.end.End.{End}
 use Rattle.dr_entry.specs.declared.entry.Item.{Item}
@@ -10,17 +10,21 @@ use Rattle.dr_words.specs.declared.column.TheConstants.{RECEIVED_COLUMN}
 use Rattle.dr_words.specs.Grown.{Grown}
 use Rattle.dr_machine.specs.Effects.{entries_of}
 use Rattle.dr_program.specs.Replica as replica
-use Rattle.dr_program.specs.Replica.{Replica, delivered, least_seen, may_deliver, may_suspect, rewritten, suspected, suspicion_of}
+use Rattle.dr_program.specs.Replica.{Replica, delivered, least_seen, may_deliver, may_suspect, rewritten, suspected, suspicion_of, accepted, vote_of, voted}
 use Rattle.dr_program.specs.Form.{HasForm}
 use Rattle.std.proofs.lemmas.Option.{get_or_from_slice_get}
-use Rattle.std.specs.Prelude.{Some, slice_get}
+use Rattle.std.specs.Prelude.{Some, slice_get, vec_capacity}
+use Rattle.dr_entry.specs.declared.record.Value.{Value}
+use Rattle.dr_entry.specs.declared.record.Vote.{Vote}
+use Rattle.dr_machine.specs.World.{no_vote}
+use Rattle.dr_replica.proofs.Accepting.{accepted_form}
 use Rattle.dr_history.specs.Members.{members_of}
-use Rattle.dr_machine.specs.Effects.{wedged_word}
+use Rattle.dr_machine.specs.Effects.{accepted_word, wedged_word}
 use Rattle.dr_rows.specs.Words.{with_frozen}
 use Rattle.dr_words.specs.Masks as masks
 use Rattle.dr_words.specs.Masks.{with_member, without}
 use Rattle.dr_suspect.specs.Suspicion.{Suspicion}
-use Rattle.dr_replica.proofs.Received.{suspected_received}
+use Rattle.dr_replica.proofs.Received.{accepted_received, suspected_received}
 use Rattle.dr_replica.proofs.Wedging.{suspected_form}
 use Rattle.dr_replica.specs.Items as items
 use Rattle.dr_replica.specs.Items.{Held}
@@ -58,6 +62,7 @@ state_kept a rows logged durable turns acts end inside me form rise = record {
   sent = inside.sent;
   past = inside.past;
   end = inside.end;
+  votes = inside.votes;
 }
 
 -- what holds of the value that the fields mean
@@ -188,4 +193,89 @@ suspected_kept a s rows j inside may rest there = record {
   sent = inside.sent;
   past = inside.past;
   end = inside.end;
+  votes = inside.votes;
+}
+
+-- ---- votes
+
+-- the member that it has promised, as it is read
+pub promise_read : (a : Inside) (now : Replica) (rest p : ℕ) → IsInside a → view_of a ≡ now
+    → replica.is_wedged now ≡ true → rest ≡ without a.suspects.members a.suspects.suspects
+    → slice_get (members_of rest) 0 ≡ Some p → p ≡ replica.promise now
+promise_read a now rest p inside same wedged left there =
+    least_read (without a.members a.suspects.suspects) p
+    (subst (λ (x : ℕ). slice_get (members_of x) 0 ≡ Some p)
+    (left ∙ ap (λ (x : ℕ). without x a.suspects.suspects) members) there)
+    ∙ sym promised ∙ ap replica.promise same
+  where
+    members : a.suspects.members ≡ a.members
+    members = ap (λ (x : Suspicion). x.members) inside.suspicion
+
+    here : replica.is_wedged (view_of a) ≡ true
+    here = ap replica.is_wedged same ∙ wedged
+
+    promised : replica.promise (view_of a) ≡ masks.least_of (without a.members a.suspects.suspects)
+    promised = rw here refl
+
+-- the fields are those of the replica that has voted
+pub voted_after : (a : Inside) (now : Replica) (v : Value) (x : Vote) (votes : List Vote) → view_of a ≡ now
+    → x ≡ vote_of now v → votes ≡ a.votes.items ++ x ∷ []
+    → record (view_of a) { pending = Some x; votes = votes } ≡ voted (view_of a) v
+voted_after a now v x votes same vote more =
+    ap (λ (xs : List Vote). record (view_of a) { pending = Some x; votes = xs }) more
+    ∙ ap (λ (y : Vote). record (view_of a) { pending = Some y; votes = a.votes.items ++ y ∷ [] })
+    (vote ∙ ap (λ (r : Replica). vote_of r v) (sym same))
+
+pub votes_kept : (a : Inside) (pending : Option Vote) (votes : _) → IsInside a
+    → a.shape.members ≤ vec_capacity votes → HasForm (view_of (record a { pending = pending; votes = votes }))
+    → IsInside (record a { pending = pending; votes = votes })
+votes_kept a pending votes inside room form = record {
+  form = form;
+  suspicion = inside.suspicion;
+  members = inside.members;
+  roster = inside.roster;
+  most = inside.most;
+  messages = inside.messages;
+  next = inside.next;
+  received = inside.received;
+  sent = inside.sent;
+  past = inside.past;
+  end = inside.end;
+  votes = room;
+}
+
+-- the fields are those of the replica that has accepted the value of the vote that waits
+pub accepted_after : (a : Inside) (x : Vote) (rows : Words) → a.pending ≡ Some x
+    → rows ≡ rewritten a.rows (accepted_word a.shape.members a.members (x.ballot + 1) x.value)
+    → record (view_of a) { rows = rows; tag = x.ballot + 1; value = x.value; pending = None }
+    ≡ accepted (view_of a)
+accepted_after a x rows waits words =
+    ap (λ (w : Words). record (view_of a)
+    { rows = w; tag = x.ballot + 1; value = x.value; pending = None }) words
+    ∙ ap (λ (y : Vote). record (view_of a) {
+      rows = rewritten a.rows (accepted_word a.shape.members a.members (y.ballot + 1) y.value);
+      tag = y.ballot + 1;
+      value = y.value;
+      pending = None;
+    }) (sym (ap (λ (o : Option Vote). unwrap_or o no_vote) waits))
+
+pub accepted_kept : (a : Inside) (x : Vote) (rows : Words) → IsInside a → a.pending ≡ Some x
+    → record (view_of a) { rows = rows; tag = x.ballot + 1; value = x.value; pending = None }
+    ≡ accepted (view_of a)
+    → IsInside (record a { rows = rows; tag = x.ballot + 1; value = x.value; pending = None })
+accepted_kept a x rows inside waits there = record {
+  form = subst HasForm (sym there) (accepted_form (view_of a) x inside.form waits);
+  suspicion = same_suspicion a rows inside (ap (λ (r : Replica). r.rows.me) there);
+  members = inside.members;
+  roster = inside.roster;
+  most = inside.most;
+  messages = inside.messages;
+  next = inside.next;
+  received = le_trans inside.received (subst
+      (λ (r : Replica). least_seen (view_of a) RECEIVED_COLUMN ≤ least_seen r RECEIVED_COLUMN) (sym there)
+      (accepted_received (view_of a) x inside.form waits));
+  sent = inside.sent;
+  past = inside.past;
+  end = inside.end;
+  votes = inside.votes;
 }

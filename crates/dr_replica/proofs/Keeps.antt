@@ -5,6 +5,7 @@ use Rattle.std.proofs.lemmas.Bool.{cases_eq, cases_lt, and_parts, ltb-true, eqb-
 use Rattle.std.proofs.lemmas.Bool.Decides.{nat_tests}
 use Rattle.std.proofs.lemmas.List.{length-set, length_push, get_or-set_same, get_or-set_other, get_or_past}
 use Rattle.std.proofs.lemmas.Option.{slice_get-get_or}
+use Rattle.dr_entry.specs.declared.record.Vote.{Vote}
 use Rattle.dr_entry.specs.declared.entry.Entry.{Entry}
 use Rattle.dr_entry.specs.declared.entry.Item.{Item}
 use Rattle.dr_entry.specs.declared.entry.Item.TheVariants.{Null, Text}
@@ -26,20 +27,21 @@ use Rattle.dr_words.specs.declared.column.TheConstants.{BEAT_COLUMN, SUSPECTED_C
 use Rattle.dr_words.specs.Columns.{columns_of, recv_column}
 use Rattle.dr_words.specs.Form.{IsInForm}
 use Rattle.dr_words.specs.Grown.{HasGrown, Grown}
-use Rattle.dr_words.specs.Packing.{accept_promise, recv_word, ring_tag}
+use Rattle.dr_words.specs.Packing.{accept_promise, accept_tag, accept_value, recv_word, ring_tag}
 use Rattle.dr_words.proofs.Order.{Grown_trans}
 use Rattle.dr_program.specs.Acts.{may, taken}
 use Rattle.dr_machine.proofs.Sending.{messages_within, next_message, next_null, only_messages}
 use Rattle.dr_machine.specs.Sending.{IsPut}
-use Rattle.dr_machine.specs.Effects.{one_more, entries_of}
+use Rattle.dr_machine.specs.Effects.{is_accept_of, one_more, entries_of}
 use Rattle.dr_machine.specs.declared.event.Act.{Act}
 use Rattle.dr_machine.specs.declared.event.Act.TheVariants as acts
-use Rattle.dr_program.specs.Replica.{Replica, me, count, greatest, view_of, is_other, is_wedged, least_seen, sender_at, item_at, may_append, may_deliver, is_behind, may_receive, may_send, may_null, ready_item, next_index, gained, acted, beaten, ended, reported, appended, delivered, published, marked, looked, pushed, put, received, suspected}
+use Rattle.dr_program.specs.Replica.{Replica, me, count, greatest, view_of, is_other, is_wedged, least_seen, sender_at, item_at, may_append, may_deliver, is_behind, may_receive, may_send, may_null, ready_item, next_index, gained, acted, beaten, ended, reported, appended, delivered, published, marked, looked, pushed, put, received, suspected, accepted, decided}
 use Rattle.dr_program.specs.Form.{HasForm}
 use Rattle.dr_replica.proofs.Members.{some_member}
 use Rattle.dr_replica.proofs.Tables.{IsTable, free_in_form, done_in_form, free_grown, table_looked, table_set, own_written, own_left, own_seen, looked_grown, set_grown}
 use Rattle.dr_replica.specs.Puts.{MayPut}
 use Rattle.dr_replica.proofs.Puts.{table_put, put_left, put_tags, put_grown}
+use Rattle.dr_replica.proofs.Accepting.{accepted_form, accepted_grown, decided_form, others_wait, own_waits}
 use Rattle.dr_replica.proofs.Wedging.{accept_within, suspected_form, suspected_grown}
 use Rattle.dr_replica.proofs.Gains.{counts_bounded, front_rises, shown, table_shown, shown_left, shown_recv, shown_received, shown_grown}
 
@@ -90,6 +92,11 @@ rest_keeps r next logged durable turns acts history end f more within room rises
   suspected = f.suspected;
   recv = f.recv;
   accept = f.accept;
+  tagged = f.tagged;
+  valued = f.valued;
+  low = f.low;
+  waits = f.waits;
+  votes = f.votes;
   received = f.received;
   beat = omega (arith, f.beat);
   acts = small;
@@ -137,9 +144,12 @@ words_keep r words sent f w = record {
       ∙ f.suspected;
   recv = λ s lt. w.kept (recv_column s) (λ e. omega arith) (λ e. omega arith) (λ e. omega arith)
       ∙ f.recv s lt;
-  accept = λ c is. let high = accept_within r.roster r.members c is in
-      ap accept_promise (w.kept c (λ e. omega (arith, high)) (λ e. omega (arith, high))
-      (λ e. omega (arith, high))) ∙ f.accept c is;
+  accept = λ c is. ap accept_promise (same c is) ∙ f.accept c is;
+  tagged = λ c is. ap accept_tag (same c is) ∙ f.tagged c is;
+  valued = λ c is. ap accept_value (same c is) ∙ f.valued c is;
+  low = f.low;
+  waits = f.waits;
+  votes = f.votes;
   received = w.kept RECEIVED_COLUMN (λ e. omega arith) (λ e. omega arith) (λ e. omega arith)
       ∙ f.received;
   beat = w.beat;
@@ -157,6 +167,11 @@ words_keep r words sent f w = record {
   room = f.room;
   small = f.small;
 }
+  where
+    same : (c : ℕ) → is_accept_of r.roster r.members c ≡ true
+        → own (record r.rows { words = words; sent = sent }) c ≡ own r.rows c
+    same c is = let high = accept_within r.roster r.members c is in
+        w.kept c (λ e. omega (arith, high)) (λ e. omega (arith, high)) (λ e. omega (arith, high))
 
 -- an own word of the beat, the logged and the done column
 own_keeps : (r : Replica) (c v : ℕ) → HasForm r → (c ≡ BEAT_COLUMN)
@@ -374,6 +389,9 @@ gained_keeps r s item words puts f p =
     let low : (c : ℕ) → c < 6 + 2 * r.roster → c ≢ RECEIVED_COLUMN → c ≢ recv_column s
     → own (shown w s k front) c ≡ own r.rows c =
     λ c l a b. shown_left w s k front c a b ∙ p.kept c l in
+    let same : (c : ℕ) → is_accept_of r.roster r.members c ≡ true → own (shown w s k front) c ≡ own r.rows c =
+    λ c is. let high = accept_within r.roster r.members c is in
+    low c high.1 (λ e. omega (arith, high)) (λ e. omega (arith, high, p.sender)) in
     record {
       rows = t.rows;
       members = t.members;
@@ -398,9 +416,12 @@ gained_keeps r s item words puts f p =
             rw kept (low (recv_column j) (omega arith) (λ e. omega arith) (λ e. other (omega arith))
             ∙ f.recv j l)
       ];
-      accept = λ c is. let high = accept_within r.roster r.members c is in
-          ap accept_promise (low c high.1 (λ e. omega (arith, high)) (λ e. omega (arith, high, p.sender)))
-          ∙ f.accept c is;
+      accept = λ c is. ap accept_promise (same c is) ∙ f.accept c is;
+      tagged = λ c is. ap accept_tag (same c is) ∙ f.tagged c is;
+      valued = λ c is. ap accept_value (same c is) ∙ f.valued c is;
+      low = f.low;
+      waits = f.waits;
+      votes = f.votes;
       received = shown_received r.roster r.window w s k front p.table p.sender few;
       beat = omega (arith, low BEAT_COLUMN (omega arith) (λ e. omega arith) (λ e. omega arith), f.beat);
       acts = f.acts;
@@ -533,6 +554,19 @@ sending r f may =
       order = next_message r.base (length r.messages) r.sent f.order left;
     }
 
+-- the index of that message is small
+pub index_small : (r : Replica) → HasForm r → may_send r ≡ true → next_index r < 2 ^ 32
+index_small r f may =
+    let both = and_parts (not (is_wedged r)) _ may in
+    let two = and_parts (nat_lt (next_index r) (length r.messages)) _ both.1 in
+    omega (
+      arith,
+      ltb-true (next_index r) (length r.messages) two.0,
+      f.messages,
+      totals_most r.totals (me r),
+      f.few,
+    )
+
 -- a number above one of the counts is none of the greatest
 behind_some : (k most : ℕ) (counts : List ℕ) → ((s : ℕ) → slice_index counts s ≤ most)
     → list_any (nat_lt k) counts ≡ true → k < most
@@ -602,6 +636,17 @@ put_rises r name item f may =
     (gained_grown r (me r) item words (r.sent ++ name ∷ []) f (putting r name item f may)))
     (acted_grown (put r name item) (put_form r name item f may))
 
+-- ---- votes
+
+-- the act of accepting a value
+accepting_grown : (r : Replica) (x : Vote) → HasForm r → r.pending ≡ Some x
+    → Grown r.roster r.rows.words (acted (accepted r)).rows.words r.rows.frozen
+    (acted (accepted r)).rows.frozen
+accepting_grown r x f e =
+    Grown_trans r.roster r.rows.words (accepted r).rows.words (acted (accepted r)).rows.words
+    r.rows.frozen r.rows.frozen r.rows.frozen (accepted_grown r x f e)
+    (acted_grown (accepted r) (accepted_form r x f e))
+
 -- ---- every act
 
 -- each act that a replica may take keeps it in form
@@ -616,6 +661,11 @@ taken_keeps r acts.Publish f m = published_keeps r f
 taken_keeps r acts.Report f m = reported_keeps r f
 taken_keeps r acts.Mark f m = marked_keeps r f
 taken_keeps r (acts.Suspect j) f m = acted_keeps (suspected r j) (suspected_form r j f m)
+taken_keeps r acts.Propose f m =
+    let x = own_waits (me r) r.pending m in acted_keeps (accepted r) (accepted_form r x.0 f x.1)
+taken_keeps r acts.Accept f m =
+    let x = others_wait (me r) r.pending m in acted_keeps (accepted r) (accepted_form r x.0 f x.1)
+taken_keeps r acts.Commit f m = acted_keeps (decided r) (decided_form r f)
 taken_keeps r (acts.Halt end) f m = ended_keeps r end f
 taken_keeps r (acts.Crash end) f m = ended_keeps r end f
 
@@ -632,4 +682,8 @@ taken_grown r (acts.Suspect j) f m =
     Grown_trans r.roster r.rows.words (suspected r j).rows.words (acted (suspected r j)).rows.words
     r.rows.frozen (suspected r j).rows.frozen (suspected r j).rows.frozen (suspected_grown r j f m)
     (acted_grown (suspected r j) (suspected_form r j f m))
+taken_grown r acts.Propose f m =
+    let x = own_waits (me r) r.pending m in accepting_grown r x.0 f x.1
+taken_grown r acts.Accept f m =
+    let x = others_wait (me r) r.pending m in accepting_grown r x.0 f x.1
 taken_grown r a f m = acted_grown r f

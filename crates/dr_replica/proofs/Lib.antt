@@ -2,6 +2,7 @@ pub mod Members
 pub mod Tables
 pub mod Rewrites
 pub mod Wedging
+pub mod Accepting
 pub mod Gains
 pub mod Spots
 pub mod Places
@@ -13,3 +14,4 @@ pub mod Insides
 pub mod Judging
 pub mod Exchanges
 pub mod Openings
+pub mod Choosing

@@ -9,6 +9,7 @@ use Rattle.dr_rows.specs.Words.{Words, begun, with_own}
 use Rattle.dr_words.specs.declared.column.TheConstants.{LOGGED_COLUMN}
 use Rattle.dr_words.specs.Columns.{columns_of}
 use Rattle.dr_suspect.specs.Suspicion.{Suspicion, trusting}
+use Rattle.dr_machine.specs.World.{no_value}
 use Rattle.dr_program.specs.declared.setup.Setup.{Setup}
 use Rattle.dr_program.specs.Replica.{begun_replica, first_entries_of, greatest}
 use Rattle.dr_program.specs.Form.{CanBegin, HasForm}
@@ -66,6 +67,12 @@ pub record AreBegun (a : Inside) (s : Setup) (fresh : Words) (top : ℕ) : Type 
   pub turns : a.turns ≡ 0
   pub acts : a.acts ≡ 0
   pub end : a.end ≡ None
+  pub age : a.age ≡ s.age
+  pub tag : a.tag ≡ 0
+  pub value : a.value ≡ no_value
+  pub committed : a.committed ≡ None
+  pub pending : a.pending ≡ None
+  pub votes : a.votes.items ≡ []
 
 -- the fields as they were made are those of the replica that begins
 pub begun_view : (a : Inside) (s : Setup) (first : Words) (most : ℕ) → AreBegun a s first most
@@ -94,14 +101,15 @@ begun_view a s first most b =
     let suspects : a.suspects.suspects ≡ 0 = ap (λ (x : Suspicion). x.suspects) b.suspects in
     let sent = b.sent in
     let next : a.next.place ≡ 0 = ap (λ (n : Spot). n.place) b.next in let turns = b.turns in
-    let acts = b.acts in let end = b.end in
+    let acts = b.acts in let end = b.end in let age = b.age in let tag = b.tag in let value = b.value in
+    let committed = b.committed in let pending = b.pending in let votes = b.votes in
     cc
 
 -- the fields as they were made are in good order inside
 pub begun_inside : (a : Inside) (s : Setup) (first : Words) (most : ℕ) → CanBegin s
     → AreBegun a s first most → most ≤ vec_capacity a.sent → a.past.items ≡ []
-    → 1 ≤ vec_capacity a.past → IsInside a
-begun_inside a s first most can b sent past end = record {
+    → 1 ≤ vec_capacity a.past → s.shape.members ≤ vec_capacity a.votes → IsInside a
+begun_inside a s first most can b sent past end votes = record {
   form = subst HasForm (sym (begun_view a s first most b)) (begun_in_form s can);
   suspicion =
       let me : a.rows.me ≡ s.me = ap (λ (w : Words). w.me) b.rows ∙ ap (λ (w : Words). w.me) b.first in
@@ -115,4 +123,5 @@ begun_inside a s first most can b sent past end = record {
   sent = rw (b.totals, ← b.most) sent;
   past = past;
   end = end;
+  votes = rw b.shape votes;
 }

@@ -1,16 +1,18 @@
 -- What every member of the view is seen to have received only rises; and what the watches tell of it.
-use Rattle.std.proofs.Common.{◌≡◌, ◌≢◌, ◌↔◌, refl, sym, ap, ◌∙◌, ℕ, ◌+◌, ◌-◌, ◌^◌, ◌<◌, ◌≤◌, Bool, true, false, List, min, nat_lt, le_of_eq, le_trans, arith}
+use Rattle.std.proofs.Common.{◌≡◌, ◌≢◌, ◌↔◌, refl, sym, ap, ◌∙◌, ℕ, ◌+◌, ◌-◌, ◌^◌, ◌<◌, ◌≤◌, Bool, true, false, List, Some, min, nat_lt, le_of_eq, le_trans, arith}
 use Rattle.std.proofs.lemmas.Bool.{ltb-true}
 use Rattle.std.proofs.lemmas.Bool.Decides.{nat_tests}
 use Rattle.dr_entry.specs.declared.entry.Item.{Item}
 use Rattle.dr_entry.specs.declared.end.SentItem.{SentItem}
+use Rattle.dr_entry.specs.declared.record.Vote.{Vote}
 use Rattle.dr_machine.specs.Effects.{one_more}
 use Rattle.dr_history.specs.Members.{has}
 use Rattle.dr_pred.specs.Group.{IsOfGroup}
 use Rattle.dr_pred.specs.Watches.{AllLogged, AllReceivedAbove}
 use Rattle.dr_program.proofs.Least.{below_least_seen, least_of, least_rises, received_small}
 use Rattle.dr_program.specs.Form.{HasForm}
-use Rattle.dr_program.specs.Replica.{Replica, acted, least_seen, may_receive, may_suspect, me, put, received, suspected}
+use Rattle.dr_program.specs.Replica.{Replica, accepted, acted, least_seen, may_receive, may_suspect, me, put, received, suspected}
+use Rattle.dr_replica.proofs.Accepting.{accepted_grown}
 use Rattle.dr_replica.proofs.Keeps.{put_rises, received_grown}
 use Rattle.dr_replica.proofs.Wedging.{suspected_grown}
 use Rattle.dr_replica.specs.Puts.{MayPut}
@@ -60,6 +62,12 @@ pub suspected_received : (r : Replica) (j : ℕ) → HasForm r → may_suspect r
 suspected_received r j form may =
     grown_received r (suspected r j) r.rows.frozen (suspected r j).rows.frozen refl
     (suspected_grown r j form may)
+
+-- nor where a value is accepted
+pub accepted_received : (r : Replica) (x : Vote) → HasForm r → r.pending ≡ Some x
+    → least_seen r RECEIVED_COLUMN ≤ least_seen (accepted r) RECEIVED_COLUMN
+accepted_received r x form e =
+    grown_received r (accepted r) r.rows.frozen r.rows.frozen refl (accepted_grown r x form e)
 
 -- ---- what the watches tell
 

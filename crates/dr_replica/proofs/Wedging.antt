@@ -87,13 +87,13 @@ wedged_rest n members mask promise c word other outside =
     behind at (inr g) = absurd (omega (arith, at, g))
 
 -- the parts of an accept word
-promise_of : (p t v : ℕ) → t < 2 ^ 8 → v < 2 ^ 48 → accept_promise (accept_word p t v) ≡ p
+pub promise_of : (p t v : ℕ) → t < 2 ^ 8 → v < 2 ^ 48 → accept_promise (accept_word p t v) ≡ p
 promise_of p t v small low = omega arith
 
-tag_of : (p t v : ℕ) → t < 2 ^ 8 → v < 2 ^ 48 → accept_tag (accept_word p t v) ≡ t
+pub tag_of : (p t v : ℕ) → t < 2 ^ 8 → v < 2 ^ 48 → accept_tag (accept_word p t v) ≡ t
 tag_of p t v small low = omega arith
 
-value_of : (p t v : ℕ) → t < 2 ^ 8 → v < 2 ^ 48 → accept_value (accept_word p t v) ≡ v
+pub value_of : (p t v : ℕ) → t < 2 ^ 8 → v < 2 ^ 48 → accept_value (accept_word p t v) ≡ v
 value_of p t v small low = omega arith
 
 tag_small : (word : ℕ) → accept_tag word < 2 ^ 8
@@ -113,7 +113,7 @@ final_recv n true false = refl
 final_recv n false false = refl
 
 -- it is in form
-accept_column : (n c : ℕ) → IsAcceptColumn n c → (5 + n ≤ c) × (c < 6 + 2 * n)
+pub accept_column : (n c : ℕ) → IsAcceptColumn n c → (5 + n ≤ c) × (c < 6 + 2 * n)
 accept_column n c (inl e) = (omega (arith, e), omega (arith, e))
 accept_column n c (inr t) = (omega (arith, t.2), omega (arith, t.1, t.2))
 
@@ -315,11 +315,25 @@ suspected_form r j f may = record {
       ∙ wedged_recv r.roster r.members (mask_with r j) (voter_of r j) i (own r.rows (recv_column i)) l
       ∙ rw (f.recv i l, s.wedged) (final_recv (count r i) (is_wedged r) (has r.members i));
   accept = λ c is.
-      let low : c < r.rows.columns = omega (arith, f.columns, accept_within r.roster r.members c is) in
-      rw s.wedged (ap accept_promise (word c low
-      ∙ wedged_accept r.roster r.members (mask_with r j) (voter_of r j) c (own r.rows c) is)
+      rw s.wedged (ap accept_promise (anew_accept c is)
       ∙ promise_of (voter_of r j) (accept_tag (own r.rows c))
       (accept_value (own r.rows c)) (tag_small (own r.rows c)) (value_small (own r.rows c)));
+  tagged = λ c is. ap accept_tag (anew_accept c is)
+      ∙ tag_of (voter_of r j) (accept_tag (own r.rows c))
+      (accept_value (own r.rows c)) (tag_small (own r.rows c)) (value_small (own r.rows c))
+      ∙ f.tagged c is;
+  valued = λ c is. ap accept_value (anew_accept c is)
+      ∙ value_of (voter_of r j) (accept_tag (own r.rows c))
+      (accept_value (own r.rows c)) (tag_small (own r.rows c)) (value_small (own r.rows c))
+      ∙ f.valued c is;
+  low = rw s.wedged (omega (arith, f.low, s.later));
+  waits = λ x e. let due = f.waits x e in rw s.wedged (record {
+    ballot = omega (arith, due.ballot, s.later);
+    above = due.above;
+    leavers = due.leavers;
+    trims = due.trims;
+  });
+  votes = f.votes;
   received = early RECEIVED_COLUMN (omega arith) (λ e. absurd (omega arith)) ∙ f.received;
   beat = omega (arith, early BEAT_COLUMN (omega arith) (λ e. absurd (omega arith)), f.beat);
   acts = f.acts;
@@ -342,6 +356,13 @@ suspected_form r j f may = record {
 
     word : (c : ℕ) → c < r.rows.columns → own (rewritten r.rows (anew r j)) c ≡ anew r j c (own r.rows c)
     word c low = own_rewritten r.rows (anew r j) c f.rows low
+
+    anew_accept : (c : ℕ) → is_accept_of r.roster r.members c ≡ true
+        → own (rewritten r.rows (anew r j)) c
+        ≡ accept_word (voter_of r j) (accept_tag (own r.rows c)) (accept_value (own r.rows c))
+    anew_accept c is =
+        let low : c < r.rows.columns = omega (arith, f.columns, accept_within r.roster r.members c is) in
+        word c low ∙ wedged_accept r.roster r.members (mask_with r j) (voter_of r j) c (own r.rows c) is
 
     words : AllInForm r.rows.members (rewritten r.rows (anew r j)).words
     words i c = elim (rewritten_either r.rows (anew r j) i c f.rows) [

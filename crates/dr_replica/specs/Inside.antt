@@ -39,6 +39,7 @@ pub record IsHistory (a : history.Inside) : Type 0 where
 
 abbrev pub view_of : replica.Inside → Replica
 view_of a = record {
+  age = a.age;
   roster = a.shape.members;
   window = a.shape.window;
   banks = a.shape.banks;
@@ -48,6 +49,11 @@ view_of a = record {
   view = a.view;
   members = a.members;
   suspects = a.suspects.suspects;
+  tag = a.tag;
+  value = a.value;
+  committed = a.committed;
+  pending = a.pending;
+  votes = a.votes.items;
   counts = a.items.counts;
   items = a.items.items;
   base = a.base;
@@ -77,3 +83,5 @@ pub record IsInside (a : replica.Inside) : Type 0 where
   pub sent : greatest a.totals ≤ vec_capacity a.sent
   pub past : a.past.items ≡ []
   pub end : 1 ≤ vec_capacity a.past
+  -- and for a vote by each member's ballot
+  pub votes : a.shape.members ≤ vec_capacity a.votes

@@ -5,6 +5,7 @@
 //! [`Replica::begin`].
 #![tactic(auto)]
 
+mod acceptance;
 mod history;
 mod items;
 mod replica;

@@ -3,11 +3,12 @@ mod guards;
 mod judging;
 mod opening;
 mod state;
+mod votes;
 
 use crate::history::History;
 use crate::items::Items;
 use crate::spot::Spot;
-use dr_entry::{End, Message, SentItem, ViewSent};
+use dr_entry::{End, Message, SentItem, Value, ViewSent, Vote};
 use dr_rows::Rows;
 use dr_suspect::Suspects;
 use dr_words::{Mask, Shape};
@@ -42,6 +43,14 @@ pub struct Replica {
     turns: u32,
     acts: u64,
     end: Option<End>,
+    age: u16,
+    /// What it has accepted: the tag and the value of its accept words.
+    tag: u8,
+    value: Value,
+    committed: Option<Value>,
+    /// The vote on its log that it has not yet acted on.
+    pending: Option<Vote>,
+    votes: Vec<Vote>,
 }
 
 impl Model for Replica {

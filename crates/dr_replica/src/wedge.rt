@@ -48,7 +48,7 @@ impl Wedge {
         } else if self.is_recv(column) {
             let (count, _) = unpack_recv(word);
             pack_recv(count, true)
-        } else if self.is_accept(column) {
+        } else if is_accept(&self.shape, self.members, column) {
             let (_, tag, value) = unpack_accept(word);
             pack_accept(self.promise, tag, value)
         } else {
@@ -65,15 +65,13 @@ impl Wedge {
             && column < self.shape.leavers_column()
             && self.members.has((column - first) as u8)
     }
+}
 
-    /// Whether it is that of the leavers, or of the trim of a member of the view.
-    fn is_accept(&self, column: usize) -> bool
-        ensures { result ≡ is_accept_of self.now.shape.members self.now.members column }
-    {
-        let first = self.shape.trim_column(0);
-        column == self.shape.leavers_column()
-            || first <= column
-                && column < self.shape.head_column(0)
-                && self.members.has((column - first) as u8)
-    }
+/// Whether a column is that of the leavers, or of the trim of one of these members.
+pub(crate) fn is_accept(shape: &Shape, members: Mask, column: usize) -> bool
+    ensures { result ≡ is_accept_of shape.now.members members column }
+{
+    let first = shape.trim_column(0);
+    column == shape.leavers_column()
+        || first <= column && column < shape.head_column(0) && members.has((column - first) as u8)
 }

@@ -39,6 +39,9 @@ impl Replica {
             Act::Report => self.may_report(),
             Act::Mark => self.may_mark(),
             Act::Suspect { other } => self.may_suspect(other),
+            Act::Propose => self.is_to_propose(),
+            Act::Accept => self.is_to_accept(),
+            Act::Commit => self.may_commit(),
             Act::Halt { end } => self.is_due(end),
             Act::Crash { end } => matches!(
                 end,
@@ -116,6 +119,9 @@ impl Replica {
             Act::Report => self.report(),
             Act::Mark => self.mark(),
             Act::Suspect { other } => self.suspect(other),
+            Act::Propose => self.accept(),
+            Act::Accept => self.accept(),
+            Act::Commit => self.committed = Some(self.value),
             Act::Halt { end } | Act::Crash { end } => self.end = Some(end),
         }
     }

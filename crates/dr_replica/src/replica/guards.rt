@@ -34,6 +34,7 @@ impl Replica {
             Step::Look { row, column } => self.may_look(row, column),
             Step::Push { to, column } => self.has_cell(to, column),
             Step::Append => self.may_append(),
+            Step::LogVote { value } => self.may_vote(&value),
         }
     }
 
@@ -55,7 +56,7 @@ impl Replica {
 
     /// Whether it suspects somebody. It then takes, puts and delivers no more items in its view.
     #[inline(always)]
-    fn is_wedged(&self) -> bool
+    pub(super) fn is_wedged(&self) -> bool
         ensures { result ≡ is_wedged self.now }
     {
         self.suspects.mask().bits() != 0
@@ -168,7 +169,8 @@ impl Replica {
     }
 
     /// Whether an end that is no fault is due: it is done, or a member that it doesn't suspect suspects
-    /// it, or those that it doesn't suspect are no majority of its view.
+    /// it, or those that it doesn't suspect are no majority of its view, or the next view goes on without
+    /// it.
     pub(super) fn is_due(&self, end: End) -> bool
         ensures { result ≡ is_due self.now end }
     {
@@ -182,6 +184,7 @@ impl Replica {
             End::NoMajority { mask } => {
                 self.has_no_majority() && mask == self.suspects.unsuspected().bits()
             }
+            End::Excluded { view } => self.is_named() && view == self.next_view(),
             _ => false,
         }
     }

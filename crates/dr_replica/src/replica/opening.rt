@@ -8,7 +8,7 @@ use super::Replica;
 use crate::history::History;
 use crate::items::Items;
 use crate::spot::Spot;
-use dr_entry::{End, Entry, MemberEnd, Seq, ViewSent};
+use dr_entry::{End, Entry, MAX_MEMBERS, MemberEnd, Seq, Value, ViewSent};
 use dr_program::Setup;
 use dr_rows::Rows;
 use dr_suspect::Suspects;
@@ -47,6 +47,7 @@ impl Replica {
             base: history.messages_from(setup.me),
             sent: Vec::with_capacity(alloc, most as usize)?,
             past: Vec::with_capacity(alloc, 1)?,
+            votes: Vec::with_capacity(alloc, usize::from(shape.members))?,
             messages,
             next: Spot::first(),
             received: 0,
@@ -56,6 +57,14 @@ impl Replica {
             turns: 0,
             acts: 0,
             end: None,
+            age: setup.age,
+            tag: 0,
+            value: Value {
+                leavers: 0,
+                trim: [0; MAX_MEMBERS],
+            },
+            committed: None,
+            pending: None,
         })
     }
 

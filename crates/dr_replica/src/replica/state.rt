@@ -1,5 +1,5 @@
 //! What is known of a replica.
-ghost use Rattle.std.specs.Prelude.{◌≡◌, ◌-◌, ◌<◌, length, slice_get, Some, true};
+ghost use Rattle.std.specs.Prelude.{◌≡◌, ◌+◌, ◌-◌, ◌<◌, length, slice_get, Some, true};
 ghost use Rattle.dr_history.specs.Members.{has};
 ghost use Rattle.dr_machine.specs.Effects.{one_more};
 ghost use Rattle.dr_program.specs.Form.{HasForm};
@@ -36,6 +36,16 @@ impl Replica {
         ensures { result ≡ self.now.view }
     {
         self.view
+    }
+
+    /// The number of the next view.
+    #[inline]
+    pub fn next_view(&self) -> u8
+        ensures { result ≡ self.now.view + 1 }
+    {
+        let banks = self.shape.banks;
+        prove!(self.view < banks);
+        self.view + 1
     }
 
     /// The members of its view.
@@ -128,6 +138,13 @@ impl Replica {
         ensures { result ≡ self.now.room - self.now.logged }
     {
         self.history.room().saturating_sub(self.logged)
+    }
+
+    /// How many votes more its log may get in this age.
+    pub fn votes_left(&self) -> usize
+        ensures { result ≡ self.now.roster - length self.now.votes }
+    {
+        usize::from(self.shape.members).saturating_sub(self.votes.len())
     }
 
     /// The number of entries that it reported durable.

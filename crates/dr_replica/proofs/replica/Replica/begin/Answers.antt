@@ -1,6 +1,7 @@
 use Rattle.std.proofs.Common.{ℕ, List, length, None, refl, rules, sym, ap, subst, ◌∙◌, arith}
 use Rattle.dr_entry.specs.declared.entry.Entry.{Entry}
 use Rattle.dr_rows.specs.Words.{begun, with_own}
+use Rattle.dr_machine.specs.World.{no_value}
 use Rattle.dr_program.specs.Form.{HasForm}
 use Rattle.dr_program.proofs.OpeningForm.{begun_in_form}
 use Rattle.dr_replica.specs.declared.replica.Replica.TheInside.{Inside}
@@ -42,6 +43,12 @@ fields c = record {
   turns = 0;
   acts = 0;
   end = None;
+  age = c.args.setup.age;
+  tag = 0;
+  value = no_value;
+  committed = None;
+  pending = None;
+  votes = c.in_ok-with_capacity-3.field-0;
 }
 
 made : (c : After-first) → AreBegun (fields c) c.args.setup c.in_ok-rows.rows c.greatest-most.result
@@ -75,12 +82,19 @@ made c = record {
   turns = refl;
   acts = refl;
   end = refl;
+  age = refl;
+  tag = refl;
+  value = refl;
+  committed = refl;
+  pending = refl;
+  votes = c.in_ok-with_capacity-3.ensures.items;
 }
 
 pub invariant_of-result : goal.invariant_of-result
 invariant_of-result c =
     begun_inside (fields c) c.args.setup c.in_ok-rows.rows c.greatest-most.result c.requires (made c)
     (search rules) c.in_ok-with_capacity-2.ensures.items c.in_ok-with_capacity-2.ensures.capacity
+    (rw (← c.from-3.ensures) c.in_ok-with_capacity-3.ensures.capacity)
 
 pub returns-clause-form : goal.returns-clause-form
 returns-clause-form c =

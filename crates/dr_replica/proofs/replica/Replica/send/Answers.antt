@@ -1,13 +1,21 @@
-use Rattle.std.proofs.Common.{◌≡◌, sym, subst, ◌∙◌, ap, ℕ, length, ◌<◌, not, nat_lt}
+use Rattle.std.proofs.Common.{◌≡◌, sym, subst, ◌∙◌, ap, ℕ, length, ◌<◌, not, nat_lt, arith}
 use Rattle.std.proofs.lemmas.Bool.{and_parts, ltb-true}
 use Rattle.dr_entry.specs.declared.entry.Item.{Item}
 use Rattle.dr_entry.specs.declared.entry.Item.TheVariants.{Text}
 use Rattle.dr_entry.specs.declared.end.SentItem.TheVariants.{Index}
+use Rattle.dr_program.specs.Form.{HasForm}
 use Rattle.dr_program.specs.Replica.{is_wedged, next_index, put}
 use Rattle.dr_replica.specs.Puts.{MayPut}
 use Rattle.dr_replica.proofs.Exchanges.{message_read}
-use Rattle.dr_replica.proofs.Keeps.{message_to_send, sending}
+use Rattle.dr_replica.proofs.Keeps.{index_small, message_to_send, sending}
 use Rattle.dr_replica.proofs.replica.Replica.send.Goals as goal
+
+pub overflow_cast-index : goal.overflow_cast-index
+overflow_cast-index c = omega (
+  arith,
+  c.next_index-index.ensures,
+  index_small c.args.self.now (subst HasForm c.self.view_is c.self.invariant.form) c.requires,
+)
 
 pub put-requires : goal.put-requires
 put-requires c = λ form.

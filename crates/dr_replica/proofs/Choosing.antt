@@ -1,0 +1,213 @@
+-- What the tests and values of a change of the view tell of a replica, by where it stands.
+use Rattle.std.proofs.Common.{◌≡◌, refl, sym, ap, subst, ◌∙◌, ℕ, ◌==◌, ◌||◌, ◌&&◌, not, Bool, true, false, Option, None, Some, is_some, length}
+use Rattle.std.specs.Prelude.{MatchOption, nat_eq}
+use Rattle.std.proofs.lemmas.Bool.{and_from, and_parts, eq-eqb, eqb-true}
+use Rattle.std.specs.Cmp.Lexicographic.{other_text, same_text}
+use lib.Pointwise.{pointwise}
+use Rattle.dr_entry.specs.declared.record.Value.{Value}
+use Rattle.dr_lead.specs.Accepts as lead_accepts
+use Rattle.dr_lead.specs.Changes as lead
+use Rattle.dr_lead.specs.Standings.{IsStanding}
+use Rattle.dr_lead.specs.declared.standing.Standing.{Standing}
+use Rattle.dr_rows.specs.Words.{seen}
+use Rattle.dr_words.proofs.Choices.{accept_test, commit_test, proposal_is, proposal_long, propose_test, shows_value, trims_long}
+use Rattle.dr_words.proofs.Values.{proposal_once, shows_once}
+use Rattle.dr_words.specs.Accepts.{Shows, promise_of, trim_word}
+use Rattle.dr_words.specs.Changes.{IsProposal, MayAccept, MayCommit, MayPropose}
+use Rattle.dr_words.specs.Packing.{accept_value}
+use Rattle.dr_words.specs.Choices as choices
+use Rattle.dr_words.specs.Choices.{proposal, shown_value}
+use Rattle.dr_program.proofs.Voting.{self_left, value_long, value_test, view_small, votes_for}
+use Rattle.dr_program.specs.Form.{HasForm}
+use Rattle.dr_replica.proofs.Received.{same_truth}
+use Rattle.dr_program.specs.Replica.{Replica, is_value, is_wedged, may_accept, may_append, may_propose, may_vote, me, value_due}
+
+-- it stands as the replica says, its history logged
+pub record StandsAs (r : Replica) (s : Standing) : Type 0 where
+  pub form : IsStanding r.rows s
+  pub members : s.members ≡ r.members
+  pub suspects : s.suspects ≡ r.suspects
+  pub logged : s.caught_up ≡ true
+
+-- the standing of a replica that is the same
+pub stands : (r now : Replica) (s : Standing) → r ≡ now → IsStanding now.rows s → s.members ≡ now.members
+    → s.suspects ≡ now.suspects → s.caught_up ≡ true → StandsAs r s
+stands r now s same form members suspects logged =
+    subst (λ (x : Replica). StandsAs x s) (sym same)
+    (record { form = form; members = members; suspects = suspects; logged = logged })
+
+-- what holds by the standing holds by the replica, and the other way round
+to_replica : (r : Replica) (s : Standing) (P : ℕ → ℕ → ℕ → ℕ → Type 0) → HasForm r → StandsAs r s
+    → P r.rows.members s.members s.suspects s.me → P r.roster r.members r.suspects (me r)
+to_replica r s P f is p =
+    subst (λ (k : ℕ). P r.roster r.members r.suspects k) is.form.me
+    (subst (λ (k : ℕ). P r.roster r.members k s.me) is.suspects
+    (subst (λ (k : ℕ). P r.roster k s.suspects s.me) is.members
+    (subst (λ (k : ℕ). P k s.members s.suspects s.me) f.members p)))
+
+to_standing : (r : Replica) (s : Standing) (P : ℕ → ℕ → ℕ → ℕ → Type 0) → HasForm r → StandsAs r s
+    → P r.roster r.members r.suspects (me r) → P r.rows.members s.members s.suspects s.me
+to_standing r s P f is p =
+    subst (λ (k : ℕ). P k s.members s.suspects s.me) (sym f.members)
+    (subst (λ (k : ℕ). P r.roster k s.suspects s.me) (sym is.members)
+    (subst (λ (k : ℕ). P r.roster r.members k s.me) (sym is.suspects)
+    (subst (λ (k : ℕ). P r.roster r.members r.suspects k) (sym is.form.me) p)))
+
+-- a test that isn't passed
+untrue : (b : Bool) → (b ≡ true → ⊥) → b ≡ false
+untrue true never = absurd (never refl)
+untrue false never = refl
+
+-- the relations at the replica's rows
+abbrev ToPropose : Replica → ℕ → ℕ → ℕ → ℕ → Type 0
+ToPropose r n members suspects k = MayPropose n (seen r.rows) members suspects k
+
+abbrev ToAccept : Replica → ℕ → ℕ → ℕ → ℕ → Type 0
+ToAccept r n members suspects k = MayAccept n (seen r.rows) members suspects k
+
+abbrev ToCommit : Replica → ℕ → ℕ → ℕ → ℕ → Type 0
+ToCommit r n members suspects k = MayCommit n (seen r.rows) members k
+
+-- whether it may propose
+pub propose_told : (r : Replica) (s : Standing) (o : Option Value) → HasForm r → StandsAs r s
+    → MatchOption o (¬ lead.MayPropose r.rows s)
+    (λ v. lead.MayPropose r.rows s × lead.IsProposal r.rows s v)
+    → is_some o ≡ may_propose r
+propose_told r s None f is told =
+    sym (untrue (may_propose r) (λ e.
+    told (
+      to_standing r s (ToPropose r) f is
+          ((propose_test r.roster (seen r.rows) r.members r.suspects (me r) (view_small r f)).0 e),
+      is.logged,
+    )))
+propose_told r s (Some v) f is told =
+    sym ((propose_test r.roster (seen r.rows) r.members r.suspects (me r) (view_small r f)).1
+    (to_replica r s (ToPropose r) f is told.0.0))
+
+-- whether it may accept
+pub accept_told : (r : Replica) (s : Standing) (o : Option Value) → HasForm r → StandsAs r s
+    → MatchOption o (¬ lead.MayAccept r.rows s)
+    (λ v. lead.MayAccept r.rows s
+    × lead_accepts.Shows r.rows s.members (lead_accepts.promise_of r.rows s.me) v)
+    → is_some o ≡ may_accept r
+accept_told r s None f is told =
+    sym (untrue (may_accept r) (λ e.
+    told (
+      to_standing r s (ToAccept r) f is
+          ((accept_test r.roster (seen r.rows) r.members r.suspects (me r) (view_small r f)).0 e),
+      is.logged,
+    )))
+accept_told r s (Some v) f is told =
+    sym ((accept_test r.roster (seen r.rows) r.members r.suspects (me r) (view_small r f)).1
+    (to_replica r s (ToAccept r) f is told.0.0))
+
+-- whether it may commit
+pub commit_told : (r : Replica) (s : Standing) (o : Option Value) → HasForm r → StandsAs r s
+    → MatchOption o (¬ lead.MayCommit r.rows s)
+    (λ v. lead.MayCommit r.rows s × lead_accepts.Shows r.rows s.members s.me v)
+    → is_some o ≡ choices.may_commit r.roster (seen r.rows) r.members (me r)
+commit_told r s None f is told =
+    sym (untrue (choices.may_commit r.roster (seen r.rows) r.members (me r)) (λ e.
+    told (to_standing r s (ToCommit r) f is
+    ((commit_test r.roster (seen r.rows) r.members (me r)).0 e))))
+commit_told r s (Some v) f is told =
+    sym ((commit_test r.roster (seen r.rows) r.members (me r)).1
+    (to_replica r s (ToCommit r) f is told.0))
+
+-- the value that it proposes
+pub proposes : (r : Replica) (s : Standing) (o : Option Value) (v : Value) → HasForm r → StandsAs r s
+    → MatchOption o (¬ lead.MayPropose r.rows s)
+    (λ v. lead.MayPropose r.rows s × lead.IsProposal r.rows s v)
+    → o ≡ Some v → length v.trim ≡ 16 → v ≡ value_due r
+proposes r s o v f is told there long = by o told there
+  where
+    due : may_propose r ≡ true → value_due r ≡ proposal r.roster (seen r.rows) r.members r.suspects
+    due e = rw e refl
+
+    value : lead.MayPropose r.rows s × lead.IsProposal r.rows s v → v ≡ value_due r
+    value t =
+        let may : may_propose r ≡ true =
+        (propose_test r.roster (seen r.rows) r.members r.suspects (me r) (view_small r f)).1
+        (to_replica r s (ToPropose r) f is t.0.0) in
+        proposal_once r.roster (seen r.rows) r.members r.suspects v
+        (proposal r.roster (seen r.rows) r.members r.suspects)
+        (long ∙ sym (proposal_long r.roster (seen r.rows) r.members r.suspects))
+        (to_replica r s (λ n members suspects k. IsProposal n (seen r.rows) members suspects v) f is t.1)
+        (proposal_is r.roster (seen r.rows) r.members r.suspects (me r) (view_small r f) (self_left r f))
+        ∙ sym (due may)
+
+    by : (o : Option Value) → MatchOption o (¬ lead.MayPropose r.rows s)
+        (λ v. lead.MayPropose r.rows s × lead.IsProposal r.rows s v) → o ≡ Some v → v ≡ value_due r
+    by None t e = absurd (cc e)
+    by (Some u) t e =
+        let same : u ≡ v = cc e in
+        value (subst (λ (x : Value). lead.MayPropose r.rows s × lead.IsProposal r.rows s x) same t)
+
+-- and the one that it accepts, where it may not propose
+pub accepts : (r : Replica) (s : Standing) (v : Value) → HasForm r → StandsAs r s
+    → may_propose r ≡ false
+    → lead_accepts.Shows r.rows s.members (lead_accepts.promise_of r.rows s.me) v
+    → length v.trim ≡ 16 → v ≡ value_due r
+accepts r s v f is none shows long =
+    shows_once r.roster (seen r.rows) r.members (promise_of r.roster (seen r.rows) (me r)) v
+    (shown_value r.roster (seen r.rows) r.members (promise_of r.roster (seen r.rows) (me r)))
+    (long ∙ sym (trims_long r.members (λ k. accept_value (trim_word r.roster (seen r.rows)
+    (promise_of r.roster (seen r.rows) (me r)) k))))
+    (to_replica r s (λ n members suspects k. Shows n (seen r.rows) members (promise_of n (seen r.rows) k) v)
+    f is shows)
+    (shows_value r.roster (seen r.rows) r.members (promise_of r.roster (seen r.rows) (me r)) (view_small r f))
+    ∙ sym due
+  where
+    due : value_due r
+        ≡ shown_value r.roster (seen r.rows) r.members (promise_of r.roster (seen r.rows) (me r))
+    due = rw none refl
+
+-- ---- votes
+
+-- a value that is compared with the one that is due
+pub value_compared : (r : Replica) (u : Value) (b : Bool)
+    → b ≡ ((u.leavers == (value_due r).leavers) && pointwise nat_eq u.trim (value_due r).trim)
+    → b ≡ is_value u (value_due r)
+value_compared r u b told = same_truth b (is_value u due) to from
+  where
+    due : Value
+    due = value_due r
+
+    to : b ≡ true → is_value u due ≡ true
+    to e =
+        let two = and_parts (u.leavers == due.leavers) _ (sym told ∙ e) in
+        let leavers : u.leavers ≡ due.leavers = eqb-true u.leavers due.leavers two.0 in
+        let trim : u.trim ≡ due.trim = same_text u.trim due.trim (sym two.1) in
+        (value_test u due (value_long r)).1 (λ z. record { leavers = leavers z; trim = trim z })
+
+    trims : (t : Bool) → pointwise nat_eq u.trim due.trim ≡ t → u.trim ≡ due.trim
+        → pointwise nat_eq u.trim due.trim ≡ true
+    trims true e same = e
+    trims false e same = absurd (other_text u.trim due.trim (sym e) same)
+
+    from : is_value u due ≡ true → b ≡ true
+    from e =
+        let same : u ≡ due = (value_test u due (value_long r)).0 e in
+        told ∙ and_from _ _ (eq-eqb u.leavers due.leavers (ap (λ (v : Value). v.leavers) same))
+        (trims (pointwise nat_eq u.trim due.trim) refl (ap (λ (v : Value). v.trim) same))
+
+-- where a vote is due, it may vote for the value that is due alone
+all_true : (a b c d x : Bool) → a ≡ true → b ≡ true → c ≡ true → d ≡ true
+    → (a && (b && (c && (d && x)))) ≡ x
+all_true a b c d x p q r s = rw (p, q, r, s) refl
+
+pub vote_told : (r : Replica) (v : Value) → may_vote r (value_due r) ≡ true
+    → may_vote r v ≡ is_value v (value_due r)
+vote_told r v e =
+    let a = and_parts (is_wedged r) _ e in
+    let b = and_parts (not (is_some r.committed)) _ a.1 in
+    let c = and_parts (not (may_append r)) _ b.1 in
+    let d = and_parts (may_propose r || may_accept r) (is_value (value_due r) (value_due r)) c.1 in
+    all_true (is_wedged r) (not (is_some r.committed)) (not (may_append r)) (may_propose r || may_accept r)
+    (is_value v (value_due r)) a.0 b.0 c.0 d.0
+
+pub no_vote_told : (r : Replica) (v : Value) → may_vote r (value_due r) ≡ false → may_vote r v ≡ false
+no_vote_told r v none = untrue (may_vote r v) (λ e.
+    let due : may_vote r (value_due r) ≡ true =
+    subst (λ (x : Value). may_vote r x ≡ true) (votes_for r v e) e in
+    absurd (cc (none, due)))
