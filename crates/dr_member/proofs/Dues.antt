@@ -1,9 +1,16 @@
 -- What is due to a running member, by the kind of its next deed.
-use Rattle.std.proofs.Common.{◌≡◌, refl, sym, ap, ◌∙◌, ℕ, ◌<◌, ◌&&◌, Bool, true, false, nat_lt}
-use Rattle.std.specs.Prelude.{Option, Some, None}
+use Rattle.std.proofs.Common.{◌≡◌, ◌≢◌, ◌⊎◌, inl, inr, refl, sym, ap, ◌∙◌, ℕ, ◌<◌, ◌&&◌, Bool, true, false, nat_lt}
+use Rattle.std.specs.Prelude.{Option, Some, None, slice_get}
 use Rattle.std.proofs.lemmas.Bool.{and_parts, ltb-true}
+use Rattle.std.proofs.lemmas.Option.{get_or_from_slice_get}
 use Rattle.dr_entry.specs.declared.end.End.{End}
+use Rattle.dr_entry.specs.declared.entry.Entry.{Entry}
+use Rattle.dr_entry.specs.declared.entry.Entry.TheVariants.{View}
+use Rattle.dr_entry.specs.declared.record.Record.TheVariants as records
+use Rattle.dr_entry.specs.declared.record.Value.{Value}
+use Rattle.dr_entry.specs.declared.record.Vote.{Vote}
 use Rattle.dr_machine.specs.declared.event.Act.{Act}
+use Rattle.dr_machine.specs.declared.event.Act.TheVariants as acts
 use Rattle.dr_machine.specs.declared.step.Step.{Step}
 use Rattle.dr_machine.specs.declared.step.Step.TheVariants as steps
 use Rattle.dr_program.specs.declared.deed.Deed.{Deed}
@@ -11,15 +18,19 @@ use Rattle.dr_program.specs.declared.deed.Deed.TheVariants as deeds
 use Rattle.dr_program.specs.declared.outcome.LogWhy.{LogWhy}
 use Rattle.dr_program.specs.declared.place.Part.{Part}
 use Rattle.dr_program.specs.declared.place.Part.TheVariants as parts
+use Rattle.dr_program.specs.declared.place.Place.{Place}
 use Rattle.dr_program.specs.Acts.{may}
-use Rattle.dr_program.specs.Replica.{is_other, may_append}
-use Rattle.dr_program.specs.Steps.{allows, has_cell}
+use Rattle.dr_program.specs.Replica.{is_other, is_wedged, may_vote, value_due, vote_of}
+use Rattle.dr_program.specs.Steps.{IsAppend, allows, has_cell}
 use Rattle.dr_program.specs.Turn.{part_of}
-use Rattle.dr_program.specs.Running.{Running, append_or_end, asks, columns, crashes_now, deed, deed_of, members, next_deed, next_step, push_or_crash, step_at}
+use Rattle.dr_program.specs.Running.{Running, WaitsAt, append_or_end, asks, columns, crashes_now, deed, deed_of, end_by, members, next_deed, next_step, push_or_crash, step_at, vote_or_end}
 use Rattle.dr_program.specs.Reading.{step_due, step_of_member}
 use Rattle.dr_program.specs.Sight.{IsSeenNext, MaySee}
 use Rattle.dr_program.specs.Form.{IsRunningMember}
-use Rattle.dr_member.specs.Deeds.{is_look, is_push, is_append}
+use Rattle.dr_member.specs.declared.search.Due.{Due}
+use Rattle.dr_member.specs.declared.search.Due.TheVariants as dues
+use Rattle.dr_member.specs.Deeds.{is_act, is_look, is_push, is_append}
+use Rattle.dr_member.specs.Search.{step_by}
 
 -- ---- the kind of a deed
 
@@ -49,12 +60,43 @@ push_part r parts.Append i c e = absurd (by r.failed e)
     by : (o : Option LogWhy) → is_push (deed_of r (append_or_end o)) ≡ true → ⊥
     by None e = cc
     by (Some why) e = cc
+push_part r parts.Vote i c e = absurd (by r.failed e)
+  where
+    by : (o : Option LogWhy) → is_push (deed_of r (vote_or_end o (value_due r.replica))) ≡ true → ⊥
+    by None e = cc
+    by (Some why) e = cc
 push_part r part i c e = absurd (cc)
 
--- only an append's deed is one
-append_step : (r : Running) (s : Step) → is_append (deed_of r s) ≡ true → s ≡ steps.Append
-append_step r steps.Append e = refl
-append_step r s e = absurd (cc)
+-- an append's deed alone is one
+append_kind : (r : Running) (s : Step) → is_append (deed_of r s) ≡ true → IsAppend s
+append_kind r steps.Append e = tt
+append_kind r (steps.LogVote v) e = tt
+append_kind r s e = absurd (cc)
+
+-- what is appended is an entry, or at its part a vote
+append_part : (r : Running) (part : Part) (i c : ℕ) → is_append (deed_of r (step_at r part i c)) ≡ true
+    → ((part ≡ parts.Append) × (step_at r part i c ≡ steps.Append))
+    ⊎ ((part ≡ parts.Vote) × (step_at r part i c ≡ steps.LogVote (value_due r.replica)))
+append_part r parts.Look i c e = absurd (cc)
+append_part r parts.Append i c e = inl (refl, by r.failed refl e)
+  where
+    by : (o : Option LogWhy) → r.failed ≡ o → is_append (deed_of r (append_or_end o)) ≡ true
+        → append_or_end r.failed ≡ steps.Append
+    by None none e = ap append_or_end none
+    by (Some why) none e = absurd (cc)
+append_part r parts.Vote i c e = inr (refl, by r.failed refl e)
+  where
+    by : (o : Option LogWhy) → r.failed ≡ o
+        → is_append (deed_of r (vote_or_end o (value_due r.replica))) ≡ true
+        → vote_or_end r.failed (value_due r.replica) ≡ steps.LogVote (value_due r.replica)
+    by None none e = ap (λ o. vote_or_end o (value_due r.replica)) none
+    by (Some why) none e = absurd (cc)
+append_part r parts.Push i c e = absurd (by (crashes_now r) e)
+  where
+    by : (b : Bool) → is_append (deed_of r (push_or_crash b i c)) ≡ true → ⊥
+    by true e = cc
+    by false e = cc
+append_part r part i c e = absurd (cc)
 
 -- ---- what is known where a deed of a kind is due
 
@@ -106,6 +148,11 @@ look_part r parts.Push i c word may = absurd (by (crashes_now r) may)
 look_part r parts.Append i c word may = absurd (by r.failed may)
   where
     by : (o : Option LogWhy) → MaySee r (Some (append_or_end o)) word → ⊥
+    by None may = may
+    by (Some why) may = may
+look_part r parts.Vote i c word may = absurd (by r.failed may)
+  where
+    by : (o : Option LogWhy) → MaySee r (Some (vote_or_end o (value_due r.replica))) word → ⊥
     by None may = may
     by (Some why) may = may
 look_part r parts.Receive i c word may = absurd may
@@ -166,15 +213,114 @@ push_due r m e =
 -- the next deed is an append
 pub record IsAppendDue (r : Running) : Type 0 where
   pub none : r.replica.end ≡ None
-  pub step : next_step r ≡ steps.Append
-  pub may : may_append r.replica ≡ true
+  pub kind : IsAppend (next_step r)
+  pub may : allows r.replica (next_step r) ≡ true
 
 -- a running member at an append has it due, and may append
 pub append_due : (r : Running) → IsRunningMember r → is_append (next_deed r) ≡ true → IsAppendDue r
 append_due r m e =
     let due = deed_due is_append (λ end. refl) r e in
-    let step : next_step r ≡ steps.Append = append_step r (next_step r) due.1 in
-    record { none = due.0; step = step; may = allowed r m due.0 steps.Append step }
+    record {
+      none = due.0;
+      kind = append_kind r (next_step r) due.1;
+      may = allowed r m due.0 (next_step r) refl;
+    }
+
+-- at the part of the vote it is a vote of a wedged member, and none waits
+pub record IsVoteDue (r : Running) : Type 0 where
+  pub step : next_step r ≡ steps.LogVote (value_due r.replica)
+  pub may : may_vote r.replica (value_due r.replica) ≡ true
+  pub wedged : is_wedged r.replica ≡ true
+  pub free : r.replica.pending ≡ None
+
+pub vote_due : (r : Running) → IsRunningMember r → is_append (next_deed r) ≡ true
+    → part_of r.place ≡ parts.Vote → IsVoteDue r
+vote_due r m e at = record {
+  step = step;
+  may = may;
+  wedged = (and_parts (is_wedged r.replica) _ may).0;
+  free = free m.free;
+}
+  where
+    due : (r.replica.end ≡ None) × (is_append (deed_of r (next_step r)) ≡ true)
+    due = deed_due is_append (λ end. refl) r e
+
+    step : next_step r ≡ steps.LogVote (value_due r.replica)
+    step = elim (append_part r (part_of r.place) r.place.row r.place.column due.1) [
+      | inl t ↦ absurd (cc (t.0, at))
+      | inr t ↦ t.1
+    ]
+
+    may : may_vote r.replica (value_due r.replica) ≡ true
+    may = allowed r m due.0 (steps.LogVote (value_due r.replica)) step
+
+    free : WaitsAt r (part_of r.place) → r.replica.pending ≡ None
+    free (inl none) = none
+    free (inr (inl other)) = absurd (cc (other, at))
+    free (inr (inr t)) = absurd (cc (t.0, at))
+
+-- and elsewhere an entry
+pub entry_due : (r : Running) → is_append (next_deed r) ≡ true → part_of r.place ≢ parts.Vote
+    → next_step r ≡ steps.Append
+entry_due r e other =
+    elim (append_part r (part_of r.place) r.place.row r.place.column
+    (deed_due is_append (λ end. refl) r e).1) [
+      | inl t ↦ t.1
+      | inr t ↦ absurd (other t.0)
+    ]
+
+-- the next deed is to append this entry, or this vote
+pub entry_deed : (r : Running) (entry : Entry) → r.replica.end ≡ None → steps.Append ≡ next_step r
+    → slice_get r.replica.history r.replica.logged ≡ Some entry
+    → deeds.Append (records.Entry entry) ≡ next_deed r
+entry_deed r entry none step there =
+    ap (λ e. deeds.Append (records.Entry e))
+    (sym (get_or_from_slice_get r.replica.history r.replica.logged entry (View 0 0 0) there))
+    ∙ ap (deed_of r) step ∙ ap (deed r) (sym none)
+
+pub vote_deed : (r : Running) (vote : Vote) → r.replica.end ≡ None
+    → steps.LogVote (value_due r.replica) ≡ next_step r → vote ≡ vote_of r.replica (value_due r.replica)
+    → deeds.Append (records.Vote vote) ≡ next_deed r
+vote_deed r vote none step is =
+    ap (λ v. deeds.Append (records.Vote v)) is ∙ ap (deed_of r) step ∙ ap (deed r) (sym none)
+
+-- a running member whose next step is a vote is wedged
+pub vote_wedged : (r : Running) → IsRunningMember r → r.replica.end ≡ None
+    → next_step r ≡ steps.LogVote (value_due r.replica) → is_wedged r.replica ≡ true
+vote_wedged r m none step =
+    (and_parts (is_wedged r.replica) _ (allowed r m none (steps.LogVote (value_due r.replica)) step)).0
+
+-- ---- what is due at a place
+
+-- an append, or a vote, unless an append has failed
+pub append_by : (o : Option LogWhy) (d : Due) (p : Place) (v : Value) → (o ≡ None → d ≡ dues.Append)
+    → ((why : LogWhy) → o ≡ Some why → d ≡ dues.Act (acts.Crash (end_by why)))
+    → step_by d p v ≡ append_or_end o
+append_by None d p v none some = ap (λ x. step_by x p v) (none refl)
+append_by (Some why) d p v none some = ap (λ x. step_by x p v) (some why refl)
+
+pub vote_by : (o : Option LogWhy) (d : Due) (p : Place) (v : Value) → (o ≡ None → d ≡ dues.Vote)
+    → ((why : LogWhy) → o ≡ Some why → d ≡ dues.Act (acts.Crash (end_by why)))
+    → step_by d p v ≡ vote_or_end o v
+vote_by None d p v none some = ap (λ x. step_by x p v) (none refl)
+vote_by (Some why) d p v none some = ap (λ x. step_by x p v) (some why refl)
+
+-- the step of an act that is due, and the act of such a step
+pub step_is : (s : Step) (d : Due) (p : Place) (v : Value) (a : Act) → step_by d p v ≡ s → d ≡ dues.Act a
+    → s ≡ steps.Do a
+step_is s d p v a e is = sym e ∙ ap (λ x. step_by x p v) is
+
+pub act_by : (d : Due) (p : Place) (v : Value) (a : Act) → step_by d p v ≡ steps.Do a → d ≡ dues.Act a
+act_by (dues.Act b) p v a e = cc
+act_by d p v a e = absurd (cc)
+
+-- the step of an act's deed
+act_kind : (r : Running) (s : Step) → is_act (deed_of r s) ≡ true → (a : Act) × (s ≡ steps.Do a)
+act_kind r (steps.Do a) e = (a, refl)
+act_kind r s e = absurd (cc)
+
+pub act_step : (r : Running) → is_act (next_deed r) ≡ true → (a : Act) × (next_step r ≡ steps.Do a)
+act_step r e = act_kind r (next_step r) (deed_due is_act (λ end. refl) r e).1
 
 -- the next deed is an act
 pub record IsActDue (r : Running) : Type 0 where

@@ -1,6 +1,7 @@
 -- What a running member is after each kind of deed, in the terms of the code's fields.
 use Rattle.std.proofs.Common.{◌≡◌, refl, sym, ap, ◌∙◌, subst, ℕ, ◌+◌, ◌^◌, ◌<◌, ◌≤◌, ◌==◌, ◌&&◌, if◌then◌else◌, Bool, true, false, nat_lt, arith}
 use Rattle.std.proofs.lemmas.Bool.Decides.{nat_tests}
+use Rattle.dr_entry.specs.declared.record.Value.{Value}
 use Rattle.dr_rows.specs.Words.{changed}
 use Rattle.dr_rows.specs.Words as rows
 use Rattle.dr_suspect.specs.Waits.{Waits, compared}
@@ -15,8 +16,8 @@ use Rattle.dr_program.specs.declared.place.Part.TheVariants as parts
 use Rattle.dr_program.specs.declared.place.Place.{Place}
 use Rattle.std.specs.Prelude.{None}
 use Rattle.dr_program.specs.Acts.{may, taken}
-use Rattle.dr_program.specs.Replica.{Replica, appended, is_other, looked, me, pushed}
-use Rattle.dr_program.specs.Steps.{NoWordFell, allows, has_cell, stepped}
+use Rattle.dr_program.specs.Replica.{Replica, is_other, looked, me, pushed, value_due}
+use Rattle.dr_program.specs.Steps.{IsAppend, NoWordFell, allows, has_cell, stepped}
 use Rattle.dr_program.specs.Turn.{columns_in, part_of}
 use Rattle.dr_program.specs.Running.{Running, columns, goes, next_deed, next_step, settled, waits_after}
 use Rattle.dr_program.specs.Reading.{step_of_member}
@@ -31,7 +32,7 @@ use Rattle.dr_member.specs.Inside.{IsInside, view_of}
 use Rattle.dr_member.specs.Search.{next_row, standing}
 use Rattle.dr_member.proofs.Answers.{IsAnswer, IsFateAfter, IsTaken, answer_at, fate_of_act, fate_stays, is_answer, is_done, look_applies, push_applies, pushes_searched, stays}
 use Rattle.dr_member.proofs.Crashes.{some_at_push, timely_act, timely_push}
-use Rattle.dr_member.proofs.Dues.{IsLookDue, IsPushDue, allowed, append_due, deed_due, look_due, push_due}
+use Rattle.dr_member.proofs.Dues.{IsLookDue, IsPushDue, IsVoteDue, allowed, append_due, deed_due, look_due, push_due, vote_due}
 use Rattle.dr_member.proofs.Indices.{columns_kept, deeds_keep_bases}
 use Rattle.dr_member.proofs.Passing.{from_behind, from_column, from_here}
 
@@ -46,7 +47,7 @@ together : (a b : Bool) → a ≡ true → b ≡ true → (a && b) ≡ true
 together true b d e = e
 together false b d e = absurd (cc)
 
-cell_test : (replica : Replica) (i c : ℕ) → i < replica.roster → is_other replica i ≡ true
+pub cell_test : (replica : Replica) (i c : ℕ) → i < replica.roster → is_other replica i ≡ true
     → c < columns_of replica.roster replica.window → has_cell replica i c ≡ true
 cell_test replica i c row other column =
     all_three (nat_lt i replica.roster) (is_other replica i)
@@ -440,32 +441,55 @@ acted_limit a fate act turn told = ap (λ (x : Fate). x.limit) told
     ∙ (fate_of_act 0 a.replica a.fate a.place act turn).limit
 
 -- of an append
-pub append_taken : (word : ℕ) (now : Running) (a : Inside) (q : Replica) (from : Place) → view_of a
-    ≡ now
-    → IsInside a
-    → is_append (next_deed now) ≡ true → q ≡ appended a.replica → HasForm q
-    → NoWordFell a.replica q
+append_fate : (word : ℕ) (replica : Replica) (fate : Fate) (place : Place) (s : Step) → IsAppend s
+    → IsFateAfter word (standing replica fate place) s fate
+append_fate word replica fate place steps.Append is =
+    fate_stays word replica fate place steps.Append refl refl
+append_fate word replica fate place (steps.LogVote v) is =
+    fate_stays word replica fate place (steps.LogVote v) refl refl
+append_fate word replica fate place s is = absurd is
+
+pub append_taken : (word : ℕ) (now : Running) (a : Inside) (s : Step) (q : Replica) (from : Place)
+    → view_of a ≡ now → IsInside a → is_append (next_deed now) ≡ true → next_step now ≡ s → IsAppend s
+    → q ≡ stepped word a.replica s → HasForm q → NoWordFell a.replica q
     → from ≡ goes a.replica.roster (columns_of a.replica.roster a.replica.window)
     (part_of a.place) a.place
-    → IsTaken word (view_of a) steps.Append q a.fate from
-append_taken word now a q from view is append after form grown place =
+    → IsTaken word (view_of a) s q a.fate from
+append_taken word now a s q from view is append step kind after form grown place =
     let due = append_due (view_of a) is.form
     (subst (λ (x : Running). is_append (next_deed x) ≡ true) (sym view) append) in record {
       running = is.form;
       fits = is.limit;
       none = due.none;
-      due = due.step;
+      due = ap next_step view ∙ step;
       replica = after;
       form = form;
       grown = grown;
       place = place;
-      told = fate_stays word a.replica a.fate a.place steps.Append refl refl;
+      told = append_fate word a.replica a.fate a.place s kind;
     }
 
+-- of a vote
+pub vote_due_at : (now : Running) (a : Inside) → view_of a ≡ now → IsInside a
+    → is_append (next_deed now) ≡ true → part_of now.place ≡ parts.Vote → IsVoteDue (view_of a)
+vote_due_at now a view is append at = vote_due (view_of a) is.form
+    (subst (λ (x : Running). is_append (next_deed x) ≡ true) (sym view) append)
+    (subst (λ (x : Running). part_of x.place ≡ parts.Vote) (sym view) at)
+
+pub vote_step : (now : Running) (a : Inside) (v : Value) → view_of a ≡ now → IsVoteDue (view_of a)
+    → v ≡ value_due a.replica → next_step now ≡ steps.LogVote v
+vote_step now a v view due is = sym (ap next_step view) ∙ due.step ∙ ap steps.LogVote (sym is)
+
 -- an append leaves the fate timely
-pub appended_timely : (a : Inside) (q : Replica) → IsInside a → q ≡ appended a.replica
-    → IsTimely a.fate q.turns
-appended_timely a q is e = subst (λ (x : Replica). IsTimely a.fate x.turns) (sym e) is.fate
+append_turns : (word : ℕ) (r : Replica) (s : Step) → IsAppend s → (stepped word r s).turns ≡ r.turns
+append_turns word r steps.Append is = refl
+append_turns word r (steps.LogVote v) is = refl
+append_turns word r s is = absurd is
+
+pub appended_timely : (a : Inside) (s : Step) (q : Replica) → IsInside a → IsAppend s
+    → q ≡ stepped 0 a.replica s → IsTimely a.fate q.turns
+appended_timely a s q is kind e = subst (IsTimely a.fate)
+    (sym (ap (λ (x : Replica). x.turns) e ∙ append_turns 0 a.replica s kind)) is.fate
 
 -- of a push, where t is the next changed column
 pub is_pushed : (now : Running) (a : Inside) (q : Replica) (n t : ℕ) → view_of a ≡ now → IsInside a

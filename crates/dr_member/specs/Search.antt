@@ -1,11 +1,16 @@
 -- The search for the next place of the turn at which there is something to do.
 use Rattle.std.specs.Prelude.{◌≡◌, ℕ, ◌+◌, ◌<◌, ◌≤◌, nat_lt, if◌then◌else◌, length, false, true}
+use Rattle.dr_entry.specs.declared.record.Value.{Value}
+use Rattle.dr_machine.specs.declared.step.Step.{Step}
+use Rattle.dr_machine.specs.declared.step.Step.TheVariants as steps
 use Rattle.dr_program.specs.declared.place.Place.{Place}
 use Rattle.dr_program.specs.declared.place.TheConstants.{TURN}
 use Rattle.dr_program.specs.Turn.{part_of, rows_in, columns_in}
 use Rattle.dr_program.specs.Replica.{Replica}
 use Rattle.dr_program.specs.Running.{Running, applies, columns}
 use Rattle.dr_member.specs.declared.fate.Fate.{Fate}
+use Rattle.dr_member.specs.declared.search.Due.{Due}
+use Rattle.dr_member.specs.declared.search.Due.TheVariants as dues
 
 -- the member with this replica and this fate, at this place
 abbrev pub standing : Replica → Fate → Place → Running
@@ -19,6 +24,14 @@ standing replica fate place = record {
   pushes = fate.pushes;
   failed = fate.failed;
 }
+
+-- the step of what is due at this place, with this value where it is a vote
+abbrev pub step_by : Due → Place → Value → Step
+step_by dues.Look p v = steps.Look p.row p.column
+step_by dues.Push p v = steps.Push p.row p.column
+step_by dues.Append p v = steps.Append
+step_by dues.Vote p v = steps.LogVote v
+step_by (dues.Act a) p v = steps.Do a
 
 -- what comes after the row of this place
 abbrev pub next_row : ℕ → Place → Place

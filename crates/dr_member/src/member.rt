@@ -1,23 +1,24 @@
-ghost use Rattle.std.specs.Prelude.{◌≡◌, ◌-◌, ◌<◌, ◌≤◌, ℕ, true, IfOk, Some, is_some};
+ghost use Rattle.std.specs.Prelude.{◌≡◌, ◌-◌, ◌<◌, ◌≤◌, ℕ, true, IfOk, Some, is_some, length};
 ghost use Rattle.dr_machine.specs.declared.event.Act.TheVariants.{Crash};
-ghost use Rattle.dr_machine.specs.declared.step.Step.TheVariants.{Do};
+ghost use Rattle.dr_machine.specs.declared.step.Step.TheVariants.{Append, Do};
+ghost use Rattle.dr_program.specs.declared.place.Part.TheVariants as parts;
 ghost use Rattle.dr_program.specs.Form.{CanBegin, IsRunningMember};
 ghost use Rattle.dr_program.specs.Program.{end_of};
 ghost use Rattle.dr_program.specs.Reading.{step_of_member};
-ghost use Rattle.dr_program.specs.Replica.{me};
+ghost use Rattle.dr_program.specs.Replica.{is_wedged, me, value_due, vote_of};
 ghost use Rattle.dr_program.specs.Running.{after_step, begun_running, broken_off, columns, crashes_now, deed_of, end_by, members, next_deed, next_step, push_or_crash};
 ghost use Rattle.dr_program.specs.Schedule.{is_between_turns};
 ghost use Rattle.dr_program.specs.Sight.{MaySee};
 ghost use Rattle.dr_program.specs.Steps.{index_in};
+ghost use Rattle.dr_program.specs.Turn.{part_of};
 ghost use Rattle.dr_member.specs.Deeds.{IsWithin, is_act, is_append, is_before_turn, is_push, table_size};
 ghost use Rattle.dr_turn.specs.Work.{HasGrownTo, IsStill, deeds_left};
 
 use crate::bases::Bases;
 use crate::fate::Fate;
-use crate::search::{go, leave_row, next_changed, settle, step_at};
-use dr_entry::{End, Entry, MemberEnd, Record, Seq};
-use dr_machine::Step;
-use dr_program::{Deed, LogWhy, PARTS, Place, Setup};
+use crate::search::{Due, due_at, go, leave_row, next_changed, part_of, settle};
+use dr_entry::{End, Entry, MemberEnd, Record, Seq, Vote};
+use dr_program::{Deed, LogWhy, PARTS, Part, Place, Setup};
 use dr_replica::Replica;
 use dr_suspect::Patience;
 use dr_words::BEAT_COLUMN;
@@ -27,7 +28,7 @@ use std::marker::Model;
 /// The numbers of the parts of a turn that have the looks and the pushes, and of the part before a turn.
 const LOOKS: u8 = 0;
 
-const PUSHES: u8 = 10;
+const PUSHES: u8 = 15;
 
 const BEAT: u8 = PARTS as u8 - 1;
 
@@ -104,13 +105,12 @@ impl Member {
         if part == PUSHES {
             return self.push_deed(row, column);
         }
-        match step_at(&self.replica, &self.fate, self.place) {
-            Step::Look { row, column } => Deed::Look(self.look_index(row, column)),
-            Step::Push { to, column } => {
-                Deed::Push(self.push_index(to, column), self.replica.own(column))
-            }
-            Step::Append => Deed::Append(Record::Entry(self.replica.next_entry())),
-            Step::Do(_) => Deed::Act(
+        match due_at(&self.replica, &self.fate, self.place) {
+            Due::Look => Deed::Look(self.look_index(row, column)),
+            Due::Push => Deed::Push(self.push_index(row, column), self.replica.own(column)),
+            Due::Append => Deed::Append(Record::Entry(self.replica.next_entry())),
+            Due::Vote => Deed::Append(Record::Vote(self.next_vote())),
+            Due::Act(_) => Deed::Act(
                 self.look_index(self.me(), BEAT_COLUMN),
                 self.replica.acts_after(),
             ),
@@ -174,7 +174,7 @@ impl Member {
         ensures falls { deeds_left self.new < deeds_left self.old }
         ensures keeps { IsStill self.old self.new }
     {
-        if let Step::Do(act) = step_at(&self.replica, &self.fate, self.place) {
+        if let Due::Act(act) = due_at(&self.replica, &self.fate, self.place) {
             go(&self.replica.shape(), &mut self.place);
             self.replica.take(act);
             self.fate.note(act, self.replica.turns());
@@ -192,9 +192,10 @@ impl Member {
         ensures falls { deeds_left self.new < deeds_left self.old }
         ensures keeps { IsStill self.old self.new }
     {
-        go(&self.replica.shape(), &mut self.place);
-        self.replica.append();
-        settle(&self.replica, &self.fate, &mut self.place);
+        match part_of(self.place) {
+            Part::Vote => self.vote_appended(),
+            _ => self.entry_appended(),
+        }
     }
 
     /// Takes note that the append to its log failed, and why. Its next deed is its end.
@@ -275,6 +276,13 @@ impl Member {
         self.replica.appends_left()
     }
 
+    /// How many votes more its log may get in this age.
+    pub fn votes_left(&self) -> usize
+        ensures { result ≡ self.now.replica.roster - length self.now.replica.votes }
+    {
+        self.replica.votes_left()
+    }
+
     /// The number of entries that it reported durable.
     pub fn durable(&self) -> u64
         ensures { result ≡ self.now.replica.durable }
@@ -288,6 +296,48 @@ impl Member {
         ensures { result ≡ end_of self }
     {
         self.replica.into_end()
+    }
+
+    /// Takes note that its log has the next entry of its history.
+    #[inline(always)]
+    fn entry_appended(&mut self)
+        requires due { is_append (next_deed self.old) ≡ true }
+        requires step { next_step self.old ≡ Append }
+        ensures after { (word : ℕ) → self.new ≡ after_step word self.old }
+        ensures form { IsRunningMember self.new }
+        ensures grown { HasGrownTo self.old self.new }
+        ensures falls { deeds_left self.new < deeds_left self.old }
+        ensures keeps { IsStill self.old self.new }
+    {
+        go(&self.replica.shape(), &mut self.place);
+        self.replica.append();
+        settle(&self.replica, &self.fate, &mut self.place);
+    }
+
+    /// The vote that is due. Out of line, as few members vote.
+    #[inline(never)]
+    fn next_vote(&self) -> Vote
+        requires { is_wedged self.now.replica ≡ true }
+        ensures { result ≡ vote_of self.now.replica (value_due self.now.replica) }
+    {
+        self.replica.vote_of(self.replica.value_due())
+    }
+
+    /// Takes note that its log has its vote. Out of line, as few members vote.
+    #[inline(never)]
+    fn vote_appended(&mut self)
+        requires due { is_append (next_deed self.old) ≡ true }
+        requires at { part_of self.old.place ≡ parts.Vote }
+        ensures after { (word : ℕ) → self.new ≡ after_step word self.old }
+        ensures form { IsRunningMember self.new }
+        ensures grown { HasGrownTo self.old self.new }
+        ensures falls { deeds_left self.new < deeds_left self.old }
+        ensures keeps { IsStill self.old self.new }
+    {
+        go(&self.replica.shape(), &mut self.place);
+        let value = self.replica.value_due();
+        self.replica.vote(value);
+        settle(&self.replica, &self.fate, &mut self.place);
     }
 
     /// The deed that is due at a push: the push, or the end of a member that crashes just before it.

@@ -1,19 +1,22 @@
 //! The search for the next place of a turn at which there is something to do.
-ghost use Rattle.std.specs.Prelude.{length, ◌≡◌, ℕ, ◌<◌, ◌≤◌, true, false, MatchOption};
+ghost use Rattle.std.specs.Prelude.{length, ◌≡◌, ℕ, ◌<◌, ◌≤◌, true, false, MatchOption, None, Some};
 ghost use Rattle.dr_program.specs.declared.place.TheConstants.{TURN};
-ghost use Rattle.dr_program.specs.Running.{append_or_end, applies, goes, settled, step_of};
+ghost use Rattle.dr_machine.specs.declared.event.Act.TheVariants.{Crash};
+ghost use Rattle.dr_program.specs.Replica.{value_due};
+ghost use Rattle.dr_program.specs.Running.{applies, end_by, goes, settled, step_of};
 ghost use Rattle.dr_program.specs.Turn.{IsIn, after, columns_in, part_of, rows_in};
 ghost use Rattle.dr_program.specs.Form.{HasForm};
 ghost use Rattle.dr_words.specs.Columns.{columns_of};
 ghost use Rattle.dr_rows.specs.Words.{changed};
 ghost use Rattle.dr_turn.specs.Search.{IsUnderway};
 ghost use Rattle.dr_member.specs.Fate.{IsTimely};
-ghost use Rattle.dr_member.specs.Search.{IsFirstDue, IsIdleTo, next_row, standing};
+ghost use Rattle.dr_member.specs.declared.search.Due.TheVariants as dues;
+ghost use Rattle.dr_member.specs.Search.{IsFirstDue, IsIdleTo, next_row, standing, step_by};
 
 use crate::fate::{Fate, end_by};
 use crate::judge::{judged, may_judge};
 use dr_entry::End;
-use dr_machine::{Act, Step};
+use dr_machine::Act;
 use dr_program::{LogWhy, Part, Place, TURN};
 use dr_replica::Replica;
 use dr_words::Shape;
@@ -86,6 +89,8 @@ fn applies(replica: &Replica, fate: &Fate, place: Place) -> bool
         Part::Receive => replica.may_receive(row),
         Part::Do(act) => replica.may(act),
         Part::Append => fate.failed.is_some() || replica.may_append(),
+        Part::Vote => fate.failed.is_some() || replica.votes(),
+        Part::Excluded => replica.is_named(),
         Part::Push => replica.is_other(row) && replica.has_changed(row, column),
         Part::Crash => fate.crashes_in_turn(),
         Part::Done => replica.may(Act::Halt { end: End::Done }),
@@ -95,46 +100,69 @@ fn applies(replica: &Replica, fate: &Fate, place: Place) -> bool
 
 /// The part of a place.
 #[inline(always)]
-fn part_of(place: Place) -> Part
+pub(crate) fn part_of(place: Place) -> Part
     requires { place.part < length TURN }
     ensures { result ≡ part_of place }
 {
     TURN[usize::from(place.part)]
 }
 
-/// The step that is due at a place.
+/// What is due at a place: the kind of its step, and the act that it does. The step itself would have the
+/// value of a vote in it, which is large.
+#[derive(Clone, Copy)]
+pub(crate) enum Due {
+    /// The look at the place's row and column.
+    Look,
+    /// The push to the place's row of its column.
+    Push,
+    /// The append of the next entry.
+    Append,
+    /// The append of the vote that is due.
+    Vote,
+    /// An act.
+    Act(Act),
+}
+
+/// What is due at a place.
 #[inline(always)]
-pub(crate) fn step_at(replica: &Replica, fate: &Fate, place: Place) -> Step
+pub(crate) fn due_at(replica: &Replica, fate: &Fate, place: Place) -> Due
     requires place { place.part < length TURN }
     requires fate { IsTimely fate.now replica.now.turns }
-    ensures { result ≡ step_of (standing replica.now fate.now place) place }
+    ensures { step_by result place (value_due replica.now)
+        ≡ step_of (standing replica.now fate.now place) place }
 {
-    let Place { row, column, .. } = place;
     match part_of(place) {
-        Part::Look => Step::Look { row, column },
-        Part::Judge => Step::Do(judged(replica, fate)),
-        Part::Receive => Step::Do(Act::Receive { sender: row }),
-        Part::Append => append_or_end(fate.failed),
-        Part::Push if fate.crashes_now() => Step::Do(Act::Crash { end: End::Crashed }),
-        Part::Push => Step::Push { to: row, column },
-        Part::Crash => Step::Do(Act::Crash { end: End::Crashed }),
-        Part::Done => Step::Do(Act::Halt { end: End::Done }),
-        Part::Spent => Step::Do(Act::Crash {
+        Part::Look => Due::Look,
+        Part::Judge => Due::Act(judged(replica, fate)),
+        Part::Receive => Due::Act(Act::Receive { sender: place.row }),
+        Part::Append => unless_failed(Due::Append, fate.failed),
+        Part::Vote => unless_failed(Due::Vote, fate.failed),
+        Part::Excluded => Due::Act(Act::Halt {
+            end: End::Excluded {
+                view: replica.next_view(),
+            },
+        }),
+        Part::Push if fate.crashes_now() => Due::Act(Act::Crash { end: End::Crashed }),
+        Part::Push => Due::Push,
+        Part::Crash => Due::Act(Act::Crash { end: End::Crashed }),
+        Part::Done => Due::Act(Act::Halt { end: End::Done }),
+        Part::Spent => Due::Act(Act::Crash {
             end: End::Spent {
                 turns: replica.turns(),
             },
         }),
-        Part::Do(act) => Step::Do(act),
+        Part::Do(act) => Due::Act(act),
     }
 }
 
-/// An append, or the end of a member whose append has failed.
-fn append_or_end(failed: Option<LogWhy>) -> Step
-    ensures { result ≡ append_or_end failed }
+/// This, or the end of a member whose append has failed.
+fn unless_failed(due: Due, failed: Option<LogWhy>) -> Due
+    ensures none { failed ≡ None → result ≡ due }
+    ensures some { (why : LogWhy) → failed ≡ Some why → result ≡ dues.Act (Crash (end_by why)) }
 {
     match failed {
-        Some(why) => Step::Do(Act::Crash { end: end_by(why) }),
-        None => Step::Append,
+        Some(why) => Due::Act(Act::Crash { end: end_by(why) }),
+        None => due,
     }
 }
 
@@ -223,7 +251,7 @@ pub(crate) fn go(shape: &Shape, place: &mut Place)
 {
     match part_of(*place) {
         Part::Look | Part::Push => step_on(shape, place),
-        Part::Append | Part::Do(Act::Beat) => next_row(shape, place),
+        Part::Append | Part::Vote | Part::Do(Act::Beat) => next_row(shape, place),
         Part::Do(Act::Publish) => place.part = place.part.saturating_sub(1),
         _ => {}
     }

@@ -1,21 +1,24 @@
-use Rattle.std.proofs.Common.{ℕ, sym, ◌∙◌}
+use Rattle.std.proofs.Common.{ℕ, ap, ◌∙◌}
 use Rattle.dr_words.specs.Columns.{columns_of}
 use Rattle.dr_machine.specs.declared.step.Step.TheVariants.{Do}
 use Rattle.dr_program.specs.Turn.{part_of}
-use Rattle.dr_program.specs.Running.{goes}
+use Rattle.dr_program.specs.Running.{goes, next_step}
 use Rattle.dr_member.specs.Inside.{view_of}
+use Rattle.dr_program.specs.Replica.{value_due}
 use Rattle.dr_member.specs.Search.{standing}
 use Rattle.dr_member.proofs.Answers.{IsAnswer, IsTaken, answer_at, is_answer, is_done}
+use Rattle.dr_member.proofs.Dues.{act_by, act_step, step_is}
 use Rattle.dr_member.proofs.Moves.{act_allowed, act_taken, acted_limit, acted_timely, inside_after}
 use Rattle.dr_member.proofs.member.Member.acted.Goals as goal
 
-known : (c : goal.After-settle-arg-in-Do-2-1) (word : ℕ)
+known : (c : goal.After-settle-arg-in-Act-2-1) (word : ℕ)
     → IsTaken word (view_of c.self.inside)
-    (Do c.in-Do.act) c.take.new.self c.note.new.self c.go.new.place
+    (Do c.in-Act.act) c.take.new.self c.note.new.self c.go.new.place
 known c word =
     act_taken word c.args.self.now c.self.inside c.take.new.self c.note.new.self c.go.new.place
-    c.in-Do.act c.turns.result c.self.view_is c.self.invariant c.requires
-    (sym c.step_at.ensures ∙ c.in-Do.is) c.take.ensures.after c.take.ensures.form c.take.ensures.grown
+    c.in-Act.act c.turns.result c.self.view_is c.self.invariant c.requires
+    (step_is _ c.due_at.result c.self.inside.place (value_due c.self.inside.replica) c.in-Act.act
+    c.due_at.ensures c.in-Act.is) c.take.ensures.after c.take.ensures.form c.take.ensures.grown
     (c.go.ensures
     ∙ (λ z. goes (c.shape.ensures.members z)
     (columns_of (c.shape.ensures.members z) (c.shape.ensures.window z))
@@ -30,33 +33,40 @@ answer c word = answer_at word _ c.args.self.now _ c.self.view_is
 
 pub take-requires : goal.take-requires
 take-requires c =
-    act_allowed c.args.self.now c.self.inside c.in-Do.act c.self.view_is c.self.invariant c.requires
-    (sym c.step_at.ensures ∙ c.in-Do.is)
+    act_allowed c.args.self.now c.self.inside c.in-Act.act c.self.view_is c.self.invariant c.requires
+    (step_is _ c.due_at.result c.self.inside.place (value_due c.self.inside.replica) c.in-Act.act
+    c.due_at.ensures c.in-Act.is)
 
 pub settle-requires-clause-underway : goal.settle-requires-clause-underway
 settle-requires-clause-underway c = (is_done 0 _ _ _ _ _ (known c 0)).underway
 
 pub settle-requires-clause-fate : goal.settle-requires-clause-fate
 settle-requires-clause-fate c =
-    acted_timely c.self.inside c.take.new.self c.note.new.self c.in-Do.act c.turns.result c.self.invariant
+    acted_timely c.self.inside c.take.new.self c.note.new.self c.in-Act.act c.turns.result c.self.invariant
     c.take.ensures.after c.note.ensures c.turns.ensures
 
 pub invariant_of-self : goal.invariant_of-self
 invariant_of-self c =
     inside_after c.self.inside c.take.new.self c.note.new.self c.settle.new.place 0
-    (Do c.in-Do.act) c.self.invariant c.take.ensures.after (answer c 0).form
-    (acted_timely c.self.inside c.take.new.self c.note.new.self c.in-Do.act c.turns.result c.self.invariant
+    (Do c.in-Act.act) c.self.invariant c.take.ensures.after (answer c 0).form
+    (acted_timely c.self.inside c.take.new.self c.note.new.self c.in-Act.act c.turns.result c.self.invariant
     c.take.ensures.after c.note.ensures c.turns.ensures)
-    (acted_limit c.self.inside c.note.new.self c.in-Do.act c.turns.result c.note.ensures)
+    (acted_limit c.self.inside c.note.new.self c.in-Act.act c.turns.result c.note.ensures)
 
-pub returns-in-Do-clause-after : goal.returns-in-Do-clause-after
-returns-in-Do-clause-after c = λ word. (answer c word).after
+pub returns-in-Act-clause-after : goal.returns-in-Act-clause-after
+returns-in-Act-clause-after c = λ word. (answer c word).after
 
-pub returns-in-Do-clause-form : goal.returns-in-Do-clause-form
-returns-in-Do-clause-form c = (answer c 0).form
+pub returns-in-Act-clause-form : goal.returns-in-Act-clause-form
+returns-in-Act-clause-form c = (answer c 0).form
 
-pub returns-in-Do-clause-falls : goal.returns-in-Do-clause-falls
-returns-in-Do-clause-falls c = (answer c 0).done.fewer
+pub returns-in-Act-clause-falls : goal.returns-in-Act-clause-falls
+returns-in-Act-clause-falls c = (answer c 0).done.fewer
 
-pub returns-in-Do-clause-keeps : goal.returns-in-Do-clause-keeps
-returns-in-Do-clause-keeps c = (answer c 0).done.still
+pub returns-in-Act-clause-keeps : goal.returns-in-Act-clause-keeps
+returns-in-Act-clause-keeps c = (answer c 0).done.still
+
+pub returns-in_default : goal.returns-in_default
+returns-in_default c =
+    let t = act_step c.args.self.now c.requires in
+    absurd (c.in_default.not-Act t.0 (act_by c.due_at.result c.self.inside.place
+    (value_due c.self.inside.replica) t.0 (c.due_at.ensures ∙ ap next_step c.self.view_is ∙ t.1)))

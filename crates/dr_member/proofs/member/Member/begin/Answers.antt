@@ -1,4 +1,4 @@
-use Rattle.std.proofs.Common.{◌≡◌, refl, sym, ap, subst, arith}
+use Rattle.std.proofs.Common.{◌≡◌, inl, refl, sym, ap, subst, arith}
 use Rattle.dr_program.specs.Replica.{Replica}
 use Rattle.dr_suspect.specs.Waits.{IsWaits}
 use Rattle.dr_member.specs.declared.fate.Fate.{Fate}
@@ -15,6 +15,7 @@ invariant_of-result c =
         replica = c.in_ok-replica.ensures.form;
         place = record { part = omega arith; row = omega arith; column = omega arith };
         due = λ none. refl;
+        free = inl (ap (λ (x : Replica). x.pending) c.in_ok-replica.ensures.begun);
         turns = omega (arith, turns);
         waits = subst IsWaits (sym (ap (λ (x : Fate). x.waits) c.begin-fate.ensures.begun))
             c.new-waits.ensures.form;

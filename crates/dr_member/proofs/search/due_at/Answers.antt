@@ -1,8 +1,10 @@
 use Rattle.std.proofs.Common.{◌≡◌, sym, ap, ◌∙◌, true, false}
 use Rattle.dr_machine.specs.declared.step.Step.TheVariants.{Do}
+use Rattle.dr_program.specs.Replica.{value_due}
 use Rattle.dr_program.specs.Running.{crashes_now, push_or_crash, step_at}
 use Rattle.dr_member.specs.Search.{standing}
-use Rattle.dr_member.proofs.search.step_at.Goals as goal
+use Rattle.dr_member.proofs.Dues.{append_by, vote_by}
+use Rattle.dr_member.proofs.search.due_at.Goals as goal
 
 pub returns-in-Push : goal.returns-in-Push
 returns-in-Push c =
@@ -25,3 +27,17 @@ returns-in-Judge c =
     let r = standing c.args.replica.now c.args.fate.now c.args.place in
     ap Do (c.judged.ensures c.args.place)
     ∙ ap (λ x. step_at r x c.args.place.row c.args.place.column) (sym c.in-Judge.is ∙ c.part_of.ensures)
+
+pub returns-in-Append : goal.returns-in-Append
+returns-in-Append c =
+    let r = standing c.args.replica.now c.args.fate.now c.args.place in
+    append_by r.failed c.unless_failed.result c.args.place (value_due r.replica)
+    c.unless_failed.ensures.none c.unless_failed.ensures.some
+    ∙ ap (λ x. step_at r x c.args.place.row c.args.place.column) (sym c.in-Append.is ∙ c.part_of.ensures)
+
+pub returns-in-Vote : goal.returns-in-Vote
+returns-in-Vote c =
+    let r = standing c.args.replica.now c.args.fate.now c.args.place in
+    vote_by r.failed c.unless_failed-in-Vote.result c.args.place (value_due r.replica)
+    c.unless_failed-in-Vote.ensures.none c.unless_failed-in-Vote.ensures.some
+    ∙ ap (λ x. step_at r x c.args.place.row c.args.place.column) (sym c.in-Vote.is ∙ c.part_of.ensures)

@@ -1,0 +1,74 @@
+use Rattle.std.proofs.Common.{◌≡◌, true, refl, sym, subst, ℕ, ◌∙◌}
+use Rattle.dr_entry.specs.declared.record.Value.{Value}
+use Rattle.dr_program.specs.Replica.{may_vote}
+use Rattle.dr_words.specs.Columns.{columns_of}
+use Rattle.dr_machine.specs.declared.step.Step.TheVariants.{LogVote}
+use Rattle.dr_program.specs.Turn.{part_of}
+use Rattle.dr_program.specs.Running.{goes}
+use Rattle.dr_member.specs.Search.{standing}
+use Rattle.dr_member.proofs.Answers.{IsAnswer, answer_at, is_answer, is_done}
+use Rattle.dr_member.proofs.Moves.{append_taken, appended_timely, inside_after, vote_due_at, vote_step}
+use Rattle.dr_member.proofs.member.Member.vote_appended.Goals as goal
+
+answer : (c : goal.After-settle) (word : ℕ)
+    → IsAnswer word c.args.self.now
+    (standing c.vote.new.self c.self.inside.fate c.settle.new.place)
+answer c word = answer_at word _ c.args.self.now _ c.self.view_is
+    (is_answer word _ _ _ _ _ c.settle.new.place
+    (append_taken word c.args.self.now c.self.inside (LogVote c.value_due-value.result) c.vote.new.self
+    c.go.new.place c.self.view_is c.self.invariant c.requires.due
+    (vote_step c.args.self.now c.self.inside c.value_due-value.result c.self.view_is
+    (vote_due_at c.args.self.now c.self.inside c.self.view_is c.self.invariant c.requires.due c.requires.at)
+    c.value_due-value.ensures) tt
+    c.vote.ensures.after c.vote.ensures.form c.vote.ensures.grown
+    (c.go.ensures
+    ∙ (λ z. goes (c.shape.ensures.members z)
+    (columns_of (c.shape.ensures.members z) (c.shape.ensures.window z))
+    (part_of c.self.inside.place) c.self.inside.place)))
+    c.settle.ensures)
+
+pub settle-requires-clause-underway : goal.settle-requires-clause-underway
+settle-requires-clause-underway c = (is_done 0 _ _ _ _ _
+    (append_taken 0 c.args.self.now c.self.inside (LogVote c.value_due-value.result) c.vote.new.self
+    c.go.new.place c.self.view_is c.self.invariant c.requires.due
+    (vote_step c.args.self.now c.self.inside c.value_due-value.result c.self.view_is
+    (vote_due_at c.args.self.now c.self.inside c.self.view_is c.self.invariant c.requires.due c.requires.at)
+    c.value_due-value.ensures) tt
+    c.vote.ensures.after c.vote.ensures.form c.vote.ensures.grown
+    (c.go.ensures
+    ∙ (λ z. goes (c.shape.ensures.members z)
+    (columns_of (c.shape.ensures.members z) (c.shape.ensures.window z))
+    (part_of c.self.inside.place) c.self.inside.place)))).underway
+
+pub value_due-value-requires : goal.value_due-value-requires
+value_due-value-requires c = record {
+  wedged = (vote_due_at c.args.self.now c.self.inside c.self.view_is c.self.invariant c.requires.due
+      c.requires.at).wedged;
+}
+
+pub vote-requires-clause-may : goal.vote-requires-clause-may
+vote-requires-clause-may c = subst (λ (v : Value). may_vote c.self.inside.replica v ≡ true)
+    (sym c.value_due-value.ensures)
+    (vote_due_at c.args.self.now c.self.inside c.self.view_is c.self.invariant c.requires.due
+    c.requires.at).may
+
+pub vote-requires-clause-free : goal.vote-requires-clause-free
+vote-requires-clause-free c =
+    (vote_due_at c.args.self.now c.self.inside c.self.view_is c.self.invariant c.requires.due
+    c.requires.at).free
+
+pub invariant_of-self : goal.invariant_of-self
+invariant_of-self c =
+    inside_after c.self.inside c.vote.new.self c.self.inside.fate c.settle.new.place 0
+    (LogVote c.value_due-value.result) c.self.invariant c.vote.ensures.after (answer c 0).form
+    (appended_timely c.self.inside (LogVote c.value_due-value.result) c.vote.new.self c.self.invariant tt
+    c.vote.ensures.after) refl
+
+pub returns-clause-after : goal.returns-clause-after
+returns-clause-after c = λ word. (answer c word).after
+
+pub returns-clause-form : goal.returns-clause-form
+returns-clause-form c = (answer c 0).form
+
+pub returns-clause-falls : goal.returns-clause-falls
+returns-clause-falls c = (answer c 0).done.fewer
