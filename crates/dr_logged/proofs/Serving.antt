@@ -1,35 +1,37 @@
 -- Each deed of a member leaves its log ready and served.
-use Rattle.std.proofs.Common.{◌≡◌, refl, sym, ap, ◌∙◌, subst, ℕ, zero, suc, ◌+◌, ◌-◌, ◌<◌, ◌≤◌, max, false, List, [], ◌∷◌, ◌++◌, length, append-nil, append_assoc, length-append, le_trans, arith}
+use Rattle.std.proofs.Common.{◌≡◌, refl, sym, ap, ◌∙◌, subst, ℕ, zero, suc, ◌+◌, ◌-◌, ◌<◌, ◌≤◌, max, false, List, [], ◌∷◌, ◌++◌, length, take, append-nil, append_assoc, length-append, le_trans, inl, inr, arith}
 use Rattle.std.specs.Prelude.{Option, None, Some, slice_index_or}
 use Rattle.std.specs.Prelude.{◌^◌}
 use Rattle.std.proofs.Math.Nat.{le-min, le-max_left, le-max_right, min-le_left, min-le_right}
-use Rattle.std.proofs.lemmas.List.{take-append-le, take_all, take_more}
+use Rattle.std.proofs.lemmas.List.{length_push, take-append-le, take_all, take_more}
 use Rattle.dr_entry.specs.declared.entry.Entry.{Entry}
 use Rattle.dr_entry.specs.declared.entry.Entry.TheVariants.{View}
 use Rattle.dr_entry.specs.declared.record.Record.{Record}
+use Rattle.dr_entry.specs.declared.record.Vote.{Vote}
 use Rattle.dr_entry.specs.declared.record.Record.TheVariants as records
 use Rattle.dr_disk.specs.Disk.{Told}
 use Rattle.dr_disk.specs.Images.{Goes, IsLeft}
 use Rattle.dr_disk.proofs.Moments.{Goes-last, goes_on, lasts_still, lasts_then, stays_at}
 use Rattle.dr_io.specs.Faults.{Rose}
-use Rattle.dr_log.specs.Standing.{IsBeforeOrAfter, LosesNone, StandsFor, block_length, log_length}
+use Rattle.dr_log.specs.Standing.{IsBeforeOrAfter, LosesNone, StandsFor, block_length, log_length, with_entry, with_vote}
 use Rattle.dr_log.specs.State.{LogState, appended, broken_off as log_broken_off}
 use Rattle.dr_log.proofs.Growing.{length_of_more}
 use Rattle.dr_log.proofs.Lasting.{none_lost}
 use Rattle.dr_machine.specs.declared.event.Act.TheVariants as acts
 use Rattle.dr_machine.specs.declared.step.Step.{Step}
-use Rattle.dr_machine.specs.declared.step.Step.TheVariants.{Do, Look, Push, Append}
+use Rattle.dr_machine.specs.declared.step.Step.TheVariants.{Do, Look, Push, Append, LogVote}
 use Rattle.dr_machine.specs.Effects.{entries_of}
 use Rattle.dr_program.specs.declared.outcome.LogWhy.{LogWhy}
 use Rattle.dr_program.specs.declared.outcome.LogWhy.TheVariants as whys
-use Rattle.dr_program.specs.Replica.{Replica, item_at, sender_at}
+use Rattle.dr_program.specs.Replica.{Replica, item_at, sender_at, vote_of}
 use Rattle.dr_program.specs.Running.{Running, after_step, broken_off, columns, members, next_step, took}
-use Rattle.dr_program.specs.Steps.{stepped}
+use Rattle.dr_program.specs.Steps.{IsAppend, stepped}
 use Rattle.dr_program.specs.Turn.{part_of, places_in}
 use Rattle.dr_program.specs.declared.place.TheConstants.{TURN}
 use Rattle.dr_turn.proofs.Failing.{append_at}
 use Rattle.dr_turn.proofs.Search.{settle_only}
-use Rattle.dr_logged.specs.Served.{HasCome, HasServed, IsReady, IsRoomy, IsSafe, LosesNothing, WentSo, is_append, next_record}
+use Rattle.dr_logged.specs.Appended.{IsAppendDue, MayLog, record_due, record_of}
+use Rattle.dr_logged.specs.Served.{HasCome, HasServed, IsNext, IsReady, IsRoomy, IsSafe, LosesNothing, WentSo, is_append}
 
 -- ---- what a step other than an append leaves
 
@@ -39,13 +41,18 @@ pub record Grows (r q : Replica) : Type 0 where
   pub history : q.history ≡ r.history ++ more
   pub logged : q.logged ≡ r.logged
   pub room : q.room ≡ r.room
+  pub votes : q.votes ≡ r.votes
+  pub roster : q.roster ≡ r.roster
 
-still : (r q : Replica) → q.history ≡ r.history → q.logged ≡ r.logged → q.room ≡ r.room → Grows r q
-still r q history logged room = record {
+still : (r q : Replica) → q.history ≡ r.history → q.logged ≡ r.logged → q.room ≡ r.room → q.votes ≡ r.votes
+    → q.roster ≡ r.roster → Grows r q
+still r q history logged room votes roster = record {
   more = [];
   history = history ∙ sym (append-nil r.history);
   logged = logged;
   room = room;
+  votes = votes;
+  roster = roster;
 }
 
 pub grows : (word : ℕ) (r : Replica) (s : Step) → is_append s ≡ false → Grows r (stepped word r s)
@@ -54,12 +61,15 @@ grows word r (Do acts.Deliver) other = record {
   history = refl;
   logged = refl;
   room = refl;
+  votes = refl;
+  roster = refl;
 }
-grows word r (Do acts.Mark) other = still r (stepped word r (Do acts.Mark)) refl refl refl
-grows word r (Do a) other = still r (stepped word r (Do a)) refl refl refl
-grows word r (Look i c) other = still r (stepped word r (Look i c)) refl refl refl
-grows word r (Push j c) other = still r (stepped word r (Push j c)) refl refl refl
+grows word r (Do acts.Mark) other = still r (stepped word r (Do acts.Mark)) refl refl refl refl refl
+grows word r (Do a) other = still r (stepped word r (Do a)) refl refl refl refl refl
+grows word r (Look i c) other = still r (stepped word r (Look i c)) refl refl refl refl refl
+grows word r (Push j c) other = still r (stepped word r (Push j c)) refl refl refl refl refl
 grows word r Append other = absurd (cc)
+grows word r (LogVote v) other = absurd (cc)
 
 -- the search changes nothing but the place
 pub settled_same : (word : ℕ) (r : Running)
@@ -77,39 +87,35 @@ before [] more k l = absurd (omega (arith, l))
 before (x ∷ h) more zero l = refl
 before (x ∷ h) more (suc k) l = before h more k (omega (arith, l))
 
+-- nor is what comes next
+next_on : (h more : List Entry) (k : ℕ) (vs : List Vote) (next : Record) → IsNext h k vs next
+    → IsNext (h ++ more) k vs next
+next_on h more k vs next (inl t) = inl (
+  omega (arith, t.0, length-append h more),
+  t.1 ∙ sym (ap records.Entry (before h more k t.0)),
+)
+next_on h more k vs next (inr vote) = inr vote
+
 -- how the last append went is not changed by what is delivered
 went_on : {D : Type 0} (told : D → Option Told) (faults : D → ℕ) (base log : LogState D)
-    (h more : List Entry) (k : ℕ) (why : Option LogWhy) → WentSo told faults base log h k why
-    → WentSo told faults base log (h ++ more) k why
-went_on told faults base log h more k None went = went
-went_on told faults base log h more k (Some whys.DiskFault) went = (
-  omega (arith, went.0, length-append h more),
-  record {
-    failed = went.1.failed;
-    rose = went.1.rose;
-    left = rw (before h more k went.0) went.1.left;
-  },
-)
-went_on told faults base log h more k (Some (whys.LogFull len)) went = (
-  omega (arith, went.0, length-append h more),
-  record {
-    whole = went.1.whole;
-    safe = went.1.safe;
-    length = went.1.length;
-    over = rw (before h more k went.0) went.1.over;
-  },
-)
+    (h more : List Entry) (k : ℕ) (vs : List Vote) (why : Option LogWhy)
+    → WentSo told faults base log h k vs why → WentSo told faults base log (h ++ more) k vs why
+went_on told faults base log h more k vs None went = went
+went_on told faults base log h more k vs (Some whys.DiskFault) went =
+    (went.0, next_on h more k vs went.0 went.1, went.2)
+went_on told faults base log h more k vs (Some (whys.LogFull len)) went =
+    (went.0, next_on h more k vs went.0 went.1, went.2)
 
 come_on : {D : Type 0} (told : D → Option Told) (faults : D → ℕ) (base log : LogState D)
-    (h more : List Entry) (k : ℕ) (why : Option LogWhy) → k ≤ length h
-    → HasCome told faults base log h k why → HasCome told faults base log (h ++ more) k why
-come_on told faults base log h more k why within come = record {
+    (h more : List Entry) (k : ℕ) (vs : List Vote) (why : Option LogWhy) → k ≤ length h
+    → HasCome told faults base log h k vs why → HasCome told faults base log (h ++ more) k vs why
+come_on told faults base log h more k vs why within come = record {
   entries = come.entries ∙ sym (take-append-le k h more within);
   more = come.more;
-  votes = come.votes;
+  voted = come.voted;
   limit = come.limit;
   within = come.within;
-  last = went_on told faults base log h more k why come.last;
+  last = went_on told faults base log h more k vs why come.last;
   moments = come.moments;
   lasting = come.lasting;
   calm = come.calm;
@@ -123,10 +129,13 @@ pub other_served : {D : Type 0} (told : D → Option Told) (faults : D → ℕ) 
 other_served told faults base log word r other within served =
     let g = grows word r.replica (next_step r) other in
     subst (HasServed told faults base log) (sym (settled_same word r))
-    (subst (λ k. HasCome told faults base log (stepped word r.replica (next_step r)).history k r.failed)
-    (sym g.logged)
-    (subst (λ h. HasCome told faults base log h r.replica.logged r.failed) (sym g.history)
-    (come_on told faults base log r.replica.history g.more r.replica.logged r.failed within served)))
+    (subst (λ vs. HasCome told faults base log (stepped word r.replica (next_step r)).history
+    (stepped word r.replica (next_step r)).logged vs r.failed) (sym g.votes)
+    (subst (λ k. HasCome told faults base log (stepped word r.replica (next_step r)).history k
+    r.replica.votes r.failed) (sym g.logged)
+    (subst (λ h. HasCome told faults base log h r.replica.logged r.replica.votes r.failed) (sym g.history)
+    (come_on told faults base log r.replica.history g.more r.replica.logged r.replica.votes r.failed within
+    served))))
 
 -- and is ready for the next one
 pub other_ready : {D : Type 0} (log : LogState D) (word : ℕ) (r : Running) → is_append (next_step r) ≡ false
@@ -136,24 +145,40 @@ other_ready log word r other ready =
     subst (IsReady log) (sym (settled_same word r)) (record {
       whole = ready.whole;
       spare = λ none. omega (arith, ready.spare none, g.logged, g.room);
+      votes = λ none. omega (arith, ready.votes none, ap length g.votes, g.roster);
     })
 
 -- ---- an append
 
 -- the step is an append only where none has failed
-pub unfailed : (r : Running) → next_step r ≡ Append → r.failed ≡ None
-unfailed r is = (append_at r (part_of r.place) r.place.row r.place.column is).1
+pub none_failed : (r : Running) → IsAppend (next_step r) → r.failed ≡ None
+none_failed r is = (append_at r (part_of r.place) r.place.row r.place.column is).1
+
+is_logged : (r : Running) (s : Step) → MayLog r s → IsAppend s
+is_logged r Append may = tt
+is_logged r (LogVote v) may = tt
+is_logged r s may = absurd may
+
+pub unfailed : (r : Running) → MayLog r (next_step r) → r.failed ≡ None
+unfailed r may = none_failed r (is_logged r (next_step r) may)
+
+-- its record is one that comes next
+next_is : (r : Running) (s : Step) → MayLog r s
+    → IsNext r.replica.history r.replica.logged r.replica.votes (record_of r s)
+next_is r Append may = inl (may, refl)
+next_is r (LogVote v) may = inr (may.1, may.0)
+next_is r s may = absurd may
 
 moments_on : {D : Type 0} (told : D → Option Told) (base log new : LogState D) (r : Record)
-    (es : List Entry) → log.entries ≡ base.entries ++ es → log.votes ≡ base.votes
+    (es : List Entry) (vs : List Vote) → log.entries ≡ base.entries ++ es → log.votes ≡ base.votes ++ vs
     → Goes (told base.disk) (told log.disk) (λ calls. LosesNone base.entries base.votes)
     → Goes (told log.disk) (told new.disk) (λ calls. IsBeforeOrAfter log.entries log.votes r)
     → Goes (told base.disk) (told new.disk) (λ calls. LosesNone base.entries base.votes)
-moments_on told base log new r es entries votes first next =
+moments_on told base log new r es vs entries votes first next =
     goes_on (told base.disk) (told log.disk) (told new.disk) (λ calls. LosesNone base.entries base.votes)
     (λ calls. IsBeforeOrAfter log.entries log.votes r) (λ calls. LosesNone base.entries base.votes)
     (λ calls image at is. is) (λ calls more image at there is. none_lost log.entries base.entries es log.votes
-    base.votes [] r image entries (votes ∙ sym (append-nil base.votes)) is)
+    base.votes vs r image entries votes is)
     first next
 
 lasting_on : {D : Type 0} (told : D → Option Told) (base log new : LogState D)
@@ -167,114 +192,175 @@ rose_since : (base old new : ℕ) → base ≤ old → Rose old new → Rose bas
 rose_since base old new later rose =
     le_trans (le-min (omega (arith, min-le_left (base + 1) (2 ^ 64 - 1), later)) (min-le_right _ _)) rose
 
--- an append that goes well puts the next record on the log
-pub appended_served : {D : Type 0} (told : D → Option Told) (faults : D → ℕ)
-    (base log new : LogState D) (word : ℕ) (r : Running) → next_step r ≡ Append → r.replica.logged < length r.replica.history
-    → HasServed told faults base log r
-    → new ≡ appended log (next_record r.replica.history r.replica.logged) new.disk
-    → log_length log.entries log.votes + block_length (next_record r.replica.history r.replica.logged)
-    ≤ log.limit
-    → Goes (told log.disk) (told new.disk)
-    (λ calls. IsBeforeOrAfter log.entries log.votes (next_record r.replica.history r.replica.logged))
-    → LosesNothing told log new → IsSafe told new → faults new.disk ≡ faults log.disk
-    → HasServed told faults base new (after_step word r)
-appended_served {D} told faults base log new word r is within served made fits goes lasting safe calm =
-    subst (HasServed told faults base new) (sym (settled_same word r))
-    (subst (λ s. HasCome told faults base new (stepped word r.replica s).history
-    (stepped word r.replica s).logged r.failed) (sym is) come)
-  where
-    e : Entry
-    e = slice_index_or r.replica.history r.replica.logged (View 0 0 0)
+-- what an append that went well has come to, by its record and by what the member has logged then
+record Put {D : Type 0} (told : D → Option Told) (faults : D → ℕ) (base log new : LogState D)
+    (due : Record) (history : List Entry) (k : ℕ) (vs : List Vote) : Type 0 where
+  made : new ≡ appended log due new.disk
+  fits : log_length log.entries log.votes + block_length due ≤ log.limit
+  goes : Goes (told log.disk) (told new.disk) (λ calls. IsBeforeOrAfter log.entries log.votes due)
+  lasting : LosesNothing told log new
+  safe : IsSafe told new
+  calm : faults new.disk ≡ faults log.disk
+  entries : with_entry due log.entries ≡ take k history
+  more : (es : List Entry) × (with_entry due log.entries ≡ base.entries ++ es)
+  voted : with_vote due log.votes ≡ base.votes ++ vs
 
-    entries : new.entries ≡ log.entries ++ e ∷ []
-    entries = ap (λ (l : LogState D). l.entries) made
+put : {D : Type 0} (told : D → Option Told) (faults : D → ℕ) (base log new : LogState D)
+    (due : Record) (h history : List Entry) (k l : ℕ) (us vs : List Vote)
+    → HasCome told faults base log h k us None → Put told faults base log new due history l vs
+    → HasCome told faults base new history l vs None
+put {D} told faults base log new due h history k l us vs served p = record {
+  entries = entries ∙ p.entries;
+  more = (p.more.0, entries ∙ p.more.1);
+  voted = votes ∙ p.voted;
+  limit = limit ∙ served.limit;
+  within = le_trans (omega (
+    arith,
+    p.fits,
+    limit,
+    ap (λ es. log_length es new.votes) entries,
+    ap (log_length (with_entry due log.entries)) votes,
+    length_of_more log.entries log.votes due,
+  )) (le-max_left new.limit _);
+  last = (ap (λ (x : LogState D). x.failed) p.made ∙ served.last.0, p.safe);
+  moments = moments_on told base log new due served.more.0 us served.more.1 served.voted served.moments
+      p.goes;
+  lasting = lasting_on told base log new served.lasting p.lasting;
+  calm = λ unbroken. p.calm ∙ served.calm unbroken;
+  later = omega (arith, served.later, p.calm);
+}
+  where
+    entries : new.entries ≡ with_entry due log.entries
+    entries = ap (λ (x : LogState D). x.entries) p.made
+
+    votes : new.votes ≡ with_vote due log.votes
+    votes = ap (λ (x : LogState D). x.votes) p.made
 
     limit : new.limit ≡ log.limit
-    limit = ap (λ (l : LogState D). l.limit) made
+    limit = ap (λ (x : LogState D). x.limit) p.made
 
-    votes : new.votes ≡ log.votes
-    votes = ap (λ (l : LogState D). l.votes) made
-
-    failed : new.failed ≡ log.failed
-    failed = ap (λ (l : LogState D). l.failed) made
-
-    went : WentSo told faults base log r.replica.history r.replica.logged None
-    went = subst (WentSo told faults base log r.replica.history r.replica.logged) (unfailed r is) served.last
-
-    come : HasCome told faults base new r.replica.history (r.replica.logged + 1) r.failed
-    come = record {
-      entries = entries ∙ ap (λ xs. xs ++ e ∷ []) served.entries
+-- an append that goes well puts the record that is due on the log
+put_step : {D : Type 0} (told : D → Option Told) (faults : D → ℕ)
+    (base log new : LogState D) (word : ℕ) (r : Running) (s : Step) → MayLog r s
+    → HasCome told faults base log r.replica.history r.replica.logged r.replica.votes None
+    → new ≡ appended log (record_of r s) new.disk
+    → log_length log.entries log.votes + block_length (record_of r s) ≤ log.limit
+    → Goes (told log.disk) (told new.disk)
+    (λ calls. IsBeforeOrAfter log.entries log.votes (record_of r s))
+    → LosesNothing told log new → IsSafe told new → faults new.disk ≡ faults log.disk
+    → HasCome told faults base new (stepped word r.replica s).history (stepped word r.replica s).logged
+    (stepped word r.replica s).votes None
+put_step told faults base log new word r Append within served made fits goes lasting safe calm =
+    let e : Entry = slice_index_or r.replica.history r.replica.logged (View 0 0 0) in
+    put told faults base log new (records.Entry e) r.replica.history r.replica.history r.replica.logged
+    (r.replica.logged + 1) r.replica.votes r.replica.votes served (record {
+      made = made;
+      fits = fits;
+      goes = goes;
+      lasting = lasting;
+      safe = safe;
+      calm = calm;
+      entries = ap (λ xs. xs ++ e ∷ []) served.entries
           ∙ sym (take_more r.replica.history r.replica.logged (View 0 0 0) within);
       more = (
         served.more.0 ++ e ∷ [],
-        entries ∙ ap (λ xs. xs ++ e ∷ []) served.more.1
-            ∙ append_assoc base.entries served.more.0 (e ∷ []),
+        ap (λ xs. xs ++ e ∷ []) served.more.1 ∙ append_assoc base.entries served.more.0 (e ∷ []),
       );
-      votes = votes ∙ served.votes;
-      limit = limit ∙ served.limit;
-      within = le_trans (omega (
-        arith,
-        fits,
-        limit,
-        ap (λ es. log_length es new.votes) entries,
-        ap (log_length (log.entries ++ e ∷ [])) votes,
-        length_of_more log.entries log.votes (records.Entry e),
-      )) (le-max_left new.limit _);
-      last = rw (unfailed r is) (failed ∙ went.0, safe);
-      moments = moments_on told base log new (records.Entry e) served.more.0 served.more.1 served.votes
-          served.moments goes;
-      lasting = lasting_on told base log new served.lasting lasting;
-      calm = λ unbroken. calm ∙ served.calm unbroken;
-      later = omega (arith, served.later, calm);
-    }
+      voted = served.voted;
+    })
+put_step told faults base log new word r (LogVote v) within served made fits goes lasting safe calm =
+    let x : Vote = vote_of r.replica v in
+    put told faults base log new (records.Vote x) r.replica.history r.replica.history r.replica.logged
+    r.replica.logged r.replica.votes (r.replica.votes ++ x ∷ []) served (record {
+      made = made;
+      fits = fits;
+      goes = goes;
+      lasting = lasting;
+      safe = safe;
+      calm = calm;
+      entries = served.entries;
+      more = served.more;
+      voted = ap (λ xs. xs ++ x ∷ []) served.voted ∙ append_assoc base.votes r.replica.votes (x ∷ []);
+    })
+put_step told faults base log new word r s within served made fits goes lasting safe calm = absurd within
+
+pub appended_served : {D : Type 0} (told : D → Option Told) (faults : D → ℕ)
+    (base log new : LogState D) (word : ℕ) (r : Running) → MayLog r (next_step r)
+    → HasServed told faults base log r → new ≡ appended log (record_due r) new.disk
+    → log_length log.entries log.votes + block_length (record_due r) ≤ log.limit
+    → Goes (told log.disk) (told new.disk)
+    (λ calls. IsBeforeOrAfter log.entries log.votes (record_due r))
+    → LosesNothing told log new → IsSafe told new → faults new.disk ≡ faults log.disk
+    → HasServed told faults base new (after_step word r)
+appended_served told faults base log new word r may served made fits goes lasting safe calm =
+    subst (HasServed told faults base new) (sym (settled_same word r))
+    (subst (HasCome told faults base new (stepped word r.replica (next_step r)).history
+    (stepped word r.replica (next_step r)).logged (stepped word r.replica (next_step r)).votes)
+    (sym (unfailed r may))
+    (put_step told faults base log new word r (next_step r) may
+    (subst (HasCome told faults base log r.replica.history r.replica.logged r.replica.votes)
+    (unfailed r may) served) made fits goes lasting safe calm))
 
 -- and leaves it ready for the next one
-pub appended_ready : {D : Type 0} (log new : LogState D) (word : ℕ) (r : Running) → next_step r ≡ Append
-    → r.replica.logged < r.replica.room → IsReady log r
-    → new ≡ appended log (next_record r.replica.history r.replica.logged) new.disk
-    → IsReady new (after_step word r)
-appended_ready {D} log new word r is some ready made =
+ready_step : {D : Type 0} (log new : LogState D) (word : ℕ) (r : Running) (s : Step) → MayLog r s
+    → length r.replica.history ≤ r.replica.room → r.failed ≡ None → IsReady log r
+    → new ≡ appended log (record_of r s) new.disk
+    → ((stepped word r.replica s).room ≤ (stepped word r.replica s).logged + new.spare_entries)
+    × ((stepped word r.replica s).roster ≤ length (stepped word r.replica s).votes + new.spare_votes)
+ready_step {D} log new word r Append some room none ready made = (
+  omega (arith, ready.spare none, some, room, ap (λ (l : LogState D). l.spare_entries) made),
+  omega (arith, ready.votes none, ap (λ (l : LogState D). l.spare_votes) made),
+)
+ready_step {D} log new word r (LogVote v) some room none ready made = (
+  omega (arith, ready.spare none, ap (λ (l : LogState D). l.spare_entries) made),
+  omega (
+    arith,
+    ready.votes none,
+    some.0,
+    length_push r.replica.votes (vote_of r.replica v),
+    ap (λ (l : LogState D). l.spare_votes) made,
+  ),
+)
+ready_step log new word r s some room none ready made = absurd some
+
+pub appended_ready : {D : Type 0} (log new : LogState D) (word : ℕ) (r : Running) → IsAppendDue r
+    → IsReady log r → new ≡ appended log (record_due r) new.disk → IsReady new (after_step word r)
+appended_ready {D} log new word r due ready made =
     subst (IsReady new) (sym (settled_same word r)) (record {
       whole = λ none. ap (λ (l : LogState D). l.failed) made ∙ ready.whole none;
-      spare = λ none. omega (
-        arith,
-        ready.spare none,
-        some,
-        ap (λ (l : LogState D). l.spare_entries) made,
-        ap (λ s. (stepped word r.replica s).logged) is,
-        ap (λ s. (stepped word r.replica s).room) is,
-      );
+      spare = λ none. (ready_step log new word r (next_step r) due.due due.room none ready made).0;
+      votes = λ none. (ready_step log new word r (next_step r) due.due due.room none ready made).1;
     })
 
 -- an append whose disk fails
 pub failed_served : {D : Type 0} (told : D → Option Told) (faults : D → ℕ) (base log new : LogState D)
-    (r : Running) → next_step r ≡ Append → r.replica.logged < length r.replica.history
-    → HasServed told faults base log r
-    → new ≡ log_broken_off log (next_record r.replica.history r.replica.logged) new.disk
+    (r : Running) → MayLog r (next_step r) → HasServed told faults base log r
+    → new ≡ log_broken_off log (record_due r) new.disk
     → Goes (told log.disk) (told new.disk)
-    (λ calls. IsBeforeOrAfter log.entries log.votes (next_record r.replica.history r.replica.logged))
+    (λ calls. IsBeforeOrAfter log.entries log.votes (record_due r))
     → LosesNothing told log new → Rose (faults log.disk) (faults new.disk) → faults log.disk ≤ faults new.disk
     → HasServed told faults base new (broken_off whys.DiskFault r)
-failed_served {D} told faults base log new r is within served made goes lasting rose later = record {
+failed_served {D} told faults base log new r may served made goes lasting rose later = record {
   entries = entries ∙ served.entries;
   more = (served.more.0, entries ∙ served.more.1);
-  votes = votes ∙ served.votes;
+  voted = votes ∙ served.voted;
   limit = limit ∙ served.limit;
   within = subst (λ n. n ≤ max new.limit (log_length base.entries base.votes))
       (sym (λ z. log_length (entries z) (votes z)))
       (subst (λ n. log_length log.entries log.votes ≤ max n (log_length base.entries base.votes)) (sym limit)
       served.within);
   last = (
-    within,
+    record_due r,
+    next_is r (next_step r) may,
     record {
       failed = ap (λ (l : LogState D). l.failed) made;
       rose = rose_since (faults base.disk) (faults log.disk) (faults new.disk) served.later rose;
       left = rw (entries, votes) (Goes-last (told log.disk) (told new.disk)
-          (IsBeforeOrAfter log.entries log.votes (next_record r.replica.history r.replica.logged)) goes);
+          (IsBeforeOrAfter log.entries log.votes (record_due r)) goes);
     },
   );
-  moments = moments_on told base log new (next_record r.replica.history r.replica.logged) served.more.0
-      served.more.1 served.votes served.moments goes;
+  moments = moments_on told base log new (record_due r) served.more.0 r.replica.votes served.more.1
+      served.voted served.moments goes;
   lasting = lasting_on told base log new served.lasting lasting;
   calm = λ unbroken. absurd (unbroken refl);
   later = le_trans served.later later;
@@ -291,30 +377,39 @@ failed_served {D} told faults base log new r is within served made goes lasting 
 
 -- an append for which the log has no room
 pub full_served : {D : Type 0} (told : D → Option Told) (faults : D → ℕ) (base log : LogState D)
-    (r : Running) (len : ℕ) → next_step r ≡ Append → r.replica.logged < length r.replica.history
+    (r : Running) (len : ℕ) → MayLog r (next_step r)
     → HasServed told faults base log r → len ≡ log_length log.entries log.votes
-    → log.limit < len + block_length (next_record r.replica.history r.replica.logged)
+    → log.limit < len + block_length (record_due r)
     → HasServed told faults base log (broken_off (whys.LogFull len) r)
-full_served {D} told faults base log r len is within served long over = record {
+full_served {D} told faults base log r len may served long over = record {
   entries = served.entries;
   more = served.more;
-  votes = served.votes;
+  voted = served.voted;
   limit = served.limit;
   within = served.within;
-  last = (within, record { whole = went.0; safe = went.1; length = long; over = over });
+  last = (
+    record_due r,
+    next_is r (next_step r) may,
+    record { whole = went.0; safe = went.1; length = long; over = over },
+  );
   moments = served.moments;
   lasting = served.lasting;
-  calm = λ unbroken. served.calm (rw (unfailed r is) (λ broken. cc broken));
+  calm = λ unbroken. served.calm (rw (unfailed r may) (λ broken. cc broken));
   later = served.later;
 }
   where
-    went : WentSo told faults base log r.replica.history r.replica.logged None
-    went = subst (WentSo told faults base log r.replica.history r.replica.logged) (unfailed r is) served.last
+    went : WentSo told faults base log r.replica.history r.replica.logged r.replica.votes None
+    went = subst (WentSo told faults base log r.replica.history r.replica.logged r.replica.votes)
+        (unfailed r may) served.last
 
 -- a log is ready for a member whose append has failed, as that one appends no more
 pub failed_ready : {D : Type 0} (log : LogState D) (why : LogWhy) (r : Running)
     → IsReady log (broken_off why r)
-failed_ready log why r = record { whole = λ none. absurd (cc none); spare = λ none. absurd (cc none) }
+failed_ready log why r = record {
+  whole = λ none. absurd (cc none);
+  spare = λ none. absurd (cc none);
+  votes = λ none. absurd (cc none);
+}
 
 -- ---- the beginning
 
@@ -322,13 +417,13 @@ failed_ready log why r = record { whole = λ none. absurd (cc none); spare = λ 
 pub begins : {D : Type 0} (told : D → Option Told) (faults : D → ℕ) (old new : LogState D)
     (r : Running)
     → IsRoomy told faults r old new → old.failed ≡ false → old.entries ≡ r.replica.history
-    → r.replica.logged ≡ length r.replica.history → r.failed ≡ None
+    → r.replica.logged ≡ length r.replica.history → r.replica.votes ≡ [] → r.failed ≡ None
     → HasServed told faults old new r × IsReady new r
-begins {D} told faults old new r roomy whole has all none = (
+begins {D} told faults old new r roomy whole has all empty none = (
   record {
     entries = entries ∙ has ∙ sym (take_all r.replica.logged r.replica.history (omega (arith, all)));
     more = ([], entries ∙ sym (append-nil old.entries));
-    votes = votes;
+    voted = votes ∙ sym (append-nil old.votes) ∙ ap (λ vs. old.votes ++ vs) (sym empty);
     limit = ap (λ (l : LogState D). l.limit) roomy.is;
     within = subst (λ n. n ≤ max new.limit (log_length old.entries old.votes))
         (sym (λ z. log_length (entries z) (votes z))) (le-max_right new.limit _);
@@ -339,7 +434,11 @@ begins {D} told faults old new r roomy whole has all none = (
     calm = λ unbroken. roomy.calm;
     later = omega (arith, roomy.calm);
   },
-  record { whole = λ n. failed; spare = λ n. omega (arith, roomy.spare) },
+  record {
+    whole = λ n. failed;
+    spare = λ n. omega (arith, roomy.spare);
+    votes = λ n. omega (arith, roomy.votes);
+  },
 )
   where
     entries : new.entries ≡ old.entries

@@ -1,28 +1,42 @@
--- What an append of the next entry has come to, by the contract of a log.
+-- What an append of the next entry or of a vote has come to, by the contract of a log.
 use Rattle.std.specs.Prelude.{◌≡◌, ℕ, ◌+◌, ◌<◌, ◌≤◌, length, Option}
 use Rattle.dr_disk.specs.Disk.{Told}
 use Rattle.dr_disk.specs.Images.{Goes}
 use Rattle.dr_entry.specs.declared.record.Record.{Record}
+use Rattle.dr_entry.specs.declared.record.Record.TheVariants as records
+use Rattle.dr_entry.specs.Spelling.{IsValidVote}
 use Rattle.dr_io.specs.Faults.{Rose}
 use Rattle.dr_log.specs.declared.fault.LogFault.{LogFault}
 use Rattle.dr_log.specs.declared.fault.LogFault.TheVariants as faults
 use Rattle.dr_log.specs.Standing.{IsBeforeOrAfter, block_length, log_length}
 use Rattle.dr_log.specs.State.{LogState, appended, broken_off}
-use Rattle.dr_machine.specs.declared.step.Step.TheVariants.{Append}
+use Rattle.dr_machine.specs.declared.step.Step.{Step}
+use Rattle.dr_machine.specs.declared.step.Step.TheVariants.{Append, LogVote}
 use Rattle.dr_program.specs.declared.outcome.LogWhy.{LogWhy}
 use Rattle.dr_program.specs.declared.outcome.LogWhy.TheVariants as whys
+use Rattle.dr_program.specs.Replica.{vote_of}
 use Rattle.dr_program.specs.Running.{Running, next_step}
 use Rattle.dr_logged.specs.Served.{IsSafe, LosesNothing, next_record}
 
--- the member is due to append, and the next entry is there
+-- the step is an append: of the next entry, which is there, or of a valid vote, of which the member has fewer
+-- than there are members in the roster
+abbrev pub MayLog : Running → Step → Type 0
+MayLog r Append = r.replica.logged < length r.replica.history
+MayLog r (LogVote v) = (length r.replica.votes < r.replica.roster) × IsValidVote (vote_of r.replica v)
+MayLog r s = ⊥
+
+-- the member is due to append
 pub record IsAppendDue (r : Running) : Type 0 where
-  pub step : next_step r ≡ Append
-  pub some : r.replica.logged < length r.replica.history
+  pub due : MayLog r (next_step r)
   pub room : length r.replica.history ≤ r.replica.room
 
 -- the record that it appends
+abbrev pub record_of : Running → Step → Record
+record_of r (LogVote v) = records.Vote (vote_of r.replica v)
+record_of r s = next_record r.replica.history r.replica.logged
+
 abbrev pub record_due : Running → Record
-record_due r = next_record r.replica.history r.replica.logged
+record_due r = record_of r (next_step r)
 
 -- it stands on the log, and is safe
 pub record HasAppended {D : Type 0} (told : D → Option Told) (faults : D → ℕ) (log new : LogState D)

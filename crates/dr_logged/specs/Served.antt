@@ -1,18 +1,18 @@
 -- The logs of members that run: what comes of each while its member takes its deeds.
-use Rattle.std.specs.Prelude.{◌≡◌, ◌≢◌, Bool, ℕ, ◌+◌, ◌-◌, ◌<◌, ◌≤◌, max, true, false, List, ◌++◌, length, take, slice_get, slice_index_or, Option, None, Some}
+use Rattle.std.specs.Prelude.{◌≡◌, ◌≢◌, ◌⊎◌, Bool, ℕ, ◌+◌, ◌-◌, ◌<◌, ◌≤◌, max, true, false, List, ◌++◌, length, take, slice_get, slice_index_or, Option, None, Some}
 use Rattle.dr_entry.specs.declared.entry.Entry.{Entry}
 use Rattle.dr_entry.specs.declared.entry.Entry.TheVariants.{View}
 use Rattle.dr_entry.specs.declared.record.Record.{Record}
 use Rattle.dr_entry.specs.declared.record.Record.TheVariants as records
 use Rattle.dr_entry.specs.declared.record.Vote.{Vote}
-use Rattle.dr_entry.specs.Spelling.{IsValid}
+use Rattle.dr_entry.specs.Spelling.{IsValid, IsValidVote}
 use Rattle.dr_io.specs.Faults.{Rose}
 use Rattle.dr_disk.specs.Disk.{Told}
 use Rattle.dr_disk.specs.Images.{Goes, IsLeft, Lasts}
 use Rattle.dr_log.specs.Standing.{IsBeforeOrAfter, LosesNone, StandsFor, block_length, log_length}
 use Rattle.dr_log.specs.State.{LogState}
 use Rattle.dr_machine.specs.declared.step.Step.{Step}
-use Rattle.dr_machine.specs.declared.step.Step.TheVariants.{Append}
+use Rattle.dr_machine.specs.declared.step.Step.TheVariants.{Append, LogVote}
 use Rattle.dr_program.specs.declared.deed.Deed.TheVariants as deeds
 use Rattle.dr_program.specs.declared.outcome.LogWhy.{LogWhy}
 use Rattle.dr_program.specs.declared.outcome.LogWhy.TheVariants as whys
@@ -32,6 +32,16 @@ LosesNothing told base log = (entries : List Entry) (votes : List Vote)
 abbrev pub next_record : List Entry → ℕ → Record
 next_record history logged = records.Entry (slice_index_or history logged (View 0 0 0))
 
+-- the record is a valid vote that comes behind so many, fewer than there are members in its roster
+abbrev pub IsVote : ℕ → Record → Type 0
+IsVote count (records.Entry entry) = ⊥
+IsVote count (records.Vote vote) = IsValidVote vote × (count < vote.members)
+
+-- the record is the one that comes behind so many entries of a history, or a vote behind these
+abbrev pub IsNext : List Entry → ℕ → List Vote → Record → Type 0
+IsNext history logged votes next =
+    ((logged < length history) × (next ≡ next_record history logged)) ⊎ IsVote (length votes) next
+
 -- a disk failed since `base`: whatever a crash leaves has what is on the log, or the next record besides
 pub record BrokeOff {D : Type 0} (told : D → Option Told) (faults : D → ℕ) (base log : LogState D)
     (next : Record) : Type 0 where
@@ -47,28 +57,29 @@ pub record IsFull {D : Type 0} (told : D → Option Told) (log : LogState D) (le
   pub length : len ≡ log_length log.entries log.votes
   pub over : log.limit < len + block_length next
 
--- how the last append to a log of so many entries of a history has gone: well, or it failed for this reason
+-- how the last append to a log of so many entries of a history and of these votes has gone: well, or it failed
+-- for this reason
 abbrev pub WentSo : {D : Type 0} → (D → Option Told) → (D → ℕ) → LogState D → LogState D
-    → List Entry → ℕ → Option LogWhy → Type 0
-WentSo told faults base log history logged None = (log.failed ≡ false) × IsSafe told log
-WentSo told faults base log history logged (Some whys.DiskFault) =
-    (logged < length history) × BrokeOff told faults base log (next_record history logged)
-WentSo told faults base log history logged (Some (whys.LogFull len)) =
-    (logged < length history) × IsFull told log len (next_record history logged)
+    → List Entry → ℕ → List Vote → Option LogWhy → Type 0
+WentSo told faults base log history logged votes None = (log.failed ≡ false) × IsSafe told log
+WentSo told faults base log history logged votes (Some whys.DiskFault) =
+    (next : Record) × (IsNext history logged votes next) × BrokeOff told faults base log next
+WentSo told faults base log history logged votes (Some (whys.LogFull len)) =
+    (next : Record) × (IsNext history logged votes next) × IsFull told log len next
 
 -- what has come of a log since `base`, with which its member began: it has logged so many entries of its
--- history, and its last append failed for this reason, if one did
+-- history and these votes, and its last append failed for this reason, if one did
 pub record HasCome {D : Type 0} (told : D → Option Told) (faults : D → ℕ) (base log : LogState D)
-    (history : List Entry) (logged : ℕ) (why : Option LogWhy) : Type 0 where
-  -- it has the first entries of the history, behind those that it had, and the votes that it had
+    (history : List Entry) (logged : ℕ) (votes : List Vote) (why : Option LogWhy) : Type 0 where
+  -- it has the first entries of the history, behind those that it had, and these votes behind those that it had
   pub entries : log.entries ≡ take logged history
   pub more : (es : List Entry) × (log.entries ≡ base.entries ++ es)
-  pub votes : log.votes ≡ base.votes
+  pub voted : log.votes ≡ base.votes ++ votes
   -- it keeps its limit
   pub limit : log.limit ≡ base.limit
   pub within : log_length log.entries log.votes ≤ max log.limit (log_length base.entries base.votes)
   -- how its last append went
-  pub last : WentSo told faults base log history logged why
+  pub last : WentSo told faults base log history logged votes why
   -- at no moment a crash would have lost what it had, nor what it could not have lost at an earlier one
   pub moments : Goes (told base.disk) (told log.disk) (λ s. LosesNone base.entries base.votes)
   pub lasting : LosesNothing told base log
@@ -79,17 +90,20 @@ pub record HasCome {D : Type 0} (told : D → Option Told) (faults : D → ℕ) 
 -- so it is with the log of a running member
 abbrev pub HasServed : {D : Type 0} → (D → Option Told) → (D → ℕ) → LogState D → LogState D → Running
     → Type 0
-HasServed told faults base log r = HasCome told faults base log r.replica.history r.replica.logged r.failed
+HasServed told faults base log r =
+    HasCome told faults base log r.replica.history r.replica.logged r.replica.votes r.failed
 
 -- the step is an append
 abbrev pub is_append : Step → Bool
 is_append Append = true
+is_append (LogVote v) = true
 is_append s = false
 
 -- the log is ready for all that its member may still append, unless an append has failed
 pub record IsReady {D : Type 0} (log : LogState D) (r : Running) : Type 0 where
   pub whole : r.failed ≡ None → log.failed ≡ false
   pub spare : r.failed ≡ None → r.replica.room ≤ r.replica.logged + log.spare_entries
+  pub votes : r.failed ≡ None → r.replica.roster ≤ length r.replica.votes + log.spare_votes
 
 -- what the member appends next is a valid record
 abbrev pub AppendsWell : Running → Type 0
@@ -117,6 +131,7 @@ HaveServed {D} told faults bases logs members = (m : ℕ) (base log : LogState D
 pub record IsRoomy {D : Type 0} (told : D → Option Told) (faults : D → ℕ) (r : Running)
     (old new : LogState D) : Type 0 where
   pub spare : r.replica.room - r.replica.logged ≤ new.spare_entries
+  pub votes : r.replica.roster - length r.replica.votes ≤ new.spare_votes
   pub is : new ≡ record old {
     disk = new.disk;
     spare_entries = new.spare_entries;

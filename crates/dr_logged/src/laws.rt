@@ -1,5 +1,5 @@
 //! Laws of members and their logs.
-ghost use Rattle.std.specs.Prelude.{◌≡◌, ℕ, false, List, Option, length, None, Some};
+ghost use Rattle.std.specs.Prelude.{◌≡◌, ℕ, false, List, [], Option, length, None, Some};
 ghost use Rattle.dr_disk.specs.Disk.{Told, content_of};
 ghost use Rattle.dr_disk.specs.Images.{ReadsAnImage};
 ghost use Rattle.dr_entry.specs.declared.entry.Entry.{Entry};
@@ -16,11 +16,12 @@ ghost use Rattle.dr_logged.specs.Appended.{HasAppended, HasBroken, IsAppendDue, 
 
 use dr_disk::Disk;
 
-/// A log that has all of its member's history, and got room, has served it so far and is ready.
+/// A log that has all of its member's history, and got room, has served a member that has not voted so far,
+/// and is ready.
 pub fn logs_begin<D: Disk>()
     ensures { (old new : LogState D) (r : Running) → IsRoomy D.told D.faults r old new
         → old.failed ≡ false → old.entries ≡ r.replica.history
-        → r.replica.logged ≡ length r.replica.history → r.failed ≡ None
+        → r.replica.logged ≡ length r.replica.history → r.replica.votes ≡ [] → r.failed ≡ None
         → HasServed D.told D.faults old new r × IsReady new r }
 {}
 
@@ -31,8 +32,8 @@ pub fn other_deeds_leave_logs<D: Disk>()
         → HasServed D.told D.faults base log (after_step word r) × IsReady log (after_step word r) }
 {}
 
-/// An append that goes well puts the next entry of the history on the log. One that the disk fails, or
-/// for which there is no room, leaves the log with what it had, and is told by the member.
+/// An append that goes well puts the next entry of the history, or a vote, on the log. One that the disk
+/// fails, or for which there is no room, leaves the log with what it had, and is told by the member.
 pub fn appends_serve_logs<D: Disk>()
     ensures well { (base log new : LogState D) (word : ℕ) (r : Running) → IsAppendDue r → IsReady log r
         → HasServed D.told D.faults base log r → HasAppended D.told D.faults log new r
@@ -49,8 +50,8 @@ pub fn appends_serve_logs<D: Disk>()
 /// What a mount finds on the disk of a log, once its member has ended, is what the member has logged. Where
 /// the last append has failed it may be the next entry of the history besides.
 pub fn logs_are_left<D: Disk>()
-    ensures { (base log : LogState D) (history es : List Entry) (vs : List Vote) (logged : ℕ)
-        → (why : Option LogWhy) (told : Told) → HasCome D.told D.faults base log history logged why
+    ensures { (base log : LogState D) (history es : List Entry) (vs votes : List Vote) (logged : ℕ)
+        → (why : Option LogWhy) (told : Told) → HasCome D.told D.faults base log history logged votes why
         → D.told log.disk ≡ Some told → ReadsAnImage told → StandsFor (content_of told) es vs
         → IsLeftOf history logged es }
 {}
