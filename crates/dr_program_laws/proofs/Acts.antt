@@ -42,6 +42,7 @@ is_due : (w : World) (m : ℕ) (end : End) → IsUnwedged w m → IsToEnd w m en
 is_due w m ends.Done calm wants = record { unwedged = calm; all = wants }
 is_due w m (ends.Suspected by) calm wants =
     record { row = wants.0; unsuspected = trusted w m by calm; named = wants.1 }
+is_due w m (ends.Excluded view) calm wants = wants
 is_due w m end calm wants = absurd wants
 
 -- and the other way round
@@ -49,6 +50,7 @@ is_to_end : (w : World) (m : ℕ) (end : End) → IsUnwedged w m → IsDue w m e
 is_to_end w m ends.Done calm due = due.all
 is_to_end w m (ends.Suspected by) calm due = (due.row, due.named)
 is_to_end w m (ends.NoMajority mask) calm due = absurd (due.wedged calm)
+is_to_end w m (ends.Excluded view) calm due = due
 is_to_end w m end calm due = absurd due
 
 -- a step that is asked for may come, where its member may choose and suspects nobody
@@ -69,6 +71,9 @@ asked g w m (steps.Do acts.Mark) may calm wants =
     record { may = may; unwedged = calm; unmarked = wants.0; whole = wants.1; durable = wants.2 }
 asked g w m (steps.Do (acts.Suspect j)) may calm wants =
     record { may = may; other = wants; unsuspected = trusted w m j calm }
+asked g w m (steps.Do acts.Propose) may calm wants = absurd wants
+asked g w m (steps.Do acts.Accept) may calm wants = absurd wants
+asked g w m (steps.Do acts.Commit) may calm wants = absurd wants
 asked g w m (steps.Do (acts.Halt end)) may calm wants = record { may = may; due = is_due w m end calm wants }
 asked g w m (steps.Do (acts.Crash end)) may calm wants = record { alive = may.alive; fault = wants }
 asked g w m (steps.Look i c) may calm wants = record {
@@ -80,9 +85,11 @@ asked g w m (steps.Look i c) may calm wants = record {
 asked g w m (steps.Push j c) may calm wants =
     record { may = may; copy = wants.0; column = wants.1 }
 asked g w m steps.Append may calm wants = record { may = may; behind = wants }
+asked g w m (steps.LogVote v) may calm wants = absurd wants
 
--- a step that may come is asked for: an end, where its member suspects nobody
-pub asks : (g : Group) (w : World) (m : ℕ) (s : Step) → (is_work s ≡ false → IsUnwedged w m)
+-- a step that may come is asked for: an end or a vote, where its member may choose and suspects nobody
+pub asks : (g : Group) (w : World) (m : ℕ) (s : Step)
+    → (is_work s ≡ false → MayChoose g w m × IsUnwedged w m)
     → CanTake g w m s → Wants g w m s
 asks g w m (steps.Do acts.Beat) calm can = tt
 asks g w m (steps.Do (acts.Receive s)) calm can = (can.sender, can.ready)
@@ -93,11 +100,15 @@ asks g w m (steps.Do acts.Publish) calm can = can.behind
 asks g w m (steps.Do acts.Report) calm can = can.logged
 asks g w m (steps.Do acts.Mark) calm can = (can.unmarked, can.whole, can.durable)
 asks g w m (steps.Do (acts.Suspect j)) calm can = can.other
-asks g w m (steps.Do (acts.Halt end)) calm can = is_to_end w m end (calm refl) can.due
+asks g w m (steps.Do acts.Propose) calm can = absurd (cc ((calm refl).0.idle, can.waits))
+asks g w m (steps.Do acts.Accept) calm can = absurd (cc ((calm refl).0.idle, can.waits))
+asks g w m (steps.Do acts.Commit) calm can = absurd (can.wedged (calm refl).1)
+asks g w m (steps.Do (acts.Halt end)) calm can = is_to_end w m end (calm refl).1 can.due
 asks g w m (steps.Do (acts.Crash end)) calm can = can.fault
 asks g w m (steps.Look i c) calm can = (can.row, can.column)
 asks g w m (steps.Push j c) calm can = (can.copy, can.column)
 asks g w m steps.Append calm can = can.behind
+asks g w m (steps.LogVote v) calm can = absurd (can.wedged (calm refl).1)
 
 -- ---- what a step leaves
 
@@ -212,6 +223,9 @@ does_kept g w m acts.Report (parts.Do acts.Mark) i c = None
 does_kept g w m acts.Report part i c = Some (λ old. old)
 does_kept g w m acts.Mark part i c = own_kept g w m DONE_COLUMN 1 part i c
 does_kept g w m (acts.Suspect j) part i c = None
+does_kept g w m acts.Propose part i c = None
+does_kept g w m acts.Accept part i c = None
+does_kept g w m acts.Commit part i c = None
 does_kept g w m (acts.Halt end) parts.Push i c = None
 does_kept g w m (acts.Halt end) (parts.Do acts.Mark) i c = Some (λ old. old)
 does_kept g w m (acts.Halt end) part i c = Some (λ old. old)
@@ -246,6 +260,7 @@ kept g w m (steps.Push j d) parts.Push i c = None
 kept g w m (steps.Push j d) (parts.Do acts.Mark) i c = Some (λ old. old)
 kept g w m (steps.Push j d) part i c = Some (λ old. old)
 kept g w m (steps.Look j d) part i c = None
+kept g w m (steps.LogVote v) part i c = None
 
 -- ---- what a part of the turn leaves
 
@@ -264,13 +279,23 @@ abbrev pub is_judge : Part → Bool
 is_judge parts.Judge = true
 is_judge part = false
 
--- the deed of part a leaves part b, or goes back to it, or is judged
+-- the part is one that a member which suspects nobody passes: it judges nothing, and has no vote
+abbrev pub is_passed : Part → Bool
+is_passed parts.Judge = true
+is_passed parts.Vote = true
+is_passed (parts.Do acts.Propose) = true
+is_passed (parts.Do acts.Accept) = true
+is_passed (parts.Do acts.Commit) = true
+is_passed parts.Excluded = true
+is_passed part = false
+
+-- the deed of part a leaves part b, or goes back to it, or is passed
 abbrev leaves : Group → World → ℕ → Running → Place → Place → ℕ → ℕ → Bool
 leaves g w m r p q a b =
-    (is_judge (numbered a) || (is_publish (numbered a) && (b + 1 == a)))
+    (is_passed (numbered a) || (is_publish (numbered a) && (b + 1 == a)))
     || is_some (kept g w m (uncrashed r (numbered a) p.row p.column) (numbered b) q.row q.column)
 
--- each deed of a turn that isn't judged leaves what is known of the parts before it
+-- each deed of a turn that isn't passed leaves what is known of the parts before it
 all_leave : (g : Group) (w : World) (m : ℕ) (r : Running) (p q : Place)
     → all_below (length TURN - 1) (λ a. all_below a (leaves g w m r p q a)) ≡ true
 unfolding all_below kept receive_kept send_kept null_kept does_kept stamp_kept own_kept both differs apart_by
@@ -283,10 +308,10 @@ given false true o plain other e = absurd (cc)
 given false false (Some x) plain other e = x
 given false false None plain other e = absurd (cc)
 
--- what is known of a place stays known after the deed of a later part that isn't judged, but where that goes
+-- what is known of a place stays known after the deed of a later part that isn't passed, but where that goes
 -- back to it
 pub earlier_kept : (g : Group) (w : World) (m : ℕ) (r : Running) (p q : Place) → p.part + 1 < length TURN
-    → q.part < p.part → is_judge (part_of p) ≡ false
+    → q.part < p.part → is_passed (part_of p) ≡ false
     → (is_publish (part_of p) && (q.part + 1 == p.part)) ≡ false
     → Stays g w (effect_of g w m (uncrashed r (part_of p) p.row p.column)) m (part_of q) q.row q.column
 earlier_kept g w m r p q inside before plain forth =
@@ -328,12 +353,12 @@ idle_work g w m p behind s work = by s work
         idle_part g w m p 2 i 0 behind (omega arith) (behind.view i wants.0.member) (omega arith) wants
     by (steps.Do acts.Send) work = one 3 (omega arith) refl refl
     by (steps.Do acts.Null) work = one 4 (omega arith) refl refl
-    by (steps.Do acts.Deliver) work = one (length TURN - 10) (omega arith) refl refl
-    by steps.Append work = λ wants. one (length TURN - 8) (omega arith) refl refl
-        (one (length TURN - 9) (omega arith) refl refl wants)
-    by (steps.Do acts.Publish) work = one (length TURN - 8) (omega arith) refl refl
-    by (steps.Do acts.Report) work = one (length TURN - 7) (omega arith) refl refl
-    by (steps.Do acts.Mark) work = one (length TURN - 6) (omega arith) refl refl
+    by (steps.Do acts.Deliver) work = one (length TURN - 15) (omega arith) refl refl
+    by steps.Append work = λ wants. one (length TURN - 13) (omega arith) refl refl
+        (one (length TURN - 14) (omega arith) refl refl wants)
+    by (steps.Do acts.Publish) work = one (length TURN - 13) (omega arith) refl refl
+    by (steps.Do acts.Report) work = one (length TURN - 12) (omega arith) refl refl
+    by (steps.Do acts.Mark) work = one (length TURN - 11) (omega arith) refl refl
     by s work = absurd (cc)
 
 -- ---- a member at rest

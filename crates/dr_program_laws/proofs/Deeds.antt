@@ -20,7 +20,8 @@ use Rattle.dr_program.specs.declared.place.Part.TheVariants as parts
 use Rattle.dr_program.specs.declared.place.TheConstants.{TURN}
 use Rattle.dr_program.specs.Form.{IsRunningMember}
 use Rattle.dr_program.specs.Program.{after_deed, next_sight}
-use Rattle.dr_program.specs.Running.{Running, append_or_end, asks, begun_running, columns, crashes_now, end_by, is_at_push, is_in_turn, judged, members, next_step, push_or_crash, pushes_after, step_at, goes, waits_after}
+use Rattle.dr_program.specs.Replica.{value_due}
+use Rattle.dr_program.specs.Running.{Running, append_or_end, asks, begun_running, columns, crashes_now, end_by, is_at_push, is_in_turn, judged, members, next_step, push_or_crash, pushes_after, step_at, goes, waits_after, vote_or_end}
 use Rattle.dr_program.specs.Steps.{allows, stepped}
 use Rattle.dr_program.specs.Turn.{after, is_beat, part_of, turn_begins}
 use Rattle.dr_program.proofs.Runs.{after_either}
@@ -150,6 +151,31 @@ append_keeps limit points word r d v = by r.failed
       proper = ends why;
     }
 
+-- a vote, or the end in its place
+vote_keeps : (limit : ℕ) (points : List CrashPoint) (word : ℕ) (r : Running) → IsDue r parts.Vote
+    → Stands limit points r → Stands limit points (done_at word r parts.Vote)
+vote_keeps limit points word r d v = by r.failed
+  where
+    ends : (why : LogWhy) → IsProper limit points r.replica.turns (Some (end_by why))
+    ends whys.DiskFault = tt
+    ends (whys.LogFull len) = tt
+
+    by : (o : Option LogWhy) → Stands limit points (done_by word r parts.Vote (vote_or_end o (value_due r.replica)))
+    by None = record {
+      limited = v.limited;
+      planned = v.planned;
+      later = v.later;
+      ahead = onward limit points r parts.Vote d refl v;
+      proper = v.proper;
+    }
+    by (Some why) = record {
+      limited = v.limited;
+      planned = v.planned;
+      later = v.later;
+      ahead = onward limit points r parts.Vote d refl v;
+      proper = ends why;
+    }
+
 -- a verdict, to suspect another member or to end by suspicion
 verdict_keeps : (limit : ℕ) (points : List CrashPoint) (word : ℕ) (r : Running) (a : Act)
     → is_verdict a ≡ true → Stands limit points r
@@ -180,6 +206,7 @@ beat_keeps limit points word r d v = record {
       place = d.member.place;
       turns = d.member.turns;
       waits = d.member.waits;
+      free = d.member.free;
       left = d.member.left;
     }
 
@@ -231,6 +258,7 @@ deed_keeps limit points word r parts.Look d v =
 deed_keeps limit points word r parts.Judge d v =
     verdict_keeps limit points word r (judged r) (verdict_of r) v
 deed_keeps limit points word r parts.Append d v = append_keeps limit points word r d v
+deed_keeps limit points word r parts.Vote d v = vote_keeps limit points word r d v
 deed_keeps limit points word r parts.Push d v = push_keeps limit points word r d v
 deed_keeps limit points word r (parts.Do a) d v = act_keeps limit points word r a d v
 deed_keeps limit points word r parts.Crash d v = record {
@@ -241,6 +269,8 @@ deed_keeps limit points word r parts.Crash d v = record {
   proper = named_in_turn points r.replica.turns
       (ap (list_any (is_in_turn r.replica.turns)) (sym v.planned) ∙ d.asked);
 }
+deed_keeps limit points word r parts.Excluded d v =
+    record { limited = v.limited; planned = v.planned; later = v.later; ahead = v.ahead; proper = tt }
 deed_keeps limit points word r parts.Done d v =
     record {
       limited = v.limited;

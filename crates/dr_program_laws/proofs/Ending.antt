@@ -24,6 +24,7 @@ use Rattle.dr_restart.specs.declared.start.Start.{Start}
 use Rattle.dr_restart.specs.Groups.{group_of}
 use Rattle.dr_restart.specs.Setups.{IsBegun, crashes_of}
 use Rattle.dr_restart.proofs.Setups.{are_setups}
+use Rattle.dr_vote_laws.proofs.Exclusions.{excluded_so}
 use Rattle.dr_world_laws.proofs.Leavings.{IsLeftSo, left_so}
 use Rattle.dr_world_laws.proofs.Agreeing.{done-durable, done-whole}
 use Rattle.dr_world_laws.proofs.Remaining.{holds-remaining}
@@ -132,6 +133,12 @@ has_ended g p limit points m r is program run there ended v = by r.replica.end r
       first = v.later;
     }))))
 
+    without : (view : ℕ) → r.replica.end ≡ Some (ends.Excluded view) → view ≡ 1
+    without view e =
+        let out = excluded_so g (world g p) m view run
+        (of_there p (λ q. q.end) (opening_world g).end m r there ∙ e) in
+        omega (arith, out.next, (known g (world g p) is run).faithful.beginning.first m)
+
     by : (o : Option End) → r.replica.end ≡ o → IsTrue (is_some o)
         → IsProper limit points r.replica.turns o → HasEnded g.opening limit m points (end_of r)
     by None e t so = absurd (cc)
@@ -143,12 +150,15 @@ has_ended g p limit points m r is program run there ended v = by r.replica.end r
     by (Some (ends.Suspected other)) e t so = left (ends.Suspected other) e (λ out. (out.member, out.other))
     by (Some (ends.NoMajority mask)) e t so =
         left (ends.NoMajority mask) e (λ out. (out.own, out.members, out.minority))
+    by (Some (ends.Excluded view)) e t so = inr (inr (inr (inr (record {
+      end = subst (λ o. IsLeftOut g.opening m (unwrap_or o ends.Done)) (sym e) (without view e);
+      first = v.later;
+    }))))
     by (Some (ends.Spent n)) e t so = inr (inl (record {
       end = ap (λ x. unwrap_or x ends.Done) e ∙ ap ends.Spent so.0;
       turns = so.1;
       uncrashed = so.2;
     }))
-    by (Some end) e t so = absurd so
 
 -- the members of any program that comes of deeds
 pub have_ended : (g : Group) (turns : ℕ) (setups : List Setup) (points : ℕ → List CrashPoint)

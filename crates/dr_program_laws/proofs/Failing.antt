@@ -6,7 +6,8 @@ use Rattle.dr_entry.specs.declared.end.End.{End}
 use Rattle.dr_entry.specs.declared.end.End.TheVariants.{NoMajority, Suspected}
 use Rattle.dr_machine.specs.declared.event.Act.{Act}
 use Rattle.dr_machine.specs.declared.event.Act.TheVariants as acts
-use Rattle.dr_machine.specs.declared.step.Step.TheVariants.{Append}
+use Rattle.dr_machine.specs.declared.step.Step.TheVariants.{Do}
+use Rattle.dr_machine.specs.declared.event.Act.TheVariants.{Crash}
 use Rattle.dr_machine.specs.Group.{Group, IsGroup}
 use Rattle.dr_program.specs.declared.outcome.LogWhy.{LogWhy}
 use Rattle.dr_program.specs.declared.place.Part.{Part}
@@ -15,9 +16,9 @@ use Rattle.dr_program.specs.declared.setup.Setup.{Setup}
 use Rattle.dr_program.specs.Acts.{taken}
 use Rattle.dr_program.specs.Form.{IsRunningMember}
 use Rattle.dr_program.specs.Program.{AreSetups, IsRanFrom, Move, Program, after_deed, begun_program, moved_by, next_sight, step_of}
-use Rattle.dr_program.specs.Replica.{Replica}
-use Rattle.dr_program.specs.Running.{Running, after_step, append_or_end, begun_running, broken_off, crashes_now, end_by, judged, next_step, push_or_crash, step_at, took}
-use Rattle.dr_program.specs.Steps.{stepped}
+use Rattle.dr_program.specs.Replica.{Replica, value_due}
+use Rattle.dr_program.specs.Running.{Running, after_step, append_or_end, begun_running, broken_off, crashes_now, end_by, judged, next_step, push_or_crash, step_at, took, vote_or_end}
+use Rattle.dr_program.specs.Steps.{IsAppend, stepped}
 use Rattle.dr_program.specs.Turn.{part_of}
 use Rattle.dr_program.proofs.Runs.{after_either}
 use Rattle.dr_refine.specs.Programs.{IsProgram}
@@ -47,12 +48,16 @@ no_log_end : (word : ℕ) (r : Running) (part : Part) (i c : ℕ) → r.failed �
 no_log_end word r parts.Judge i c well none plain = verdict_logs r.replica (judged r) (verdict_of r) none
 no_log_end word r parts.Append i c well none plain =
     ap (λ o. has_log_end (stepped word r.replica (append_or_end o)).end) well ∙ ap has_log_end none
+no_log_end word r parts.Vote i c well none plain =
+    ap (λ o. has_log_end (stepped word r.replica (vote_or_end o (value_due r.replica))).end) well
+    ∙ ap has_log_end none
 no_log_end word r parts.Push i c well none plain = by (crashes_now r)
   where
     by : (b : Bool) → has_log_end (stepped word r.replica (push_or_crash b i c)).end ≡ false
     by true = refl
     by false = ap has_log_end none
 no_log_end word r parts.Crash i c well none plain = refl
+no_log_end word r parts.Excluded i c well none plain = refl
 no_log_end word r parts.Done i c well none plain = refl
 no_log_end word r parts.Spent i c well none plain = refl
 no_log_end word r (parts.Do a) i c well none plain = ap has_log_end (taken_end r.replica a plain ∙ none)
@@ -77,16 +82,27 @@ takes word r member none is = record {
     ends why (inr over) = absurd (cc (none, over))
 
 -- a member whose append fails
-breaks : (why : LogWhy) (r : Running) → r.replica.end ≡ None → next_step r ≡ Append
+breaks_at : (why : LogWhy) (r : Running) (part : Part) (i c : ℕ) → IsAppend (step_at r part i c)
+    → step_at (broken_off why r) part i c ≡ Do (Crash (end_by why))
+breaks_at why r parts.Append i c due = refl
+breaks_at why r parts.Vote i c due = refl
+breaks_at why r parts.Push i c due = absurd (by (crashes_now r) due)
+  where
+    by : (b : Bool) → IsAppend (push_or_crash b i c) → ⊥
+    by true e = e
+    by false e = e
+breaks_at why r part i c due = absurd due
+
+breaks : (why : LogWhy) (r : Running) → r.replica.end ≡ None → IsAppend (next_step r)
     → IsFailing (broken_off why r)
 breaks why r none due = record {
   well = λ unfailed. absurd (cc);
-  broken = λ reason failed. inl (none, at_append ∙ ap append_or_end failed);
+  broken = λ reason failed. inl (
+    none,
+    breaks_at why r (part_of r.place) r.place.row r.place.column due
+        ∙ ap (λ (x : LogWhy). Do (Crash (end_by x))) (same_Some why reason failed),
+  );
 }
-  where
-    at_append : next_step (broken_off why r) ≡ append_or_end (Some why)
-    at_append = ap (λ part. step_at (broken_off why r) part r.place.row r.place.column)
-        (append_at r (part_of r.place) r.place.row r.place.column due).0
 
 -- ---- a move
 

@@ -1,6 +1,7 @@
 -- At a place that the search passes nothing is left to do.
 use Rattle.std.proofs.Common.{◌≡◌, ◌≢◌, refl, sym, ap, ◌∙◌, subst, inl, inr, ℕ, ◌<◌, ◌==◌, ◌&&◌, not, Bool, true, false, arith}
 use Rattle.std.specs.Prelude.{Option, None, Some, slice_get}
+use Rattle.std.proofs.lemmas.Bool.{and_parts}
 use Rattle.std.proofs.lemmas.Bool.Decides.{nat_tests}
 use Rattle.dr_faithful.proofs.Faithfulness.{faithful}
 use Rattle.dr_history.specs.Members.{has}
@@ -18,7 +19,7 @@ use Rattle.dr_program.specs.Reading.{world}
 use Rattle.dr_program.specs.Replica.{is_other}
 use Rattle.dr_program.specs.Running as running
 use Rattle.dr_program.specs.Running.{Running, append_or_end, applies, crashes_now, members, push_or_crash, step_at}
-use Rattle.dr_program.specs.Steps.{allows}
+use Rattle.dr_program.specs.Steps.{allows, is_free}
 use Rattle.dr_program.specs.Turn.{after, columns_in, part_of, rows_in}
 use Rattle.dr_program.proofs.Holdings.{held_of}
 use Rattle.dr_refine.specs.Programs.{IsMember}
@@ -37,7 +38,7 @@ use Rattle.dr_program_laws.specs.Trusting.{AreTrusting}
 use Rattle.dr_program_laws.specs.Wants.{Wants}
 use Rattle.dr_program_laws.proofs.Acts.{asked}
 use Rattle.dr_program_laws.proofs.Before.{before_after}
-use Rattle.dr_program_laws.proofs.Trusting.{IsAmongTrusting, nobody_suspects}
+use Rattle.dr_program_laws.proofs.Trusting.{IsAmongTrusting, nobody_suspects, votes_nothing}
 
 -- member m of a steady program in which nobody suspects anybody, which has not ended
 pub record IsGoing (g : Group) (p : Program) (m : ℕ) (r : Running) : Type 0 where
@@ -74,13 +75,15 @@ allowed : (g : Group) (p : Program) (m : ℕ) (r : Running) (s : Step) → IsGoi
     → Wants g (world g p) m s → allows r.replica s ≡ true
 allowed g p m r s is wants =
     let can = asked g (world g p) m s
-    (guards.may_choose g (replicas p.members) p.table m r.replica (member g p m r is) is.unended)
+    (guards.may_choose g (replicas p.members) p.table m r.replica (member g p m r is)
+    (is.unended, (votes_nothing g p m r (among g p m r is)).0))
     (nobody_suspects g p m is.trusting) wants in
-    (step_guard g (replicas p.members) p.table m r.replica s (member g p m r is) is.unended).1 (
+    (and_parts (is_free r.replica s) (allows r.replica s)
+    ((step_guard g (replicas p.members) p.table m r.replica s (member g p m r is) is.unended).1 (
       can,
       has_room g (replicas p.members) p.table m r.replica s (member g p m r is)
           (is.steady.rooms m r is.there) is.steady.reached can,
-    )
+    ))).1
 
 -- so what fails its test isn't asked for
 unasked : (g : Group) (p : Program) (m : ℕ) (r : Running) (s : Step) → IsGoing g p m r

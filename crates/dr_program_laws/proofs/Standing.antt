@@ -114,7 +114,7 @@ IsProper limit points turns (Some ends.DiskFault) = ⊤
 IsProper limit points turns (Some (ends.LogFull len)) = ⊤
 IsProper limit points turns (Some (ends.Suspected by)) = ⊤
 IsProper limit points turns (Some (ends.NoMajority mask)) = ⊤
-IsProper limit points turns (Some end) = ⊥
+IsProper limit points turns (Some (ends.Excluded view)) = ⊤
 
 -- a member with these crash points, which takes at most so many turns, stands so: it is not past a crash,
 -- ahead of it where it comes

@@ -7,7 +7,7 @@ use Rattle.std.proofs.lemmas.Option.{same_Some, slice_get-map, slice_get_within}
 use Rattle.dr_entry.specs.declared.end.End.{End}
 use Rattle.dr_machine.specs.declared.event.Act.{Act}
 use Rattle.dr_machine.specs.declared.step.Step.{Step}
-use Rattle.dr_machine.specs.declared.step.Step.TheVariants.{Do, Look, Push, Append}
+use Rattle.dr_machine.specs.declared.step.Step.TheVariants.{Do, Look, Push, Append, LogVote}
 use Rattle.dr_machine.specs.Acts.{CanTake, does, effect_of}
 use Rattle.dr_machine.specs.Effects.{one_more}
 use Rattle.dr_machine.specs.Group.{Group, IsGroup, banks, columns, roster}
@@ -21,7 +21,7 @@ use Rattle.dr_program.specs.Program.{AreSetups, IsSetup, Move, Program, after_de
 use Rattle.dr_program.specs.Reading.{comes_to, step_by, step_due, world}
 use Rattle.dr_program.specs.Replica.{Replica, first_entries_of, greatest}
 use Rattle.dr_program.specs.Running.{Running, after_step, begun_running, broken_off, next_step, took}
-use Rattle.dr_program.specs.Steps.{stepped, stored}
+use Rattle.dr_program.specs.Steps.{IsAppend, stepped, stored}
 use Rattle.dr_program.proofs.Fixed.{Told, step_told}
 use Rattle.dr_program.proofs.Holdings.{held_of, replica_kept, replica_set}
 use Rattle.dr_program.proofs.Opening.{begins_at_the_opening, first_rows}
@@ -127,6 +127,7 @@ rows_stay g w m (Do a) v j i c other = act_cells g w m a v j i c (inr other)
 rows_stay g w m (Push k d) v j i c other = grind (arith, other)
 rows_stay g w m (Look k d) v j i c other = refl
 rows_stay g w m Append v j i c other = refl
+rows_stay g w m (LogVote value) v j i c other = refl
 
 -- the own words that stand in the table as they were pushed
 abbrev ArePushed : Group → World → ℕ → Replica → Type 0
@@ -185,6 +186,7 @@ step_stands g w m word r (Push k d) shown old =
     push_stands g w m r k d shown.form shown.rows shown.wide shown.view (shown.own d) old
 step_stands g w m word r (Look k d) shown old = old
 step_stands g w m word r Append shown old = old
+step_stands g w m word r (LogVote value) shown old = old
 
 -- ---- the program
 
@@ -251,19 +253,26 @@ steady_on g p m r is there unended = record {
         × (world g (step_of p (ok m)) ≡ effect_of g (world g p) m (next_step r))
     moved = world_on g p m r is there unended
 
+-- a member after an append that fails
+deed_failed : (word : ℕ) (why : LogWhy) (r : Running) (s : Step) → IsAppend s
+    → after_deed word (outcomes.Failed why) r s ≡ broken_off why r
+deed_failed word why r Append is = refl
+deed_failed word why r (LogVote value) is = refl
+deed_failed word why r s is = absurd is
+
 -- the program after a move whose append fails
 failed_made : (p : Program) (m : ℕ) (why : LogWhy) (r : Running) → slice_get p.members m ≡ Some r
-    → r.replica.end ≡ None → next_step r ≡ Append
+    → r.replica.end ≡ None → IsAppend (next_step r)
     → step_of p (record { member = m; outcome = outcomes.Failed why }) ≡ record {
       members = slice_set p.members m (broken_off why r);
       table = stored p.table r.replica (next_step r);
     }
 failed_made p m why r there unended due =
     step_is p (record { member = m; outcome = outcomes.Failed why }) r there unended
-    ∙ ap (λ s. record {
-      members = slice_set p.members m (after_deed (next_sight p.table r) (outcomes.Failed why) r s);
+    ∙ ap (λ x. record {
+      members = slice_set p.members m x;
       table = stored p.table r.replica (next_step r);
-    }) due
+    }) (deed_failed (next_sight p.table r) why r (next_step r) due)
 
 -- it leaves each member its replica and its limit
 failed_leaves : (p : Program) (m : ℕ) (why : LogWhy) (r : Running) → slice_get p.members m ≡ Some r
@@ -282,7 +291,7 @@ failed_leaves p m why r there i y at =
 
 -- so it keeps the program steady
 steady_failed : (g : Group) (p : Program) (m : ℕ) (why : LogWhy) (r : Running) → IsSteady g p
-    → slice_get p.members m ≡ Some r → r.replica.end ≡ None → next_step r ≡ Append
+    → slice_get p.members m ≡ Some r → r.replica.end ≡ None → IsAppend (next_step r)
     → IsSteady g (record {
       members = slice_set p.members m (broken_off why r);
       table = stored p.table r.replica (next_step r);
@@ -312,9 +321,14 @@ steady_failed g p m why r is there unended due = record {
     kept : IsProgram g (step_of p move) × IsReached g (world g (step_of p move))
     kept = move_kept g p move is.group is.program is.reached
 
+    comes_to_none : (s : Step) → IsAppend s → comes_to (Some s) (outcomes.Failed why) ≡ None
+    comes_to_none Append is = refl
+    comes_to_none (LogVote value) is = refl
+    comes_to_none s is = absurd is
+
     none : step_by r (outcomes.Failed why) ≡ None
     none = ap (λ o. comes_to (step_due r o) (outcomes.Failed why)) unended
-        ∙ ap (λ s. comes_to (Some s) (outcomes.Failed why)) due
+        ∙ comes_to_none (next_step r) due
 
     same : world g (record {
       members = slice_set p.members m (broken_off why r);

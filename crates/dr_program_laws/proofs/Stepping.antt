@@ -26,13 +26,13 @@ use Rattle.dr_words.specs.declared.column.TheConstants.{LOGGED_COLUMN}
 use Rattle.dr_program_laws.specs.Swept.{Swept}
 use Rattle.dr_program_laws.specs.Trusting.{AreTrusting}
 use Rattle.dr_program_laws.specs.Wants.{SeesAllDone}
-use Rattle.dr_program_laws.proofs.Acts.{asks, is_end, is_judge, no_end, taken_end, uncrashed}
+use Rattle.dr_program_laws.proofs.Acts.{asks, is_end, is_passed, no_end, taken_end, uncrashed}
 use Rattle.dr_program_laws.proofs.Leaving.{end_sees}
 use Rattle.dr_program_laws.proofs.Passing.{IsGoing, among, passes}
 use Rattle.dr_program_laws.proofs.Resting.{Knows}
 use Rattle.dr_program_laws.proofs.Steadying.{moved_member, steady_moves, stepped_on, stepped_replica, world_on}
 use Rattle.dr_program_laws.proofs.Sweeping.{swept_behind, world_behind}
-use Rattle.dr_program_laws.proofs.Trusting.{move_trusts, never_judges, nobody_suspects}
+use Rattle.dr_program_laws.proofs.Trusting.{move_trusts, never_passed, nobody_suspects}
 
 -- ---- the search
 
@@ -84,7 +84,7 @@ swept_on g p m r is plain =
     (swept_behind g (world g p) m r (record {
       place = place_of g p m r is.going;
       begun = is.begun;
-      unjudged = never_judges g p m r (among g p m r is.going) is.going.unended;
+      unpassed = never_passed g p m r (among g p m r is.going) is.going.unended is.well;
       published = ((faithful g (world g p) is.going.steady.group is.going.steady.reached).words.own m
           ((world g p).past.view m) LOGGED_COLUMN).logged refl;
       can = subst (CanTake g (world g p) m) plain on.0;
@@ -160,11 +160,14 @@ knows_next g p m r is = by (part_of r.place) refl
     plainly part at plain = subst (λ x. Swept g v m (goes (members r) (running.columns r) x r.place)) at
         (swept_on g p m r is (subst (λ x. due r x ≡ uncrashed r x r.place.row r.place.column) (sym at) plain))
 
+    halts : part_of r.place ≡ parts.Done → CanTake g w m (due r parts.Done)
+    halts at = subst (λ x. CanTake g w m (due r x)) at moved.0
+
     sees : part_of r.place ≡ parts.Done → SeesAllDone v m
     sees at = subst (λ u. SeesAllDone u m) (sym (moved.1 ∙ ap (λ x. effect_of g w m (due r x)) at))
         (end_sees w m ends.Done
-        (asks g w m (due r parts.Done) (λ end. nobody_suspects g p m is.going.trusting)
-        (subst (λ x. CanTake g w m (due r x)) at moved.0)))
+        (asks g w m (due r parts.Done) (λ end. ((halts at).may, nobody_suspects g p m is.going.trusting))
+        (halts at)))
 
     push : (b : Bool) → crashes_now r ≡ b → part_of r.place ≡ parts.Push → KnowsNext g p m r
     push true crash at = ended g p m r parts.Push ends.Crashed is at
@@ -175,9 +178,17 @@ knows_next g p m r is = by (part_of r.place) refl
         (ap (λ b. (stepped (next_sight p.table r) r.replica
         (push_or_crash b r.place.row r.place.column)).end) crash ∙ is.going.unended)
 
+    elsewhere : (part : Part) → part_of r.place ≡ part → is_passed part ≡ true → KnowsNext g p m r
+    elsewhere part at passed = absurd (cc (
+      passed,
+      ap is_passed at,
+      never_passed g p m r (among g p m r is.going) is.going.unended is.well,
+    ))
+
     by : (part : Part) → part_of r.place ≡ part → KnowsNext g p m r
-    by parts.Judge at =
-        absurd (cc (ap is_judge at, never_judges g p m r (among g p m r is.going) is.going.unended))
+    by parts.Judge at = elsewhere parts.Judge at refl
+    by parts.Vote at = elsewhere parts.Vote at refl
+    by parts.Excluded at = elsewhere parts.Excluded at refl
     by parts.Append at = onward g p m r parts.Append is at (ap append_or_end is.well)
         (ap (λ o. (stepped (next_sight p.table r) r.replica (append_or_end o)).end) is.well
         ∙ is.going.unended)

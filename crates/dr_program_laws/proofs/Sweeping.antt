@@ -18,7 +18,7 @@ use Rattle.dr_turn.proofs.Search.{part_before}
 use Rattle.dr_words.specs.declared.column.TheConstants.{LOGGED_COLUMN}
 use Rattle.dr_program_laws.specs.Swept.{IsBefore, IsIdle, Swept}
 use Rattle.dr_program_laws.proofs.Before.{IsLess, before_after}
-use Rattle.dr_program_laws.proofs.Acts.{earlier_kept, goes_back_or_stays, is_judge, uncrashed}
+use Rattle.dr_program_laws.proofs.Acts.{earlier_kept, goes_back_or_stays, is_passed, uncrashed}
 use Rattle.dr_program_laws.proofs.Leaving.{Stays, gained_other}
 
 -- ---- what a deed leaves of its own part
@@ -104,7 +104,7 @@ not_back a b false before = refl
 pub record IsAmid (g : Group) (w : World) (m : ℕ) (r : Running) : Type 0 where
   pub place : IsIn (roster g) (columns g) r.place
   pub begun : is_beat (part_of r.place) ≡ false
-  pub unjudged : is_judge (part_of r.place) ≡ false
+  pub unpassed : is_passed (part_of r.place) ≡ false
   pub published : own_word w m LOGGED_COLUMN ≤ length (w.past.log m)
   pub can : CanTake g w m (uncrashed r (part_of r.place) r.place.row r.place.column)
   pub swept : Swept g w m r.place
@@ -120,7 +120,7 @@ earlier_idle : (g : Group) (w : World) (m : ℕ) (r : Running) (q : Place) → I
     → IsIdle g (world_behind g w m r) m (part_of q) q.row q.column
 earlier_idle g w m r q amid is (inl earlier) forth =
     earlier_kept g w m r r.place q (part_before (roster g) (columns g) r.place amid.place amid.begun) earlier
-    amid.unjudged (not_back q.part r.place.part (is_publish (part_of r.place)) forth)
+    amid.unpassed (not_back q.part r.place.part (is_publish (part_of r.place)) forth)
     (amid.swept q is (inl earlier))
 earlier_idle g w m r q amid is (inr here) forth =
     subst (λ part. IsIdle g w m part q.row q.column
@@ -185,5 +185,6 @@ swept_behind g w m r amid q is = by (part_of r.place) refl
     by parts.Look e before = onward (ap is_once e) before
     by parts.Append e before = onward (ap is_once e) before
     by parts.Push e before = onward (ap is_once e) before
+    by parts.Vote e before = absurd (cc (ap is_passed e, amid.unpassed))
     by (parts.Do a) e before = act a e before
     by part e before = stays part e refl before

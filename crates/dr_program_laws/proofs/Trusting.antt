@@ -25,9 +25,9 @@ use Rattle.dr_program.specs.declared.setup.Setup.{Setup}
 use Rattle.dr_program.specs.declared.setup.Suspicion.{Suspicion}
 use Rattle.dr_program.specs.Program.{AreSetups, IsRanFrom, Move, Program, after_deed, begun_program, end_of, moved_by, next_sight, step_of}
 use Rattle.dr_program.specs.Reading.{world}
-use Rattle.dr_program.specs.Replica.{Replica, has_majority, is_fault, may_suspect, me}
+use Rattle.dr_program.specs.Replica.{Replica, has_majority, is_due, is_fault, is_named, is_others, is_own, is_wedged, may_commit, may_suspect, may_vote, me, value_due}
 use Rattle.dr_program.specs.Replica as replica
-use Rattle.dr_program.specs.Running.{Running, after_step, append_or_end, begun_running, columns, crashes_now, is_scripted, judged, judgement, minority, named_by, next_step, overdue, push_or_crash, scripted, step_at, told, took, waits_after}
+use Rattle.dr_program.specs.Running.{Running, after_step, append_or_end, begun_running, columns, crashes_now, is_scripted, judged, judgement, minority, named_by, next_step, overdue, push_or_crash, scripted, step_at, told, took, vote_or_end, waits_after}
 use Rattle.dr_program.specs.Steps.{allows, stepped}
 use Rattle.dr_program.specs.Turn.{part_of}
 use Rattle.dr_program.proofs.Runs.{after_either}
@@ -51,9 +51,10 @@ use Rattle.dr_words.proofs.Bits.{has_zero}
 use Rattle.dr_words.specs.declared.column.TheConstants.{SUSPECTED_COLUMN}
 use Rattle.dr_history.specs.Members.{has}
 use Rattle.dr_program_laws.specs.Trusting.{AreTrusting, IsCalm, IsTrusting, NoneLeft, SuspectsNobody, has_been_left, is_left_out}
-use Rattle.dr_program_laws.proofs.Acts.{has_verdict, is_judge, no_verdict}
+use Rattle.dr_program_laws.proofs.Acts.{has_verdict, is_judge, is_passed, no_verdict}
 use Rattle.dr_program_laws.proofs.Keeping.{begun_reached}
 use Rattle.dr_program_laws.proofs.Programs.{ran_keeps, replaced_either}
+use Rattle.dr_program_laws.proofs.Quiet.{quiet}
 use Rattle.dr_program_laws.proofs.Worlds.{all_ends, of_there}
 
 -- ---- words
@@ -171,6 +172,56 @@ never_judges g p m r is unended = by (part_of r.place) refl
     ))
     by part at = refl
 
+-- ---- voting
+
+-- such a member has no vote that waits, and has committed nothing
+pub votes_nothing : (g : Group) (p : Program) (m : ℕ) (r : Running) → IsAmongTrusting g p m r
+    → (r.replica.pending ≡ None) × (r.replica.committed ≡ None)
+votes_nothing g p m r is =
+    let none = quiet g (world g p) m is.group is.reached (nobody_suspects g p m is.trusting) in (
+      sym (of_there p (λ q. q.pending) (opening_world g).pending m r is.there) ∙ none.0,
+      sym (of_there p (λ q. q.committed) (opening_world g).committed m r is.there) ∙ none.1,
+    )
+
+-- so until an append of it fails it stands at no part that it passes
+pub never_passed : (g : Group) (p : Program) (m : ℕ) (r : Running) → IsAmongTrusting g p m r
+    → r.replica.end ≡ None → r.failed ≡ None → is_passed (part_of r.place) ≡ false
+never_passed g p m r is unended well = by (part_of r.place) refl
+  where
+    none : (r.replica.pending ≡ None) × (r.replica.committed ≡ None)
+    none = votes_nothing g p m r is
+
+    calm : is_wedged r.replica ≡ false
+    calm = ap (λ n. not (n == 0)) (is.trusting m r is.there).unwedged
+
+    no_vote : may_vote r.replica (value_due r.replica) ≡ false
+    no_vote = and_left (is_wedged r.replica) _ calm
+
+    no_commit : may_commit r.replica ≡ false
+    no_commit = and_left (is_wedged r.replica) _ calm
+
+    unnamed : allows r.replica (step_at r parts.Excluded r.place.row r.place.column) ≡ false
+    unnamed = and_left (is_named (me r.replica) r.replica.committed) _
+        (ap (is_named (me r.replica)) none.1)
+
+    never : (part : Part) → part_of r.place ≡ part
+        → allows r.replica (step_at r part r.place.row r.place.column) ≡ false → is_passed part ≡ false
+    never part at fails = absurd (cc (
+      sym (ap (λ x. allows r.replica (step_at r x r.place.row r.place.column)) at)
+          ∙ due_allowed r ((is.program.form m r is.there).due unended),
+      fails,
+    ))
+
+    by : (part : Part) → part_of r.place ≡ part → is_passed part ≡ false
+    by parts.Judge at = absurd (cc (ap is_judge at, never_judges g p m r is unended))
+    by parts.Vote at = never parts.Vote at
+        (ap (λ o. allows r.replica (vote_or_end o (value_due r.replica))) well ∙ no_vote)
+    by (parts.Do acts.Propose) at = never (parts.Do acts.Propose) at (ap (is_own (me r.replica)) none.0)
+    by (parts.Do acts.Accept) at = never (parts.Do acts.Accept) at (ap (is_others (me r.replica)) none.0)
+    by (parts.Do acts.Commit) at = never (parts.Do acts.Commit) at no_commit
+    by parts.Excluded at = never parts.Excluded at unnamed
+    by part at = refl
+
 -- ---- other steps
 
 -- the step is an act that members judge
@@ -185,6 +236,11 @@ plain_step r parts.Judge i c other none = absurd (cc)
 plain_step r parts.Append i c other none = by r.failed
   where
     by : (o : Option LogWhy) → judges (append_or_end o) ≡ false
+    by None = refl
+    by (Some why) = refl
+plain_step r parts.Vote i c other none = by r.failed
+  where
+    by : (o : Option LogWhy) → judges (vote_or_end o (value_due r.replica)) ≡ false
     by None = refl
     by (Some why) = refl
 plain_step r parts.Push i c other none = by (crashes_now r)
@@ -203,22 +259,28 @@ suspects_stay word r (Do a) other = refl
 suspects_stay word r s other = refl
 
 -- or ends it by suspicion
-halt_kept : (end : End) → is_verdict (acts.Halt end) ≡ false → is_left_out end ≡ false
-halt_kept (ends.Suspected by) other = absurd (cc)
-halt_kept (ends.NoMajority mask) other = absurd (cc)
-halt_kept end other = refl
+halt_kept : (r : Replica) (end : End) → r.committed ≡ None → is_verdict (acts.Halt end) ≡ false
+    → is_due r end ≡ true → is_left_out end ≡ false
+halt_kept r (ends.Suspected by) none other due = absurd (cc)
+halt_kept r (ends.NoMajority mask) none other due = absurd (cc)
+halt_kept r (ends.Excluded view) none other due =
+    let fails : is_due r (ends.Excluded view) ≡ false = and_left (is_named (me r) r.committed) _
+    (ap (is_named (me r)) none) in
+    absurd (cc (fails, due))
+halt_kept r end none other due = refl
 
 crash_kept : (end : End) → is_fault end ≡ true → is_left_out end ≡ false
 crash_kept (ends.Suspected by) fault = absurd (cc)
 crash_kept (ends.NoMajority mask) fault = absurd (cc)
+crash_kept (ends.Excluded view) fault = absurd (cc)
 crash_kept end fault = refl
 
-end_stays : (word : ℕ) (r : Replica) (s : Step) → judges s ≡ false → allows r s ≡ true
-    → has_been_left r.end ≡ false → has_been_left (stepped word r s).end ≡ false
-end_stays word r (Do (acts.Halt end)) other may kept = halt_kept end other
-end_stays word r (Do (acts.Crash end)) other may kept = crash_kept end may
-end_stays word r (Do a) other may kept = kept
-end_stays word r s other may kept = kept
+end_stays : (word : ℕ) (r : Replica) (s : Step) → r.committed ≡ None → judges s ≡ false
+    → allows r s ≡ true → has_been_left r.end ≡ false → has_been_left (stepped word r s).end ≡ false
+end_stays word r (Do (acts.Halt end)) none other may kept = halt_kept r end none other may
+end_stays word r (Do (acts.Crash end)) none other may kept = crash_kept end may
+end_stays word r (Do a) none other may kept = kept
+end_stays word r s none other may kept = kept
 
 -- no step at all changes for how long it waits
 limit_stays : (word : ℕ) (r : Running) (s : Step) → (waits_after word r s).limit ≡ r.waits.limit
@@ -233,14 +295,14 @@ limit_stays word r s = refl
 -- ---- a move
 
 -- a member that takes such a step stays as it is
-step_trusts : (word : ℕ) (r : Running) → judges (next_step r) ≡ false → allows r.replica (next_step r) ≡ true
-    → IsTrusting r → IsTrusting (after_step word r)
-step_trusts word r other may so =
+step_trusts : (word : ℕ) (r : Running) → r.replica.committed ≡ None → judges (next_step r) ≡ false
+    → allows r.replica (next_step r) ≡ true → IsTrusting r → IsTrusting (after_step word r)
+step_trusts word r none other may so =
     subst IsTrusting (sym (settle_only _ (took word r (next_step r)))) (record {
       unwedged = suspects_stay word r.replica (next_step r) other ∙ so.unwedged;
       patient = limit_stays word r (next_step r) ∙ so.patient;
       unscripted = so.unscripted;
-      kept = end_stays word r.replica (next_step r) other may so.kept;
+      kept = end_stays word r.replica (next_step r) none other may so.kept;
     })
 
 -- the member after its next deed
@@ -250,7 +312,7 @@ deed_trusts g p e r is unended =
     let form = is.program.form e.member r is.there in
     let so = is.trusting e.member r is.there in
     after_either IsTrusting p.table e.outcome r (next_step r)
-    (step_trusts (next_sight p.table r) r
+    (step_trusts (next_sight p.table r) r (votes_nothing g p e.member r is).1
     (plain_step r (part_of r.place) r.place.row r.place.column (never_judges g p e.member r is unended)
     (no_verdict r.place.part form.place.part))
     (due_allowed r (form.due unended)) so)

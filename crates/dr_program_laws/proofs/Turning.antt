@@ -19,10 +19,10 @@ use Rattle.dr_program.specs.declared.place.Part.TheVariants as parts
 use Rattle.dr_program.specs.Program.{AllOk, Move, Program, next_sight, ok, ran, step_of}
 use Rattle.dr_program.specs.Form.{IsRunningMember}
 use Rattle.dr_program.specs.Reading.{world}
-use Rattle.dr_program.specs.Replica.{Replica}
+use Rattle.dr_program.specs.Replica.{Replica, value_due}
 use Rattle.dr_program.specs.Steps.{stepped}
 use Rattle.dr_program.specs.Running as running
-use Rattle.dr_program.specs.Running.{Running, append_or_end, crashes_now, goes, judged, members, next_step, push_or_crash, step_at, took}
+use Rattle.dr_program.specs.Running.{Running, append_or_end, crashes_now, goes, judged, members, next_step, push_or_crash, step_at, took, vote_or_end}
 use Rattle.dr_program.specs.Schedule.{IsTurn, is_between_turns}
 use Rattle.dr_program.specs.Turn.{after, is_beat, part_of, turn_begins}
 use Rattle.dr_program.proofs.Holdings.{held_of}
@@ -48,6 +48,11 @@ turns_on : (g : Group) (w : World) (m : ℕ) (r : Running) (part : Part) (i c : 
 turns_on g w m r parts.Append i c other = by r.failed
   where
     by : (o : Option LogWhy) → (effect_of g w m (append_or_end o)).turns m ≡ w.turns m
+    by None = refl
+    by (Some why) = refl
+turns_on g w m r parts.Vote i c other = by r.failed
+  where
+    by : (o : Option LogWhy) → (effect_of g w m (vote_or_end o (value_due r.replica))).turns m ≡ w.turns m
     by None = refl
     by (Some why) = refl
 turns_on g w m r parts.Push i c other = by (crashes_now r)
@@ -117,6 +122,7 @@ begins g p m r is at q inside before =
           place = form.place;
           turns = form.turns;
           waits = form.waits;
+          free = form.free;
           left = form.left;
         }
 

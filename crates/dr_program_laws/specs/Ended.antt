@@ -1,7 +1,7 @@
 -- How the members of an age are to end.
 use Rattle.std.specs.Prelude.{◌≡◌, ◌≢◌, ◌⊎◌, ℕ, ◌<◌, ◌≤◌, All, Any, Bool, true, false, List, ◌++◌, length, slice_get, Some}
 use Rattle.dr_entry.specs.declared.end.End.{End}
-use Rattle.dr_entry.specs.declared.end.End.TheVariants.{Done, Crashed, Suspected, NoMajority, DiskFault, LogFull, Spent}
+use Rattle.dr_entry.specs.declared.end.End.TheVariants.{Done, Crashed, Suspected, Excluded, NoMajority, DiskFault, LogFull, Spent}
 use Rattle.dr_entry.specs.declared.end.MemberEnd.{MemberEnd}
 use Rattle.dr_history.specs.declared.opening.Opening.{Opening}
 use Rattle.dr_history.specs.Members.{has}
@@ -55,11 +55,12 @@ pub record HasStopped (points : List CrashPoint) (e : MemberEnd) : Type 0 where
   pub first : All (λ (c : CrashPoint). 1 ≤ c.turn → e.turns ≤ c.turn) points
 
 -- the end is by suspicion: it names another member of View 0 than m, or members of it, m itself among them,
--- that are no majority
+-- that are no majority, or the view behind it, which goes on without m
 abbrev pub IsLeftOut : Opening → ℕ → End → Type 0
 IsLeftOut o m (Suspected by) = (has o.members by ≡ true) × (by ≢ m)
 IsLeftOut o m (NoMajority mask) =
     (has mask m ≡ true) × IsPartOf mask o.members × (¬ IsMajorityOf mask o.members)
+IsLeftOut o m (Excluded view) = view ≡ 1
 IsLeftOut o m end = ⊥
 
 -- member m has been left out, in no later turn than the first that a crash point names

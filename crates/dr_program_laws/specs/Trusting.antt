@@ -1,7 +1,7 @@
 -- Members that suspect nobody, and never will.
 use Rattle.std.specs.Prelude.{◌≡◌, ℕ, All, Bool, true, false, List, [], Option, None, Some, slice_get}
 use Rattle.dr_entry.specs.declared.end.End.{End}
-use Rattle.dr_entry.specs.declared.end.End.TheVariants.{Suspected, NoMajority}
+use Rattle.dr_entry.specs.declared.end.End.TheVariants.{Suspected, Excluded, NoMajority}
 use Rattle.dr_entry.specs.declared.end.MemberEnd.{MemberEnd}
 use Rattle.dr_program.specs.declared.setup.Setup.{Setup}
 use Rattle.dr_program.specs.Program.{Program}
@@ -14,6 +14,7 @@ use Rattle.dr_script.specs.declared.script.Script.{Script}
 abbrev pub is_left_out : End → Bool
 is_left_out (Suspected by) = true
 is_left_out (NoMajority mask) = true
+is_left_out (Excluded view) = true
 is_left_out end = false
 
 abbrev pub has_been_left : Option End → Bool

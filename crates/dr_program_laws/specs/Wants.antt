@@ -1,14 +1,14 @@
 -- What a step asks of a member that may choose and suspects nobody.
 use Rattle.std.specs.Prelude.{◌≡◌, ⊤, ℕ, ◌<◌, ◌≤◌, Bool, true, false, length}
 use Rattle.dr_entry.specs.declared.end.End.{End}
-use Rattle.dr_entry.specs.declared.end.End.TheVariants.{Done, Suspected}
+use Rattle.dr_entry.specs.declared.end.End.TheVariants.{Done, Excluded, Suspected}
 use Rattle.dr_history.specs.History.{messages_of}
 use Rattle.dr_history.specs.Members.{has}
 use Rattle.dr_machine.specs.declared.event.Act.TheVariants as acts
 use Rattle.dr_machine.specs.declared.step.Step.{Step}
 use Rattle.dr_machine.specs.declared.step.Step.TheVariants as steps
 use Rattle.dr_machine.specs.Group.{Group, columns}
-use Rattle.dr_machine.specs.Guards.{HasRoom, HoldsAll, IsBehind, IsFault, IsOther, next_index, seen_slot}
+use Rattle.dr_machine.specs.Guards.{HasRoom, HoldsAll, IsBehind, IsExcluded, IsFault, IsOther, next_index, seen_slot}
 use Rattle.dr_machine.specs.World.{World, count_of, own_word, shown}
 use Rattle.dr_ring.specs.Slots.{IsReady}
 use Rattle.dr_words.specs.declared.column.TheConstants.{DONE_COLUMN, LOGGED_COLUMN, RECEIVED_COLUMN, SUSPECTED_COLUMN}
@@ -46,10 +46,11 @@ abbrev pub IsToMark : Group → World → ℕ → Type 0
 IsToMark g w m = (own_word w m DONE_COLUMN ≡ 0) × HoldsAll g w m
     × (w.past.durable m ≡ length (w.past.history m))
 
--- m is to end so: done, or suspected; one that suspects nobody has a majority
+-- m is to end so: done, suspected, or excluded; one that suspects nobody has a majority
 abbrev pub IsToEnd : World → ℕ → End → Type 0
 IsToEnd w m Done = SeesAllDone w m
 IsToEnd w m (Suspected by) = IsOther w m by × (has (w.seen m by SUSPECTED_COLUMN) m ≡ true)
+IsToEnd w m (Excluded view) = IsExcluded w m view
 IsToEnd w m end = ⊥
 
 -- what the step asks
@@ -63,19 +64,27 @@ Wants g w m (steps.Do acts.Publish) = IsToPublish w m
 Wants g w m (steps.Do acts.Report) = ShowsMore w m LOGGED_COLUMN (w.past.durable m)
 Wants g w m (steps.Do acts.Mark) = IsToMark g w m
 Wants g w m (steps.Do (acts.Suspect j)) = IsOther w m j
+Wants g w m (steps.Do acts.Propose) = ⊥
+Wants g w m (steps.Do acts.Accept) = ⊥
+Wants g w m (steps.Do acts.Commit) = ⊥
 Wants g w m (steps.Do (acts.Halt end)) = IsToEnd w m end
 Wants g w m (steps.Do (acts.Crash end)) = IsFault end
 Wants g w m (steps.Look i c) = IsOther w m i × (c < columns g)
 Wants g w m (steps.Push j c) = IsOther w m j × (c < columns g)
 Wants g w m steps.Append = length (w.past.log m) < length (w.past.history m)
+Wants g w m (steps.LogVote v) = ⊥
 
 -- the steps that a turn has to do between its looks and its pushes, where they are asked for
 abbrev pub is_work : Step → Bool
 is_work (steps.Do acts.Beat) = false
 is_work (steps.Do (acts.Suspect j)) = false
+is_work (steps.Do acts.Propose) = false
+is_work (steps.Do acts.Accept) = false
+is_work (steps.Do acts.Commit) = false
 is_work (steps.Do (acts.Halt end)) = false
 is_work (steps.Do (acts.Crash end)) = false
 is_work (steps.Do a) = true
 is_work (steps.Look i c) = false
 is_work (steps.Push j c) = false
 is_work steps.Append = true
+is_work (steps.LogVote v) = false
