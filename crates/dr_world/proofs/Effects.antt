@@ -9,7 +9,7 @@ use Rattle.dr_words.specs.Form.{IsInForm}
 use Rattle.dr_words.specs.Grown.{HasGrown}
 use Rattle.dr_machine.specs.declared.event.Event.{Event}
 use Rattle.dr_machine.specs.declared.step.Step.{Step}
-use Rattle.dr_machine.specs.declared.step.Step.TheVariants.{Do, Look, Push, Append}
+use Rattle.dr_machine.specs.declared.step.Step.TheVariants.{Do, Look, Push, Append, LogVote}
 use Rattle.dr_machine.specs.Events.{member_of, step_of}
 use Rattle.dr_machine.specs.Group.{Group, roster, columns}
 use Rattle.dr_machine.specs.World.{World}
@@ -45,6 +45,7 @@ stored_first table r (Do a) = refl
 stored_first table r (Look i c) = refl
 stored_first table r (Push j c) = refl
 stored_first table r Append = refl
+stored_first table r (LogVote v) = refl
 
 -- what an event makes of what is held is its effect
 pub take_effect : (h : Held) (e : Event) (r : Replica) → IsHeld h → slice_get h.replicas (member_of e)

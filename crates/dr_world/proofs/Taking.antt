@@ -20,7 +20,7 @@ use Rattle.dr_program.proofs.Holdings.{replica_set, replica_kept}
 use Rattle.dr_faithful.proofs.Faithfulness.{words_grew}
 use Rattle.dr_refine.proofs.Steps.{stored_length}
 use Rattle.dr_world.specs.Held.{Held, its_group, its_world, AreMembers, IsHeld}
-use Rattle.dr_program.specs.Steps.{allows, may_take, sight, stepped_over, stored}
+use Rattle.dr_program.specs.Steps.{allows, is_free, may_take, sight, stepped_over, stored}
 use Rattle.dr_world.proofs.Guarding.{take_test, of_roster}
 use Rattle.dr_world.proofs.Effects.{after, take_effect}
 
@@ -87,7 +87,8 @@ stored_within table r s n is = stored_length table r s ∙ is
 
 -- a step that may be taken is allowed
 pub allowed : (r : Replica) (e : Event) → may_take r (step_of e) ≡ true → allows r (step_of e) ≡ true
-allowed r e may = (and_parts (not (is_some r.end)) (allows r (step_of e)) may).1
+allowed r e may = (and_parts (is_free r (step_of e)) (allows r (step_of e))
+    (and_parts (not (is_some r.end)) _ may).1).1
 
 -- an event that the replica of its member may take happens
 pub taken_happens : (h : Held) (e : Event) (r : Replica) → IsHeld h → slice_get h.replicas (member_of e)

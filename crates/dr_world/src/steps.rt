@@ -2,12 +2,12 @@
 ghost use Rattle.std.specs.Prelude.{◌≡◌, ◌<◌, true, length};
 ghost use Rattle.dr_machine.specs.Events.{step_of};
 ghost use Rattle.dr_program.specs.Form.{HasForm};
-ghost use Rattle.dr_program.specs.Steps.{index_in, may_take, stepped_over, stored};
+ghost use Rattle.dr_program.specs.Steps.{index_in, is_free, may_take, stepped_over, stored};
 ghost use Rattle.dr_words.specs.Columns.{columns_of};
 ghost use Rattle.dr_words.specs.Layout.{words_of};
 ghost use Rattle.dr_world.specs.Steps.{IsInSight};
 
-use dr_machine::{Event, Step};
+use dr_machine::{Act, Event, Step};
 use dr_replica::Replica;
 use dr_words::BEAT_COLUMN;
 
@@ -15,7 +15,34 @@ use dr_words::BEAT_COLUMN;
 pub(crate) fn may_take(replica: &Replica, event: &Event) -> bool
     ensures { result ≡ may_take replica.now (step_of event.now) }
 {
-    replica.end().is_none() && replica.allows(event.step())
+    let step = event.step();
+    replica.end().is_none() && is_free(replica, step) && replica.allows(step)
+}
+
+/// Whether no vote of the replica waits, or the step is one that it may take where one does.
+fn is_free(replica: &Replica, step: Step) -> bool
+    ensures { result ≡ is_free replica.now step }
+{
+    match step {
+        Step::Do(Act::Propose | Act::Accept | Act::Crash { .. }) => true,
+        Step::Do(
+            Act::Beat
+            | Act::Receive { .. }
+            | Act::Send
+            | Act::Null
+            | Act::Deliver
+            | Act::Publish
+            | Act::Report
+            | Act::Mark
+            | Act::Suspect { .. }
+            | Act::Commit
+            | Act::Halt { .. },
+        )
+        | Step::Look { .. }
+        | Step::Push { .. }
+        | Step::Append
+        | Step::LogVote { .. } => !replica.waits(),
+    }
 }
 
 /// The index of a word of the table, in the bank of the replica's view.
@@ -43,7 +70,7 @@ pub(crate) fn store(replica: &Replica, table: &mut [u64], event: &Event)
     match event.step() {
         Step::Do(_) => table[index_in(replica, me, me, BEAT_COLUMN)] = replica.acts_after(),
         Step::Push { to, column } => table[index_in(replica, to, me, column)] = replica.own(column),
-        Step::Look { .. } | Step::Append => {}
+        Step::Look { .. } | Step::Append | Step::LogVote { .. } => {}
     }
 }
 
@@ -63,5 +90,6 @@ pub(crate) fn take(replica: &mut Replica, table: &[u64], event: &Event)
         }
         Step::Push { to, column } => replica.push(to, column),
         Step::Append => replica.append(),
+        Step::LogVote { value } => replica.vote(value),
     }
 }
