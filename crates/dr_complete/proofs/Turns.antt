@@ -67,7 +67,7 @@ proper_end limit turns (Some ends.DiskFault) proper logs kept = absurd (cc)
 proper_end limit turns (Some (ends.LogFull len)) proper logs kept = absurd (cc)
 proper_end limit turns (Some (ends.Suspected by)) proper logs kept = absurd (cc)
 proper_end limit turns (Some (ends.NoMajority mask)) proper logs kept = absurd (cc)
-proper_end limit turns (Some end) proper logs kept = absurd proper
+proper_end limit turns (Some (ends.Excluded view)) proper logs kept = absurd (cc)
 
 uncrashed : (limit turns : ℕ) (end : Option End) → IsUprightOrSpent limit turns end
     → end ≢ Some ends.Crashed
