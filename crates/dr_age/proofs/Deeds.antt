@@ -3,17 +3,21 @@ use Rattle.std.proofs.Common.{◌≡◌, refl, ap, subst, ℕ, false, true, List
 use Rattle.std.specs.Prelude.{Option, None, Some, slice_set}
 use Rattle.dr_entry.specs.declared.end.End.{End}
 use Rattle.dr_entry.specs.declared.record.Record.{Record}
+use Rattle.dr_entry.specs.declared.record.Value.{Value}
 use Rattle.dr_machine.specs.declared.step.Step.{Step}
-use Rattle.dr_machine.specs.declared.step.Step.TheVariants.{Do, Look, Push, Append}
+use Rattle.dr_machine.specs.declared.step.Step.TheVariants.{Do, Look, Push, Append, LogVote}
 use Rattle.dr_program.specs.declared.deed.Deed.{Deed}
 use Rattle.dr_program.specs.declared.deed.Deed.TheVariants as deeds
 use Rattle.dr_program.specs.declared.outcome.Outcome.{Outcome}
-use Rattle.dr_program.specs.Form.{IsRunningMember}
-use Rattle.dr_program.specs.Program.{after_deed}
+use Rattle.dr_program.specs.Form.{HasForm, IsRunningMember}
+use Rattle.dr_program.specs.Program.{after_deed, appended_as}
+use Rattle.dr_program.specs.Replica.{Replica}
 use Rattle.dr_program.specs.Running.{Running, after_step, deed, deed_of, next_deed, next_step}
-use Rattle.dr_program.specs.Steps.{allows, sight, stored}
+use Rattle.dr_program.proofs.Voting.{vote_room, vote_valid}
+use Rattle.dr_program_laws.proofs.Keeping.{vote_free}
+use Rattle.dr_program.specs.Steps.{IsAppend, allows, sight, stored}
 use Rattle.dr_refine.proofs.Deeds.{due_allowed}
-use Rattle.dr_logged.specs.Appended.{IsAppendDue, record_due}
+use Rattle.dr_logged.specs.Appended.{IsAppendDue, MayLog, record_due, record_of}
 use Rattle.dr_logged.specs.Served.{is_append}
 
 -- ---- a step, by its deed
@@ -36,14 +40,15 @@ abbrev pub Says : List ℕ → Running → Step → Deed → Type 0
 Says words r s (deeds.Look index) = IsLookAt words r s index
 Says words r s (deeds.Push index word) = IsStoreAt words r s index word
 Says words r s (deeds.Act index word) = IsStoreAt words r s index word
-Says words r s (deeds.Append due) = (s ≡ Append) × (due ≡ record_due r)
+Says words r s (deeds.Append due) = IsAppend s × (due ≡ record_of r s)
 Says words r s (deeds.Rest end) = ⊥
 
 says : (words : List ℕ) (r : Running) (s : Step) → Says words r s (deed_of r s)
 says words r (Do a) = record { other = refl; sees = refl; stores = refl }
 says words r (Look i c) = record { row = i; column = c; look = refl; sees = refl }
 says words r (Push j c) = record { other = refl; sees = refl; stores = refl }
-says words r Append = (refl, refl)
+says words r Append = (tt, refl)
+says words r (LogVote v) = (tt, refl)
 
 -- so it is with the next deed of a member that has not ended
 pub record IsTold (words : List ℕ) (r : Running) (d : Deed) : Type 0 where
@@ -75,9 +80,22 @@ deed_tells words r d is = subst (Tells words r) is (tells words r)
 pub any_outcome : (word : ℕ) (o : Outcome) (r : Running) (s : Step) → is_append s ≡ false
     → after_deed word o r s ≡ after_step word r
 any_outcome word o r Append other = absurd (cc)
+any_outcome word o r (LogVote v) other = absurd (cc)
 any_outcome word o r (Do a) other = refl
 any_outcome word o r (Look i c) other = refl
 any_outcome word o r (Push j c) other = refl
+
+-- an append is done by how it goes, and leaves the words as they are
+pub after_append : (word : ℕ) (o : Outcome) (r : Running) (s : Step) → IsAppend s
+    → after_deed word o r s ≡ appended_as o r
+after_append word o r Append is = refl
+after_append word o r (LogVote v) is = refl
+after_append word o r s is = absurd is
+
+pub stored_append : (words : List ℕ) (r : Replica) (s : Step) → IsAppend s → stored words r s ≡ words
+stored_append words r Append is = refl
+stored_append words r (LogVote v) is = refl
+stored_append words r s is = absurd is
 
 -- ---- which step is due
 
@@ -92,15 +110,21 @@ pub at_act : (r : Running) (index word : ℕ) → next_deed r ≡ deeds.Act inde
     → is_append (next_step r) ≡ false
 at_act r index word is = (deed_tells [] r (deeds.Act index word) is).says.other
 
--- an append is of the next entry, which is there
+-- an append that is allowed is of the next entry, which is there, or of a vote
+may_log : (r : Running) (s : Step) → HasForm r.replica → IsAppend s → allows r.replica s ≡ true
+    → ((v : Value) → s ≡ LogVote v → r.replica.pending ≡ None) → MayLog r s
+may_log r Append form is may free = ltb-true r.replica.logged (length r.replica.history) may
+may_log r (LogVote v) form is may free =
+    (vote_room r.replica v form (free v refl) may, vote_valid r.replica v form may)
+may_log r s form is may free = absurd is
+
 pub at_append : (r : Running) (due : Record) → IsRunningMember r → next_deed r ≡ deeds.Append due
     → IsAppendDue r × (due ≡ record_due r)
 at_append r due form is =
     let t = deed_tells [] r (deeds.Append due) is in (
       record {
-        step = t.says.0;
-        some = ltb-true r.replica.logged (length r.replica.history)
-            (subst (λ s. allows r.replica s ≡ true) t.says.0 (due_allowed r (form.due t.none)));
+        due = may_log r (next_step r) form.replica t.says.0 (due_allowed r (form.due t.none))
+            (vote_free r form);
         room = form.replica.room;
       },
       t.says.1,

@@ -1,16 +1,22 @@
 -- The logs of an age: how they begin, and what has come of them where all members have ended.
-use Rattle.std.proofs.Common.{◌≡◌, refl, sym, ap, ◌∙◌, subst, inl, inr, ℕ, ◌+◌, ◌*◌, ◌<◌, ◌≤◌, false, List, [], ◌∷◌, ◌++◌, length, map, true≢false, arith, length-take}
+use Rattle.std.proofs.Common.{◌≡◌, refl, sym, ap, ◌∙◌, subst, inl, inr, ℕ, ◌+◌, ◌*◌, ◌<◌, ◌≤◌, false, List, [], ◌∷◌, ◌++◌, length, map, take, true≢false, arith, length-take}
 use Rattle.std.proofs.lemmas.List.{length-map}
 use Rattle.std.specs.Prelude.{All, IsTrue, Option, None, Some, is_some, option_map, slice_get, slice_index_or, unwrap_or}
-use Rattle.std.proofs.lemmas.Option.{get_or_from_slice_get, same_Some, slice_get-map, slice_get_cases, slice_get_within}
+use Rattle.std.proofs.lemmas.Option.{get_or_from_slice_get, same_Some, slice_get-get_or, slice_get-map, slice_get_cases, slice_get_within}
 use Rattle.std.proofs.lemmas.List.Elements.{All-take}
+use Rattle.std.proofs.lemmas.List.Sums.{sum_by-append, sum_by-le}
 use Rattle.dr_disk.specs.Disk.{Told}
 use Rattle.dr_entry.specs.declared.end.End.{End}
 use Rattle.dr_entry.specs.declared.end.End.TheVariants as ends
 use Rattle.dr_entry.specs.declared.end.MemberEnd.{MemberEnd}
+use Rattle.dr_entry.specs.declared.entry.Entry.{Entry}
 use Rattle.dr_entry.specs.declared.entry.Entry.TheVariants.{View}
 use Rattle.dr_entry.specs.declared.limits.TheConstants.{MAX_MEMBERS, MAX_MESSAGES}
-use Rattle.dr_entry.specs.Spelling.{IsValidEntry}
+use Rattle.dr_entry.specs.declared.record.Record.{Record}
+use Rattle.dr_entry.specs.declared.record.Record.TheVariants as records
+use Rattle.dr_entry.specs.declared.record.Vote.{Vote}
+use Rattle.dr_entry.specs.Spelling.{IsValidEntry, vote_spelling}
+use Rattle.dr_entry.proofs.Trims.{counts_length}
 use Rattle.dr_history.specs.Order.{first_entries}
 use Rattle.dr_log.specs.State.{LogState}
 use Rattle.dr_log.specs.Standing.{block_length, log_length}
@@ -22,6 +28,8 @@ use Rattle.dr_program.specs.declared.setup.Setup.{Setup}
 use Rattle.dr_program.specs.Program.{AllEnded, AreSetups, IsRanFrom, IsSetup, Program, begun_program, end_of}
 use Rattle.dr_program.specs.Reading.{world}
 use Rattle.dr_program.specs.Running.{Running, begun_running, end_by}
+use Rattle.dr_program.proofs.Holdings.{held_of}
+use Rattle.dr_program.proofs.Voting.{votes_within}
 use Rattle.dr_program_laws.specs.Ended.{is_log_end}
 use Rattle.dr_program_laws.specs.Failing.{AreFailing, IsFailing, has_log_end}
 use Rattle.dr_program_laws.proofs.Failing.{all_fail}
@@ -31,9 +39,11 @@ use Rattle.dr_restart.specs.Setups.{IsBegun}
 use Rattle.dr_restart.proofs.Setups.{are_setups}
 use Rattle.dr_script.specs.declared.script.Script.{Script}
 use Rattle.dr_refine.proofs.Bounds.{history_small}
+use Rattle.dr_refine.proofs.Deeds.{program_member, replicas}
+use Rattle.dr_vote_laws.proofs.Steps.{voting}
 use Rattle.dr_world_laws.proofs.Messages.{holds_messages, valid_history}
 use Rattle.dr_world_laws.proofs.Reached.{known}
-use Rattle.dr_logged.specs.Served.{AreReady, AreRoomy, HasCome, HasServed, HaveServed, IsReady, WentSo, next_record}
+use Rattle.dr_logged.specs.Served.{AreReady, AreRoomy, HasCome, HasServed, HaveServed, IsNext, IsReady, WentSo}
 use Rattle.dr_logged.proofs.Serving.{begins}
 use Rattle.dr_age.specs.Logged.{AreOpened, HaveCome, IsAmple, IsNotFull, IsOpened, NoneFull, why_ended}
 use Rattle.dr_age.specs.Sound.{IsSound}
@@ -52,12 +62,14 @@ slice_get_none xs k none = elim (slice_get_cases xs k).1 [
 pub record IsFresh (g : Group) (r : Running) : Type 0 where
   pub history : r.replica.history ≡ first_entries g.opening
   pub logged : r.replica.logged ≡ length r.replica.history
+  pub votes : r.replica.votes ≡ []
   pub none : r.failed ≡ None
 
 fresh : (g : Group) (limit m : ℕ) (s : Setup) → IsSetup g limit m s → IsFresh g (begun_running s)
 fresh g limit m s is = record {
   history = λ z. is.start z ++ View (is.age z) 0 (is.view z) ∷ [];
   logged = refl;
+  votes = refl;
   none = refl;
 }
 
@@ -103,7 +115,7 @@ ready_begins {D} told count g limit setups p olds news are begun opened all room
         (ap (λ (x : Program). slice_get x.members m) (sym begun) ∙ member) in
         let was : IsOpened g base = each_at (IsOpened g) olds m base opened.each from in
         begins told count base log r (roomy m r base log member from there) was.whole
-        (was.entries ∙ sym is.history) is.logged is.none
+        (was.entries ∙ sym is.history) is.logged is.votes is.none
 
     by : (m : ℕ) (log : LogState D) (r : Running) → slice_get news m ≡ Some log
         → slice_get p.members m ≡ Some r → (o : Option (LogState D)) → slice_get olds m ≡ o → IsReady log r
@@ -166,33 +178,53 @@ have_come {D} told count g bases logs p over = λ m base log e from there end.
   where
     by : (m : ℕ) (base log : LogState D) (e : MemberEnd) → slice_get bases m ≡ Some base
         → slice_get logs m ≡ Some log → (o : Option Running) → slice_get p.members m ≡ o
-        → option_map end_of o ≡ Some e → HasCome told count base log e.history e.logged (why_ended e.end)
+        → option_map end_of o ≡ Some e
+        → (votes : List Vote) × HasCome told count base log e.history e.logged votes (why_ended e.end)
     by m base log e from there None at end = absurd (cc)
-    by m base log e from there (Some r) at end =
-        subst (λ (x : MemberEnd). HasCome told count base log x.history x.logged (why_ended x.end))
-        (same_Some (end_of r) e end)
-        (subst (HasCome told count base log r.replica.history r.replica.logged)
-        (sym (over_tells told count g bases logs p m r over at)) (over.served m base log r from there at))
+    by m base log e from there (Some r) at end = (
+      r.replica.votes,
+      subst (λ (x : MemberEnd).
+          HasCome told count base log x.history x.logged r.replica.votes (why_ended x.end))
+          (same_Some (end_of r) e end)
+          (subst (HasCome told count base log r.replica.history r.replica.logged r.replica.votes)
+          (sym (over_tells told count g bases logs p m r over at)) (over.served m base log r from there at)),
+    )
 
 -- ---- ample logs
+
+-- a vote has a short block
+short_vote : (v : Vote) → v.members ≤ MAX_MEMBERS → 1 + length (vote_spelling v) ≤ 73
+short_vote v few = omega (
+  arith,
+  few,
+  counts_length (take v.members v.value.trim),
+  length-take v.members v.value.trim,
+)
+
+-- so a log of some votes, with these entries and votes more, is no longer than this
+pub long_log : (vs : List Vote) (es : List Entry) (ws : List Vote) → All IsValidEntry es
+    → All (λ (v : Vote). v.members ≤ MAX_MEMBERS) ws
+    → log_length es (vs ++ ws) ≤ log_length [] vs + 72 * length es + 73 * length ws
+long_log vs es ws valid few =
+    let entries = short_log_length es valid in
+    let both = sum_by-append (λ (v : Vote). 1 + length (vote_spelling v)) vs ws in
+    let votes = sum_by-le (λ (v : Vote). 1 + length (vote_spelling v)) 73 ws
+    (λ k d l. short_vote (slice_index_or ws k d) (few k d l)) in
+    omega (arith, entries, both, votes)
+
+-- the votes of a member in the program's world
+votes_there : (g : Group) (p : Program) (m : ℕ) (r : Running) → IsSound g p
+    → slice_get p.members m ≡ Some r → (world g p).past.votes m ≡ r.replica.votes
+votes_there g p m r is there =
+    ap (λ h. h.votes) (held_of g (replicas p.members) p.table m r.replica
+    (program_member g p m r is.group is.form there).there)
 
 -- a log with room enough isn't full for a member of a sound program
 ample_log : {D : Type 0} (told : D → Option Told) (count : D → ℕ) (g : Group) (p : Program) (m : ℕ)
     (r : Running) (base log : LogState D) (len : ℕ) → IsSound g p → slice_get p.members m ≡ Some r
     → IsAmple g base → r.failed ≡ Some (whys.LogFull len) → HasServed told count base log r → ⊥
 ample_log {D} told count g p m r base log len is there ample at served =
-    omega (
-      arith,
-      went.0,
-      went.1.over,
-      long,
-      block,
-      length-take r.replica.logged r.replica.history,
-      ap length served.entries,
-      small,
-      ample.limit,
-      served.limit,
-    )
+    by went.0 went.1 went.2.over
   where
     below : m < roster g
     below = omega (arith, slice_get_within p.members m r there, is.form.all)
@@ -208,20 +240,62 @@ ample_log {D} told count g p m r base log len is there ample at served =
     small = subst (λ h. length h ≤ length g.opening.start + 1 + MAX_MESSAGES * MAX_MEMBERS) same
         (history_small g (world g p) m is.group is.reached below)
 
-    went : WentSo told count base log r.replica.history r.replica.logged (Some (whys.LogFull len))
-    went = subst (WentSo told count base log r.replica.history r.replica.logged) at served.last
+    few : length r.replica.votes ≤ MAX_MEMBERS
+    few = omega (
+      arith,
+      votes_within r.replica (is.form.form m r there).replica,
+      (is.form.of m r there).members,
+      is.group.most_members,
+    )
 
-    block : block_length (next_record r.replica.history r.replica.logged) ≤ 72
-    block = short_block _ (valid r.replica.logged (View 0 0 0) went.0)
+    short : All (λ (v : Vote). v.members ≤ MAX_MEMBERS) r.replica.votes
+    short k d within =
+        let own = (voting g (world g p) is.group is.reached).valid.own m (slice_index_or r.replica.votes k d) (
+          k,
+          ap (λ vs. slice_get vs k) (votes_there g p m r is there)
+              ∙ slice_get-get_or r.replica.votes k d within,
+        ) in
+        omega (arith, ap (λ (v : Vote). v.members) own, is.group.most_members)
 
-    long : len ≤ 9 + 72 * length log.entries
+    went : WentSo told count base log r.replica.history r.replica.logged r.replica.votes
+        (Some (whys.LogFull len))
+    went = subst (WentSo told count base log r.replica.history r.replica.logged r.replica.votes) at served.last
+
+    long : len ≤ log_length [] base.votes + 72 * length log.entries + 73 * length r.replica.votes
     long = omega (
       arith,
-      went.1.length,
-      ap (log_length log.entries) (served.votes ∙ ample.votes),
-      short_log_length log.entries (subst (All IsValidEntry) (sym served.entries)
-          (All-take IsValidEntry r.replica.logged r.replica.history valid)),
+      went.2.length,
+      ap (log_length log.entries) served.voted,
+      long_log base.votes log.entries r.replica.votes (subst (All IsValidEntry) (sym served.entries)
+          (All-take IsValidEntry r.replica.logged r.replica.history valid)) short,
     )
+
+    logged : length log.entries ≤ r.replica.logged
+    logged = omega (
+      arith,
+      ap length served.entries,
+      length-take r.replica.logged r.replica.history,
+    )
+
+    all : length log.entries ≤ length r.replica.history
+    all = omega (
+      arith,
+      ap length served.entries,
+      length-take r.replica.logged r.replica.history,
+    )
+
+    -- the next record isn't there, as there is room for it
+    by : (next : Record) → IsNext r.replica.history r.replica.logged r.replica.votes next
+        → log.limit < len + block_length next → ⊥
+    by (records.Entry e) (inr vote) over = absurd vote
+    by (records.Entry e) (inl due) over =
+        let block : block_length (records.Entry e) ≤ 72 = subst (λ x. block_length x ≤ 72) (sym due.1)
+        (short_block _ (valid r.replica.logged (View 0 0 0) due.0)) in
+        omega (arith, over, block, long, logged, due.0, small, few, ample.limit, served.limit)
+    by (records.Vote v) (inl due) over = absurd (cc (due.1))
+    by (records.Vote v) (inr vote) over =
+        let block : block_length (records.Vote v) ≤ 73 = short_vote v vote.0.members in
+        omega (arith, over, block, long, all, vote.1, vote.0.members, small, ample.limit, served.limit)
 
 -- so none is full where all are ample
 pub none_full : {D : Type 0} (told : D → Option Told) (count : D → ℕ) (g : Group)

@@ -4,11 +4,14 @@ use Rattle.std.specs.Prelude.{All, Some, slice_get}
 use Rattle.std.proofs.lemmas.Option.{slice_get_within}
 use Rattle.dr_entry.specs.declared.entry.Entry.TheVariants.{View}
 use Rattle.dr_entry.specs.Spelling.{IsValid, IsValidEntry}
+use Rattle.dr_logged.specs.Appended.{MayLog, record_of}
 use Rattle.dr_logged.specs.Served.{AppendsWell}
+use Rattle.dr_machine.specs.declared.step.Step.{Step}
+use Rattle.dr_machine.specs.declared.step.Step.TheVariants.{Append, LogVote}
 use Rattle.dr_machine.specs.Group.{Group}
 use Rattle.dr_program.specs.Program.{Program}
 use Rattle.dr_program.specs.Reading.{world}
-use Rattle.dr_program.specs.Running.{Running}
+use Rattle.dr_program.specs.Running.{Running, next_step}
 use Rattle.dr_program.proofs.Holdings.{held_of}
 use Rattle.dr_refine.proofs.Deeds.{program_member, replicas}
 use Rattle.dr_world_laws.proofs.Messages.{holds_messages, valid_history}
@@ -23,7 +26,14 @@ history_there g p m r is there =
     ap (λ h. h.history) (held_of g (replicas p.members) p.table m r.replica
     (program_member g p m r is.group is.form there).there)
 
--- so what it appends is a valid record
+-- what a member appends is a valid record where its history is of such
+valid_due : (r : Running) (s : Step) → All IsValidEntry r.replica.history → MayLog r s
+    → IsValid (record_of r s)
+valid_due r Append valid may = valid r.replica.logged (View 0 0 0) may
+valid_due r (LogVote v) valid may = may.1
+valid_due r s valid may = absurd may
+
+-- so it is in a sound program
 pub appends_well : (g : Group) (p : Program) (m : ℕ) (r : Running) → IsSound g p
     → slice_get p.members m ≡ Some r → AppendsWell r
 appends_well g p m r is there = λ due next.
@@ -32,4 +42,4 @@ appends_well g p m r is there = λ due next.
     (valid_history g ((world g p).past.history m) is.group
     (holds_messages g (world g p) m (known g (world g p) is.group is.reached)
     (omega (arith, slice_get_within p.members m r there, is.form.all)))) in
-    subst IsValid (sym at.1) (valid r.replica.logged (View 0 0 0) at.0.some)
+    subst IsValid (sym at.1) (valid_due r (next_step r) valid at.0.due)

@@ -1,15 +1,18 @@
 -- The logs of an age: how they are before it, and what has come of each by how its member ended.
-use Rattle.std.specs.Prelude.{◌≡◌, ⊤, ℕ, ◌+◌, ◌*◌, ◌≤◌, false, All, List, [], length, slice_get, Option, None, Some}
+use Rattle.std.specs.Prelude.{◌≡◌, ⊤, ℕ, ◌+◌, ◌*◌, ◌≤◌, false, All, List, [], ◌++◌, length, slice_get, Option, None, Some}
 use Rattle.dr_entry.specs.declared.end.End.{End}
 use Rattle.dr_entry.specs.declared.end.End.TheVariants as ends
 use Rattle.dr_entry.specs.declared.end.MemberEnd.{MemberEnd}
 use Rattle.dr_entry.specs.declared.limits.TheConstants.{MAX_MEMBERS, MAX_MESSAGES}
+use Rattle.dr_entry.specs.declared.record.Vote.{Vote}
 use Rattle.dr_disk.specs.Disk.{Told}
 use Rattle.dr_history.specs.Order.{first_entries}
+use Rattle.dr_log.specs.Standing.{log_length}
 use Rattle.dr_log.specs.State.{LogState}
 use Rattle.dr_machine.specs.Group.{Group, roster}
 use Rattle.dr_program.specs.declared.outcome.LogWhy.{LogWhy}
 use Rattle.dr_program.specs.declared.outcome.LogWhy.TheVariants as whys
+use Rattle.dr_program.specs.Running.{Running}
 use Rattle.dr_logged.specs.Served.{HasCome}
 
 -- a log holds what every history of the age begins with, and no append to it has failed
@@ -28,12 +31,18 @@ why_ended ends.DiskFault = Some whys.DiskFault
 why_ended (ends.LogFull len) = Some (whys.LogFull len)
 why_ended end = None
 
--- what has come of each log since `bases`, by how the member of its number ended
+-- what has come of each log since `bases`, with some votes behind it, by how the member of its number ended
 abbrev pub HaveCome : {D : Type 0} → (D → Option Told) → (D → ℕ) → List (LogState D)
     → List (LogState D) → List MemberEnd → Type 0
 HaveCome {D} told faults bases logs members = (m : ℕ) (base log : LogState D) (e : MemberEnd)
     → slice_get bases m ≡ Some base → slice_get logs m ≡ Some log → slice_get members m ≡ Some e
-    → HasCome told faults base log e.history e.logged (why_ended e.end)
+    → (votes : List Vote) × HasCome told faults base log e.history e.logged votes (why_ended e.end)
+
+-- each log has the votes that it had, and behind them those of the member of its number
+abbrev pub HaveVoted : {D : Type 0} → List (LogState D) → List (LogState D) → List Running → Type 0
+HaveVoted {D} bases logs members = (m : ℕ) (base log : LogState D) (r : Running)
+    → slice_get bases m ≡ Some base → slice_get logs m ≡ Some log → slice_get members m ≡ Some r
+    → log.votes ≡ base.votes ++ r.replica.votes
 
 -- no member was ended by its log, or by a full one
 abbrev pub NoneStopped : List MemberEnd → Type 0
@@ -46,11 +55,11 @@ IsNotFull end = ⊤
 abbrev pub NoneFull : List MemberEnd → Type 0
 NoneFull members = All (λ (e : MemberEnd). IsNotFull e.end) members
 
--- a log without votes whose limit is enough for all that an age may bring: 72 bytes for each entry of the
--- start, for View 0, and for each of 4,096 messages of 16 members
+-- the limit of a log is enough for its votes and for all that an age may bring: 72 bytes for each entry of the
+-- start, for View 0, and for each of 4,096 messages of 16 members, and 73 for each of 16 votes more
 pub record IsAmple {D : Type 0} (g : Group) (log : LogState D) : Type 0 where
-  pub votes : log.votes ≡ []
-  pub limit : 9 + 72 * (length g.opening.start + 1 + MAX_MESSAGES * MAX_MEMBERS) ≤ log.limit
+  pub limit : log_length [] log.votes + 72 * (length g.opening.start + 1 + MAX_MESSAGES * MAX_MEMBERS)
+      + 73 * MAX_MEMBERS ≤ log.limit
 
 -- a log has the entries and votes of before
 pub record IsAsBefore {D : Type 0} (old new : LogState D) : Type 0 where
