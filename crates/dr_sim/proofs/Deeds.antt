@@ -3,18 +3,17 @@ use Rattle.std.proofs.Common.{◌≡◌, sym, ap, ◌∙◌, subst, ℕ, false, 
 use Rattle.std.specs.Prelude.{None, Some, slice_set}
 use Rattle.dr_entry.specs.declared.end.End.{End}
 use Rattle.dr_entry.specs.declared.record.Record.{Record}
-use Rattle.dr_machine.specs.declared.step.Step.TheVariants.{Append}
 use Rattle.dr_program.specs.declared.deed.Deed.TheVariants as deeds
 use Rattle.dr_program.specs.declared.outcome.LogWhy.{LogWhy}
-use Rattle.dr_program.specs.declared.outcome.Outcome.TheVariants.{Failed}
+use Rattle.dr_program.specs.declared.outcome.Outcome.TheVariants.{Failed, Ok}
 use Rattle.dr_program.specs.Program.{after_deed, next_sight}
 use Rattle.dr_program.specs.Reading.{step_due, step_of_member}
 use Rattle.dr_program.specs.Running.{Running, after_step, broken_off, next_deed, next_step}
 use Rattle.dr_program.specs.Sight.{MaySee}
-use Rattle.dr_program.specs.Steps.{stored}
+use Rattle.dr_program.specs.Steps.{IsAppend, stored}
 use Rattle.dr_logged.specs.Served.{is_append}
-use Rattle.dr_logged.proofs.Serving.{settled_same, unfailed}
-use Rattle.dr_age.proofs.Deeds.{any_outcome, deed_tells}
+use Rattle.dr_logged.proofs.Serving.{none_failed, settled_same}
+use Rattle.dr_age.proofs.Deeds.{after_append, any_outcome, deed_tells, stored_append}
 use Rattle.dr_sim.specs.Deeds.{SeesWell, member_after, outcome_by, stores, table_after, went_so}
 
 -- ---- a look
@@ -77,9 +76,9 @@ act_taken table r index word cells x is member words =
     other_taken table r cells x t.none t.says.other (member (next_sight table r)) (words ∙ sym t.says.stores)
 
 -- the table stays at an append
-table_at : (table : List ℕ) (r : Running) → next_step r ≡ Append
+table_at : (table : List ℕ) (r : Running) → IsAppend (next_step r)
     → table ≡ stored table r.replica (next_step r)
-table_at table r is = sym (ap (stored table r.replica) is)
+table_at table r is = sym (stored_append table r.replica (next_step r) is)
 
 -- a member at an append takes it where it goes well
 pub append_taken : (table : List ℕ) (r : Running) (due : Record) (x : Running) → next_deed r
@@ -88,9 +87,10 @@ pub append_taken : (table : List ℕ) (r : Running) (due : Record) (x : Running)
 append_taken table r due x is member =
     let t = deed_tells table r (deeds.Append due) is in
     let well : x.failed ≡ None = ap (λ (y : Running). y.failed) (member 0 ∙ settled_same 0 r)
-    ∙ unfailed r t.says.0 in
+    ∙ none_failed r t.says.0 in
     is_taken table r table x t.none
-    (member 0 ∙ sym ((λ z. after_deed (next_sight table r) (outcome_by (well z)) r (t.says.0 z))))
+    (member 0 ∙ sym (ap (λ o. after_deed (next_sight table r) (outcome_by o) r (next_step r)) well
+    ∙ after_append (next_sight table r) Ok r (next_step r) t.says.0))
     (table_at table r t.says.0)
 
 -- and where it fails
@@ -99,7 +99,7 @@ pub failure_taken : (table : List ℕ) (r : Running) (due : Record) (why : LogWh
 failure_taken table r due why x is broken =
     let t = deed_tells table r (deeds.Append due) is in
     subst (IsTaken table r table) (sym broken) (is_taken table r table (broken_off why r) t.none
-    (sym (ap (after_deed (next_sight table r) (Failed why) r) t.says.0)) (table_at table r t.says.0))
+    (sym (after_append (next_sight table r) (Failed why) r (next_step r) t.says.0)) (table_at table r t.says.0))
 
 -- a member at rest stays
 pub rest_taken : (table : List ℕ) (r : Running) (end : End) → next_deed r ≡ deeds.Rest end

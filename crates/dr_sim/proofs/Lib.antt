@@ -6,4 +6,4 @@ mod Logs
 mod Rooms
 mod Turns
 mod Choices
-mod Courses
+pub mod Courses

@@ -10,7 +10,7 @@ use Rattle.dr_entry.specs.declared.end.MemberEnd.{MemberEnd}
 use Rattle.dr_log.specs.State.{LogState}
 use Rattle.dr_machine.specs.Group.{Group}
 use Rattle.dr_machine.specs.declared.step.Step.{Step}
-use Rattle.dr_machine.specs.declared.step.Step.TheVariants.{Do, Look, Push, Append}
+use Rattle.dr_machine.specs.declared.step.Step.TheVariants.{Do, Look, Push, Append, LogVote}
 use Rattle.dr_program.specs.declared.outcome.LogWhy.{LogWhy}
 use Rattle.dr_program.specs.declared.outcome.Outcome.{Outcome}
 use Rattle.dr_program.specs.declared.outcome.Outcome.TheVariants.{Ok, Failed}
@@ -28,6 +28,8 @@ still_failed : (word : ℕ) (o : Outcome) (r : Running) (s : Step) (why : LogWhy
     → (next : LogWhy) × ((after_deed word o r s).failed ≡ Some next)
 still_failed word Ok r Append why at = (why, ap (λ (x : Running). x.failed) (settled_same 0 r) ∙ at)
 still_failed word (Failed next) r Append why at = (next, refl)
+still_failed word Ok r (LogVote v) why at = (why, ap (λ (x : Running). x.failed) (settled_same 0 r) ∙ at)
+still_failed word (Failed next) r (LogVote v) why at = (next, refl)
 still_failed word o r (Do a) why at = (why, ap (λ (x : Running). x.failed) (settled_same word r) ∙ at)
 still_failed word o r (Look i c) why at = (why, ap (λ (x : Running). x.failed) (settled_same word r) ∙ at)
 still_failed word o r (Push j c) why at = (why, ap (λ (x : Running). x.failed) (settled_same word r) ∙ at)

@@ -11,7 +11,7 @@ ghost use Rattle.dr_restart.specs.Setups.{crashes_of};
 ghost use Rattle.dr_script.specs.Ranges.{HasRanges};
 ghost use Rattle.dr_log.specs.State.{LogState};
 ghost use Rattle.dr_logged.specs.Served.{AreReady, HaveServed};
-ghost use Rattle.dr_age.specs.Logged.{AreAsBefore, AreCalm, AreOpened, HaveCome, IsAmple, NoneFull, NoneStopped};
+ghost use Rattle.dr_age.specs.Logged.{AreAsBefore, AreCalm, AreOpened, HaveCome, HaveVoted, IsAmple, NoneFull, NoneStopped};
 ghost use Rattle.dr_sim.specs.Simulated.{HasRun, IsSimulated};
 ghost use Rattle.dr_age.specs.Sound.{IsSound};
 
@@ -50,8 +50,11 @@ pub fn sim_age<D: Disk>(
     ensures trusting { IfOk result (λ age. SuspectsNobody script.now → NoneLeft age.members) }
     ensures complete { IfOk result (λ age. HasTime script.now → NoneStopped age.members
         → AreComplete (group_of script.now start.now).opening age.members) }
-    // What stands on the logs, and what a crash may have left of them at any moment.
+    // What stands on the logs, and what a crash may have left of them at any moment; the votes there are those
+    // of the members.
     ensures logged { IfOk result (λ age. HaveCome D.told D.faults logs.old logs.new age.members) }
+    ensures voted { IfOk result (λ age. (is : IsSimulated script.now start.now nth age)
+        × HaveVoted logs.old logs.new is.1.members) }
     ensures ample { IfOk result (λ age. All (IsAmple (group_of script.now start.now)) logs.old
         → NoneFull age.members) }
     ensures kept { OnErr result (AreAsBefore logs.old logs.new) }

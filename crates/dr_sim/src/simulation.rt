@@ -76,7 +76,8 @@ impl Simulation {
         ensures count { length logs.new ≡ length logs.old }
     {
         for m in 0..logs.len() {
-            logs[m].reserve(self.members[m].appends_left(), 0)?;
+            let member = &self.members[m];
+            logs[m].reserve(member.appends_left(), member.votes_left())?;
         }
         Ok(())
     }

@@ -114,6 +114,13 @@ returns-clause-logged g c =
     HaveCome g.D.Disk.told g.D.Disk.faults c.args.logs.now c.run.new.logs age.members) (sym same)
     (have_come _ _ _ _ _ p (over g c))
 
+pub returns-clause-voted : goal.returns-clause-voted
+returns-clause-voted g c =
+    let (p, has_run, sound, same, served, count) = c.run.ensures in (
+      (c.in_ok-simulation.simulation, p, c.in_ok-simulation.ensures.begun, has_run, same),
+      λ m base log r from there at. ((over g c).served m base log r from there at).voted,
+    )
+
 pub returns-clause-ample : goal.returns-clause-ample
 returns-clause-ample g c = λ ample.
     let (p, has_run, sound, same, served, count) = c.run.ensures in

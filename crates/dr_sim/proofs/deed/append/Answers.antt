@@ -1,11 +1,16 @@
-use Rattle.std.proofs.Common.{sym, ap, ◌∙◌, subst, arith}
+use Rattle.std.proofs.Common.{sym, ap, ◌∙◌, subst}
 use Rattle.dr_program.specs.Running.{broken_off}
 use Rattle.dr_logged.specs.Served.{HasServed, IsReady}
 use Rattle.dr_logged.proofs.Serving.{appended_ready, appended_served}
-use Rattle.dr_logged.proofs.Appends.{did_append, did_fail}
+use Rattle.dr_logged.proofs.Appends.{did_append, did_fail, has_spares}
 use Rattle.dr_age.proofs.Deeds.{at_append}
 use Rattle.dr_sim.proofs.Deeds.{append_taken}
 use Rattle.dr_sim.proofs.deed.append.Goals as goal
+
+pub append-requires-clause-spare_vote : goal.append-requires-clause-spare_vote
+append-requires-clause-spare_vote g c = λ ks within.
+    let at = at_append c.args.member.now c.in-Append.record c.requires.form (sym c.in-Append.ensures.deed) in
+    (has_spares c.args.log.now c.args.member.now c.in-Append.record at.0 at.1 c.requires.ready).1
 
 pub returns-in-Ok-clause-member : goal.returns-in-Ok-clause-member
 returns-in-Ok-clause-member g c = λ table.
@@ -24,8 +29,8 @@ returns-in-Ok-clause-ready g c =
     c.in-Append.record at.1 c.in-Ok.ensures.ok c.in-Ok.ensures.limit c.in-Ok.ensures.any_moment
     c.in-Ok.ensures.lasting c.in-Ok.ensures.durable c.in-Ok.ensures.calm in
     subst (IsReady c.append.new.self) (sym (c.appended.ensures.after 0))
-    (appended_ready c.args.log.now c.append.new.self 0 c.args.member.now at.0.step
-    (omega (arith, at.0.some, at.0.room)) c.requires.ready did.made)
+    (appended_ready c.args.log.now c.append.new.self 0 c.args.member.now at.0 c.requires.ready
+    did.made)
 
 pub returns-in-Ok-clause-served : goal.returns-in-Ok-clause-served
 returns-in-Ok-clause-served g c = λ base served.
@@ -34,7 +39,7 @@ returns-in-Ok-clause-served g c = λ base served.
     c.in-Append.record at.1 c.in-Ok.ensures.ok c.in-Ok.ensures.limit c.in-Ok.ensures.any_moment
     c.in-Ok.ensures.lasting c.in-Ok.ensures.durable c.in-Ok.ensures.calm in
     subst (HasServed g.D.Disk.told g.D.Disk.faults base c.append.new.self) (sym (c.appended.ensures.after 0))
-    (appended_served _ _ base c.args.log.now c.append.new.self 0 c.args.member.now at.0.step at.0.some served
+    (appended_served _ _ base c.args.log.now c.append.new.self 0 c.args.member.now at.0.due served
     did.made did.fits did.goes did.lasting did.safe did.calm)
 
 pub returns-in-Err-clause-served : goal.returns-in-Err-clause-served

@@ -26,12 +26,12 @@ returns-in_err-reserve-clause-calm g c =
 pub loop-m-preserved : goal.loop-m-preserved
 loop-m-preserved g c =
     one_more_made g.D.Disk.told g.D.Disk.faults c.args.self.now.members c.args.logs.now c.loop-m.logs c.loop-m.m
-    c.index.result.now c.index-logs-m.result c.reserve.new.self c.loop-m.invariant
+    c.index-member.result.now c.index-logs-m.result c.reserve.new.self c.loop-m.invariant
     (omega (arith, c.loop-m-test.true, c.loop-m.invariant.all))
     (member_there c.self.inside.members.items c.self.inside.table.items c.args.self.now c.loop-m.m
-    c.index.result.now c.self.view_is
-    (omega (arith, c.loop-m-test.true, c.requires.all)) c.index.ensures)
-    (roomy g.D.Disk.told g.D.Disk.faults c.index.result.now _ c.reserve.new.self _ c.appends_left.ensures
+    c.index-member.result.now c.self.view_is
+    (omega (arith, c.loop-m-test.true, c.requires.all)) c.index-member.ensures)
+    (roomy g.D.Disk.told g.D.Disk.faults c.index-member.result.now _ c.reserve.new.self _ _ c.appends_left.ensures c.votes_left.ensures
     c.in_ok-reserve.ensures.ok c.in_ok-reserve.ensures.told c.in_ok-reserve.ensures.faults
     c.in_ok-reserve.ensures.safe)
     (record {
