@@ -49,6 +49,7 @@ are_for {D} script start nth members logs lists begun opened = record {
         entries = opens.entries ∙ sym fresh.history;
         whole = opens.whole;
         logged = fresh.logged;
+        votes = fresh.votes;
         none = fresh.none;
       };
 }

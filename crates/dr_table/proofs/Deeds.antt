@@ -4,7 +4,7 @@ use Rattle.std.specs.Prelude.{Option, None, Some, slice_get, slice_set}
 use Rattle.std.proofs.lemmas.Option.{slice_get_within}
 use Rattle.dr_entry.specs.declared.end.End.{End}
 use Rattle.dr_machine.specs.declared.step.Step.{Step}
-use Rattle.dr_machine.specs.declared.step.Step.TheVariants.{Do, Look, Push, Append}
+use Rattle.dr_machine.specs.declared.step.Step.TheVariants.{Do, Look, Push, Append, LogVote}
 use Rattle.dr_member.specs.Deeds.{is_append}
 use Rattle.dr_program.specs.declared.deed.Deed.{Deed}
 use Rattle.dr_program.specs.declared.deed.Deed.TheVariants as deeds
@@ -12,12 +12,12 @@ use Rattle.dr_program.specs.declared.outcome.Outcome.{Outcome}
 use Rattle.dr_program.specs.declared.outcome.Outcome.TheVariants as outcomes
 use Rattle.dr_program.specs.Program.{IsRanFrom, Move, Program, after_deed, appended_as, next_sight, ran, step_of}
 use Rattle.dr_program.specs.Running.{Running, after_step, deed, deed_of, next_deed, next_step, took}
-use Rattle.dr_program.specs.Steps.{sight, stored}
+use Rattle.dr_program.specs.Steps.{IsAppend, stored}
 use Rattle.dr_program.proofs.Fixed.{Told, told, step_told}
 use Rattle.dr_program.proofs.Holdings.{replica_set}
 use Rattle.dr_program.proofs.Runs.{ran_on}
 use Rattle.dr_refine.proofs.Deeds.{settle_replica, step_is}
-use Rattle.dr_age.proofs.Deeds.{IsStoreAt, deed_tells}
+use Rattle.dr_age.proofs.Deeds.{IsStoreAt, after_append, deed_tells, stored_append}
 use Rattle.dr_table.specs.Rule.{number}
 use Rattle.dr_table.specs.Deeds.{IsStore}
 use Rattle.dr_table.specs.Steps.{HasAppended}
@@ -53,18 +53,19 @@ stores words r index word is = by (next_deed r) refl is
 
 -- a member whose next deed is an append is due to append
 pub append_due : (r : Running) → is_append (next_deed r) ≡ true → (r.replica.end ≡ None)
-    × (next_step r ≡ Append)
+    × IsAppend (next_step r)
 append_due r due = by r.replica.end refl due
   where
-    step : (s : Step) → next_step r ≡ s → is_append (deed_of r s) ≡ true → next_step r ≡ Append
-    step Append same e = same
-    step (Do a) same e = absurd (true≢false (sym e))
-    step (Look i c) same e = absurd (true≢false (sym e))
-    step (Push j c) same e = absurd (true≢false (sym e))
+    step : (s : Step) → is_append (deed_of r s) ≡ true → IsAppend s
+    step Append e = tt
+    step (LogVote v) e = tt
+    step (Do a) e = absurd (true≢false (sym e))
+    step (Look i c) e = absurd (true≢false (sym e))
+    step (Push j c) e = absurd (true≢false (sym e))
 
     by : (o : Option End) → r.replica.end ≡ o → is_append (deed r o) ≡ true
-        → (r.replica.end ≡ None) × (next_step r ≡ Append)
-    by None none e = (none, step (next_step r) refl e)
+        → (r.replica.end ≡ None) × IsAppend (next_step r)
+    by None none e = (none, step (next_step r) e)
     by (Some end) ended e = absurd (true≢false (sym e))
 
 -- ---- what a member was told stays
@@ -118,10 +119,12 @@ appends_ran begun words (o ∷ os) members m r q (due, more) there ran =
     let (none, step) = append_due r due in
     let x = appended_as o r in
     let once : IsRanFrom begun (record { members = slice_set members m x; table = words }) =
-    subst (λ s. IsRanFrom begun (record {
-      members = slice_set members m (after_deed (sight words r.replica s) o r s);
-      table = stored words r.replica s;
-    })) step (deed_ran begun words members m o r there none ran) in
+    subst (λ t. IsRanFrom begun (record { members = slice_set members m x; table = t }))
+    (stored_append words r.replica (next_step r) step)
+    (subst (λ y. IsRanFrom begun
+    (record { members = slice_set members m y; table = stored words r.replica (next_step r) }))
+    (after_append (next_sight words r) o r (next_step r) step)
+    (deed_ran begun words members m o r there none ran)) in
     subst (λ l. IsRanFrom begun (record { members = l; table = words })) (set-set members m x q)
     (appends_ran begun words os (slice_set members m x) m x q more
     (replica_set members m x (slice_get_within members m r there)) once)

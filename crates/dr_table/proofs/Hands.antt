@@ -11,7 +11,11 @@ use Rattle.dr_member.specs.Deeds.{is_append, table_size}
 use Rattle.dr_program.specs.declared.outcome.Outcome.{Outcome}
 use Rattle.dr_program.specs.declared.outcome.Outcome.TheVariants as outcomes
 use Rattle.dr_program.specs.Program.{IsRanFrom, Program, appended_as, begun_program, ran}
-use Rattle.dr_program.specs.Running.{Running, after_step, begun_running, next_deed}
+use Rattle.dr_machine.specs.declared.step.Step.{Step}
+use Rattle.dr_machine.specs.declared.step.Step.TheVariants.{Append, LogVote}
+use Rattle.dr_program.specs.Replica.{Replica}
+use Rattle.dr_program.specs.Running.{Running, after_step, begun_running, next_deed, next_step}
+use Rattle.dr_program.specs.Steps.{IsAppend, stepped}
 use Rattle.dr_program.proofs.Fixed.{Told, told}
 use Rattle.dr_program.proofs.Holdings.{replica_set}
 use Rattle.dr_program_laws.proofs.Keeping.{begun_reached}
@@ -145,12 +149,17 @@ ahead_append (x ∷ xs) (y ∷ ys) w qs are too =
     ahead_first x y (xs ++ w) (ys ++ qs) (are.each 0 x y refl refl) rest
 
 -- an append ends nobody
+append_leaves : (word : ℕ) (r : Replica) (s : Step) → IsAppend s → (stepped word r s).end ≡ r.end
+append_leaves word r Append is = refl
+append_leaves word r (LogVote v) is = refl
+append_leaves word r s is = absurd is
+
 append_stays : (o : Outcome) (r : Running) → is_append (next_deed r) ≡ true
     → (appended_as o r).replica.end ≡ None
 append_stays (outcomes.Failed why) r due = (append_due r due).0
 append_stays outcomes.Ok r due =
     let (none, step) = append_due r due in
-    ap (λ q. q.end) (settle_replica _ _) ∙ rw step none
+    ap (λ q. q.end) (settle_replica _ _) ∙ append_leaves 0 r.replica (next_step r) step ∙ none
 
 -- a member that has ended is as the seat knows it
 ended_same : (os : List Outcome) (r q : Running) → HasAppended os r q → HasEnded q → r ≡ q

@@ -14,12 +14,12 @@ use Rattle.dr_program.specs.Program.{IsRanFrom, Move, Program, after_deed, appen
 use Rattle.dr_program.specs.Reading.{step_due, step_of_member, world}
 use Rattle.dr_program.specs.Running.{Running, after_step, next_deed, next_step}
 use Rattle.dr_program.specs.Sight.{MaySee}
-use Rattle.dr_program.specs.Steps.{sight, stored}
+use Rattle.dr_program.specs.Steps.{stored}
 use Rattle.dr_program.proofs.Holdings.{replica_set}
 use Rattle.dr_program_laws.proofs.Keeping.{deeds_kept, move_kept, sees}
 use Rattle.dr_refine.specs.Programs.{IsProgram}
 use Rattle.dr_refine.proofs.Deeds.{step_is}
-use Rattle.dr_age.proofs.Deeds.{any_outcome, at_look, deed_tells}
+use Rattle.dr_age.proofs.Deeds.{after_append, any_outcome, at_look, deed_tells}
 use Rattle.dr_table.specs.Deeds.{IsStore}
 use Rattle.dr_table.specs.Rule.{IsKept, number}
 use Rattle.dr_table.specs.Steps.{HasAppended, IsAhead, IsOfProgram, IsReachedMember, Looked, MayFind, Stored}
@@ -83,7 +83,7 @@ pub append_reached : (r : Running) (o : Outcome) → is_append (next_deed r) ≡
 append_reached r o due (g, p, is) =
     let (none, step) = append_due r due in
     goes_on g p r (appended_as o r) o is none
-    (subst (λ s. after_deed (sight p.table r.replica s) o r s ≡ appended_as o r) (sym step) refl)
+    (after_append (next_sight p.table r) o r (next_step r) step)
     (same_number r (appended_as o r) (appended_told o r))
 
 -- the word that a look may find, its member may see

@@ -2,6 +2,7 @@
 use Rattle.std.specs.Prelude.{◌≡◌, ℕ, true, List, [], ◌∷◌, length, slice_get, slice_set, None, Some}
 use Rattle.dr_age.specs.Sound.{IsSound}
 use Rattle.dr_machine.specs.Group.{Group}
+use Rattle.dr_machine.specs.World.{no_value}
 use Rattle.dr_member.specs.Deeds.{is_append}
 use Rattle.dr_program.specs.declared.outcome.Outcome.{Outcome}
 use Rattle.dr_program.specs.Program.{Program, appended_as, next_sight}
@@ -47,6 +48,7 @@ pub record AreAhead (v members : List Running) : Type 0 where
 abbrev pub nobody : Running
 nobody = record {
   replica = record {
+    age = 0;
     roster = 0;
     window = 0;
     banks = 0;
@@ -56,6 +58,11 @@ nobody = record {
     view = 0;
     members = 0;
     suspects = 0;
+    tag = 0;
+    value = no_value;
+    committed = None;
+    pending = None;
+    votes = [];
     counts = [];
     items = [];
     base = 0;

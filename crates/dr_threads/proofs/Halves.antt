@@ -1,5 +1,5 @@
 -- The answers of two halves are the answer of both.
-use Rattle.std.proofs.Common.{◌≡◌, refl, sym, ap, ◌∙◌, subst, inl, inr, ◌⊎◌, ℕ, zero, suc, ◌+◌, List, [], ◌∷◌, ◌++◌, length, length-append, map, take, drop, le_refl, arith}
+use Rattle.std.proofs.Common.{◌≡◌, refl, sym, ap, ◌∙◌, subst, inl, inr, ◌⊎◌, ℕ, zero, suc, ◌+◌, List, [], ◌∷◌, ◌++◌, append-nil, length, length-append, map, take, drop, le_refl, arith}
 use Rattle.std.specs.Prelude.{All, Option, Some, slice_get}
 use Rattle.std.proofs.lemmas.List.{map-append}
 use Rattle.std.proofs.lemmas.Option.{same_Some, slice_get_within}
@@ -95,7 +95,12 @@ module _ {D : Type 0} (told : D → Option Told) (faults : D → ℕ) where
         let (r, member) = slice_get-some a.members k
         (omega (arith, slice_get_within logs k old from, m, as_many before a.members h.over.same)) in
         let come = h.served k old new r from there member in
-        record { entries = come.more; votes = come.votes; moments = inr come.moments; later = come.later };
+        record {
+          entries = come.more;
+          votes = (r.replica.votes, come.voted);
+          moments = inr come.moments;
+          later = come.later;
+        };
   }
 
   pub both_longer : (logs more news newer all : List (LogState D)) → all ≡ news ++ newer
@@ -117,12 +122,13 @@ module _ {D : Type 0} (told : D → Option Told) (faults : D → ℕ) where
     each = λ k old new from there.
         let is = same_Some old new (sym from ∙ there) in
         subst (λ x. IsLonger told faults old x) is
-        (record { entries = ([], nothing old.entries); votes = refl; moments = inl refl; later = le_refl _ });
+        (record {
+          entries = ([], sym (append-nil old.entries));
+          votes = ([], sym (append-nil old.votes));
+          moments = inl refl;
+          later = le_refl _;
+        });
   }
-    where
-      nothing : {X : Type 0} (xs : List X) → xs ≡ xs ++ []
-      nothing [] = refl
-      nothing (x ∷ xs) = ap (λ l. x ∷ l) (nothing xs)
 
 -- ---- the two halves of logs and members
 

@@ -1,5 +1,5 @@
 -- The run of one member: its log before, and behind it.
-use Rattle.std.proofs.Common.{◌≡◌, refl, sym, ap, ◌∙◌, subst, inl, ℕ, ◌-◌, max, false, List, [], ◌∷◌, ◌++◌, length, length-set, get_or, arith}
+use Rattle.std.proofs.Common.{◌≡◌, sym, ap, ◌∙◌, subst, inl, ℕ, ◌-◌, max, false, List, [], append-nil, length, length-set, get_or, arith}
 use Rattle.std.specs.Prelude.{Option, Some, slice_get, slice_set}
 use Rattle.std.proofs.lemmas.Option.{same_Some, slice_get_read, slice_get_within}
 use Rattle.atomic_table.specs.Seated.{TableId}
@@ -33,24 +33,19 @@ put_log logs new log one is =
 module _ {D : Type 0} (told : D → Option Told) (faults : D → ℕ) where
   -- the log got room for all that its member may append: it is ready, and has served it so far
   pub opened_ready : (logs : List (LogState D)) (members : List Running) (old new : LogState D) (r : Running)
-      (n : ℕ) → AreFor logs members → slice_get logs 0 ≡ Some old → slice_get members 0 ≡ Some r
-      → n ≡ r.replica.room - r.replica.logged
+      (n k : ℕ) → AreFor logs members → slice_get logs 0 ≡ Some old → slice_get members 0 ≡ Some r
+      → n ≡ r.replica.room - r.replica.logged → k ≡ r.replica.roster - length r.replica.votes
       → new ≡ record old {
         disk = new.disk;
         spare_entries = max old.spare_entries n;
-        spare_votes = max old.spare_votes 0;
+        spare_votes = max old.spare_votes k;
       }
       → told new.disk ≡ told old.disk → faults new.disk ≡ faults old.disk
       → (old.failed ≡ false → IsSafe told new) → HasServed told faults old new r × IsReady new r
-  opened_ready logs members old new r n are there here left made tells calm safe =
+  opened_ready logs members old new r n k are there here left votes made tells calm safe =
       let is = are.each 0 old r there here in
-      begins told faults old new r (roomy told faults r old new n left made tells calm safe) is.whole
-      is.entries
-      is.logged is.none
-
-  nothing : {X : Type 0} (xs : List X) → xs ≡ xs ++ []
-  nothing [] = refl
-  nothing (x ∷ xs) = ap (λ l. x ∷ l) (nothing xs)
+      begins told faults old new r (roomy told faults r old new n k left votes made tells calm safe) is.whole
+      is.entries is.logged is.votes is.none
 
   -- no room was got
   pub reserve_longer : (logs : List (LogState D)) (old new : LogState D) → length logs ≡ 1
@@ -64,8 +59,8 @@ module _ {D : Type 0} (told : D → Option Told) (faults : D → ℕ) where
         let be = same_Some new now (sym (replica_set logs 0 new (omega (arith, one)))
         ∙ ap (slice_get (slice_set logs 0 new)) (sym first) ∙ to) in
         subst (λ x. IsLonger told faults x now) is (subst (λ x. IsLonger told faults old x) be (record {
-          entries = ([], ap (λ (l : LogState D). l.entries) made ∙ nothing old.entries);
-          votes = ap (λ (l : LogState D). l.votes) made;
+          entries = ([], ap (λ (l : LogState D). l.entries) made ∙ sym (append-nil old.entries));
+          votes = ([], ap (λ (l : LogState D). l.votes) made ∙ sym (append-nil old.votes));
           moments = inl tells;
           later = omega (arith, calm);
         }));

@@ -71,7 +71,8 @@ fn run_one<D: Disk, P: Pace>(
     ensures run { IsAnswer D.told D.faults board.now.table hand.members logs.items result }
     ensures room { vec_capacity logs ≤ room_of result }
 {
-    if let Err(error) = logs[0].reserve(hand.member(0).appends_left(), 0) {
+    let member = hand.member(0);
+    if let Err(error) = logs[0].reserve(member.appends_left(), member.votes_left()) {
         return Err((logs, error));
     }
     let hand = run_member(board, hand, &mut logs[0], pace);

@@ -100,6 +100,13 @@ returns-clause-logs g c =
     c.in_ok-hand.logs.items es) (sym (c.of.ensures ∙ c.ends_of.ensures))
     (have_come _ _ _ _ _ (closed g c) (over g c).over)
 
+pub returns-clause-voted : goal.returns-clause-voted
+unfolding returns-clause-run
+returns-clause-voted g c = (
+  returns-clause-run g c,
+  λ m base log r from there at. ((over g c).over.served m base log r from there at).voted,
+)
+
 pub returns-clause-ample : goal.returns-clause-ample
 returns-clause-ample g c = λ ample.
     subst (λ (es : List MemberEnd). NoneFull es) (sym (c.of.ensures ∙ c.ends_of.ensures))

@@ -15,15 +15,17 @@ returns-in-Err-clause-run g c =
 pub run_member-hand-requires-clause-ready : goal.run_member-hand-requires-clause-ready
 run_member-hand-requires-clause-ready g c = λ ks within r here.
     let one = c.requires.logs.all ∙ c.requires.one in
-    let same = same_Some c.member.result.now r (sym c.member.ensures.there ∙ here) in
+    let same = same_Some c.member-member.result.now r (sym c.member-member.ensures.there ∙ here) in
     let both = opened_ready g.D.Disk.told g.D.Disk.faults c.args.logs.items c.args.hand.members
     c.index_mut.result.now
-    c.reserve.new.self c.member.result.now c.appends_left.result c.requires.logs
-    (first_log c.args.logs.items c.index_mut.result.now one c.index_mut.ensures.value) c.member.ensures.there
-    c.appends_left.ensures c.in_default.ensures.ok c.in_default.ensures.told c.in_default.ensures.faults
+    c.reserve.new.self c.member-member.result.now c.appends_left.result c.votes_left.result c.requires.logs
+    (first_log c.args.logs.items c.index_mut.result.now one c.index_mut.ensures.value)
+    c.member-member.ensures.there
+    c.appends_left.ensures c.votes_left.ensures c.in_default.ensures.ok c.in_default.ensures.told
+    c.in_default.ensures.faults
     c.in_default.ensures.safe in
     subst (IsReady c.index_mut-2.result.now) same
-    (subst (λ l. IsReady l c.member.result.now)
+    (subst (λ l. IsReady l c.member-member.result.now)
     (sym (put_log c.args.logs.items c.reserve.new.self c.index_mut-2.result.now one
     c.index_mut-2.ensures.value)) both.1)
 
@@ -33,15 +35,17 @@ returns-clause-run g c =
     let first = first_log c.args.logs.items c.index_mut.result.now one c.index_mut.ensures.value in
     let both = opened_ready g.D.Disk.told g.D.Disk.faults c.args.logs.items c.args.hand.members
     c.index_mut.result.now
-    c.reserve.new.self c.member.result.now c.appends_left.result c.requires.logs first c.member.ensures.there
-    c.appends_left.ensures c.in_default.ensures.ok c.in_default.ensures.told c.in_default.ensures.faults
+    c.reserve.new.self c.member-member.result.now c.appends_left.result c.votes_left.result c.requires.logs
+    first c.member-member.ensures.there
+    c.appends_left.ensures c.votes_left.ensures c.in_default.ensures.ok c.in_default.ensures.told
+    c.in_default.ensures.faults
     c.in_default.ensures.safe in
     run_served g.D.Disk.told g.D.Disk.faults c.args.board.now.table c.args.hand.members c.args.logs.items
     c.index_mut.result.now c.reserve.new.self c.index_mut-2.result.now c.run_member-hand.new.log
     c.run_member-hand.result one first c.run_member-hand.ensures.over c.run_member-hand.ensures.gone
     (λ r here. subst (HasServed g.D.Disk.told g.D.Disk.faults c.index_mut.result.now c.index_mut-2.result.now)
-    (same_Some c.member.result.now r (sym c.member.ensures.there ∙ here))
-    (subst (λ l. HasServed g.D.Disk.told g.D.Disk.faults c.index_mut.result.now l c.member.result.now)
+    (same_Some c.member-member.result.now r (sym c.member-member.ensures.there ∙ here))
+    (subst (λ l. HasServed g.D.Disk.told g.D.Disk.faults c.index_mut.result.now l c.member-member.result.now)
     (sym (put_log c.args.logs.items c.reserve.new.self c.index_mut-2.result.now one
     c.index_mut-2.ensures.value))
     both.0))

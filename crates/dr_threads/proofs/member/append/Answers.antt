@@ -1,10 +1,8 @@
-use Rattle.std.proofs.Common.{◌≤◌, refl, sym, ap, ◌∙◌, subst, length, length-set, arith}
-use Rattle.dr_entry.specs.declared.record.Record.{Record}
-use Rattle.dr_log.specs.State.{as_entry}
+use Rattle.std.proofs.Common.{refl, sym, ap, ◌∙◌, subst, length, length-set}
 use Rattle.dr_logged.specs.Served.{HasServed}
 use Rattle.dr_logged.proofs.Serving.{appended_ready, appended_served, failed_ready, unfailed}
 use Rattle.dr_program.specs.Running.{after_step, broken_off}
-use Rattle.dr_logged.proofs.Appends.{did_append, did_fail}
+use Rattle.dr_logged.proofs.Appends.{did_append, did_fail, has_spares}
 use Rattle.dr_age.proofs.Deeds.{at_append}
 use Rattle.dr_table.proofs.Deeds.{after_told, same_number}
 use Rattle.dr_threads.proofs.Runs.{gone_by, left_falls, reached_form, reached_well}
@@ -20,17 +18,21 @@ append-requires-clause-spare_entry g c = λ ks within.
     let r = c.member.result.now in
     let at = at_append r c.in-Append.record (reached_form r c.member.ensures.reached)
     (sym c.in-Append.ensures.deed) in
-    let ready = c.requires.ready r c.member.ensures.there in
-    let spare = ready.spare (unfailed r at.0.step) in
-    subst (λ (x : Record). as_entry x ≤ c.args.log.now.spare_entries) (sym at.1)
-    (omega (arith, at.0.some, at.0.room, spare))
+    (has_spares c.args.log.now r c.in-Append.record at.0 at.1 (c.requires.ready r c.member.ensures.there)).0
+
+pub append-requires-clause-spare_vote : goal.append-requires-clause-spare_vote
+append-requires-clause-spare_vote g c = λ ks within.
+    let r = c.member.result.now in
+    let at = at_append r c.in-Append.record (reached_form r c.member.ensures.reached)
+    (sym c.in-Append.ensures.deed) in
+    (has_spares c.args.log.now r c.in-Append.record at.0 at.1 (c.requires.ready r c.member.ensures.there)).1
 
 pub append-requires-clause-whole : goal.append-requires-clause-whole
 append-requires-clause-whole g c = λ ks within.
     let r = c.member.result.now in
     let at = at_append r c.in-Append.record (reached_form r c.member.ensures.reached)
     (sym c.in-Append.ensures.deed) in
-    (c.requires.ready r c.member.ensures.there).whole (unfailed r at.0.step)
+    (c.requires.ready r c.member.ensures.there).whole (unfailed r at.0.due)
 
 pub returns-in-Ok-clause-gone : goal.returns-in-Ok-clause-gone
 returns-in-Ok-clause-gone g c =
@@ -45,8 +47,8 @@ returns-in-Ok-clause-gone g c =
     gone_by _ _ c.args.hand.now.members c.appended.new.self.members r (after_step 0 r) log new c.requires.one
     c.member.ensures.there (c.appended.ensures.members r c.member.ensures.there)
     (same_number r (after_step 0 r) (after_told 0 r))
-    (λ ready. appended_ready log new 0 r at.0.step (omega (arith, at.0.some, at.0.room)) ready did.made)
-    (λ base served. appended_served _ _ base log new 0 r at.0.step at.0.some served did.made did.fits did.goes
+    (λ ready. appended_ready log new 0 r at.0 ready did.made)
+    (λ base served. appended_served _ _ base log new 0 r at.0.due served did.made did.fits did.goes
     did.lasting did.safe did.calm)
 
 pub returns-in-Ok-clause-falls : goal.returns-in-Ok-clause-falls
