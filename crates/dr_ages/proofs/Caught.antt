@@ -1,5 +1,5 @@
 -- Logs that are brought up to a start, one after the other.
-use Rattle.std.proofs.Common.{◌≡◌, refl, sym, ap, ◌∙◌, subst, inl, inr, ℕ, ◌+◌, ◌<◌, ◌≤◌, false, All, List, length, length-set, length-take, take, drop, le_refl, get_or, arith}
+use Rattle.std.proofs.Common.{◌≡◌, refl, sym, ap, ◌∙◌, subst, inl, inr, ℕ, ◌+◌, ◌<◌, ◌≤◌, false, All, List, [], append-nil, length, length-set, length-take, take, drop, le_refl, get_or, arith}
 use Rattle.std.specs.Prelude.{◌^◌, ◌-◌, Option, None, Some, is_some, option_map, slice_get, slice_set}
 use Rattle.std.proofs.Math.Pow.{pow_mono}
 use Rattle.std.proofs.lemmas.Bool.{cases_eq, cases_lt}
@@ -97,7 +97,7 @@ pub caught_on : {D : Type 0} (told : D → Option Told) (faults : D → ℕ) (wh
     → IsLater told faults old new
 caught_on told faults whole old new n part is = record {
   entries = subst (λ (l : List Entry). IsPrefixOf old.entries l) (sym is.entries) (front n is.enough);
-  votes = is.votes;
+  votes = ([], append-nil old.votes ∙ sym is.votes);
   tells = goes_tells (told old.disk) (told new.disk) (λ s. HasFirst (length old.entries) whole old.votes) is.moments;
   later = is.later;
   stays = λ es vs first kept left.

@@ -1,5 +1,5 @@
 -- Runs over empty disks.
-use Rattle.std.proofs.Common.{◌≡◌, refl, sym, ap, ◌∙◌, subst, ℕ, zero, suc, ◌+◌, ◌^◌, ◌<◌, ◌≤◌, arith, List, [], ◌∷◌, length, take, length-append, length-take, take_at}
+use Rattle.std.proofs.Common.{◌≡◌, refl, sym, ap, ◌∙◌, subst, ℕ, zero, suc, ◌+◌, ◌*◌, ◌^◌, ◌<◌, ◌≤◌, arith, List, [], ◌∷◌, length, take, length-append, length-take, take_at}
 use Rattle.std.specs.Prelude.{All, IsSomeAnd, IsTrue, Option, None, Some, is_some, slice_get}
 use Rattle.std.proofs.Math.Pow.{pow_mono}
 use Rattle.std.proofs.lemmas.List.Elements.{All-append, All-cons, All-nil, All-take}
@@ -8,6 +8,7 @@ use Rattle.dr_disk.specs.Disk.{Told, content_of}
 use Rattle.dr_entry.specs.declared.end.AgeEnd.{AgeEnd}
 use Rattle.dr_entry.specs.declared.entry.Entry.{Entry}
 use Rattle.dr_entry.specs.declared.entry.Entry.TheVariants.{View, Msg}
+use Rattle.dr_entry.specs.declared.limits.TheConstants.{MAX_MEMBERS}
 use Rattle.dr_entry.specs.declared.record.Vote.{Vote}
 use Rattle.dr_entry.specs.Spelling.{IsValidEntry}
 use Rattle.dr_gather.specs.Gathering.{IsStartOf}
@@ -21,24 +22,26 @@ use Rattle.dr_history.specs.Restarting.{IsLongest, next_age}
 use Rattle.dr_history.proofs.ViewLemmas.{view_of-View, view_of-Msg}
 use Rattle.dr_history_laws.proofs.Lengths.{start-few}
 use Rattle.dr_history_laws.proofs.Lists.{IsSomeAnd-at, slice_get-some, take-next}
-use Rattle.dr_log.specs.Standing.{block_length, log_length}
-use Rattle.dr_log.proofs.Growing.{short_block, short_log_length}
+use Rattle.dr_log.specs.Standing.{block_length}
+use Rattle.dr_log.proofs.Growing.{short_block}
 use Rattle.dr_logged.specs.Served.{next_record}
 use Rattle.dr_restart.specs.declared.start.Start.{Start}
 use Rattle.dr_restart.specs.Groups.{group_of}
 use Rattle.dr_script.specs.declared.script.Script.{Script}
 use Rattle.dr_script.specs.Ranges.{HasGroupRanges}
 use Rattle.dr_age.specs.Logged.{NoneFull}
+use Rattle.dr_age.proofs.Ends.{long_log}
 use Rattle.dr_yard.specs.Yards.{AllTell, AreEmpty, YardState}
 use Rattle.dr_ages.specs.declared.mode.Mode.{Mode}
 use Rattle.dr_ages.specs.declared.stop.Stop.{Stop}
 use Rattle.dr_ages.specs.declared.stop.Stop.TheVariants.{OutOfMemory, DiskFault, LogFull, Damaged, Disagree, Foreign, AgesUsedUp}
 use Rattle.dr_ages.specs.Ages.{AreAges, IsAgeOf, opening_of}
-use Rattle.dr_ages.specs.Found.{AreFound}
+use Rattle.dr_ages.specs.Found.{AreFew, AreFound}
 use Rattle.dr_ages.specs.Stops.{HasStopped, IsOutside, IsTooFull}
 use Rattle.dr_ages.proofs.Chain.{tell_on}
 use Rattle.dr_ages.proofs.Good.{IsGood, age_leaves_good, empty_found, empty_good, good_never, part_of_history}
 use Rattle.dr_ages.proofs.Keeping.{IsBehind, found_left, longest_begins}
+use Rattle.dr_ages.proofs.Votes.{found_valid}
 
 -- ---- the view of what an age leaves
 
@@ -105,8 +108,8 @@ no_age = refl
 pub record IsFreshAt (script : Script) (k : ℕ) (yard : YardState) : Type 0 where
   pub tell : AllTell script.members yard
   pub good : IsGood script yard
-  pub bare : (lists : List (List Entry)) (votes : ℕ → List Vote) → AreFound script.members yard lists votes
-      → (m : ℕ) → m < script.members → votes m ≡ []
+  pub few : (lists : List (List Entry)) (votes : ℕ → List Vote) → AreFound script.members yard lists votes
+      → (m : ℕ) → m < script.members → length (votes m) ≤ MAX_MEMBERS * k
   pub next : (lists : List (List Entry)) (votes : ℕ → List Vote) → AreFound script.members yard lists votes
       → (es : List Entry) → IsLongest lists es → next_age (view_of es) ≡ k
 
@@ -114,9 +117,9 @@ pub fresh_first : (script : Script) (yard : YardState) → AreEmpty script.membe
 fresh_first script yard empty = record {
   tell = λ m l. tells (yard.told m) (empty m l);
   good = empty_good script yard empty;
-  bare = λ lists votes found m l.
+  few = λ lists votes found m l.
       let es = slice_get-some lists m (omega (arith, l, found.all)) in
-      (empty_found script yard lists votes m es.0 empty found es.1).1;
+      omega (arith, ap length (empty_found script yard lists votes m es.0 empty found es.1).1);
   next = λ lists votes found es longest.
       ap (λ (l : List Entry). next_age (view_of l))
       (empty_found script yard lists votes longest.place es empty found longest.one).0 ∙ no_age;
@@ -131,6 +134,15 @@ age_number : {mode : Mode} (script : Script) (k nth : ℕ) (before yard : YardSt
     → IsAgeOf script mode nth before yard age → age.age ≡ k
 age_number script k nth before yard age fresh is =
     is.starts.restart.next ∙ fresh.next is.lists is.votes is.found age.start is.starts.restart.longest
+
+-- the votes on each log are few
+few_at : (script : Script) (k : ℕ) (yard : YardState) (lists : List (List Entry)) (votes : ℕ → List Vote) (m : ℕ)
+    → IsFreshAt script k yard → k < 2 ^ 16 → AreFound script.members yard lists votes → m < script.members
+    → AreFew (votes m)
+few_at script k yard lists votes m fresh small found l = record {
+  valid = found_valid script.members yard lists votes m fresh.tell found l;
+  few = omega (arith, fresh.few lists votes found m l, small);
+}
 
 -- the first age starts with nothing
 pub fresh_start : (script : Script) (mode : Mode) (nth : ℕ) (before : YardState) (ages : List AgeEnd) (last : YardState)
@@ -147,11 +159,17 @@ fresh_next : (script : Script) (mode : Mode) (k nth : ℕ) (before yard : YardSt
 fresh_next script mode k nth before yard age ranges fresh is = record {
   tell = tell;
   good = age_leaves_good script mode nth before yard age ranges is tell;
-  bare = λ lists votes found m l.
+  few = λ lists votes found m l.
       let e = slice_get-some age.members m (omega (arith, l, is.roster)) in
       let es = slice_get-some lists m (omega (arith, l, found.all)) in
-      (found_left script yard age lists votes m e.0 es.0 (behind lists votes found) e.1 es.1).1
-      ∙ fresh.bare is.lists is.votes is.found m l;
+      let now = (found_left script yard age lists votes m e.0 es.0 (behind lists votes found) e.1 es.1).votes in
+      omega (
+        arith,
+        ap length now.parts,
+        length-append (is.votes m) now.more,
+        now.few,
+        fresh.few is.lists is.votes is.found m l,
+      );
   next = λ lists votes found es longest.
       let p = part_of_history script yard age lists votes longest.place es (behind lists votes found) longest.one in
       next_of_part (opening_of script age) (sent_by (accounts_of age.members)) es
@@ -190,9 +208,11 @@ pub fresh_ages : (script : Script) (mode : Mode) (k nth : ℕ) (before : YardSta
     → slice_get ages i ≡ Some a → (a.age ≡ k + i) × NoneFull a.members
 fresh_ages script mode k nth before [] last i a ranges fresh are at = absurd (omega (arith, slice_get_within [] i a at))
 fresh_ages script mode k nth before (age ∷ ages) last zero a ranges fresh are at =
+    let number = age_number script k nth before are.0 age fresh are.1 in
     subst (λ (x : AgeEnd). (x.age ≡ k + 0) × NoneFull x.members) (same_Some age a at) (
-      omega (arith, age_number script k nth before are.0 age fresh are.1),
-      are.1.ample (fresh.bare are.1.lists are.1.votes are.1.found),
+      omega (arith, number),
+      are.1.ample (λ m l. few_at script k before are.1.lists are.1.votes m fresh
+          (omega (arith, number, are.1.small)) are.1.found l),
     )
 fresh_ages script mode k nth before (age ∷ ages) last (suc i) a ranges fresh are at =
     let r = fresh_ages script mode (k + 1) (nth + 1) are.0 ages last i a ranges
@@ -222,12 +242,13 @@ first_valid script lists start ranges is =
     one = All-cons IsValidEntry (View start.age 0 start.members) [] some (All-nil IsValidEntry)
 
 full_never : (script : Script) (before after : YardState) (m len : ℕ) → HasGroupRanges script
-    → (is : IsTooFull script before after m len) → is.votes m ≡ [] → ⊥
-full_never script before after m len ranges is bare =
+    → (is : IsTooFull script before after m len) → AreFew (is.votes m) → ⊥
+full_never script before after m len ranges is votes =
     let whole = first_entries (group_of script is.start).opening in
     let valid = first_valid script is.lists is.start ranges is.starts in
     let few = start_small script is.lists is.start ranges is.small is.starts in
-    let log = short_log_length (take is.count whole) (All-take IsValidEntry is.count whole valid) in
+    let log = long_log [] (take is.count whole) (is.votes m) (All-take IsValidEntry is.count whole valid)
+    (λ k d l. (votes.valid k d l).members) in
     let block : block_length (next_record whole is.count) ≤ 72 =
     short_block _ (valid is.count (View 0 0 0) is.more) in
     omega (
@@ -238,8 +259,8 @@ full_never script before after m len ranges is bare =
       is.over,
       is.long,
       is.more,
+      votes.few,
       length-append is.start.entries (View is.start.age 0 is.start.members ∷ []),
-      ap (log_length (take is.count whole)) bare,
       length-take is.count whole,
     )
 
@@ -250,7 +271,8 @@ pub fresh_stop : (script : Script) (k : ℕ) (last after : YardState) (s : Stop)
 fresh_stop script k last after OutOfMemory ranges fresh few is = tt
 fresh_stop script k last after (DiskFault m) ranges fresh few is = tt
 fresh_stop script k last after (LogFull m len) ranges fresh few is =
-    full_never script last after m len ranges is (fresh.bare is.lists is.votes is.found m is.below)
+    full_never script last after m len ranges is
+    (few_at script k last is.lists is.votes m fresh few is.found is.below)
 fresh_stop script k last after (Damaged m at) ranges fresh few is =
     good_never script last after (Damaged m at) fresh.good is tt
 fresh_stop script k last after (Disagree a b p) ranges fresh few is =

@@ -1,5 +1,5 @@
 -- Disks whose logs are never refused: empty ones, and those that an age leaves.
-use Rattle.std.proofs.Common.{◌≡◌, refl, sym, ap, ◌∙◌, subst, ℕ, ◌<◌, inl, inr, arith, List, [], ◌++◌, length}
+use Rattle.std.proofs.Common.{◌≡◌, refl, sym, ap, ◌∙◌, subst, ℕ, ◌<◌, inl, inr, arith, List, [], ◌++◌, length, take}
 use Rattle.std.specs.Prelude.{IfSome, IsSomeAnd, IsTrue, Option, None, Some, is_some, slice_get}
 use Rattle.std.specs.Option.{option_map_or}
 use Rattle.std.proofs.lemmas.Option.{slice_get_within}
@@ -20,7 +20,7 @@ use Rattle.dr_history.specs.Restarting.{AreAllAlong, AreSound}
 use Rattle.dr_history.specs.Soundness.{IsPresentIn}
 use Rattle.dr_history_laws.proofs.Lists.{slice_get-some}
 use Rattle.dr_log.specs.Grammar.{Recovered}
-use Rattle.dr_log.specs.Standing.{entries_in, votes_in}
+use Rattle.dr_log.specs.Standing.{entries_in, votes_in, with_entry, with_vote}
 use Rattle.dr_log.proofs.Meaning.{stands_or_damaged}
 use Rattle.dr_machine.specs.Group.{IsGroup, roster}
 use Rattle.dr_restart.specs.Groups.{group_of}
@@ -108,7 +108,7 @@ part_of_history script yard age lists votes m es b at =
     let e = slice_get-some age.members m (omega (arith, within, b.is.roster)) in (
       is_there (opening_of script age) script.members m refl within,
       subst (λ (end : Option MemberEnd). IsPrefixOf es (option_map_or (λ (x : MemberEnd). x.history) end []))
-          (sym e.1) (left_part e.0 es (found_left script yard age lists votes m e.0 es b e.1 at).0),
+          (sym e.1) (left_part e.0 es (found_left script yard age lists votes m e.0 es b e.1 at).entries),
     )
 
 pub age_leaves_good : (script : Script) (mode : Mode) (nth : ℕ) (before yard : YardState) (age : AgeEnd)
@@ -148,17 +148,25 @@ age_leaves_good script mode nth before yard age ranges is tell = record {
           m,
           e.0,
           e.1,
-          left_part e.0 es (found_left script yard age lists votes m e.0 es (behind lists votes found) e.1 at).0,
+          left_part e.0 es
+              (found_left script yard age lists votes m e.0 es (behind lists votes found) e.1 at).entries,
         )
 
     whole : (m at : ℕ) → m < script.members → IfSome (yard.told m) (ReadsDamaged at) → ⊥
     whole m at l =
         let e = slice_get-some age.members m (omega (arith, l, is.roster)) in
-        readable (yard.told m) at e.0 (is.votes m) (tell m l) (is.left m e.0 e.1)
+        readable (yard.told m) at e.0 (is.votes m) (is.cast m) (tell m l) (is.left m e.0 e.1)
       where
-        readable : (t : Option Told) (at : ℕ) (e : MemberEnd) (vs : List Vote) → IsTrue (is_some t)
-            → HasLeft t e vs → IfSome t (ReadsDamaged at) → ⊥
-        readable None at e vs some left reads = absurd (cc)
-        readable (Some t) at e vs some left reads =
-            let s = left (content_of t) reads.image in
-            stands_or_damaged (content_of t) s.entries vs at s.stands reads.damaged
+        readable : (t : Option Told) (at : ℕ) (e : MemberEnd) (found cast : List Vote) → IsTrue (is_some t)
+            → HasLeft t e found cast → IfSome t (ReadsDamaged at) → ⊥
+        readable None at e found cast some left reads = absurd (cc)
+        readable (Some t) at e found cast some (inl safe) reads =
+            stands_or_damaged (content_of t) (take e.logged e.history) (found ++ cast) at
+            (safe (content_of t) reads.image) reads.damaged
+        readable (Some t) at e found cast some (inr broken) reads =
+            elim (broken.left (content_of t) reads.image) [
+              | inl before ↦ stands_or_damaged (content_of t) (take e.logged e.history) (found ++ cast) at before
+                  reads.damaged
+              | inr after ↦ stands_or_damaged (content_of t) (with_entry broken.next (take e.logged e.history))
+                  (with_vote broken.next (found ++ cast)) at after reads.damaged
+            ]

@@ -1,14 +1,17 @@
 -- What an age leaves is what the next one finds; so nothing durable is lost.
-use Rattle.std.proofs.Common.{◌≡◌, refl, sym, ap, ◌∙◌, subst, ℕ, zero, suc, ◌+◌, ◌-◌, inl, inr, arith, List, [], ◌∷◌, ◌++◌, take, drop, append-nil}
+use Rattle.std.proofs.Common.{◌≡◌, refl, sym, ap, ◌∙◌, subst, ℕ, zero, suc, ◌+◌, ◌-◌, ◌<◌, ◌≤◌, inl, inr, arith, List, [], ◌∷◌, ◌++◌, length, length-append, take, drop, get_or, append-nil, append_assoc}
 use Rattle.std.specs.Prelude.{IfSome, IsTrue, Option, None, Some, is_some, slice_get}
 use Rattle.std.specs.Option.{option_map_or}
-use Rattle.std.proofs.lemmas.List.{take-append-drop}
+use Rattle.std.proofs.lemmas.List.{take-append-drop, take_more}
 use Rattle.std.proofs.lemmas.Option.{slice_get_within}
 use Rattle.dr_disk.specs.Disk.{Told, content_of}
 use Rattle.dr_entry.specs.declared.end.AgeEnd.{AgeEnd}
 use Rattle.dr_entry.specs.declared.end.MemberEnd.{MemberEnd}
 use Rattle.dr_entry.specs.declared.entry.Entry.{Entry}
 use Rattle.dr_entry.specs.declared.entry.Entry.TheVariants.{View}
+use Rattle.dr_entry.specs.declared.limits.TheConstants.{MAX_MEMBERS}
+use Rattle.dr_entry.specs.declared.record.Record.{Record}
+use Rattle.dr_entry.specs.declared.record.Record.TheVariants as records
 use Rattle.dr_entry.specs.declared.record.Vote.{Vote}
 use Rattle.dr_gather.specs.Leaving.{LeaveLogs}
 use Rattle.dr_gather.proofs.Following.{is_there, next_begins, next_keeps}
@@ -20,50 +23,120 @@ use Rattle.dr_history.specs.Restarting.{IsLongest, Kept}
 use Rattle.dr_history.specs.Soundness.{IsPresentIn, Sound}
 use Rattle.dr_history_laws.proofs.Keeping.{prefix_then}
 use Rattle.dr_history_laws.proofs.Lists.{slice_get-some}
+use Rattle.dr_log.specs.Standing.{StandsFor, with_entry, with_vote}
 use Rattle.dr_log.proofs.Meaning.{one_list, one_list_of_votes}
 use Rattle.dr_logged.specs.Left.{IsLeftOf}
+use Rattle.dr_logged.specs.Served.{IsNext, IsVote}
 use Rattle.dr_script.specs.declared.script.Script.{Script}
 use Rattle.dr_script.specs.Ranges.{HasGroupRanges}
 use Rattle.dr_yard.specs.Yards.{AllTell, YardState}
 use Rattle.dr_ages.specs.declared.mode.Mode.{Mode}
 use Rattle.dr_ages.specs.Ages.{AreAges, IsAgeOf, opening_of, start_of}
 use Rattle.dr_ages.specs.Found.{AreFound, ReadsAs}
-use Rattle.dr_ages.specs.Left.{HasLeft, IsLeftAt}
+use Rattle.dr_ages.specs.Left.{HasLeft}
 use Rattle.dr_ages.specs.Runs.{AreKept}
 use Rattle.dr_ages.proofs.Chain.{AreBeside, beside, tell_on}
 
 -- ---- one disk
 
--- what is read where an end of a member has left it
-read_left : (o : Option Told) (e : MemberEnd) (es : List Entry) (vs ws : List Vote) → IsTrue (is_some o)
-    → IfSome o (ReadsAs es vs) → HasLeft o e ws → IsLeftAt e es × (vs ≡ ws)
-read_left None e es vs ws some reads left = absurd (cc)
-read_left (Some t) e es vs ws some reads left =
-    let s = left (content_of t) reads.image in (
-      subst (IsLeftAt e) (sym (one_list (content_of t) es s.entries vs ws reads.stands s.stands)) s.left,
-      one_list_of_votes (content_of t) es s.entries vs ws reads.stands s.stands,
-    )
+-- votes, and behind them no more than a roster has members
+pub record HasFewMore (old new : List Vote) : Type 0 where
+  pub more : List Vote
+  pub parts : new ≡ old ++ more
+  pub few : length more ≤ MAX_MEMBERS
 
-left_of : (e : MemberEnd) (es : List Entry) → IsLeftAt e es → IsLeftOf e.history e.logged es
-left_of e es (inl same) = inl same
-left_of e es (inr more) = more.1
+-- what is read where an end of a member has left it
+pub record IsLeftBy (e : MemberEnd) (found : List Vote) (es : List Entry) (vs : List Vote) : Type 0 where
+  pub entries : IsLeftOf e.history e.logged es
+  pub votes : HasFewMore found vs
+
+read_left : (o : Option Told) (e : MemberEnd) (es : List Entry) (vs found cast : List Vote) → IsTrue (is_some o)
+    → IfSome o (ReadsAs es vs) → length cast ≤ MAX_MEMBERS → HasLeft o e found cast → IsLeftBy e found es vs
+read_left None e es vs found cast some reads few left = absurd (cc)
+read_left (Some t) e es vs found cast some reads few left = by left
+  where
+    logged : List Entry
+    logged = take e.logged e.history
+
+    next : Entry
+    next = get_or e.history e.logged (View 0 0 0)
+
+    -- just what is logged
+    same : StandsFor (content_of t) logged (found ++ cast) → IsLeftBy e found es vs
+    same s = record {
+      entries = inl (one_list (content_of t) es logged vs (found ++ cast) reads.stands s);
+      votes = record {
+        more = cast;
+        parts = one_list_of_votes (content_of t) es logged vs (found ++ cast) reads.stands s;
+        few = few;
+      };
+    }
+
+    -- with the next entry
+    entry : e.logged < length e.history → StandsFor (content_of t) (logged ++ next ∷ []) (found ++ cast)
+        → IsLeftBy e found es vs
+    entry more s =
+        let is : es ≡ logged ++ next ∷ [] =
+        one_list (content_of t) es (logged ++ next ∷ []) vs (found ++ cast) reads.stands s in
+        record {
+          entries = inr (
+            next,
+            is,
+            (
+              drop (e.logged + 1) e.history,
+              ap (λ (l : List Entry). l ++ drop (e.logged + 1) e.history)
+                  (is ∙ sym (take_more e.history e.logged (View 0 0 0) more))
+                  ∙ take-append-drop (e.logged + 1) e.history,
+            ),
+          );
+          votes = record {
+            more = cast;
+            parts = one_list_of_votes (content_of t) es (logged ++ next ∷ []) vs (found ++ cast) reads.stands s;
+            few = few;
+          };
+        }
+
+    -- with a vote
+    vote : (v : Vote) → IsVote (length cast) (records.Vote v)
+        → StandsFor (content_of t) logged ((found ++ cast) ++ v ∷ []) → IsLeftBy e found es vs
+    vote v due s = record {
+      entries = inl (one_list (content_of t) es logged vs ((found ++ cast) ++ v ∷ []) reads.stands s);
+      votes = record {
+        more = cast ++ v ∷ [];
+        parts = one_list_of_votes (content_of t) es logged vs ((found ++ cast) ++ v ∷ []) reads.stands s
+            ∙ append_assoc found cast (v ∷ []);
+        few = omega (arith, length-append cast (v ∷ []), due.1, due.0.members);
+      };
+    }
+
+    one_more : (r : Record) → IsNext e.history e.logged cast r
+        → StandsFor (content_of t) (with_entry r logged) (with_vote r (found ++ cast)) → IsLeftBy e found es vs
+    one_more r (inl due) s =
+        entry due.0 (subst (λ (r : Record). StandsFor (content_of t) (with_entry r logged)
+        (with_vote r (found ++ cast))) due.1 s)
+    one_more (records.Entry x) (inr due) s = absurd due
+    one_more (records.Vote v) (inr due) s = vote v due s
+
+    by : HasLeft (Some t) e found cast → IsLeftBy e found es vs
+    by (inl safe) = same (safe (content_of t) reads.image)
+    by (inr broken) = elim (broken.left (content_of t) reads.image) [
+      | inl before ↦ same before
+      | inr after ↦ one_more broken.next broken.due after
+    ]
 
 -- it is a part of the history
-pub left_part : (e : MemberEnd) (es : List Entry) → IsLeftAt e es → IsPrefixOf es e.history
-left_part e es left = by (left_of e es left)
-  where
-    by : IsLeftOf e.history e.logged es → IsPrefixOf es e.history
-    by (inl same) = (
-      drop e.logged e.history,
-      ap (λ (l : List Entry). l ++ drop e.logged e.history) same ∙ take-append-drop e.logged e.history,
-    )
-    by (inr more) = more.2
+pub left_part : (e : MemberEnd) (es : List Entry) → IsLeftOf e.history e.logged es → IsPrefixOf es e.history
+left_part e es (inl same) = (
+  drop e.logged e.history,
+  ap (λ (l : List Entry). l ++ drop e.logged e.history) same ∙ take-append-drop e.logged e.history,
+)
+left_part e es (inr more) = more.2
 
 -- and has all that is logged
 left_begins : (first : List Entry) (e : MemberEnd) (es : List Entry) → IsPrefixOf first (take e.logged e.history)
-    → IsLeftAt e es → IsPrefixOf first es
+    → IsLeftOf e.history e.logged es → IsPrefixOf first es
 left_begins first e es begins left =
-    prefix_then first (take e.logged e.history) es begins (by (left_of e es left))
+    prefix_then first (take e.logged e.history) es begins (by left)
   where
     by : IsLeftOf e.history e.logged es → IsPrefixOf (take e.logged e.history) es
     by (inl same) = ([], append-nil (take e.logged e.history) ∙ sym same)
@@ -84,11 +157,11 @@ pub record IsBehind (script : Script) (yard : YardState) (age : AgeEnd) (lists :
 
 pub found_left : (script : Script) (yard : YardState) (age : AgeEnd) (lists : List (List Entry))
     (votes : ℕ → List Vote) (m : ℕ) (e : MemberEnd) (es : List Entry) → (b : IsBehind script yard age lists votes)
-    → slice_get age.members m ≡ Some e → slice_get lists m ≡ Some es → IsLeftAt e es × (votes m ≡ b.is.votes m)
+    → slice_get age.members m ≡ Some e → slice_get lists m ≡ Some es → IsLeftBy e (b.is.votes m) es (votes m)
 found_left script yard age lists votes m e es b there here =
-    read_left (yard.told m) e es (votes m) (b.is.votes m)
+    read_left (yard.told m) e es (votes m) (b.is.votes m) (b.is.cast m)
     (b.tell m (omega (arith, slice_get_within age.members m e there, b.is.roster))) (b.found.each m es here)
-    (b.is.left m e there)
+    (omega (arith, b.is.few m, b.ranges.most_members)) (b.is.left m e there)
 
 leave_logs : (script : Script) (yard : YardState) (age : AgeEnd) (lists : List (List Entry))
     (votes : ℕ → List Vote) → IsBehind script yard age lists votes
@@ -97,10 +170,10 @@ leave_logs script yard age lists votes b = record {
   roster = b.is.roster ∙ sym b.ranges.lists;
   logs = b.found.all ∙ sym b.is.roster;
   each = λ m e es there here.
-      let left = (found_left script yard age lists votes m e es b there here).0 in
+      let left = (found_left script yard age lists votes m e es b there here).entries in
       record {
         begins = left_begins (first_entries (opening_of script age)) e es (b.is.opened m e there) left;
-        left = left_of e es left;
+        left = left;
       };
 }
 

@@ -9,3 +9,4 @@ mod Loans
 mod Played
 mod Runs
 mod Stopping
+mod Votes

@@ -1,8 +1,10 @@
 -- An age that was run over logs that were mounted and brought up to its start.
-use Rattle.std.proofs.Common.{◌≡◌, ◌⊎◌, refl, sym, ap, ◌∙◌, subst, ℕ, ◌+◌, ◌^◌, ◌<◌, inl, inr, arith, List, [], ◌∷◌, ◌++◌, length, take, drop, get_or, append-nil}
-use Rattle.std.specs.Prelude.{All, IfOk, OnErr, Option, None, Some, Result, Ok, Err, is_some, slice_get}
-use Rattle.std.proofs.lemmas.List.{take-append-drop, take_all, take_more}
-use Rattle.std.proofs.lemmas.Option.{slice_get-get_or, slice_get_within}
+use Rattle.std.proofs.Common.{◌≡◌, ◌⊎◌, refl, sym, ap, ◌∙◌, subst, ℕ, ◌+◌, ◌^◌, ◌<◌, inl, inr, arith, List, [], ◌++◌, length, take, get_or, append-nil}
+use Rattle.std.specs.Prelude.{All, IfOk, OnErr, Option, None, Some, Result, Ok, Err, is_some, option_map, slice_get}
+use Rattle.std.specs.Option.{option_map_or}
+use Rattle.std.proofs.lemmas.List.{append_cancel_left, take_all}
+use Rattle.std.proofs.lemmas.List.Elements.{All-nil}
+use Rattle.std.proofs.lemmas.Option.{slice_get-get_or, slice_get-map, slice_get_within}
 use Rattle.dr_complete.specs.Time.{HasTime}
 use Rattle.dr_disk.specs.Disk.{Told}
 use Rattle.dr_disk.specs.Images.{Goes, IsLeft}
@@ -12,11 +14,13 @@ use Rattle.dr_entry.specs.declared.end.End.{End}
 use Rattle.dr_entry.specs.declared.end.End.TheVariants as ends
 use Rattle.dr_entry.specs.declared.end.MemberEnd.{MemberEnd}
 use Rattle.dr_entry.specs.declared.entry.Entry.{Entry}
-use Rattle.dr_entry.specs.declared.entry.Entry.TheVariants.{View}
+use Rattle.dr_entry.specs.declared.record.Record.{Record}
 use Rattle.dr_entry.specs.declared.record.Vote.{Vote}
+use Rattle.dr_entry.specs.Spelling.{IsValidEntry}
 use Rattle.dr_gather.specs.CatchingUp.{opened_with}
 use Rattle.dr_gather.specs.Gathering.{IsStartOf, entries_on}
 use Rattle.dr_gather.proofs.Catching.{rose_since}
+use Rattle.dr_gather.proofs.Grouping.{start_group}
 use Rattle.dr_history.specs.Agreement.{EndsAgreed}
 use Rattle.dr_history.specs.History.{IsPrefixOf}
 use Rattle.dr_history.specs.Order.{first_entries}
@@ -24,10 +28,11 @@ use Rattle.dr_history_laws.proofs.Lists.{slice_get-some}
 use Rattle.dr_io.specs.Faults.{Rose}
 use Rattle.dr_log.specs.Standing.{IsBeforeOrAfter, LosesNone, StandsFor, block_length, log_length}
 use Rattle.dr_log.specs.State.{LogState}
-use Rattle.dr_logged.specs.Served.{HasCome, WentSo, next_record}
+use Rattle.dr_logged.specs.Served.{BrokeOff, HasCome, IsFull, IsNext, IsSafe, WentSo}
 use Rattle.dr_program.specs.declared.outcome.LogWhy.{LogWhy}
 use Rattle.dr_program.specs.declared.outcome.LogWhy.TheVariants as logs
-use Rattle.dr_program.specs.Program.{Program, age_of}
+use Rattle.dr_program.specs.Program.{Program, age_of, end_of}
+use Rattle.dr_program.specs.Running.{Running}
 use Rattle.dr_program_laws.specs.Ended.{AreComplete, HaveEnded}
 use Rattle.dr_program_laws.specs.Trusting.{NoneLeft, SuspectsNobody}
 use Rattle.dr_restart.specs.declared.start.Start.{Start}
@@ -35,13 +40,15 @@ use Rattle.dr_restart.specs.Groups.{group_of}
 use Rattle.dr_restart.specs.Setups.{crashes_of}
 use Rattle.dr_script.specs.declared.script.Script.{Script}
 use Rattle.dr_script.specs.Ranges.{HasRanges}
-use Rattle.dr_age.specs.Logged.{AreAsBefore, AreCalm, AreOpened, HaveCome, IsAmple, NoneFull, NoneStopped, why_ended}
+use Rattle.dr_age.specs.Logged.{AreAsBefore, AreCalm, AreOpened, HaveCome, HaveVoted, IsAmple, NoneFull, NoneStopped, why_ended}
+use Rattle.dr_age.proofs.Ends.{long_log}
 use Rattle.dr_threads.specs.Logs.{AreLonger}
 use Rattle.dr_yard.specs.Yards.{YardState}
 use Rattle.dr_ages.specs.declared.mode.Mode.{Mode}
 use Rattle.dr_ages.specs.declared.mode.Mode.TheVariants.{Sim, Run}
-use Rattle.dr_ages.specs.Ages.{IsAgeOf, IsPlayed, start_of}
-use Rattle.dr_ages.specs.Left.{HasLeft, IsFullAt, StandsAsLeft}
+use Rattle.dr_ages.specs.Ages.{IsAgeOf, IsPlayed, over_of, start_of, votes_of}
+use Rattle.dr_ages.specs.Found.{AreFew}
+use Rattle.dr_ages.specs.Left.{HasLeft, IsFullAt}
 use Rattle.dr_ages.specs.Lent.{AreMounted, IsMounted, with_logs}
 use Rattle.dr_ages.specs.Opened.{AreCaughtUp, AreLater, IsCaughtUp, IsLater}
 use Rattle.dr_ages.proofs.Backs.{faults_at, passed_with, told_at}
@@ -50,6 +57,7 @@ use Rattle.dr_ages.proofs.Chain.{passes_none}
 use Rattle.dr_ages.proofs.Fresh.{start_small}
 use Rattle.dr_ages.proofs.Loans.{are_found, votes_at, votes_on}
 use Rattle.dr_ages.proofs.Staying.{fewer_kept, lasts_left, later_then, left_so}
+use Rattle.dr_ages.proofs.Votes.{few_cast}
 
 -- logs that were all brought up to a start are those with which its age opens
 pub are_opened : {D : Type 0} (told : D → Option Told) (faults : D → ℕ) (script : Script) (start : Start)
@@ -71,11 +79,11 @@ are_opened told faults script start olds news lists all caught = record {
 -- ---- the logs go on
 
 come_on : {D : Type 0} (told : D → Option Told) (faults : D → ℕ) (base log : LogState D)
-    (history : List Entry) (logged : ℕ) (why : Option LogWhy)
-    → HasCome told faults base log history logged why → IsLater told faults base log
-come_on told faults base log history logged why come = record {
+    (history : List Entry) (logged : ℕ) (votes : List Vote) (why : Option LogWhy)
+    → HasCome told faults base log history logged votes why → IsLater told faults base log
+come_on told faults base log history logged votes why come = record {
   entries = (come.more.0, sym come.more.1);
-  votes = come.votes;
+  votes = (votes, sym come.voted);
   tells = goes_tells (told base.disk) (told log.disk) (λ s. LosesNone base.entries base.votes) come.moments;
   later = come.later;
   stays = λ es vs part kept left.
@@ -87,7 +95,8 @@ pub later_by_come : {D : Type 0} (told : D → Option Told) (faults : D → ℕ)
     → AreLater told faults olds news
 later_by_come told faults olds news members all come m old new there here =
     let e = slice_get-some members m (omega (arith, slice_get_within olds m old there, all)) in
-    come_on told faults old new e.0.history e.0.logged (why_ended e.0.end) (come m old new e.0 there here e.1)
+    let came = come m old new e.0 there here e.1 in
+    come_on told faults old new e.0.history e.0.logged came.0 (why_ended e.0.end) came.1
 
 later_by_calm : {D : Type 0} (told : D → Option Told) (faults : D → ℕ) (olds news : List (LogState D))
     → AreAsBefore olds news → AreCalm told faults olds news → AreLater told faults olds news
@@ -96,7 +105,7 @@ later_by_calm told faults olds news kept calm m old new there here =
     let still = calm m old new there here in
     record {
       entries = ([], append-nil old.entries ∙ sym is.entries);
-      votes = is.votes;
+      votes = ([], append-nil old.votes ∙ sym is.votes);
       tells = ap (λ o. is_some o) (sym still.0);
       later = omega (arith, still.1);
       stays = λ es vs part had left. subst (λ (o : Option Told). IsLeft o (LosesNone es vs)) (sym still.0) left;
@@ -108,7 +117,7 @@ later_by_longer told faults olds news longer m old new there here =
     let is = longer.each m old new there here in
     record {
       entries = (is.entries.0, sym is.entries.1);
-      votes = is.votes;
+      votes = (is.votes.0, sym is.votes.1);
       tells = tells is.moments;
       later = is.later;
       stays = λ es vs part kept left. stays es vs part kept left is.moments;
@@ -130,6 +139,12 @@ later_by_longer told faults olds news longer m old new there here =
         left_so (told new.disk) (LosesNone old.entries old.votes) (LosesNone es vs)
         (λ image. fewer_kept es old.entries vs old.votes image part kept)
         (Goes-last (told old.disk) (told new.disk) (LosesNone old.entries old.votes) goes)
+
+-- an age ran as its mode says, and the votes on its logs are those of its members
+abbrev pub RanWith : {D : Type 0} → Script → Start → ℕ → AgeEnd → Mode → List (LogState D) → List (LogState D)
+    → Type 0
+RanWith script start nth age mode olds news = (is : IsPlayed mode script start nth age)
+    × HaveVoted olds news (over_of mode script start nth age is).members
 
 -- what holds of the value of an answer
 pub ok_at : {X E : Type 0} (P : X → Type 0) (result : Result X E) (x : X) → result ≡ Ok x → IfOk result P → P x
@@ -162,55 +177,28 @@ by_disk (ends.LogFull len) e = absurd (cc)
 by_disk end e = absurd (cc)
 
 left_by : {D : Type 0} (tells : D → Option Told) (faults : D → ℕ) (base log : LogState D) (e : MemberEnd)
-    (votes : List Vote) → HasCome tells faults base log e.history e.logged (why_ended e.end)
-    → log.votes ≡ votes → HasLeft (tells log.disk) e votes
-left_by {D} tells faults base log e votes come kept = by (why_ended e.end) refl come.last
+    (found cast : List Vote) → HasCome tells faults base log e.history e.logged cast (why_ended e.end)
+    → log.votes ≡ found ++ cast → HasLeft (tells log.disk) e found cast
+left_by {D} tells faults base log e found cast come kept = by (why_ended e.end) refl come.last
   where
-    before : (image : List ℕ) → StandsFor image log.entries log.votes → StandsAsLeft e votes image
-    before image stands = record {
-      entries = log.entries;
-      stands = subst (λ (vs : List Vote). StandsFor image log.entries vs) kept stands;
-      left = inl come.entries;
-    }
+    safe : IsSafe tells log → HasLeft (tells log.disk) e found cast
+    safe is = inl (subst (λ (es : List Entry). IsLeft (tells log.disk) (λ image. StandsFor image es (found ++ cast)))
+        come.entries
+        (subst (λ (vs : List Vote). IsLeft (tells log.disk) (λ image. StandsFor image log.entries vs)) kept is))
 
-    after : e.end ≡ ends.DiskFault → e.logged < length e.history → (image : List ℕ)
-        → IsBeforeOrAfter log.entries log.votes (next_record e.history e.logged) image
-        → StandsAsLeft e votes image
-    after end more image (inl stands) = before image stands
-    after end more image (inr stands) =
-        let next : Entry = get_or e.history e.logged (View 0 0 0) in
-        let same : log.entries ++ next ∷ [] ≡ take e.logged e.history ++ next ∷ [] =
-        ap (λ (l : List Entry). l ++ next ∷ []) come.entries in
-        let front : log.entries ++ next ∷ [] ≡ take (e.logged + 1) e.history =
-        same ∙ sym (take_more e.history e.logged (View 0 0 0) more) in
-        record {
-          entries = log.entries ++ next ∷ [];
-          stands = subst (λ (vs : List Vote). StandsFor image (log.entries ++ next ∷ []) vs) kept stands;
-          left = inr (
-            end,
-            inr (
-              next,
-              same,
-              (
-                drop (e.logged + 1) e.history,
-                ap (λ (l : List Entry). l ++ drop (e.logged + 1) e.history) front
-                    ∙ take-append-drop (e.logged + 1) e.history,
-              ),
-            ),
-          );
-        }
-
-    by : (why : Option LogWhy) → why_ended e.end ≡ why → WentSo tells faults base log e.history e.logged why
-        → HasLeft (tells log.disk) e votes
-    by None is went =
-        left_so (tells log.disk) (λ image. StandsFor image log.entries log.votes) (StandsAsLeft e votes) before
-        went.1
-    by (Some (logs.LogFull len)) is went =
-        left_so (tells log.disk) (λ image. StandsFor image log.entries log.votes) (StandsAsLeft e votes) before
-        went.1.safe
-    by (Some logs.DiskFault) is went =
-        left_so (tells log.disk) (IsBeforeOrAfter log.entries log.votes (next_record e.history e.logged))
-        (StandsAsLeft e votes) (after (by_disk e.end is) went.0) went.1.left
+    by : (why : Option LogWhy) → why_ended e.end ≡ why → WentSo tells faults base log e.history e.logged cast why
+        → HasLeft (tells log.disk) e found cast
+    by None is went = safe went.1
+    by (Some (logs.LogFull len)) is went = safe went.2.safe
+    by (Some logs.DiskFault) is went = inr (record {
+      failed = by_disk e.end is;
+      next = went.0;
+      due = went.1;
+      left = subst (λ (es : List Entry). IsLeft (tells log.disk) (IsBeforeOrAfter es (found ++ cast) went.0))
+          come.entries
+          (subst (λ (vs : List Vote). IsLeft (tells log.disk) (IsBeforeOrAfter log.entries vs went.0)) kept
+          went.2.left);
+    })
 
 -- ---- the age
 
@@ -224,6 +212,7 @@ pub record WasPlayed {D : Type 0} (tells : D → Option Told) (faults : D → �
   pub small : start.age < 2 ^ 16
   pub caught : AreCaughtUp tells faults (opened_with start start.members) olds mids (length olds)
   pub run : IsPlayed mode script start nth age
+  pub voted : HaveVoted mids news (over_of mode script start nth age run).members
   pub agreed : EndsAgreed (group_of script start).opening age.members
   pub ended : HaveEnded (group_of script start).opening script.turns (crashes_of script.faults nth) age.members
   pub trusting : SuspectsNobody script → NoneLeft age.members
@@ -234,27 +223,27 @@ pub record WasPlayed {D : Type 0} (tells : D → Option Told) (faults : D → �
   pub count : length news ≡ length mids
   pub members : length age.members ≡ length mids
 
--- its end tells the entries of its start, and its number
+-- its end tells the entries of its start, its number, and how its members ended
 told_by : (mode : Mode) (script : Script) (start : Start) (nth : ℕ) (age : AgeEnd)
-    → IsPlayed mode script start nth age
-    → (p : Program) × (age ≡ age_of (group_of script start).opening p)
-told_by Sim script start nth age is = (is.1, is.4)
-told_by Run script start nth age is = (is.over, is.told)
+    → (is : IsPlayed mode script start nth age)
+    → age ≡ age_of (group_of script start).opening (over_of mode script start nth age is)
+told_by Sim script start nth age is = is.4
+told_by Run script start nth age is = is.told
 
 -- its start is the one that its end tells
 same_start : {D : Type 0} (tells : D → Option Told) (faults : D → ℕ) (script : Script) (mode : Mode) (nth : ℕ)
     (before : YardState) (start : Start) (olds mids news : List (LogState D)) (age : AgeEnd)
     → WasPlayed tells faults script mode nth before start olds mids news age → start ≡ start_of script age
 same_start tells faults script mode nth before start olds mids news age w = λ i. record {
-  age = sym (ap (λ (a : AgeEnd). a.age) (told_by mode script start nth age w.run).1) i;
+  age = sym (ap (λ (a : AgeEnd). a.age) (told_by mode script start nth age w.run)) i;
   members = w.starts.members i;
   present = w.starts.present i;
-  entries = sym (ap (λ (a : AgeEnd). a.start) (told_by mode script start nth age w.run).1) i;
+  entries = sym (ap (λ (a : AgeEnd). a.start) (told_by mode script start nth age w.run)) i;
 }
 
 -- a member of it, with its log
 record IsOf {D : Type 0} (tells : D → Option Told) (faults : D → ℕ) (whole : List Entry) (yard : YardState)
-    (olds mids news : List (LogState D)) (m : ℕ) (e : MemberEnd) : Type 0 where
+    (olds mids news : List (LogState D)) (m : ℕ) (e : MemberEnd) (cast : List Vote) : Type 0 where
   old : LogState D
   mid : LogState D
   new : LogState D
@@ -263,14 +252,15 @@ record IsOf {D : Type 0} (tells : D → Option Told) (faults : D → ℕ) (whole
   to : slice_get news m ≡ Some new
   mounted : IsMounted tells faults (yard.told m) (yard.faults m) old
   caught : IsCaughtUp tells faults whole old mid
-  come : HasCome tells faults mid new e.history e.logged (why_ended e.end)
+  come : HasCome tells faults mid new e.history e.logged cast (why_ended e.end)
 
 is_of : {D : Type 0} (tells : D → Option Told) (faults : D → ℕ) (script : Script) (mode : Mode) (nth : ℕ)
     (before : YardState) (start : Start) (olds mids news : List (LogState D)) (age : AgeEnd) (m : ℕ)
-    (e : MemberEnd) → WasPlayed tells faults script mode nth before start olds mids news age
+    (e : MemberEnd) → (w : WasPlayed tells faults script mode nth before start olds mids news age)
     → slice_get age.members m ≡ Some e
     → IsOf tells faults (opened_with start start.members) before olds mids news m e
-is_of tells faults script mode nth before start olds mids news age m e w at =
+    (votes_of (over_of mode script start nth age w.run) m)
+is_of {D} tells faults script mode nth before start olds mids news age m e w at =
     let within : m < length mids = omega (arith, slice_get_within age.members m e at, w.members) in
     let old = slice_get-some olds m (omega (arith, within, w.caught.all)) in
     let mid = slice_get-some mids m within in
@@ -284,8 +274,30 @@ is_of tells faults script mode nth before start olds mids news age m e w at =
       to = new.1;
       mounted = w.mounted m old.0 old.1;
       caught = w.caught.done m old.0 mid.0 (omega (arith, within, w.caught.all)) old.1 mid.1;
-      come = w.come m mid.0 new.0 e mid.1 new.1 at;
+      come = come mid.0 new.0 mid.1 new.1;
     }
+  where
+    over : Program
+    over = over_of mode script start nth age w.run
+
+    ends : slice_get age.members m ≡ option_map end_of (slice_get over.members m)
+    ends = ap (λ (a : AgeEnd). slice_get a.members m) (told_by mode script start nth age w.run)
+        ∙ slice_get-map end_of over.members m
+
+    -- the votes behind those that it had are those of its member
+    come : (mid new : LogState D) → slice_get mids m ≡ Some mid → slice_get news m ≡ Some new
+        → HasCome tells faults mid new e.history e.logged (votes_of over m) (why_ended e.end)
+    come mid new by to = at_member (slice_get over.members m) refl
+      where
+        at_member : (o : Option Running) → slice_get over.members m ≡ o
+            → HasCome tells faults mid new e.history e.logged
+            (option_map_or (λ (r : Running). r.replica.votes) o []) (why_ended e.end)
+        at_member None there = absurd (cc (sym at ∙ ends ∙ ap (option_map end_of) there))
+        at_member (Some r) there =
+            let came = w.come m mid new e by to at in
+            subst (λ (vs : List Vote). HasCome tells faults mid new e.history e.logged vs (why_ended e.end))
+            (append_cancel_left mid.votes came.0 r.replica.votes
+            (sym came.1.voted ∙ w.voted m mid new r by to there)) came.1
 
 pub is_age : {D : Type 0} (tells : D → Option Told) (faults : D → ℕ) (script : Script) (mode : Mode) (nth : ℕ)
     (before : YardState) (start : Start) (olds mids news : List (LogState D)) (age : AgeEnd)
@@ -298,19 +310,23 @@ is_age {D} tells faults script mode nth before start olds mids news age w = reco
   starts = subst (IsStartOf script (entries_on olds)) same w.starts;
   small = omega (arith, w.small, ap (λ (s : Start). s.age) same);
   roster = w.members ∙ (w.caught.all ∙ w.all);
-  run = subst (λ (s : Start). IsPlayed mode script s nth age) same w.run;
+  run = ran.0;
   agreed = subst (λ (s : Start). EndsAgreed (group_of script s).opening age.members) same w.agreed;
   ended = subst (λ (s : Start). HaveEnded (group_of script s).opening script.turns
       (crashes_of script.faults nth) age.members) same w.ended;
   trusting = w.trusting;
   complete = subst (λ (s : Start). mode ≡ Sim → HasTime script → NoneStopped age.members
       → AreComplete (group_of script s).opening age.members) same w.complete;
+  cast = cast;
+  own = ran.1;
+  few = few_cast mode script start nth age w.ranges
+      (start_group script (entries_on olds) start w.ranges.group w.small w.starts) w.run;
   opened = λ m e at. subst (λ (s : Start). IsPrefixOf (first_entries (group_of script s).opening)
       (take e.logged e.history)) same (opened m e at);
   left = left;
   failed = failed;
   full = full;
-  ample = λ none. w.ample (λ k d l. ample none k d l);
+  ample = λ few. w.ample (λ k d l. ample few k d l);
   passes = passed_with tells faults before before olds news w.mounted
       (later_on tells faults olds mids news w.caught.all
       (caught_later tells faults (opened_with start start.members) olds mids (length olds) w.caught)
@@ -324,8 +340,16 @@ is_age {D} tells faults script mode nth before start olds mids news age w = reco
     whole : List Entry
     whole = opened_with start start.members
 
+    cast : ℕ → List Vote
+    cast = votes_of (over_of mode script start nth age w.run)
+
+    ran : (is : IsPlayed mode script (start_of script age) nth age)
+        × ((m : ℕ) → cast m ≡ votes_of (over_of mode script (start_of script age) nth age is) m)
+    ran = subst (λ (s : Start). (is : IsPlayed mode script s nth age)
+        × ((m : ℕ) → cast m ≡ votes_of (over_of mode script s nth age is) m)) same (w.run, λ m. refl)
+
     one : (m : ℕ) (e : MemberEnd) → slice_get age.members m ≡ Some e
-        → IsOf tells faults whole before olds mids news m e
+        → IsOf tells faults whole before olds mids news m e (cast m)
     one m e at = is_of tells faults script mode nth before start olds mids news age m e w at
 
     opened : (m : ℕ) (e : MemberEnd) → slice_get age.members m ≡ Some e
@@ -337,51 +361,61 @@ is_age {D} tells faults script mode nth before start olds mids news age w = reco
           ap (λ (l : List Entry). l ++ x.come.more.0) (sym up) ∙ (sym x.come.more.1 ∙ x.come.entries),
         )
 
-    votes : (m : ℕ) (e : MemberEnd) (at : slice_get age.members m ≡ Some e) → (one m e at).new.votes ≡ votes_on olds m
+    votes : (m : ℕ) (e : MemberEnd) (at : slice_get age.members m ≡ Some e)
+        → (one m e at).new.votes ≡ votes_on olds m ++ cast m
     votes m e at =
         let x = one m e at in
-        x.come.votes ∙ (x.caught.0.votes ∙ sym (votes_at olds m x.old x.from))
+        x.come.voted
+        ∙ ap (λ (vs : List Vote). vs ++ cast m) (x.caught.0.votes ∙ sym (votes_at olds m x.old x.from))
 
     left : (m : ℕ) (e : MemberEnd) → slice_get age.members m ≡ Some e
-        → HasLeft ((with_logs tells faults before news).told m) e (votes_on olds m)
+        → HasLeft ((with_logs tells faults before news).told m) e (votes_on olds m) (cast m)
     left m e at =
         let x = one m e at in
-        subst (λ (o : Option Told). HasLeft o e (votes_on olds m)) (sym (told_at tells faults before news m x.new x.to))
-        (left_by tells faults x.mid x.new e (votes_on olds m) x.come (votes m e at))
+        subst (λ (o : Option Told). HasLeft o e (votes_on olds m) (cast m))
+        (sym (told_at tells faults before news m x.new x.to))
+        (left_by tells faults x.mid x.new e (votes_on olds m) (cast m) x.come (votes m e at))
 
     failed : (m : ℕ) (e : MemberEnd) → slice_get age.members m ≡ Some e → e.end ≡ ends.DiskFault
         → Rose (before.faults m) ((with_logs tells faults before news).faults m)
     failed m e at end =
         let x = one m e at in
-        let went : (e.logged < length e.history) × _ =
-        subst (λ (y : End). WentSo tells faults x.mid x.new e.history e.logged (why_ended y)) end x.come.last in
+        let went : (next : Record) × (IsNext e.history e.logged (cast m) next) × BrokeOff tells faults x.mid x.new next =
+        subst (λ (y : End). WentSo tells faults x.mid x.new e.history e.logged (cast m) (why_ended y)) end
+        x.come.last in
         subst (Rose (before.faults m)) (sym (faults_at tells faults before news m x.new x.to))
         (rose_since (before.faults m) (faults x.mid.disk) (faults x.new.disk)
-        (omega (arith, x.mounted.on.later, x.caught.0.later)) went.1.rose)
+        (omega (arith, x.mounted.on.later, x.caught.0.later)) went.2.rose)
 
     full : (m : ℕ) (e : MemberEnd) (len : ℕ) → slice_get age.members m ≡ Some e → e.end ≡ ends.LogFull len
-        → IsFullAt e (votes_on olds m) len
+        → IsFullAt e (votes_on olds m) (cast m) len
     full m e len at end =
         let x = one m e at in
-        let went : (e.logged < length e.history) × _ =
-        subst (λ (y : End). WentSo tells faults x.mid x.new e.history e.logged (why_ended y)) end x.come.last in
+        let went : (next : Record) × (IsNext e.history e.logged (cast m) next) × IsFull tells x.new len next =
+        subst (λ (y : End). WentSo tells faults x.mid x.new e.history e.logged (cast m) (why_ended y)) end
+        x.come.last in
         record {
-          long = went.1.length ∙ (ap (λ (l : List Entry). log_length l x.new.votes) x.come.entries
+          long = went.2.length ∙ (ap (λ (l : List Entry). log_length l x.new.votes) x.come.entries
               ∙ ap (log_length (take e.logged e.history)) (votes m e at));
-          over = subst (λ (n : ℕ). n < len + block_length (next_record e.history e.logged))
-              (x.come.limit ∙ (x.caught.0.limit ∙ x.mounted.limit)) went.1.over;
+          next = went.0;
+          due = went.1;
+          over = subst (λ (n : ℕ). n < len + block_length went.0)
+              (x.come.limit ∙ (x.caught.0.limit ∙ x.mounted.limit)) went.2.over;
         }
 
-    ample : ((m : ℕ) → m < script.members → votes_on olds m ≡ []) → (k : ℕ) (d : LogState D) → k < length mids
+    ample : ((m : ℕ) → m < script.members → AreFew (votes_on olds m)) → (k : ℕ) (d : LogState D) → k < length mids
         → IsAmple (group_of script start) (get_or mids k d)
-    ample none k d l =
+    ample few k d l =
         let old = slice_get-some olds k (omega (arith, l, w.caught.all)) in
         let up = w.caught.done k old.0 (get_or mids k d) (omega (arith, l, w.caught.all)) old.1
         (slice_get-get_or mids k d l) in
+        let votes = few k (omega (arith, l, w.caught.all, w.all)) in
         record {
-          votes = up.0.votes ∙ (sym (votes_at olds k old.0 old.1) ∙ none k (omega (arith, l, w.caught.all, w.all)));
           limit = omega (
             arith,
+            ap (log_length []) (up.0.votes ∙ sym (votes_at olds k old.0 old.1)),
+            long_log [] [] (votes_on olds k) (All-nil IsValidEntry) (λ k d l. (votes.valid k d l).members),
+            votes.few,
             up.0.limit,
             (w.mounted k old.0 old.1).limit,
             start_small script (entries_on olds) start w.ranges.group w.small w.starts,

@@ -139,7 +139,7 @@ pub later_same : {D : Type 0} (told : D → Option Told) (faults : D → ℕ) (l
     → IsLater told faults log log
 later_same told faults log = record {
   entries = ([], append-nil log.entries);
-  votes = refl;
+  votes = ([], append-nil log.votes);
   tells = refl;
   later = le_refl (faults log.disk);
   stays = λ es vs part kept left. left;
@@ -149,12 +149,12 @@ pub later_then : {D : Type 0} (told : D → Option Told) (faults : D → ℕ) (a
     → IsLater told faults a b → IsLater told faults b c → IsLater told faults a c
 later_then told faults a b c first next = record {
   entries = prefix_then a.entries b.entries c.entries first.entries next.entries;
-  votes = next.votes ∙ first.votes;
+  votes = prefix_then a.votes b.votes c.votes first.votes next.votes;
   tells = first.tells ∙ next.tells;
   later = omega (arith, first.later, next.later);
   stays = λ es vs part kept left.
       next.stays es vs (prefix_then es a.entries b.entries part first.entries)
-      (subst (λ (l : List Vote). IsPrefixOf vs l) (sym first.votes) kept) (first.stays es vs part kept left);
+      (prefix_then vs a.votes b.votes kept first.votes) (first.stays es vs part kept left);
 }
 
 -- the disk of a log that was mounted, and went on since

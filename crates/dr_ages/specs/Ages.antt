@@ -1,5 +1,6 @@
 -- The ages of a run.
-use Rattle.std.specs.Prelude.{◌≡◌, ℕ, ◌+◌, ◌-◌, ◌^◌, ◌<◌, List, [], ◌∷◌, length, slice_get, take, Some}
+use Rattle.std.specs.Prelude.{◌≡◌, ℕ, ◌+◌, ◌-◌, ◌^◌, ◌<◌, ◌≤◌, List, [], ◌∷◌, length, slice_get, take, Some}
+use Rattle.std.specs.Option.{option_map_or}
 use Rattle.dr_complete.specs.Time.{HasTime}
 use Rattle.dr_entry.specs.declared.end.AgeEnd.{AgeEnd}
 use Rattle.dr_entry.specs.declared.end.End.TheVariants.{DiskFault, LogFull}
@@ -12,6 +13,8 @@ use Rattle.dr_history.specs.Agreement.{EndsAgreed}
 use Rattle.dr_history.specs.History.{IsPrefixOf}
 use Rattle.dr_history.specs.Order.{first_entries}
 use Rattle.dr_io.specs.Faults.{Rose}
+use Rattle.dr_program.specs.Program.{Program}
+use Rattle.dr_program.specs.Running.{Running}
 use Rattle.dr_program_laws.specs.Ended.{AreComplete, HaveEnded}
 use Rattle.dr_program_laws.specs.Trusting.{NoneLeft, SuspectsNobody}
 use Rattle.dr_restart.specs.declared.start.Start.{Start}
@@ -24,7 +27,7 @@ use Rattle.dr_sim.specs.Simulated.{IsSimulated}
 use Rattle.dr_yard.specs.Yards.{YardState}
 use Rattle.dr_ages.specs.declared.mode.Mode.{Mode}
 use Rattle.dr_ages.specs.declared.mode.Mode.TheVariants.{Sim, Run}
-use Rattle.dr_ages.specs.Found.{AreFound}
+use Rattle.dr_ages.specs.Found.{AreFew, AreFound}
 use Rattle.dr_ages.specs.Left.{HasLeft, IsFullAt}
 use Rattle.dr_ages.specs.Passing.{PassOn}
 
@@ -47,6 +50,16 @@ abbrev pub IsPlayed : Mode → Script → Start → ℕ → AgeEnd → Type 0
 IsPlayed Sim script start nth age = IsSimulated script start nth age
 IsPlayed Run script start nth age = IsRun script start nth age
 
+-- the program as such an age ended
+abbrev pub over_of : (mode : Mode) (script : Script) (start : Start) (nth : ℕ) (age : AgeEnd)
+    → IsPlayed mode script start nth age → Program
+over_of Sim script start nth age is = is.1
+over_of Run script start nth age is = is.over
+
+-- the votes of a program's member of this number
+abbrev pub votes_of : Program → ℕ → List Vote
+votes_of p m = option_map_or (λ (r : Running). r.replica.votes) (slice_get p.members m) []
+
 -- this is age number nth of a run, from 0, over disks that were so before it and are so behind it
 pub record IsAgeOf (script : Script) (mode : Mode) (nth : ℕ) (before after : YardState) (age : AgeEnd) : Type 0 where
   -- it starts with what is found on the disks
@@ -63,19 +76,23 @@ pub record IsAgeOf (script : Script) (mode : Mode) (nth : ℕ) (before after : Y
   pub trusting : SuspectsNobody script → NoneLeft age.members
   pub complete : mode ≡ Sim → HasTime script → NoneStopped age.members
       → AreComplete (opening_of script age) age.members
+  -- its members cast these votes, each no more than there are members
+  pub cast : ℕ → List Vote
+  pub own : (m : ℕ) → cast m ≡ votes_of (over_of mode script (start_of script age) nth age run) m
+  pub few : (m : ℕ) → length (cast m) ≤ script.members
   -- each log begins with what every history of the age does
   pub opened : (m : ℕ) (e : MemberEnd) → slice_get age.members m ≡ Some e
       → IsPrefixOf (first_entries (opening_of script age)) (take e.logged e.history)
-  -- whatever a crash leaves of each disk is what its member may leave, with the votes that were found
+  -- whatever a crash leaves of each disk is what its member may leave, behind the votes that were found
   pub left : (m : ℕ) (e : MemberEnd) → slice_get age.members m ≡ Some e
-      → HasLeft (after.told m) e (votes m)
+      → HasLeft (after.told m) e (votes m) (cast m)
   -- who ends by its disk has one that failed, and who ends by a full log has one
   pub failed : (m : ℕ) (e : MemberEnd) → slice_get age.members m ≡ Some e → e.end ≡ DiskFault
       → Rose (before.faults m) (after.faults m)
   pub full : (m : ℕ) (e : MemberEnd) (len : ℕ) → slice_get age.members m ≡ Some e → e.end ≡ LogFull len
-      → IsFullAt e (votes m) len
-  -- logs without votes have room for all that an age may bring
-  pub ample : ((m : ℕ) → m < script.members → votes m ≡ []) → NoneFull age.members
+      → IsFullAt e (votes m) (cast m) len
+  -- logs with few votes have room for all that an age may bring
+  pub ample : ((m : ℕ) → m < script.members → AreFew (votes m)) → NoneFull age.members
   -- no disk has lost anything
   pub passes : PassOn before after
 

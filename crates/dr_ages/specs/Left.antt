@@ -1,32 +1,33 @@
 -- What the members of an age leave on their disks.
-use Rattle.std.specs.Prelude.{◌≡◌, ℕ, ◌+◌, ◌<◌, ◌⊎◌, List, take, Option}
+use Rattle.std.specs.Prelude.{◌≡◌, ℕ, ◌+◌, ◌<◌, ◌⊎◌, List, ◌++◌, take, Option}
 use Rattle.dr_disk.specs.Disk.{Told}
 use Rattle.dr_disk.specs.Images.{IsLeft}
 use Rattle.dr_entry.specs.declared.end.End.TheVariants.{DiskFault}
 use Rattle.dr_entry.specs.declared.end.MemberEnd.{MemberEnd}
-use Rattle.dr_entry.specs.declared.entry.Entry.{Entry}
+use Rattle.dr_entry.specs.declared.record.Record.{Record}
 use Rattle.dr_entry.specs.declared.record.Vote.{Vote}
-use Rattle.dr_log.specs.Standing.{StandsFor, block_length, log_length}
-use Rattle.dr_logged.specs.Left.{IsLeftOf}
-use Rattle.dr_logged.specs.Served.{next_record}
+use Rattle.dr_log.specs.Standing.{IsBeforeOrAfter, StandsFor, block_length, log_length}
+use Rattle.dr_logged.specs.Served.{IsNext}
 
--- entries that a member with this end may leave on its log: those that it has logged, and, where its disk
--- failed, maybe the next one of its history besides
-abbrev pub IsLeftAt : MemberEnd → List Entry → Type 0
-IsLeftAt e es = (es ≡ take e.logged e.history) ⊎ ((e.end ≡ DiskFault) × IsLeftOf e.history e.logged es)
+-- the disk of a member with this end failed: whatever a crash leaves has what the member has logged, behind the
+-- votes that were found those that it cast, or the next record besides, an entry of its history or a vote
+pub record HasBroken (told : Option Told) (e : MemberEnd) (found cast : List Vote) : Type 0 where
+  pub failed : e.end ≡ DiskFault
+  pub next : Record
+  pub due : IsNext e.history e.logged cast next
+  pub left : IsLeft told (IsBeforeOrAfter (take e.logged e.history) (found ++ cast) next)
 
--- bytes stand for such entries, and for these votes
-pub record StandsAsLeft (e : MemberEnd) (votes : List Vote) (image : List ℕ) : Type 0 where
-  pub entries : List Entry
-  pub stands : StandsFor image entries votes
-  pub left : IsLeftAt e entries
+-- whatever a crash leaves of a disk that tells this has just what a member with this end has logged, unless the
+-- disk failed
+abbrev pub HasLeft : Option Told → MemberEnd → List Vote → List Vote → Type 0
+HasLeft told e found cast =
+    IsLeft told (λ image. StandsFor image (take e.logged e.history) (found ++ cast))
+    ⊎ HasBroken told e found cast
 
--- whatever a crash leaves of a disk that tells this stands for what a member with this end may leave
-abbrev pub HasLeft : Option Told → MemberEnd → List Vote → Type 0
-HasLeft told e votes = IsLeft told (StandsAsLeft e votes)
-
--- a member with this end has a log of this length, and with the next entry of its history it would be longer
--- than a log may be
-pub record IsFullAt (e : MemberEnd) (votes : List Vote) (len : ℕ) : Type 0 where
-  pub long : len ≡ log_length (take e.logged e.history) votes
-  pub over : 2147483648 < len + block_length (next_record e.history e.logged)
+-- a member with this end has a log of this length, and with the next record, an entry of its history or a vote,
+-- it would be longer than a log may be
+pub record IsFullAt (e : MemberEnd) (found cast : List Vote) (len : ℕ) : Type 0 where
+  pub long : len ≡ log_length (take e.logged e.history) (found ++ cast)
+  pub next : Record
+  pub due : IsNext e.history e.logged cast next
+  pub over : 2147483648 < len + block_length next

@@ -23,12 +23,12 @@ pub record AreCaughtUp {D : Type 0} (told : D → Option Told) (faults : D → �
       → IsCaughtUp told faults whole old new
   pub others : (m : ℕ) → n ≤ m → slice_get news m ≡ slice_get olds m
 
--- a log has gone on since `old`: it has the entries that it had, and maybe more, and its votes. Its disk goes on
+-- a log has gone on since `old`: it has the entries and the votes that it had, and maybe more. Its disk goes on
 -- telling, or not telling, has counted no fewer faults, and what no crash would have lost of these none would
 -- lose now.
 pub record IsLater {D : Type 0} (told : D → Option Told) (faults : D → ℕ) (old new : LogState D) : Type 0 where
   pub entries : IsPrefixOf old.entries new.entries
-  pub votes : new.votes ≡ old.votes
+  pub votes : IsPrefixOf old.votes new.votes
   pub tells : is_some (told old.disk) ≡ is_some (told new.disk)
   pub later : faults old.disk ≤ faults new.disk
   pub stays : (es : List Entry) (vs : List Vote) → IsPrefixOf es old.entries → IsPrefixOf vs old.votes

@@ -1,6 +1,6 @@
 //! Runs ages one after the other.
 ghost use Rattle.std.specs.Prelude.{◌≡◌, ◌<◌, ℕ, All, IfErr, IfOk, false, length};
-ghost use Rattle.dr_age.specs.Logged.{AreOpened, HaveCome, IsAmple, NoneFull, NoneStopped};
+ghost use Rattle.dr_age.specs.Logged.{AreOpened, HaveCome, HaveVoted, IsAmple, NoneFull, NoneStopped};
 ghost use Rattle.dr_complete.specs.Time.{HasTime};
 ghost use Rattle.dr_entry.specs.declared.limits.TheConstants.{MAX_MEMBERS};
 ghost use Rattle.dr_history.specs.Agreement.{EndsAgreed};
@@ -12,7 +12,7 @@ ghost use Rattle.dr_restart.specs.Groups.{group_of};
 ghost use Rattle.dr_restart.specs.Setups.{crashes_of};
 ghost use Rattle.dr_script.specs.Ranges.{HasRanges};
 ghost use Rattle.dr_yard.specs.Yards.{YardState, state_by};
-ghost use Rattle.dr_ages.specs.Ages.{IsAgeOf, IsPlayed};
+ghost use Rattle.dr_ages.specs.Ages.{IsAgeOf, IsPlayed, over_of};
 ghost use Rattle.dr_ages.specs.Lent.{AreMounted, with_logs};
 ghost use Rattle.dr_ages.specs.Opened.{AreLater};
 ghost use Rattle.dr_ages.specs.Passing.{PassOn};
@@ -167,7 +167,9 @@ fn play_age<R: Threads + Sync, D: Disk, P: Pace + Sync>(
     requires ranges { HasRanges script.now }
     requires group { IsGroup (group_of script.now start.now) }
     requires logs { AreOpened (group_of script.now start.now) logs.items }
-    ensures run { IfOk result.0 (λ age. IsPlayed mode script.now start.now nth age) }
+    // The votes on the logs are those of the members.
+    ensures run { IfOk result.0 (λ age. (is : IsPlayed mode script.now start.now nth age)
+        × HaveVoted logs.items result.1.items (over_of mode script.now start.now nth age is).members) }
     ensures agreed { IfOk result.0 (λ age.
         EndsAgreed (group_of script.now start.now).opening age.members) }
     ensures ended { IfOk result.0 (λ age. HaveEnded (group_of script.now start.now).opening

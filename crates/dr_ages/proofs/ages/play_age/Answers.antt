@@ -5,9 +5,31 @@ use Rattle.std.specs.Prelude.{All}
 use Rattle.dr_age.specs.Logged.{HaveCome, IsAmple}
 use Rattle.dr_log.specs.State.{LogState}
 use Rattle.dr_restart.specs.Groups.{group_of}
+use Rattle.dr_ages.specs.declared.mode.Mode.{Mode}
 use Rattle.dr_ages.specs.Opened.{AreLater}
-use Rattle.dr_ages.proofs.Played.{later_by_come, later_by_longer, later_by_result}
+use Rattle.dr_ages.proofs.Played.{RanWith, later_by_come, later_by_longer, later_by_result}
 use Rattle.dr_ages.proofs.ages.play_age.Goals as goal
+
+pub returns-in-Sim-clause-run : goal.returns-in-Sim-clause-run
+returns-in-Sim-clause-run g c =
+    let items = with_items_is c.args.logs c.sim_age.new.logs
+    (c.sim_age.ensures.count ∙ c.as_mut_slice.ensures.len) in
+    IfOk-weaker c.sim_age.result _ _
+    (λ age so.
+    subst (λ (l : List (LogState g.row.D.Denot)).
+    RanWith c.args.script.now c.args.start.now c.args.nth age c.args.mode c.args.logs.items l) (sym items)
+    (subst (λ (l : List (LogState g.row.D.Denot)).
+    RanWith c.args.script.now c.args.start.now c.args.nth age c.args.mode l c.sim_age.new.logs)
+    c.as_mut_slice.ensures.value
+    (subst (λ (mode : Mode).
+    RanWith c.args.script.now c.args.start.now c.args.nth age mode c.as_mut_slice.result.now c.sim_age.new.logs)
+    (sym c.in-Sim.is) so)))
+    c.sim_age.ensures.voted
+
+pub returns-in-Ok-clause-run : goal.returns-in-Ok-clause-run
+returns-in-Ok-clause-run g c =
+    subst (λ (mode : Mode). RanWith c.args.script.now c.args.start.now c.args.nth c.in-Ok.age mode
+    c.args.logs.items c.in-Ok.logs.items) (sym c.in-Run.is) c.in-Ok.ensures.voted
 
 pub returns-in-Sim-clause-complete : goal.returns-in-Sim-clause-complete
 returns-in-Sim-clause-complete g c =

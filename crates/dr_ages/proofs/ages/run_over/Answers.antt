@@ -1,11 +1,12 @@
 use Rattle.std.proofs.Common.{◌∙◌, sym, ap, subst, length, List}
 use Rattle.std.specs.Prelude.{All}
 use Rattle.std.proofs.lemmas.List.{with_items_is}
-use Rattle.dr_age.specs.Logged.{AreOpened, HaveCome, IsAmple}
+use Rattle.dr_age.specs.Logged.{AreOpened, HaveCome, HaveVoted, IsAmple}
 use Rattle.dr_gather.specs.CatchingUp.{opened_with}
 use Rattle.dr_gather.specs.Gathering.{IsStartOf, entries_on}
 use Rattle.dr_log.specs.State.{LogState}
 use Rattle.dr_restart.specs.Groups.{group_of}
+use Rattle.dr_ages.specs.Ages.{over_of}
 use Rattle.dr_ages.specs.Lent.{AreMounted, with_logs}
 use Rattle.dr_ages.specs.Opened.{AreCaughtUp, AreLater}
 use Rattle.dr_ages.specs.Stops.{HasStopped}
@@ -53,6 +54,7 @@ returns-in-Ok-ended-clause-age g c before mounted =
     let ended = c.play_age-ended.result.0 in
     let age = c.in-Ok-ended.age in
     let is = c.in-Ok-ended.is in
+    let run = ok_at _ ended age is c.play_age-ended.ensures.run in
     is_age told faults script c.args.mode c.args.nth before start olds mids news age (record {
       ranges = c.requires.ranges;
       all = c.requires.all;
@@ -62,7 +64,9 @@ returns-in-Ok-ended-clause-age g c before mounted =
       small = c.in-Ok.ensures.small;
       caught = subst (λ (l : List (LogState g.row.D.Denot)). AreCaughtUp told faults
           (opened_with start start.members) l mids (length l)) value c.in-Ok.ensures.caught;
-      run = ok_at _ ended age is c.play_age-ended.ensures.run;
+      run = run.0;
+      voted = subst (λ (l : List (LogState g.row.D.Denot)).
+          HaveVoted l news (over_of c.args.mode script start c.args.nth age run.0).members) same run.1;
       agreed = ok_at _ ended age is c.play_age-ended.ensures.agreed;
       ended = ok_at _ ended age is c.play_age-ended.ensures.ended;
       trusting = ok_at _ ended age is c.play_age-ended.ensures.trusting;
