@@ -6,6 +6,8 @@ mod order;
 #[cfg(test)]
 mod outside;
 #[cfg(test)]
+mod proposals;
+#[cfg(test)]
 mod records;
 #[cfg(test)]
 mod rows_and_ring;

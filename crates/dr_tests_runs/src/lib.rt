@@ -8,3 +8,5 @@
 mod stopped;
 #[cfg(test)]
 mod tests;
+#[cfg(test)]
+mod votes;
