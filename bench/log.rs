@@ -16,7 +16,7 @@ const LIMIT: u64 = u64::MAX;
 
 fn log_of(records: u32) -> Result<Log, Fault> {
     let mut log = Log::mount(Disk::default(), LIMIT)?;
-    log.reserve(records as usize);
+    log.reserve(records as usize, 0);
     let record = message();
     for _ in 0..records {
         log.append(&record)?;

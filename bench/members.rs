@@ -98,6 +98,7 @@ fn report(group: &Group, text: &mut impl Write) -> io::Result<()> {
             Some(End::Done) => "done".to_owned(),
             Some(End::Suspected { by }) => format!("suspected {by}"),
             Some(End::NoMajority { members }) => format!("nomajority {}", listed(members)),
+            Some(End::Excluded { view }) => format!("excluded {view}"),
             Some(End::Spent { turns }) => format!("spent {turns}"),
         };
         let (history, logged, durable) = (&member.history, member.logged, member.durable);

@@ -56,7 +56,7 @@ impl Disk {
 pub struct Log {
     pub disk: Disk,
     pub entries: Vec<Entry>,
-    votes: Vec<Vote>,
+    pub votes: Vec<Vote>,
     len: u64,
     limit: u64,
 }
@@ -114,9 +114,10 @@ impl Log {
         })
     }
 
-    pub fn reserve(&mut self, entries: usize) {
+    pub fn reserve(&mut self, entries: usize, votes: usize) {
         self.entries.reserve(entries);
-        self.disk.bytes.reserve(74 * entries);
+        self.votes.reserve(votes);
+        self.disk.bytes.reserve(74 * (entries + votes));
     }
 
     pub fn append(&mut self, record: &Record) -> Result<(), Fault> {
@@ -133,7 +134,7 @@ impl Log {
         self.disk.sync()?;
         match record {
             Record::Entry(entry) => self.entries.push(entry.clone()),
-            Record::Vote(vote) => self.votes.push(vote.clone()),
+            Record::Vote(vote) => self.votes.push(*vote),
         }
         self.len += size;
         Ok(())

@@ -44,14 +44,20 @@ pub enum Entry {
     },
 }
 
-#[derive(Clone)]
+/// Who leaves a view, and how many items of each member are delivered before that.
+#[derive(Clone, Copy)]
+pub struct Value {
+    pub leavers: u16,
+    pub trim: [u32; MAX_MEMBERS],
+}
+
+#[derive(Clone, Copy)]
 pub struct Vote {
-    age: u16,
-    view: u8,
-    ballot: u8,
-    members: u8,
-    leavers: u16,
-    trim: [u32; MAX_MEMBERS],
+    pub age: u16,
+    pub view: u8,
+    pub ballot: u8,
+    pub members: u8,
+    pub value: Value,
 }
 
 pub enum Record {
@@ -166,9 +172,9 @@ impl Vote {
         let at = put(into, 0, &[VOTE]);
         let at = put(into, at, &self.age.to_be_bytes());
         let at = put(into, at, &[self.view, self.ballot]);
-        let at = put(into, at, &self.leavers.to_be_bytes());
+        let at = put(into, at, &self.value.leavers.to_be_bytes());
         let mut at = put(into, at, &[self.members]);
-        for count in &self.trim[..usize::from(self.members)] {
+        for count in &self.value.trim[..usize::from(self.members)] {
             at = put(into, at, &count.to_be_bytes());
         }
         at
@@ -192,8 +198,7 @@ impl Vote {
             view,
             ballot,
             members,
-            leavers,
-            trim,
+            value: Value { leavers, trim },
         };
         Some((Record::Vote(vote), 8 + 4 * count))
     }

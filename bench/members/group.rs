@@ -2,7 +2,7 @@
 
 use crate::file::{Disk, Fault, Log};
 use crate::member::{Deed, Member};
-use crate::records::{Entry, Message, Record, mixed};
+use crate::records::{Entry, Message, Record, Value, Vote, mixed};
 use crate::rows::Shape;
 
 /// The most bytes of a log.
@@ -106,18 +106,22 @@ impl Group {
         self.members.iter().map(|member| member.history.len()).sum()
     }
 
-    /// A number made of how each member ended, and of its history.
+    /// A number made of how each member ended, of its history, and of the votes on its log.
     pub fn checksum(&self) -> u64 {
-        self.members.iter().fold(0, |sum, member| {
-            let parts = [
-                member.history.len() as u64,
-                member.logged as u64,
-                member.durable as u64,
-                u64::from(member.turns),
-            ];
-            let sum = parts.into_iter().fold(sum, mixed);
-            member.history.iter().fold(sum, mixed_entry)
-        })
+        self.members
+            .iter()
+            .zip(&self.logs)
+            .fold(0, |sum, (member, log)| {
+                let parts = [
+                    member.history.len() as u64,
+                    member.logged as u64,
+                    member.durable as u64,
+                    u64::from(member.turns),
+                ];
+                let sum = parts.into_iter().fold(sum, mixed);
+                let sum = member.history.iter().fold(sum, mixed_entry);
+                log.votes.iter().fold(sum, mixed_vote)
+            })
     }
 }
 
@@ -125,7 +129,7 @@ impl Group {
 fn log_of(member: &Member) -> Log {
     fn made(member: &Member) -> Result<Log, Fault> {
         let mut log = Log::mount(Disk::default(), LOG_LIMIT)?;
-        log.reserve(member.room);
+        log.reserve(member.room, member.most_votes());
         for entry in &member.history {
             log.append(&Record::Entry(entry.clone()))?;
         }
@@ -147,15 +151,16 @@ fn step(member: &mut Member, table: &mut [u64], log: &mut Log) {
             table[index] = word;
             member.acted();
         }
-        Deed::Append(record) => append(member, log, &record),
+        Deed::Append => append(member, log),
         Deed::Rest => {}
     }
 }
 
-/// A member appends this record to its log.
+/// A member appends its next record to its log.
 #[inline(never)]
-fn append(member: &mut Member, log: &mut Log, record: &Record) {
-    log.append(record).expect("a file in memory never fails");
+fn append(member: &mut Member, log: &mut Log) {
+    let record = member.record();
+    log.append(&record).expect("a file in memory never fails");
     member.appended();
 }
 
@@ -170,8 +175,21 @@ fn mixed_entry(sum: u64, entry: &Entry) -> u64 {
         } => {
             let bytes = bytes.bytes();
             let first = bytes.first().map_or(0, |byte| u64::from(*byte));
-            let parts = [u64::from(*sender), u64::from(*index), bytes.len() as u64, first];
+            let parts = [
+                u64::from(*sender),
+                u64::from(*index),
+                bytes.len() as u64,
+                first,
+            ];
             parts.into_iter().fold(sum, mixed)
         }
     }
+}
+
+/// A vote counts by its ballot, its leavers and its trims.
+fn mixed_vote(sum: u64, vote: &Vote) -> u64 {
+    let Value { leavers, trim } = &vote.value;
+    let sum = mixed(mixed(sum, u64::from(vote.ballot)), u64::from(*leavers));
+    trim.iter()
+        .fold(sum, |sum, count| mixed(sum, u64::from(*count)))
 }

@@ -1,7 +1,8 @@
 //! A member of a group, with its place in its turn.
 
-use crate::records::{Entry, Message, Record};
+use crate::records::{Entry, MAX_MEMBERS, Message, Record, Value, Vote};
 use crate::rows::{BEAT, DONE, Item, LOGGED, RECEIVED, Rows, SUSPECTED, Shape};
+use std::iter;
 use std::sync::atomic::{AtomicU64, Ordering};
 
 /// The turn in which a member suspects those whom its script names.
@@ -20,6 +21,7 @@ pub enum End {
     Done,
     Suspected { by: usize },
     NoMajority { members: u16 },
+    Excluded { view: u8 },
     Spent { turns: u32 },
 }
 
@@ -28,7 +30,7 @@ pub enum Deed {
     Look(usize),
     Push(usize, u64),
     Act(usize, u64),
-    Append(Record),
+    Append,
     Rest,
 }
 
@@ -48,6 +50,10 @@ enum Place {
     Publish,
     Report,
     Mark,
+    Propose,
+    Accept,
+    Commit,
+    Excluded,
     Push { to: usize, column: usize },
     Done,
     Spent,
@@ -97,6 +103,9 @@ pub struct Member {
     /// its script.
     suspects: u16,
     scripted: u16,
+    /// The vote on its log that it has not yet acted on, and the value that it has committed.
+    pending: Option<Vote>,
+    pub committed: Option<Value>,
     counts: Vec<u32>,
     /// Item `k` of member `s` at `k` times the number of members plus `s`.
     items: Vec<Item>,
@@ -160,6 +169,8 @@ impl Member {
             view: (0..roster).collect(),
             suspects: 0,
             scripted,
+            pending: None,
+            committed: None,
             counts: vec![0; roster],
             items: vec![Item::Null; spots],
             front: Spot::FIRST,
@@ -189,12 +200,20 @@ impl Member {
                 let index = to * self.copy_words + self.rows.own_row + column;
                 Deed::Push(index, self.rows.own(column))
             }
-            Place::Append => Deed::Append(Record::Entry(self.history[self.logged].clone())),
+            Place::Append => Deed::Append,
             _ if self.end.is_some() => Deed::Rest,
             _ => Deed::Act(
                 self.own_copy + self.rows.own_row + BEAT,
                 self.acts.saturating_add(1),
             ),
+        }
+    }
+
+    /// What it appends: the next entry of its history, or where all are on its log its vote.
+    pub fn record(&self) -> Record {
+        match self.history.get(self.logged) {
+            Some(entry) => Record::Entry(entry.clone()),
+            None => Record::Vote(self.vote()),
         }
     }
 
@@ -230,8 +249,13 @@ impl Member {
     /// Goes on after an append.
     #[inline(never)]
     pub fn appended(&mut self) {
-        self.logged += 1;
-        self.place = self.seek_publish();
+        self.place = if self.logged < self.history.len() {
+            self.logged += 1;
+            self.seek_publish()
+        } else {
+            self.pending = Some(self.vote());
+            self.seek_propose()
+        };
     }
 
     /// Goes on after an act.
@@ -280,6 +304,15 @@ impl Member {
                 self.rows.set_own(DONE, 1);
                 self.seek_mark()
             }
+            Place::Propose | Place::Accept => {
+                self.accept();
+                self.seek_commit()
+            }
+            Place::Commit => {
+                self.committed = Some(self.shown(self.me));
+                self.seek_excluded()
+            }
+            Place::Excluded => self.halt(End::Excluded { view: 1 }),
             Place::Done => self.halt(End::Done),
             Place::Spent => self.halt(End::Spent { turns: self.turns }),
             place => place,
@@ -370,8 +403,44 @@ impl Member {
     fn seek_mark(&self) -> Place {
         if self.may_mark() {
             Place::Mark
+        } else if self.is_wedged() {
+            self.seek_vote()
         } else {
             self.seek_push(0)
+        }
+    }
+
+    // Votes are for those that are wedged. Out of line, they leave the others a short way to pushes.
+    #[inline(never)]
+    fn seek_vote(&self) -> Place {
+        if self.may_vote() {
+            Place::Append
+        } else {
+            self.seek_commit()
+        }
+    }
+
+    /// What it does with the vote that waits.
+    fn seek_propose(&self) -> Place {
+        if self.promise() == self.me {
+            Place::Propose
+        } else {
+            Place::Accept
+        }
+    }
+
+    fn seek_commit(&self) -> Place {
+        if self.may_commit() {
+            Place::Commit
+        } else {
+            self.seek_excluded()
+        }
+    }
+
+    fn seek_excluded(&self) -> Place {
+        match &self.committed {
+            Some(value) if has(value.leavers, self.me) => Place::Excluded,
+            _ => self.seek_push(0),
         }
     }
 
@@ -401,6 +470,14 @@ impl Member {
         self.members & !self.suspects
     }
 
+    fn unsuspected_rows(&self) -> impl DoubleEndedIterator<Item = usize> {
+        let unsuspected = self.unsuspected();
+        self.view
+            .iter()
+            .copied()
+            .filter(move |row| has(unsuspected, *row))
+    }
+
     fn unsuspected_others(&self) -> u16 {
         self.unsuspected() & !(1 << self.me)
     }
@@ -408,6 +485,11 @@ impl Member {
     /// Who suspects somebody does no more with items, and isn't done any more.
     fn is_wedged(&self) -> bool {
         self.suspects != 0
+    }
+
+    /// It votes at most once by the ballot of each member.
+    pub fn most_votes(&self) -> usize {
+        self.shape.members
     }
 
     fn has_majority(&self) -> bool {
@@ -494,12 +576,140 @@ impl Member {
         !self.is_wedged() && self.view.iter().all(|row| self.rows.seen(*row, DONE) == 1)
     }
 
+    /// The least member that it doesn't suspect: the one whose proposal it waits for.
+    fn promise(&self) -> usize {
+        self.unsuspected().trailing_zeros() as usize
+    }
+
+    /// The ballot that a row has accepted, plus 1; 0 where there is none.
+    fn tag(&self, row: usize) -> u8 {
+        self.rows.accepted(row, self.shape.leavers_column()).tag
+    }
+
+    /// The columns of the accept words.
+    fn accept_columns(&self) -> impl Iterator<Item = usize> {
+        let trims = self
+            .view
+            .iter()
+            .map(|sender| self.shape.trim_column(*sender));
+        iter::once(self.shape.leavers_column()).chain(trims)
+    }
+
+    fn may_vote(&self) -> bool {
+        self.committed.is_none()
+            && self.logged == self.history.len()
+            && (self.may_propose() || self.may_accept())
+    }
+
+    /// Whether it is the one that the unsuspected members wait for, and its rows show all that they have.
+    fn may_propose(&self) -> bool {
+        let shows_all = |row: &usize| {
+            let mut senders = self.view.iter();
+            senders.all(|sender| self.rows.is_final(*row, self.shape.recv_column(*sender)))
+                && self
+                    .accept_columns()
+                    .all(|column| usize::from(self.rows.accepted(*row, column).promise) == self.me)
+        };
+        self.promise() == self.me
+            && usize::from(self.tag(self.me)) != self.me + 1
+            && self.has_majority()
+            && self.unsuspected_rows().all(|row| shows_all(&row))
+    }
+
+    /// Whether the row of the member that it waits for shows the whole of a proposal that it hasn't
+    /// accepted.
+    fn may_accept(&self) -> bool {
+        let proposer = self.promise();
+        let tag = proposer as u8 + 1;
+        proposer != self.me
+            && self.tag(self.me) != tag
+            && self
+                .accept_columns()
+                .all(|column| self.rows.accepted(proposer, column).tag == tag)
+    }
+
+    /// The vote that it may log.
+    fn vote(&self) -> Vote {
+        let ballot = self.promise();
+        Vote {
+            age: 0,
+            view: 0,
+            ballot: ballot as u8,
+            members: self.shape.members as u8,
+            value: if ballot == self.me {
+                self.proposal()
+            } else {
+                self.shown(ballot)
+            },
+        }
+    }
+
+    /// The value of the highest tag in the rows of those that it doesn't suspect; where none has one, the
+    /// suspects leave, behind the items that all the others have.
+    fn proposal(&self) -> Value {
+        let rows = self.unsuspected_rows();
+        match rows.rev().max_by_key(|row| self.tag(*row)) {
+            Some(row) if self.tag(row) > 0 => self.shown(row),
+            _ => {
+                let mut trim = [0; MAX_MEMBERS];
+                for sender in &self.view {
+                    let column = self.shape.recv_column(*sender);
+                    let counts = self
+                        .unsuspected_rows()
+                        .map(|row| self.rows.seen(row, column) >> 1);
+                    trim[*sender] = counts.min().unwrap_or(0) as u32;
+                }
+                let leavers = self.suspects;
+                Value { leavers, trim }
+            }
+        }
+    }
+
+    /// The value that a row shows.
+    fn shown(&self, row: usize) -> Value {
+        let leavers = self.rows.accepted(row, self.shape.leavers_column()).value as u16;
+        let mut trim = [0; MAX_MEMBERS];
+        for sender in &self.view {
+            trim[*sender] = self
+                .rows
+                .accepted(row, self.shape.trim_column(*sender))
+                .value as u32;
+        }
+        Value { leavers, trim }
+    }
+
+    /// Whether most of the view have accepted what it has.
+    fn may_commit(&self) -> bool {
+        if self.committed.is_some() {
+            return false;
+        }
+        let own = self.tag(self.me);
+        own != 0 && {
+            let same = self.view.iter().filter(|row| self.tag(**row) == own);
+            2 * same.count() > self.view.len()
+        }
+    }
+
+    /// It accepts the value of the vote that waits.
+    fn accept(&mut self) {
+        if let Some(vote) = self.pending.take() {
+            let tag = vote.ballot + 1;
+            let leavers = u64::from(vote.value.leavers);
+            self.rows.accept(self.shape.leavers_column(), tag, leavers);
+            for sender in &self.view {
+                let count = u64::from(vote.value.trim[*sender]);
+                self.rows
+                    .accept(self.shape.trim_column(*sender), tag, count);
+            }
+        }
+    }
+
     /// One more is suspected: the recv words are final, and the accept words have the promise to the
     /// least member that isn't.
     fn suspect(&mut self, other: usize) {
         self.suspects |= 1 << other;
         self.rows.set_own(SUSPECTED, u64::from(self.suspects));
-        let promise = self.unsuspected().trailing_zeros();
+        let promise = self.promise() as u32;
         self.rows.promise(self.shape.leavers_column(), promise);
         for sender in &self.view {
             self.rows.finish(self.shape.recv_column(*sender));

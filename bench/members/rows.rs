@@ -10,8 +10,27 @@ pub const LOGGED: usize = 3;
 pub const DONE: usize = 4;
 /// The bit of a recv word that says that its count is final.
 const FINAL: u64 = 1;
-/// Where the promise of an accept word begins.
+/// Where the promise of an accept word begins, and where its tag.
 const PROMISE: u32 = 56;
+const TAG: u32 = 48;
+/// The parts of an accept word.
+#[derive(Clone, Copy)]
+pub struct Accept {
+    pub promise: u8,
+    pub tag: u8,
+    pub value: u64,
+}
+
+impl Accept {
+    fn of(word: u64) -> Accept {
+        Accept {
+            promise: (word >> PROMISE) as u8,
+            tag: (word >> TAG) as u8,
+            value: word & ((1 << TAG) - 1),
+        }
+    }
+}
+
 /// The head of a null; that of a message is its length.
 const NULL_MARK: u32 = u32::MAX;
 /// A head word and the words of the body.
@@ -119,6 +138,21 @@ impl Rows {
     pub fn promise(&mut self, column: usize, member: u32) {
         let word = &mut self.words[self.own_row + column];
         *word = u64::from(member) << PROMISE | *word & ((1 << PROMISE) - 1);
+    }
+
+    /// Puts a tag and a value into an own accept word.
+    pub fn accept(&mut self, column: usize, tag: u8, value: u64) {
+        let word = &mut self.words[self.own_row + column];
+        *word = *word >> PROMISE << PROMISE | u64::from(tag) << TAG | value;
+    }
+
+    pub fn accepted(&self, row: usize, column: usize) -> Accept {
+        Accept::of(self.seen(row, column))
+    }
+
+    /// Whether the count in a recv word is final.
+    pub fn is_final(&self, row: usize, column: usize) -> bool {
+        self.seen(row, column) & FINAL != 0
     }
 
     pub fn seen(&self, row: usize, column: usize) -> u64 {

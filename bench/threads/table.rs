@@ -159,8 +159,8 @@ fn turn<const SEQUENTIAL: bool>(member: &mut Member, table: &[AtomicU64], log: &
                 table[index].store(word, order(SEQUENTIAL));
                 member.acted();
             }
-            Deed::Append(record) => {
-                append(log, &record);
+            Deed::Append => {
+                append(log, &member.record());
                 member.appended();
             }
             Deed::Rest => {}
@@ -206,8 +206,8 @@ fn timed_turn<const SEQUENTIAL: bool>(
                 member.acted();
                 spent.acts += 1;
             }
-            Deed::Append(record) => {
-                append(log, &record);
+            Deed::Append => {
+                append(log, &member.record());
                 member.appended();
                 spent.appends += 1;
             }

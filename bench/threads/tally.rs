@@ -48,7 +48,7 @@ fn number_of(entry: &Entry) -> u64 {
 /// A log with the history that a member begins with, and with room for so many entries.
 pub fn log_with(history: &[Entry], room: usize) -> Log {
     let mut log = Log::mount(Disk::default(), LOG_LIMIT).expect("a file in memory never fails");
-    log.reserve(room);
+    log.reserve(room, 0);
     for entry in history {
         append(&mut log, &Record::Entry(entry.clone()));
     }

@@ -4,7 +4,7 @@
 mod members;
 
 use dr_script::Schedule;
-use members::{MEMBERS, MOST_SUSPECTED, members};
+use members::{MEMBERS, MOST_SUSPECTED, TURNS, WEDGED_TURNS, members};
 use std::process::ExitCode;
 use std::rt::Env;
 use std::{env, io};
@@ -15,7 +15,9 @@ const SEED: u64 = 7;
 fn main(rt: HostRuntime) -> io::Result<ExitCode> {
     let alloc = rt.alloc();
     let Some(task) = read_task(&rt)? else {
-        println!(rt; "usage: dr_bench_groups lockstep|seeded MESSAGES [SENDERS [SUSPECTED]]")?;
+        println!(rt;
+            "usage: dr_bench_groups lockstep|seeded MESSAGES [SENDERS [SUSPECTED [TURNS]]]"
+        )?;
         return Ok(ExitCode::from(2));
     };
     let name = match task.schedule {
@@ -27,6 +29,7 @@ fn main(rt: HostRuntime) -> io::Result<ExitCode> {
         task.messages,
         task.senders,
         task.suspected,
+        task.turns,
         task.schedule,
     )?;
     let count = tally.count;
@@ -45,6 +48,8 @@ struct Task {
     senders: u8,
     /// How many members are suspected: the last so many.
     suspected: u8,
+    /// The most turns of each member.
+    turns: u32,
 }
 
 /// The task in the words behind the program's name; `None` where they are none.
@@ -53,7 +58,8 @@ fn read_task(rt: &(impl Env + AllocGlobal)) -> io::Result<Option<Task>> {
     let (Some(schedule), Some(messages)) = (words.next(), words.next()) else {
         return Ok(None);
     };
-    let (senders, suspected, None) = (words.next(), words.next(), words.next()) else {
+    let (senders, suspected) = (words.next(), words.next());
+    let (turns, None) = (words.next(), words.next()) else {
         return Ok(None);
     };
     let schedule = match schedule.as_str() {
@@ -68,11 +74,15 @@ fn read_task(rt: &(impl Env + AllocGlobal)) -> io::Result<Option<Task>> {
     ) else {
         return Ok(None);
     };
+    let Some(turns) = read_turns(turns.as_deref(), suspected) else {
+        return Ok(None);
+    };
     Ok(Some(Task {
         schedule,
         messages,
         senders,
         suspected,
+        turns,
     }))
 }
 
@@ -92,4 +102,13 @@ fn read_suspected(word: Option<&str>) -> Option<u8> {
     };
     let suspected = word.parse().ok()?;
     (suspected <= MOST_SUSPECTED).then_some(suspected)
+}
+
+/// The most turns in a word; where there is no word, those of a group of which so many are suspected.
+fn read_turns(word: Option<&str>, suspected: u8) -> Option<u32> {
+    match word {
+        Some(word) => word.parse().ok(),
+        None if suspected == 0 => Some(TURNS),
+        None => Some(WEDGED_TURNS),
+    }
 }

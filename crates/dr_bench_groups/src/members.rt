@@ -3,8 +3,10 @@ ghost use Rattle.dr_script.specs.declared.script.Fault.{Fault};
 ghost use Rattle.dr_script.specs.declared.script.What.TheVariants.{Suspect};
 ghost use Rattle.dr_script.specs.Ranges.{HasRanges};
 
-use dr_entry::{AgeEnd, Entry, MAX_MESSAGE_LENGTH, MemberEnd, Message, Seq};
+use dr_disk::CalmDisk;
+use dr_entry::{AgeEnd, Entry, MAX_MESSAGE_LENGTH, MemberEnd, Message, Seq, Vote};
 use dr_fresh::logs_of;
+use dr_log::Log;
 use dr_restart::first_start;
 use dr_script::{Fault, Schedule, Script, What};
 use dr_sim::sim_age;
@@ -16,10 +18,10 @@ pub const MEMBERS: u8 = 16;
 const WINDOW: u8 = 8;
 
 /// The most turns that a member may take: so many that none comes to them.
-const TURNS: u32 = 1_000_000;
+pub const TURNS: u32 = 1_000_000;
 
 /// The most turns where members are suspected: those who suspect them take all of these.
-const WEDGED_TURNS: u32 = 2_000;
+pub const WEDGED_TURNS: u32 = 2_000;
 
 /// The turn in which member 0 suspects others.
 const SUSPICION_TURN: u32 = 2;
@@ -34,7 +36,8 @@ const MOST_MESSAGES: u32 = 4096;
 const LETTERS: &[u8] =
     b"abcdefghijklmnopqrstuvwxyzabcdefghijklmnopqrstuvwxyzabcdefghijklmnopqrstuvwxyzabcdefghijk";
 
-/// What came of a run: how many entries all histories have, and a number made of how the members ended.
+/// What came of a run: how many entries all histories have, and a number made of how the members ended
+/// and of their votes.
 #[derive(Clone, Copy, Debug, PartialEq, Eq)]
 pub struct Tally {
     pub count: u64,
@@ -43,22 +46,24 @@ pub struct Tally {
 
 /// Runs the largest group from its opening to the ends of all members, over logs in memory. The first
 /// `senders` of them have so many messages of 64 bytes each, the others none. Member 0 suspects the last
-/// `suspected` of them.
+/// `suspected` of them in turn 2. Each takes so many turns at most.
 #[inline(never)]
 pub fn members(
     alloc: Global,
     messages: u32,
     senders: u8,
     suspected: u8,
+    turns: u32,
     schedule: Schedule,
 ) -> Result<Tally, AllocError> {
     let messages = messages.min(MOST_MESSAGES);
     let suspected = suspected.min(MOST_SUSPECTED);
-    let script = script_of(alloc, messages, senders, suspected, schedule)?;
+    let turns = turns.max(SUSPICION_TURN).min(TURNS);
+    let script = script_of(alloc, messages, senders, suspected, turns, schedule)?;
     let start = first_start(alloc, &script);
     let mut logs = logs_of(alloc, &script, &start)?;
     let age = sim_age(alloc, &script, &start, 0, logs.as_mut_slice())?;
-    Ok(tally_of(&age))
+    Ok(tally_of(&age, &logs))
 }
 
 fn script_of(
@@ -66,16 +71,19 @@ fn script_of(
     messages: u32,
     senders: u8,
     suspected: u8,
+    turns: u32,
     schedule: Schedule,
 ) -> Result<Script, AllocError>
     requires messages { messages ≤ 4096 }
     requires suspected { suspected ≤ 7 }
+    requires turns { 2 ≤ turns }
+    requires most { turns ≤ 1000000 }
     ensures { IfOk result HasRanges }
 {
     Ok(Script {
         members: MEMBERS,
         window: WINDOW,
-        turns: if suspected == 0 { TURNS } else { WEDGED_TURNS },
+        turns,
         patience: 0,
         ages: 1,
         messages: Seq::of(lists_of(alloc, messages, senders)?),
@@ -158,16 +166,19 @@ fn message_of(bytes: &[u8]) -> Message
     Message::of(bytes).unwrap()
 }
 
-/// The entries of all histories, and a number made of how all members ended.
-fn tally_of(age: &AgeEnd) -> Tally {
+/// The entries of all histories, and a number made of how all members ended, and of their logs.
+fn tally_of(age: &AgeEnd, logs: &[Log<CalmDisk>]) -> Tally {
     let mut tally = Tally {
         count: 0,
         checksum: 0,
     };
-    for member in age.members.as_slice() {
+    for (member, log) in age.members.as_slice().iter().zip(logs) {
         let entries = member.history.as_slice();
         tally.count = tally.count.wrapping_add(entries.len() as u64);
         tally.checksum = mixed_member(tally.checksum, member);
+        for vote in log.votes() {
+            tally.checksum = mixed_vote(tally.checksum, vote);
+        }
     }
     tally
 }
@@ -199,6 +210,16 @@ fn mixed_entry(sum: u64, entry: &Entry) -> u64 {
             mixed(sum, bytes.first().map_or(0, |byte| u64::from(*byte)))
         }
     }
+}
+
+/// A vote counts by its ballot, its leavers and its trims.
+fn mixed_vote(sum: u64, vote: &Vote) -> u64 {
+    let mut sum = mixed(sum, u64::from(vote.ballot));
+    sum = mixed(sum, u64::from(vote.value.leavers));
+    for count in vote.value.trim {
+        sum = mixed(sum, u64::from(count));
+    }
+    sum
 }
 
 /// A number made of numbers, in their order.
