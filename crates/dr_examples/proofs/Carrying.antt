@@ -3,7 +3,7 @@ use Rattle.std.proofs.Common.{◌≡◌, sym, ap, ◌∙◌, subst, ℕ, ◌<◌
 use Rattle.std.specs.Prelude.{None, Some, slice_get, slice_set}
 use Rattle.std.proofs.lemmas.Option.{slice_get-get_or}
 use Rattle.dr_age.specs.Sound.{IsSound}
-use Rattle.dr_age.proofs.Deeds.{any_outcome, deed_tells}
+use Rattle.dr_age.proofs.Deeds.{after_append, any_outcome, deed_tells, stored_append}
 use Rattle.dr_entry.specs.declared.record.Record.{Record}
 use Rattle.dr_logged.specs.Served.{is_append}
 use Rattle.dr_machine.specs.Group.{Group}
@@ -104,5 +104,5 @@ pub appends : (g : Group) (p : Program) (m : ℕ) (r x : Running) (due : Record)
 appends g p m r x due is there next member =
     let t = deed_tells p.table r (deeds.Append due) next in
     moved_on g p m r x p.table is there t.none
-    (member 0 ∙ sym (ap (after_deed (next_sight p.table r) Ok r) t.says.0))
-    (sym (ap (stored p.table r.replica) t.says.0))
+    (member 0 ∙ sym (after_append (next_sight p.table r) Ok r (next_step r) t.says.0))
+    (sym (stored_append p.table r.replica (next_step r) t.says.0))
