@@ -1,6 +1,6 @@
 -- The round robin of a view: item 0 of each member by ascending rank, then item 1 of each, and so on.
 -- A rank is a member's position among the members of the view, and counts are listed by rank.
-use Rattle.std.specs.Prelude.{cond, ℕ, zero, suc, ◌+◌, ◌*◌, ◌/◌, ◌%◌, ◌<◌, ◌≤◌, Bool, not, nat_lt, max, List, length, slice_index, filter, fold}
+use Rattle.std.specs.Prelude.{cond, ℕ, zero, suc, ◌+◌, ◌-◌, ◌*◌, ◌/◌, ◌%◌, ◌<◌, ◌≤◌, Bool, not, nat_lt, max, List, length, slice_index, filter, fold}
 use Rattle.std.specs.List.{range_with_len}
 
 -- the place of item k of the member of this rank, where the view has so many ranks
@@ -25,6 +25,11 @@ is_held counts p = nat_lt (p / length counts) (slice_index counts (p % length co
 -- the places that hold an item, ascending
 unfoldable pub held_places : List ℕ → List ℕ
 held_places counts = filter (is_held counts) (range_with_len 0 (length counts * fold max 0 counts))
+
+-- those of them that are not below p, ascending: what a merge has left for who has come to place p
+unfoldable pub rest_places : List ℕ → ℕ → List ℕ
+rest_places counts p =
+    filter (is_held counts) (range_with_len p (length counts * fold max 0 counts - p))
 
 -- the least of the k numbers from n on that passes the test, and n + k where none does
 unfoldable pub first : (ℕ → Bool) → ℕ → ℕ → ℕ

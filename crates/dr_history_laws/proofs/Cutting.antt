@@ -1,5 +1,5 @@
 -- A view that ends with a cut: of each member so many of its first items, and no more.
-use Rattle.std.proofs.Common.{◌≡◌, ◌≢◌, refl, ap, sym, ◌∙◌, ◌⊎◌, inl, inr, subst, ℕ, ◌+◌, ◌/◌, ◌%◌, ◌==◌, ◌<◌, ◌≤◌, arith, Bool, true, false, nat_lt, List, [], ◌∷◌, ◌++◌, length, map, filter, filter_map, take, drop, Option, None, Some, slice_get, option_and_then, append-nil, append_assoc, take-append-drop, eq-eqb, ne_eqb, if◌then◌else◌}
+use Rattle.std.proofs.Common.{◌≡◌, ◌≢◌, refl, ap, sym, ◌∙◌, ◌⊎◌, inl, inr, subst, ℕ, ◌+◌, ◌/◌, ◌%◌, ◌==◌, ◌<◌, ◌≤◌, arith, Bool, true, false, nat_lt, List, [], ◌∷◌, ◌++◌, length, map, filter, filter_map, take, drop, Option, None, Some, slice_get, option_and_then, append-nil, append_assoc, take-append-drop, eq-eqb, ne_eqb, if◌then◌else◌, Contains}
 use Rattle.std.specs.List.{range_with_len}
 use Rattle.std.proofs.lemmas.Bool.{cases_eq}
 use Rattle.std.proofs.lemmas.List.{length-take}
@@ -11,8 +11,8 @@ use Rattle.dr_history.specs.declared.opening.Opening.{Opening}
 use Rattle.dr_history.specs.Places.{is_held, held_places, front_of}
 use Rattle.dr_history.specs.History.{IsPrefixOf, GroupView, Sent, messages_in, entry_of, item_at, merge}
 use Rattle.dr_history.specs.Order.{InOrder, MayFollow, messages_from}
-use Rattle.dr_history_laws.specs.Laid.{laid, entry_at, EndsWithView, GoesOn, SentMore}
-use Rattle.dr_history_laws.proofs.Lists.{slice_get-take, slice_get-prefix, take-prefix}
+use Rattle.dr_history_laws.specs.Laid.{laid, entry_at, EndsWithView, GoesOn, SentMore, SentMoreIn}
+use Rattle.dr_history_laws.proofs.Lists.{Contains-slice_get, slice_get-some, slice_get-take, slice_get-prefix, take-prefix}
 use Rattle.dr_history_laws.proofs.LooseOrder.{InLooseOrder, InLooseOrder-from}
 use Rattle.dr_history_laws.proofs.LaidLemmas.{laid-same}
 use Rattle.dr_history_laws.proofs.Steady.{InOrder-steady}
@@ -22,7 +22,7 @@ use Rattle.dr_history_laws.proofs.Merging.{CountsAll, is_held-member, top_place,
 use Rattle.dr_history_laws.proofs.Following.{InOrder-View, InLooseOrder-elsewhere}
 
 -- what was sent, with the items of a view cut behind those that are taken
-abbrev cut : Sent → GroupView → (ℕ → ℕ) → Sent
+abbrev pub cut : Sent → GroupView → (ℕ → ℕ) → Sent
 cut sent v taken s n = if n == v.number then take (taken s) (sent s n) else sent s n
 
 cut_here : (sent : Sent) (v : GroupView) (taken : ℕ → ℕ) (s : ℕ) → cut sent v taken s v.number
@@ -57,7 +57,7 @@ cut_item sent v taken s k l = ap (λ items. slice_get items k) (cut_here sent v 
     ∙ slice_get-take (taken s) (sent s v.number) k l
 
 -- its messages go on as well
-cut_goes_on : (o : Opening) (sent : Sent) (h : List Entry) (v : GroupView) (taken : ℕ → ℕ)
+pub cut_goes_on : (o : Opening) (sent : Sent) (h : List Entry) (v : GroupView) (taken : ℕ → ℕ)
     → GoesOn o sent h v
     → GoesOn o (cut sent v taken) h v
 cut_goes_on o sent h v taken goes = record {
@@ -78,7 +78,7 @@ cut_goes_on o sent h v taken goes = record {
         (omega (arith, slice_get_within (cut sent v taken s v.number) k (Index i) at)))
 
 -- and has no more items than are taken
-cut_counts : (sent : Sent) (v : GroupView) (taken : ℕ → ℕ) → CountsAll (cut sent v taken) v taken
+pub cut_counts : (sent : Sent) (v : GroupView) (taken : ℕ → ℕ) → CountsAll (cut sent v taken) v taken
 cut_counts sent v taken s member =
     omega (arith, ap length (cut_here sent v taken s), length-take (taken s) (sent s v.number))
 
@@ -95,7 +95,7 @@ filter_map-agree {X} {Y} f g test (x ∷ xs) same = by (test x) refl (filter_map
     by false e rest = rw e rest
 
 -- the item of a held place is not cut off
-cut_held : (sent : Sent) (v : GroupView) (taken : ℕ → ℕ) (q : ℕ) → is_held (map taken v.members) q
+pub cut_held : (sent : Sent) (v : GroupView) (taken : ℕ → ℕ) (q : ℕ) → is_held (map taken v.members) q
     ≡ true
     → item_at (cut sent v taken) v q ≡ item_at sent v q
 cut_held sent v taken q held = by (slice_get v.members (q % length v.members)) refl
@@ -112,14 +112,14 @@ cut_held sent v taken q held = by (slice_get v.members (q % length v.members)) r
     by None e = rw e refl
     by (Some s) e = rw (e, cut_item sent v taken s (q / length v.members) (less s e)) refl
 
-cut_entry : (o : Opening) (sent : Sent) (v : GroupView) (taken : ℕ → ℕ) (q : ℕ)
+pub cut_entry : (o : Opening) (sent : Sent) (v : GroupView) (taken : ℕ → ℕ) (q : ℕ)
     → is_held (map taken v.members) q ≡ true
     → entry_at o (cut sent v taken) v q ≡ entry_at o sent v q
 cut_entry o sent v taken q held =
     ap (option_and_then (λ t. entry_of o t.0 t.1)) (cut_held sent v taken q held)
 
 -- the merge of what is taken is all that is laid of what was cut
-cut_merge : (o : Opening) (sent : Sent) (v : GroupView) (taken : ℕ → ℕ)
+pub cut_merge : (o : Opening) (sent : Sent) (v : GroupView) (taken : ℕ → ℕ)
     → merge o sent v (map taken v.members) ≡ laid o (cut sent v taken) v (top_place (map taken v.members))
 unfolding held_places
 cut_merge o sent v taken =
@@ -170,3 +170,36 @@ merge-prefix o sent before v taken p below =
     same : laid o sent v p ≡ laid o (cut sent v taken) v p
     same = sym (laid-same o sent (cut sent v taken) v p
         (λ q l. cut_entry o sent v taken q (front_held (map taken v.members) q (omega (arith, l, below)))))
+
+-- the merge of what is taken stays when more is sent, where all that is taken was sent
+pub merge-steady : (o : Opening) (sent now : Sent) (v : GroupView) (taken : ℕ → ℕ)
+    → SentMoreIn v sent now
+    → ((s : ℕ) → Contains v.members s → taken s ≤ length (sent s v.number))
+    → merge o now v (map taken v.members) ≡ merge o sent v (map taken v.members)
+unfolding held_places
+merge-steady o sent now v taken more all =
+    filter_map-agree (entry_at o now v) (entry_at o sent v) (is_held (map taken v.members))
+    (range_with_len 0 (top_place (map taken v.members)))
+    (λ q held. ap (option_and_then (λ t. entry_of o t.0 t.1)) (same q held))
+  where
+    item : (q s : ℕ) → is_held (map taken v.members) q ≡ true
+        → slice_get v.members (q % length v.members) ≡ Some s
+        → slice_get (now s v.number) (q / length v.members)
+        ≡ slice_get (sent s v.number) (q / length v.members)
+    item q s held e =
+        let test : nat_lt (q / length v.members) (taken s)
+        ≡ true = sym (is_held-member taken v.members q s e) ∙ held in
+        let member = Contains-slice_get v.members (q % length v.members) s e in
+        let less : q / length v.members < taken s = grind (arith, test) in
+        let here = slice_get-some (sent s v.number) (q / length v.members)
+        (omega (arith, less, all s member)) in
+        slice_get-prefix (sent s v.number) (now s v.number) (q / length v.members) here.0 (more s member)
+        here.1 ∙ sym here.1
+
+    same : (q : ℕ) → is_held (map taken v.members) q ≡ true → item_at now v q ≡ item_at sent v q
+    same q held = by (slice_get v.members (q % length v.members)) refl
+      where
+        by : (z : Option ℕ) → slice_get v.members (q % length v.members) ≡ z
+            → item_at now v q ≡ item_at sent v q
+        by None e = rw e refl
+        by (Some s) e = rw (e, item q s held e) refl

@@ -1,6 +1,7 @@
 -- Entries that may stand are few, and so is a sound start: each age has at most 16 views, and each member no
 -- more messages than by the script.
 use Rattle.std.proofs.Common.{◌≡◌, ◌≢◌, refl, ap, sym, ◌∙◌, ◌⊎◌, inl, inr, subst, ℕ, zero, suc, ◌+◌, ◌*◌, ◌-◌, ◌^◌, ◌==◌, ◌<◌, ◌≤◌, arith, false, ne_eqb, List, [], ◌∷◌, ◌++◌, length, take, Contains, Option, None, Some, IsSomeAnd, length-append}
+use Rattle.std.proofs.Math.Nat.{suc-mul}
 use Rattle.std.proofs.lemmas.List.{take_all}
 use Rattle.std.proofs.lemmas.List.FromFn.{length-range_with_len}
 use Rattle.std.proofs.lemmas.Option.{same_Some}
@@ -21,16 +22,11 @@ use Rattle.dr_history_laws.proofs.Openings.{numbered_stood}
 -- ---- messages
 
 -- how many messages of the senders below n the entries have
-messages_below : ℕ → List Entry → ℕ
+pub messages_below : ℕ → List Entry → ℕ
 messages_below zero h = 0
 messages_below (suc n) h = messages_below n h + length (messages_from n h)
 
-messages_below-none : (n : ℕ) → messages_below n [] ≡ 0
-unfolding messages_below
-messages_below-none zero = refl
-messages_below-none (suc n) = rw (messages_below-none n) refl
-
-messages_below-View : (n : ℕ) (h : List Entry) (a k m : ℕ) → messages_below n (h ++ View a k m ∷ [])
+pub messages_below-View : (n : ℕ) (h : List Entry) (a k m : ℕ) → messages_below n (h ++ View a k m ∷ [])
     ≡ messages_below n h
 unfolding messages_below
 messages_below-View zero h a k m = refl
@@ -46,7 +42,7 @@ messages_below-above (suc n) s h i b l =
     rw (messages_below-above n s h i b (omega arith), messages_from-other n h s i b apart) refl
 
 -- one of these senders
-messages_below-Msg : (n s : ℕ) (h : List Entry) (i : ℕ) (b : List ℕ) → s < n
+pub messages_below-Msg : (n s : ℕ) (h : List Entry) (i : ℕ) (b : List ℕ) → s < n
     → messages_below n (h ++ Msg s i b ∷ []) ≡ messages_below n h + 1
 unfolding messages_below
 messages_below-Msg zero s h i b l = absurd (omega arith)
@@ -67,11 +63,12 @@ messages_below-Msg (suc n) s h i b l = by (cases l) (messages_below-Msg n s h i 
         (rw (messages_below-above n n h i b (omega arith), messages_from-Msg n h i b)
         (omega (arith, length-append (messages_from n h) (Msg n i b ∷ []))))
 
-messages_below-few : (n : ℕ) (h : List Entry) → ((s : ℕ) → length (messages_from s h) ≤ 4096)
-    → messages_below n h ≤ n * 4096
+pub messages_below-most : (n most : ℕ) (h : List Entry) → ((s : ℕ) → length (messages_from s h) ≤ most)
+    → messages_below n h ≤ n * most
 unfolding messages_below
-messages_below-few zero h few = omega arith
-messages_below-few (suc n) h few = omega (arith, messages_below-few n h few, few n)
+messages_below-most zero most h few = omega arith
+messages_below-most (suc n) most h few =
+    omega (arith, messages_below-most n most h few, few n, suc-mul n most)
 
 -- ---- views
 
@@ -203,7 +200,7 @@ stood-short o es stand one most few = by (view_of es) refl
         )
 
     messages : messages_below 16 es ≤ 16 * 4096
-    messages = messages_below-few 16 es each
+    messages = messages_below-most 16 4096 es each
 
     by : (z : Option GroupView) → view_of es ≡ z → length es ≤ 16 * next_age (view_of es) + 16 * 4096
     by None e = omega (arith, whole.short, ap worth e, messages)

@@ -1,4 +1,5 @@
 pub mod Counting
+pub mod Courses
 pub mod Cutting
 pub mod Following
 pub mod Indices
@@ -14,7 +15,10 @@ pub mod Keeping
 pub mod Parts
 pub mod Places
 pub mod Pushing
+pub mod Resting
 pub mod SendingLemmas
 pub mod Standing
+pub mod Quiet
+pub mod Sizes
 pub mod Steady
 pub mod Views

@@ -54,7 +54,7 @@ is_held-member counts ms q s e =
     ap (nat_lt (q / length ms)) (count-rank counts ms (q % length ms) s e)
 
 -- a place that isn't held by such counts has no item
-not_held-none : (sent : Sent) (v : GroupView) (counts : ℕ → ℕ) (q : ℕ) → CountsAll sent v counts
+pub not_held-none : (sent : Sent) (v : GroupView) (counts : ℕ → ℕ) (q : ℕ) → CountsAll sent v counts
     → is_held (map counts v.members) q ≡ false
     → item_at sent v q ≡ None
 not_held-none sent v counts q all gap = by (slice_get v.members (q % length v.members)) refl
@@ -117,7 +117,7 @@ none_above sent v counts q all l = by (item_at sent v q) refl
     by (Some (s, item)) e = absurd (no s item e)
 
 -- so nothing is laid there
-laid_past : (o : Opening) (sent : Sent) (v : GroupView) (counts : ℕ → ℕ) (p : ℕ)
+pub laid_past : (o : Opening) (sent : Sent) (v : GroupView) (counts : ℕ → ℕ) (p : ℕ)
     → CountsAll sent v counts
     → top_place (map counts v.members) ≤ p → laid o sent v p
     ≡ laid o sent v (top_place (map counts v.members))

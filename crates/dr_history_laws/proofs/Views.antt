@@ -83,7 +83,7 @@ View-later h from i j a n m b l k rise from_i less at_i at_j =
     (rise j b l k (omega arith) at_j r.0 (ap (λ z. view_of (take z h)) (sym place) ∙ r.1))
 
 -- so a View of an age and a number stands at one position
-View-once : (h : List Entry) (i j age number m n : ℕ) → ViewsRise 0 h → slice_get h i
+pub View-once : (h : List Entry) (i j age number m n : ℕ) → ViewsRise 0 h → slice_get h i
     ≡ Some (View age number m)
     → slice_get h j ≡ Some (View age number n) → i ≡ j
 View-once h i j age number m n rise at_i at_j = by (apart i j)

@@ -1,3 +1,4 @@
 pub mod Laid
+pub mod Courses
 pub mod Remaining
 pub mod Parts

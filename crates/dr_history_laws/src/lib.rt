@@ -12,6 +12,6 @@ mod restarting;
 mod sending;
 
 pub use laying::{laying_laws, merge_laws};
-pub use order::{agreement_law, opening_laws, order_laws, view_laws};
+pub use order::{agreement_law, course_laws, opening_laws, order_laws, rest_law, view_laws};
 pub use restarting::{restarting_laws, standing_laws};
 pub use sending::sending_laws;
