@@ -1,2 +1,2 @@
 mod Fronts
-mod Merges
+pub mod Merges

@@ -1,12 +1,12 @@
 -- Places that hold an item: none after a round without one, and the list of all of them.
-use Rattle.std.proofs.Common.{◌≡◌, ℕ, zero, suc, ◌+◌, ◌-◌, ◌*◌, ◌/◌, ◌%◌, ◌^◌, ◌<◌, ◌≤◌, ◌⊎◌, inl, inr, Bool, true, false, cond, List, [], ◌∷◌, Some, length, slice_index, max, fold, filter, arith, le_refl, sym, subst, refl}
+use Rattle.std.proofs.Common.{◌≡◌, ℕ, zero, suc, ◌+◌, ◌-◌, ◌*◌, ◌/◌, ◌%◌, ◌^◌, ◌<◌, ◌≤◌, ◌⊎◌, inl, inr, Bool, true, false, cond, List, [], ◌∷◌, None, Some, length, slice_index, max, fold, filter, arith, le_refl, sym, subst, refl}
 use Rattle.std.specs.List.{range_with_len}
 use Rattle.std.specs.List.Sorted.{IsStrictlyIncreasing}
 use Rattle.std.proofs.lemmas.List.FromFn.{length-range_with_len, get_or-range_with_len}
 use Rattle.std.proofs.lemmas.List.Kept.{IsStrictlyIncreasing-filter}
 use Rattle.std.proofs.lemmas.Nat.{mod_below, div-add-mod', le-div}
-use Rattle.std.proofs.Math.Nat.{add-mul-div_right, add-mul-mod_self_right}
-use Rattle.dr_history.specs.Places.{is_held, held_places}
+use Rattle.std.proofs.Math.Nat.{add-mul-div_right, add-mul-mod_self_right, mul_comm}
+use Rattle.dr_history.specs.Places.{is_held, held_places, rest_places}
 use Rattle.dr_history.proofs.Fronts.{count_max}
 use Rattle.dr_order.specs.Merge.{IsNextHeld, AreTaken}
 
@@ -164,6 +164,33 @@ AreTaken-held_places counts places some = (
   where
     past : (p : ℕ) → 0 + length counts * fold max 0 counts ≤ p → is_held counts p ≡ false
     past p above = not_held_above counts (fold max 0 counts) p some (count_max counts 0) (omega arith)
+
+-- and those from a later place on are the rest of them
+pub AreTaken-rest_places : (counts places : List ℕ) (from : ℕ) → 0 < length counts
+    → (AreTaken counts from places → places ≡ rest_places counts from)
+    × (places ≡ rest_places counts from → AreTaken counts from places)
+unfolding rest_places
+AreTaken-rest_places counts places from some = (
+  λ t. taken_is counts (length counts * fold max 0 counts - from) from places past t,
+  λ e. subst (λ (ps : List ℕ). AreTaken counts from ps) (sym e)
+      (is_taken counts (length counts * fold max 0 counts - from) from past),
+)
+  where
+    past : (p : ℕ) → from + (length counts * fold max 0 counts - from) ≤ p → is_held counts p ≡ false
+    past p above = not_held_above counts (fold max 0 counts) p some (count_max counts 0)
+        (omega (arith, above, mul_comm (fold max 0 counts) (length counts)))
+
+-- the next place that holds an item is the first of the rest
+pub rest_places-next : (counts : List ℕ) (from p : ℕ) → 0 < length counts
+    → IsNextHeld counts from (Some p) → rest_places counts from ≡ p ∷ rest_places counts (p + 1)
+rest_places-next counts from p some next =
+    let behind = (AreTaken-rest_places counts (rest_places counts (p + 1)) (p + 1) some).1 refl in
+    sym ((AreTaken-rest_places counts (p ∷ rest_places counts (p + 1)) from some).0 (next, behind))
+
+-- and where there is none, nothing is left
+pub rest_places-none : (counts : List ℕ) (from : ℕ) → 0 < length counts
+    → IsNextHeld counts from None → rest_places counts from ≡ []
+rest_places-none counts from some none = sym ((AreTaken-rest_places counts [] from some).0 none)
 
 -- a range rises
 IsStrictlyIncreasing-range_with_len : (from len : ℕ) → IsStrictlyIncreasing (range_with_len from len)

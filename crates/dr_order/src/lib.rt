@@ -7,7 +7,7 @@
 ghost use Rattle.std.specs.List.{IsFirstBest};
 ghost use Rattle.std.specs.List.Sorted.{IsStrictlyIncreasing};
 ghost use Rattle.std.specs.Prelude.{nat_lt, ◌≡◌, ◌<◌, ◌≤◌, ◌^◌, ◌/◌, ◌↔◌, ℕ, List, length, slice_index, IsTrue, Any};
-ghost use Rattle.dr_history.specs.Places.{place_of, IsFront, front_of, is_held, held_places};
+ghost use Rattle.dr_history.specs.Places.{place_of, IsFront, front_of, is_held, held_places, rest_places};
 ghost use Rattle.dr_order.specs.Merge.{IsNextHeld, AreTaken};
 
 use dr_entry::MAX_MEMBERS;
@@ -103,9 +103,11 @@ pub fn front_law()
 
 /// The law of [`merge_next`]. Taken again and again, first from place 0 and then each time from
 /// behind the place that it gave, until it gives none, it gives exactly the places that hold an
-/// item, each once, ascending.
+/// item, each once, ascending. Taken so from a later place on, it gives the rest of them.
 pub fn merge_law()
     ensures held { (counts places : List ℕ) → 0 < length counts
         → AreTaken counts 0 places ↔ (places ≡ held_places counts) }
+    ensures rest { (counts places : List ℕ) (from : ℕ) → 0 < length counts
+        → AreTaken counts from places ↔ (places ≡ rest_places counts from) }
     ensures once { (counts : List ℕ) → IsStrictlyIncreasing (held_places counts) }
 {}
