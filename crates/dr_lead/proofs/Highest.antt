@@ -2,7 +2,7 @@
 use Rattle.std.proofs.Common.{◌≡◌, ℕ, ◌+◌, ◌<◌, ◌≤◌, true, Option, None, Some, MatchOption, ◌⊎◌, inl, inr, refl, arith}
 use Rattle.std.proofs.lemmas.Bool.{cases_lt}
 use Rattle.dr_history.specs.Members.{has}
-use Rattle.dr_lead.proofs.Below.{below_or_last}
+use Rattle.dr_trim.proofs.Below.{below_or_last}
 use Rattle.dr_words.specs.Masks.{IsInRoster}
 use Rattle.dr_rows.specs.Words.{Words}
 use Rattle.dr_lead.specs.Accepts.{tag_of}

@@ -1,5 +1,2 @@
-mod Below
-mod Filled
 mod Highest
-mod Least
 mod Tagged

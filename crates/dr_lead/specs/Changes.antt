@@ -19,14 +19,6 @@ IsUntagged rows of = changes.IsUntagged rows.members (seen rows) of
 abbrev pub IsHighest : Words → ℕ → ℕ → Type 0
 IsHighest rows of i = changes.IsHighest rows.members (seen rows) of i
 
--- how many items of a sender the owner of a row has received
-abbrev pub received : Words → ℕ → ℕ → ℕ
-received rows i sender = changes.received (seen rows) i sender
-
--- the least count of a sender in the rows of these members
-abbrev pub IsLeastReceived : Words → ℕ → ℕ → ℕ → Type 0
-IsLeastReceived rows of sender count = changes.IsLeastReceived (seen rows) of sender count
-
 -- the value of a member that sees no proposal
 abbrev pub IsFirstValue : Words → Standing → Value → Type 0
 IsFirstValue rows s v = changes.IsFirstValue (seen rows) s.members s.suspects v

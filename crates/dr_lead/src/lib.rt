@@ -8,7 +8,6 @@ mod accepts;
 mod commit;
 mod propose;
 mod standing;
-mod trim;
 
 pub use accept::{promised_value, try_accept};
 pub use commit::try_commit;

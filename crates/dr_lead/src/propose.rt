@@ -9,10 +9,10 @@ ghost use Rattle.dr_lead.specs.Standings.{IsStanding, unsuspected};
 
 use crate::Standing;
 use crate::accepts::{all_promise, promise, shown, tag};
-use crate::trim::trim_of;
 use dr_entry::{MAX_MEMBERS, Value};
 use dr_pred::{AllFinal, Watch};
 use dr_rows::Rows;
+use dr_trim::trim_of;
 use dr_words::{Mask, Shape};
 
 /// The value that the member proposes now by its own ballot. Where unsuspected rows show proposals, it is
@@ -111,6 +111,6 @@ fn first_value(rows: &Rows, s: &Standing) -> Value
 {
     Value {
         leavers: s.suspects.bits(),
-        trim: trim_of(rows, &s.shape, s.unsuspected(), s.me, s.members),
+        trim: trim_of(rows, &s.shape, s.unsuspected(), s.members),
     }
 }

@@ -28,7 +28,7 @@ pub(crate) fn words_of(rows: &Rows, members: Mask, column: usize) -> ArrayVec<u6
 
 /// The least of the words that the rows of these members have in a column; `None` where there are no
 /// members.
-pub(crate) fn least_word(rows: &Rows, members: Mask, column: usize) -> Option<u64>
+pub fn least_word(rows: &Rows, members: Mask, column: usize) -> Option<u64>
     requires most { rows.now.members ≤ MAX_MEMBERS }
     requires roster { IsInRoster rows.now.members members }
     requires column { column < rows.now.columns }

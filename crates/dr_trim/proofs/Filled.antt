@@ -2,7 +2,7 @@
 use Rattle.std.proofs.Common.{◌≡◌, ℕ, ◌+◌, ◌<◌, true, false, ◌⊎◌, inl, inr, List, length, slice_index, slice_set, subst, sym, ◌∙◌, arith}
 use Rattle.std.proofs.lemmas.List.{get_or-set_same, get_or-set_other, length-set}
 use Rattle.dr_history.specs.Members.{has}
-use Rattle.dr_lead.proofs.Below.{below_or_last}
+use Rattle.dr_trim.proofs.Below.{below_or_last}
 
 -- each member below this one has a number as it is to be, and whoever is no member has 0
 pub record IsFilledTo (P : ℕ → ℕ → Type 0) (of n : ℕ) (xs : List ℕ) : Type 0 where

@@ -1,8 +1,8 @@
 use Rattle.std.proofs.Common.{sym, ◌∙◌}
-use Rattle.dr_lead.specs.Changes.{IsLeastReceived}
-use Rattle.dr_lead.proofs.Filled.{filled_more, filled_past}
-use Rattle.dr_lead.proofs.trim.trim_of.Goals as goal
-use Rattle.dr_lead.proofs.trim.trim_of.Goals.{then-has, else-has}
+use Rattle.dr_trim.specs.Trims.{IsLeastReceived}
+use Rattle.dr_trim.proofs.Filled.{filled_more, filled_past}
+use Rattle.dr_trim.proofs.trim.trim_of.Goals as goal
+use Rattle.dr_trim.proofs.trim.trim_of.Goals.{then-has, else-has}
 
 pub loop-sender-preserved : goal.loop-sender-preserved
 loop-sender-preserved c = elim c.if-has.branch [
