@@ -8,8 +8,8 @@ use Rattle.dr_machine.specs.declared.event.Event.{Event}
 use Rattle.dr_machine.specs.Events.{member_of, step_of}
 use Rattle.dr_machine.specs.Group.{Group}
 use Rattle.dr_machine.specs.World.{World}
-use Rattle.dr_machine.specs.Guards.{CanBeat, CanLook, CanPush, CanSend, CanNull, CanReceive, CanDeliver, CanAppend, CanPublish, CanReport, CanMark, CanSuspect, CanLogVote, CanPropose, CanAccept, CanCommit, CanHalt, CanCrash}
-use Rattle.dr_machine.specs.Effects.{stamped, beats, looks, pushes, sends, nulls, receives, delivers, appends, publishes, reports, marks, suspects, logs_vote, accepts, commits, ends}
+use Rattle.dr_machine.specs.Guards.{CanBeat, CanLook, CanPush, CanSend, CanNull, CanReceive, CanDeliver, CanAppend, CanPublish, CanReport, CanMark, CanSuspect, CanLogVote, CanPropose, CanAccept, CanCommit, CanHalt, CanCrash, CanFinish}
+use Rattle.dr_machine.specs.Effects.{beats, looks, pushes, sends, nulls, receives, delivers, appends, publishes, reports, marks, suspects, logs_vote, accepts, commits, ends, stamped_in, finishes}
 
 -- the act may come
 abbrev pub CanDo : Group → World → ℕ → Act → Type 0
@@ -25,6 +25,7 @@ CanDo g w m (acts.Suspect j) = CanSuspect g w m j
 CanDo g w m acts.Propose = CanPropose g w m
 CanDo g w m acts.Accept = CanAccept g w m
 CanDo g w m acts.Commit = CanCommit g w m
+CanDo g w m acts.Finish = CanFinish g w m
 CanDo g w m (acts.Halt end) = CanHalt g w m end
 CanDo g w m (acts.Crash end) = CanCrash g w m end
 
@@ -54,12 +55,13 @@ does g w m (acts.Suspect j) = suspects g w m j
 does g w m acts.Propose = accepts g w m
 does g w m acts.Accept = accepts g w m
 does g w m acts.Commit = commits w m
+does g w m acts.Finish = finishes g w m
 does g w m (acts.Halt end) = ends w m end
 does g w m (acts.Crash end) = ends w m end
 
--- what a step makes of it
+-- what a step makes of it. An act is stamped in the view in which it was done
 abbrev pub effect_of : Group → World → ℕ → Step → World
-effect_of g w m (steps.Do a) = stamped (does g w m a) m
+effect_of g w m (steps.Do a) = stamped_in (does g w m a) m (w.past.view m)
 effect_of g w m (steps.Look i c) = looks w m i c
 effect_of g w m (steps.Push j c) = pushes w m j c
 effect_of g w m steps.Append = appends w m

@@ -1,17 +1,17 @@
 -- What each event makes of the world.
 use Rattle.std.specs.Prelude.{ℕ, ◌%◌, ◌+◌, ◌-◌, ◌^◌, ◌==◌, ◌&&◌, ◌||◌, nat_le, nat_lt, min, true, false, Bool, if◌then◌else◌, List, [], ◌∷◌, ◌++◌, length, map, fold, take, drop, slice_index, slice_index_or, unwrap_or, None, Some}
 use Rattle.dr_entry.specs.declared.entry.Entry.{Entry}
-use Rattle.dr_entry.specs.declared.entry.Entry.TheVariants.{Msg}
+use Rattle.dr_entry.specs.declared.entry.Entry.TheVariants.{View, Msg}
 use Rattle.dr_entry.specs.declared.entry.Item.{Item}
 use Rattle.dr_entry.specs.declared.entry.Item.TheVariants.{Null, Text}
 use Rattle.dr_entry.specs.declared.end.End.{End}
+use Rattle.dr_entry.specs.declared.record.Value.{Value}
 use Rattle.dr_entry.specs.declared.end.SentItem.{SentItem}
 use Rattle.dr_entry.specs.declared.end.SentItem.TheVariants as sent_items
 use Rattle.dr_entry.specs.declared.end.SentItem.TheVariants.{Index}
-use Rattle.dr_entry.specs.declared.record.Value.{Value}
 use Rattle.dr_entry.specs.declared.record.Vote.{Vote}
 use Rattle.dr_history.specs.Members.{has}
-use Rattle.dr_history.specs.Places.{front_of}
+use Rattle.dr_history.specs.Places.{front_of, rest_places}
 use Rattle.dr_history.specs.History.{messages_of}
 use Rattle.dr_history.specs.Order.{messages_from}
 use Rattle.dr_ring.specs.Pieces.{pieces}
@@ -24,7 +24,7 @@ use Rattle.dr_words.specs.Packing.{ring_word, recv_count, recv_word, accept_prom
 use Rattle.dr_machine.specs.Writes.{at, at₂, at₃, at₄}
 use Rattle.dr_machine.specs.Group.{Group, roster}
 use Rattle.dr_machine.specs.Votes.{vote_in}
-use Rattle.dr_machine.specs.World.{World, no_vote, own_word, count_of, shown, view_members, item_at_place}
+use Rattle.dr_machine.specs.World.{World, no_vote, own_word, count_of, shown, view_members, item_at_place, no_value}
 use Rattle.dr_machine.specs.Guards.{next_index, seen_slot}
 
 -- one more, and at most the greatest number of so many bits
@@ -35,16 +35,21 @@ one_more bits n = min (n + 1) (2 ^ bits - 1)
 abbrev pub with_own : World → ℕ → ℕ → ℕ → World
 with_own w m c v = record w { past = record w.past { own = at₃ w.past.own m (w.past.view m) c v } }
 
--- an act of m: the number of acts rises by one, and the own beat word takes it and is stored in m's own copy
-abbrev pub stamped : World → ℕ → World
-stamped w m =
+-- an act of m in the view v: the number of acts rises by one, and the own beat word of that view takes it and
+-- is stored in m's own copy
+abbrev pub stamped_in : World → ℕ → ℕ → World
+stamped_in w m v =
     let acts = one_more 64 (w.past.acts m) in record w {
       past = record w.past {
         acts = at w.past.acts m acts;
-        own = at₃ w.past.own m (w.past.view m) BEAT_COLUMN acts;
+        own = at₃ w.past.own m v BEAT_COLUMN acts;
       };
-      table = at₄ w.table (w.past.view m) m m BEAT_COLUMN acts;
+      table = at₄ w.table v m m BEAT_COLUMN acts;
     }
+
+-- in the view that m is in
+abbrev pub stamped : World → ℕ → World
+stamped w m = stamped_in w m (w.past.view m)
 
 abbrev pub beats : World → ℕ → World
 beats w m = record w { turns = at w.turns m (one_more 32 (w.turns m)) }
@@ -113,12 +118,16 @@ entries_of history s (Text bytes) = Msg s (length (messages_from s history)) byt
 abbrev pub sender_at : World → ℕ → ℕ → ℕ
 sender_at w m p = let ms = view_members w m in slice_index ms (p % length ms)
 
+-- a history, and behind it what the item that m has at a place of its view adds to it
+abbrev pub with_place : World → ℕ → List Entry → ℕ → List Entry
+with_place w m history p =
+    history ++ entries_of history (sender_at w m p) (item_at_place w m p)
+
 abbrev pub delivers : World → ℕ → World
 delivers w m =
-    let history = w.past.history m in record w {
+    record w {
       past = record w.past {
-        history = at w.past.history m
-            (history ++ entries_of history (sender_at w m (w.next m)) (item_at_place w m (w.next m)));
+        history = at w.past.history m (with_place w m (w.past.history m) (w.next m));
       };
       next = at w.next m (w.next m + 1);
     }
@@ -217,6 +226,49 @@ accepts g w m =
 
 abbrev pub commits : World → ℕ → World
 commits w m = record w { committed = at w.committed m (Some (w.value m)) }
+
+-- the value that m has committed
+abbrev pub committed_value : World → ℕ → Value
+committed_value w m = unwrap_or (w.committed m) no_value
+
+-- how many items a value gives to each member of m's view, by rank
+abbrev pub counts_by : World → ℕ → Value → List ℕ
+counts_by w m value = map (λ s. slice_index value.trim s) (view_members w m)
+
+-- the history of m as it ends its view with a value: the rest of the merge is delivered, place by place, and
+-- behind it stands the View of those that remain
+abbrev pub finished_history : Group → World → ℕ → Value → List Entry
+finished_history g w m value =
+    fold (with_place w m) (w.past.history m) (rest_places (counts_by w m value) (w.next m))
+    ++ View g.opening.age (w.past.view m + 1) (without (w.members m) value.leavers) ∷ []
+
+-- m ends its view with a value, and goes on in the next one, where all is as at the beginning of a view: it
+-- suspects nobody, has accepted and committed nothing, and has no items and no words of others. Its own
+-- words, counts and sent items of that view are none yet, as it has never written there. It puts its
+-- messages from the first one on that its history lacks
+abbrev pub finishes_by : Group → World → ℕ → Value → World
+finishes_by g w m value =
+    let v = w.past.view m + 1 in
+    let history = finished_history g w m value in record w {
+      past = record w.past {
+        view = at w.past.view m v;
+        own = at₃ w.past.own m v LOGGED_COLUMN (length (w.past.log m));
+        history = at w.past.history m history;
+      };
+      members = at w.members m (without (w.members m) value.leavers);
+      suspects = at w.suspects m 0;
+      promise = at w.promise m 0;
+      tag = at w.tag m 0;
+      value = at w.value m no_value;
+      committed = at w.committed m None;
+      item = at w.item m (λ s k. Null);
+      next = at w.next m 0;
+      base = at w.base m (length (messages_from m history));
+      seen = at w.seen m (λ i c. 0);
+    }
+
+abbrev pub finishes : Group → World → ℕ → World
+finishes g w m = finishes_by g w m (committed_value w m)
 
 abbrev pub ends : World → ℕ → End → World
 ends w m end = record w { end = at w.end m (Some end) }

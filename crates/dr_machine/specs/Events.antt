@@ -4,7 +4,7 @@ use Rattle.dr_machine.specs.declared.event.Act.TheVariants as acts
 use Rattle.dr_machine.specs.declared.step.Step.{Step}
 use Rattle.dr_machine.specs.declared.step.Step.TheVariants as steps
 use Rattle.dr_machine.specs.declared.event.Event.{Event}
-use Rattle.dr_machine.specs.declared.event.Event.TheVariants.{Beat, Look, Push, Send, Null, Receive, Deliver, Append, Publish, Report, Mark, Suspect, LogVote, Propose, Accept, Commit, Halt, Crash}
+use Rattle.dr_machine.specs.declared.event.Event.TheVariants.{Beat, Look, Push, Send, Null, Receive, Deliver, Append, Publish, Report, Mark, Suspect, LogVote, Propose, Accept, Commit, Halt, Crash, Finish}
 
 -- the member that an event is of
 abbrev pub member_of : Event → ℕ
@@ -24,6 +24,7 @@ member_of (LogVote m v) = m
 member_of (Propose m) = m
 member_of (Accept m) = m
 member_of (Commit m) = m
+member_of (Finish m) = m
 member_of (Halt m end) = m
 member_of (Crash m end) = m
 
@@ -45,6 +46,7 @@ step_of (LogVote m v) = steps.LogVote v
 step_of (Propose m) = steps.Do acts.Propose
 step_of (Accept m) = steps.Do acts.Accept
 step_of (Commit m) = steps.Do acts.Commit
+step_of (Finish m) = steps.Do acts.Finish
 step_of (Halt m end) = steps.Do (acts.Halt end)
 step_of (Crash m end) = steps.Do (acts.Crash end)
 
@@ -62,6 +64,7 @@ event_of m (steps.Do (acts.Suspect j)) = Suspect m j
 event_of m (steps.Do acts.Propose) = Propose m
 event_of m (steps.Do acts.Accept) = Accept m
 event_of m (steps.Do acts.Commit) = Commit m
+event_of m (steps.Do acts.Finish) = Finish m
 event_of m (steps.Do (acts.Halt end)) = Halt m end
 event_of m (steps.Do (acts.Crash end)) = Crash m end
 event_of m (steps.Look i c) = Look m i c

@@ -1,5 +1,5 @@
 -- When each event may come.
-use Rattle.std.specs.Prelude.{◌≡◌, ◌≢◌, ⊤, ℕ, ◌+◌, ◌-◌, ◌<◌, ◌≤◌, ◌⊎◌, true, false, length, None, Some}
+use Rattle.std.specs.Prelude.{◌≡◌, ◌≢◌, ⊤, ℕ, ◌+◌, ◌-◌, ◌<◌, ◌≤◌, ◌⊎◌, true, false, length, None, Some, slice_index}
 use Rattle.dr_entry.specs.declared.limits.TheConstants.{MAX_MEMBERS}
 use Rattle.dr_entry.specs.declared.end.End.{End}
 use Rattle.dr_entry.specs.declared.end.End.TheVariants.{Done, Crashed, Suspected, Excluded, NoMajority, DiskFault, LogFull, Spent}
@@ -15,7 +15,7 @@ use Rattle.dr_words.specs.Changes.{IsProposal, MayAccept, MayCommit, MayPropose}
 use Rattle.dr_words.specs.Columns.{recv_column}
 use Rattle.dr_words.specs.Masks.{IsMajorityOf, without}
 use Rattle.dr_words.specs.Packing.{recv_count}
-use Rattle.dr_machine.specs.Group.{Group, IsPresent, roster, columns}
+use Rattle.dr_machine.specs.Group.{Group, IsPresent, banks, roster, columns}
 use Rattle.dr_machine.specs.World.{World, own_word, count_of, shown}
 
 -- m is there, and has no end
@@ -128,6 +128,16 @@ pub record CanSuspect (g : Group) (w : World) (m j : ℕ) : Type 0 where
   pub may : MayChoose g w m
   pub other : IsOther w m j
   pub unsuspected : has (w.suspects m) j ≡ false
+
+-- m may end its view with the value that it has committed, by which it stays, and go on in the next one. The
+-- table has a bank for it, and m has the items that are still to be delivered
+pub record CanFinish (g : Group) (w : World) (m : ℕ) : Type 0 where
+  pub may : MayChoose g w m
+  pub value : Value
+  pub committed : w.committed m ≡ Some value
+  pub stays : has value.leavers m ≡ false
+  pub bank : w.past.view m + 1 < banks g
+  pub items : (s : ℕ) → has (w.members m) s ≡ true → slice_index value.trim s ≤ count_of w m s
 
 -- the members of m's view that it doesn't suspect, itself among them, as a mask
 abbrev pub unsuspected_of : World → ℕ → ℕ

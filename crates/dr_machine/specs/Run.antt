@@ -25,6 +25,15 @@ Run g w (e ∷ es) after = (mid : World) × Happens g w e mid × Run g mid es af
 abbrev pub IsReached : Group → World → Type 0
 IsReached g w = (es : List Event) × Run g (opening_world g) es w
 
+-- the world after these events, where this holds of each world that one of them comes upon
+abbrev pub RunWhere : Group → (World → Type 0) → World → List Event → World → Type 0
+RunWhere g P w [] after = after ≡ w
+RunWhere g P w (e ∷ es) after = P w × (mid : World) × Happens g w e mid × RunWhere g P mid es after
+
+-- the world comes of some such events from the opening on
+abbrev pub IsReachedWhere : Group → (World → Type 0) → World → Type 0
+IsReachedWhere g P w = (es : List Event) × RunWhere g P (opening_world g) es w
+
 -- what each member has done
 abbrev pub accounts_in : World → Accounts
 accounts_in w m = record {
@@ -48,6 +57,7 @@ NoLaterItem g w = (m s part : ℕ) → IsPresent g m → IsOther w m s → part 
 
 -- what only grows has grown, or is as before
 pub record PastGrew (old new : Past) : Type 0 where
+  pub view : (m : ℕ) → old.view m ≤ new.view m
   pub count : (m v s : ℕ) → old.count m v s ≤ new.count m v s
   pub sent : (m v : ℕ) → IsPrefixOf (old.sent m v) (new.sent m v)
   pub history : (m : ℕ) → IsPrefixOf (old.history m) (new.history m)

@@ -31,6 +31,8 @@ pub enum Act {
     Accept,
     /// The value that it has accepted is committed.
     Commit,
+    /// It delivers the rest of what its view's end leaves, and goes on in the next view.
+    Finish,
     /// It ends as it should.
     Halt { end: End },
     /// It ends by a fault, or with its turns spent.
@@ -73,6 +75,8 @@ pub enum Event {
     Accept { m: u8 },
     /// The value that it has accepted is committed.
     Commit { m: u8 },
+    /// It delivers the rest of what its view's end leaves, and goes on in the next view.
+    Finish { m: u8 },
     /// It ends as it should.
     Halt { m: u8, end: End },
     /// It ends by a fault, or with its turns spent.
@@ -101,6 +105,7 @@ impl Event {
             | Event::Propose { m }
             | Event::Accept { m }
             | Event::Commit { m }
+            | Event::Finish { m }
             | Event::Halt { m, .. }
             | Event::Crash { m, .. } => m,
         }
@@ -127,6 +132,7 @@ impl Event {
             Event::Propose { .. } => Step::Do(Act::Propose),
             Event::Accept { .. } => Step::Do(Act::Accept),
             Event::Commit { .. } => Step::Do(Act::Commit),
+            Event::Finish { .. } => Step::Do(Act::Finish),
             Event::Halt { end, .. } => Step::Do(Act::Halt { end }),
             Event::Crash { end, .. } => Step::Do(Act::Crash { end }),
         }
