@@ -1,11 +1,9 @@
 -- Acts that put and take no items, before they stamp the beat word: turns, ends, logs, reports, marks and
 -- deliveries.
-use Rattle.std.proofs.Common.{List, ap, arith, drop, inl, le_of_eq, le_refl, le_trans, length, length-append, refl, sym, take, true, ℕ, ◌++◌, ◌+◌, ◌-◌, ◌<◌, ◌^◌, ◌∙◌, ◌≡◌, ◌≤◌}
+use Rattle.std.proofs.Common.{List, ap, arith, drop, inl, le_of_eq, le_refl, le_trans, length, refl, sym, take, true, ℕ, ◌++◌, ◌+◌, ◌-◌, ◌<◌, ◌^◌, ◌∙◌, ◌≡◌, ◌≤◌}
 use Rattle.std.proofs.lemmas.List.{take_all}
 use Rattle.dr_entry.specs.declared.end.End.{End}
 use Rattle.dr_entry.specs.declared.entry.Entry.{Entry}
-use Rattle.dr_entry.specs.declared.entry.Item.{Item}
-use Rattle.dr_entry.specs.declared.entry.Item.TheVariants.{Null, Text}
 use Rattle.dr_history.specs.History.{IsPrefixOf, messages_of}
 use Rattle.dr_history.specs.Members.{has}
 use Rattle.dr_machine.specs.Effects.{appends, beats, delivers, ends, entries_of, least_shown, marks, publishes, reports, sender_at, with_own}
@@ -16,7 +14,7 @@ use Rattle.dr_machine.specs.World.{Past, World, item_at_place, own_word, shown}
 use Rattle.dr_machine.specs.Writes.{at, at₃}
 use Rattle.dr_faithful.proofs.Forms.{form_done, form_free, grown_done, grown_free}
 use Rattle.dr_faithful.proofs.Lists.{least_all, least_most, least_some, prefix_more, prefix_next}
-use Rattle.dr_faithful.proofs.OwnWords.{IsPlain, accepts_word, counts_word, delivered_word, form_word, old_later, own_grown, suspicions_word}
+use Rattle.dr_faithful.proofs.OwnWords.{IsPlain, accepts_word, counts_word, delivered_word, form_word, old_later, own_grown, suspicions_word, closed_written, fresh_written}
 use Rattle.dr_faithful.proofs.Pasts.{past_same, prefix_refl, prefix_short, same_past, tells_done, tells_later, tells_logged, words_later}
 use Rattle.dr_faithful.proofs.Shown.{shown_le}
 use Rattle.dr_faithful.proofs.Writes.{at_case, at₃_case}
@@ -42,6 +40,8 @@ beat_keeps g V w m f = record {
   words = words_later g V w (beats w m) (past_same w.past) refl refl refl refl f.words;
   logs = f.logs;
   delivered = f.delivered;
+  fresh = f.fresh;
+  closed = f.closed;
   old = f.old;
   form = f.form;
 }
@@ -60,6 +60,8 @@ end_keeps g V w m end f = record {
   words = words_later g V w (ends w m end) (past_same w.past) refl refl refl refl f.words;
   logs = f.logs;
   delivered = f.delivered;
+  fresh = f.fresh;
+  closed = f.closed;
   old = f.old;
   form = f.form;
 }
@@ -68,7 +70,7 @@ end_keeps g V w m end f = record {
 
 -- an own word is not what only grows
 pub word_past : (w : World) (m c x : ℕ) → PastGrew w.past (with_own w m c x).past
-word_past w m c x = same_past w.past (with_own w m c x).past refl refl refl refl refl refl refl
+word_past w m c x = same_past w.past (with_own w m c x).past refl refl refl refl refl refl refl refl
 
 -- the words after one own word has grown
 pub word_grew : (g : Group) (w : World) (m c x : ℕ) → HasGrown (roster g) c (own_word w m c) x
@@ -102,8 +104,10 @@ word_keeps g V w m c x plain grown form told f = record {
     seen = λ a i k. tells_later g V w.past past i (w.past.view a) k (w.seen a i k) grew (f.words.seen a i k);
   };
   logs = f.logs;
-  delivered = delivered_word g V w.past.view w.next w.past.own w.past.history m
-      (w.past.view m) c x plain f.delivered;
+  delivered = delivered_word g V w.past.view w.next w.past.own m (w.past.view m) c x plain f.delivered;
+  fresh = fresh_written w.past.view w.past.own w.past.count m (w.past.view m) _ (le_refl (w.past.view m))
+      f.fresh;
+  closed = closed_written g V w.past.view w.past.own m _ f.closed;
   old = old_later g w.past.view w.past.own (at₃ w.past.own m (w.past.view m) c x) w.table w.seen
       (own_grown g w.past.own m (w.past.view m) c x grown) f.old;
   form = form_word g w.past.own w.table w.seen m (w.past.view m) c x form f.form;
@@ -167,6 +171,7 @@ pub append_past : (w : World) (m : ℕ) → PastGrew w.past (appends w m).past
 append_past w m =
     let same = past_same w.past in
     let one : List Entry = take 1 (drop (length (w.past.log m)) (w.past.history m)) in record {
+      view = same.view;
       count = same.count;
       sent = same.sent;
       history = same.history;
@@ -197,6 +202,8 @@ append_keeps g V w m f = record {
     small = f.logs.small;
   };
   delivered = f.delivered;
+  fresh = f.fresh;
+  closed = f.closed;
   old = f.old;
   form = f.form;
 }
@@ -221,6 +228,7 @@ pub report_past : (g : Group) (V : Views) (w : World) (m : ℕ) → CanReport g 
     → PastGrew w.past (reports w m).past
 report_past g V w m can f =
     let same = past_same w.past in record {
+      view = same.view;
       count = same.count;
       sent = same.sent;
       history = same.history;
@@ -253,6 +261,8 @@ report_keeps g V w m is can f = record {
         (omega (arith, least_most (λ i. shown w m i LOGGED_COLUMN) (w.members m) (2 ^ 64 - 1)));
   };
   delivered = f.delivered;
+  fresh = f.fresh;
+  closed = f.closed;
   old = f.old;
   form = f.form;
 }
@@ -270,16 +280,13 @@ report_keeps g V w m is can f = record {
 
 -- ---- the next place
 
-one_entry : (history : List Entry) (s : ℕ) (item : Item) → length (entries_of history s item) ≤ 1
-one_entry history s Null = omega arith
-one_entry history s (Text bytes) = omega arith
-
 -- the history goes on
 pub deliver_past : (w : World) (m : ℕ) → PastGrew w.past (delivers w m).past
 deliver_past w m =
     let same = past_same w.past in
     let new : List Entry = entries_of (w.past.history m) (sender_at w m (w.next m))
     (item_at_place w m (w.next m)) in record {
+      view = same.view;
       count = same.count;
       sent = same.sent;
       history = at_case (λ i l. IsPrefixOf (w.past.history i) l) w.past.history m (w.past.history m ++ new)
@@ -313,13 +320,9 @@ deliver_keeps g V w m can f = record {
     held = λ a i. at_case (λ x n. IsPresent g x → has (V (w.past.view x)) i ≡ true → n
         ≤ w.past.own i (w.past.view x) 2) w.next m (w.next m + 1)
         (λ x d. f.delivered.held x i) (λ l h. shows i h) a;
-    short = λ a. grind (
-      arith,
-      f.delivered.short a,
-      length-append (w.past.history m) new,
-      one_entry (w.past.history m) (sender_at w m (w.next m)) (item_at_place w m (w.next m)),
-    );
   };
+  fresh = f.fresh;
+  closed = f.closed;
   old = f.old;
   form = f.form;
 }

@@ -23,9 +23,9 @@ use Rattle.dr_faithful.proofs.Forms.{form_free, grown_zero}
 use Rattle.dr_faithful.proofs.OwnWords.{accept_columns}
 use Rattle.dr_faithful.proofs.Pasts.{tells_logged, tells_nothing}
 use Rattle.dr_faithful.specs.Faithful.{Faithful}
-use Rattle.dr_faithful.specs.Tells.{Tells, WordsTell}
+use Rattle.dr_faithful.specs.Tells.{Tells, Views, WordsTell}
 use Rattle.dr_words.specs.declared.column.TheConstants.{LOGGED_COLUMN}
-use Rattle.dr_words.proofs.Bits.{has_ones, has_zero}
+use Rattle.dr_words.proofs.Bits.{has_zero}
 use Rattle.dr_words.specs.Accepts.{part_of}
 use Rattle.dr_words.specs.Columns.{head_column, leavers_column, recv_column, trim_column}
 use Rattle.dr_words.specs.Form.{IsInForm}
@@ -95,25 +95,25 @@ front_of_none ms =
 -- ---- the opening
 
 -- every word tells as the age opens: the logged words of the start, and all others nothing
-own_tells : (g : Group) (i v c : ℕ) → Tells g (λ v. g.opening.members) (opening_world g).past i v c
+own_tells : (g : Group) (V : Views) (i v c : ℕ) → Tells g V (opening_world g).past i v c
     ((opening_world g).past.own i v c)
-own_tells g i v c = by (cases_eq c LOGGED_COLUMN)
+own_tells g V i v c = by (cases_eq c LOGGED_COLUMN)
   where
     by : (c ≡ LOGGED_COLUMN) ⊎ (c ≢ LOGGED_COLUMN)
-        → Tells g (λ v. g.opening.members) (opening_world g).past i v c
+        → Tells g V (opening_world g).past i v c
         ((opening_world g).past.own i v c)
-    by (inl e) = subst (λ k. Tells g (λ v. g.opening.members) (opening_world g).past i v k
+    by (inl e) = subst (λ k. Tells g V (opening_world g).past i v k
         ((opening_world g).past.own i v k)) (sym e)
-        (tells_logged g (λ v. g.opening.members) (opening_world g).past i v _ (grind arith))
-    by (inr d) = subst (λ (x : ℕ). Tells g (λ v. g.opening.members) (opening_world g).past i v c x)
+        (tells_logged g V (opening_world g).past i v _ (grind arith))
+    by (inr d) = subst (λ (x : ℕ). Tells g V (opening_world g).past i v c x)
         (grind arith)
-        (tells_nothing g (λ v. g.opening.members) (opening_world g).past i v c)
+        (tells_nothing g V (opening_world g).past i v c)
 
-tell : (g : Group) → WordsTell g (λ v. g.opening.members) (opening_world g)
-tell g = record {
-  own = own_tells g;
-  table = λ v j i c. tells_nothing g (λ v. g.opening.members) (opening_world g).past i v c;
-  seen = λ m i c. tells_nothing g (λ v. g.opening.members) (opening_world g).past i 0 c;
+tell : (g : Group) (V : Views) → WordsTell g V (opening_world g)
+tell g V = record {
+  own = own_tells g V;
+  table = λ v j i c. tells_nothing g V (opening_world g).past i v c;
+  seen = λ m i c. tells_nothing g V (opening_world g).past i 0 c;
 }
 
 -- no value has parts other than 0
@@ -124,7 +124,7 @@ no_trim k s = by (cases_lt s k)
     by (inl l) = get_or-replicate k s 0 0 l
     by (inr h) = get_or_past (replicate k 0) s 0 (omega (arith, h, length-replicate {A = ℕ} k 0))
 
-no_part : (n c : ℕ) → part_of n no_value c ≡ 0
+pub no_part : (n c : ℕ) → part_of n no_value c ≡ 0
 no_part n c = by (cases_eq c (leavers_column n))
   where
     by : (c ≡ leavers_column n) ⊎ (c ≢ leavers_column n) → part_of n no_value c ≡ 0
@@ -132,14 +132,13 @@ no_part n c = by (cases_eq c (leavers_column n))
     by (inr d) = grind (arith, no_trim MAX_MEMBERS (c - trim_column n 0))
 
 -- the members are faithful as the age opens
-pub begun : (g : Group) → IsGroup g → Faithful g (λ v. g.opening.members) (opening_world g)
-begun g is = record {
+pub begun : (g : Group) (V : Views) → IsGroup g → V 0 ≡ g.opening.members
+    → ((v m : ℕ) → has (V v) m ≡ true → m < roster g) → Faithful g V (opening_world g)
+begun g V is opens within = record {
   beginning = record {
     all = λ m l. is_present g m is l;
-    first = λ m. refl;
-    start = λ m. refl;
   };
-  views = record { own = λ m. refl; present = λ m l. present m l; within = λ v m h. within m h };
+  views = record { own = λ m. sym opens; present = λ m l. present m l; within = within };
   items = record {
     counted = λ m v s. le_refl 0;
     same = λ m s k l. absurd (omega (arith, l));
@@ -156,7 +155,7 @@ begun g is = record {
   counts = record {
     recv = λ m v s l. grind arith;
     unfinished = λ m s l e. grind arith;
-    received = λ m v. rw (front_of_none (members_of g.opening.members)) (grind arith);
+    received = λ m v. rw (front_of_none (members_of (V v))) (grind arith);
     few = λ m v s. (0, omega arith);
   };
   suspicions = record {
@@ -166,16 +165,16 @@ begun g is = record {
     final = λ m s d h. absurd (d refl);
     none = λ m e. refl;
     least = λ m d. absurd (d refl);
-    accept = λ m c is. ap accept_promise (none m c (accept_columns (roster g) g.opening.members c is));
+    accept = λ m c is. ap accept_promise (none m c (accept_columns (roster g) (V 0) c is));
   };
   accepts = record {
-    tagged = λ m c is. ap accept_tag (none m c (accept_columns (roster g) g.opening.members c is));
-    valued = λ m c is. ap accept_value (none m c (accept_columns (roster g) g.opening.members c is))
+    tagged = λ m c is. ap accept_tag (none m c (accept_columns (roster g) (V 0) c is));
+    valued = λ m c is. ap accept_value (none m c (accept_columns (roster g) (V 0) c is))
         ∙ sym (no_part (roster g) c);
     low = λ m. omega arith;
     waits = λ m x e. absurd (cc);
   };
-  words = tell g;
+  words = tell g V;
   logs = record {
     bounded = λ m. omega arith;
     front = λ m. ([], append-nil (first_entries g.opening));
@@ -186,7 +185,9 @@ begun g is = record {
       length-append g.opening.start (View g.opening.age 0 g.opening.members ∷ []),
     );
   };
-  delivered = record { held = λ m i l h. omega arith; short = λ m. omega arith };
+  delivered = record { held = λ m i l h. omega arith };
+  fresh = record { unwritten = λ m v c l. grind (arith, l); empty = λ m v s l. refl };
+  closed = λ m v l. absurd (omega (arith, l));
   old = record {
     in_table = λ v j i c. grown_zero (roster g) c _;
     in_seen = λ m i c d. grown_zero (roster g) c _;
@@ -198,11 +199,8 @@ begun g is = record {
   };
 }
   where
-    present : (m : ℕ) → IsPresent g m → has g.opening.members m ≡ true
-    present m there = rw is.sound.whole (rw (← is.sound.present) there)
-
-    within : (m : ℕ) → has g.opening.members m ≡ true → m < roster g
-    within m h = grind (arith, has_ones (roster g) m, is.sound.whole)
+    present : (m : ℕ) → IsPresent g m → has (V 0) m ≡ true
+    present m there = rw (opens, is.sound.whole) (rw (← is.sound.present) there)
 
     none : (m c : ℕ) → (recv_column (roster g) ≤ c) × (c < head_column (roster g) 0)
         → (opening_world g).past.own m 0 c ≡ 0

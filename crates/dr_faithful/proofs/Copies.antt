@@ -42,6 +42,8 @@ look_keeps g V w m i c f = record {
   };
   logs = f.logs;
   delivered = f.delivered;
+  fresh = f.fresh;
+  closed = f.closed;
   old = record {
     in_table = f.old.in_table;
     in_seen = at₃_case (λ x y z u. y ≢ x → HasGrown (roster g) z u (w.table (w.past.view x) x y z))
@@ -86,6 +88,8 @@ push_keeps g V w m j c f = record {
   };
   logs = f.logs;
   delivered = f.delivered;
+  fresh = f.fresh;
+  closed = f.closed;
   old = record {
     in_table = at₄_case (λ v a i k z. HasGrown (roster g) k z (w.past.own i v k)) w.table
         (w.past.view m) j m c (own_word w m c) f.old.in_table (HasGrown_refl (roster g) c (own_word w m c));

@@ -1,19 +1,20 @@
 -- Each event keeps the members faithful and lets the words grow, so in every world that is reached they are.
-use Rattle.std.proofs.Common.{ap, arith, inl, inr, length, refl, suc, sym, ℕ, ◌%◌, ◌*◌, ◌+◌, ◌/◌, ◌<◌, ◌∙◌, ◌≡◌, ◌≢◌, ◌≤◌, ◌⊎◌}
+use Rattle.std.proofs.Common.{ap, arith, inl, inr, le_refl, length, refl, subst, suc, sym, true, unwrap_or, Some, ℕ, ◌%◌, ◌*◌, ◌+◌, ◌/◌, ◌<◌, ◌∙◌, ◌≡◌, ◌≢◌, ◌≤◌, ◌⊎◌}
 use Rattle.std.proofs.lemmas.Bool.{cases_lt}
 use Rattle.std.proofs.Math.Nat.{div-add-mod, mul-le-mul_left, mul-suc}
 use Rattle.std.proofs.lemmas.Nat.{mod_below}
+use Rattle.dr_entry.specs.declared.record.Value.{Value}
 use Rattle.dr_entry.specs.declared.end.SentItem.{SentItem}
 use Rattle.dr_entry.specs.declared.end.SentItem.TheVariants.{Index, Null}
 use Rattle.dr_history.specs.Members.{has}
 use Rattle.dr_machine.proofs.Presence.{is_present}
-use Rattle.dr_machine.proofs.Runs.{reached}
 use Rattle.dr_machine.specs.Acts.{CanDo, CanTake, Guard, does, effect, effect_of}
-use Rattle.dr_machine.specs.Effects.{appends, logs_vote, puts, stamped}
+use Rattle.dr_machine.specs.Effects.{appends, logs_vote, puts, stamped, finishes, finishes_by, stamped_in}
 use Rattle.dr_machine.specs.Group.{Group, IsGroup, IsPresent, roster}
 use Rattle.dr_machine.specs.Guards.{IsOther, IsRunning, next_index, unsuspected_of}
-use Rattle.dr_machine.specs.Run.{IsReached, NoLaterItem, PastGrew, WordsGrew}
-use Rattle.dr_machine.specs.World.{World, count_of}
+use Rattle.dr_machine.specs.Run.{NoLaterItem, PastGrew, WordsGrew}
+use Rattle.dr_machine.specs.World.{World, count_of, no_value, opening_world}
+use Rattle.dr_machine.specs.Writes.{at}
 use Rattle.dr_machine.specs.declared.event.Event.{Event}
 use Rattle.dr_machine.specs.declared.event.Act.{Act}
 use Rattle.dr_machine.specs.declared.event.Act.TheVariants as acts
@@ -23,6 +24,7 @@ use Rattle.dr_machine.specs.Events.{member_of, step_of}
 use Rattle.dr_rows.specs.Words.{own, seen}
 use Rattle.dr_faithful.proofs.Acts.{append_keeps, append_past, beat_keeps, deliver_keeps, deliver_past, end_keeps, mark_grew, mark_keeps, publish_grew, publish_keeps, report_keeps, report_past}
 use Rattle.dr_faithful.proofs.Begin.{begun}
+use Rattle.dr_faithful.proofs.Finishes.{finish_grew, finish_keeps, finish_past}
 use Rattle.dr_faithful.proofs.Copies.{look_grew, look_keeps, push_grew, push_keeps}
 use Rattle.dr_faithful.proofs.Pieces.{sent_item, tag_of_piece}
 use Rattle.dr_faithful.proofs.Receipts.{receive_grew, receive_keeps, receive_past}
@@ -31,75 +33,93 @@ use Rattle.dr_faithful.proofs.Suspicions.{promise_least, suspect_grew, suspect_k
 use Rattle.dr_faithful.proofs.Votes.{accept_grew, accept_keeps, commit_keeps, vote_keeps, vote_past}
 use Rattle.dr_faithful.proofs.Stamps.{stamp_grew, stamp_keeps, stamp_past}
 use Rattle.dr_faithful.proofs.Pasts.{past_on, past_same, same_past}
-use Rattle.dr_faithful.specs.Faithful.{Faithful}
+use Rattle.dr_faithful.specs.Faithful.{AllGoOn, Faithful}
 use Rattle.dr_faithful.specs.Tells.{SuspicionsTold, TellsPiece, Views, item_named, item_sent, part_column}
 use Rattle.dr_words.proofs.Order.{HasGrown_same, HasGrown_trans}
 use Rattle.dr_words.specs.Masks.{IsLeastOf}
 use Rattle.dr_words.specs.Packing.{ring_tag}
 
--- the members of the one view that there is so far
-abbrev pub whole : Group → Views
-whole g v = g.opening.members
+-- what holds of a member that has committed a value holds of the value that it takes
+pub committed_is : (w : World) (m : ℕ) (x : Value) (P : World → Type 0) (g : Group)
+    → w.committed m ≡ Some x → P (finishes_by g w m x) → P (finishes g w m)
+committed_is w m x P g e p = subst (λ y. P (finishes_by g w m y)) (sym (ap (λ r. unwrap_or r no_value) e)) p
 
 -- each act keeps the members faithful
-pub act_keeps : (g : Group) (V : Views) (w : World) (m : ℕ) (a : Act) → IsGroup g → CanDo g w m a
-    → Faithful g V w → Faithful g V (does g w m a)
-act_keeps g V w m acts.Beat is can f = beat_keeps g V w m f
-act_keeps g V w m (acts.Receive s) is can f = receive_keeps g V w m s is can f
-act_keeps g V w m acts.Send is can f =
+pub act_keeps : (g : Group) (V : Views) (w : World) (m : ℕ) (a : Act) → IsGroup g → AllGoOn g V w
+    → CanDo g w m a → Faithful g V w → Faithful g V (does g w m a)
+act_keeps g V w m acts.Beat is well can f = beat_keeps g V w m f
+act_keeps g V w m (acts.Receive s) is well can f = receive_keeps g V w m s is can f
+act_keeps g V w m acts.Send is well can f =
     put_keeps g V w m (Index (next_index w m)) is (may_message g V w m can f) f
-act_keeps g V w m acts.Null is can f = put_keeps g V w m Null is (may_null g V w m can f) f
-act_keeps g V w m acts.Deliver is can f = deliver_keeps g V w m can f
-act_keeps g V w m acts.Publish is can f = publish_keeps g V w m f
-act_keeps g V w m acts.Report is can f = report_keeps g V w m is can f
-act_keeps g V w m acts.Mark is can f = mark_keeps g V w m can f
-act_keeps g V w m (acts.Suspect j) is can f = suspect_keeps g V w m j is can f
-act_keeps g V w m acts.Propose is can f = accept_keeps g V w m can.vote is can.waits f
-act_keeps g V w m acts.Accept is can f = accept_keeps g V w m can.vote is can.waits f
-act_keeps g V w m acts.Commit is can f = commit_keeps g V w m f
-act_keeps g V w m (acts.Halt end) is can f = end_keeps g V w m end f
-act_keeps g V w m (acts.Crash end) is can f = end_keeps g V w m end f
+act_keeps g V w m acts.Null is well can f = put_keeps g V w m Null is (may_null g V w m can f) f
+act_keeps g V w m acts.Deliver is well can f = deliver_keeps g V w m can f
+act_keeps g V w m acts.Publish is well can f = publish_keeps g V w m f
+act_keeps g V w m acts.Report is well can f = report_keeps g V w m is can f
+act_keeps g V w m acts.Mark is well can f = mark_keeps g V w m can f
+act_keeps g V w m (acts.Suspect j) is well can f = suspect_keeps g V w m j is can f
+act_keeps g V w m acts.Propose is well can f = accept_keeps g V w m can.vote is can.waits f
+act_keeps g V w m acts.Accept is well can f = accept_keeps g V w m can.vote is can.waits f
+act_keeps g V w m acts.Commit is well can f = commit_keeps g V w m f
+act_keeps g V w m acts.Finish is well can f =
+    committed_is w m can.value (Faithful g V) g can.committed
+    (finish_keeps g V w m can.value is can.may.alive.present can.may.idle can.stays (well m can) f)
+act_keeps g V w m (acts.Halt end) is well can f = end_keeps g V w m end f
+act_keeps g V w m (acts.Crash end) is well can f = end_keeps g V w m end f
 
-pub step_keeps : (g : Group) (V : Views) (w : World) (m : ℕ) (s : Step) → IsGroup g → CanTake g w m s
-    → Faithful g V w → Faithful g V (effect_of g w m s)
-step_keeps g V w m (Do a) is can f = stamp_keeps g V (does g w m a) m (act_keeps g V w m a is can f)
-step_keeps g V w m (Look i c) is can f = look_keeps g V w m i c f
-step_keeps g V w m (Push j c) is can f = push_keeps g V w m j c f
-step_keeps g V w m Append is can f = append_keeps g V w m f
-step_keeps g V w m (LogVote v) is can f = vote_keeps g V w m v can f
+-- no act takes a member back to a view that it has left
+act_stays : (g : Group) (w : World) (m : ℕ) (a : Act) → w.past.view m ≤ (does g w m a).past.view m
+act_stays g w m acts.Finish = rises_at w.past.view m
+  where
+    rises_at : (view : ℕ → ℕ) (m : ℕ) → view m ≤ at view m (view m + 1) m
+    rises_at view m = grind arith
+act_stays g w m acts.Beat = le_refl (w.past.view m)
+act_stays g w m a = le_refl (w.past.view m)
 
--- the members are faithful in every world that is reached
-pub faithful : (g : Group) (w : World) → IsGroup g → IsReached g w → Faithful g (whole g) w
-faithful g w is r = reached g (Faithful g (whole g))
-    (λ u e can f. step_keeps g (whole g) u (member_of e) (step_of e) is can f) (begun g is) w r
+pub step_keeps : (g : Group) (V : Views) (w : World) (m : ℕ) (s : Step) → IsGroup g → AllGoOn g V w
+    → CanTake g w m s → Faithful g V w → Faithful g V (effect_of g w m s)
+step_keeps g V w m (Do a) is well can f = stamp_keeps g V (does g w m a) m (w.past.view m)
+    (act_stays g w m a) (act_keeps g V w m a is well can f)
+step_keeps g V w m (Look i c) is well can f = look_keeps g V w m i c f
+step_keeps g V w m (Push j c) is well can f = push_keeps g V w m j c f
+step_keeps g V w m Append is well can f = append_keeps g V w m f
+step_keeps g V w m (LogVote v) is well can f = vote_keeps g V w m v can f
+
+-- the members are faithful after each event
+pub faithful_keeps : (g : Group) (V : Views) (w : World) (e : Event) → IsGroup g → AllGoOn g V w
+    → Guard g w e → Faithful g V w → Faithful g V (effect g w e)
+faithful_keeps g V w e is well can f = step_keeps g V w (member_of e) (step_of e) is well can f
+
+-- and as the age opens
+pub faithful_begins : (g : Group) (V : Views) → IsGroup g → V 0 ≡ g.opening.members
+    → ((v m : ℕ) → has (V v) m ≡ true → m < roster g) → Faithful g V (opening_world g)
+faithful_begins = begun
 
 -- ---- suspicions
 
 -- every word tells whom its owner suspects, what is final, and for whose proposal it waits
-pub told : (g : Group) (w : World) → IsGroup g → IsReached g w → SuspicionsTold g w
-told g w is r = suspicions_told g (whole g) w (faithful g w is r)
+pub all_told : (g : Group) (V : Views) (w : World) → Faithful g V w → SuspicionsTold g w
+all_told = suspicions_told
 
-pub waits : (g : Group) (w : World) (m : ℕ) → IsGroup g → IsReached g w → m < roster g
+pub waits_for : (g : Group) (V : Views) (w : World) (m : ℕ) → IsGroup g → Faithful g V w → m < roster g
     → w.suspects m ≢ 0 → IsLeastOf (unsuspected_of w m) (w.promise m)
-waits g w m is r l some = promise_least g (whole g) w m is (faithful g w is r) (is_present g m is l) some
+waits_for g V w m is f l some = promise_least g V w m is f (is_present g m is l) some
 
 -- ---- growth
 
--- growth while members stay in their views, and then growth again
-grew_on : (g : Group) (a b c : World) → ((m : ℕ) → b.past.view m ≡ a.past.view m)
+-- growth, and then growth again while members stay in their views
+grew_on : (g : Group) (a b c : World) → ((m : ℕ) → c.past.view m ≡ b.past.view m)
     → WordsGrew g a b → WordsGrew g b c → WordsGrew g a c
 grew_on g a b c stay p q = record {
   own = λ m v k. HasGrown_trans (roster g) k _ _ _ (p.own m v k) (q.own m v k);
   table = λ v j i k. HasGrown_trans (roster g) k _ _ _ (p.table v j i k) (q.table v j i k);
-  seen = λ m i k e. HasGrown_trans (roster g) k _ _ _ (p.seen m i k (stay m))
-      (q.seen m i k (e ∙ sym (stay m)));
+  seen = λ m i k e. HasGrown_trans (roster g) k _ _ _ (p.seen m i k (sym (stay m) ∙ e))
+      (q.seen m i k (stay m));
 }
 
 -- an act and its stamp
-act_grew : (g : Group) (V : Views) (w u : World) (m : ℕ)
-    → ((i : ℕ) → u.past.view i ≡ w.past.view i) → WordsGrew g w u → Faithful g V u
-    → WordsGrew g w (stamped u m)
-act_grew g V w u m stay p f = grew_on g w u (stamped u m) stay p (stamp_grew g V u m f)
+act_grew : (g : Group) (V : Views) (w u : World) (m v : ℕ) → WordsGrew g w u → Faithful g V u
+    → WordsGrew g w (stamped_in u m v)
+act_grew g V w u m v p f = grew_on g w u (stamped_in u m v) (λ i. refl) p (stamp_grew g V u m v f)
 
 -- the words are the same ones
 same_words : (g : Group) (w u : World) → u.past.own ≡ w.past.own → u.table ≡ w.table → u.seen
@@ -111,12 +131,7 @@ same_words g w u own table seen = record {
   seen = λ m i k e. HasGrown_same (roster g) k (w.seen m i k) (u.seen m i k) (ap (λ f. f m i k) seen);
 }
 
--- the views are the same before and after an act, and the words grow in it
-act_stays : (g : Group) (w : World) (m : ℕ) (a : Act) (i : ℕ) → (does g w m a).past.view i
-    ≡ w.past.view i
-act_stays g w m acts.Beat i = refl
-act_stays g w m a i = refl
-
+-- the words grow in an act
 pub does_grow : (g : Group) (V : Views) (w : World) (m : ℕ) (a : Act) → IsGroup g → CanDo g w m a
     → Faithful g V w → WordsGrew g w (does g w m a)
 does_grow g V w m acts.Send is can f =
@@ -128,23 +143,25 @@ does_grow g V w m acts.Mark is can f = mark_grew g V w m f
 does_grow g V w m (acts.Suspect j) is can f = suspect_grew g V w m j is can f
 does_grow g V w m acts.Propose is can f = accept_grew g V w m can.vote can.waits f
 does_grow g V w m acts.Accept is can f = accept_grew g V w m can.vote can.waits f
+does_grow g V w m acts.Finish is can f =
+    committed_is w m can.value (WordsGrew g w) g can.committed (finish_grew g V w m can.value f)
 does_grow g V w m a is can f = same_words g w (does g w m a) refl refl refl
 
 -- the words grow at every step
-pub grew : (g : Group) (V : Views) (w : World) (m : ℕ) (s : Step) → IsGroup g → CanTake g w m s
-    → Faithful g V w → WordsGrew g w (effect_of g w m s)
-grew g V w m (Do a) is can f =
-    act_grew g V w (does g w m a) m (act_stays g w m a) (does_grow g V w m a is can f)
-    (act_keeps g V w m a is can f)
-grew g V w m (Look i c) is can f = look_grew g V w m i c f can.row.other
-grew g V w m (Push j c) is can f = push_grew g V w m j c f
-grew g V w m Append is can f = same_words g w (appends w m) refl refl refl
-grew g V w m (LogVote v) is can f = same_words g w (logs_vote g w m v) refl refl refl
+pub grew : (g : Group) (V : Views) (w : World) (m : ℕ) (s : Step) → IsGroup g → AllGoOn g V w
+    → CanTake g w m s → Faithful g V w → WordsGrew g w (effect_of g w m s)
+grew g V w m (Do a) is well can f =
+    act_grew g V w (does g w m a) m (w.past.view m) (does_grow g V w m a is can f)
+    (act_keeps g V w m a is well can f)
+grew g V w m (Look i c) is well can f = look_grew g V w m i c f can.row.other
+grew g V w m (Push j c) is well can f = push_grew g V w m j c f
+grew g V w m Append is well can f = same_words g w (appends w m) refl refl refl
+grew g V w m (LogVote v) is well can f = same_words g w (logs_vote g w m v) refl refl refl
 
 -- the words grow at every event
-pub words_grew : (g : Group) (w : World) (e : Event) → IsGroup g → IsReached g w → Guard g w e
-    → WordsGrew g w (effect g w e)
-words_grew g w e is r can = grew g (whole g) w (member_of e) (step_of e) is can (faithful g w is r)
+pub words_on : (g : Group) (V : Views) (w : World) (e : Event) → IsGroup g → AllGoOn g V w
+    → Guard g w e → Faithful g V w → WordsGrew g w (effect g w e)
+words_on g V w e is well can f = grew g V w (member_of e) (step_of e) is well can f
 
 -- a step puts an item of some name, or leaves what is sent as it is
 pub puts_or_leaves : (g : Group) (w : World) (m : ℕ) (s : Step) → CanTake g w m s
@@ -165,22 +182,25 @@ does_past g V w m acts.Null is can f = put_past g V w m Null is (may_null g V w 
 does_past g V w m (acts.Receive s) is can f = receive_past g V w m s is can f
 does_past g V w m acts.Deliver is can f = deliver_past w m
 does_past g V w m acts.Report is can f = report_past g V w m can f
-does_past g V w m a is can f = same_past w.past (does g w m a).past refl refl refl refl refl refl refl
+does_past g V w m acts.Finish is can f =
+    committed_is w m can.value (λ u. PastGrew w.past u.past) g can.committed (finish_past g w m can.value)
+does_past g V w m a is can f = same_past w.past (does g w m a).past refl refl refl refl refl refl refl refl
 
-step_past : (g : Group) (V : Views) (w : World) (m : ℕ) (s : Step) → IsGroup g → CanTake g w m s
-    → Faithful g V w → PastGrew w.past (effect_of g w m s).past
-step_past g V w m (Do a) is can f =
-    past_on w.past (does g w m a).past (stamped (does g w m a) m).past (does_past g V w m a is can f)
-    (stamp_past g V (does g w m a) m (act_keeps g V w m a is can f))
-step_past g V w m (Look i c) is can f = past_same w.past
-step_past g V w m (Push j c) is can f = past_same w.past
-step_past g V w m Append is can f = append_past w m
-step_past g V w m (LogVote v) is can f = vote_past g w m v
+pub step_past : (g : Group) (V : Views) (w : World) (m : ℕ) (s : Step) → IsGroup g → AllGoOn g V w
+    → CanTake g w m s → Faithful g V w → PastGrew w.past (effect_of g w m s).past
+step_past g V w m (Do a) is well can f =
+    past_on w.past (does g w m a).past (stamped_in (does g w m a) m (w.past.view m)).past
+    (does_past g V w m a is can f)
+    (stamp_past g V (does g w m a) m (w.past.view m) (act_keeps g V w m a is well can f))
+step_past g V w m (Look i c) is well can f = past_same w.past
+step_past g V w m (Push j c) is well can f = past_same w.past
+step_past g V w m Append is well can f = append_past w m
+step_past g V w m (LogVote v) is well can f = vote_past g w m v
 
 -- and so does all else that only grows
-pub past_grew : (g : Group) (w : World) (e : Event) → IsGroup g → IsReached g w → Guard g w e
-    → PastGrew w.past (effect g w e).past
-past_grew g w e is r can = step_past g (whole g) w (member_of e) (step_of e) is can (faithful g w is r)
+pub past_on_event : (g : Group) (V : Views) (w : World) (e : Event) → IsGroup g → AllGoOn g V w
+    → Guard g w e → Faithful g V w → PastGrew w.past (effect g w e).past
+past_on_event g V w e is well can f = step_past g V w (member_of e) (step_of e) is well can f
 
 -- ---- no later item
 
@@ -216,13 +236,12 @@ later_tag g V w m s part word is f l other (inr p) =
     omega (arith, tag, earlier)
 
 -- no later item stands in the slot of one that is waited for
-pub no_later : (g : Group) (w : World) → IsGroup g → IsReached g w → NoLaterItem g w
-no_later g w is r m s part l other p =
-    let f = faithful g w is r in
+pub none_later : (g : Group) (V : Views) (w : World) → IsGroup g → Faithful g V w → NoLaterItem g w
+none_later g V w is f m s part l other p =
     let slot = mod_below (count_of w m s) g.window is.some_slot in
     let column : ℕ = part_column g (count_of w m s % g.window) part in (
-      later_tag g (whole g) w m s part _ is f l other
+      later_tag g V w m s part _ is f l other
           ((f.words.table (w.past.view m) m s column).ring (count_of w m s % g.window) part slot p refl),
-      later_tag g (whole g) w m s part _ is f l other
+      later_tag g V w m s part _ is f l other
           ((f.words.seen m s column).ring (count_of w m s % g.window) part slot p refl),
     )

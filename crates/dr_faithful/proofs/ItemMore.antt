@@ -1,5 +1,5 @@
 -- A member has one item more of a sender, itself or another: the members stay faithful, and the words grow.
-use Rattle.std.proofs.Common.{ap, arith, false, inl, inr, le_of_eq, le_trans, length, map, refl, subst, sym, true, ℕ, ◌+◌, ◌<◌, ◌∙◌, ◌≡◌, ◌≢◌, ◌≤◌, ◌⊎◌}
+use Rattle.std.proofs.Common.{ap, arith, false, inl, inr, le_of_eq, le_trans, length, map, refl, subst, sym, true, ℕ, ◌+◌, ◌<◌, ◌∙◌, ◌≡◌, ◌≢◌, ◌≤◌, ◌⊎◌, le_refl}
 use Rattle.std.proofs.lemmas.Bool.{cases_eq}
 use Rattle.dr_entry.specs.declared.entry.Item.{Item}
 use Rattle.dr_history.specs.History.{IsPrefixOf, Sent, messages_of}
@@ -13,7 +13,7 @@ use Rattle.dr_machine.specs.Writes.{at, at₂, at₃}
 use Rattle.dr_faithful.proofs.CountMore.{IsMore, more, more_le, more_or_same, new_count}
 use Rattle.dr_faithful.proofs.Forms.{form_free, form_recv, grown_free, grown_recv}
 use Rattle.dr_faithful.proofs.Fronts.{front_rises, some_members}
-use Rattle.dr_faithful.proofs.OwnWords.{accept_columns, accepts_same, old_later}
+use Rattle.dr_faithful.proofs.OwnWords.{accept_columns, accepts_same, old_later, closed_written, fresh_counted, fresh_written}
 use Rattle.dr_faithful.proofs.Pasts.{item_kept, past_same, tells_later, tells_received, tells_recv, tells_ring}
 use Rattle.dr_faithful.proofs.Writes.{at_case, at_other, at_same, at₂_both, at₂_case, at₂_read}
 use Rattle.dr_faithful.specs.Faithful.{AreCounts, AreInForm, AreItems, AreSent, AreSuspicions, Faithful, Items, Numbers}
@@ -339,6 +339,7 @@ pub past_gained : (g : Group) (V : Views) (w : World) (m s : ℕ) (x : Item) (ro
     → PastGrew w.past (gained w m s x row sent).past
 past_gained g V w m s x row sent may =
     let same = past_same w.past in record {
+      view = same.view;
       count = more_le w.past.count m (w.past.view m) s;
       sent = may.grew;
       history = same.history;
@@ -458,8 +459,11 @@ gain_keeps g V w m s x row sent is may f = record {
   delivered = record {
     held = λ a i l h. le_trans (f.delivered.held a i l h)
         (own_gained g V w m s x row sent is may f i (w.past.view a) 2).number;
-    short = f.delivered.short;
   };
+  fresh = fresh_counted w.past.view _ w.past.count m (w.past.view m) _ (le_refl (w.past.view m))
+      (fresh_written w.past.view w.past.own w.past.count m (w.past.view m) _ (le_refl (w.past.view m))
+      f.fresh);
+  closed = closed_written g V w.past.view w.past.own m _ f.closed;
   old = old_later g w.past.view w.past.own (gained w m s x row sent).past.own w.table w.seen
       (own_gained g V w m s x row sent is may f) f.old;
   form = form_gained g V w m s x row sent is may f;

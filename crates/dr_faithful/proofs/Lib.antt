@@ -16,4 +16,5 @@ pub mod Receipts
 pub mod Puts
 pub mod Suspicions
 pub mod Votes
+pub mod Finishes
 pub mod Faithfulness

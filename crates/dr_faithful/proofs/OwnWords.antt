@@ -1,20 +1,21 @@
 -- One own word that rises, in a column below those of the counts: what else its member's words tell stays.
-use Rattle.std.proofs.Common.{List, Option, ap, arith, sym, true, ℕ, ◌<◌, ◌∙◌, ◌≡◌, ◌≢◌, ◌≤◌}
-use Rattle.dr_entry.specs.declared.entry.Entry.{Entry}
+use Rattle.std.proofs.Common.{Option, ap, arith, sym, true, ℕ, ◌<◌, ◌∙◌, ◌≡◌, ◌≢◌, ◌≤◌, subst}
 use Rattle.dr_entry.specs.declared.record.Value.{Value}
 use Rattle.dr_entry.specs.declared.record.Vote.{Vote}
 use Rattle.dr_machine.specs.Effects.{is_accept_of}
 use Rattle.dr_machine.specs.Group.{Group, roster}
-use Rattle.dr_machine.specs.Writes.{at₃}
-use Rattle.dr_faithful.proofs.Writes.{at₃_case, at₃_column}
-use Rattle.dr_faithful.specs.Faithful.{AreAccepts, AreCounts, AreDelivered, AreInForm, AreOld, AreSuspicions, Numbers, Table}
+use Rattle.dr_machine.specs.Writes.{at₃, at, at₂}
+use Rattle.dr_faithful.proofs.Writes.{at₃_case, at₃_column, at_other, at₂_case}
+use Rattle.dr_faithful.specs.Faithful.{AreAccepts, AreCounts, AreDelivered, AreInForm, AreOld, AreSuspicions, Numbers, Table, AreClosed, AreFresh, IsClosed}
 use Rattle.dr_faithful.specs.Tells.{Views}
 use Rattle.dr_words.proofs.Order.{HasGrown_refl, HasGrown_trans}
-use Rattle.dr_words.specs.declared.column.TheConstants.{RECEIVED_COLUMN, SUSPECTED_COLUMN}
+use Rattle.dr_words.specs.declared.column.TheConstants.{BEAT_COLUMN, RECEIVED_COLUMN, SUSPECTED_COLUMN}
 use Rattle.dr_words.specs.Columns.{head_column, recv_column}
 use Rattle.dr_words.specs.Form.{IsInForm}
 use Rattle.dr_words.specs.Grown.{HasGrown}
-use Rattle.dr_words.specs.Packing.{accept_tag, accept_value}
+use Rattle.dr_words.specs.Packing.{accept_tag, accept_value, accept_promise, is_final}
+use Rattle.dr_words.specs.Masks.{IsPartOf, least_of, without}
+use Rattle.dr_history.specs.Members.{has}
 
 -- the columns of the beat, logged and done words
 abbrev pub IsPlain : ℕ → Type 0
@@ -79,12 +80,69 @@ accepts_word g V view promise tag value pending own m v c x plain =
     (omega (arith, plain.0, accept_columns (roster g) (V (view i)) k is)))
 
 -- the received words are as before
-pub delivered_word : (g : Group) (V : Views) (view next : ℕ → ℕ) (own : Numbers)
-    (history : ℕ → List Entry) (m v c x : ℕ) → IsPlain c
-    → AreDelivered g V view next own history → AreDelivered g V view next (at₃ own m v c x) history
-delivered_word g V view next own history m v c x plain f = record {
+pub delivered_word : (g : Group) (V : Views) (view next : ℕ → ℕ) (own : Numbers) (m v c x : ℕ)
+    → IsPlain c → AreDelivered g V view next own → AreDelivered g V view next (at₃ own m v c x)
+delivered_word g V view next own m v c x plain f = record {
   held = λ i j l h. rw (at₃_column own m v c x j (view i) 2 (λ e. plain.1 (sym e))) (f.held i j l h);
-  short = f.short;
+}
+
+-- what is written in a view that the member has come to leaves later views as they are
+later_view : {A : Type 0} (f : ℕ → ℕ → A) (view : ℕ → ℕ) (m v : ℕ) (x : A) → v ≤ view m
+    → (i u : ℕ) → view i < u → at₂ f m v x i u ≡ f i u
+later_view f view m v x l i u less = grind (arith, l, less)
+
+-- own words of such a view
+pub fresh_written : (view : ℕ → ℕ) (own count : Numbers) (m v : ℕ) (row : ℕ → ℕ) → v ≤ view m
+    → AreFresh view own count → AreFresh view (at₂ own m v row) count
+fresh_written view own count m v row l f = record {
+  unwritten = λ i u c less. ap (λ (r : ℕ → ℕ). r c) (later_view own view m v row l i u less)
+      ∙ f.unwritten i u c less;
+  empty = f.empty;
+}
+
+earlier_view : {A : Type 0} (f : ℕ → ℕ → A) (view : ℕ → ℕ) (m : ℕ) (x : A) (i u : ℕ)
+    → u < view i → at₂ f m (view m) x i u ≡ f i u
+earlier_view f view m x i u less = grind (arith, less)
+
+-- and what is written in its present view leaves those that it has left
+pub closed_written : (g : Group) (V : Views) (view : ℕ → ℕ) (own : Numbers) (m : ℕ) (row : ℕ → ℕ)
+    → AreClosed g V view own → AreClosed g V view (at₂ own m (view m) row)
+closed_written g V view own m row f i u less =
+    subst (IsClosed g (V u) i) (sym (earlier_view own view m row i u less)) (f i u less)
+
+-- the beat word tells nothing of it
+closed_beat : (g : Group) (view m : ℕ) (row : ℕ → ℕ) (x : ℕ) → IsClosed g view m row
+    → IsClosed g view m (at row BEAT_COLUMN x)
+closed_beat g view m row x f = record {
+  part = subst (λ mask. IsPartOf mask view) (sym suspected) f.part;
+  trusted = ap (λ mask. has mask m) suspected ∙ f.trusted;
+  wedged = λ e. f.wedged (sym suspected ∙ e);
+  final = λ s member. ap is_final (other (recv_column s) (omega arith)) ∙ f.final s member;
+  promise = λ c is. ap accept_promise (other c (behind c (accept_columns (roster g) view c is).0))
+      ∙ f.promise c is ∙ ap (λ mask. least_of (without view mask)) (sym suspected);
+}
+  where
+    other : (c : ℕ) → c ≢ BEAT_COLUMN → at row BEAT_COLUMN x c ≡ row c
+    other c d = at_other row BEAT_COLUMN x c d
+
+    behind : (c : ℕ) → recv_column (roster g) ≤ c → c ≢ 0
+    behind c l e = omega (arith, l, e)
+
+    suspected : at row BEAT_COLUMN x SUSPECTED_COLUMN ≡ row SUSPECTED_COLUMN
+    suspected = at_other row BEAT_COLUMN x SUSPECTED_COLUMN (omega arith)
+
+pub closed_stamped : (g : Group) (V : Views) (view : ℕ → ℕ) (own : Numbers) (m v x : ℕ)
+    → AreClosed g V view own → AreClosed g V view (at₃ own m v BEAT_COLUMN x)
+closed_stamped g V view own m v x f = at₂_case (λ i u row. u < view i → IsClosed g (V u) i row) own m v
+    (at (own m v) BEAT_COLUMN x) f (λ l. closed_beat g (V v) m (own m v) x (f m v l))
+
+-- and counts
+pub fresh_counted : (view : ℕ → ℕ) (own count : Numbers) (m v : ℕ) (counts : ℕ → ℕ) → v ≤ view m
+    → AreFresh view own count → AreFresh view own (at₂ count m v counts)
+fresh_counted view own count m v counts l f = record {
+  unwritten = f.unwritten;
+  empty = λ i u s less. ap (λ (r : ℕ → ℕ). r s) (later_view count view m v counts l i u less)
+      ∙ f.empty i u s less;
 }
 
 -- the own words grow

@@ -31,7 +31,7 @@ pub prefix_short : {A : Type 0} (xs ys : List A) → IsPrefixOf xs ys → length
 prefix_short xs ys p = omega (arith, length-append xs p.0, ap length p.1)
 
 -- a front of a front is one
-prefix_on : {A : Type 0} (xs ys zs : List A) → IsPrefixOf xs ys → IsPrefixOf ys zs → IsPrefixOf xs zs
+pub prefix_on : {A : Type 0} (xs ys zs : List A) → IsPrefixOf xs ys → IsPrefixOf ys zs → IsPrefixOf xs zs
 prefix_on xs ys zs p q = (p.0 ++ q.0, sym (append_assoc xs p.0 q.0) ∙ ap (λ l. l ++ q.0) p.1 ∙ q.1)
 
 -- the items that were put stay
@@ -47,6 +47,7 @@ item_kept g old new s v k p l =
 -- nothing has changed
 pub past_same : (past : Past) → PastGrew past past
 past_same past = record {
+  view = λ m. le_refl (past.view m);
   count = λ m v s. le_refl (past.count m v s);
   sent = λ m v. prefix_refl (past.sent m v);
   history = λ m. prefix_refl (past.history m);
@@ -57,10 +58,11 @@ past_same past = record {
 }
 
 -- what grows is the same
-pub same_past : (old new : Past) → new.count ≡ old.count → new.sent ≡ old.sent → new.history
-    ≡ old.history → new.log ≡ old.log → new.votes ≡ old.votes
+pub same_past : (old new : Past) → new.view ≡ old.view → new.count ≡ old.count
+    → new.sent ≡ old.sent → new.history ≡ old.history → new.log ≡ old.log → new.votes ≡ old.votes
     → new.durable ≡ old.durable → new.acts ≡ old.acts → PastGrew old new
-same_past old new count sent history log votes durable acts = record {
+same_past old new view count sent history log votes durable acts = record {
+  view = λ m. le_of_eq (sym (ap (λ f. f m) view));
   count = λ m v s. le_of_eq (sym (ap (λ f. f m v s) count));
   sent = λ m v. subst (λ (f : Sent). IsPrefixOf (old.sent m v) (f m v)) (sym sent)
       (prefix_refl (old.sent m v));
@@ -77,6 +79,7 @@ same_past old new count sent history log votes durable acts = record {
 -- growth, and then growth again
 pub past_on : (a b c : Past) → PastGrew a b → PastGrew b c → PastGrew a c
 past_on a b c p q = record {
+  view = λ m. le_trans (p.view m) (q.view m);
   count = λ m v s. le_trans (p.count m v s) (q.count m v s);
   sent = λ m v. prefix_on (a.sent m v) (b.sent m v) (c.sent m v) (p.sent m v) (q.sent m v);
   history = λ m. prefix_on (a.history m) (b.history m) (c.history m) (p.history m) (q.history m);

@@ -1,12 +1,12 @@
 -- An act stamps the beat word, and its cell in the own copy: the members stay faithful, and the words grow.
 use Rattle.std.proofs.Common.{arith, inl, le_of_eq, le_refl, refl, subst, sym, ℕ, ◌<◌, ◌^◌, ◌≡◌, ◌≢◌, ◌≤◌}
-use Rattle.dr_machine.specs.Effects.{one_more, stamped}
+use Rattle.dr_machine.specs.Effects.{one_more, stamped_in}
 use Rattle.dr_machine.specs.Group.{Group, roster}
 use Rattle.dr_machine.specs.Run.{PastGrew, WordsGrew}
-use Rattle.dr_machine.specs.World.{Past, World, own_word}
+use Rattle.dr_machine.specs.World.{Past, World}
 use Rattle.dr_machine.specs.Writes.{at₃, at₄}
 use Rattle.dr_faithful.proofs.Forms.{form_free, grown_free}
-use Rattle.dr_faithful.proofs.OwnWords.{IsPlain, accepts_word, counts_word, delivered_word, form_word, old_later, own_grown, suspicions_word}
+use Rattle.dr_faithful.proofs.OwnWords.{IsPlain, accepts_word, counts_word, delivered_word, form_word, old_later, own_grown, suspicions_word, closed_stamped, fresh_written}
 use Rattle.dr_faithful.proofs.Pasts.{past_same, tells_beat, tells_later}
 use Rattle.dr_faithful.proofs.Writes.{at_case, at_same, at₃_case, at₄_case}
 use Rattle.dr_faithful.specs.Faithful.{AreOld, Faithful}
@@ -20,22 +20,23 @@ rises : (a x : ℕ) → x ≤ a → a < 2 ^ 64 → (x ≤ one_more 64 a) × (one
 rises a x l b = (omega arith, omega arith)
 
 -- the own beat word takes the number of acts
-beat_grown : (g : Group) (V : Views) (w : World) (m : ℕ) → Faithful g V w
-    → HasGrown (roster g) BEAT_COLUMN (own_word w m BEAT_COLUMN) (one_more 64 (w.past.acts m))
-beat_grown g V w m f = grown_free (roster g) BEAT_COLUMN _ _ (inl (omega arith, omega arith))
-    (rises (w.past.acts m) (own_word w m BEAT_COLUMN)
-    ((f.words.own m (w.past.view m) BEAT_COLUMN).beat refl) (f.logs.bounded m)).0
+beat_grown : (g : Group) (V : Views) (w : World) (m b : ℕ) → Faithful g V w
+    → HasGrown (roster g) BEAT_COLUMN (w.past.own m b BEAT_COLUMN) (one_more 64 (w.past.acts m))
+beat_grown g V w m b f = grown_free (roster g) BEAT_COLUMN _ _ (inl (omega arith, omega arith))
+    (rises (w.past.acts m) (w.past.own m b BEAT_COLUMN)
+    ((f.words.own m b BEAT_COLUMN).beat refl) (f.logs.bounded m)).0
 
-own_after : (g : Group) (V : Views) (w : World) (m : ℕ) → Faithful g V w → (i v c : ℕ)
-    → HasGrown (roster g) c (w.past.own i v c) ((stamped w m).past.own i v c)
-own_after g V w m f = own_grown g w.past.own m (w.past.view m) BEAT_COLUMN (one_more 64 (w.past.acts m))
-    (beat_grown g V w m f)
+own_after : (g : Group) (V : Views) (w : World) (m b : ℕ) → Faithful g V w → (i v c : ℕ)
+    → HasGrown (roster g) c (w.past.own i v c) ((stamped_in w m b).past.own i v c)
+own_after g V w m b f = own_grown g w.past.own m b BEAT_COLUMN (one_more 64 (w.past.acts m))
+    (beat_grown g V w m b f)
 
 -- the number of acts grows
-pub stamp_past : (g : Group) (V : Views) (w : World) (m : ℕ) → Faithful g V w
-    → PastGrew w.past (stamped w m).past
-stamp_past g V w m f =
+pub stamp_past : (g : Group) (V : Views) (w : World) (m b : ℕ) → Faithful g V w
+    → PastGrew w.past (stamped_in w m b).past
+stamp_past g V w m b f =
     let same = past_same w.past in record {
+      view = same.view;
       count = same.count;
       sent = same.sent;
       history = same.history;
@@ -48,16 +49,16 @@ stamp_past g V w m f =
     }
 
 -- and the beat word with it
-pub stamp_grew : (g : Group) (V : Views) (w : World) (m : ℕ) → Faithful g V w
-    → WordsGrew g w (stamped w m)
-stamp_grew g V w m f = record {
-  own = own_after g V w m f;
+pub stamp_grew : (g : Group) (V : Views) (w : World) (m b : ℕ) → Faithful g V w
+    → WordsGrew g w (stamped_in w m b)
+stamp_grew g V w m b f = record {
+  own = own_after g V w m b f;
   table = at₄_case (λ v j i c z. HasGrown (roster g) c (w.table v j i c) z) w.table
-      (w.past.view m) m m BEAT_COLUMN (one_more 64 (w.past.acts m))
+      b m m BEAT_COLUMN (one_more 64 (w.past.acts m))
       (λ v j i c. HasGrown_refl (roster g) c (w.table v j i c))
-      (HasGrown_trans (roster g) BEAT_COLUMN (w.table (w.past.view m) m m BEAT_COLUMN)
-      (own_word w m BEAT_COLUMN) (one_more 64 (w.past.acts m)) (f.old.in_table (w.past.view m) m m 0)
-      (beat_grown g V w m f));
+      (HasGrown_trans (roster g) BEAT_COLUMN (w.table b m m BEAT_COLUMN)
+      (w.past.own m b BEAT_COLUMN) (one_more 64 (w.past.acts m)) (f.old.in_table b m m 0)
+      (beat_grown g V w m b f));
   seen = λ i k c e. HasGrown_refl (roster g) c (w.seen i k c);
 }
 
@@ -70,44 +71,44 @@ own_beat : (f : ℕ → ℕ → ℕ → ℕ) (m v x : ℕ) → at₃ f m v 0 x m
 own_beat f m v x = grind arith
 
 -- the words of the table are older ones still
-stamp_old : (g : Group) (V : Views) (w : World) (m : ℕ) → Faithful g V w
-    → AreOld g w.past.view (stamped w m).past.own (stamped w m).table w.seen
-stamp_old g V w m f = record {
+stamp_old : (g : Group) (V : Views) (w : World) (m b : ℕ) → Faithful g V w
+    → AreOld g w.past.view (stamped_in w m b).past.own (stamped_in w m b).table w.seen
+stamp_old g V w m b f = record {
   in_table = at₄_case (λ v j i c z. HasGrown (roster g) c z
-      (at₃ w.past.own m (w.past.view m) BEAT_COLUMN acts i v c)) w.table
-      (w.past.view m) m m BEAT_COLUMN acts
+      (at₃ w.past.own m b BEAT_COLUMN acts i v c)) w.table
+      b m m BEAT_COLUMN acts
       (old_later g w.past.view w.past.own
-      (at₃ w.past.own m (w.past.view m) BEAT_COLUMN acts) w.table w.seen
-      (own_after g V w m f) f.old).in_table
-      (HasGrown_same (roster g) BEAT_COLUMN acts _ (own_beat w.past.own m (w.past.view m) acts));
+      (at₃ w.past.own m b BEAT_COLUMN acts) w.table w.seen
+      (own_after g V w m b f) f.old).in_table
+      (HasGrown_same (roster g) BEAT_COLUMN acts _ (own_beat w.past.own m b acts));
   in_seen = λ i k c d. subst (λ (z : ℕ). HasGrown (roster g) c (w.seen i k c) z)
-      (sym (other_row w.table (w.past.view m) m acts (w.past.view i) i k c d)) (f.old.in_seen i k c d);
+      (sym (other_row w.table b m acts (w.past.view i) i k c d)) (f.old.in_seen i k c d);
 }
   where
     acts : ℕ
     acts = one_more 64 (w.past.acts m)
 
 -- the beat word tells of it
-pub stamp_keeps : (g : Group) (V : Views) (w : World) (m : ℕ) → Faithful g V w
-    → Faithful g V (stamped w m)
-stamp_keeps g V w m f = record {
+pub stamp_keeps : (g : Group) (V : Views) (w : World) (m b : ℕ) → b ≤ w.past.view m → Faithful g V w
+    → Faithful g V (stamped_in w m b)
+stamp_keeps g V w m b come f = record {
   beginning = f.beginning;
   views = f.views;
   items = f.items;
   sent = f.sent;
   counts = counts_word g V w.past.view w.suspects w.past.own w.past.count m
-      (w.past.view m) BEAT_COLUMN acts plain f.counts;
-  suspicions = suspicions_word g V w.past.view w.suspects w.promise w.past.own m (w.past.view m) BEAT_COLUMN
+      b BEAT_COLUMN acts plain f.counts;
+  suspicions = suspicions_word g V w.past.view w.suspects w.promise w.past.own m b BEAT_COLUMN
       acts plain f.suspicions;
-  accepts = accepts_word g V w.past.view w.promise w.tag w.value w.pending w.past.own m (w.past.view m)
-      BEAT_COLUMN acts plain f.accepts;
+  accepts = accepts_word g V w.past.view w.promise w.tag w.value w.pending w.past.own m b BEAT_COLUMN acts
+      plain f.accepts;
   words = record {
-    own = at₃_case (λ i v k z. Tells g V past i v k z) w.past.own m (w.past.view m) BEAT_COLUMN acts
+    own = at₃_case (λ i v k z. Tells g V past i v k z) w.past.own m b BEAT_COLUMN acts
         (λ i v k. tells_later g V w.past past i v k (w.past.own i v k) grew (f.words.own i v k))
-        (told (w.past.view m));
-    table = at₄_case (λ v j i k z. Tells g V past i v k z) w.table (w.past.view m) m m BEAT_COLUMN acts
+        (told b);
+    table = at₄_case (λ v j i k z. Tells g V past i v k z) w.table b m m BEAT_COLUMN acts
         (λ v j i k. tells_later g V w.past past i v k (w.table v j i k) grew (f.words.table v j i k))
-        (told (w.past.view m));
+        (told b);
     seen = λ a i k. tells_later g V w.past past i (w.past.view a) k (w.seen a i k) grew (f.words.seen a i k);
   };
   logs = record {
@@ -116,13 +117,14 @@ stamp_keeps g V w m f = record {
     safe = f.logs.safe;
     small = f.logs.small;
   };
-  delivered = delivered_word g V w.past.view w.next w.past.own w.past.history m
-      (w.past.view m) BEAT_COLUMN acts plain f.delivered;
-  old = stamp_old g V w m f;
+  delivered = delivered_word g V w.past.view w.next w.past.own m b BEAT_COLUMN acts plain f.delivered;
+  fresh = fresh_written w.past.view w.past.own w.past.count m b _ come f.fresh;
+  closed = closed_stamped g V w.past.view w.past.own m b acts f.closed;
+  old = stamp_old g V w m b f;
   form = record {
-    in_own = (form_word g w.past.own w.table w.seen m (w.past.view m) BEAT_COLUMN acts free f.form).in_own;
+    in_own = (form_word g w.past.own w.table w.seen m b BEAT_COLUMN acts free f.form).in_own;
     in_table = at₄_case (λ v j i c z. IsInForm (roster g) c z) w.table
-        (w.past.view m) m m BEAT_COLUMN acts f.form.in_table free;
+        b m m BEAT_COLUMN acts f.form.in_table free;
     in_seen = f.form.in_seen;
   };
 }
@@ -137,10 +139,10 @@ stamp_keeps g V w m f = record {
     free = form_free (roster g) BEAT_COLUMN acts (inl (omega arith, omega arith))
 
     past : Past
-    past = (stamped w m).past
+    past = (stamped_in w m b).past
 
-    grew : PastGrew w.past (stamped w m).past
-    grew = stamp_past g V w m f
+    grew : PastGrew w.past (stamped_in w m b).past
+    grew = stamp_past g V w m b f
 
-    told : (v : ℕ) → Tells g V (stamped w m).past m v BEAT_COLUMN (one_more 64 (w.past.acts m))
-    told v = tells_beat g V (stamped w m).past m v acts (le_of_eq (sym (at_same w.past.acts m acts)))
+    told : (v : ℕ) → Tells g V (stamped_in w m b).past m v BEAT_COLUMN (one_more 64 (w.past.acts m))
+    told v = tells_beat g V (stamped_in w m b).past m v acts (le_of_eq (sym (at_same w.past.acts m acts)))

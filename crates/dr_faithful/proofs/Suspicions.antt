@@ -1,5 +1,5 @@
 -- A member suspects another one: its whole row is written anew, and the members stay faithful.
-use Rattle.std.proofs.Common.{Bool, ap, arith, false, inl, inr, le_trans, refl, subst, sym, true, Some, ℕ, ◌+◌, ◌-◌, ◌<◌, ◌==◌, ◌^◌, ◌||◌, ◌∙◌, ◌≡◌, ◌≢◌, ◌≤◌, ◌⊎◌}
+use Rattle.std.proofs.Common.{Bool, ap, arith, false, inl, inr, le_trans, refl, subst, sym, true, Some, ℕ, ◌+◌, ◌-◌, ◌<◌, ◌==◌, ◌^◌, ◌||◌, ◌∙◌, ◌≡◌, ◌≢◌, ◌≤◌, ◌⊎◌, le_refl}
 use Rattle.std.proofs.lemmas.Bool.{cases_eq}
 use Rattle.dr_entry.specs.declared.record.Vote.{Vote}
 use Rattle.dr_history.specs.Members.{has}
@@ -10,7 +10,7 @@ use Rattle.dr_machine.specs.Run.{PastGrew, WordsGrew}
 use Rattle.dr_machine.specs.World.{Past, World, own_word}
 use Rattle.dr_machine.specs.Writes.{at, at₂}
 use Rattle.dr_faithful.proofs.Forms.{accept_between}
-use Rattle.dr_faithful.proofs.OwnWords.{accept_columns, old_later}
+use Rattle.dr_faithful.proofs.OwnWords.{accept_columns, closed_written, fresh_written, old_later}
 use Rattle.dr_faithful.proofs.Pasts.{same_past, tells_later, tells_recv, tells_accept, tells_suspected}
 use Rattle.dr_faithful.proofs.Writes.{at_case, at_other, at_same, at₂_case, at₂_read}
 use Rattle.dr_faithful.specs.Faithful.{AreAccepts, AreCounts, AreSuspicions, Faithful, IsWaiting, Numbers}
@@ -219,15 +219,15 @@ with_other : (i j : ℕ) (b : Bool) → i ≢ j → (i == j || b) ≡ b
 with_other i j b d = grind arith
 
 -- masks of the view have 16 bits
-view_small : (g : Group) (V : Views) (w : World) (mask v : ℕ) → IsGroup g → Faithful g V w
+pub mask_small : (g : Group) (V : Views) (w : World) (mask v : ℕ) → IsGroup g → Faithful g V w
     → IsPartOf mask (V v) → mask < 2 ^ 16
-view_small g V w mask v is f part =
+mask_small g V w mask v is f part =
     in_roster_small 16 mask (λ i h. le_trans (f.views.within v i (part i h)) is.most_members)
 
 pub members_small : (g : Group) (V : Views) (w : World) (m : ℕ) → IsGroup g → Faithful g V w
     → w.members m < 2 ^ 16
 members_small g V w m is f =
-    rw (f.views.own m) (view_small g V w (V (w.past.view m)) (w.past.view m) is f (λ i h. h))
+    rw (f.views.own m) (mask_small g V w (V (w.past.view m)) (w.past.view m) is f (λ i h. h))
 
 has_mask : (g : Group) (V : Views) (w : World) (m j i : ℕ) → IsGroup g → CanSuspect g w m j
     → Faithful g V w → has (mask_after w m j) i ≡ (i == j || has (w.suspects m) i)
@@ -235,7 +235,7 @@ has_mask g V w m j i is can f =
     let view : has (V (w.past.view m)) j ≡ true =
     ap (λ k. has k j) (sym (f.views.own m)) ∙ can.other.member in
     has_with_member (w.suspects m) j i
-    (view_small g V w (w.suspects m) (w.past.view m) is f (f.suspicions.part m))
+    (mask_small g V w (w.suspects m) (w.past.view m) is f (f.suspicions.part m))
     (le_trans (f.views.within (w.past.view m) j view) is.most_members)
 
 -- one that was suspected still is
@@ -334,7 +334,7 @@ own_after g V w m j is can f =
 
 -- a suspicion is not what only grows
 pub suspect_past : (g : Group) (w : World) (m j : ℕ) → PastGrew w.past (suspects g w m j).past
-suspect_past g w m j = same_past w.past (suspects g w m j).past refl refl refl refl refl refl refl
+suspect_past g w m j = same_past w.past (suspects g w m j).past refl refl refl refl refl refl refl refl
 
 -- the words grow
 pub suspect_grew : (g : Group) (V : Views) (w : World) (m j : ℕ) → IsGroup g → CanSuspect g w m j
@@ -510,8 +510,10 @@ suspect_keeps g V w m j is can f = record {
     held = λ a i l h. rw (plain_kept w.past.own (roster g) (w.members m) (mask_after w m j)
         (promise_after w m j) m (w.past.view m) i (w.past.view a) RECEIVED_COLUMN (omega arith)
         (omega arith)) (f.delivered.held a i l h);
-    short = f.delivered.short;
   };
+  fresh = fresh_written w.past.view w.past.own w.past.count m (w.past.view m) (row_after g w m j)
+      (le_refl (w.past.view m)) f.fresh;
+  closed = closed_written g V w.past.view w.past.own m (row_after g w m j) f.closed;
   old = old_later g w.past.view w.past.own (suspects g w m j).past.own w.table w.seen
       (own_after g V w m j is can f) f.old;
   form = record {
@@ -530,30 +532,46 @@ suspect_keeps g V w m j is can f = record {
 
 -- ---- what is told of suspicions
 
+-- an own word with a final count is that of a member that suspects somebody there
+final_wedged : (g : Group) (V : Views) (w : World) (i v s : ℕ) → Faithful g V w → s < roster g
+    → is_final (w.past.own i v (recv_column s)) ≡ true → w.past.own i v SUSPECTED_COLUMN ≢ 0
+final_wedged g V w i v s f l final none = by (which v (w.past.view i))
+  where
+    which : (v u : ℕ) → (v < u) ⊎ ((v ≡ u) ⊎ (u < v))
+    which v u = grind arith
+
+    by : (v < w.past.view i) ⊎ ((v ≡ w.past.view i) ⊎ (w.past.view i < v)) → ⊥
+    by (inl left) = (f.closed i v left).wedged none
+    by (inr (inl same)) =
+        let here : w.suspects i ≡ 0 = sym (f.suspicions.told i)
+        ∙ ap (λ u. w.past.own i u SUSPECTED_COLUMN) (sym same) ∙ none in
+        absurd (cc (final, same, f.counts.unfinished i s l here))
+    by (inr (inr later)) = absurd (cc (final, f.fresh.unwritten i v (recv_column s) later))
+
 -- a word that its own one has grown from tells of the suspicions
-tells_suspicion : (g : Group) (V : Views) (w : World) (i c word : ℕ) → Faithful g V w
-    → HasGrown (roster g) c word (own_word w i c) → TellsSuspicion g w i c word
-tells_suspicion g V w i c word f grown = record {
-  suspected = λ e. subst (λ k. IsPartOf word k) (ap (own_word w i) e ∙ f.suspicions.told i)
-      (grown.suspected e);
+tells_suspicion : (g : Group) (V : Views) (w : World) (i v c word : ℕ) → Faithful g V w
+    → HasGrown (roster g) c word (w.past.own i v c) → TellsSuspicion g w.past i v c word
+tells_suspicion g V w i v c word f grown = record {
+  suspected = λ e. subst (λ k. IsPartOf word k) (ap (w.past.own i v) e) (grown.suspected e);
   final = λ s l e h. let same = grown.final s l e h in (
     same,
-    sym (f.counts.recv i (w.past.view i) s l) ∙ ap (λ k. recv_count (own_word w i k)) (sym e)
-        ∙ ap recv_count same,
-    λ none. absurd (cc (h, same, e, f.counts.unfinished i s l none)),
+    sym (f.counts.recv i v s l) ∙ ap (λ k. recv_count (w.past.own i v k)) (sym e) ∙ ap recv_count same,
+    final_wedged g V w i v s f l (ap (λ k. is_final (w.past.own i v k)) (sym e) ∙ ap is_final same ∙ h),
   );
-  promise = λ a. omega (arith, grown.number, f.suspicions.accept i c (rw (← f.views.own i) a));
+  promise = omega (arith, grown.number);
 }
 
 -- all words do
 pub suspicions_told : (g : Group) (V : Views) (w : World) → Faithful g V w → SuspicionsTold g w
 suspicions_told g V w f = record {
-  own = λ i c. tells_suspicion g V w i c (own_word w i c) f (HasGrown_refl (roster g) c (own_word w i c));
-  table = λ j i c. tells_suspicion g V w i c _ f (f.old.in_table (w.past.view i) j i c);
-  seen = λ m i c d e. tells_suspicion g V w i c (w.seen m i c) f
-      (subst (λ v. HasGrown (roster g) c (w.seen m i c) (w.past.own i v c)) e
+  own = λ i v c. tells_suspicion g V w i v c (w.past.own i v c) f
+      (HasGrown_refl (roster g) c (w.past.own i v c));
+  table = λ v j i c. tells_suspicion g V w i v c _ f (f.old.in_table v j i c);
+  seen = λ m i c d. tells_suspicion g V w i (w.past.view m) c (w.seen m i c) f
       (HasGrown_trans (roster g) c (w.seen m i c) (w.table (w.past.view m) m i c) _ (f.old.in_seen m i c d)
-      (f.old.in_table (w.past.view m) m i c)));
+      (f.old.in_table (w.past.view m) m i c));
+  suspects = f.suspicions.told;
+  promises = λ i c a. f.suspicions.accept i c (rw (← f.views.own i) a);
 }
 
 -- a member that suspects somebody waits for the least that it doesn't suspect

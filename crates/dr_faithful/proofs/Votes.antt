@@ -1,5 +1,5 @@
 -- A member logs a vote, accepts what it has voted for, and commits it: the members stay faithful.
-use Rattle.std.proofs.Common.{Bool, List, None, Some, [], ap, arith, false, inl, inr, refl, slice_index, subst, sym, true, ℕ, ◌++◌, ◌+◌, ◌-◌, ◌<◌, ◌^◌, ◌∙◌, ◌∷◌, ◌≡◌, ◌≢◌, ◌≤◌, ◌⊎◌}
+use Rattle.std.proofs.Common.{Bool, List, None, Some, [], ap, arith, false, inl, inr, le_refl, refl, slice_index, subst, sym, true, ℕ, ◌++◌, ◌+◌, ◌-◌, ◌<◌, ◌^◌, ◌∙◌, ◌∷◌, ◌≡◌, ◌≢◌, ◌≤◌, ◌⊎◌}
 use Rattle.std.specs.Prelude.{unwrap_or}
 use Rattle.std.proofs.Math.Nat.{pow-le-pow_right}
 use Rattle.std.proofs.lemmas.Bool.{cases_eq}
@@ -13,7 +13,7 @@ use Rattle.dr_machine.specs.Guards.{CanLogVote, IsToAccept, IsToPropose}
 use Rattle.dr_machine.specs.Run.{PastGrew, WordsGrew}
 use Rattle.dr_machine.specs.World.{Past, World, no_vote, own_word, shown}
 use Rattle.dr_machine.specs.Writes.{at}
-use Rattle.dr_faithful.proofs.OwnWords.{accept_columns, old_later}
+use Rattle.dr_faithful.proofs.OwnWords.{accept_columns, closed_written, fresh_written, old_later}
 use Rattle.dr_faithful.proofs.Pasts.{past_same, prefix_refl, same_past, tells_accept, tells_later, words_later}
 use Rattle.dr_faithful.proofs.Shown.{shown_own, shown_seen}
 use Rattle.dr_faithful.proofs.Writes.{at_case, at_other, at_same, at₂_case, at₂_read}
@@ -38,6 +38,7 @@ pub vote_past : (g : Group) (w : World) (m : ℕ) (v : Value)
 vote_past g w m v =
     let same = past_same w.past in
     let one : List Vote = vote_for g w m v ∷ [] in record {
+      view = same.view;
       count = same.count;
       sent = same.sent;
       history = same.history;
@@ -158,6 +159,8 @@ vote_keeps g V w m v can f = record {
   words = words_later g V w (logs_vote g w m v) (vote_past g w m v) refl refl refl refl f.words;
   logs = f.logs;
   delivered = f.delivered;
+  fresh = f.fresh;
+  closed = f.closed;
   old = f.old;
   form = f.form;
 }
@@ -352,7 +355,7 @@ mine_after g w m c = ap (λ r. r c) (at₂_read w.past.own m (w.past.view m) (ac
 
 -- an acceptance is not what only grows
 pub accept_past : (g : Group) (w : World) (m : ℕ) → PastGrew w.past (accepts g w m).past
-accept_past g w m = same_past w.past (accepts g w m).past refl refl refl refl refl refl refl
+accept_past g w m = same_past w.past (accepts g w m).past refl refl refl refl refl refl refl refl
 
 -- the words grow
 pub accept_grew : (g : Group) (V : Views) (w : World) (m : ℕ) (x : Vote) → w.pending m ≡ Some x
@@ -499,8 +502,10 @@ accept_keeps g V w m x is e f = record {
   delivered = record {
     held = λ a i l h. rw (plain_after g w m i (w.past.view a) RECEIVED_COLUMN (omega arith))
         (f.delivered.held a i l h);
-    short = f.delivered.short;
   };
+  fresh = fresh_written w.past.view w.past.own w.past.count m (w.past.view m) (accepted_row g w m)
+      (le_refl (w.past.view m)) f.fresh;
+  closed = closed_written g V w.past.view w.past.own m (accepted_row g w m) f.closed;
   old = old_later g w.past.view w.past.own (accepts g w m).past.own w.table w.seen
       (own_after g V w m x e f) f.old;
   form = record {
@@ -528,6 +533,8 @@ commit_keeps g V w m f = record {
   words = words_later g V w (commits w m) (past_same w.past) refl refl refl refl f.words;
   logs = f.logs;
   delivered = f.delivered;
+  fresh = f.fresh;
+  closed = f.closed;
   old = f.old;
   form = f.form;
 }

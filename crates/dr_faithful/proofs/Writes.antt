@@ -16,6 +16,18 @@ pub at_case : {A : Type 0} (P : ℕ → A → Type 0) (f : ℕ → A) (i : ℕ) 
     → ((k : ℕ) → k ≢ i → P k (f k)) → P i v → (k : ℕ) → P k (at f i v k)
 at_case P f i v others here k = grind (arith, others k)
 
+-- two functions written at one argument
+pub at_both : {A B : Type 0} (P : ℕ → A → B → Type 0) (f : ℕ → A) (h : ℕ → B) (i : ℕ) (x : A)
+    (y : B) → ((k : ℕ) → P k (f k) (h k)) → P i x y → (k : ℕ) → P k (at f i x k) (at h i y k)
+at_both P f h i x y old here k = grind (arith, old k)
+
+-- and three
+pub at_three : {A B C : Type 0} (P : ℕ → A → B → C → Type 0) (f : ℕ → A) (h : ℕ → B)
+    (e : ℕ → C) (i : ℕ) (x : A) (y : B) (z : C)
+    → ((k : ℕ) → P k (f k) (h k) (e k)) → P i x y z → (k : ℕ)
+    → P k (at f i x k) (at h i y k) (at e i z k)
+at_three P f h e i x y z old here k = grind (arith, old k)
+
 -- the same of two arguments
 pub at₂_case : {A : Type 0} (P : ℕ → ℕ → A → Type 0) (f : ℕ → ℕ → A) (a b : ℕ) (v : A)
     → ((i j : ℕ) → P i j (f i j)) → P a b v → (i j : ℕ) → P i j (at₂ f a b v i j)
@@ -39,6 +51,16 @@ at₄_case P f a b c d v old here i j k l = grind (arith, old i j k l)
 pub at₃_column : {A : Type 0} (f : ℕ → ℕ → ℕ → A) (a b c : ℕ) (v : A) (i j k : ℕ)
     → k ≢ c → at₃ f a b c v i j k ≡ f i j k
 at₃_column f a b c v i j k d = grind arith
+
+-- and so is another member's
+pub at₃_member : {A : Type 0} (f : ℕ → ℕ → ℕ → A) (a b c : ℕ) (v : A) (i j k : ℕ)
+    → i ≢ a → at₃ f a b c v i j k ≡ f i j k
+at₃_member f a b c v i j k d = grind arith
+
+-- and that of another view
+pub at₃_view : {A : Type 0} (f : ℕ → ℕ → ℕ → A) (a b c : ℕ) (v : A) (i j k : ℕ)
+    → j ≢ b → at₃ f a b c v i j k ≡ f i j k
+at₃_view f a b c v i j k d = grind arith
 
 -- two functions written at the same arguments
 pub at₂_both : {A B : Type 0} (P : ℕ → ℕ → A → B → Type 0) (f : ℕ → ℕ → A)

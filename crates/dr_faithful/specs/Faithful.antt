@@ -6,10 +6,10 @@ use Rattle.dr_entry.specs.declared.entry.Entry.{Entry}
 use Rattle.dr_entry.specs.declared.entry.Item.{Item}
 use Rattle.dr_entry.specs.declared.record.Value.{Value}
 use Rattle.dr_entry.specs.declared.record.Vote.{Vote}
+use Rattle.dr_history.specs.Order.{messages_from}
 use Rattle.dr_history.specs.Members.{has, members_of}
 use Rattle.dr_history.specs.Places.{front_of}
 use Rattle.dr_history.specs.History.{IsPrefixOf, Sent, messages_of}
-use Rattle.dr_history.specs.Order.{first_entries, messages_from}
 use Rattle.dr_words.specs.declared.column.TheConstants.{SUSPECTED_COLUMN, RECEIVED_COLUMN}
 use Rattle.dr_words.specs.Accepts.{part_of}
 use Rattle.dr_words.specs.Columns.{recv_column}
@@ -17,7 +17,8 @@ use Rattle.dr_words.specs.Form.{IsInForm}
 use Rattle.dr_words.specs.Grown.{HasGrown}
 use Rattle.dr_words.specs.Masks.{IsPartOf, least_of, without}
 use Rattle.dr_words.specs.Packing.{accept_promise, accept_tag, accept_value, recv_count, is_final}
-use Rattle.dr_machine.specs.Effects.{is_accept_of}
+use Rattle.dr_machine.specs.Effects.{is_accept_of, finished_history}
+use Rattle.dr_machine.specs.Guards.{CanFinish}
 use Rattle.dr_machine.specs.Group.{Group, IsPresent, roster}
 use Rattle.dr_machine.specs.Sending.{IsPut}
 use Rattle.dr_machine.specs.World.{World}
@@ -35,12 +36,9 @@ Items = ℕ → ℕ → ℕ → Item
 abbrev pub Table : Type 0
 Table = ℕ → ℕ → ℕ → ℕ → ℕ
 
--- so far every member is there, and there is one view
-pub record IsBeginning (g : Group) (view base : ℕ → ℕ) : Type 0 where
+-- so far every member is there
+pub record IsBeginning (g : Group) : Type 0 where
   pub all : (m : ℕ) → m < roster g → IsPresent g m
-  pub first : (m : ℕ) → view m ≡ 0
-  -- each member goes on behind the messages of the start
-  pub start : (m : ℕ) → base m ≡ length (messages_from m g.opening.start)
 
 -- each member that is there is in a view of the roster
 pub record AreInViews (g : Group) (V : Views) (view members : ℕ → ℕ) : Type 0 where
@@ -119,12 +117,14 @@ pub record AreLogs (g : Group) (V : Views) (view : ℕ → ℕ) (acts durable : 
   pub small : (m : ℕ) → durable m < 2 ^ 64
 
 -- a member has delivered only places that every member of its view holds
-pub record AreDelivered (g : Group) (V : Views) (view next : ℕ → ℕ) (own : Numbers)
-    (history : ℕ → List Entry) : Type 0 where
+pub record AreDelivered (g : Group) (V : Views) (view next : ℕ → ℕ) (own : Numbers) : Type 0 where
   pub held : (m i : ℕ) → IsPresent g m → has (V (view m)) i ≡ true → next m
       ≤ own i (view m) RECEIVED_COLUMN
-  -- each place delivered has added one entry at most
-  pub short : (m : ℕ) → length (history m) ≤ length (first_entries g.opening) + next m
+
+-- in a view that it has not come to, a member has written no word and has no items
+pub record AreFresh (view : ℕ → ℕ) (own count : Numbers) : Type 0 where
+  pub unwritten : (m v c : ℕ) → view m < v → own m v c ≡ 0
+  pub empty : (m v s : ℕ) → view m < v → count m v s ≡ 0
 
 -- a word in the table is an older one of its owner, and a seen word an older one of the table
 pub record AreOld (g : Group) (view : ℕ → ℕ) (own : Numbers) (table : Table)
@@ -138,9 +138,35 @@ pub record AreInForm (g : Group) (own : Numbers) (table : Table) (seen : Numbers
   pub in_table : (v j i c : ℕ) → IsInForm (roster g) c (table v j i c)
   pub in_seen : (m i c : ℕ) → IsInForm (roster g) c (seen m i c)
 
+-- the own words of member m in a view of these members that it has left: it suspected others of it alone,
+-- each of its counts is final, and it has promised to accept what the least one proposes that it didn't
+-- suspect
+pub record IsClosed (g : Group) (view m : ℕ) (row : ℕ → ℕ) : Type 0 where
+  pub part : IsPartOf (row SUSPECTED_COLUMN) view
+  pub trusted : has (row SUSPECTED_COLUMN) m ≡ false
+  pub wedged : row SUSPECTED_COLUMN ≢ 0
+  pub final : (s : ℕ) → has view s ≡ true → is_final (row (recv_column s)) ≡ true
+  pub promise : (c : ℕ) → is_accept_of (roster g) view c ≡ true
+      → accept_promise (row c) ≡ least_of (without view (row SUSPECTED_COLUMN))
+
+-- so are those of each member in each view that it has left
+abbrev pub AreClosed : Group → Views → (ℕ → ℕ) → Numbers → Type 0
+AreClosed g V view own = (m v : ℕ) → v < view m → IsClosed g (V v) m (own m v)
+
+-- a member that ends its view with a value goes on as it should: it suspects somebody, the next view has
+-- those that remain, and the member's history holds no more of its own messages than the script has
+pub record GoesOnWell (g : Group) (V : Views) (w : World) (m : ℕ) (value : Value) : Type 0 where
+  pub wedged : w.suspects m ≢ 0
+  pub next : V (w.past.view m + 1) ≡ without (w.members m) value.leavers
+  pub few : length (messages_from m (finished_history g w m value)) ≤ length (messages_of g.opening m)
+
+-- and so does each that may end its view
+abbrev pub AllGoOn : Group → Views → World → Type 0
+AllGoOn g V w = (m : ℕ) → (can : CanFinish g w m) → GoesOnWell g V w m can.value
+
 -- the members of a group are faithful
 pub record Faithful (g : Group) (V : Views) (w : World) : Type 0 where
-  pub beginning : IsBeginning g w.past.view w.base
+  pub beginning : IsBeginning g
   pub views : AreInViews g V w.past.view w.members
   pub items : AreItems g V w.past.view w.past.count w.item w.past.sent
   pub sent : AreSent g w.past.view w.base w.past.sent w.past.count
@@ -149,6 +175,8 @@ pub record Faithful (g : Group) (V : Views) (w : World) : Type 0 where
   pub accepts : AreAccepts g V w.past.view w.promise w.tag w.value w.pending w.past.own
   pub words : WordsTell g V w
   pub logs : AreLogs g V w.past.view w.past.acts w.past.durable w.past.log w.past.history
-  pub delivered : AreDelivered g V w.past.view w.next w.past.own w.past.history
+  pub delivered : AreDelivered g V w.past.view w.next w.past.own
+  pub fresh : AreFresh w.past.view w.past.own w.past.count
+  pub closed : AreClosed g V w.past.view w.past.own
   pub old : AreOld g w.past.view w.past.own w.table w.seen
   pub form : AreInForm g w.past.own w.table w.seen

@@ -17,15 +17,11 @@ use Rattle.dr_words.specs.Masks.{IsPartOf}
 use Rattle.dr_words.specs.Packing.{accept_promise, is_final, ring_word, recv_count}
 use Rattle.dr_machine.specs.Effects.{is_accept_of}
 use Rattle.dr_machine.specs.Group.{Group, roster}
-use Rattle.dr_machine.specs.World.{Past, World, count_of, own_word}
+use Rattle.dr_machine.specs.World.{Past, World, own_word}
 
 -- the members of each view, as a mask, by the view's number
 abbrev pub Views : Type 0
 Views = ℕ → ℕ
-
--- the members of each view of a world: so far there is one view
-abbrev pub views_of : Group → World → Views
-views_of g w v = g.opening.members
 
 -- the item that an element of what s has put names: a null, or the message of the script with that index
 abbrev pub item_named : Group → ℕ → SentItem → Item
@@ -76,22 +72,28 @@ pub record Tells (g : Group) (V : Views) (past : Past) (i v c word : ℕ) : Type
   pub ring : (slot part : ℕ) → slot < g.window → part < PIECES → c ≡ part_column g slot part
       → TellsPiece g (length (past.sent i v)) (item_sent g past.sent i v) slot part word
 
--- what a word of column c tells of whom member i suspects in its view, and of what that makes final, where
--- it stands in i's row in the bank of that view
-pub record TellsSuspicion (g : Group) (w : World) (i c word : ℕ) : Type 0 where
+-- what a word of column c tells of whom member i suspects in a view, and of what that makes final, where it
+-- stands in i's row in the bank of that view: it is told of i's own words there, also once i has left the
+-- view
+pub record TellsSuspicion (g : Group) (past : Past) (i v c word : ℕ) : Type 0 where
   -- whom it suspects
-  pub suspected : c ≡ SUSPECTED_COLUMN → IsPartOf word (w.suspects i)
+  pub suspected : c ≡ SUSPECTED_COLUMN → IsPartOf word (past.own i v SUSPECTED_COLUMN)
   -- where a count is final, how many items of that sender it has, for good
   pub final : (s : ℕ) → s < roster g → c ≡ recv_column s → is_final word ≡ true
-      → (own_word w i c ≡ word) × (count_of w i s ≡ recv_count word) × (w.suspects i ≢ 0)
+      → (past.own i v c ≡ word) × (past.count i v s ≡ recv_count word)
+      × (past.own i v SUSPECTED_COLUMN ≢ 0)
   -- whose proposal it waits for: of that member, or of a greater one by now
-  pub promise : is_accept_of (roster g) (w.members i) c ≡ true → accept_promise word ≤ w.promise i
+  pub promise : accept_promise word ≤ accept_promise (past.own i v c)
 
--- every word tells that: own words, those of the table, and those that members of the same view have seen
+-- every word tells that: own words, those of the table, and those that were seen. In the view that it is
+-- in, the own words of a member say whom it suspects, and its accept words what it has promised
 pub record SuspicionsTold (g : Group) (w : World) : Type 0 where
-  pub own : (i c : ℕ) → TellsSuspicion g w i c (own_word w i c)
-  pub table : (j i c : ℕ) → TellsSuspicion g w i c (w.table (w.past.view i) j i c)
-  pub seen : (m i c : ℕ) → i ≢ m → w.past.view m ≡ w.past.view i → TellsSuspicion g w i c (w.seen m i c)
+  pub own : (i v c : ℕ) → TellsSuspicion g w.past i v c (w.past.own i v c)
+  pub table : (v j i c : ℕ) → TellsSuspicion g w.past i v c (w.table v j i c)
+  pub seen : (m i c : ℕ) → i ≢ m → TellsSuspicion g w.past i (w.past.view m) c (w.seen m i c)
+  pub suspects : (i : ℕ) → own_word w i SUSPECTED_COLUMN ≡ w.suspects i
+  pub promises : (i c : ℕ) → is_accept_of (roster g) (w.members i) c ≡ true
+      → accept_promise (own_word w i c) ≡ w.promise i
 
 -- every word tells: own words, those of the table, and those that were seen
 pub record WordsTell (g : Group) (V : Views) (w : World) : Type 0 where

@@ -1,45 +1,50 @@
-//! Laws of the worlds that are reached.
-ghost use Rattle.std.specs.Prelude.{◌≢◌, ◌<◌, ℕ};
+//! Laws of the worlds whose members are faithful.
+ghost use Rattle.std.specs.Prelude.{◌≡◌, ◌≢◌, ◌<◌, true, ℕ};
+ghost use Rattle.dr_history.specs.Members.{has};
 ghost use Rattle.dr_machine.specs.declared.event.Event.{Event};
 ghost use Rattle.dr_machine.specs.Group.{Group, IsGroup, roster};
 ghost use Rattle.dr_machine.specs.Guards.{unsuspected_of};
-ghost use Rattle.dr_machine.specs.World.{World};
+ghost use Rattle.dr_machine.specs.World.{World, opening_world};
 ghost use Rattle.dr_machine.specs.Acts.{Guard, effect};
-ghost use Rattle.dr_machine.specs.Run.{IsReached, NoLaterItem, PastGrew, WordsGrew};
-ghost use Rattle.dr_faithful.specs.Faithful.{Faithful};
-ghost use Rattle.dr_faithful.specs.Tells.{SuspicionsTold, views_of};
+ghost use Rattle.dr_machine.specs.Run.{NoLaterItem, PastGrew, WordsGrew};
+ghost use Rattle.dr_faithful.specs.Faithful.{AllGoOn, Faithful};
+ghost use Rattle.dr_faithful.specs.Tells.{SuspicionsTold, Views};
 ghost use Rattle.dr_words.specs.Masks.{IsLeastOf};
 
-/// In every world that is reached the members are faithful: what a member has of another, and what a
-/// word says of its owner, is true.
+/// The members are faithful as the age opens, and each event keeps them so, as far as a member that
+/// ends its view goes on as it should: what a member has of another, and what a word says of its
+/// owner, is true.
 pub fn members_are_faithful()
-    ensures { (g : Group) (w : World) → IsGroup g → IsReached g w
-        → Faithful g (views_of g w) w }
+    ensures begins { (g : Group) (V : Views) → IsGroup g → V 0 ≡ g.opening.members
+        → ((v m : ℕ) → has (V v) m ≡ true → m < roster g) → Faithful g V (opening_world g) }
+    ensures keeps { (g : Group) (V : Views) (w : World) (e : Event) → IsGroup g → AllGoOn g V w
+        → Guard g w e → Faithful g V w → Faithful g V (effect g w e) }
 {}
 
-/// In every world that is reached each word tells truly whom its owner suspects, which of its counts are
-/// final, and for whose proposal it waits. A member that suspects somebody waits for the least member of its
-/// view that it doesn't suspect.
+/// Where the members are faithful each word tells truly whom its owner suspects, which of its counts are
+/// final, and for whose proposal it waits. A member that suspects somebody waits for the least member of
+/// its view that it doesn't suspect.
 pub fn suspicions_are_told()
-    ensures words { (g : Group) (w : World) → IsGroup g → IsReached g w → SuspicionsTold g w }
-    ensures promise { (g : Group) (w : World) (m : ℕ) → IsGroup g → IsReached g w → m < roster g
-        → w.suspects m ≢ 0 → IsLeastOf (unsuspected_of w m) (w.promise m) }
+    ensures words { (g : Group) (V : Views) (w : World) → Faithful g V w → SuspicionsTold g w }
+    ensures promise { (g : Group) (V : Views) (w : World) (m : ℕ) → IsGroup g → Faithful g V w
+        → m < roster g → w.suspects m ≢ 0 → IsLeastOf (unsuspected_of w m) (w.promise m) }
 {}
 
-/// No event makes a word fall: own words, those in the table and those that were seen only grow.
+/// No event makes a word fall: own words, those in the table and those that were seen only grow, while
+/// their member stays in its view.
 pub fn words_grow()
-    ensures { (g : Group) (w : World) (e : Event) → IsGroup g → IsReached g w → Guard g w e
-        → WordsGrew g w (effect g w e) }
+    ensures { (g : Group) (V : Views) (w : World) (e : Event) → IsGroup g → AllGoOn g V w
+        → Guard g w e → Faithful g V w → WordsGrew g w (effect g w e) }
 {}
 
 /// Nothing that was done is undone: counts of items, what was put, histories, logs, votes, durable counts
 /// and numbers of acts only grow.
 pub fn pasts_grow()
-    ensures { (g : Group) (w : World) (e : Event) → IsGroup g → IsReached g w → Guard g w e
-        → PastGrew w.past (effect g w e).past }
+    ensures { (g : Group) (V : Views) (w : World) (e : Event) → IsGroup g → AllGoOn g V w
+        → Guard g w e → Faithful g V w → PastGrew w.past (effect g w e).past }
 {}
 
 /// A member that waits for an item never finds a later one in its slot.
 pub fn no_later_item()
-    ensures { (g : Group) (w : World) → IsGroup g → IsReached g w → NoLaterItem g w }
+    ensures { (g : Group) (V : Views) (w : World) → IsGroup g → Faithful g V w → NoLaterItem g w }
 {}

@@ -1,8 +1,9 @@
-//! What is true of every world that a group reaches: words tell the truth of their owners and only
-//! grow, each item that is received is the one that was put, and no later item stands in its slot.
+//! What each event keeps true of a group: words tell the truth of their owners and only grow, each
+//! item that is received is the one that was put, and no later item stands in its slot.
 //!
 //! The machine is that of `dr_machine`, where `docs/GROUP.md` explains it. This crate has no code but
-//! its laws, which hold for every list of events.
+//! its laws, each of one event or one world. That they hold after every list of events is a law of
+//! `dr_world_laws`.
 #![tactic(auto)]
 
 mod laws;
