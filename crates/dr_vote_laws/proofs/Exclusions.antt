@@ -12,10 +12,10 @@ use Rattle.dr_machine.specs.Group.{Group}
 use Rattle.dr_machine.specs.Guards.{IsDue, IsExcluded, IsFault}
 use Rattle.dr_machine.specs.Run.{IsReached}
 use Rattle.dr_machine.specs.World.{World}
-use Rattle.dr_machine.specs.declared.event.Act.TheVariants.{Commit, Halt, Crash}
+use Rattle.dr_machine.specs.declared.event.Act.TheVariants.{Commit, Finish, Halt, Crash}
 use Rattle.dr_machine.specs.declared.step.Step.{Step}
 use Rattle.dr_machine.specs.declared.step.Step.TheVariants.{Do}
-use Rattle.dr_faithful.proofs.Writes.{at_case}
+use Rattle.dr_faithful.proofs.Writes.{at_both, at_case}
 
 -- the value that a member has committed in its view names it as one that leaves, and the next view has this
 -- number
@@ -54,6 +54,11 @@ commits_so : (view : ℕ) (m : ℕ) (committed new : Option Value) (end : Option
 commits_so view m committed new (Some (Excluded next)) none so = absurd (cc (none, so.committed))
 commits_so view m committed new end none so = tt
 
+-- a member that goes on has no end
+going : (view m : ℕ) (end : Option End) → end ≡ None → IsExcludedSo view None m end
+going view m None e = tt
+going view m (Some end) e = absurd (cc e)
+
 step_excludes : (g : Group) (w : World) (m : ℕ) (s : Step) → CanTake g w m s → AreExcludedSo w
     → AreExcludedSo (effect_of g w m s)
 step_excludes g w m (Do (Halt end)) can old =
@@ -66,6 +71,9 @@ step_excludes g w m (Do Commit) can old =
     at_case (λ k o. IsExcludedSo (w.past.view k) o k (w.end k)) w.committed m (Some (w.value m))
     (λ k d. old k)
     (commits_so (w.past.view m) m (w.committed m) (Some (w.value m)) (w.end m) can.uncommitted (old m))
+step_excludes g w m (Do Finish) can old =
+    at_both (λ k v o. IsExcludedSo v o k (w.end k)) w.past.view w.committed m (w.past.view m + 1) None old
+    (going (w.past.view m + 1) m (w.end m) can.may.alive.running)
 step_excludes g w m (Do a) can old = old
 step_excludes g w m s can old = old
 

@@ -7,9 +7,10 @@ pub mod Accepting
 pub mod Rows
 pub mod Proposals
 pub mod Logging
+pub mod Moving
 pub mod Opening
 pub mod Steps
 pub mod Values
 pub mod Cuts
 pub mod Exclusions
-mod Moments
+pub mod Moments

@@ -2,10 +2,11 @@
 use Rattle.std.proofs.Common.{[], arith, subst, sym, ℕ, ◌<◌, ◌≡◌, ◌≤◌}
 use Rattle.dr_entry.specs.declared.record.Vote.{Vote}
 use Rattle.dr_machine.specs.Group.{Group, roster}
-use Rattle.dr_machine.specs.Votes.{HasLogged}
+use Rattle.dr_machine.specs.Votes.{HasLogged, Votes}
 use Rattle.dr_machine.specs.World.{opening_world}
 use Rattle.dr_faithful.proofs.OwnWords.{accept_columns}
 use Rattle.dr_faithful.specs.Faithful.{Numbers}
+use Rattle.dr_faithful.specs.Tells.{Views}
 use Rattle.dr_vote_laws.specs.Tells.{TellsVote}
 use Rattle.dr_vote_laws.specs.Voting.{Voting}
 use Rattle.dr_words.specs.Columns.{head_column, recv_column}
@@ -14,12 +15,12 @@ nobody : (i : ℕ) (x : Vote) → HasLogged (λ i. []) i x → ⊥
 nobody i x (k, e) = absurd (cc e)
 
 -- a word 0 tells nothing
-tells_nothing : (g : Group) (own : Numbers) (i v c : ℕ) → TellsVote g own (λ i. []) i v c 0
-tells_nothing g own i v c = record {
+pub tells_nothing : (g : Group) (own : Numbers) (votes : Votes) (i v c : ℕ) → TellsVote g own votes i v c 0
+tells_nothing g own votes i v c = record {
   promised = omega arith;
   low = omega arith;
   voted = λ b e. absurd (omega (arith, e));
-  passed = λ b x h l. absurd (nobody i _ h);
+  passed = λ b x h l. absurd (omega (arith, l));
 }
 
 -- no accept word says anything
@@ -27,8 +28,8 @@ none : (g : Group) (i v c : ℕ) → (recv_column (roster g) ≤ c) × (c < head
     → (opening_world g).past.own i v c ≡ 0
 none g i v c between = grind (arith, between.0)
 
-pub begun : (g : Group) → Voting g (λ v. g.opening.members) (opening_world g)
-begun g = record {
+pub begun : (g : Group) (V : Views) → Voting g V (opening_world g)
+begun g V = record {
   valid = record {
     own = λ i x h. absurd (nobody i x h);
     one = λ i v b x y h k. absurd (nobody i _ h);
@@ -43,10 +44,10 @@ begun g = record {
   original = λ v b x h. absurd (nobody b _ h);
   words = record {
     in_own = λ i v c a. subst (λ z. TellsVote g (opening_world g).past.own (λ i. []) i v c z)
-        (sym (none g i v c (accept_columns (roster g) g.opening.members c a)))
-        (tells_nothing g (opening_world g).past.own i v c);
-    in_table = λ v j i c a. tells_nothing g (opening_world g).past.own i v c;
-    in_seen = λ m i c a. tells_nothing g (opening_world g).past.own i 0 c;
+        (sym (none g i v c (accept_columns (roster g) (V v) c a)))
+        (tells_nothing g (opening_world g).past.own (λ i. []) i v c);
+    in_table = λ v j i c a. tells_nothing g (opening_world g).past.own (λ i. []) i v c;
+    in_seen = λ m i c a. tells_nothing g (opening_world g).past.own (λ i. []) i 0 c;
   };
   chosen = λ m x e. absurd (cc e);
 }

@@ -1,6 +1,6 @@
 -- Steps that log no votes, and accept, promise and commit nothing.
 use Rattle.std.proofs.Common.{arith, refl, true, ℕ, ◌<◌, ◌≡◌, ◌≢◌}
-use Rattle.dr_machine.specs.Effects.{is_accept_of, looks, one_more, pushes, stamped, with_own}
+use Rattle.dr_machine.specs.Effects.{is_accept_of, looks, one_more, pushes, stamped_in, with_own}
 use Rattle.dr_machine.specs.Group.{Group, roster}
 use Rattle.dr_machine.specs.World.{World, own_word}
 use Rattle.dr_machine.specs.Writes.{at₄}
@@ -30,16 +30,16 @@ word_votes g V w m c x l f grew old =
     (λ v j i k b. refl) old
 
 -- the beat word is stamped
-pub stamp_votes : (g : Group) (V : Views) (w : World) (m : ℕ) → Faithful g V w → Voting g V w
-    → Voting g V (stamped w m)
-stamp_votes g V w m f old =
-    same_accepts g V w.past.view w.tag w.value w.committed w.pending w.past.own (stamped w m).past.own
-    w.table (stamped w m).table w.seen w.past.votes (λ v s h. f.views.within v s h)
-    (stamp_grew g V w m f).own
-    (λ i v k b. at₃_column w.past.own m (w.past.view m) BEAT_COLUMN (one_more 64 (w.past.acts m)) i v k
-    (omega (arith, b.0)))
-    (λ v j i k b. other_column w.table (w.past.view m) m m BEAT_COLUMN (one_more 64 (w.past.acts m))
-    v j i k (omega (arith, b.0)))
+pub stamp_votes : (g : Group) (V : Views) (w : World) (m b : ℕ) → Faithful g V w → Voting g V w
+    → Voting g V (stamped_in w m b)
+stamp_votes g V w m b f old =
+    same_accepts g V w.past.view w.tag w.value w.committed w.pending w.past.own (stamped_in w m b).past.own
+    w.table (stamped_in w m b).table w.seen w.past.votes (λ v s h. f.views.within v s h)
+    (stamp_grew g V w m b f).own
+    (λ i v k l. at₃_column w.past.own m b BEAT_COLUMN (one_more 64 (w.past.acts m)) i v k
+    (omega (arith, l.0)))
+    (λ v j i k l. other_column w.table b m m BEAT_COLUMN (one_more 64 (w.past.acts m))
+    v j i k (omega (arith, l.0)))
     old
 
 -- a look takes a word of the table

@@ -1,5 +1,6 @@
 -- Where the value of a new proposal comes from, by the rows of the member that makes it.
-use Rattle.std.proofs.Common.{Bool, ap, arith, false, inl, inr, le_of_eq, le_trans, refl, slice_index, subst, sym, true, ℕ, ◌&&◌, ◌+◌, ◌-◌, ◌<◌, ◌∙◌, ◌≡◌, ◌≢◌, ◌≤◌, ◌⊎◌, not}
+use Rattle.std.proofs.Common.{Bool, ap, arith, false, inl, inr, le_of_eq, le_trans, refl, slice_index, subst, sym, true, ℕ, ◌&&◌, ◌+◌, ◌-◌, ◌<◌, ◌∙◌, ◌≡◌, ◌≢◌, ◌≤◌, ◌⊎◌, not, w16}
+use Rattle.std.specs.Int.{trailing_zeros}
 use Rattle.std.proofs.lemmas.Bool.{and_parts, cases_eq, cases_lt}
 use Rattle.dr_entry.specs.declared.record.Value.{Value}
 use Rattle.dr_history.specs.Members.{has}
@@ -8,7 +9,7 @@ use Rattle.dr_machine.specs.Group.{Group, IsGroup, roster}
 use Rattle.dr_machine.specs.Guards.{CanLogVote, IsToPropose, unsuspected_of}
 use Rattle.dr_machine.specs.Votes.{HasLogged, HasVoted, vote_in}
 use Rattle.dr_machine.specs.World.{World, shown}
-use Rattle.dr_faithful.proofs.Suspicions.{members_small}
+use Rattle.dr_faithful.proofs.Suspicions.{mask_small, members_small}
 use Rattle.dr_faithful.proofs.Votes.{leavers_accept, own_promise}
 use Rattle.dr_faithful.specs.Faithful.{Faithful}
 use Rattle.dr_faithful.specs.Tells.{Views}
@@ -18,6 +19,7 @@ use Rattle.dr_vote_laws.proofs.Rows.{all_promised, no_vote_yet, not_torn, shown_
 use Rattle.dr_vote_laws.specs.Tells.{TellsVote}
 use Rattle.dr_vote_laws.specs.Voting.{IsFirst, IsLater, IsOriginal, Voting}
 use Rattle.dr_words.proofs.Masks.{has_without_mask}
+use Rattle.dr_words.proofs.Ranks.{least_member}
 use Rattle.dr_words.specs.Accepts.{Shows, tag_of}
 use Rattle.dr_words.specs.Changes.{IsFirstValue, IsHighest, IsLeastReceived, IsProposal, IsUntagged, MayPropose, received}
 use Rattle.dr_words.specs.Columns.{leavers_column, recv_column}
@@ -150,14 +152,15 @@ later g V w m i v can may f old high shows = record {
         inl (omega (arith, passed g V w m j b y may old h there l, high.highest j h, tag))
 
 -- where no row has a tag the value is the first one
-first : (g : Group) (V : Views) (w : World) (m : ℕ) (v : Value) → IsGroup g
+first : (g : Group) (V : Views) (w : World) (m : ℕ) (v : Value) → IsGroup g → w.suspects m ≢ 0
     → MayPropose (roster g) (shown w m) (w.members m) (w.suspects m) m → Faithful g V w → Voting g V w
     → IsUntagged (roster g) (shown w m) (unsuspected_of w m)
     → IsFirstValue (shown w m) (w.members m) (w.suspects m) v
     → IsFirst g V w.past.own (logs_vote g w m v).past.votes (w.past.view m) m (unsuspected_of w m) v
-first g V w m v is may f old untagged fresh = record {
+first g V w m v is some may f old untagged fresh = record {
   none = λ j b y h there. none j b y h (old_or_new g V w m j b v y f may there) (cases_lt b m);
   leavers = λ i h. leavers i (ap (λ z. has z i) (f.views.own m) ∙ h) (unsuspected_is g V w m i is f);
+  leaver = leaver;
   trims = λ s h. trims s (ap (λ z. has z s) (f.views.own m) ∙ h);
 }
   where
@@ -167,6 +170,15 @@ first g V w m v is may f old untagged fresh = record {
     none j b y h (inl there) (inr new) = new
     none j b y h (inl there) (inl l) =
         absurd (omega (arith, passed g V w m j b y may old h there l, untagged j h))
+
+    leaver : (i : ℕ) × (has (V (w.past.view m)) i ≡ true) × (has v.leavers i ≡ true)
+    leaver =
+        let least = least_member (w.suspects m) (omega (arith, some))
+        (mask_small g V w (w.suspects m) (w.past.view m) is f (f.suspicions.part m)) in (
+          trailing_zeros w16 (w.suspects m),
+          f.suspicions.part m (trailing_zeros w16 (w.suspects m)) least.member,
+          ap (λ z. has z (trailing_zeros w16 (w.suspects m))) fresh.leavers ∙ least.member,
+        )
 
     leavers : (i : ℕ) → has (w.members m) i ≡ true
         → has (unsuspected_of w m) i ≡ (has (w.members m) i && not (has (w.suspects m) i))
@@ -212,4 +224,4 @@ proposed g V w m v is can (may, value) f old = record {
         → IsFirst g V w.past.own (logs_vote g w m v).past.votes (w.past.view m) m (unsuspected_of w m) v
         ⊎ IsLater g (logs_vote g w m v).past.votes (w.past.view m) m (unsuspected_of w m) v
     source (inl t) = inr (later g V w m t.0 v can may f old t.1 t.2)
-    source (inr t) = inl (first g V w m v is may f old t.0 t.1)
+    source (inr t) = inl (first g V w m v is can.wedged may f old t.0 t.1)

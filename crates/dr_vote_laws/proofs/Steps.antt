@@ -1,28 +1,27 @@
--- Each step keeps what is true of votes, so it is true in every world that is reached.
-use Rattle.std.proofs.Common.{[], arith, refl, ℕ, length}
+-- Each event keeps what is true of votes.
+use Rattle.std.proofs.Common.{arith, refl, ℕ, length}
 use Rattle.dr_entry.specs.declared.end.SentItem.TheVariants.{Index, Null}
-use Rattle.dr_machine.proofs.Runs.{reached, reached_effect}
-use Rattle.dr_machine.specs.Acts.{CanDo, CanTake, does, effect_of}
+use Rattle.dr_machine.specs.Acts.{CanDo, CanTake, Guard, does, effect, effect_of}
 use Rattle.dr_machine.specs.Effects.{puts, receives}
 use Rattle.dr_machine.specs.Events.{member_of, step_of}
 use Rattle.dr_machine.specs.Group.{Group, IsGroup}
 use Rattle.dr_machine.specs.Guards.{next_index}
-use Rattle.dr_machine.specs.Run.{IsReached}
 use Rattle.dr_machine.specs.World.{World}
+use Rattle.dr_machine.specs.declared.event.Event.{Event}
 use Rattle.dr_machine.specs.declared.event.Act.{Act}
 use Rattle.dr_machine.specs.declared.event.Act.TheVariants as acts
 use Rattle.dr_machine.specs.declared.step.Step.{Step}
 use Rattle.dr_machine.specs.declared.step.Step.TheVariants.{Do, Look, Push, Append, LogVote}
 use Rattle.dr_entry.specs.declared.end.SentItem.{SentItem}
-use Rattle.dr_faithful.proofs.Faithfulness.{act_keeps, does_grow, faithful}
+use Rattle.dr_faithful.proofs.Faithfulness.{act_keeps, committed_is, does_grow}
 use Rattle.dr_faithful.proofs.Puts.{MayPut, may_message, may_null, put_accepts, put_grew}
 use Rattle.dr_faithful.proofs.Receipts.{receive_accepts}
-use Rattle.dr_faithful.specs.Faithful.{Faithful}
+use Rattle.dr_faithful.specs.Faithful.{AllGoOn, Faithful}
 use Rattle.dr_faithful.specs.Tells.{Views, item_named}
 use Rattle.dr_vote_laws.proofs.Accepting.{accept_votes, commit_votes}
 use Rattle.dr_vote_laws.proofs.Frames.{same_accepts}
 use Rattle.dr_vote_laws.proofs.Logging.{vote_votes}
-use Rattle.dr_vote_laws.proofs.Opening.{begun}
+use Rattle.dr_vote_laws.proofs.Moving.{finish_votes}
 use Rattle.dr_vote_laws.proofs.Plain.{look_votes, push_votes, stamp_votes, word_votes}
 use Rattle.dr_vote_laws.proofs.Suspecting.{suspect_votes}
 use Rattle.dr_vote_laws.specs.Voting.{Voting}
@@ -57,23 +56,23 @@ act_votes g V w m (acts.Suspect j) is can f old = suspect_votes g V w m j is can
 act_votes g V w m acts.Propose is can f old = accept_votes g V w m can.vote is can.waits f old
 act_votes g V w m acts.Accept is can f old = accept_votes g V w m can.vote is can.waits f old
 act_votes g V w m acts.Commit is can f old = commit_votes g V w m can f old
+act_votes g V w m acts.Finish is can f old =
+    committed_is w m can.value (Voting g V) g can.committed
+    (finish_votes g V w m can.value can.may.idle f old)
 act_votes g V w m a is can f old = old
 
 -- and so does each step
-pub step_votes : (g : Group) (V : Views) (w : World) (m : ℕ) (s : Step) → IsGroup g → CanTake g w m s
-    → Faithful g V w → Voting g V w → Voting g V (effect_of g w m s)
-step_votes g V w m (Do a) is can f old =
-    stamp_votes g V (does g w m a) m (act_keeps g V w m a is can f) (act_votes g V w m a is can f old)
-step_votes g V w m (Look i c) is can f old = look_votes g V w m i c old
-step_votes g V w m (Push j c) is can f old = push_votes g V w m j c old
-step_votes g V w m Append is can f old = old
-step_votes g V w m (LogVote v) is can f old = vote_votes g V w m v is can f old
+step_votes : (g : Group) (V : Views) (w : World) (m : ℕ) (s : Step) → IsGroup g → AllGoOn g V w
+    → CanTake g w m s → Faithful g V w → Voting g V w → Voting g V (effect_of g w m s)
+step_votes g V w m (Do a) is well can f old =
+    stamp_votes g V (does g w m a) m (w.past.view m) (act_keeps g V w m a is well can f)
+    (act_votes g V w m a is can f old)
+step_votes g V w m (Look i c) is well can f old = look_votes g V w m i c old
+step_votes g V w m (Push j c) is well can f old = push_votes g V w m j c old
+step_votes g V w m Append is well can f old = old
+step_votes g V w m (LogVote v) is well can f old = vote_votes g V w m v is can f old
 
--- so it is true in every world that is reached
-pub voting : (g : Group) (w : World) → IsGroup g → IsReached g w → Voting g (λ v. g.opening.members) w
-voting g w is r = (reached g (λ u. IsReached g u × Voting g (λ v. g.opening.members) u)
-    (λ u e can y. (
-      reached_effect g u e y.0 can,
-      step_votes g (λ v. g.opening.members) u (member_of e) (step_of e) is can (faithful g u is y.0) y.1,
-    ))
-    (([], refl), begun g) w r).1
+-- and so does each event
+pub voting_keeps : (g : Group) (V : Views) (w : World) (e : Event) → IsGroup g → AllGoOn g V w
+    → Guard g w e → Faithful g V w → Voting g V w → Voting g V (effect g w e)
+voting_keeps g V w e is well can f old = step_votes g V w (member_of e) (step_of e) is well can f old

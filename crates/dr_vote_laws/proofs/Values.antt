@@ -1,24 +1,18 @@
 -- The votes of one world: where more than half of a view has voted by a ballot, the votes of all higher
 -- ballots are for the same value.
-use Rattle.std.proofs.Common.{List, Some, ap, arith, inl, inr, slice_get, subst, suc, sym, true, zero, ℕ, ◌<◌, ◌∙◌, ◌≡◌, ◌≢◌, ◌≤◌, ◌⊎◌}
+use Rattle.std.proofs.Common.{Some, ap, arith, inl, inr, slice_get, subst, suc, sym, true, zero, ℕ, ◌<◌, ◌∙◌, ◌≡◌, ◌≢◌, ◌≤◌, ◌⊎◌}
 use Rattle.std.proofs.lemmas.Bool.{cases_eq, cases_lt}
 use Rattle.dr_entry.specs.declared.record.Value.{Value}
 use Rattle.dr_entry.specs.declared.record.Vote.{Vote}
 use Rattle.dr_history.specs.Members.{has}
-use Rattle.dr_machine.specs.Group.{Group, IsGroup}
-use Rattle.dr_machine.proofs.Runs.{kept, reached_effect}
-use Rattle.dr_machine.specs.Acts.{effect}
-use Rattle.dr_machine.specs.declared.event.Event.{Event}
-use Rattle.dr_machine.specs.Run.{IsReached, PastGrew, Run}
+use Rattle.dr_machine.specs.Group.{Group}
+use Rattle.dr_machine.specs.Run.{PastGrew}
 use Rattle.dr_machine.specs.Votes.{HasLogged, HasVoted, IsOf, MajorityHas, Votes, vote_in}
 use Rattle.dr_machine.specs.World.{World}
-use Rattle.dr_faithful.proofs.Faithfulness.{past_grew}
-use Rattle.dr_faithful.proofs.Pasts.{past_on, past_same}
 use Rattle.dr_faithful.specs.Faithful.{Numbers}
-use Rattle.dr_faithful.specs.Tells.{Views, views_of}
+use Rattle.dr_faithful.specs.Tells.{Views}
 use Rattle.dr_vote_laws.proofs.Logs.{get_more}
-use Rattle.dr_vote_laws.proofs.Steps.{voting}
-use Rattle.dr_vote_laws.specs.Voting.{AreOriginal, AreVotes, IsFirst, IsLater, IsOriginal}
+use Rattle.dr_vote_laws.specs.Voting.{AreOriginal, AreVotes, IsChosen, IsFirst, IsLater, IsOriginal, Voting}
 use Rattle.dr_words.proofs.Majorities.{majorities_meet_lem}
 
 -- ---- one ballot
@@ -96,41 +90,36 @@ higher g V own votes v b i k c x y f o h voted e other =
 
 -- ---- the laws
 
--- a vote of a reached world
-vote_is : (g : Group) (w : World) (i : ℕ) (x : Vote) → IsGroup g → IsReached g w
+-- a vote as it stands on a log
+pub vote_is : (g : Group) (V : Views) (w : World) (i : ℕ) (x : Vote) → Voting g V w
     → HasLogged w.past.votes i x → HasVoted g w.past.votes i x.view x.ballot x.value
-vote_is g w i x is r h = subst (λ y. HasLogged w.past.votes i y) ((voting g w is r).valid.own i x h) h
+vote_is g V w i x f h = subst (λ y. HasLogged w.past.votes i y) (f.valid.own i x h) h
 
-pub same_ballot : (g : Group) (w : World) (i j : ℕ) (x y : Vote) → IsGroup g → IsReached g w
+pub same_ballot : (g : Group) (V : Views) (w : World) (i j : ℕ) (x y : Vote) → Voting g V w
     → HasLogged w.past.votes i x → HasLogged w.past.votes j y → IsOf y x.view x.ballot → x ≡ y
-same_ballot g w i j x y is r h k of =
-    let f = (voting g w is r).valid in
+same_ballot g V w i j x y f h k of =
+    let valid = f.valid in
     let mine : y ≡ vote_in g x.view x.ballot y.value =
-    f.own j y k ∙ ap (λ u. vote_in g u y.ballot y.value) of.in_view
+    valid.own j y k ∙ ap (λ u. vote_in g u y.ballot y.value) of.in_view
     ∙ ap (λ b. vote_in g x.view b y.value) of.by_ballot in
     let value : x.value ≡ y.value =
-    one_ballot g (views_of g w) w.past.votes i j x.view x.ballot x.value y.value f (vote_is g w i x is r h)
+    one_ballot g V w.past.votes i j x.view x.ballot x.value y.value valid (vote_is g V w i x f h)
     (subst (λ z. HasLogged w.past.votes j z) mine k) in
-    f.own i x h ∙ ap (λ v. vote_in g x.view x.ballot v) value ∙ sym mine
+    valid.own i x h ∙ ap (λ v. vote_in g x.view x.ballot v) value ∙ sym mine
 
-pub majority_stays : (g : Group) (w : World) (i j : ℕ) (x y : Vote) → IsGroup g → IsReached g w
+pub majority_stays : (g : Group) (V : Views) (w : World) (i j : ℕ) (x y : Vote) → Voting g V w
     → HasLogged w.past.votes i x → HasLogged w.past.votes j y
-    → MajorityHas w.past.votes (views_of g w x.view) (λ z. IsOf z x.view x.ballot)
+    → MajorityHas w.past.votes (V x.view) (λ z. IsOf z x.view x.ballot)
     → y.view ≡ x.view → x.ballot ≤ y.ballot → y.value ≡ x.value
-majority_stays g w i j x y is r h k most view e =
-    let f = voting g w is r in
-    higher g (views_of g w) w.past.own w.past.votes x.view x.ballot i j y.ballot x.value y.value f.valid
-    f.original most (vote_is g w i x is r h) e
-    (subst (λ v. HasVoted g w.past.votes j v y.ballot y.value) view (vote_is g w j y is r k))
+majority_stays g V w i j x y f h k most view e =
+    higher g V w.past.own w.past.votes x.view x.ballot i j y.ballot x.value y.value f.valid
+    f.original most (vote_is g V w i x f h) e
+    (subst (λ v. HasVoted g w.past.votes j v y.ballot y.value) view (vote_is g V w j y f k))
 
--- a majority that has voted for a value
-abbrev pub IsChosen : Group → World → ℕ → ℕ → Value → Type 0
-IsChosen g w v b x = MajorityHas w.past.votes (views_of g w v) (λ z. IsOf z v b × (z.value ≡ x))
-
-pub commits : (g : Group) (w : World) (m : ℕ) (v : Value) → IsGroup g → IsReached g w
-    → w.committed m ≡ Some v → (b : ℕ) × IsChosen g w (w.past.view m) b v
-commits g w m v is r e =
-    let t = (voting g w is r).chosen m v e in (
+pub commits : (g : Group) (V : Views) (w : World) (m : ℕ) (v : Value) → Voting g V w
+    → w.committed m ≡ Some v → (b : ℕ) × IsChosen V w.past.votes (w.past.view m) b v
+commits g V w m v f e =
+    let t = f.chosen m v e in (
       t.0,
       record {
         mask = t.1.mask;
@@ -148,22 +137,22 @@ commits g w m v is r e =
     )
 
 -- somebody of it has
-somebody : (g : Group) (w : World) (v b : ℕ) (x : Value) → IsGroup g → IsReached g w
-    → IsChosen g w v b x → (i : ℕ) × HasVoted g w.past.votes i v b x
-somebody g w v b x is r h =
-    let n = majorities_meet_lem (views_of g w v) h.mask h.mask h.part h.part h.majority h.majority in
+pub somebody : (g : Group) (V : Views) (w : World) (v b : ℕ) (x : Value) → Voting g V w
+    → IsChosen V w.past.votes v b x → (i : ℕ) × HasVoted g w.past.votes i v b x
+somebody g V w v b x f h =
+    let n = majorities_meet_lem (V v) h.mask h.mask h.part h.part h.majority h.majority in
     let one = h.each n.0 n.3 in
     let whole : one.0 ≡ vote_in g v b x =
-    (voting g w is r).valid.own n.0 one.0 one.1
+    f.valid.own n.0 one.0 one.1
     ∙ ap (λ u. vote_in g u one.0.ballot one.0.value) one.2.0.in_view
     ∙ ap (λ c. vote_in g v c one.0.value) one.2.0.by_ballot
     ∙ ap (λ y. vote_in g v b y) one.2.1 in
     (n.0, subst (λ y. HasLogged w.past.votes n.0 y) whole one.1)
 
 -- a majority for a value is one that has the ballot
-ballot_of : (g : Group) (w : World) (v b : ℕ) (x : Value) → IsChosen g w v b x
-    → HasBallot g (views_of g w) w.past.votes v b
-ballot_of g w v b x h = record {
+ballot_of : (g : Group) (V : Views) (w : World) (v b : ℕ) (x : Value) → IsChosen V w.past.votes v b x
+    → HasBallot g V w.past.votes v b
+ballot_of g V w v b x h = record {
   mask = h.mask;
   part = h.part;
   majority = h.majority;
@@ -171,36 +160,26 @@ ballot_of g w v b x h = record {
 }
 
 -- two values that majorities of a view have voted for are one
-chosen_after : (g : Group) (w : World) (v b c : ℕ) (x y : Value) → IsGroup g → IsReached g w → b ≤ c
-    → IsChosen g w v b x → IsChosen g w v c y → y ≡ x
-chosen_after g w v b c x y is r e p q =
-    let f = voting g w is r in
-    let one = somebody g w v b x is r p in
-    let two = somebody g w v c y is r q in
-    higher g (views_of g w) w.past.own w.past.votes v b one.0 two.0 c x y f.valid f.original
-    (ballot_of g w v b x p) one.1 e two.1
+chosen_after : (g : Group) (V : Views) (w : World) (v b c : ℕ) (x y : Value) → Voting g V w → b ≤ c
+    → IsChosen V w.past.votes v b x → IsChosen V w.past.votes v c y → y ≡ x
+chosen_after g V w v b c x y f e p q =
+    let one = somebody g V w v b x f p in
+    let two = somebody g V w v c y f q in
+    higher g V w.past.own w.past.votes v b one.0 two.0 c x y f.valid f.original
+    (ballot_of g V w v b x p) one.1 e two.1
 
-chosen_once : (g : Group) (w : World) (v b c : ℕ) (x y : Value) → IsGroup g → IsReached g w
-    → IsChosen g w v b x → IsChosen g w v c y → x ≡ y
-chosen_once g w v b c x y is r p q = by (cases_lt b c)
+pub chosen_once : (g : Group) (V : Views) (w : World) (v b c : ℕ) (x y : Value) → Voting g V w
+    → IsChosen V w.past.votes v b x → IsChosen V w.past.votes v c y → x ≡ y
+chosen_once g V w v b c x y f p q = by (cases_lt b c)
   where
     by : (b < c) ⊎ (c ≤ b) → x ≡ y
-    by (inl l) = sym (chosen_after g w v b c x y is r (omega (arith, l)) p q)
-    by (inr l) = chosen_after g w v c b y x is r l q p
-
--- what a world has done, a later one has done too
-past_since : (g : Group) (early late : World) (es : List Event) → IsGroup g → IsReached g early
-    → Run g early es late → PastGrew early.past late.past × IsReached g late
-past_since g early late es is r run = kept g (λ w. PastGrew early.past w.past × IsReached g w)
-    (λ w e can old. (
-      past_on early.past w.past (effect g w e).past old.0 (past_grew g w e is old.1 can),
-      reached_effect g w e old.1 can,
-    )) early late es run (past_same early.past, r)
+    by (inl l) = sym (chosen_after g V w v b c x y f (omega (arith, l)) p q)
+    by (inr l) = chosen_after g V w v c b y x f l q p
 
 -- a majority that has votes has them later
-chosen_since : (g : Group) (early late : World) (v b : ℕ) (x : Value) → PastGrew early.past late.past
-    → IsChosen g early v b x → IsChosen g late v b x
-chosen_since g early late v b x grew h = record {
+pub chosen_since : (V : Views) (early late : World) (v b : ℕ) (x : Value) → PastGrew early.past late.past
+    → IsChosen V early.past.votes v b x → IsChosen V late.past.votes v b x
+chosen_since V early late v b x grew h = record {
   mask = h.mask;
   part = h.part;
   majority = h.majority;
@@ -215,13 +194,12 @@ chosen_since g early late v b x grew h = record {
   );
 }
 
-pub one_commit : (g : Group) (early late : World) (es : List Event) (m k : ℕ) (u v : Value) → IsGroup g
-    → IsReached g early → Run g early es late → early.committed m ≡ Some u → late.committed k ≡ Some v
-    → early.past.view m ≡ late.past.view k → u ≡ v
-one_commit g early late es m k u v is r run e h view =
-    let since = past_since g early late es is r run in
-    let one = commits g early m u is r e in
-    let two = commits g late k v is since.1 h in
-    chosen_once g late (early.past.view m) one.0 two.0 u v is since.1
-    (chosen_since g early late (early.past.view m) one.0 u since.0 one.1)
-    (subst (λ z. IsChosen g late z two.0 v) (sym view) two.1)
+pub one_commit : (g : Group) (V : Views) (early late : World) (m k : ℕ) (u v : Value) → Voting g V early
+    → Voting g V late → PastGrew early.past late.past → early.committed m ≡ Some u
+    → late.committed k ≡ Some v → early.past.view m ≡ late.past.view k → u ≡ v
+one_commit g V early late m k u v before f grew e h view =
+    let one = commits g V early m u before e in
+    let two = commits g V late k v f h in
+    chosen_once g V late (early.past.view m) one.0 two.0 u v f
+    (chosen_since V early late (early.past.view m) one.0 u grew one.1)
+    (subst (λ z. IsChosen V late.past.votes z two.0 v) (sym view) two.1)

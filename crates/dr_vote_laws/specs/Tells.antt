@@ -10,7 +10,7 @@ use Rattle.dr_machine.specs.Group.{Group, roster}
 use Rattle.dr_machine.specs.Votes.{HasVoted, Votes}
 use Rattle.dr_machine.specs.World.{World}
 use Rattle.dr_faithful.specs.Faithful.{Numbers, Table}
-use Rattle.dr_faithful.specs.Tells.{Views, views_of}
+use Rattle.dr_faithful.specs.Tells.{Views}
 
 -- the promise and the tag of a member in a view, by its own words: as they are, or as it left the view
 abbrev pub promise_in : Group → Numbers → ℕ → ℕ → ℕ
@@ -43,5 +43,5 @@ pub record WordsTellVotes (g : Group) (V : Views) (view : ℕ → ℕ) (own : Nu
       → TellsVote g own votes i (view m) c (seen m i c)
 
 -- so it is in a world
-abbrev pub VotesTold : Group → World → Type 0
-VotesTold g w = WordsTellVotes g (views_of g w) w.past.view w.past.own w.table w.seen w.past.votes
+abbrev pub VotesTold : Group → Views → World → Type 0
+VotesTold g V w = WordsTellVotes g V w.past.view w.past.own w.table w.seen w.past.votes

@@ -10,7 +10,7 @@ use Rattle.dr_words.specs.Columns.{recv_column}
 use Rattle.dr_words.specs.Masks.{IsMajorityOf, IsPartOf}
 use Rattle.dr_words.specs.Packing.{is_final}
 use Rattle.dr_machine.specs.Group.{Group}
-use Rattle.dr_machine.specs.Votes.{HasLogged, HasVoted, MajorityHas, Votes, vote_in}
+use Rattle.dr_machine.specs.Votes.{HasLogged, HasVoted, IsOf, MajorityHas, Votes, vote_in}
 use Rattle.dr_machine.specs.World.{World}
 use Rattle.dr_faithful.specs.Faithful.{Numbers, Table}
 use Rattle.dr_faithful.specs.Tells.{Views}
@@ -40,11 +40,13 @@ pub record AreActed (g : Group) (view tag : ℕ → ℕ) (value : ℕ → Value)
   pub waiting : (m : ℕ) (x : Vote) → pending m ≡ Some x → HasLogged votes m x × (x.view ≡ view m)
 
 -- nobody of the mask has a vote of the view by a ballot below this one, and the value is the first one: the
--- others of the view leave, and of each member as much is delivered as all of the mask have received
+-- others of the view leave, at least one, and of each member as much is delivered as all of the mask have
+-- received
 pub record IsFirst (g : Group) (V : Views) (own : Numbers) (votes : Votes) (v b mask : ℕ)
     (x : Value) : Type 0 where
   pub none : (i c : ℕ) (y : Value) → has mask i ≡ true → HasVoted g votes i v c y → b ≤ c
   pub leavers : (i : ℕ) → has (V v) i ≡ true → has x.leavers i ≡ not (has mask i)
+  pub leaver : (i : ℕ) × (has (V v) i ≡ true) × (has x.leavers i ≡ true)
   pub trims : (s : ℕ) → has (V v) s ≡ true
       → IsLeastReceived (λ i c. own i v c) mask s (slice_index x.trim s)
 
@@ -95,14 +97,23 @@ abbrev pub Voting : Group → Views → World → Type 0
 Voting g V w = AreVoting g V w.past.view w.tag w.value w.committed w.pending w.past.own w.table w.seen
     w.past.votes
 
--- the value lets the others than the members of a mask leave, more than half of the view, whose counts are
--- final, and its trims are the least of these counts
-pub record IsCut (g : Group) (V : Views) (own : Numbers) (v : ℕ) (x : Value) : Type 0 where
+-- more than half of these members of a view have voted for a value by one ballot
+abbrev pub HaveVotedFor : Votes → ℕ → ℕ → ℕ → Value → Type 0
+HaveVotedFor votes members v b x = MajorityHas votes members (λ z. IsOf z v b × (z.value ≡ x))
+
+-- more than half of a view has voted for a value by a ballot
+abbrev pub IsChosen : Views → Votes → ℕ → ℕ → Value → Type 0
+IsChosen V votes v b x = HaveVotedFor votes (V v) v b x
+
+-- the value lets the others than the members of a mask leave, at least one: the mask has more than
+-- half of the view, the counts of its members are final, and the value's trims are the least of these counts
+pub record IsCut (members : ℕ) (own : Numbers) (v : ℕ) (x : Value) : Type 0 where
   pub mask : ℕ
-  pub part : IsPartOf mask (V v)
-  pub majority : IsMajorityOf mask (V v)
-  pub final : (i s : ℕ) → has mask i ≡ true → has (V v) s ≡ true
+  pub part : IsPartOf mask members
+  pub majority : IsMajorityOf mask members
+  pub final : (i s : ℕ) → has mask i ≡ true → has members s ≡ true
       → is_final (own i v (recv_column s)) ≡ true
-  pub leavers : (i : ℕ) → has (V v) i ≡ true → has x.leavers i ≡ not (has mask i)
-  pub trims : (s : ℕ) → has (V v) s ≡ true
+  pub leavers : (i : ℕ) → has members i ≡ true → has x.leavers i ≡ not (has mask i)
+  pub leaver : (i : ℕ) × (has members i ≡ true) × (has x.leavers i ≡ true)
+  pub trims : (s : ℕ) → has members s ≡ true
       → IsLeastReceived (λ i c. own i v c) mask s (slice_index x.trim s)

@@ -1,10 +1,8 @@
 -- A member that shows done knows its whole history to be durable, and has nothing left to deliver. A member
 -- that has ended
 -- as done shows it.
-use Rattle.std.proofs.Common.{◌≡◌, ◌≢◌, refl, ap, sym, ◌∙◌, ◌⊎◌, inl, inr, subst, ℕ, ◌+◌, ◌*◌, ◌%◌, ◌<◌, arith, true, List, [], ◌∷◌, ◌++◌, length, Some, append-nil, length-append}
-use Rattle.std.specs.Prelude.{Option}
-use Rattle.std.proofs.lemmas.Bool.{cases_eq}
-use Rattle.std.proofs.lemmas.Option.{same_Some}
+use Rattle.std.proofs.Common.{◌≡◌, ◌≢◌, refl, ap, sym, ◌∙◌, ◌⊎◌, inl, inr, subst, ℕ, ◌+◌, ◌*◌, ◌%◌, ◌<◌, arith, true, List, [], ◌∷◌, ◌++◌, length, None, Some, append-nil, length-append}
+use Rattle.std.proofs.lemmas.Option.{none-some, same_Some}
 use Rattle.dr_entry.specs.declared.entry.Item.{Item}
 use Rattle.dr_entry.specs.declared.end.End.{End}
 use Rattle.dr_entry.specs.declared.end.End.TheVariants.{Done}
@@ -15,18 +13,21 @@ use Rattle.dr_ring.specs.Slots.{slot_column}
 use Rattle.dr_words.specs.declared.column.TheConstants.{LOGGED_COLUMN, DONE_COLUMN}
 use Rattle.dr_machine.specs.declared.event.Event.{Event}
 use Rattle.dr_machine.specs.declared.event.Act.{Act}
-use Rattle.dr_machine.specs.declared.event.Act.TheVariants.{Send, Null, Receive, Deliver, Publish, Report, Mark, Suspect, Propose, Accept, Halt, Crash}
+use Rattle.dr_machine.specs.declared.event.Act.TheVariants.{Send, Null, Receive, Deliver, Publish, Report, Mark, Suspect, Propose, Accept, Halt, Crash, Finish}
 use Rattle.dr_machine.specs.declared.step.Step.{Step}
 use Rattle.dr_machine.specs.declared.step.Step.TheVariants.{Do}
 use Rattle.dr_machine.specs.Events.{member_of, step_of}
 use Rattle.dr_machine.specs.Group.{Group, roster}
 use Rattle.dr_machine.specs.Acts.{CanDo, CanTake, Guard, does, effect, effect_of}
-use Rattle.dr_machine.specs.Guards.{CanReport, CanMark, CanHalt, CanDeliver, IsDue, IsFault}
+use Rattle.dr_machine.specs.Guards.{CanReport, CanMark, CanDeliver, IsDue, IsFault}
 use Rattle.dr_machine.specs.Writes.{at, at₂, at₃}
 use Rattle.dr_machine.specs.World.{World, own_word, count_of, shown}
-use Rattle.dr_machine.specs.Effects.{stamped, gains, row_with, puts, delivers, reports, marks, suspects, accepts, ends}
+use Rattle.dr_machine.specs.Effects.{gains, row_with, puts, delivers, reports, marks, suspects, accepts, ends, finished_history, finishes_by, stamped_in}
 use Rattle.dr_faithful.proofs.Suspicions.{plain_kept}
 use Rattle.dr_faithful.proofs.Votes.{plain_after}
+use Rattle.dr_faithful.proofs.Faithfulness.{committed_is}
+use Rattle.dr_faithful.proofs.Writes.{at_both}
+use Rattle.dr_entry.specs.declared.record.Value.{Value}
 use Rattle.dr_faithful.specs.Faithful.{Faithful}
 use Rattle.dr_faithful.specs.Tells.{Views}
 use Rattle.dr_world_laws.proofs.Histories.{added}
@@ -88,14 +89,14 @@ own_keeps g w own same c = record {
   shown = λ m l e. same m (w.past.view m) ∙ c.shown m l e;
 }
 
-stamp_keeps : (g : Group) (w : World) (m : ℕ) → Complete g w → Complete g (stamped w m)
-stamp_keeps g w m c = record {
+stamp_keeps : (g : Group) (w : World) (m v : ℕ) → Complete g w → Complete g (stamped_in w m v)
+stamp_keeps g w m v c = record {
   durable = λ k l e. c.durable k l (sym (same k) ∙ e);
   shown = λ k l e. same k ∙ c.shown k l e;
 }
   where
-    same : (k : ℕ) → own_word (stamped w m) k 4 ≡ own_word w k 4
-    same k = other_column w.past.own m (w.past.view m) 0 _ k (w.past.view k) (omega arith)
+    same : (k : ℕ) → own_word (stamped_in w m v) k 4 ≡ own_word w k 4
+    same k = other_column w.past.own m v 0 _ k (w.past.view k) (omega arith)
 
 gain_keeps : (g : Group) (w : World) (m s : ℕ) (item : Item) → Complete g w
     → Complete g (gains w m s item)
@@ -203,36 +204,36 @@ accept_keeps g w m c = record {
     same : (k : ℕ) → own_word (accepts g w m) k 4 ≡ own_word w k 4
     same k = plain_after g w m k (w.past.view k) 4 (omega arith)
 
+-- a member that goes on in the next view shows nothing there, and has no end
+finish_keeps : (g : Group) (V : Views) (w : World) (m : ℕ) (x : Value) → Faithful g V w → w.end m ≡ None
+    → Complete g w → Complete g (finishes_by g w m x)
+finish_keeps g V w m x f going c = record {
+  durable = at_both (λ k v h. k < roster g → own k v 4 ≡ 1 → w.past.durable k ≡ length h) w.past.view
+      w.past.history m (w.past.view m + 1) (finished_history g w m x)
+      (λ k l e. c.durable k l (sym (same k (w.past.view k)) ∙ e))
+      (λ l e. absurd (omega (
+        arith,
+        e,
+        same m (w.past.view m + 1),
+        f.fresh.unwritten m (w.past.view m + 1) 4 (omega arith),
+      )));
+  shown = at_case (λ k v. k < roster g → w.end k ≡ Some Done → own k v 4 ≡ 1) w.past.view m
+      (w.past.view m + 1) (λ k l e. same k (w.past.view k) ∙ c.shown k l e)
+      (λ l e. absurd (none-some Done (sym going ∙ e)));
+}
+  where
+    own : ℕ → ℕ → ℕ → ℕ
+    own = at₃ w.past.own m (w.past.view m + 1) LOGGED_COLUMN (length (w.past.log m))
+
+    same : (k v : ℕ) → at₃ w.past.own m (w.past.view m + 1) LOGGED_COLUMN (length (w.past.log m)) k v 4
+        ≡ w.past.own k v 4
+    same k v = other_column w.past.own m (w.past.view m + 1) 3 (length (w.past.log m)) k v (omega arith)
+
 halt_shows : (g : Group) (V : Views) (w : World) (m : ℕ) → Faithful g V w → IsDue w m Done
     → m < roster g → own_word w m 4 ≡ 1
 halt_shows g V w m f due l =
     shown_own w m 4 1 (due.all m
     (subst (λ x. has x m ≡ true) (sym (f.views.own m)) (f.views.present m (f.beginning.all m l))))
-
--- an end that was written is the new one, or was there
-end_or_before : (end : ℕ → Option End) (m k : ℕ) (x y : End) → at end m (Some x) k ≡ Some y
-    → (x ≡ y) ⊎ (end k ≡ Some y)
-end_or_before end m k x y e = by (cases_eq k m)
-  where
-    by : (k ≡ m) ⊎ (k ≢ m) → (x ≡ y) ⊎ (end k ≡ Some y)
-    by (inl same) = inl (same_Some x y (grind (arith, e, same)))
-    by (inr other) = inr (grind (arith, e, other))
-
--- who has ended as done after a step had ended so before it, or the step is such an end
-pub ended_so : (g : Group) (w : World) (m : ℕ) (s : Step) (k : ℕ) → CanTake g w m s
-    → (effect_of g w m s).end k ≡ Some Done → (w.end k ≡ Some Done) ⊎ CanHalt g w m Done
-ended_so g w m (Do (Halt end)) k can e = by (end_or_before w.end m k end Done e)
-  where
-    by : (end ≡ Done) ⊎ (w.end k ≡ Some Done) → (w.end k ≡ Some Done) ⊎ CanHalt g w m Done
-    by (inl done) = inr (subst (λ x. CanHalt g w m x) done can)
-    by (inr before) = inl before
-ended_so g w m (Do (Crash end)) k can e = by (end_or_before w.end m k end Done e)
-  where
-    by : (end ≡ Done) ⊎ (w.end k ≡ Some Done) → (w.end k ≡ Some Done) ⊎ CanHalt g w m Done
-    by (inl done) = absurd (subst IsFault done can.fault)
-    by (inr before) = inl before
-ended_so g w m (Do a) k can e = inl e
-ended_so g w m s k can e = inl e
 
 -- each act keeps it, and so does each step
 act_completes : (g : Group) (V : Views) (w : World) (m : ℕ) (a : Act) → Faithful g V w
@@ -250,6 +251,9 @@ act_completes g V w m Mark f nothing can c = mark_keeps g w m can c
 act_completes g V w m (Suspect j) f nothing can c = suspect_keeps g w m j c
 act_completes g V w m Propose f nothing can c = accept_keeps g w m c
 act_completes g V w m Accept f nothing can c = accept_keeps g w m c
+act_completes g V w m Finish f nothing can c =
+    committed_is w m can.value (Complete g) g can.committed
+    (finish_keeps g V w m can.value f can.may.alive.running c)
 act_completes g V w m (Halt end) f nothing can c =
     end_keeps g w m end (λ l e. halt_shows g V w m f (subst (IsDue w m) e can.due) l) c
 act_completes g V w m (Crash end) f nothing can c =
@@ -261,7 +265,7 @@ step_completes : (g : Group) (V : Views) (w : World) (m : ℕ) (s : Step) → Fa
     ≡ [])
     → CanTake g w m s → Complete g w → Complete g (effect_of g w m s)
 step_completes g V w m (Do a) f nothing can c =
-    stamp_keeps g (does g w m a) m (act_completes g V w m a f nothing can c)
+    stamp_keeps g (does g w m a) m (w.past.view m) (act_completes g V w m a f nothing can c)
 step_completes g V w m s f nothing can c = record { durable = c.durable; shown = c.shown }
 
 -- after an event too, who shows done has completed its history

@@ -1,5 +1,5 @@
 -- What each event makes of the histories.
-use Rattle.std.proofs.Common.{◌≡◌, ◌≢◌, refl, ap, sym, ◌∙◌, ◌⊎◌, inl, inr, subst, ℕ, ◌+◌, ◌<◌, arith, List, [], ◌∷◌, ◌++◌, length, take, slice_get, option_to_list, append_assoc, append-nil}
+use Rattle.std.proofs.Common.{◌≡◌, ◌≢◌, refl, ap, sym, ◌∙◌, ◌⊎◌, inl, inr, subst, ℕ, ◌+◌, ◌<◌, ◌≤◌, le_refl, arith, List, [], ◌∷◌, ◌++◌, length, take, slice_get, option_to_list, append_assoc, append-nil}
 use Rattle.dr_entry.specs.declared.entry.Entry.{Entry}
 use Rattle.dr_entry.specs.declared.end.SentItem.{SentItem}
 use Rattle.dr_entry.specs.declared.end.SentItem.TheVariants as sent_items
@@ -12,26 +12,25 @@ use Rattle.dr_history.specs.Order.{messages_from}
 use Rattle.dr_history_laws.specs.Laid.{laid, entry_at, GoesOn, HeldBelow, MayBeNext, SentMore}
 use Rattle.dr_history_laws.proofs.LaidLemmas.{laid-next}
 use Rattle.dr_history_laws.proofs.SendingLemmas.{GoesOn-send}
-use Rattle.dr_history_laws.proofs.Steady.{laid-steady}
+use Rattle.dr_history_laws.specs.Courses.{HasEnded, course, head_of}
+use Rattle.dr_history_laws.proofs.Courses.{course-head, course-steady, head-steady}
 use Rattle.dr_machine.specs.declared.event.Event.{Event}
-use Rattle.dr_machine.specs.declared.event.Act.TheVariants.{Send, Null, Deliver}
+use Rattle.dr_machine.specs.declared.event.Act.TheVariants.{Send, Null, Deliver, Finish}
 use Rattle.dr_machine.specs.declared.step.Step.{Step}
 use Rattle.dr_machine.specs.declared.step.Step.TheVariants.{Do}
 use Rattle.dr_machine.specs.Events.{member_of, step_of}
 use Rattle.dr_machine.specs.Group.{Group, roster, IsPresent}
 use Rattle.dr_machine.specs.Acts.{CanTake, Guard, effect, effect_of}
-use Rattle.dr_machine.specs.Guards.{CanDeliver, CanSend, next_index}
-use Rattle.dr_machine.specs.Writes.{at, at₂}
+use Rattle.dr_machine.specs.Guards.{CanDeliver, CanFinish, CanSend, next_index}
+use Rattle.dr_machine.specs.Writes.{at₂}
 use Rattle.dr_machine.specs.World.{World, item_at_place}
-use Rattle.dr_machine.specs.Effects.{delivers, puts, stamped, entries_of, sender_at}
+use Rattle.dr_machine.specs.Effects.{delivers, finished_history, finishes, finishes_by, puts, stamped_in, entries_of, sender_at}
 use Rattle.dr_faithful.specs.Tells.{Views}
-use Rattle.dr_world_laws.specs.Historic.{view_numbered, Heads, Historic}
-
--- two functions written at one argument
-at_both : {A B : Type 0} (P : ℕ → A → B → Type 0) (f : ℕ → A) (h : ℕ → B) (i : ℕ) (x : A)
-    (y : B) → ((k : ℕ) → P k (f k) (h k)) → P i x y
-    → (k : ℕ) → P k (at f i x k) (at h i y k)
-at_both P f h i x y old here k = grind (arith, old k)
+use Rattle.dr_faithful.specs.Chosen.{Values, endings_by, views_by}
+use Rattle.dr_faithful.proofs.Faithfulness.{committed_is}
+use Rattle.dr_faithful.proofs.Writes.{at_both, at_case, at_three}
+use Rattle.dr_entry.specs.declared.record.Value.{Value}
+use Rattle.dr_world_laws.specs.Historic.{Historic, head_by, view_numbered}
 
 at₂_case : {A : Type 0} (P : ℕ → ℕ → A → Type 0) (f : ℕ → ℕ → A) (a b : ℕ) (v : A)
     → ((i j : ℕ) → P i j (f i j)) → P a b v → (i j : ℕ) → P i j (at₂ f a b v i j)
@@ -52,33 +51,36 @@ AreHeld g V w = (m : ℕ) → m < roster g
     → HeldBelow w.past.sent (view_numbered g V (w.past.view m)) (w.next m)
 
 -- one place is delivered
-deliver_keeps : (g : Group) (V : Views) (H : Heads) (w : World) (m : ℕ) → AddsEntry g V w m
-    → Historic g V H w → Historic g V H (stamped (delivers w m) m)
-deliver_keeps g V H w m adds h = record {
+deliver_keeps : (g : Group) (values : Values) (w : World) (m : ℕ) → AddsEntry g (views_by g values) w m
+    → Historic g values w → Historic g values (stamped_in (delivers w m) m (w.past.view m))
+deliver_keeps g values w m adds h = record {
   history = at_both
-      (λ k es p. k < roster g → es ≡ H (w.past.view k)
-      ++ laid g.opening w.past.sent (view_numbered g V (w.past.view k)) p)
+      (λ k es p. k < roster g → es
+      ≡ course g.opening w.past.sent (endings_by g.opening values) (w.past.view k) p)
       w.past.history w.next m (w.past.history m ++ added w m) (w.next m + 1) h.history here;
   goes = h.goes;
+  based = h.based;
 }
   where
-    so_far : List Entry
-    so_far = laid g.opening w.past.sent (view_numbered g V (w.past.view m)) (w.next m)
+    v : GroupView
+    v = view_numbered g (views_by g values) (w.past.view m)
 
-    here : m < roster g → w.past.history m ++ added w m ≡ H (w.past.view m)
-        ++ laid g.opening w.past.sent (view_numbered g V (w.past.view m)) (w.next m + 1)
-    here l = rw (laid-next g.opening w.past.sent (view_numbered g V (w.past.view m)) (w.next m), adds)
-        (ap (λ es. es ++ added w m) (h.history m l) ∙ append_assoc (H (w.past.view m)) so_far (added w m))
+    head : List Entry
+    head = head_by g values w (w.past.view m)
+
+    so_far : List Entry
+    so_far = laid g.opening w.past.sent (view_numbered g (views_by g values) (w.past.view m)) (w.next m)
+
+    here : m < roster g → w.past.history m ++ added w m
+        ≡ course g.opening w.past.sent (endings_by g.opening values) (w.past.view m) (w.next m + 1)
+    here l = rw (laid-next g.opening w.past.sent v (w.next m), adds)
+        (ap (λ es. es ++ added w m) (h.history m l) ∙ append_assoc head so_far (added w m))
 
 -- one item more is sent
 pub sent_more : (sent : Sent) (m v : ℕ) (name : SentItem)
     → SentMore sent (at₂ sent m v (sent m v ++ name ∷ []))
 sent_more sent m v name = at₂_case (λ s n xs. IsPrefixOf (sent s n) xs) sent m v
     (sent m v ++ name ∷ []) (λ s n. ([], append-nil (sent s n))) (name ∷ [], refl)
-
--- the first message of each member in its view has the index behind those of the head
-abbrev pub AreBased : Group → Heads → World → Type 0
-AreBased g H w = (m : ℕ) → IsPresent g m → w.base m ≡ length (messages_from m (H (w.past.view m)))
 
 -- what was sent in another view, or by another member
 at₂_own : {A : Type 0} (f : ℕ → ℕ → A) (a b : ℕ) (v : A) → at₂ f a b v a b ≡ v
@@ -102,81 +104,141 @@ goes_still o sent now h v same goes = record {
       (ap (λ xs. slice_get xs k) (sym (same s)) ∙ at);
 }
 
+-- the views before those that members are in have ended
+abbrev pub HaveEnded : Group → Values → World → Type 0
+HaveEnded g values w = (m v : ℕ) → m < roster g → v < w.past.view m
+    → HasEnded g.opening w.past.sent (endings_by g.opening values) v
+
 -- the message that m may put is the next one
-message_next : (g : Group) (V : Views) (H : Heads) (w : World) (m : ℕ) → AreBased g H w → CanSend g w m
-    → MayBeNext g.opening w.past.sent (H (w.past.view m)) (view_numbered g V (w.past.view m)) m
-    (Index (next_index w m))
-message_next g V H w m based can = record {
-  index = λ i e. let same : next_index w m ≡ i = cc in
-      omega (arith, same, based m can.may.alive.present);
+message_next : (g : Group) (values : Values) (w : World) (m : ℕ) → m < roster g → Historic g values w
+    → CanSend g w m
+    → MayBeNext g.opening w.past.sent (head_by g values w (w.past.view m))
+    (view_numbered g (views_by g values) (w.past.view m)) m (Index (next_index w m))
+message_next g values w m l h can = record {
+  index = λ i e. let same : next_index w m ≡ i = cc in omega (arith, same, h.based m l);
   scripted = λ i e. let same : next_index w m ≡ i = cc in omega (arith, same, can.left);
 }
 
 -- and a null may always be
-null_next : (g : Group) (V : Views) (H : Heads) (w : World) (m : ℕ)
-    → MayBeNext g.opening w.past.sent (H (w.past.view m)) (view_numbered g V (w.past.view m)) m
-    sent_items.Null
-null_next g V H w m = record { index = λ i e. absurd (cc); scripted = λ i e. absurd (cc) }
+null_next : (g : Group) (values : Values) (w : World) (m : ℕ)
+    → MayBeNext g.opening w.past.sent (head_by g values w (w.past.view m))
+    (view_numbered g (views_by g values) (w.past.view m)) m sent_items.Null
+null_next g values w m = record { index = λ i e. absurd (cc); scripted = λ i e. absurd (cc) }
 
-put_goes : (g : Group) (V : Views) (H : Heads) (w : World) (m : ℕ) (name : SentItem) (item : Item)
-    → MayBeNext g.opening w.past.sent (H (w.past.view m)) (view_numbered g V (w.past.view m)) m name
-    → Historic g V H w
-    → (v : ℕ) → GoesOn g.opening (stamped (puts g w m name item) m).past.sent (H v)
-    (view_numbered g V v)
-put_goes g V H w m name item next h v = by (cases_eq v u)
+put_keeps : (g : Group) (values : Values) (w : World) (m : ℕ) (name : SentItem) (item : Item)
+    → HaveEnded g values w → AreHeld g (views_by g values) w
+    → MayBeNext g.opening w.past.sent (head_by g values w (w.past.view m))
+    (view_numbered g (views_by g values) (w.past.view m)) m name
+    → Historic g values w
+    → Historic g values (stamped_in (puts g w m name item) m (w.past.view m))
+put_keeps g values w m name item ended held next h = record {
+  history = λ k l. h.history k l ∙ sym (course-steady g.opening w.past.sent now
+      (endings_by g.opening values) (w.past.view k) (w.next k) more (λ u. ended k u l) (held k l));
+  goes = λ k v l come. subst (λ es. GoesOn g.opening now es (view_numbered g (views_by g values) v))
+      (sym (steady k v l come)) (goes k v l come (cases_eq v (w.past.view m)));
+  based = λ k l. h.based k l
+      ∙ ap (λ es. length (messages_from k es)) (sym (steady k (w.past.view k) l (le_refl (w.past.view k))));
+}
   where
     u : ℕ
     u = w.past.view m
 
     items : List SentItem
-    items = w.past.sent m u ++ name ∷ []
+    items = w.past.sent m (w.past.view m) ++ name ∷ []
 
-    now : Sent
-    now = at₂ w.past.sent m u items
-
-    here : GoesOn g.opening now (H u) (view_numbered g V u)
-    here = GoesOn-send g.opening w.past.sent now (H u) (view_numbered g V u) m name
-        (h.goes u)
-        (record {
-          own = at₂_own w.past.sent m u items;
-          others = λ t d. at₂_member w.past.sent m u items t d;
-        }) next
-
-    by : (v ≡ u) ⊎ (v ≢ u) → GoesOn g.opening now (H v) (view_numbered g V v)
-    by (inl same) = subst (λ n. GoesOn g.opening now (H n) (view_numbered g V n)) (sym same) here
-    by (inr other) = goes_still g.opening w.past.sent now (H v) (view_numbered g V v)
-        (λ s. at₂_view w.past.sent m u items s v other) (h.goes v)
-
-put_keeps : (g : Group) (V : Views) (H : Heads) (w : World) (m : ℕ) (name : SentItem) (item : Item)
-    → AreHeld g V w
-    → MayBeNext g.opening w.past.sent (H (w.past.view m)) (view_numbered g V (w.past.view m)) m name
-    → Historic g V H w → Historic g V H (stamped (puts g w m name item) m)
-put_keeps g V H w m name item held next h = record {
-  history = λ k l. h.history k l ∙ ap (λ es. H (w.past.view k) ++ es) (sym (laid-steady
-      g.opening w.past.sent now (view_numbered g V (w.past.view k)) (w.next k)
-      (λ s _. sent_more w.past.sent m (w.past.view m) name s (w.past.view k))
-      (held k l)));
-  goes = put_goes g V H w m name item next h;
-}
-  where
     now : Sent
     now = at₂ w.past.sent m (w.past.view m) (w.past.sent m (w.past.view m) ++ name ∷ [])
 
--- each step keeps what the histories are made of
-step_keeps : (g : Group) (V : Views) (H : Heads) (w : World) (m : ℕ) (s : Step) → AreHeld g V w
-    → AreBased g H w → ((m : ℕ) → CanDeliver g w m → AddsEntry g V w m)
-    → CanTake g w m s → Historic g V H w → Historic g V H (effect_of g w m s)
-step_keeps g V H w m (Do Send) held based adds can h =
-    put_keeps g V H w m (Index (next_index w m)) _ held (message_next g V H w m based can) h
-step_keeps g V H w m (Do Null) held based adds can h =
-    put_keeps g V H w m sent_items.Null _ held (null_next g V H w m) h
-step_keeps g V H w m (Do Deliver) held based adds can h = deliver_keeps g V H w m (adds m can) h
-step_keeps g V H w m (Do a) held based adds can h = record { history = h.history; goes = h.goes }
-step_keeps g V H w m s held based adds can h = record { history = h.history; goes = h.goes }
+    more : SentMore w.past.sent (at₂ w.past.sent m (w.past.view m) (w.past.sent m (w.past.view m) ++ name ∷ []))
+    more = sent_more w.past.sent m (w.past.view m) name
 
--- after an event too, histories are laid out by places
-pub event_keeps : (g : Group) (V : Views) (H : Heads) (w : World) (e : Event) → AreHeld g V w
-    → AreBased g H w → ((m : ℕ) → CanDeliver g w m → AddsEntry g V w m)
-    → Guard g w e → Historic g V H w → Historic g V H (effect g w e)
-event_keeps g V H w e held based adds can h =
-    step_keeps g V H w (member_of e) (step_of e) held based adds can h
+    steady : (k v : ℕ) → k < roster g → v ≤ w.past.view k
+        → head_of g.opening
+        (at₂ w.past.sent m (w.past.view m) (w.past.sent m (w.past.view m) ++ name ∷ []))
+        (endings_by g.opening values) v ≡ head_by g values w v
+    steady k v l come = head-steady g.opening w.past.sent now (endings_by g.opening values) v more
+        (λ x less. ended k x l (omega (arith, less, come)))
+
+    goes : (k v : ℕ) → k < roster g → v ≤ w.past.view k → (v ≡ w.past.view m) ⊎ (v ≢ w.past.view m)
+        → GoesOn g.opening
+        (at₂ w.past.sent m (w.past.view m) (w.past.sent m (w.past.view m) ++ name ∷ []))
+        (head_by g values w v) (view_numbered g (views_by g values) v)
+    goes k v l come (inl same) =
+        subst (λ n. GoesOn g.opening now (head_by g values w n) (view_numbered g (views_by g values) n))
+        (sym same)
+        (GoesOn-send g.opening w.past.sent now (head_by g values w u)
+        (view_numbered g (views_by g values) u) m name (h.goes k u l (omega (arith, come, same)))
+        (record {
+          own = at₂_own w.past.sent m u items;
+          others = λ t d. at₂_member w.past.sent m u items t d;
+        }) next)
+    goes k v l come (inr other) = goes_still g.opening w.past.sent now (head_by g values w v)
+        (view_numbered g (views_by g values) v) (λ s. at₂_view w.past.sent m u items s v other)
+        (h.goes k v l come)
+
+-- a member goes on in the next view
+finish_keeps : (g : Group) (values : Values) (w : World) (m : ℕ) (x : Value)
+    → finished_history g w m x ≡ head_by g values w (w.past.view m + 1)
+    → GoesOn g.opening w.past.sent (head_by g values w (w.past.view m + 1))
+    (view_numbered g (views_by g values) (w.past.view m + 1))
+    → Historic g values w
+    → Historic g values (finishes_by g w m x)
+finish_keeps g values w m x is next h = record {
+  history = at_three
+      (λ k es b p. k < roster g → es
+      ≡ course g.opening w.past.sent (endings_by g.opening values) b p)
+      w.past.history w.past.view w.next m (finished_history g w m x) (w.past.view m + 1) 0 h.history
+      (λ l. is ∙ sym (course-head g.opening w.past.sent (endings_by g.opening values) (w.past.view m + 1)));
+  goes = λ k v. at_case
+      (λ i b. i < roster g → v ≤ b
+      → GoesOn g.opening w.past.sent (head_by g values w v) (view_numbered g (views_by g values) v))
+      w.past.view m (w.past.view m + 1) (λ i d. h.goes i v) (λ l come. by v l (last_or_before v come)) k;
+  based = at_both (λ k base b. k < roster g → base ≡ length (messages_from k (head_by g values w b)))
+      w.base w.past.view m (length (messages_from m (finished_history g w m x))) (w.past.view m + 1) h.based
+      (λ l. ap (λ es. length (messages_from m es)) is);
+}
+  where
+    last_or_before : (v : ℕ) → v ≤ w.past.view m + 1 → (v ≤ w.past.view m) ⊎ (v ≡ w.past.view m + 1)
+    last_or_before v l = grind (arith, l)
+
+    by : (v : ℕ) → m < roster g → (v ≤ w.past.view m) ⊎ (v ≡ w.past.view m + 1)
+        → GoesOn g.opening w.past.sent (head_by g values w v) (view_numbered g (views_by g values) v)
+    by v l (inl come) = h.goes m v l come
+    by v l (inr same) = subst
+        (λ n. GoesOn g.opening w.past.sent (head_by g values w n) (view_numbered g (views_by g values) n))
+        (sym same) next
+
+-- what has to be known of a member that may end its view
+pub record ComesToHead (g : Group) (values : Values) (w : World) (m : ℕ) (x : Value) : Type 0 where
+  pub history : finished_history g w m x ≡ head_by g values w (w.past.view m + 1)
+  pub goes : GoesOn g.opening w.past.sent (head_by g values w (w.past.view m + 1))
+      (view_numbered g (views_by g values) (w.past.view m + 1))
+
+-- what is known of the members before a step
+pub record AreReady (g : Group) (values : Values) (w : World) : Type 0 where
+  pub present : (m : ℕ) → IsPresent g m → m < roster g
+  pub ended : HaveEnded g values w
+  pub held : AreHeld g (views_by g values) w
+  pub adds : (m : ℕ) → CanDeliver g w m → AddsEntry g (views_by g values) w m
+  pub comes : (m : ℕ) → (can : CanFinish g w m) → ComesToHead g values w m can.value
+
+-- each step keeps what the histories are made of
+step_keeps : (g : Group) (values : Values) (w : World) (m : ℕ) (s : Step) → AreReady g values w
+    → CanTake g w m s → Historic g values w → Historic g values (effect_of g w m s)
+step_keeps g values w m (Do Send) r can h = put_keeps g values w m (Index (next_index w m)) _ r.ended r.held
+    (message_next g values w m (r.present m can.may.alive.present) h can) h
+step_keeps g values w m (Do Null) r can h =
+    put_keeps g values w m sent_items.Null _ r.ended r.held (null_next g values w m) h
+step_keeps g values w m (Do Deliver) r can h = deliver_keeps g values w m (r.adds m can) h
+step_keeps g values w m (Do Finish) r can h =
+    let c = r.comes m can in
+    let after : Historic g values (finishes g w m) = committed_is w m can.value (Historic g values) g
+    can.committed (finish_keeps g values w m can.value c.history c.goes h) in
+    record { history = after.history; goes = after.goes; based = after.based }
+step_keeps g values w m (Do a) r can h = record { history = h.history; goes = h.goes; based = h.based }
+step_keeps g values w m s r can h = record { history = h.history; goes = h.goes; based = h.based }
+
+-- after an event too, histories are laid out by views and places
+pub event_keeps : (g : Group) (values : Values) (w : World) (e : Event) → AreReady g values w
+    → Guard g w e → Historic g values w → Historic g values (effect g w e)
+event_keeps g values w e r can h = step_keeps g values w (member_of e) (step_of e) r can h

@@ -44,10 +44,12 @@ pub record IsReceived (g : Group) (V : Views) (w : World) (m p : ℕ) : Type 0 w
   pub sent : sender_at w m p ≡ sender
   pub has_it : item_at_place w m p ≡ item_named g sender name
 
--- each place below the received word of a member holds an item that it has
-pub item-received : (g : Group) (V : Views) (w : World) (m p : ℕ) → Faithful g V w → p
-    < own_word w m RECEIVED_COLUMN → IsReceived g V w m p
-item-received g V w m p f l = record {
+-- a place of whose member m has more items holds one that m has
+pub item-here : (g : Group) (V : Views) (w : World) (m p : ℕ) → Faithful g V w
+    → (s : ℕ) × (slice_get (members_of (V (w.past.view m))) (p % length (members_of (V (w.past.view m)))) ≡ Some s)
+    × (p / length (members_of (V (w.past.view m))) < w.past.count m (w.past.view m) s)
+    → IsReceived g V w m p
+item-here g V w m p f at = record {
   sender = s;
   name = slice_index_or (w.past.sent s v) k Null;
   member = member-has (V v) (p % length ms) s at.1;
@@ -65,10 +67,6 @@ item-received g V w m p f l = record {
     ms : List ℕ
     ms = members_of (V v)
 
-    at : (s : ℕ) × (slice_get ms (p % length ms) ≡ Some s) × (p / length ms < w.past.count m v s)
-    at = held_member (w.past.count m v) ms p
-        (front_held (map (w.past.count m v) ms) p (omega (arith, l, f.counts.received m v)))
-
     s : ℕ
     s = at.0
 
@@ -80,6 +78,15 @@ item-received g V w m p f l = record {
 
     put : k < length (w.past.sent s v)
     put = omega (arith, at.2, f.items.counted m v s, f.sent.all s v)
+
+-- so does each place below its received word
+pub item-received : (g : Group) (V : Views) (w : World) (m p : ℕ) → Faithful g V w → p
+    < own_word w m RECEIVED_COLUMN → IsReceived g V w m p
+item-received g V w m p f l =
+    let v : ℕ = w.past.view m in
+    item-here g V w m p f (held_member (w.past.count m v) (members_of (V v)) p
+    (front_held (map (w.past.count m v) (members_of (V v))) p
+    (omega (arith, l, f.counts.received m v))))
 
 -- what it adds to a history is the entry of its place: nothing, where it is a null
 pub entries-next : (g : Group) (V : Views) (w : World) (m p : ℕ) (history : List Entry) (s : ℕ)

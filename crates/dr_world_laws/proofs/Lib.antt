@@ -6,6 +6,19 @@ pub mod Leavings
 pub mod Messages
 pub mod Remaining
 pub mod SentItems
-mod OneView
+pub mod ByValues
+pub mod ChosenViews
+pub mod Safety
+pub mod Finishing
+pub mod Ballots
 pub mod Reached
 pub mod Wholes
+pub mod Choosing
+pub mod HeldViews
+pub mod Covering
+pub mod Ending
+pub mod Rooms
+pub mod Once
+pub mod Worlds
+pub mod Telling
+pub mod FirstView

@@ -1,5 +1,6 @@
--- The entries of a history: messages of the script behind the first entries, and each of them a valid record.
-use Rattle.std.proofs.Common.{◌≡◌, ◌≢◌, refl, ap, sym, ◌∙◌, subst, ℕ, zero, suc, ◌+◌, ◌-◌, ◌^◌, ◌<◌, ◌≤◌, arith, inl, inr, List, [], ◌∷◌, length, take, get_or, All, Option, None, Some, slice_get, option_to_list, option_map, option_and_then, IsSomeAnd}
+-- The entries of a history: Views and messages of the script behind the first entries, and each of them a
+-- valid record.
+use Rattle.std.proofs.Common.{◌≡◌, ◌≢◌, refl, ap, sym, ◌∙◌, subst, ℕ, zero, suc, ◌+◌, ◌-◌, ◌^◌, ◌<◌, ◌≤◌, arith, inl, inr, List, [], ◌∷◌, ◌++◌, append-nil, append_assoc, length, map, take, get_or, All, Option, None, Some, slice_get, option_to_list, option_map, option_and_then, IsSomeAnd}
 use Rattle.std.proofs.lemmas.Bool.{cases_lt}
 use Rattle.std.proofs.lemmas.List.{get_or_past}
 use Rattle.std.proofs.lemmas.List.Elements.{All-nil, All-cons, All-append}
@@ -11,15 +12,18 @@ use Rattle.dr_entry.specs.declared.end.SentItem.{SentItem}
 use Rattle.dr_entry.specs.declared.end.SentItem.TheVariants.{Index, Null}
 use Rattle.dr_entry.specs.Spelling.{IsValidEntry}
 use Rattle.dr_history.specs.Members.{members_of, members_below}
-use Rattle.dr_history.specs.History.{GroupView, Sent, entry_of, item_at, messages_of, view_of}
+use Rattle.dr_history.specs.History.{GroupView, Sent, entry_of, item_at, merge, messages_of, view_of}
 use Rattle.dr_history.specs.Order.{MayFollow, first_entries}
 use Rattle.dr_history.specs.Soundness.{MayStand}
-use Rattle.dr_history_laws.specs.Laid.{laid, entry_at, first_view}
+use Rattle.dr_history_laws.specs.Laid.{laid, entry_at}
+use Rattle.dr_history_laws.specs.Courses.{ViewEnds, HasEnded, counts_taken, head_of, view_in}
+use Rattle.dr_history_laws.proofs.Cutting.{cut, cut_merge}
+use Rattle.dr_history_laws.proofs.Merging.{top_place}
+use Rattle.dr_faithful.specs.Chosen.{Values, endings_by}
 use Rattle.dr_history_laws.proofs.LaidLemmas.{laid-next, laid-none}
 use Rattle.dr_machine.specs.Group.{Group, IsGroup, roster}
 use Rattle.dr_machine.specs.World.{World}
-use Rattle.dr_world_laws.specs.Historic.{HoldsMessages, IsOfScript}
-use Rattle.dr_world_laws.proofs.Agreeing.{history-first}
+use Rattle.dr_world_laws.specs.Historic.{HoldsMessages, IsOfAge}
 use Rattle.dr_world_laws.proofs.Reached.{Known}
 
 -- ---- messages of the script
@@ -35,6 +39,18 @@ of_roster g s i b e = elim (cases_lt s (roster g)) [
     ap length (get_or_past g.opening.messages s [] past),
   ))
 ]
+
+-- an entry is one of the messages that the script gives to its sender, a member of the roster
+abbrev pub IsOfScript : Group → Entry → Type 0
+IsOfScript g (View age number members) = ⊥
+IsOfScript g (Msg s i b) = (s < roster g) × (slice_get (messages_of g.opening s) i ≡ Some b)
+
+of_age : (g : Group) (e : Entry) → IsOfScript g e → IsOfAge g e
+of_age g (View age number members) of = absurd of
+of_age g (Msg s i b) of = of
+
+all_of_age : (g : Group) (es : List Entry) → All (IsOfScript g) es → All (IsOfAge g) es
+all_of_age g es all = λ k d l. of_age g (get_or es k d) (all k d l)
 
 -- the entry of a sent item is a message of the script
 item_of_script : (g : Group) (s : ℕ) (item : SentItem) (e : Entry) → entry_of g.opening s item ≡ Some e
@@ -58,7 +74,7 @@ place_of_script g (Some (s, item)) = by (entry_of g.opening s item) refl
     by (Some e) is = All-cons (IsOfScript g) e [] (item_of_script g s item e is) (All-nil (IsOfScript g))
 
 -- and each entry that is laid
-laid_of_script : (g : Group) (sent : Sent) (v : GroupView) (p : ℕ)
+pub laid_of_script : (g : Group) (sent : Sent) (v : GroupView) (p : ℕ)
     → All (IsOfScript g) (laid g.opening sent v p)
 laid_of_script g sent v zero = subst (All (IsOfScript g)) (sym (laid-none g.opening sent v))
     (All-nil (IsOfScript g))
@@ -68,27 +84,64 @@ laid_of_script g sent v (suc p) =
     (All-append (IsOfScript g) (laid g.opening sent v p) (option_to_list (entry_at g.opening sent v p))
     (laid_of_script g sent v p) (place_of_script g (item_at sent v p)))
 
--- a history holds messages of the script behind its first entries
-pub holds_messages : (g : Group) (w : World) (m : ℕ) → Known g w → m < roster g
-    → HoldsMessages g (w.past.history m)
-holds_messages g w m y l = (
-  laid g.opening w.past.sent (first_view g.opening) (w.next m),
-  history-first g w m y l,
-  laid_of_script g w.past.sent (first_view g.opening) (w.next m),
-)
-
--- ---- valid records
-
--- a message of the script is a valid entry
-valid_message : (g : Group) (e : Entry) → IsGroup g → IsOfScript g e → IsValidEntry e
-valid_message g (View age number members) is of = absurd of
-valid_message g (Msg s i b) is of = (omega (arith, of.0, is.most_members), is.short s i b of.1)
+-- and each of a merge
+pub merged_of_script : (g : Group) (sent : Sent) (v : GroupView) (taken : ℕ → ℕ)
+    → All (IsOfScript g) (merge g.opening sent v (map taken v.members))
+merged_of_script g sent v taken = subst (All (IsOfScript g)) (sym (cut_merge g.opening sent v taken))
+    (laid_of_script g (cut sent v taken) v (top_place (map taken v.members)))
 
 -- a mask that has members is above 0
 above_none : (mask : ℕ) → members_of mask ≢ [] → 0 < mask
 unfolding members_of members_below
 above_none zero some = absurd (some refl)
 above_none (suc mask) some = omega arith
+
+-- the head of a view holds Views and messages behind the first entries
+head_holds : (g : Group) (sent : Sent) (endings : ViewEnds) (v : ℕ)
+    → ((u : ℕ) → u < v → HasEnded g.opening sent endings u)
+    → HoldsMessages g (head_of g.opening sent endings v)
+unfolding head_of
+head_holds g sent endings zero ended =
+    ([], sym (append-nil (first_entries g.opening)), All-nil (IsOfAge g))
+head_holds g sent endings (suc v) ended =
+    let rest = head_holds g sent endings v (λ u l. ended u (omega (arith, l))) in
+    let follows = (ended v (omega arith)).follows in
+    let merged : List Entry = merge g.opening sent (view_in g.opening endings v) (counts_taken g.opening endings v) in
+    let last : List Entry = View g.opening.age (suc v) (endings v).remaining ∷ [] in (
+      (rest.0 ++ merged) ++ last,
+      ap (λ es. (es ++ merged) ++ last) rest.1
+          ∙ ap (λ es. es ++ last) (append_assoc (first_entries g.opening) rest.0 merged)
+          ∙ append_assoc (first_entries g.opening) (rest.0 ++ merged) last,
+      All-append (IsOfAge g) (rest.0 ++ merged) last
+          (All-append (IsOfAge g) rest.0 merged rest.2
+          (all_of_age g merged (merged_of_script g sent (view_in g.opening endings v) (endings v).taken)))
+          (All-cons (IsOfAge g) (View g.opening.age (suc v) (endings v).remaining) []
+          (refl, omega arith, above_none (endings v).remaining follows.some, follows.numbers)
+          (All-nil (IsOfAge g))),
+    )
+
+-- a history holds such Views and messages behind its first entries
+pub holds_messages : (g : Group) (values : Values) (w : World) (m : ℕ) → Known g values w → m < roster g
+    → HoldsMessages g (w.past.history m)
+holds_messages g values w m y l =
+    let head = head_holds g w.past.sent (endings_by g.opening values) (w.past.view m)
+    (λ u less. (y.laid.left m u l less).ended) in
+    let here : List Entry = laid g.opening w.past.sent
+    (view_in g.opening (endings_by g.opening values) (w.past.view m)) (w.next m) in (
+      head.0 ++ here,
+      y.laid.historic.history m l ∙ ap (λ es. es ++ here) head.1
+          ∙ append_assoc (first_entries g.opening) head.0 here,
+      All-append (IsOfAge g) head.0 here head.2
+          (all_of_age g here (laid_of_script g w.past.sent
+          (view_in g.opening (endings_by g.opening values) (w.past.view m)) (w.next m))),
+    )
+
+-- ---- valid records
+
+-- a View and a message of the age are valid entries
+valid_message : (g : Group) (e : Entry) → IsGroup g → IsOfAge g e → IsValidEntry e
+valid_message g (View age number members) is of = of.2
+valid_message g (Msg s i b) is of = (omega (arith, of.0, is.most_members), is.short s i b of.1)
 
 above_whole : (n : ℕ) → 1 ≤ n → 0 < 2 ^ n - 1
 above_whole zero l = absurd (omega (arith, l))

@@ -1,117 +1,148 @@
 -- What holds of the histories of every world that is reached.
-use Rattle.std.proofs.Common.{◌≡◌, refl, ap, ap₂, sym, ◌∙◌, subst, ℕ, ◌/◌, ◌%◌, ◌<◌, arith, true, Some, [], ◌++◌, length, slice_get, take, append-nil}
+use Rattle.std.proofs.Common.{◌≡◌, ◌≢◌, ◌⊎◌, inl, inr, refl, ap, ap₂, sym, ◌∙◌, subst, ℕ, ◌+◌, ◌/◌, ◌%◌, ◌<◌, arith, true, Some, [], length, slice_get, take}
+use Rattle.std.proofs.lemmas.Bool.{cases_eq}
 use Rattle.std.proofs.lemmas.List.{take_all}
+use Rattle.std.proofs.lemmas.Option.{none-some}
 use Rattle.dr_entry.specs.declared.end.SentItem.{SentItem}
 use Rattle.dr_entry.specs.declared.end.SentItem.TheVariants.{Index, Null}
+use Rattle.dr_entry.specs.declared.record.Value.{Value}
 use Rattle.dr_history.specs.Members.{has}
 use Rattle.dr_history.specs.History.{GroupView, item_at, messages_of}
-use Rattle.dr_history.specs.Order.{first_entries, messages_from}
+use Rattle.dr_history.specs.Order.{messages_from}
 use Rattle.dr_history.proofs.NumberedLemmas.{messages_from-View}
 use Rattle.dr_words.specs.declared.column.TheConstants.{RECEIVED_COLUMN, DONE_COLUMN}
-use Rattle.dr_history_laws.specs.Laid.{EndsWithView, GoesOn}
+use Rattle.dr_history_laws.specs.Laid.{GoesOn}
 use Rattle.dr_history_laws.proofs.Counting.{index-next}
 use Rattle.dr_history_laws.proofs.Indices.{item_at-parts}
 use Rattle.dr_history_laws.proofs.Lists.{Contains-slice_get}
-use Rattle.dr_history_laws.proofs.LaidLemmas.{laid-none}
+use Rattle.dr_history_laws.proofs.Courses.{course-head, head-ends, head-first}
 use Rattle.dr_history_laws.proofs.Members.{view-distinct}
-use Rattle.dr_history_laws.proofs.Openings.{first-ends}
 use Rattle.dr_history_laws.proofs.SendingLemmas.{GoesOn-none}
 use Rattle.dr_machine.specs.declared.event.Event.{Event}
 use Rattle.dr_machine.specs.Group.{Group, IsGroup, roster}
-use Rattle.dr_machine.specs.Guards.{CanDeliver}
+use Rattle.dr_machine.specs.Guards.{CanDeliver, CanFinish}
 use Rattle.dr_machine.specs.Effects.{entries_of}
 use Rattle.dr_machine.specs.World.{World, opening_world, own_word}
-use Rattle.dr_machine.specs.Acts.{Guard, effect}
-use Rattle.dr_machine.specs.Run.{IsReached}
-use Rattle.dr_machine.proofs.Runs.{reached, reached_effect}
-use Rattle.dr_faithful.specs.Faithful.{Faithful}
-use Rattle.dr_faithful.specs.Tells.{item_named}
-use Rattle.dr_faithful.proofs.Faithfulness.{faithful}
-use Rattle.dr_world_laws.specs.Historic.{view_numbered, Historic}
-use Rattle.dr_world_laws.proofs.OneView.{all_members, one_head}
+use Rattle.dr_machine.specs.Acts.{CanTake, Guard, effect, effect_of}
+use Rattle.dr_machine.specs.Events.{member_of, step_of}
+use Rattle.dr_machine.specs.Writes.{at}
+use Rattle.dr_machine.specs.declared.event.Act.TheVariants.{Finish}
+use Rattle.dr_machine.specs.declared.step.Step.{Step}
+use Rattle.dr_machine.specs.declared.step.Step.TheVariants.{Do}
+use Rattle.dr_machine.proofs.Presence.{in_roster}
+use Rattle.dr_machine.specs.Run.{IsReachedWhere}
+use Rattle.dr_machine.proofs.Runs.{reached_where}
+use Rattle.dr_faithful.specs.Faithful.{AllGoOn, Faithful}
+use Rattle.dr_faithful.specs.Chosen.{AreChosen, Values, endings_by, views_by}
+use Rattle.dr_faithful.specs.Tells.{Views, item_named}
+use Rattle.dr_faithful.proofs.Faithfulness.{faithful_begins, faithful_keeps, past_on_event, words_on}
+use Rattle.dr_vote_laws.proofs.Opening.{begun as voting_begins}
+use Rattle.dr_vote_laws.proofs.Steps.{voting_keeps}
+use Rattle.dr_vote_laws.specs.Voting.{Voting}
+use Rattle.dr_world_laws.proofs.Ballots.{ballots-stay, voted-for}
+use Rattle.dr_world_laws.proofs.ByValues.{AreVotedFor}
+use Rattle.dr_world_laws.specs.Historic.{AreLaid, HasEndedSafely, head_by, view_numbered}
+use Rattle.dr_world_laws.proofs.ChosenViews.{left-steady, views-first, views-within}
+use Rattle.dr_world_laws.proofs.Finishing.{Finishes, comes-to_head, finishes, goes-any, goes-on_well, leaves}
 use Rattle.dr_world_laws.proofs.Completion.{Complete, shows_own, event_completes}
-use Rattle.dr_world_laws.proofs.Histories.{AddsEntry, AreBased, added, event_keeps}
+use Rattle.dr_world_laws.proofs.Histories.{AddsEntry, AreReady, added, event_keeps}
+use Rattle.dr_world_laws.proofs.Safety.{IsSafe, safe-value, wedged_stay}
 use Rattle.dr_world_laws.proofs.Items.{IsReceived, entries-next, held-next, item-received}
 
--- what is known of a world that is reached
-pub record Known (g : Group) (w : World) : Type 0 where
-  pub run : IsReached g w
-  pub faithful : Faithful g (all_members g) w
-  pub historic : Historic g (all_members g) (one_head g) w
+-- what is known of a world that is reached by chosen values
+pub record Known (g : Group) (values : Values) (w : World) : Type 0 where
+  pub faithful : Faithful g (views_by g values) w
+  pub laid : AreLaid g values w
   pub complete : Complete g w
+  pub voting : Voting g (views_by g values) w
+  pub ballots : AreVotedFor g values w
+  pub wedged : (m : ℕ) (x : Value) → w.committed m ≡ Some x → w.suspects m ≢ 0
+
+-- so a value that somebody has committed is safe
+pub safe : (g : Group) (values : Values) (w : World) (m : ℕ) (x : Value) → Known g values w
+    → w.committed m ≡ Some x → IsSafe w m x
+safe g values w m x y e =
+    safe-value g (views_by g values) w m x y.faithful y.voting (y.wedged m x e) e
+
+-- and whoever may end its view does so with a value of which that much is known
+pub may-end : (g : Group) (values : Values) (w : World) (m : ℕ) → IsGroup g → Known g values w
+    → AreChosen values w → (can : CanFinish g w m) → Finishes g values w m can.value
+may-end g values w m is y chosen can =
+    finishes g values w m is y.faithful chosen can (safe g values w m can.value y can.committed)
+
+-- so it goes on as it should
+pub all-go_on : (g : Group) (values : Values) (w : World) → IsGroup g → Known g values w
+    → AreChosen values w → AllGoOn g (views_by g values) w
+all-go_on g values w is y chosen m can =
+    goes-on_well g values w m can.value is y.faithful y.laid (may-end g values w m is y chosen can)
 
 -- ---- the next place
 
 -- the message at the next place has the next index of its sender, and the script has it
-index-delivered : (g : Group) (w : World) (m s i : ℕ) → Known g w → m < roster g
-    → item_at w.past.sent (view_numbered g (all_members g) (w.past.view m)) (w.next m) ≡ Some (s, Index i)
+index-delivered : (g : Group) (values : Values) (w : World) (m s i : ℕ) → IsGroup g → Known g values w
+    → m < roster g
+    → item_at w.past.sent (view_numbered g (views_by g values) (w.past.view m)) (w.next m) ≡ Some (s, Index i)
     → (i ≡ length (messages_from s (w.past.history m))) × (i < length (messages_of g.opening s))
-index-delivered g w m s i y l place = (
-  index-next g.opening w.past.sent (first_entries g.opening) v (w.next m) s i goes
-      (view-distinct (first_entries g.opening) v ends) place
-      ∙ ap (λ es. length (messages_from s es)) (sym (y.historic.history m l)),
+index-delivered g values w m s i is y l place = (
+  index-next g.opening w.past.sent (head_by g values w (w.past.view m)) v (w.next m) s i goes
+      (view-distinct (head_by g values w (w.past.view m)) v
+      (head-ends g.opening w.past.sent (endings_by g.opening values) (w.past.view m))) place
+      ∙ ap (λ es. length (messages_from s es)) (sym (y.laid.historic.history m l)),
   goes.scripted s (w.next m / length v.members) i
       (Contains-slice_get v.members (w.next m % length v.members) s parts.0) parts.1,
 )
   where
     v : GroupView
-    v = view_numbered g (all_members g) (w.past.view m)
+    v = view_numbered g (views_by g values) (w.past.view m)
 
-    goes : GoesOn g.opening w.past.sent (first_entries g.opening) v
-    goes = y.historic.goes (w.past.view m)
+    goes : GoesOn g.opening w.past.sent (head_by g values w (w.past.view m))
+        (view_numbered g (views_by g values) (w.past.view m))
+    goes = goes-any g values w (w.past.view m) is y.faithful y.laid.historic
 
     parts : (slice_get v.members (w.next m % length v.members) ≡ Some s)
         × (slice_get (w.past.sent s v.number) (w.next m / length v.members) ≡ Some (Index i))
     parts = item_at-parts w.past.sent v (w.next m) s (Index i) place
 
-    ends : EndsWithView (first_entries g.opening) v
-    ends = subst (λ n. EndsWithView (first_entries g.opening) (view_numbered g (all_members g) n))
-        (sym (y.faithful.beginning.first m)) (first-ends g.opening)
-
--- the View of the head is no message
-are-based : (g : Group) (w : World) → Known g w → AreBased g (one_head g) w
-are-based g w y m l = y.faithful.beginning.start m
-    ∙ sym (ap length (messages_from-View m g.opening.start g.opening.age 0 g.opening.members))
-
 -- a member that may deliver has the item at the next place
-item-next : (g : Group) (w : World) (m : ℕ) → Known g w → CanDeliver g w m
-    → IsReceived g (all_members g) w m (w.next m)
-item-next g w m y can =
-    let f = y.faithful in
+item-next : (g : Group) (V : Views) (w : World) (m : ℕ) → Faithful g V w → CanDeliver g w m
+    → IsReceived g V w m (w.next m)
+item-next g V w m f can =
     let own : has (w.members m) m
     ≡ true = subst (λ mask. has mask m ≡ true) (sym (f.views.own m))
     (f.views.present m can.may.alive.present) in
-    item-received g (all_members g) w m (w.next m) f
+    item-received g V w m (w.next m) f
     (shows_own w m RECEIVED_COLUMN (w.next m) (can.received m own))
 
-adds-entry : (g : Group) (w : World) (m : ℕ) → Known g w → CanDeliver g w m
-    → AddsEntry g (all_members g) w m
-adds-entry g w m y can =
-    let x = item-next g w m y can in
+adds-entry : (g : Group) (values : Values) (w : World) (m : ℕ) → IsGroup g → Known g values w
+    → CanDeliver g w m → AddsEntry g (views_by g values) w m
+adds-entry g values w m is y can =
+    let x = item-next g (views_by g values) w m y.faithful can in
     let l = y.faithful.views.within (w.past.view m) m (y.faithful.views.present m can.may.alive.present) in
-    entries-next g (all_members g) w m (w.next m) (w.past.history m) x.sender x.name x.place x.sent x.has_it
-    (λ i e. index-delivered g w m x.sender i y l (x.place ∙ ap (λ n. Some (x.sender, n)) e))
+    entries-next g (views_by g values) w m (w.next m) (w.past.history m) x.sender x.name x.place x.sent
+    x.has_it
+    (λ i e. index-delivered g values w m x.sender i is y l (x.place ∙ ap (λ n. Some (x.sender, n)) e))
 
 -- a member that shows done has no message left to deliver
-done-delivers_none : (g : Group) (w : World) (m : ℕ) → Known g w → CanDeliver g w m → m < roster g
-    → own_word w m DONE_COLUMN ≡ 1 → added w m ≡ []
-done-delivers_none g w m y can l e =
-    let x = item-next g w m y can in
+done-delivers_none : (g : Group) (values : Values) (w : World) (m : ℕ) → IsGroup g → Known g values w
+    → CanDeliver g w m → m < roster g → own_word w m DONE_COLUMN ≡ 1 → added w m ≡ []
+done-delivers_none g values w m is y can l e =
+    let x = item-next g (views_by g values) w m y.faithful can in
     ap₂ (λ s item. entries_of (w.past.history m) s item) x.sent x.has_it
     ∙ none x.sender x.name x.member x.place
   where
     v : GroupView
-    v = view_numbered g (all_members g) (w.past.view m)
+    v = view_numbered g (views_by g values) (w.past.view m)
 
     all : take (w.past.durable m) (w.past.history m) ≡ w.past.history m
     all = take_all (w.past.durable m) (w.past.history m) (omega (arith, y.complete.durable m l e))
 
-    none : (s : ℕ) (name : SentItem) → has (all_members g (w.past.view m)) s ≡ true
-        → item_at w.past.sent v (w.next m) ≡ Some (s, name)
+    none : (s : ℕ) (name : SentItem) → has (views_by g values (w.past.view m)) s ≡ true
+        → item_at w.past.sent (view_numbered g (views_by g values) (w.past.view m)) (w.next m)
+        ≡ Some (s, name)
         → entries_of (w.past.history m) s (item_named g s name) ≡ []
     none s Null member place = refl
     none s (Index i) member place =
-        let at = index-delivered g w m s i y l place in
+        let at = index-delivered g values w m s i is y l place in
         absurd (omega (
           arith,
           at.0,
@@ -120,41 +151,113 @@ done-delivers_none g w m y can l e =
           ap (λ es. length (messages_from s es)) all,
         ))
 
+-- ---- the views that are left
+
+-- a view that is left after a step was left before it, or is the one that the step ends
+left_or_ended : (g : Group) (w : World) (m : ℕ) (s : Step) (k v : ℕ) → CanTake g w m s
+    → v < (effect_of g w m s).past.view k → (v < w.past.view k)
+    ⊎ (CanFinish g w k × (v ≡ w.past.view k))
+left_or_ended g w m (Do Finish) k v can l = by (cases_eq k m)
+  where
+    here : (view : ℕ → ℕ) (m v : ℕ) → v < at view m (view m + 1) m → (v < view m) ⊎ (v ≡ view m)
+    here view m v l = grind (arith, l)
+
+    other : (view : ℕ → ℕ) (m k v : ℕ) → k ≢ m → v < at view m (view m + 1) k → v < view k
+    other view m k v d l = grind (arith, d, l)
+
+    ended : (v < w.past.view m) ⊎ (v ≡ w.past.view m) → (v < w.past.view m)
+        ⊎ (CanFinish g w m × (v ≡ w.past.view m))
+    ended (inl less) = inl less
+    ended (inr same) = inr (can, same)
+
+    by : (k ≡ m) ⊎ (k ≢ m) → (v < w.past.view k) ⊎ (CanFinish g w k × (v ≡ w.past.view k))
+    by (inl same) = subst (λ i. (v < w.past.view i) ⊎ (CanFinish g w i × (v ≡ w.past.view i))) (sym same)
+        (ended (here w.past.view m v (subst (λ i. v < at w.past.view m (w.past.view m + 1) i) same l)))
+    by (inr d) = inl (other w.past.view m k v d l)
+left_or_ended g w m (Do a) k v can l = inl l
+left_or_ended g w m s k v can l = inl l
+
+-- each of them ended well
+all-left : (g : Group) (values : Values) (w : World) (e : Event) → IsGroup g → AreChosen values w
+    → Guard g w e → Known g values w → (k v : ℕ) → k < roster g → v < (effect g w e).past.view k
+    → HasEndedSafely g values w v
+all-left g values w e is chosen can y k v l less =
+    by (left_or_ended g w (member_of e) (step_of e) k v can less)
+  where
+    by : (v < w.past.view k) ⊎ (CanFinish g w k × (v ≡ w.past.view k)) → HasEndedSafely g values w v
+    by (inl before) = y.laid.left k v l before
+    by (inr (finish, same)) = subst (HasEndedSafely g values w) (sym same) (leaves g values w k finish.value is
+        y.faithful (may-end g values w k is y chosen finish))
+
 -- ---- the induction
 
-opening-historic : (g : Group) → Historic g (all_members g) (one_head g) (opening_world g)
-opening-historic g = record {
-  history = λ m l. sym (
-      ap (λ es. first_entries g.opening ++ es)
-      (laid-none g.opening (λ _ _. []) (view_numbered g (all_members g) 0)) ∙
-      append-nil (first_entries g.opening)
-      );
-  goes = λ v. GoesOn-none g.opening (λ _ _. []) (first_entries g.opening)
-      (view_numbered g (all_members g) v) (λ s member. refl);
+opening-laid : (g : Group) (values : Values) → AreLaid g values (opening_world g)
+opening-laid g values = record {
+  historic = record {
+    history = λ m l. sym (course-head g.opening (λ _ _. []) (endings_by g.opening values) 0
+        ∙ head-first g.opening (λ _ _. []) (endings_by g.opening values));
+    goes = λ m v l come. GoesOn-none g.opening (λ _ _. []) (head_by g values (opening_world g) v)
+        (view_numbered g (views_by g values) v) (λ s member. refl);
+    based = λ m l. sym (ap (λ es. length (messages_from m es))
+        (head-first g.opening (λ _ _. []) (endings_by g.opening values))
+        ∙ ap length (messages_from-View m g.opening.start g.opening.age 0 g.opening.members));
+  };
+  left = λ m v l less. absurd (omega (arith, less));
 }
 
 opening-complete : (g : Group) → Complete g (opening_world g)
 opening-complete g = record { durable = λ m l e. refl; shown = λ m l e. absurd (cc) }
 
--- what is known of worlds holds of each world that is reached
-pub known : (g : Group) (w : World) → IsGroup g → IsReached g w → Known g w
-known g w is r = reached g (Known g) step begun w r
+pub begins : (g : Group) (values : Values) → IsGroup g → Known g values (opening_world g)
+begins g values is = record {
+  faithful = faithful_begins g (views_by g values) is (views-first g values)
+      (λ v m. views-within g values v m is);
+  laid = opening-laid g values;
+  complete = opening-complete g;
+  voting = voting_begins g (views_by g values);
+  ballots = λ m v l. absurd (omega (arith, l));
+  wedged = λ m x e. absurd (none-some x e);
+}
+
+-- what is known stays, where the values are the chosen ones
+pub event-known : (g : Group) (values : Values) (w : World) (e : Event) → IsGroup g → AreChosen values w
+    → Guard g w e → Known g values w → Known g values (effect g w e)
+event-known g values w e is chosen can y = record {
+  faithful = now;
+  laid = record {
+    historic = event_keeps g values w e ready can y.laid.historic;
+    left = λ k v l less. left-steady g values w (effect g w e) v is y.faithful now
+        (past_on_event g (views_by g values) w e is well can y.faithful)
+        (words_on g (views_by g values) w e is well can y.faithful)
+        (all-left g values w e is chosen can y k v l less);
+  };
+  complete = event_completes g (views_by g values) w e y.faithful
+      (λ m d. done-delivers_none g values w m is y d) can y.complete;
+  voting = voting_keeps g (views_by g values) w e is well can y.faithful y.voting;
+  ballots = λ k v less. ballots-stay g values w (effect g w e) v
+      (past_on_event g (views_by g values) w e is well can y.faithful)
+      (voted-for g values w k v chosen y.voting y.ballots
+      (left_or_ended g w (member_of e) (step_of e) k v can less));
+  wedged = wedged_stay g (views_by g values) w (member_of e) (step_of e) is can y.faithful y.wedged;
+}
   where
-    begun : Known g (opening_world g)
-    begun = record {
-      run = ([], refl);
-      faithful = faithful g (opening_world g) is ([], refl);
-      historic = opening-historic g;
-      complete = opening-complete g;
+    well : AllGoOn g (views_by g values) w
+    well = all-go_on g values w is y chosen
+
+    now : Faithful g (views_by g values) (effect g w e)
+    now = faithful_keeps g (views_by g values) w e is well can y.faithful
+
+    ready : AreReady g values w
+    ready = record {
+      present = λ m there. in_roster g m is there;
+      ended = λ m v l less. (y.laid.left m v l less).ended;
+      held = λ m l. held-next g (views_by g values) w m y.faithful l;
+      adds = λ m d. adds-entry g values w m is y d;
+      comes = λ m can. comes-to_head g values w m can.value is y.faithful y.laid.historic (may-end g values w m is y chosen can);
     }
 
-    step : (u : World) (e : Event) → Guard g u e → Known g u → Known g (effect g u e)
-    step u e can y = let run = reached_effect g u e y.run can in record {
-      run = run;
-      faithful = faithful g (effect g u e) is run;
-      historic = event_keeps g (all_members g) (one_head g) u e
-          (λ m l. held-next g (all_members g) u m y.faithful l) (are-based g u y)
-          (λ m d. adds-entry g u m y d) can y.historic;
-      complete = event_completes g (all_members g) u e y.faithful
-          (λ m d. done-delivers_none g u m y d) can y.complete;
-    }
+-- and so it is known of each world that is reached by them
+pub known : (g : Group) (values : Values) (w : World) → IsGroup g
+    → IsReachedWhere g (AreChosen values) w → Known g values w
+known g values w is r = reached_where g (AreChosen values) (Known g values)
+    (λ u e chosen can y. event-known g values u e is chosen can y) (begins g values is) w r

@@ -1,2 +1,3 @@
 pub mod Historic
 pub mod Ends
+pub mod Views

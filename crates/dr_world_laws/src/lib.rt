@@ -1,44 +1,164 @@
 //! The laws of a group: whatever its members do, and in whatever order, their histories agree, and what a
 //! member that is done has delivered is everything.
 //!
-//! The machine is that of `dr_machine`. That its words tell the truth comes from `dr_faithful`, and what
-//! holds of histories laid out by places from `dr_history_laws`; this crate ties the two together.
+//! The machine is that of `dr_machine`. That its words tell the truth comes from `dr_faithful`, that votes
+//! are for one value from `dr_vote_laws`, and what holds of histories laid out by places from
+//! `dr_history_laws`; this crate ties them together.
 //! `docs/PROOFS.md` shows how.
 #![tactic(auto)]
 
-ghost use Rattle.std.specs.Prelude.{◌≡◌, ℕ, ◌<◌, List, [], ◌++◌, All, length, Some};
+ghost use Rattle.std.specs.Prelude.{◌≡◌, ◌≢◌, ℕ, ◌*◌, ◌+◌, ◌<◌, ◌≤◌, false, List, [], ◌++◌, All, length, None, Some};
 ghost use Rattle.dr_entry.specs.declared.end.End.TheVariants.{Done, Suspected, NoMajority};
 ghost use Rattle.dr_entry.specs.Spelling.{IsValidEntry};
-ghost use Rattle.dr_faithful.specs.Tells.{Views};
+ghost use Rattle.dr_entry.specs.declared.record.Value.{Value};
+ghost use Rattle.dr_entry.specs.declared.record.Vote.{Vote};
+ghost use Rattle.dr_faithful.specs.Chosen.{Values};
+ghost use Rattle.dr_faithful.specs.Faithful.{Faithful};
+ghost use Rattle.dr_faithful.specs.Tells.{SuspicionsTold, Views, WordsTell};
+ghost use Rattle.dr_history.specs.History.{IsPrefixOf, messages_of};
+ghost use Rattle.dr_history.specs.Members.{has};
+ghost use Rattle.dr_history.specs.Places.{front_of};
 ghost use Rattle.dr_machine.specs.declared.event.Event.{Event};
-ghost use Rattle.dr_machine.specs.Group.{Group, IsGroup, roster};
+ghost use Rattle.dr_machine.specs.Group.{Group, IsGroup, banks, roster};
 ghost use Rattle.dr_machine.specs.World.{World, opening_world};
-ghost use Rattle.dr_machine.specs.Guards.{HoldsAll};
-ghost use Rattle.dr_machine.specs.Run.{Run, IsReached, WorldAgreed};
 ghost use Rattle.dr_history.specs.declared.opening.Opening.{Opening};
-ghost use Rattle.dr_history.specs.Order.{first_entries};
+ghost use Rattle.dr_machine.specs.Guards.{CanFinish, HoldsAll, MayChoose, unsuspected_of};
+ghost use Rattle.dr_machine.specs.Run.{Run, IsReached, IsReachedWhere, NoLaterItem, PastGrew, WordsGrew, WorldAgreed};
+ghost use Rattle.dr_machine.specs.Acts.{Guard, effect};
+ghost use Rattle.dr_machine.specs.Effects.{counts_by};
+ghost use Rattle.dr_machine.specs.Votes.{HasLogged, IsOf, MajorityHas};
+ghost use Rattle.dr_words.specs.Masks.{IsLeastOf, without};
+ghost use Rattle.dr_vote_laws.specs.Moments.{AcceptsOfMoments};
+ghost use Rattle.dr_vote_laws.specs.Tells.{VotesTold};
+ghost use Rattle.dr_vote_laws.specs.Voting.{HaveVotedFor, IsCut};
+ghost use Rattle.dr_history.specs.Order.{first_entries, messages_from};
 ghost use Rattle.dr_history.specs.Soundness.{Sound};
 ghost use Rattle.dr_history_laws.specs.Remaining.{remaining};
-ghost use Rattle.dr_world_laws.specs.Ends.{IsLeftBy, IsLeftWith};
-ghost use Rattle.dr_world_laws.specs.Historic.{AreLaid, Heads, HoldsMessages, IsMerged};
+ghost use Rattle.dr_world_laws.specs.Ends.{IsLeftBy, IsLeftWith, NobodySuspects};
+ghost use Rattle.dr_world_laws.specs.Historic.{AreLaid, HoldsMessages, IsMerged};
+ghost use Rattle.dr_world_laws.specs.Views.{AreViews, HasView, IsCovered};
 
 /// In every world that a group reaches its members agree: on their histories, on their logs, and on what
-/// is durable. So they do after every list of events.
+/// is durable. So they do after every list of events, over any number of views.
 pub fn agreement()
     ensures reached { (g : Group) (w : World) → IsGroup g → IsReached g w → WorldAgreed g w }
     ensures events { (g : Group) (events : List Event) (w : World)
         → IsGroup g → Run g (opening_world g) events w → WorldAgreed g w }
 {}
 
-/// Each history goes up to the View that its member is in, and then has the messages of the places that the
-/// member has delivered in it.
-pub fn histories_are_laid()
-    ensures { (g : Group) (w : World) → IsGroup g → IsReached g w
-        → AreLaid g w }
+/// In every world that a group reaches the histories tell the members of each view that somebody has come
+/// to: the View of a number has the same members wherever it stands, and the View of a member's own
+/// view in some. A view is followed by another as more than half of its members have voted for one value by
+/// one ballot, and the next view has the members that don't leave by it.
+pub fn views_end_by_votes()
+    ensures once { (g : Group) (w : World) (v one other : ℕ) → IsGroup g → IsReached g w
+        → HasView g w v one → HasView g w v other → one ≡ other }
+    ensures come { (g : Group) (w : World) (m v : ℕ) → IsGroup g → IsReached g w → v ≤ w.past.view m
+        → (members : ℕ) × HasView g w v members }
+    ensures present { (g : Group) (w : World) (m : ℕ) → IsGroup g → IsReached g w
+        → HasView g w (w.past.view m) (w.members m) }
+    ensures ended { (g : Group) (w : World) (v members next : ℕ) → IsGroup g → IsReached g w
+        → HasView g w v members → HasView g w (v + 1) next
+        → (b : ℕ) × (x : Value) × HaveVotedFor w.past.votes members v b x
+        × (next ≡ without members x.leavers) }
 {}
 
-/// Behind its first entries each history holds messages of the script, and nothing else. Each entry of a
-/// history, from the start on, is a valid record.
+/// In every world that a group reaches the votes of a view agree on one value: votes of one ballot are equal;
+/// once more than half of a view has votes of a ballot, each vote of this ballot or a higher one has the same
+/// value; a value that a member commits has such a majority; and so values that are committed in one view are
+/// equal, whoever commits them, and at whatever moments.
+pub fn one_value()
+    ensures ballot { (g : Group) (w : World) (i j : ℕ) (x y : Vote) → IsGroup g → IsReached g w
+        → HasLogged w.past.votes i x → HasLogged w.past.votes j y
+        → IsOf y x.view x.ballot → x ≡ y }
+    ensures majority { (g : Group) (w : World) (i j members : ℕ) (x y : Vote) → IsGroup g → IsReached g w
+        → HasView g w x.view members → HasLogged w.past.votes i x → HasLogged w.past.votes j y
+        → MajorityHas w.past.votes members (λ z. IsOf z x.view x.ballot)
+        → y.view ≡ x.view → x.ballot ≤ y.ballot → y.value ≡ x.value }
+    ensures committed { (g : Group) (w : World) (m : ℕ) (v : Value) → IsGroup g → IsReached g w
+        → w.committed m ≡ Some v
+        → (ballot : ℕ) × HaveVotedFor w.past.votes (w.members m) (w.past.view m) ballot v }
+    ensures one { (g : Group) (early late : World) (es : List Event) (m k : ℕ) (u v : Value) → IsGroup g
+        → IsReached g early → Run g early es late
+        → early.committed m ≡ Some u → late.committed k ≡ Some v
+        → early.past.view m ≡ late.past.view k → u ≡ v }
+{}
+
+/// Each value that somebody has voted for lets a minority of its view leave, and somebody. The counts of
+/// those that stay are final, and of each member as many items are delivered as all of these have received.
+pub fn values_are_cuts()
+    ensures { (g : Group) (w : World) (i : ℕ) (x : Vote) → IsGroup g → IsReached g w
+        → HasLogged w.past.votes i x
+        → (members : ℕ) × HasView g w x.view members × IsCut members w.past.own x.view x.value }
+{}
+
+/// In every world that a group reaches each word tells the truth of its owner: of what it has received,
+/// logged and sent, of whom it suspects, and, where it is an accept word, of what it has promised and
+/// voted. Each accept word of the table, and each that was seen, is 0 or was its owner's own word at a
+/// moment at which the owner was in that view and had the promise, the tag and the value that the word
+/// says.
+pub fn words_tell_the_truth()
+    ensures faithful { (g : Group) (w : World) → IsGroup g → IsReached g w
+        → (V : Views) × AreViews g w V × Faithful g V w }
+    ensures words { (g : Group) (V : Views) (w : World) → IsGroup g → IsReached g w → AreViews g w V
+        → WordsTell g V w }
+    ensures suspicions { (g : Group) (w : World) → IsGroup g → IsReached g w → SuspicionsTold g w }
+    ensures promise { (g : Group) (w : World) (m : ℕ) → IsGroup g → IsReached g w → m < roster g
+        → w.suspects m ≢ 0 → IsLeastOf (unsuspected_of w m) (w.promise m) }
+    ensures votes { (g : Group) (V : Views) (w : World) → IsGroup g → IsReached g w → AreViews g w V
+        → VotesTold g V w }
+    ensures moments { (g : Group) (V : Views) (w : World) → IsGroup g → IsReached g w → AreViews g w V
+        → AcceptsOfMoments g V w }
+    ensures later { (g : Group) (w : World) → IsGroup g → IsReached g w → NoLaterItem g w }
+{}
+
+/// No event undoes what was done, or makes a word fall, while its member stays in its view.
+pub fn nothing_is_undone()
+    ensures words { (g : Group) (w : World) (e : Event) → IsGroup g → IsReached g w → Guard g w e
+        → WordsGrew g w (effect g w e) }
+    ensures past { (g : Group) (w : World) (e : Event) → IsGroup g → IsReached g w → Guard g w e
+        → PastGrew w.past (effect g w e).past }
+{}
+
+/// Each history goes up to the View that its member is in, and then has the messages of the places that the
+/// member has delivered in it. Each view that somebody has left ended with the value that was chosen for it.
+pub fn histories_are_laid()
+    ensures { (g : Group) (w : World) → IsGroup g → IsReached g w
+        → (values : Values) × AreLaid g values w }
+{}
+
+/// The trim of a value that more than half of a view has voted for by one ballot covers what anybody has
+/// delivered in the view: who is in it has delivered a front part of the merge of what the value takes, who
+/// has left it all of this, and who doesn't leave has received it. So nobody has delivered a place that a
+/// committed value cuts off.
+pub fn trim_covers()
+    ensures covered { (g : Group) (w : World) (v b members : ℕ) (x : Value) → IsGroup g → IsReached g w
+        → HasView g w v members → HaveVotedFor w.past.votes members v b x → IsCovered g w v members x }
+    ensures committed { (g : Group) (w : World) (m k : ℕ) (x : Value) → IsGroup g → IsReached g w
+        → m < roster g → w.committed k ≡ Some x → w.past.view m ≡ w.past.view k
+        → w.next m ≤ front_of (counts_by w k x) }
+{}
+
+/// Whoever has committed a value may end its view with it, unless it leaves by the value: the table has a
+/// bank for the next view, and all items that the value takes are there. No age has more views than
+/// members.
+pub fn committed_members_may_finish()
+    ensures { (g : Group) (w : World) (m : ℕ) (x : Value) → IsGroup g → IsReached g w → MayChoose g w m
+        → w.committed m ≡ Some x → has x.leavers m ≡ false → CanFinish g w m }
+{}
+
+/// The table has a bank for each view that a member comes to. Each history has no more than the first
+/// entries, a View for each view that its member has left, and the messages that the script gives the roster.
+pub fn histories_are_short()
+    ensures view { (g : Group) (w : World) (m : ℕ) → IsGroup g → IsReached g w → m < roster g
+        → w.past.view m < banks g }
+    ensures history { (g : Group) (w : World) (m most : ℕ) → IsGroup g → IsReached g w → m < roster g
+        → ((s : ℕ) → length (messages_of g.opening s) ≤ most)
+        → length (w.past.history m) ≤ length (first_entries g.opening) + w.past.view m + roster g * most }
+{}
+
+/// Behind its first entries each history holds Views of the age and messages of the script, and nothing
+/// else. Each entry of a history, from the start on, is a valid record.
 pub fn histories_hold_messages()
     ensures messages { (g : Group) (w : World) (m : ℕ) → IsGroup g → IsReached g w
         → m < roster g → HoldsMessages g (w.past.history m) }
@@ -46,27 +166,30 @@ pub fn histories_hold_messages()
         → m < roster g → All IsValidEntry (w.past.history m) }
 {}
 
-/// A member that has ended as done has delivered all messages of the script, and knows its whole history to
-/// be durable. Behind the View that it is in lies the merge of all that was sent in this view. All members
-/// that are done have the same history.
+/// A member that has ended as done has delivered all messages that the script gives the members of its
+/// view, and knows its whole history to be durable. Nobody has a message that it lacks. Behind the View
+/// that it is in lies the merge of all that was sent in this view. Members that are done in the same view
+/// have the same history.
 pub fn done_members_hold_all()
     ensures whole { (g : Group) (w : World) (m : ℕ) → IsGroup g → IsReached g w
         → m < roster g → w.end m ≡ Some Done → HoldsAll g w m }
     ensures durable { (g : Group) (w : World) (m : ℕ) → IsGroup g → IsReached g w
         → m < roster g → w.end m ≡ Some Done → w.past.durable m ≡ length (w.past.history m) }
+    ensures lacks_none { (g : Group) (w : World) (m k s : ℕ) → IsGroup g → IsReached g w
+        → m < roster g → w.end m ≡ Some Done → k < roster g
+        → IsPrefixOf (messages_from s (w.past.history k)) (messages_from s (w.past.history m)) }
     ensures merged { (g : Group) (w : World) (m : ℕ) → IsGroup g → IsReached g w
-        → m < roster g → w.end m ≡ Some Done
-        → (V : Views) × (H : Heads) × IsMerged g V H w m }
+        → m < roster g → w.end m ≡ Some Done → (values : Values) × IsMerged g values w m }
     ensures same { (g : Group) (w : World) (m k : ℕ) → IsGroup g → IsReached g w
         → m < roster g → w.end m ≡ Some Done → k < roster g → w.end k ≡ Some Done
-        → w.past.history m ≡ w.past.history k }
+        → w.past.view m ≡ w.past.view k → w.past.history m ≡ w.past.history k }
 {}
 
-/// A member of a reached world that holds all messages has one history, which the script and the start alone
+/// A member that holds all messages in the first view has one history, which the script and the start alone
 /// determine: the start, View 0, and the merge of the messages that the start leaves.
 pub fn whole_histories_are_one()
     ensures { (g : Group) (w : World) (m : ℕ) → IsGroup g → IsReached g w
-        → m < roster g → HoldsAll g w m
+        → m < roster g → w.past.view m ≡ 0 → HoldsAll g w m
         → w.past.history m ≡ first_entries g.opening ++ remaining g.opening }
 {}
 
@@ -76,12 +199,18 @@ pub fn whole_histories_leave_nothing()
         → next.start ≡ first_entries o ++ remaining o → remaining next ≡ [] }
 {}
 
-/// A member of a reached world that was ended by suspicion was so by another member of View 0, which it does
-/// not suspect and which suspects it, or is left with the members of View 0 that it doesn't suspect, itself
-/// among them, and these are no majority.
+/// A member of a reached world that was ended by suspicion was so by another member of its view, which it
+/// does not suspect and which suspects it there, or is left with the members of its view that it doesn't
+/// suspect, itself among them, and these are no majority.
 pub fn suspicion_ends_members()
     ensures suspected { (g : Group) (w : World) (m by : ℕ) → IsGroup g → IsReached g w
-        → m < roster g → w.end m ≡ Some (Suspected by) → IsLeftBy g w m by }
+        → m < roster g → w.end m ≡ Some (Suspected by) → IsLeftBy w m by }
     ensures minority { (g : Group) (w : World) (m mask : ℕ) → IsGroup g → IsReached g w
-        → m < roster g → w.end m ≡ Some (NoMajority mask) → IsLeftWith g w m mask }
+        → m < roster g → w.end m ≡ Some (NoMajority mask) → IsLeftWith w m mask }
+{}
+
+/// While nobody suspects anybody, nobody commits a value, and everybody stays in the first view.
+pub fn trusting_members_stay_in_their_view()
+    ensures { (g : Group) (w : World) (m : ℕ) → IsGroup g → IsReachedWhere g NobodySuspects w
+        → (w.past.view m ≡ 0) × (w.committed m ≡ None) }
 {}

@@ -1,5 +1,4 @@
-use Rattle.dr_world_laws.proofs.Agreeing.{agreed}
-use Rattle.dr_world_laws.proofs.Reached.{known}
+use Rattle.dr_world_laws.proofs.Worlds.{agreed, known}
 use Rattle.dr_world_laws.proofs.agreement.Goals as goal
 
 pub returns : goal.returns

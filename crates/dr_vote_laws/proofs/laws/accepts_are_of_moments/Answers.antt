@@ -1,5 +1,5 @@
-use Rattle.dr_vote_laws.proofs.Moments.{accepts_so}
+use Rattle.dr_vote_laws.proofs.Moments.{accepts_begin, accepts_stay}
 use Rattle.dr_vote_laws.proofs.laws.accepts_are_of_moments.Goals as goal
 
 pub returns : goal.returns
-returns c = accepts_so
+returns c = record { begins = accepts_begin; keeps = accepts_stay }

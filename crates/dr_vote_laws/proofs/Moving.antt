@@ -1,0 +1,84 @@
+-- A member ends its view and goes on in the next one: what is true of votes stays so.
+use Rattle.std.proofs.Common.{None, Option, Some, arith, inl, inr, length, refl, subst, sym, true, ℕ, ◌+◌, ◌∙◌, ◌≡◌, ◌≢◌, ◌⊎◌}
+use Rattle.std.proofs.lemmas.Bool.{cases_eq}
+use Rattle.dr_entry.specs.declared.record.Value.{Value}
+use Rattle.dr_entry.specs.declared.record.Vote.{Vote}
+use Rattle.dr_machine.specs.Effects.{finishes_by, is_accept_of}
+use Rattle.dr_machine.specs.Group.{Group, roster}
+use Rattle.dr_machine.specs.Votes.{HasLogged, HasVoted, MajorityHas, Votes, vote_in}
+use Rattle.dr_machine.specs.World.{World, no_value}
+use Rattle.dr_machine.specs.Writes.{at}
+use Rattle.dr_faithful.proofs.Finishes.{finish_grew}
+use Rattle.dr_faithful.proofs.Writes.{at_other, at_same, at₃_column}
+use Rattle.dr_faithful.specs.Faithful.{Faithful, Numbers, Table}
+use Rattle.dr_faithful.specs.Tells.{Views}
+use Rattle.dr_vote_laws.proofs.Frames.{same_accepts}
+use Rattle.dr_vote_laws.specs.Tells.{TellsVote}
+use Rattle.dr_vote_laws.specs.Voting.{AreVoting, Voting}
+use Rattle.dr_words.specs.declared.column.TheConstants.{LOGGED_COLUMN}
+
+-- a word 0 tells nothing
+tells_zero : (g : Group) (own : Numbers) (votes : Votes) (i v c : ℕ) → TellsVote g own votes i v c 0
+tells_zero g own votes i v c = record {
+  promised = omega arith;
+  low = omega arith;
+  voted = λ b e. absurd (omega (arith, e));
+  passed = λ b x h l. absurd (omega (arith, l));
+}
+
+-- a member that has moved to another view has no tag, has committed nothing, and has seen nothing in it. That
+-- its own words of the view are as they were is for the frame
+pub moved_votes : (g : Group) (V : Views) (view tag : ℕ → ℕ) (value : ℕ → Value)
+    (committed : ℕ → Option Value) (pending : ℕ → Option Vote) (own : Numbers) (table : Table)
+    (seen : Numbers) (votes : Votes) (m next : ℕ) (x : Value) → pending m ≡ None
+    → AreVoting g V view tag value committed pending own table seen votes
+    → AreVoting g V (at view m next) (at tag m 0) (at value m x) (at committed m None) pending own table
+    (at seen m (λ i c. 0)) votes
+moved_votes g V view tag value committed pending own table seen votes m next x idle old = record {
+  valid = old.valid;
+  acted = record {
+    below = old.acted.below;
+    accepted = λ i b. by_member i (λ k. (b : ℕ) → at tag m 0 k ≡ b + 1
+        → HasVoted g votes k (at view m next k) b (at value m x k))
+        (λ b e. absurd (omega (arith, e, at_same tag m 0)))
+        (λ d b e. rw (at_other view m next i d, at_other value m x i d)
+        (old.acted.accepted i b (sym (at_other tag m 0 i d) ∙ e))) b;
+    waiting = λ i y e. by_member i (λ k. pending k ≡ Some y → HasLogged votes k y × (y.view ≡ at view m next k))
+        (λ e. absurd (cc (idle, e)))
+        (λ d e. rw (at_other view m next i d) (old.acted.waiting i y e)) e;
+  };
+  original = old.original;
+  words = record {
+    in_own = old.words.in_own;
+    in_table = old.words.in_table;
+    in_seen = λ k i c. by_member k (λ k. is_accept_of (roster g) (V (at view m next k)) c ≡ true
+        → TellsVote g own votes i (at view m next k) c (at seen m (λ i c. 0) k i c))
+        (λ a. rw (at_same seen m (λ i c. 0)) (tells_zero g own votes i _ c))
+        (λ d a. rw (at_other view m next k d, at_other seen m (λ i c. 0) k d)
+        (old.words.in_seen k i c (rw (← at_other view m next k d) a)));
+  };
+  chosen = λ i y e. by_member i (λ k. at committed m None k ≡ Some y → (b : ℕ)
+      × MajorityHas votes (V (at view m next k)) (λ z. z ≡ vote_in g (at view m next k) b y))
+      (λ e. absurd (cc (at_same committed m None, e)))
+      (λ d e. rw (at_other view m next i d) (old.chosen i y (sym (at_other committed m None i d) ∙ e))) e;
+}
+  where
+    by_member : (i : ℕ) (P : ℕ → Type 0) → P m → (i ≢ m → P i) → P i
+    by_member i P mine other = by (cases_eq i m)
+      where
+        by : (i ≡ m) ⊎ (i ≢ m) → P i
+        by (inl e) = subst P (sym e) mine
+        by (inr d) = other d
+
+-- so it is where a member ends its view
+pub finish_votes : (g : Group) (V : Views) (w : World) (m : ℕ) (x : Value) → w.pending m ≡ None
+    → Faithful g V w → Voting g V w → Voting g V (finishes_by g w m x)
+finish_votes g V w m x idle f old =
+    same_accepts g V (at w.past.view m (w.past.view m + 1)) (at w.tag m 0) (at w.value m no_value)
+    (at w.committed m None) w.pending w.past.own (finishes_by g w m x).past.own w.table w.table
+    (at w.seen m (λ i c. 0)) w.past.votes (λ v s h. f.views.within v s h) (finish_grew g V w m x f).own
+    (λ i v c b. at₃_column w.past.own m (w.past.view m + 1) LOGGED_COLUMN (length (w.past.log m)) i v c
+    (omega (arith, b.0)))
+    (λ v j i c b. refl)
+    (moved_votes g V w.past.view w.tag w.value w.committed w.pending w.past.own w.table w.seen
+    w.past.votes m (w.past.view m + 1) no_value idle old)

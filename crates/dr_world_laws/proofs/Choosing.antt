@@ -1,0 +1,333 @@
+-- Every world that is reached is reached by values: whenever somebody commits a value in a view in which
+-- nobody has committed one before, nobody has left the view either, and so the value may be chosen for it,
+-- as far as what came before goes.
+use Rattle.std.proofs.Common.{List, [], ◌∷◌, None, Option, Some, ap, arith, inl, inr, le_refl, refl, subst, suc, sym, zero, ℕ, ◌+◌, ◌<◌, ◌∙◌, ◌≡◌, ◌≢◌, ◌≤◌, ◌⊎◌}
+use Rattle.std.specs.Prelude.{⊤}
+use Rattle.std.proofs.lemmas.Bool.{cases_eq, cases_lt}
+use Rattle.std.proofs.lemmas.Option.{none-some}
+use Rattle.dr_entry.specs.declared.record.Value.{Value}
+use Rattle.dr_machine.proofs.Presence.{in_roster}
+use Rattle.dr_machine.proofs.Runs.{reached, reached_where, reached_where_effect}
+use Rattle.dr_machine.specs.Acts.{CanTake, Guard, effect, effect_of}
+use Rattle.dr_machine.specs.declared.event.Act.TheVariants.{Beat, Commit, Finish}
+use Rattle.dr_machine.specs.declared.event.Event.{Event}
+use Rattle.dr_machine.specs.declared.step.Step.{Step}
+use Rattle.dr_machine.specs.declared.step.Step.TheVariants.{Do}
+use Rattle.dr_machine.specs.Effects.{commits as after_commit}
+use Rattle.dr_machine.specs.Events.{member_of, step_of}
+use Rattle.dr_machine.specs.Group.{Group, IsGroup, roster}
+use Rattle.dr_machine.specs.Guards.{CanCommit}
+use Rattle.dr_machine.specs.Run.{Happens, IsReached, IsReachedWhere, RunWhere}
+use Rattle.dr_machine.specs.Votes.{IsOf, MajorityHas}
+use Rattle.dr_machine.specs.World.{World, no_value, opening_world}
+use Rattle.dr_machine.specs.Writes.{at}
+use Rattle.dr_faithful.proofs.Writes.{at_both, at_case, at_other, at_same}
+use Rattle.dr_faithful.specs.Chosen.{AreChosen, Values, views_by}
+use Rattle.dr_vote_laws.proofs.Accepting.{commit_votes}
+use Rattle.dr_vote_laws.proofs.Values.{chosen_once, commits}
+use Rattle.dr_vote_laws.specs.Voting.{IsChosen}
+use Rattle.dr_words.specs.Masks.{without}
+use Rattle.dr_world_laws.proofs.ChosenViews.{views-first, views-next}
+use Rattle.dr_world_laws.proofs.Reached.{Known, known}
+use Rattle.dr_world_laws.proofs.ByValues.{IsReachedBy}
+
+some_same : {A : Type 0} (x y : A) → Some x ≡ Some y → x ≡ y
+some_same x y e = cc e
+
+-- ---- who is not of the roster
+
+-- nobody else ever leaves the first view, or commits a value
+abbrev AreIdle : Group → World → Type 0
+AreIdle g w = (k : ℕ) → roster g ≤ k → (w.past.view k ≡ 0) × (w.committed k ≡ None)
+
+others_idle : (g : Group) (w : World) (m : ℕ) (s : Step) → IsGroup g → CanTake g w m s → AreIdle g w
+    → AreIdle g (effect_of g w m s)
+others_idle g w m (Do Finish) is can old =
+    at_both (λ k v c. roster g ≤ k → (v ≡ 0) × (c ≡ None)) w.past.view w.committed m (w.past.view m + 1) None
+    old (λ l. absurd (omega (arith, l, in_roster g m is can.may.alive.present)))
+others_idle g w m (Do Commit) is can old =
+    at_case (λ k c. roster g ≤ k → (w.past.view k ≡ 0) × (c ≡ None)) w.committed m (Some (w.value m))
+    (λ k d. old k) (λ l. absurd (omega (arith, l, in_roster g m is can.may.alive.present)))
+others_idle g w m (Do Beat) is can old = old
+others_idle g w m (Do a) is can old = old
+others_idle g w m s is can old = old
+
+-- ---- views that nobody has committed a value in, or left
+
+-- a member that is in this view, with what it has committed, has not left a view, or committed a value in it
+record IsBefore (v view : ℕ) (committed : Option Value) : Type 0 where
+  pub within : view ≤ v
+  pub none : view ≡ v → committed ≡ None
+
+-- so are all members
+abbrev AreBefore : World → ℕ → Type 0
+AreBefore w v = (k : ℕ) → IsBefore v (w.past.view k) (w.committed k)
+
+-- this one has left it, or has committed a value in it
+abbrev HasPassed : World → ℕ → ℕ → Type 0
+HasPassed w v k = (v < w.past.view k) ⊎ ((w.past.view k ≡ v) × (x : Value) × (w.committed k ≡ Some x))
+
+one_of : (w : World) (v k : ℕ) → HasPassed w v k ⊎ IsBefore v (w.past.view k) (w.committed k)
+one_of w v k = by (cases_lt v (w.past.view k)) (cases_eq (w.past.view k) v) (w.committed k) refl
+  where
+    by : (v < w.past.view k) ⊎ (w.past.view k ≤ v) → (w.past.view k ≡ v) ⊎ (w.past.view k ≢ v)
+        → (c : Option Value) → w.committed k ≡ c
+        → HasPassed w v k ⊎ IsBefore v (w.past.view k) (w.committed k)
+    by (inl l) same c e = inl (inl l)
+    by (inr l) (inl same) (Some x) e = inl (inr (same, x, e))
+    by (inr l) (inl same) None e = inr record { within = l; none = λ d. e }
+    by (inr l) (inr other) c e = inr record { within = l; none = λ d. absurd (other d) }
+
+search : (w : World) (v n : ℕ) → ((k : ℕ) × HasPassed w v k)
+    ⊎ ((k : ℕ) → k < n → IsBefore v (w.past.view k) (w.committed k))
+search w v zero = inr (λ k l. absurd (omega (arith, l)))
+search w v (suc n) = by (search w v n) (one_of w v n)
+  where
+    last : IsBefore v (w.past.view n) (w.committed n)
+        → ((k : ℕ) → k < n → IsBefore v (w.past.view k) (w.committed k)) → (k : ℕ) → k < suc n
+        → (k < n) ⊎ (n ≤ k) → IsBefore v (w.past.view k) (w.committed k)
+    last b all k l (inl less) = all k less
+    last b all k l (inr more) =
+        let same : n ≡ k = omega (arith, l, more) in
+        subst (λ i. IsBefore v (w.past.view i) (w.committed i)) same b
+
+    by : ((k : ℕ) × HasPassed w v k) ⊎ ((k : ℕ) → k < n → IsBefore v (w.past.view k) (w.committed k))
+        → HasPassed w v n ⊎ IsBefore v (w.past.view n) (w.committed n)
+        → ((k : ℕ) × HasPassed w v k) ⊎ ((k : ℕ) → k < suc n → IsBefore v (w.past.view k) (w.committed k))
+    by (inl t) one = inl t
+    by (inr all) (inl p) = inl (n, p)
+    by (inr all) (inr b) = inr (λ k l. last b all k l (cases_lt k n))
+
+-- somebody has passed it, or nobody has
+passed_or_before : (g : Group) (w : World) (v : ℕ) → AreIdle g w → ((k : ℕ) × HasPassed w v k) ⊎ AreBefore w v
+passed_or_before g w v idle = by (search w v (roster g))
+  where
+    outside : (k : ℕ) → roster g ≤ k → IsBefore v (w.past.view k) (w.committed k)
+    outside k l = record { within = omega (arith, (idle k l).0); none = λ e. (idle k l).1 }
+
+    each : ((k : ℕ) → k < roster g → IsBefore v (w.past.view k) (w.committed k)) → (k : ℕ)
+        → (k < roster g) ⊎ (roster g ≤ k) → IsBefore v (w.past.view k) (w.committed k)
+    each all k (inl l) = all k l
+    each all k (inr l) = outside k l
+
+    by : ((k : ℕ) × HasPassed w v k) ⊎ ((k : ℕ) → k < roster g → IsBefore v (w.past.view k) (w.committed k))
+        → ((k : ℕ) × HasPassed w v k) ⊎ AreBefore w v
+    by (inl t) = inl t
+    by (inr all) = inr (λ k. each all k (cases_lt k (roster g)))
+
+-- ---- back along a run
+
+finish_back : (v view : ℕ) (committed : Option Value) → IsBefore v (view + 1) None
+    → IsBefore v view committed
+finish_back v view committed b = record {
+  within = omega (arith, b.within);
+  none = λ e. absurd (omega (arith, e, b.within));
+}
+
+-- where nobody has passed a view after a step, nobody had before
+step_back : (g : Group) (w : World) (m : ℕ) (s : Step) (v : ℕ) → CanTake g w m s
+    → AreBefore (effect_of g w m s) v → AreBefore w v
+step_back g w m (Do Finish) v can after k = by (cases_eq k m)
+  where
+    view : k ≢ m → at w.past.view m (w.past.view m + 1) k ≡ w.past.view k
+    view d = at_other w.past.view m (w.past.view m + 1) k d
+
+    none : k ≢ m → at w.committed m None k ≡ w.committed k
+    none d = at_other w.committed m None k d
+
+    now : IsBefore v (at w.past.view m (w.past.view m + 1) k) (at w.committed m None k)
+    now = after k
+
+    by : (k ≡ m) ⊎ (k ≢ m) → IsBefore v (w.past.view k) (w.committed k)
+    by (inl e) = subst (λ i. IsBefore v (w.past.view i) (w.committed i)) (sym e)
+        (finish_back v (w.past.view m) (w.committed m)
+        (subst (λ x. IsBefore v x None) (at_same w.past.view m (w.past.view m + 1))
+        (subst (λ c. IsBefore v (at w.past.view m (w.past.view m + 1) m) c) (at_same w.committed m None)
+        (after m))))
+    by (inr d) = subst (λ x. IsBefore v x (w.committed k)) (view d)
+        (subst (λ c. IsBefore v (at w.past.view m (w.past.view m + 1) k) c) (none d) (after k))
+step_back g w m (Do Commit) v can after k = by (cases_eq k m)
+  where
+    by : (k ≡ m) ⊎ (k ≢ m) → IsBefore v (w.past.view k) (w.committed k)
+    by (inl e) = record { within = (after k).within; none = λ d. ap w.committed e ∙ can.uncommitted }
+    by (inr d) = record {
+      within = (after k).within;
+      none = λ e. sym (at_other w.committed m (Some (w.value m)) k d) ∙ (after k).none e;
+    }
+step_back g w m (Do Beat) v can after k = record { within = (after k).within; none = (after k).none }
+step_back g w m (Do a) v can after k = record { within = (after k).within; none = (after k).none }
+step_back g w m s v can after k = record { within = (after k).within; none = (after k).none }
+
+happens_back : (g : Group) (w mid : World) (e : Event) (v : ℕ) → Happens g w e mid → AreBefore mid v
+    → AreBefore w v
+happens_back g w mid e v (inl t) b = step_back g w (member_of e) (step_of e) v t.0
+    (subst (λ u. AreBefore u v) t.1 b)
+happens_back g w mid e v (inr t) b = subst (λ u. AreBefore u v) t.1 b
+
+-- the value of such a view may be any one
+value_free : (w : World) (values : Values) (v : ℕ) (x : Value) → AreBefore w v → AreChosen values w
+    → AreChosen (at values v x) w
+value_free w values v x before chosen k y e = chosen k y e ∙ sym (at_other values v x (w.past.view k)
+    (λ same. absurd (none-some y (sym ((before k).none same) ∙ e))))
+
+run_free : (g : Group) (values : Values) (v : ℕ) (x : Value) (w after : World) (es : List Event)
+    → RunWhere g (AreChosen values) w es after → AreBefore after v
+    → RunWhere g (AreChosen (at values v x)) w es after × AreBefore w v
+run_free g values v x w after [] r b = (r, subst (λ u. AreBefore u v) r b)
+run_free g values v x w after (e ∷ es) r b =
+    let rest = run_free g values v x r.1 after es r.3 b in
+    let here = happens_back g w r.1 e v r.2 rest.1 in
+    ((value_free w values v x here r.0, r.1, r.2, rest.0), here)
+
+reached_free : (g : Group) (values : Values) (w : World) (v : ℕ) (x : Value) → AreBefore w v
+    → IsReachedBy g values w → IsReachedBy g (at values v x) w
+reached_free g values w v x before r = record {
+  way = (r.way.0, (run_free g values v x (opening_world g) w r.way.0 r.way.1 before).0);
+  now = value_free w values v x before r.now;
+}
+
+-- ---- one event more
+
+-- a step commits the chosen value of the view, or none
+abbrev CommitsChosen : Values → World → ℕ → Step → Type 0
+CommitsChosen values w m (Do Commit) = w.value m ≡ values (w.past.view m)
+CommitsChosen values w m s = ⊤
+
+ones_stay : (g : Group) (values : Values) (w : World) (m : ℕ) (s : Step) → CanTake g w m s
+    → CommitsChosen values w m s
+    → ((k : ℕ) (x : Value) → w.committed k ≡ Some x → x ≡ values (w.past.view k))
+    → (k : ℕ) (x : Value) → (effect_of g w m s).committed k ≡ Some x
+    → x ≡ values ((effect_of g w m s).past.view k)
+ones_stay g values w m (Do Finish) can so old =
+    at_both (λ k v (c : Option Value). (x : Value) → c ≡ Some x → x ≡ values v) w.past.view w.committed m
+    (w.past.view m + 1) None old (λ x e. absurd (none-some x e))
+ones_stay g values w m (Do Commit) can so old =
+    at_case (λ k (c : Option Value). (x : Value) → c ≡ Some x → x ≡ values (w.past.view k)) w.committed m
+    (Some (w.value m)) (λ k d. old k) (λ x e. sym (some_same (w.value m) x e) ∙ so)
+ones_stay g values w m (Do Beat) can so old = old
+ones_stay g values w m (Do a) can so old = old
+ones_stay g values w m s can so old = old
+
+event_more : (g : Group) (values : Values) (w : World) (e : Event) → IsGroup g → IsReachedBy g values w
+    → Guard g w e → CommitsChosen values w (member_of e) (step_of e) → IsReachedBy g values (effect g w e)
+event_more g values w e is r can so = record {
+  way = way;
+  now = ones_stay g values w (member_of e) (step_of e) can so r.now;
+}
+  where
+    way : IsReachedWhere g (AreChosen values) (effect g w e)
+    way = reached_where_effect g (AreChosen values) w e r.now r.way can
+
+-- ---- which value is chosen
+
+-- a value that more than half of a view has voted for is the chosen one, where somebody has passed the view
+chosen_same : (g : Group) (values : Values) (w : World) (v b k : ℕ) (x : Value) → Known g values w
+    → AreChosen values w → IsChosen (views_by g values) w.past.votes v b x → HasPassed w v k → x ≡ values v
+chosen_same g values w v b k x y chosen voted passed = by passed
+  where
+    same : (z : Value) → (c : ℕ) × IsChosen (views_by g values) w.past.votes v c z → x ≡ z
+    same z t = chosen_once g (views_by g values) w v b t.0 x z y.voting voted t.1
+
+    by : HasPassed w v k → x ≡ values v
+    by (inl l) = same (values v) (y.ballots k v l)
+    by (inr (here, z, e)) =
+        let t = commits g (views_by g values) w k z y.voting e in
+        same z (t.0, subst (λ u. IsChosen (views_by g values) w.past.votes u t.0 z) here t.1)
+        ∙ chosen k z e ∙ ap values here
+
+-- so is the value that a member commits
+commits_same : (g : Group) (values : Values) (w : World) (m k : ℕ) → Known g values w → AreChosen values w
+    → CanCommit g w m → HasPassed w (w.past.view m) k → w.value m ≡ values (w.past.view m)
+commits_same g values w m k y chosen can passed =
+    let t = commits g (views_by g values) (after_commit w m) m (w.value m)
+    (commit_votes g (views_by g values) w m can y.faithful y.voting)
+    (at_same w.committed m (Some (w.value m))) in
+    chosen_same g values w (w.past.view m) t.0 k (w.value m) y chosen t.1 passed
+
+-- there are values by which a world is reached, and by which its next step goes
+choose : (g : Group) (values : Values) (w : World) (m : ℕ) (s : Step) → IsGroup g → AreIdle g w
+    → IsReachedBy g values w → CanTake g w m s
+    → (more : Values) × IsReachedBy g more w × CommitsChosen more w m s
+choose g values w m (Do Commit) is idle r can = by (passed_or_before g w (w.past.view m) idle)
+  where
+    by : ((k : ℕ) × HasPassed w (w.past.view m) k) ⊎ AreBefore w (w.past.view m)
+        → (more : Values) × IsReachedBy g more w × CommitsChosen more w m (Do Commit)
+    by (inl t) = (values, r, commits_same g values w m t.0 (known g values w is r.way) r.now can t.1)
+    by (inr before) = (
+      at values (w.past.view m) (w.value m),
+      reached_free g values w (w.past.view m) (w.value m) before r,
+      sym (at_same values (w.past.view m) (w.value m)),
+    )
+choose g values w m (Do Beat) is idle r can = (values, r, tt)
+choose g values w m (Do a) is idle r can = (values, r, tt)
+choose g values w m s is idle r can = (values, r, tt)
+
+-- so every world that is reached is reached by values
+abbrev IsReachedSo : Group → World → Type 0
+IsReachedSo g w = ((values : Values) × IsReachedBy g values w) × AreIdle g w
+
+-- the values of no view
+abbrev no_values : Values
+no_values v = no_value
+
+step_so : (g : Group) (w : World) (e : Event) → IsGroup g → Guard g w e → IsReachedSo g w
+    → IsReachedSo g (effect g w e)
+step_so g w e is can (r, idle) =
+    let t = choose g r.0 w (member_of e) (step_of e) is idle r.1 can in (
+      (t.0, event_more g t.0 w e is t.1 can t.2),
+      others_idle g w (member_of e) (step_of e) is can idle,
+    )
+
+pub reached_by : (g : Group) (w : World) → IsGroup g → IsReached g w
+    → (values : Values) × IsReachedBy g values w
+reached_by g w is r = (reached g (IsReachedSo g) (λ u e can y. step_so g u e is can y) (
+  (
+    no_values,
+    record {
+      way = ([], refl);
+      now = λ m x e. absurd (none-some x e);
+    },
+  ),
+  λ k l. (refl, refl),
+) w r).0
+
+-- ---- a value that is voted for
+
+pub nobody_else : (g : Group) (values : Values) (w : World) → IsGroup g → IsReachedBy g values w → AreIdle g w
+nobody_else g values w is r = reached_where g (AreChosen values) (AreIdle g)
+    (λ u e chosen can idle. others_idle g u (member_of e) (step_of e) is can idle) (λ k l. (refl, refl)) w
+    r.way
+
+-- the members of a view are as the values of the views before it have them
+members_stay : (g : Group) (values : Values) (v : ℕ) (x : Value) (u : ℕ) → u ≤ v
+    → views_by g (at values v x) u ≡ views_by g values u
+members_stay g values v x zero l = views-first g (at values v x) ∙ sym (views-first g values)
+members_stay g values v x (suc u) l =
+    let next : u + 1 ≡ suc u = omega arith in
+    rw (← next) (views-next g (at values v x) u
+    ∙ ap (λ mask. without mask (at values v x u).leavers) (members_stay g values v x u (omega (arith, l)))
+    ∙ ap (λ (y : Value). without (views_by g values u) y.leavers)
+    (at_other values v x u (λ same. omega (arith, same, l)))
+    ∙ sym (views-next g values u))
+
+-- a world in which more than half of a view has voted for a value is reached by values of which it is one
+pub voted_by : (g : Group) (values : Values) (w : World) (v b : ℕ) (x : Value) → IsGroup g
+    → IsReachedBy g values w → IsChosen (views_by g values) w.past.votes v b x
+    → (more : Values) × IsReachedBy g more w × (more v ≡ x)
+    × IsChosen (views_by g more) w.past.votes v b (more v)
+voted_by g values w v b x is r voted = by (passed_or_before g w v (nobody_else g values w is r))
+  where
+    by : ((k : ℕ) × HasPassed w v k) ⊎ AreBefore w v
+        → (more : Values) × IsReachedBy g more w × (more v ≡ x)
+        × IsChosen (views_by g more) w.past.votes v b (more v)
+    by (inl t) =
+        let same : x ≡ values v = chosen_same g values w v b t.0 x (known g values w is r.way) r.now voted t.1
+        in (values, r, sym same, subst (λ y. IsChosen (views_by g values) w.past.votes v b y) same voted)
+    by (inr before) = (
+      at values v x,
+      reached_free g values w v x before r,
+      at_same values v x,
+      subst (λ y. IsChosen (views_by g (at values v x)) w.past.votes v b y) (sym (at_same values v x))
+          (subst (λ mask. MajorityHas w.past.votes mask (λ z. IsOf z v b × (z.value ≡ x)))
+          (sym (members_stay g values v x v (le_refl v))) voted),
+    )

@@ -1,0 +1,223 @@
+-- What is known of a world, told by the members of views as the histories have them.
+use Rattle.std.proofs.Common.{ap, arith, inl, inr, subst, sym, true, Some, ℕ, ◌+◌, ◌<◌, ◌∙◌, ◌≡◌, ◌≤◌, ◌⊎◌, map}
+use Rattle.std.proofs.lemmas.Bool.{cases_lt}
+use Rattle.dr_entry.specs.declared.record.Value.{Value}
+use Rattle.dr_entry.specs.declared.record.Vote.{Vote}
+use Rattle.dr_history.specs.Members.{has, members_of}
+use Rattle.dr_history.specs.Places.{front_of}
+use Rattle.dr_words.specs.Columns.{leavers_column}
+use Rattle.dr_words.specs.Masks.{without}
+use Rattle.dr_words.specs.Packing.{accept_tag}
+use Rattle.dr_machine.specs.Effects.{is_accept_of}
+use Rattle.dr_machine.specs.Group.{Group, IsGroup, roster}
+use Rattle.dr_machine.specs.Votes.{HasLogged, HasVoted, IsOf, MajorityHas, vote_in}
+use Rattle.dr_machine.specs.World.{Past, World}
+use Rattle.dr_faithful.proofs.Pasts.{tells_nothing}
+use Rattle.dr_faithful.specs.Chosen.{views_by}
+use Rattle.dr_faithful.specs.Faithful.{Faithful}
+use Rattle.dr_faithful.specs.Tells.{Tells, Views, WordsTell}
+use Rattle.dr_vote_laws.proofs.Cuts.{vote_cut}
+use Rattle.dr_vote_laws.proofs.Opening as opening
+use Rattle.dr_vote_laws.proofs.Values.{majority_stays, vote_is}
+use Rattle.dr_vote_laws.specs.Moments.{AcceptsOfMoments, HadAccepted}
+use Rattle.dr_vote_laws.specs.Tells.{TellsVote, VotesTold}
+use Rattle.dr_vote_laws.specs.Voting.{HaveVotedFor, IsCut, Voting}
+use Rattle.dr_world_laws.specs.Views.{AreViews, HasView, IsCovered}
+use Rattle.dr_world_laws.proofs.ChosenViews.{views-next}
+use Rattle.dr_world_laws.proofs.Choosing.{nobody_else, voted_by}
+use Rattle.dr_world_laws.proofs.Covering as covering
+use Rattle.dr_world_laws.proofs.HeldViews.{view-held, view-is, view-there}
+use Rattle.dr_world_laws.proofs.Reached as worlds
+use Rattle.dr_world_laws.proofs.Worlds.{Known, accepts_so}
+
+-- ---- views
+
+-- the View of each view that a member has come to stands in a history
+pub has-view : (g : Group) (w : World) (i v : ℕ) → IsGroup g → (y : Known g w) → v ≤ w.past.view i
+    → HasView g w v (views_by g y.values v)
+has-view g w i v is y come = by (cases_lt i (roster g))
+  where
+    by : (i < roster g) ⊎ (roster g ≤ i) → HasView g w v (views_by g y.values v)
+    by (inl l) = (i, l, view-there g y.values w i v y.chosen l come)
+    by (inr beyond) =
+        let first = (nobody_else g y.values w is y.by i beyond).0 in (
+          0,
+          is.some_member,
+          view-there g y.values w 0 v y.chosen is.some_member (omega (arith, first, come)),
+        )
+
+pub view-once : (g : Group) (w : World) (v one other : ℕ) → IsGroup g → Known g w → HasView g w v one
+    → HasView g w v other → one ≡ other
+view-once g w v one other is y h k =
+    sym (view-is g y.values w v one is y.chosen h) ∙ view-is g y.values w v other is y.chosen k
+
+-- the members of the present view of a member
+pub has-present : (g : Group) (w : World) (m : ℕ) → IsGroup g → Known g w
+    → HasView g w (w.past.view m) (w.members m)
+has-present g w m is y = subst (HasView g w (w.past.view m)) (sym (y.chosen.faithful.views.own m))
+    (has-view g w m (w.past.view m) is y (omega arith))
+
+-- a view that another one follows ended by votes
+pub view-ended : (g : Group) (w : World) (v members next : ℕ) → IsGroup g → Known g w
+    → HasView g w v members → HasView g w (v + 1) next
+    → (b : ℕ) × (x : Value) × HaveVotedFor w.past.votes members v b x × (next ≡ without members x.leavers)
+view-ended g w v members next is y h k =
+    let same = view-is g y.values w v members is y.chosen h in
+    let after = view-held g y.values w k.0 (v + 1) next is y.chosen k.1 k.2 in
+    let t = y.chosen.ballots k.0 v (omega (arith, after.0)) in (
+      t.0,
+      y.values v,
+      subst (λ mask. MajorityHas w.past.votes mask (λ z. IsOf z v t.0 × (z.value ≡ y.values v))) same t.1,
+      sym after.1 ∙ views-next g y.values v ∙ ap (λ mask. without mask (y.values v).leavers) same,
+    )
+
+-- ---- votes
+
+-- who has voted in a view has come to it
+voted_come : (g : Group) (V : Views) (w : World) (i v b : ℕ) (x : Value) → Faithful g V w → Voting g V w
+    → HasVoted g w.past.votes i v b x → v ≤ w.past.view i
+voted_come g V w i v b x f voting h = by (cases_lt (w.past.view i) v)
+  where
+    never : w.past.view i < v
+        → (b < accept_tag (w.past.own i v (leavers_column (roster g))))
+        ⊎ (w.pending i ≡ Some (vote_in g v b x)) → v ≤ w.past.view i
+    never less (inl tagged) =
+        let none : accept_tag (w.past.own i v (leavers_column (roster g))) ≡ 0 =
+        ap accept_tag (f.fresh.unwritten i v (leavers_column (roster g)) less) in
+        absurd (omega (arith, tagged, none))
+    never less (inr waits) =
+        let same : v ≡ w.past.view i = (voting.acted.waiting i (vote_in g v b x) waits).1 in
+        omega (arith, same)
+
+    by : (w.past.view i < v) ⊎ (v ≤ w.past.view i) → v ≤ w.past.view i
+    by (inl less) = never less (voting.acted.below i v b x h)
+    by (inr come) = come
+
+pub majority-kept : (g : Group) (w : World) (i j members : ℕ) (x z : Vote) → IsGroup g → Known g w
+    → HasView g w x.view members → HasLogged w.past.votes i x → HasLogged w.past.votes j z
+    → MajorityHas w.past.votes members (λ a. IsOf a x.view x.ballot)
+    → z.view ≡ x.view → x.ballot ≤ z.ballot → z.value ≡ x.value
+majority-kept g w i j members x z is y held h k most view above =
+    majority_stays g (views_by g y.values) w i j x z y.chosen.voting h k
+    (subst (λ mask. MajorityHas w.past.votes mask (λ a. IsOf a x.view x.ballot))
+    (sym (view-is g y.values w x.view members is y.chosen held)) most) view above
+
+pub voted-cut : (g : Group) (w : World) (i : ℕ) (x : Vote) → IsGroup g → Known g w
+    → HasLogged w.past.votes i x
+    → (members : ℕ) × HasView g w x.view members × IsCut members w.past.own x.view x.value
+voted-cut g w i x is y h = (
+  views_by g y.values x.view,
+  has-view g w i x.view is y (voted_come g (views_by g y.values) w i x.view x.ballot x.value y.chosen.faithful
+      y.chosen.voting (vote_is g (views_by g y.values) w i x y.chosen.voting h)),
+  vote_cut g (views_by g y.values) w i x y.chosen.voting h,
+)
+
+-- what more than half of a view have voted for covers what is delivered in it
+pub voted-covered : (g : Group) (w : World) (v b members : ℕ) (x : Value) → IsGroup g → Known g w
+    → HasView g w v members → HaveVotedFor w.past.votes members v b x → IsCovered g w v members x
+voted-covered g w v b members x is y h voted =
+    let t = voted_by g y.values w v b x is y.by
+    (subst (λ mask. MajorityHas w.past.votes mask (λ z. IsOf z v b × (z.value ≡ x)))
+    (sym (view-is g y.values w v members is y.chosen h)) voted) in
+    let k = worlds.known g t.0 w is t.1.way in
+    subst (λ mask. IsCovered g w v mask x) (view-is g t.0 w v members is k h)
+    (subst (λ z. IsCovered g w v (views_by g t.0 v) z) t.2 (covering.covered g t.0 w v b is k t.3))
+
+-- ---- words
+
+-- the members of a view that somebody has come to are as the histories have them
+agrees : (g : Group) (V : Views) (w : World) (i v : ℕ) → IsGroup g → (y : Known g w) → AreViews g w V
+    → v ≤ w.past.view i → V v ≡ views_by g y.values v
+agrees g V w i v is y are come = are v (views_by g y.values v) (has-view g w i v is y come)
+
+-- in another view its words are 0
+unseen : (g : Group) (W : Views) (w : World) (v j i c : ℕ) → Faithful g W w → w.past.view i < v
+    → w.table v j i c ≡ 0
+unseen g W w v j i c f less =
+    omega (arith, (f.old.in_table v j i c).number, f.fresh.unwritten i v c less)
+
+tells_by : (g : Group) (V W : Views) (past : Past) (i v c word : ℕ) → V v ≡ W v
+    → Tells g W past i v c word → Tells g V past i v c word
+tells_by g V W past i v c word same t = record {
+  beat = t.beat;
+  received = λ e. subst (λ mask. word ≤ front_of (map (past.count i v) (members_of mask))) (sym same)
+      (t.received e);
+  logged = t.logged;
+  done = λ e. let d = t.done e in
+      (d.0, λ one s member. d.1 one s (subst (λ mask. has mask s ≡ true) same member));
+  recv = t.recv;
+  ring = t.ring;
+}
+
+pub words-by : (g : Group) (V : Views) (w : World) → IsGroup g → Known g w → AreViews g w V → WordsTell g V w
+words-by g V w is y are = record {
+  own = λ i v c. own i v c (cases_lt (w.past.view i) v);
+  table = λ v j i c. table v j i c (cases_lt (w.past.view i) v);
+  seen = λ m i c. tells_by g V W w.past i (w.past.view m) c (w.seen m i c)
+      (agrees g V w m (w.past.view m) is y are (omega arith)) (f.words.seen m i c);
+}
+  where
+    W : Views
+    W = views_by g y.values
+
+    f : Faithful g (views_by g y.values) w
+    f = y.chosen.faithful
+
+    own : (i v c : ℕ) → (w.past.view i < v) ⊎ (v ≤ w.past.view i) → Tells g V w.past i v c (w.past.own i v c)
+    own i v c (inl less) = subst (λ x. Tells g V w.past i v c x) (sym (f.fresh.unwritten i v c less))
+        (tells_nothing g V w.past i v c)
+    own i v c (inr come) = tells_by g V W w.past i v c (w.past.own i v c) (agrees g V w i v is y are come)
+        (f.words.own i v c)
+
+    table : (v j i c : ℕ) → (w.past.view i < v) ⊎ (v ≤ w.past.view i)
+        → Tells g V w.past i v c (w.table v j i c)
+    table v j i c (inl less) = subst (λ x. Tells g V w.past i v c x) (sym (unseen g W w v j i c f less))
+        (tells_nothing g V w.past i v c)
+    table v j i c (inr come) = tells_by g V W w.past i v c (w.table v j i c)
+        (agrees g V w i v is y are come) (f.words.table v j i c)
+
+pub votes-by : (g : Group) (V : Views) (w : World) → IsGroup g → Known g w → AreViews g w V → VotesTold g V w
+votes-by g V w is y are = record {
+  in_own = λ i v c column. own i v c column (cases_lt (w.past.view i) v);
+  in_table = λ v j i c column. table v j i c column (cases_lt (w.past.view i) v);
+  in_seen = λ m i c column. y.chosen.voting.words.in_seen m i c
+      (subst (λ mask. is_accept_of (roster g) mask c ≡ true)
+      (agrees g V w m (w.past.view m) is y are (omega arith)) column);
+}
+  where
+    f : Faithful g (views_by g y.values) w
+    f = y.chosen.faithful
+
+    own : (i v c : ℕ) → is_accept_of (roster g) (V v) c ≡ true
+        → (w.past.view i < v) ⊎ (v ≤ w.past.view i)
+        → TellsVote g w.past.own w.past.votes i v c (w.past.own i v c)
+    own i v c column (inl less) = subst (λ x. TellsVote g w.past.own w.past.votes i v c x)
+        (sym (f.fresh.unwritten i v c less)) (opening.tells_nothing g w.past.own w.past.votes i v c)
+    own i v c column (inr come) = y.chosen.voting.words.in_own i v c
+        (subst (λ mask. is_accept_of (roster g) mask c ≡ true) (agrees g V w i v is y are come) column)
+
+    table : (v j i c : ℕ) → is_accept_of (roster g) (V v) c ≡ true
+        → (w.past.view i < v) ⊎ (v ≤ w.past.view i)
+        → TellsVote g w.past.own w.past.votes i v c (w.table v j i c)
+    table v j i c column (inl less) = subst (λ x. TellsVote g w.past.own w.past.votes i v c x)
+        (sym (unseen g (views_by g y.values) w v j i c f less))
+        (opening.tells_nothing g w.past.own w.past.votes i v c)
+    table v j i c column (inr come) = y.chosen.voting.words.in_table v j i c
+        (subst (λ mask. is_accept_of (roster g) mask c ≡ true) (agrees g V w i v is y are come) column)
+
+pub moments-by : (g : Group) (V : Views) (w : World) → IsGroup g → Known g w → AreViews g w V
+    → AcceptsOfMoments g V w
+moments-by g V w is y are = record {
+  in_table = λ v j i c column. table v j i c column (cases_lt (w.past.view i) v);
+  in_seen = λ m i c column. (accepts_so g y.values w is y.by).in_seen m i c
+      (subst (λ mask. is_accept_of (roster g) mask c ≡ true)
+      (agrees g V w m (w.past.view m) is y are (omega arith)) column);
+}
+  where
+    table : (v j i c : ℕ) → is_accept_of (roster g) (V v) c ≡ true
+        → (w.past.view i < v) ⊎ (v ≤ w.past.view i)
+        → (w.table v j i c ≡ 0) ⊎ HadAccepted g w i v c (w.table v j i c)
+    table v j i c column (inl less) =
+        inl (unseen g (views_by g y.values) w v j i c y.chosen.faithful less)
+    table v j i c column (inr come) = (accepts_so g y.values w is y.by).in_table v j i c
+        (subst (λ mask. is_accept_of (roster g) mask c ≡ true) (agrees g V w i v is y are come) column)
