@@ -23,22 +23,23 @@ of_content : (told : Option Told) (t : Told) (P : List ℕ → Type 0) → IsLef
 of_content told t P left is reads = subst (λ (o : Option Told). IsLeft o P) is left (content_of t) reads
 
 pub left_log : {D : Type 0} (told : D → Option Told) (faults : D → ℕ) (base log : LogState D)
-    (history es : List Entry) (vs votes : List Vote) (logged : ℕ) (why : Option LogWhy) (t : Told)
-    → HasCome told faults base log history logged votes why → told log.disk ≡ Some t → ReadsAnImage t
+    (history es : List Entry) (vs votes : List Vote) (banks logged : ℕ) (why : Option LogWhy) (t : Told)
+    → HasCome told faults base log banks history logged votes why → told log.disk ≡ Some t → ReadsAnImage t
     → StandsFor (content_of t) es vs → IsLeftOf history logged es
-left_log told faults base log history es vs votes logged None t come is reads found =
+left_log told faults base log history es vs votes banks logged None t come is reads found =
     inl (one_list (content_of t) es log.entries vs log.votes found
     (of_content (told log.disk) t (λ image. StandsFor image log.entries log.votes) come.last.1 is reads)
     ∙ come.entries)
-left_log told faults base log history es vs votes logged (Some (whys.LogFull len)) t come is reads found =
+left_log told faults base log history es vs votes banks logged (Some (whys.LogFull len)) t come is reads
+    found =
     inl (one_list (content_of t) es log.entries vs log.votes found
     (of_content (told log.disk) t (λ image. StandsFor image log.entries log.votes) come.last.2.safe is reads)
     ∙ come.entries)
-left_log told faults base log history es vs votes logged (Some whys.DiskFault) t come is reads found =
+left_log told faults base log history es vs votes banks logged (Some whys.DiskFault) t come is reads found =
     by come.last.0 come.last.1 (of_content (told log.disk) t _ come.last.2.left is reads)
   where
-    by : (next : Record) → IsNext history logged votes next → IsBeforeOrAfter log.entries log.votes next (content_of t)
-        → IsLeftOf history logged es
+    by : (next : Record) → IsNext banks history logged votes next
+        → IsBeforeOrAfter log.entries log.votes next (content_of t) → IsLeftOf history logged es
     by next of_history (inl before) =
         inl (one_list (content_of t) es log.entries vs log.votes found before ∙ come.entries)
     by (records.Vote v) of_history (inr after) =

@@ -1,5 +1,5 @@
 -- Room on the log of a member.
-use Rattle.std.proofs.Common.{◌≡◌, sym, ap, ◌∙◌, ℕ, ◌-◌, max, false, length, arith}
+use Rattle.std.proofs.Common.{◌≡◌, sym, ap, ◌∙◌, ℕ, ◌*◌, ◌-◌, max, false, length, arith}
 use Rattle.std.proofs.Math.Nat.{le-max_right}
 use Rattle.std.specs.Prelude.{Option}
 use Rattle.dr_disk.specs.Disk.{Told}
@@ -9,7 +9,8 @@ use Rattle.dr_logged.specs.Served.{IsRoomy, IsSafe}
 
 -- a log that got room for what a member may still append
 pub roomy : {D : Type 0} (told : D → Option Told) (count : D → ℕ) (r : Running) (old new : LogState D)
-    (n k : ℕ) → n ≡ r.replica.room - r.replica.logged → k ≡ r.replica.roster - length r.replica.votes
+    (n k : ℕ) → n ≡ r.replica.room - r.replica.logged
+    → k ≡ r.replica.banks * r.replica.roster - length r.replica.votes
     → new ≡ record old {
       disk = new.disk;
       spare_entries = max old.spare_entries n;

@@ -1,6 +1,6 @@
 -- Each deed of a member leaves its log ready and served.
-use Rattle.std.proofs.Common.{◌≡◌, refl, sym, ap, ◌∙◌, subst, ℕ, zero, suc, ◌+◌, ◌-◌, ◌<◌, ◌≤◌, max, false, List, [], ◌∷◌, ◌++◌, length, take, append-nil, append_assoc, length-append, le_trans, inl, inr, arith}
-use Rattle.std.specs.Prelude.{Option, None, Some, slice_index_or}
+use Rattle.std.proofs.Common.{◌≡◌, refl, sym, ap, ◌∙◌, subst, ℕ, zero, suc, ◌+◌, ◌*◌, ◌-◌, ◌<◌, ◌≤◌, max, false, List, [], ◌∷◌, ◌++◌, length, take, append-nil, append_assoc, length-append, le_trans, inl, inr, arith}
+use Rattle.std.specs.Prelude.{Option, None, Some, slice_index_or, unwrap_or}
 use Rattle.std.specs.Prelude.{◌^◌}
 use Rattle.std.proofs.Math.Nat.{le-min, le-max_left, le-max_right, min-le_left, min-le_right}
 use Rattle.std.proofs.lemmas.List.{length_push, take-append-le, take_all, take_more}
@@ -21,9 +21,12 @@ use Rattle.dr_machine.specs.declared.event.Act.TheVariants as acts
 use Rattle.dr_machine.specs.declared.step.Step.{Step}
 use Rattle.dr_machine.specs.declared.step.Step.TheVariants.{Do, Look, Push, Append, LogVote}
 use Rattle.dr_machine.specs.Effects.{entries_of}
+use Rattle.dr_machine.specs.World.{no_value}
+use Rattle.dr_program.proofs.Finishing.{finished_more}
+use Rattle.dr_program.proofs.Fixed.{Told as ToldReplica, step_told}
 use Rattle.dr_program.specs.declared.outcome.LogWhy.{LogWhy}
 use Rattle.dr_program.specs.declared.outcome.LogWhy.TheVariants as whys
-use Rattle.dr_program.specs.Replica.{Replica, item_at, sender_at, vote_of}
+use Rattle.dr_program.specs.Replica.{Replica, acted, item_at, sender_at, vote_of}
 use Rattle.dr_program.specs.Running.{Running, after_step, broken_off, columns, members, next_step, took}
 use Rattle.dr_program.specs.Steps.{IsAppend, stepped}
 use Rattle.dr_program.specs.Turn.{part_of, places_in}
@@ -40,19 +43,14 @@ pub record Grows (r q : Replica) : Type 0 where
   pub more : List Entry
   pub history : q.history ≡ r.history ++ more
   pub logged : q.logged ≡ r.logged
-  pub room : q.room ≡ r.room
   pub votes : q.votes ≡ r.votes
-  pub roster : q.roster ≡ r.roster
 
-still : (r q : Replica) → q.history ≡ r.history → q.logged ≡ r.logged → q.room ≡ r.room → q.votes ≡ r.votes
-    → q.roster ≡ r.roster → Grows r q
-still r q history logged room votes roster = record {
+still : (r q : Replica) → q.history ≡ r.history → q.logged ≡ r.logged → q.votes ≡ r.votes → Grows r q
+still r q history logged votes = record {
   more = [];
   history = history ∙ sym (append-nil r.history);
   logged = logged;
-  room = room;
   votes = votes;
-  roster = roster;
 }
 
 pub grows : (word : ℕ) (r : Replica) (s : Step) → is_append s ≡ false → Grows r (stepped word r s)
@@ -60,14 +58,15 @@ grows word r (Do acts.Deliver) other = record {
   more = entries_of r.history (sender_at r r.next) (item_at r r.next);
   history = refl;
   logged = refl;
-  room = refl;
   votes = refl;
-  roster = refl;
 }
-grows word r (Do acts.Mark) other = still r (stepped word r (Do acts.Mark)) refl refl refl refl refl
-grows word r (Do a) other = still r (stepped word r (Do a)) refl refl refl refl refl
-grows word r (Look i c) other = still r (stepped word r (Look i c)) refl refl refl refl refl
-grows word r (Push j c) other = still r (stepped word r (Push j c)) refl refl refl refl refl
+grows word r (Do acts.Finish) other =
+    let all = finished_more (acted r) (unwrap_or r.committed no_value) in
+    record { more = all.0; history = all.1; logged = refl; votes = refl }
+grows word r (Do acts.Mark) other = still r (stepped word r (Do acts.Mark)) refl refl refl
+grows word r (Do a) other = still r (stepped word r (Do a)) refl refl refl
+grows word r (Look i c) other = still r (stepped word r (Look i c)) refl refl refl
+grows word r (Push j c) other = still r (stepped word r (Push j c)) refl refl refl
 grows word r Append other = absurd (cc)
 grows word r (LogVote v) other = absurd (cc)
 
@@ -88,34 +87,34 @@ before (x ∷ h) more zero l = refl
 before (x ∷ h) more (suc k) l = before h more k (omega (arith, l))
 
 -- nor is what comes next
-next_on : (h more : List Entry) (k : ℕ) (vs : List Vote) (next : Record) → IsNext h k vs next
-    → IsNext (h ++ more) k vs next
-next_on h more k vs next (inl t) = inl (
+next_on : (n : ℕ) (h more : List Entry) (k : ℕ) (vs : List Vote) (next : Record) → IsNext n h k vs next
+    → IsNext n (h ++ more) k vs next
+next_on n h more k vs next (inl t) = inl (
   omega (arith, t.0, length-append h more),
   t.1 ∙ sym (ap records.Entry (before h more k t.0)),
 )
-next_on h more k vs next (inr vote) = inr vote
+next_on n h more k vs next (inr vote) = inr vote
 
 -- how the last append went is not changed by what is delivered
-went_on : {D : Type 0} (told : D → Option Told) (faults : D → ℕ) (base log : LogState D)
+went_on : {D : Type 0} (told : D → Option Told) (faults : D → ℕ) (base log : LogState D) (n : ℕ)
     (h more : List Entry) (k : ℕ) (vs : List Vote) (why : Option LogWhy)
-    → WentSo told faults base log h k vs why → WentSo told faults base log (h ++ more) k vs why
-went_on told faults base log h more k vs None went = went
-went_on told faults base log h more k vs (Some whys.DiskFault) went =
-    (went.0, next_on h more k vs went.0 went.1, went.2)
-went_on told faults base log h more k vs (Some (whys.LogFull len)) went =
-    (went.0, next_on h more k vs went.0 went.1, went.2)
+    → WentSo told faults base log n h k vs why → WentSo told faults base log n (h ++ more) k vs why
+went_on told faults base log n h more k vs None went = went
+went_on told faults base log n h more k vs (Some whys.DiskFault) went =
+    (went.0, next_on n h more k vs went.0 went.1, went.2)
+went_on told faults base log n h more k vs (Some (whys.LogFull len)) went =
+    (went.0, next_on n h more k vs went.0 went.1, went.2)
 
-come_on : {D : Type 0} (told : D → Option Told) (faults : D → ℕ) (base log : LogState D)
+come_on : {D : Type 0} (told : D → Option Told) (faults : D → ℕ) (base log : LogState D) (n : ℕ)
     (h more : List Entry) (k : ℕ) (vs : List Vote) (why : Option LogWhy) → k ≤ length h
-    → HasCome told faults base log h k vs why → HasCome told faults base log (h ++ more) k vs why
-come_on told faults base log h more k vs why within come = record {
+    → HasCome told faults base log n h k vs why → HasCome told faults base log n (h ++ more) k vs why
+come_on told faults base log n h more k vs why within come = record {
   entries = come.entries ∙ sym (take-append-le k h more within);
   more = come.more;
   voted = come.voted;
   limit = come.limit;
   within = come.within;
-  last = went_on told faults base log h more k vs why come.last;
+  last = went_on told faults base log n h more k vs why come.last;
   moments = come.moments;
   lasting = come.lasting;
   calm = come.calm;
@@ -128,24 +127,36 @@ pub other_served : {D : Type 0} (told : D → Option Told) (faults : D → ℕ) 
     → HasServed told faults base log r → HasServed told faults base log (after_step word r)
 other_served told faults base log word r other within served =
     let g = grows word r.replica (next_step r) other in
+    let banks : (stepped word r.replica (next_step r)).banks ≡ r.replica.banks =
+    ap (λ (t : ToldReplica). t.banks) (step_told word r.replica (next_step r)) in
     subst (HasServed told faults base log) (sym (settled_same word r))
-    (subst (λ vs. HasCome told faults base log (stepped word r.replica (next_step r)).history
+    (subst (λ n. HasCome told faults base log n (stepped word r.replica (next_step r)).history
+    (stepped word r.replica (next_step r)).logged (stepped word r.replica (next_step r)).votes r.failed)
+    (sym banks)
+    (subst (λ vs. HasCome told faults base log r.replica.banks (stepped word r.replica (next_step r)).history
     (stepped word r.replica (next_step r)).logged vs r.failed) (sym g.votes)
-    (subst (λ k. HasCome told faults base log (stepped word r.replica (next_step r)).history k
+    (subst (λ k. HasCome told faults base log r.replica.banks (stepped word r.replica (next_step r)).history k
     r.replica.votes r.failed) (sym g.logged)
-    (subst (λ h. HasCome told faults base log h r.replica.logged r.replica.votes r.failed) (sym g.history)
-    (come_on told faults base log r.replica.history g.more r.replica.logged r.replica.votes r.failed within
-    served))))
+    (subst (λ h. HasCome told faults base log r.replica.banks h r.replica.logged r.replica.votes r.failed)
+    (sym g.history)
+    (come_on told faults base log r.replica.banks r.replica.history g.more r.replica.logged r.replica.votes
+    r.failed within served)))))
 
 -- and is ready for the next one
 pub other_ready : {D : Type 0} (log : LogState D) (word : ℕ) (r : Running) → is_append (next_step r) ≡ false
     → IsReady log r → IsReady log (after_step word r)
 other_ready log word r other ready =
     let g = grows word r.replica (next_step r) other in
+    let same = step_told word r.replica (next_step r) in
     subst (IsReady log) (sym (settled_same word r)) (record {
       whole = ready.whole;
-      spare = λ none. omega (arith, ready.spare none, g.logged, g.room);
-      votes = λ none. omega (arith, ready.votes none, ap length g.votes, g.roster);
+      spare = λ none. omega (arith, ready.spare none, g.logged, ap (λ (t : ToldReplica). t.room) same);
+      votes = λ none. omega (
+        arith,
+        ready.votes none,
+        ap length g.votes,
+        ap (λ (t : ToldReplica). t.banks * t.roster) same,
+      );
     })
 
 -- ---- an append
@@ -164,7 +175,7 @@ unfailed r may = none_failed r (is_logged r (next_step r) may)
 
 -- its record is one that comes next
 next_is : (r : Running) (s : Step) → MayLog r s
-    → IsNext r.replica.history r.replica.logged r.replica.votes (record_of r s)
+    → IsNext r.replica.banks r.replica.history r.replica.logged r.replica.votes (record_of r s)
 next_is r Append may = inl (may, refl)
 next_is r (LogVote v) may = inr (may.1, may.0)
 next_is r s may = absurd may
@@ -206,10 +217,10 @@ record Put {D : Type 0} (told : D → Option Told) (faults : D → ℕ) (base lo
   voted : with_vote due log.votes ≡ base.votes ++ vs
 
 put : {D : Type 0} (told : D → Option Told) (faults : D → ℕ) (base log new : LogState D)
-    (due : Record) (h history : List Entry) (k l : ℕ) (us vs : List Vote)
-    → HasCome told faults base log h k us None → Put told faults base log new due history l vs
-    → HasCome told faults base new history l vs None
-put {D} told faults base log new due h history k l us vs served p = record {
+    (n : ℕ) (due : Record) (h history : List Entry) (k l : ℕ) (us vs : List Vote)
+    → HasCome told faults base log n h k us None → Put told faults base log new due history l vs
+    → HasCome told faults base new n history l vs None
+put {D} told faults base log new n due h history k l us vs served p = record {
   entries = entries ∙ p.entries;
   more = (p.more.0, entries ∙ p.more.1);
   voted = votes ∙ p.voted;
@@ -242,18 +253,18 @@ put {D} told faults base log new due h history k l us vs served p = record {
 -- an append that goes well puts the record that is due on the log
 put_step : {D : Type 0} (told : D → Option Told) (faults : D → ℕ)
     (base log new : LogState D) (word : ℕ) (r : Running) (s : Step) → MayLog r s
-    → HasCome told faults base log r.replica.history r.replica.logged r.replica.votes None
+    → HasCome told faults base log r.replica.banks r.replica.history r.replica.logged r.replica.votes None
     → new ≡ appended log (record_of r s) new.disk
     → log_length log.entries log.votes + block_length (record_of r s) ≤ log.limit
     → Goes (told log.disk) (told new.disk)
     (λ calls. IsBeforeOrAfter log.entries log.votes (record_of r s))
     → LosesNothing told log new → IsSafe told new → faults new.disk ≡ faults log.disk
-    → HasCome told faults base new (stepped word r.replica s).history (stepped word r.replica s).logged
-    (stepped word r.replica s).votes None
+    → HasCome told faults base new (stepped word r.replica s).banks (stepped word r.replica s).history
+    (stepped word r.replica s).logged (stepped word r.replica s).votes None
 put_step told faults base log new word r Append within served made fits goes lasting safe calm =
     let e : Entry = slice_index_or r.replica.history r.replica.logged (View 0 0 0) in
-    put told faults base log new (records.Entry e) r.replica.history r.replica.history r.replica.logged
-    (r.replica.logged + 1) r.replica.votes r.replica.votes served (record {
+    put told faults base log new r.replica.banks (records.Entry e) r.replica.history r.replica.history
+    r.replica.logged (r.replica.logged + 1) r.replica.votes r.replica.votes served (record {
       made = made;
       fits = fits;
       goes = goes;
@@ -270,8 +281,8 @@ put_step told faults base log new word r Append within served made fits goes las
     })
 put_step told faults base log new word r (LogVote v) within served made fits goes lasting safe calm =
     let x : Vote = vote_of r.replica v in
-    put told faults base log new (records.Vote x) r.replica.history r.replica.history r.replica.logged
-    r.replica.logged r.replica.votes (r.replica.votes ++ x ∷ []) served (record {
+    put told faults base log new r.replica.banks (records.Vote x) r.replica.history r.replica.history
+    r.replica.logged r.replica.logged r.replica.votes (r.replica.votes ++ x ∷ []) served (record {
       made = made;
       fits = fits;
       goes = goes;
@@ -294,11 +305,12 @@ pub appended_served : {D : Type 0} (told : D → Option Told) (faults : D → �
     → HasServed told faults base new (after_step word r)
 appended_served told faults base log new word r may served made fits goes lasting safe calm =
     subst (HasServed told faults base new) (sym (settled_same word r))
-    (subst (HasCome told faults base new (stepped word r.replica (next_step r)).history
+    (subst (HasCome told faults base new (stepped word r.replica (next_step r)).banks
+    (stepped word r.replica (next_step r)).history
     (stepped word r.replica (next_step r)).logged (stepped word r.replica (next_step r)).votes)
     (sym (unfailed r may))
     (put_step told faults base log new word r (next_step r) may
-    (subst (HasCome told faults base log r.replica.history r.replica.logged r.replica.votes)
+    (subst (HasCome told faults base log r.replica.banks r.replica.history r.replica.logged r.replica.votes)
     (unfailed r may) served) made fits goes lasting safe calm))
 
 -- and leaves it ready for the next one
@@ -306,7 +318,8 @@ ready_step : {D : Type 0} (log new : LogState D) (word : ℕ) (r : Running) (s :
     → length r.replica.history ≤ r.replica.room → r.failed ≡ None → IsReady log r
     → new ≡ appended log (record_of r s) new.disk
     → ((stepped word r.replica s).room ≤ (stepped word r.replica s).logged + new.spare_entries)
-    × ((stepped word r.replica s).roster ≤ length (stepped word r.replica s).votes + new.spare_votes)
+    × ((stepped word r.replica s).banks * (stepped word r.replica s).roster
+    ≤ length (stepped word r.replica s).votes + new.spare_votes)
 ready_step {D} log new word r Append some room none ready made = (
   omega (arith, ready.spare none, some, room, ap (λ (l : LogState D). l.spare_entries) made),
   omega (arith, ready.votes none, ap (λ (l : LogState D). l.spare_votes) made),
@@ -398,8 +411,9 @@ full_served {D} told faults base log r len may served long over = record {
   later = served.later;
 }
   where
-    went : WentSo told faults base log r.replica.history r.replica.logged r.replica.votes None
-    went = subst (WentSo told faults base log r.replica.history r.replica.logged r.replica.votes)
+    went : WentSo told faults base log r.replica.banks r.replica.history r.replica.logged r.replica.votes None
+    went = subst
+        (WentSo told faults base log r.replica.banks r.replica.history r.replica.logged r.replica.votes)
         (unfailed r may) served.last
 
 -- a log is ready for a member whose append has failed, as that one appends no more

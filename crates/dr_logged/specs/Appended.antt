@@ -1,5 +1,5 @@
 -- What an append of the next entry or of a vote has come to, by the contract of a log.
-use Rattle.std.specs.Prelude.{◌≡◌, ℕ, ◌+◌, ◌<◌, ◌≤◌, length, Option}
+use Rattle.std.specs.Prelude.{◌≡◌, ℕ, ◌+◌, ◌*◌, ◌<◌, ◌≤◌, length, Option}
 use Rattle.dr_disk.specs.Disk.{Told}
 use Rattle.dr_disk.specs.Images.{Goes}
 use Rattle.dr_entry.specs.declared.record.Record.{Record}
@@ -19,10 +19,11 @@ use Rattle.dr_program.specs.Running.{Running, next_step}
 use Rattle.dr_logged.specs.Served.{IsSafe, LosesNothing, next_record}
 
 -- the step is an append: of the next entry, which is there, or of a valid vote, of which the member has fewer
--- than there are members in the roster
+-- than there are ballots in all views: one for each member of the roster in each
 abbrev pub MayLog : Running → Step → Type 0
 MayLog r Append = r.replica.logged < length r.replica.history
-MayLog r (LogVote v) = (length r.replica.votes < r.replica.roster) × IsValidVote (vote_of r.replica v)
+MayLog r (LogVote v) = (length r.replica.votes < r.replica.banks * r.replica.roster)
+    × IsValidVote (vote_of r.replica v)
 MayLog r s = ⊥
 
 -- the member is due to append

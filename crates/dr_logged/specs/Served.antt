@@ -1,5 +1,5 @@
 -- The logs of members that run: what comes of each while its member takes its deeds.
-use Rattle.std.specs.Prelude.{◌≡◌, ◌≢◌, ◌⊎◌, Bool, ℕ, ◌+◌, ◌-◌, ◌<◌, ◌≤◌, max, true, false, List, ◌++◌, length, take, slice_get, slice_index_or, Option, None, Some}
+use Rattle.std.specs.Prelude.{◌≡◌, ◌≢◌, ◌⊎◌, Bool, ℕ, ◌+◌, ◌*◌, ◌-◌, ◌<◌, ◌≤◌, max, true, false, List, ◌++◌, length, take, slice_get, slice_index_or, Option, None, Some}
 use Rattle.dr_entry.specs.declared.entry.Entry.{Entry}
 use Rattle.dr_entry.specs.declared.entry.Entry.TheVariants.{View}
 use Rattle.dr_entry.specs.declared.record.Record.{Record}
@@ -32,15 +32,16 @@ LosesNothing told base log = (entries : List Entry) (votes : List Vote)
 abbrev pub next_record : List Entry → ℕ → Record
 next_record history logged = records.Entry (slice_index_or history logged (View 0 0 0))
 
--- the record is a valid vote that comes behind so many, fewer than there are members in its roster
-abbrev pub IsVote : ℕ → Record → Type 0
-IsVote count (records.Entry entry) = ⊥
-IsVote count (records.Vote vote) = IsValidVote vote × (count < vote.members)
+-- the record is a valid vote that comes behind so many. In each view, of which there is one for each bank, a
+-- member votes at most once by the ballot of each member of its roster
+abbrev pub IsVote : ℕ → ℕ → Record → Type 0
+IsVote banks count (records.Entry entry) = ⊥
+IsVote banks count (records.Vote vote) = IsValidVote vote × (count < banks * vote.members)
 
 -- the record is the one that comes behind so many entries of a history, or a vote behind these
-abbrev pub IsNext : List Entry → ℕ → List Vote → Record → Type 0
-IsNext history logged votes next =
-    ((logged < length history) × (next ≡ next_record history logged)) ⊎ IsVote (length votes) next
+abbrev pub IsNext : ℕ → List Entry → ℕ → List Vote → Record → Type 0
+IsNext banks history logged votes next =
+    ((logged < length history) × (next ≡ next_record history logged)) ⊎ IsVote banks (length votes) next
 
 -- a disk failed since `base`: whatever a crash leaves has what is on the log, or the next record besides
 pub record BrokeOff {D : Type 0} (told : D → Option Told) (faults : D → ℕ) (base log : LogState D)
@@ -57,20 +58,21 @@ pub record IsFull {D : Type 0} (told : D → Option Told) (log : LogState D) (le
   pub length : len ≡ log_length log.entries log.votes
   pub over : log.limit < len + block_length next
 
--- how the last append to a log of so many entries of a history and of these votes has gone: well, or it failed
--- for this reason
+-- how the last append to a log of so many entries of a history and of these votes has gone, where the table has
+-- so many banks: well, or it failed for this reason
 abbrev pub WentSo : {D : Type 0} → (D → Option Told) → (D → ℕ) → LogState D → LogState D
-    → List Entry → ℕ → List Vote → Option LogWhy → Type 0
-WentSo told faults base log history logged votes None = (log.failed ≡ false) × IsSafe told log
-WentSo told faults base log history logged votes (Some whys.DiskFault) =
-    (next : Record) × (IsNext history logged votes next) × BrokeOff told faults base log next
-WentSo told faults base log history logged votes (Some (whys.LogFull len)) =
-    (next : Record) × (IsNext history logged votes next) × IsFull told log len next
+    → ℕ → List Entry → ℕ → List Vote → Option LogWhy → Type 0
+WentSo told faults base log banks history logged votes None = (log.failed ≡ false) × IsSafe told log
+WentSo told faults base log banks history logged votes (Some whys.DiskFault) =
+    (next : Record) × (IsNext banks history logged votes next) × BrokeOff told faults base log next
+WentSo told faults base log banks history logged votes (Some (whys.LogFull len)) =
+    (next : Record) × (IsNext banks history logged votes next) × IsFull told log len next
 
--- what has come of a log since `base`, with which its member began: it has logged so many entries of its
--- history and these votes, and its last append failed for this reason, if one did
+-- what has come of a log since `base`, with which its member began, where the table has so many banks: it has
+-- logged so many entries of its history and these votes, and its last append failed for this reason, if one
+-- did
 pub record HasCome {D : Type 0} (told : D → Option Told) (faults : D → ℕ) (base log : LogState D)
-    (history : List Entry) (logged : ℕ) (votes : List Vote) (why : Option LogWhy) : Type 0 where
+    (banks : ℕ) (history : List Entry) (logged : ℕ) (votes : List Vote) (why : Option LogWhy) : Type 0 where
   -- it has the first entries of the history, behind those that it had, and these votes behind those that it had
   pub entries : log.entries ≡ take logged history
   pub more : (es : List Entry) × (log.entries ≡ base.entries ++ es)
@@ -79,7 +81,7 @@ pub record HasCome {D : Type 0} (told : D → Option Told) (faults : D → ℕ) 
   pub limit : log.limit ≡ base.limit
   pub within : log_length log.entries log.votes ≤ max log.limit (log_length base.entries base.votes)
   -- how its last append went
-  pub last : WentSo told faults base log history logged votes why
+  pub last : WentSo told faults base log banks history logged votes why
   -- at no moment a crash would have lost what it had, nor what it could not have lost at an earlier one
   pub moments : Goes (told base.disk) (told log.disk) (λ s. LosesNone base.entries base.votes)
   pub lasting : LosesNothing told base log
@@ -91,7 +93,7 @@ pub record HasCome {D : Type 0} (told : D → Option Told) (faults : D → ℕ) 
 abbrev pub HasServed : {D : Type 0} → (D → Option Told) → (D → ℕ) → LogState D → LogState D → Running
     → Type 0
 HasServed told faults base log r =
-    HasCome told faults base log r.replica.history r.replica.logged r.replica.votes r.failed
+    HasCome told faults base log r.replica.banks r.replica.history r.replica.logged r.replica.votes r.failed
 
 -- the step is an append
 abbrev pub is_append : Step → Bool
@@ -103,7 +105,8 @@ is_append s = false
 pub record IsReady {D : Type 0} (log : LogState D) (r : Running) : Type 0 where
   pub whole : r.failed ≡ None → log.failed ≡ false
   pub spare : r.failed ≡ None → r.replica.room ≤ r.replica.logged + log.spare_entries
-  pub votes : r.failed ≡ None → r.replica.roster ≤ length r.replica.votes + log.spare_votes
+  pub votes : r.failed ≡ None → r.replica.banks * r.replica.roster
+      ≤ length r.replica.votes + log.spare_votes
 
 -- what the member appends next is a valid record
 abbrev pub AppendsWell : Running → Type 0
@@ -131,7 +134,7 @@ HaveServed {D} told faults bases logs members = (m : ℕ) (base log : LogState D
 pub record IsRoomy {D : Type 0} (told : D → Option Told) (faults : D → ℕ) (r : Running)
     (old new : LogState D) : Type 0 where
   pub spare : r.replica.room - r.replica.logged ≤ new.spare_entries
-  pub votes : r.replica.roster - length r.replica.votes ≤ new.spare_votes
+  pub votes : r.replica.banks * r.replica.roster - length r.replica.votes ≤ new.spare_votes
   pub is : new ≡ record old {
     disk = new.disk;
     spare_entries = new.spare_entries;

@@ -50,8 +50,9 @@ pub fn appends_serve_logs<D: Disk>()
 /// What a mount finds on the disk of a log, once its member has ended, is what the member has logged. Where
 /// the last append has failed it may be the next entry of the history besides.
 pub fn logs_are_left<D: Disk>()
-    ensures { (base log : LogState D) (history es : List Entry) (vs votes : List Vote) (logged : ℕ)
-        → (why : Option LogWhy) (told : Told) → HasCome D.told D.faults base log history logged votes why
+    ensures { (base log : LogState D) (history es : List Entry) (vs votes : List Vote)
+        (banks logged : ℕ) (why : Option LogWhy) (told : Told)
+        → HasCome D.told D.faults base log banks history logged votes why
         → D.told log.disk ≡ Some told → ReadsAnImage told → StandsFor (content_of told) es vs
         → IsLeftOf history logged es }
 {}

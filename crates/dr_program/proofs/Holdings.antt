@@ -1,7 +1,7 @@
 -- The world by members: what it has of each of them, and the table.
 use Rattle.std.proofs.Common.{◌≡◌, ◌≢◌, refl, sym, ap, ◌∙◌, ℕ, ◌<◌, ◌==◌, inl, inr, List, length, if◌then◌else◌, arith}
 use Rattle.std.proofs.Math.Path.{fun_ext}
-use Rattle.std.specs.Prelude.{Option, Some, None, slice_get, slice_set, take, nat_lt, []}
+use Rattle.std.specs.Prelude.{Option, Some, None, slice_get, slice_set, take, nat_lt}
 use Rattle.std.proofs.lemmas.Bool.{cases_eq, cases_lt}
 use Rattle.std.proofs.lemmas.List.{get_or-set_same, get_or-set_other, length-set}
 use Rattle.std.proofs.lemmas.Option.{slice_get-get_or, slice_get_past}
@@ -16,7 +16,7 @@ use Rattle.dr_rows.specs.Words.{own, seen}
 use Rattle.dr_machine.specs.Group.{Group, roster}
 use Rattle.dr_machine.specs.World.{World, opening_world}
 use Rattle.dr_program.specs.Replica.{Replica, me, count, item, promise}
-use Rattle.dr_program.specs.Reading.{world_of, word_of, in_view}
+use Rattle.dr_program.specs.Reading.{world_of, word_of, in_view, kept_count, kept_word, left_in}
 
 -- all that the world has of one member
 pub record Holding : Type 0 where
@@ -110,10 +110,10 @@ abbrev pub holding_of : Group → Replica → Holding
 holding_of g r =
     record {
       view = r.view;
-      own = λ v c. in_view r v (own r.rows c) 0;
-      count = λ v s. in_view r v (count r s) 0;
+      own = λ v c. in_view r v (own r.rows c) (kept_word r v c);
+      count = λ v s. in_view r v (count r s) (kept_count r v s);
       item = λ s k. if nat_lt s (roster g) then item r s k else Null;
-      sent = λ v. in_view r v r.sent [];
+      sent = λ v. in_view r v r.sent (left_in r v).sent;
       history = r.history;
       log = take r.logged r.history;
       votes = r.votes;

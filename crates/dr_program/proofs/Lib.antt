@@ -6,3 +6,6 @@ pub mod Opening
 pub mod OpeningForm
 pub mod Least
 pub mod Voting
+pub mod Sent
+pub mod Finishing
+pub mod Waiting

@@ -92,7 +92,7 @@ first_own n k m logged c few narrow within wide =
     own_with (begun n k m) LOGGED_COLUMN logged c (IsWords-begun n k m few narrow within) wide
     ∙ ap (λ x. if c == LOGGED_COLUMN then logged else x) ((IsFresh-begun n k m).zero m c)
 
-first_seen : (n k m logged i c : ℕ) → (if i == m then 0 else seen (first_rows n k m logged) i c) ≡ 0
+pub first_seen : (n k m logged i c : ℕ) → (if i == m then 0 else seen (first_rows n k m logged) i c) ≡ 0
 first_seen n k m logged i c =
     elim (cases_eq i m) [
       | inl same ↦ rw (same, same_number m) refl

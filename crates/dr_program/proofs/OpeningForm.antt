@@ -57,7 +57,8 @@ logged_in_form n x = record {
     no_accept (inl e) = absurd (omega (arith, e))
     no_accept (inr t) = absurd (omega (arith, t.2))
 
-first_in_form : (n k m x : ℕ) → 1 ≤ n → AllInForm n (with_own (begun n k m) LOGGED_COLUMN x).words
+-- words that are 0 but for a logged word are in form
+pub first_in_form : (n k m x : ℕ) → 1 ≤ n → AllInForm n (with_own (begun n k m) LOGGED_COLUMN x).words
 first_in_form n k m x some i c =
     elim (cases_eq c LOGGED_COLUMN) [
       | inl same ↦ rw same (logged_in_form n
@@ -171,7 +172,8 @@ no_trim k s = elim (cases_lt s k) [
   | inr h ↦ get_or_past (replicate k 0) s 0 (omega (arith, h, length-replicate {A = ℕ} k 0))
 ]
 
-no_part : (n c : ℕ) → part_of n no_value c ≡ 0
+-- nor has the value that nobody votes for
+pub no_part : (n c : ℕ) → part_of n no_value c ≡ 0
 no_part n c = elim (cases_eq c (leavers_column n)) [
   | inl e ↦ grind arith
   | inr d ↦ grind (arith, no_trim 16 (c - trim_column n 0))
@@ -211,6 +213,7 @@ begun_in_form s can =
       frozen = λ i. (IsFresh-begun n k s.me).unfrozen i ∙ sym (has_zero i);
       suspected = word SUSPECTED_COLUMN (omega arith);
       bank = omega (arith, can.banks, inside);
+      left = refl;
       roster = can.roster;
       present = can.present;
       counts = length-replicate n 0;

@@ -1,5 +1,5 @@
 -- Votes of a replica: which value it votes for, that accept words hold it, and that its votes are few.
-use Rattle.std.proofs.Common.{◌≡◌, ◌↔◌, refl, sym, ap, ◌∙◌, subst, ℕ, ◌+◌, ◌^◌, ◌<◌, ◌≤◌, ◌==◌, ◌||◌, ◌⊎◌, inl, inr, not, Bool, true, false, if◌then◌else◌, List, [], ◌∷◌, length, slice_index, arith}
+use Rattle.std.proofs.Common.{◌≡◌, ◌↔◌, refl, sym, ap, ◌∙◌, subst, ℕ, suc, suc-mul, mul-le-mul_right, ◌+◌, ◌*◌, ◌^◌, ◌<◌, ◌≤◌, ◌==◌, ◌||◌, ◌⊎◌, inl, inr, not, Bool, true, false, List, [], ◌∷◌, length, slice_index, arith}
 use Rattle.std.specs.Prelude.{Option, Some, None, is_some}
 use Rattle.std.specs.List.{list_all, range_with_len}
 use Rattle.std.proofs.lemmas.Bool.{and_from, and_parts, cases_lt, eq-eqb, eqb-true}
@@ -10,13 +10,13 @@ use Rattle.dr_entry.specs.declared.record.Value.{Value}
 use Rattle.dr_entry.specs.declared.record.Vote.{Vote}
 use Rattle.dr_entry.specs.Spelling.{IsValidVote}
 use Rattle.dr_history.specs.Members.{has}
-use Rattle.dr_rows.specs.Words.{own, seen}
+use Rattle.dr_rows.specs.Words.{seen}
 use Rattle.dr_words.proofs.Choices.{accept_test, proposal_is, proposal_long, propose_test, trims_long}
 use Rattle.dr_words.proofs.Choices as choices
 use Rattle.dr_words.proofs.Masks.{has_without_mask, in_roster_small}
 use Rattle.dr_words.proofs.Values.{same_value}
 use Rattle.dr_words.specs.Accepts.{Shows, promise_of, tag_of, trim_word}
-use Rattle.dr_words.specs.Changes.{IsFirstValue, IsLeastReceived, IsProposal, MayAccept, MayPropose}
+use Rattle.dr_words.specs.Changes.{IsFirstValue, IsLeastReceived, IsProposal}
 use Rattle.dr_words.specs.Choices.{proposal, shown_value}
 use Rattle.dr_words.specs.Columns.{leavers_column, recv_column, trim_column}
 use Rattle.dr_words.specs.Form.{IsInForm}
@@ -153,24 +153,38 @@ not_yet r v f e = by (may_propose r) refl
         let t = (accept_test r.roster (seen r.rows) r.members r.suspects (me r) (view_small r f)).0 accepts in
         omega (arith, t.unaccepted, own_promise r f, own_tag r f, f.low)
 
--- there is room for one vote more of those that the members of a roster can ask for
+-- by the end of its view it has voted once by each ballot of each view so far
+ballots_within : (r : Replica) → HasForm r → r.view * r.roster + r.roster ≤ r.banks * r.roster
+ballots_within r f =
+    let next : suc r.view ≤ r.banks = omega (arith, f.bank) in
+    omega (arith, suc-mul r.view r.roster, mul-le-mul_right r.roster next)
+
+-- there is room for one vote more of those that the members of a roster can ask for in all views
 pub vote_room : (r : Replica) (v : Value) → HasForm r → r.pending ≡ None → may_vote r v ≡ true
-    → length r.votes < r.roster
+    → length r.votes < r.banks * r.roster
 vote_room r v f none e =
     let waits : waiting r.pending ≡ 0 = ap waiting none in
-    omega (arith, f.votes, waits, not_yet r v f e, promise_within r f)
+    omega (arith, f.votes, waits, not_yet r v f e, promise_within r f, ballots_within r f)
 
--- so it has no more votes than there are members in the roster
-pub votes_within : (r : Replica) → HasForm r → length r.votes ≤ r.roster
+-- so it has no more votes than there are members in the roster for each view
+pub votes_within : (r : Replica) → HasForm r → length r.votes ≤ r.banks * r.roster
 votes_within r f = by r.pending refl
   where
-    by : (o : Option Vote) → r.pending ≡ o → length r.votes ≤ r.roster
+    by : (o : Option Vote) → r.pending ≡ o → length r.votes ≤ r.banks * r.roster
     by None e =
         let waits : waiting r.pending ≡ 0 = ap waiting e in
-        omega (arith, f.votes, waits, f.low, promise_within r f)
+        omega (arith, f.votes, waits, f.low, promise_within r f, ballots_within r f)
     by (Some x) e =
         let waits : waiting r.pending ≡ 1 = ap waiting e in
-        omega (arith, f.votes, waits, (f.waits x e).above, (f.waits x e).ballot, promise_within r f)
+        omega (
+          arith,
+          f.votes,
+          waits,
+          (f.waits x e).above,
+          (f.waits x e).ballot,
+          promise_within r f,
+          ballots_within r f,
+        )
 
 -- ---- the value's parts
 

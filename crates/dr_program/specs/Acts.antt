@@ -2,7 +2,7 @@
 use Rattle.std.specs.Prelude.{◌&&◌, nat_lt, Bool, true}
 use Rattle.dr_machine.specs.declared.event.Act.{Act}
 use Rattle.dr_machine.specs.declared.event.Act.TheVariants as acts
-use Rattle.dr_program.specs.Replica.{Replica, me, is_due, is_fault, is_own, is_others, may_commit, may_receive, may_send, may_null, may_deliver, may_publish, may_report, may_mark, may_suspect, acted, beaten, received, sent, nulled, delivered, published, reported, marked, suspected, accepted, decided, ended}
+use Rattle.dr_program.specs.Replica.{Replica, me, is_due, is_fault, is_own, is_others, may_commit, may_finish, may_receive, may_send, may_null, may_deliver, may_publish, may_report, may_mark, may_suspect, acted, beaten, received, sent, nulled, delivered, published, reported, marked, suspected, accepted, decided, finished, ended}
 
 -- whether it may do the act, where it has no end
 abbrev pub may : Replica → Act → Bool
@@ -15,6 +15,7 @@ may r acts.Publish = may_publish r
 may r acts.Report = may_report r
 may r acts.Mark = may_mark r
 may r (acts.Suspect j) = may_suspect r j
+may r acts.Finish = may_finish r r.committed
 may r acts.Propose = is_own (me r) r.pending
 may r acts.Accept = is_others (me r) r.pending
 may r acts.Commit = may_commit r
@@ -32,11 +33,14 @@ done r acts.Publish = published r
 done r acts.Report = reported r
 done r acts.Mark = marked r
 done r (acts.Suspect j) = suspected r j
+done r acts.Finish = finished r
 done r acts.Propose = accepted r
 done r acts.Accept = accepted r
 done r acts.Commit = decided r
 done r (acts.Halt end) = ended r end
 done r (acts.Crash end) = ended r end
 
+-- the stamp of a member that ends its view stands in this view
 abbrev pub taken : Replica → Act → Replica
+taken r acts.Finish = finished (acted r)
 taken r a = acted (done r a)

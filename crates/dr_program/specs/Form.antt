@@ -68,6 +68,8 @@ pub record HasForm (r : Replica) : Type 0 where
   pub frozen : (i : ℕ) → is_frozen r.rows i ≡ has r.suspects i
   -- its view is of the roster, has a bank, and it is a member of it
   pub bank : r.view < r.banks
+  -- it keeps something of each view before
+  pub left : length r.left ≡ r.view
   pub roster : IsInRoster r.roster r.members
   pub present : has r.members (me r) ≡ true
   -- it counts the items of each member, and no more than anyone has messages, with a place for each
@@ -86,8 +88,9 @@ pub record HasForm (r : Replica) : Type 0 where
   pub low : r.tag ≤ promise r + 1
   -- a vote that waits is by a ballot up to its promise, above its tag, and of a value that accept words hold
   pub waits : (x : Vote) → r.pending ≡ Some x → IsVoteDue r.roster r.tag (promise r) x
-  -- it has voted once by each ballot below its tag at most, and by that of the vote that waits
-  pub votes : length r.votes ≤ r.tag + waiting r.pending
+  -- it has voted once by each ballot at most in each view that it has left, in this one once by each ballot
+  -- below its tag at most, and by that of the vote that waits
+  pub votes : length r.votes ≤ r.view * r.roster + r.tag + waiting r.pending
   pub received : own r.rows RECEIVED_COLUMN ≡ front_of (map (slice_index r.counts) (view_of r))
   pub beat : own r.rows BEAT_COLUMN ≤ r.acts
   pub acts : r.acts < 2 ^ 64

@@ -1,9 +1,10 @@
 -- A program: the members of a group as they run, over the words of one table, and its runs.
-use Rattle.std.specs.Prelude.{◌≡◌, ℕ, IsTrue, All, List, [], ◌∷◌, length, map, fold, replicate, slice_get, slice_set, Option, None, Some, is_some, unwrap_or}
+use Rattle.std.specs.Prelude.{◌≡◌, ℕ, ◌+◌, IsTrue, All, List, [], ◌∷◌, ◌++◌, length, map, fold, replicate, slice_get, slice_set, Option, None, Some, is_some, unwrap_or}
 use Rattle.dr_entry.specs.declared.limits.TheConstants.{MAX_MEMBERS}
 use Rattle.std.specs.List.{range_with_len}
 use Rattle.dr_entry.specs.declared.end.AgeEnd.{AgeEnd}
 use Rattle.dr_entry.specs.declared.end.MemberEnd.{MemberEnd}
+use Rattle.dr_entry.specs.declared.end.ViewSent.{ViewSent}
 use Rattle.dr_entry.specs.declared.end.End.{End}
 use Rattle.dr_entry.specs.declared.end.End.TheVariants as ends
 use Rattle.dr_words.specs.Layout.{words_of}
@@ -15,7 +16,7 @@ use Rattle.dr_program.specs.declared.setup.Setup.{Setup}
 use Rattle.dr_machine.specs.declared.step.Step.{Step}
 use Rattle.dr_machine.specs.declared.step.Step.TheVariants.{Append, LogVote}
 use Rattle.dr_machine.specs.Group.{Group, banks, roster}
-use Rattle.dr_program.specs.Replica.{Replica}
+use Rattle.dr_program.specs.Replica.{LeftView, Replica}
 use Rattle.dr_program.specs.Running.{Running, begun_running, next_step, after_step, broken_off}
 use Rattle.dr_program.specs.Steps.{sight, stored}
 
@@ -111,12 +112,17 @@ begun_program g setups = record {
 abbrev pub AllEnded : Program → Type 0
 AllEnded p = All (λ (r : Running). IsTrue (is_some r.replica.end)) p.members
 
+-- what a member has put in views that it has left, the first of which has this number
+abbrev pub sent_before : ℕ → List LeftView → List ViewSent
+sent_before v [] = []
+sent_before v (l ∷ ls) = record { number = v; items = l.sent } ∷ sent_before (v + 1) ls
+
 -- how a member ended
 abbrev pub member_end : Replica → MemberEnd
 member_end r = record {
   end = unwrap_or r.end ends.Done;
   turns = r.turns;
-  sent = record { number = r.view; items = r.sent } ∷ [];
+  sent = sent_before 0 r.left ++ record { number = r.view; items = r.sent } ∷ [];
   history = r.history;
   logged = r.logged;
   durable = r.durable;

@@ -1,6 +1,6 @@
 -- The world that replicas and a table are.
 use Rattle.std.specs.Option.{option_map_or}
-use Rattle.std.specs.Prelude.{ℕ, ◌&&◌, ◌==◌, nat_lt, if◌then◌else◌, List, [], map, take, slice_index, slice_get, Option, None, Some}
+use Rattle.std.specs.Prelude.{ℕ, ◌&&◌, ◌==◌, nat_lt, if◌then◌else◌, List, [], map, take, slice_index, slice_index_or, slice_get, Option, None, Some}
 use Rattle.dr_entry.specs.declared.entry.Item.TheVariants.{Null}
 use Rattle.dr_rows.specs.Words.{own, seen}
 use Rattle.dr_words.specs.Layout.{word_index_of}
@@ -11,7 +11,7 @@ use Rattle.dr_machine.specs.Group.{Group, banks, roster, columns}
 use Rattle.dr_machine.specs.World.{World, opening_world}
 use Rattle.dr_program.specs.declared.outcome.Outcome.{Outcome}
 use Rattle.dr_program.specs.declared.outcome.Outcome.TheVariants as outcomes
-use Rattle.dr_program.specs.Replica.{Replica, me, count, item, promise}
+use Rattle.dr_program.specs.Replica.{LeftView, Replica, me, count, item, promise}
 use Rattle.dr_program.specs.Running.{Running, next_step}
 use Rattle.dr_program.specs.Program.{Program}
 
@@ -19,9 +19,23 @@ use Rattle.dr_program.specs.Program.{Program}
 abbrev pub of_member : {A : Type 0} → List Replica → (Replica → A) → (ℕ → A) → ℕ → A
 of_member rs f opening m = option_map_or f (slice_get rs m) (opening m)
 
--- what replica r has in the view numbered v: nothing but in its own
+-- what replica r has in the view numbered v: in its own what it has now, and in another what it has kept of
+-- it
 abbrev pub in_view : {A : Type 0} → Replica → ℕ → A → A → A
-in_view r v x none = if v == r.view then x else none
+in_view r v x kept = if v == r.view then x else kept
+
+-- what it has kept of a view: nothing of one that it hasn't left
+abbrev pub nothing_left : LeftView
+nothing_left = record { own = []; counts = []; sent = [] }
+
+abbrev pub left_in : Replica → ℕ → LeftView
+left_in r v = slice_index_or r.left v nothing_left
+
+abbrev pub kept_word : Replica → ℕ → ℕ → ℕ
+kept_word r v c = slice_index (left_in r v).own c
+
+abbrev pub kept_count : Replica → ℕ → ℕ → ℕ
+kept_count r v s = slice_index (left_in r v).counts s
 
 -- the word of a bank, a copy, a row and a column of the table
 abbrev pub word_of : Group → List ℕ → ℕ → ℕ → ℕ → ℕ → ℕ
@@ -35,9 +49,9 @@ world_of g rs table =
     let o = opening_world g in record {
       past = record {
         view = of_member rs (λ r. r.view) o.past.view;
-        own = of_member rs (λ r v c. in_view r v (own r.rows c) 0) o.past.own;
-        count = of_member rs (λ r v s. in_view r v (count r s) 0) o.past.count;
-        sent = of_member rs (λ r v. in_view r v r.sent []) o.past.sent;
+        own = of_member rs (λ r v c. in_view r v (own r.rows c) (kept_word r v c)) o.past.own;
+        count = of_member rs (λ r v s. in_view r v (count r s) (kept_count r v s)) o.past.count;
+        sent = of_member rs (λ r v. in_view r v r.sent (left_in r v).sent) o.past.sent;
         history = of_member rs (λ r. r.history) o.past.history;
         log = of_member rs (λ r. take r.logged r.history) o.past.log;
         votes = of_member rs (λ r. r.votes) o.past.votes;

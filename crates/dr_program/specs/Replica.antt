@@ -12,12 +12,12 @@ use Rattle.dr_entry.specs.declared.end.SentItem.{SentItem}
 use Rattle.dr_entry.specs.declared.end.SentItem.TheVariants as sent_items
 use Rattle.dr_entry.specs.declared.end.SentItem.TheVariants.{Index}
 use Rattle.dr_history.specs.Members.{has, members_of}
-use Rattle.dr_history.specs.Places.{front_of}
+use Rattle.dr_history.specs.Places.{front_of, rest_places}
 use Rattle.dr_history.specs.History.{messages_in}
 use Rattle.dr_history.specs.Order.{messages_from}
 use Rattle.dr_ring.specs.Slots.{is_free, item_in, slot_of, with_item}
 use Rattle.dr_rows.specs.Words as rows
-use Rattle.dr_rows.specs.Words.{Words, begun, seen, own, with_frozen}
+use Rattle.dr_rows.specs.Words.{Words, begun, row_of, seen, own, with_frozen}
 use Rattle.dr_suspect.specs.Suspicion.{Suspicion, names_me}
 use Rattle.dr_words.specs.Accepts.{promise_of}
 use Rattle.dr_words.specs.Choices as choices
@@ -32,6 +32,13 @@ use Rattle.dr_entry.specs.declared.record.Vote.{Vote}
 use Rattle.dr_entry.specs.declared.limits.TheConstants.{MAX_MEMBERS}
 use Rattle.dr_machine.specs.World.{no_value, no_vote}
 use Rattle.dr_machine.specs.Effects.{accepted_word, entries_of, one_more, wedged_word}
+
+-- what a member keeps of a view that it has left: its own words, how many items of each member it had, and
+-- what it had put
+pub record LeftView : Type 0 where
+  pub own : List ℕ
+  pub counts : List ℕ
+  pub sent : List SentItem
 
 pub record Replica : Type 0 where
   -- the age, the numbers of members, of slots and of banks, the script's messages of this member, and the
@@ -63,6 +70,8 @@ pub record Replica : Type 0 where
   -- the index of the first message that it puts in this view, and what it has put
   pub base : ℕ
   pub sent : List SentItem
+  -- what it keeps of each view that it has left, by the view's number
+  pub left : List LeftView
   -- the next place that it delivers, what it has delivered, and how many entries it has room for
   pub next : ℕ
   pub history : List Entry
@@ -107,9 +116,10 @@ begun_replica s =
       items = replicate (greatest s.totals * n) Null;
       base = length (messages_from s.me s.start);
       sent = [];
+      left = [];
       next = 0;
       history = first;
-      room = length s.start + s.shape.banks + greatest s.totals * n;
+      room = length s.start + s.shape.banks + greatest s.totals * n + 1;
       logged = length first;
       durable = length first;
       turns = 0;
@@ -268,6 +278,36 @@ abbrev pub may_commit : Replica → Bool
 may_commit r = is_wedged r && (not (is_some r.committed)
     && choices.may_commit r.roster (seen r.rows) r.members (me r))
 
+-- the sender of a place of its view, and the item there
+abbrev pub sender_at : Replica → ℕ → ℕ
+sender_at r p = slice_index (view_of r) (p % length (view_of r))
+
+abbrev pub item_at : Replica → ℕ → Item
+item_at r p = item r (sender_at r p) (p / length (view_of r))
+
+-- its history as it ends its view with a value: the rest is delivered, place by place, and behind it stands
+-- the View of those that remain
+abbrev pub with_place : Replica → List Entry → ℕ → List Entry
+with_place r history p = history ++ entries_of history (sender_at r p) (item_at r p)
+
+abbrev pub finished_history : Replica → Value → List Entry
+finished_history r x =
+    fold (with_place r) r.history (rest_places (map (λ s. slice_index x.trim s) (view_of r)) r.next)
+    ++ View r.age (r.view + 1) (without r.members x.leavers) ∷ []
+
+-- it may end its view with a value by which it stays, where there is a bank for the next one, it has the
+-- items that the value takes, there is room for the entries, and these have no more of its messages than
+-- there are
+abbrev pub may_end : Replica → Value → Bool
+may_end r x = not (has x.leavers (me r)) && (nat_lt (r.view + 1) r.banks
+    && (list_all (λ s. nat_lt (slice_index x.trim s) (count r s + 1)) (view_of r)
+    && (nat_lt (length (finished_history r x)) (r.room + 1)
+    && nat_lt (length (messages_from (me r) (finished_history r x))) (length r.messages + 1))))
+
+abbrev pub may_finish : Replica → Option Value → Bool
+may_finish r None = false
+may_finish r (Some x) = may_end r x
+
 -- the value that it has committed names it as one that leaves
 abbrev pub is_named : ℕ → Option Value → Bool
 is_named me None = false
@@ -334,13 +374,6 @@ sent r = put r (Index (next_index r)) (Text (slice_index_or r.messages (next_ind
 abbrev pub nulled : Replica → Replica
 nulled r = put r sent_items.Null Null
 
--- the sender of a place of its view, and the item there
-abbrev pub sender_at : Replica → ℕ → ℕ
-sender_at r p = slice_index (view_of r) (p % length (view_of r))
-
-abbrev pub item_at : Replica → ℕ → Item
-item_at r p = item r (sender_at r p) (p / length (view_of r))
-
 abbrev pub delivered : Replica → Replica
 delivered r = record r {
   history = r.history ++ entries_of r.history (sender_at r r.next) (item_at r r.next);
@@ -393,6 +426,33 @@ accepted r =
 -- it commits what it has accepted
 abbrev pub decided : Replica → Replica
 decided r = record r { committed = Some r.value }
+
+-- what it keeps of its view as it leaves it
+abbrev pub left_now : Replica → LeftView
+left_now r = record { own = row_of r.rows.words (me r); counts = r.counts; sent = r.sent }
+
+-- it ends its view with a value, and goes on in the next one, in which all is as at the beginning
+abbrev pub finished_by : Replica → Value → Replica
+finished_by r x =
+    let history = finished_history r x in record r {
+      rows = rows.with_own (begun r.rows.members r.rows.columns (me r)) LOGGED_COLUMN r.logged;
+      view = r.view + 1;
+      members = without r.members x.leavers;
+      suspects = 0;
+      tag = 0;
+      value = no_value;
+      committed = None;
+      counts = replicate r.roster 0;
+      items = replicate (greatest r.totals * r.roster) Null;
+      base = length (messages_from (me r) history);
+      sent = [];
+      left = r.left ++ left_now r ∷ [];
+      next = 0;
+      history = history;
+    }
+
+abbrev pub finished : Replica → Replica
+finished r = finished_by r (unwrap_or r.committed no_value)
 
 abbrev pub ended : Replica → End → Replica
 ended r end = record r { end = Some end }

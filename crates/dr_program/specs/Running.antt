@@ -204,11 +204,12 @@ pushes_after pushes (steps.Do acts.Beat) = 0
 pushes_after pushes s = pushes
 
 -- how long it has waited after a step: with the last word of a row, its beat is compared with that of the
--- turn before
+-- turn before. In a new view it waits anew
 abbrev pub waits_after : ℕ → Running → Step → Waits
 waits_after word r (steps.Look i c) =
     if c + 1 == columns r then compared r.waits (looked r.replica.rows i c word) i
     else r.waits
+waits_after word r (steps.Do acts.Finish) = begun r.waits.limit
 waits_after word r s = r.waits
 
 -- the member after a step, with the word that it saw, before and after the search

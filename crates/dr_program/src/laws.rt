@@ -31,9 +31,9 @@ pub fn programs_begin_at_the_opening()
 
 /// The law of the turn: how many parts it has, and which, by their names in their order.
 pub fn turn_law()
-    ensures count { PARTS ≡ 20 }
+    ensures count { PARTS ≡ 21 }
     ensures parts { TURN ≡ Part.Look ∷ Part.Judge ∷ Part.Receive ∷ Part.Do Act.Send ∷ Part.Do Act.Null
         ∷ Part.Do Act.Deliver ∷ Part.Append ∷ Part.Do Act.Publish ∷ Part.Do Act.Report ∷ Part.Do Act.Mark
         ∷ Part.Vote ∷ Part.Do Act.Propose ∷ Part.Do Act.Accept ∷ Part.Do Act.Commit ∷ Part.Excluded
-        ∷ Part.Push ∷ Part.Crash ∷ Part.Done ∷ Part.Spent ∷ Part.Do Act.Beat ∷ [] }
+        ∷ Part.Push ∷ Part.Crash ∷ Part.Done ∷ Part.Do Act.Finish ∷ Part.Spent ∷ Part.Do Act.Beat ∷ [] }
 {}

@@ -28,7 +28,7 @@ pub enum Part {
 }
 
 /// The number of parts of a turn.
-pub const PARTS: usize = 20;
+pub const PARTS: usize = 21;
 
 /// The parts of a turn, in their order. With the last one the next turn begins.
 pub static TURN: [Part; PARTS] = [
@@ -50,6 +50,7 @@ pub static TURN: [Part; PARTS] = [
     Part::Push,
     Part::Crash,
     Part::Done,
+    Part::Do(Act::Finish),
     Part::Spent,
     Part::Do(Act::Beat),
 ];

@@ -86,7 +86,7 @@ deliver_changes w m = record {
   here = rw (same_number m) refl;
 }
 
-item_shown : (n s : ℕ) (x : Item) → s < n → (if nat_lt s n then x else Null) ≡ x
+pub item_shown : (n s : ℕ) (x : Item) → s < n → (if nat_lt s n then x else Null) ≡ x
 item_shown n s x within =
     let test : nat_lt s n ≡ true = grind (arith, nat_tests, within) in rw test refl
 

@@ -1,11 +1,10 @@
 -- The next deed of a running member is a step of the machine.
-use Rattle.std.proofs.Common.{◌≡◌, refl, sym, ap, ◌∙◌, subst, ℕ, zero, suc, ◌||◌, not, Bool, true, false, inl, inr, if◌then◌else◌, List, [], ◌∷◌, ◌++◌, map}
+use Rattle.std.proofs.Common.{◌≡◌, refl, sym, ap, ◌∙◌, subst, ℕ, zero, suc, ◌||◌, Bool, true, false, inl, if◌then◌else◌, List, [], ◌∷◌, ◌++◌, map}
 use Rattle.std.specs.Prelude.{Option, Some, None, is_some, slice_get, slice_index_or, slice_set, option_map}
 use Rattle.std.proofs.lemmas.List.{set-get_or}
 use Rattle.std.proofs.lemmas.Option.{get_or_from_slice_get, slice_get-map, same_Some}
 use Rattle.std.proofs.lemmas.Bool.{and_from, and_parts}
 use Rattle.dr_entry.specs.declared.end.End.{End}
-use Rattle.dr_machine.specs.declared.event.Act.TheVariants as acts
 use Rattle.dr_machine.specs.declared.step.Step.{Step}
 use Rattle.dr_machine.specs.declared.step.Step.TheVariants.{Do, Append, LogVote}
 use Rattle.dr_machine.specs.Events.{event_of}
@@ -17,11 +16,12 @@ use Rattle.dr_machine.specs.Run.{Happens, IsReached}
 use Rattle.dr_program.specs.Replica.{Replica}
 use Rattle.dr_program.specs.declared.outcome.Outcome.{Outcome}
 use Rattle.dr_program.specs.declared.outcome.Outcome.TheVariants as outcomes
-use Rattle.dr_program.specs.Steps.{allows, is_free, sight, stored}
-use Rattle.dr_program.specs.Running.{Running, WaitsAt, step_at, after_step, applies, asks, moved, next_step, settle, settled, took}
+use Rattle.dr_program.specs.Steps.{allows, sight, stored}
+use Rattle.dr_program.specs.Running.{Running, after_step, applies, asks, moved, next_step, settle, settled, took}
 use Rattle.dr_program.specs.Turn.{part_of}
 use Rattle.dr_program.specs.Program.{Program, Move, after_deed, moved_by, next_sight, step_of, went}
 use Rattle.dr_program.specs.Reading.{comes_to, step_by, step_due, world, world_of}
+use Rattle.dr_program.proofs.Waiting.{free_step}
 use Rattle.dr_machine.proofs.Events.{member_of_event, step_of_event}
 use Rattle.dr_machine.proofs.Runs.{run_on}
 use Rattle.dr_refine.specs.Programs.{IsMember, IsProgram}
@@ -78,19 +78,6 @@ program_member g p m r group is there = record {
 abbrev pub IsStep : Group → Program → Move → Step → Type 0
 IsStep g p e s = CanTake g (world g p) e.member s
     × (world g (step_of p e) ≡ effect_of g (world g p) e.member s)
-
--- what is due to a member whose vote waits acts on it
-free_none : (q : Replica) (s : Step) → q.pending ≡ None → is_free q s ≡ true
-free_none q (Do acts.Propose) e = refl
-free_none q (Do acts.Accept) e = refl
-free_none q (Do (acts.Crash end)) e = refl
-free_none q (Do a) e = ap (λ o. not (is_some o)) e
-free_none q s e = ap (λ o. not (is_some o)) e
-
-free_step : (r : Running) → WaitsAt r (part_of r.place) → is_free r.replica (next_step r) ≡ true
-free_step r (inl none) = free_none r.replica (next_step r) none
-free_step r (inr (inl e)) = ap (λ x. is_free r.replica (step_at r x r.place.row r.place.column)) e
-free_step r (inr (inr t)) = ap (λ x. is_free r.replica (step_at r x r.place.row r.place.column)) t.0
 
 -- what a member without an end is due to do, it may do
 pub due_allowed : (r : Running) → applies r r.place ≡ true → allows r.replica (next_step r) ≡ true

@@ -19,7 +19,7 @@ use Rattle.dr_machine.specs.Group.{Group, roster}
 use Rattle.dr_machine.specs.World.{World}
 use Rattle.dr_machine.specs.Effects.{gains}
 use Rattle.dr_program.specs.Replica.{Replica, count, item, gained, greatest, view_of}
-use Rattle.dr_program.specs.Reading.{world_of}
+use Rattle.dr_program.specs.Reading.{kept_count, kept_word, world_of}
 use Rattle.dr_program.proofs.Holdings.{Holding, held, holding_of, Changes}
 use Rattle.dr_program.proofs.OwnWords.{same_number, other_number, own_with}
 use Rattle.dr_refine.proofs.Members.{Fits, fits_own, replaced, seen_kept}
@@ -55,9 +55,9 @@ set_at xs s x within = fun_ext λ k. elim (cases_eq k s) [
 ]
 
 -- a row of a view, written
-pub row_written : (f h : ℕ → ℕ) (view v d : ℕ) → (if v == view then h d else 0)
-    ≡ at (λ b k. if b == view then f k else 0) view h v d
-row_written f h view v d = grind arith
+pub row_written : (f h : ℕ → ℕ) (kept : ℕ → ℕ → ℕ) (view v d : ℕ)
+    → (if v == view then h d else kept v d) ≡ at (λ b k. if b == view then f k else kept b k) view h v d
+row_written f h kept view v d = grind arith
 
 -- the items with one of them set; that of another place stays
 item_set : (items : List Item) (n k s : ℕ) (x : Item) (most l t : ℕ) → length items ≡ most * n → k
@@ -167,15 +167,15 @@ gained_world g rs table m r s x there f may =
         ≡ at (holding_of g r).own r.view
         (at (at (own r.rows) (recv_column s) (recv_word (count r s + 1) false)) RECEIVED_COLUMN
         (front_of (map (at (slice_index r.counts) s (count r s + 1)) (view_of r))))
-    own_is = fun_ext λ v. fun_ext λ d. ap (λ x. if v == r.view then x else 0) (words d)
+    own_is = fun_ext λ v. fun_ext λ d. ap (λ x. if v == r.view then x else kept_word r v d) (words d)
         ∙ row_written (own r.rows) (at
         (at (own r.rows) (recv_column s) (recv_word (count r s + 1) false)) RECEIVED_COLUMN
-        (front_of (map (at (slice_index r.counts) s (count r s + 1)) (view_of r)))) r.view v d
+        (front_of (map (at (slice_index r.counts) s (count r s + 1)) (view_of r)))) (kept_word r) r.view v d
 
     count_is : (holding_of g (gained r s x)).count
         ≡ at (holding_of g r).count r.view (at (slice_index r.counts) s (count r s + 1))
-    count_is = fun_ext λ v. fun_ext λ t. ap (λ (h : ℕ → ℕ). if v == r.view then h t else 0) counts
-        ∙ row_written (slice_index r.counts) (at (slice_index r.counts) s (count r s + 1)) r.view v t
+    count_is = fun_ext λ v. fun_ext λ t. ap (λ (h : ℕ → ℕ). if v == r.view then h t else kept_count r v t) counts
+        ∙ row_written (slice_index r.counts) (at (slice_index r.counts) s (count r s + 1)) (kept_count r) r.view v t
 
     seen_is : (holding_of g (gained r s x)).seen ≡ (holding_of g r).seen
     seen_is = seen_kept (with_own r.rows (recv_column s) (recv_word (count r s + 1) false)) RECEIVED_COLUMN

@@ -8,6 +8,7 @@ pub mod Gains
 pub mod Puts
 pub mod Suspects
 pub mod Votes
+pub mod Finishes
 pub mod Deeds
 pub mod Steps
 pub mod Tests

@@ -12,7 +12,7 @@ use Rattle.dr_machine.specs.Group.{Group, roster, columns}
 use Rattle.dr_machine.specs.World.{World}
 use Rattle.dr_machine.specs.Effects.{looks, pushes}
 use Rattle.dr_program.specs.Replica.{Replica, is_other, looked, pushed}
-use Rattle.dr_program.specs.Reading.{world_of, word_of, in_view}
+use Rattle.dr_program.specs.Reading.{world_of, word_of, in_view, kept_word}
 use Rattle.dr_program.proofs.Holdings.{Holding, held, holding_of, held_of, Changes}
 use Rattle.dr_program.proofs.OwnWords.{same_number, other_number}
 use Rattle.dr_refine.specs.Programs.{IsMember}
@@ -48,11 +48,11 @@ looked_seen w i c x form other row column = fun_ext λ j. fun_ext λ d. elim (ca
 ]
 
 -- the own words stay
-looked_own : (w : Words) (view i c x : ℕ) → i ≢ w.me
-    → ◌≡◌ {A = ℕ → ℕ → ℕ} (λ v d. if v == view then own w d else 0)
-    (λ v d. if v == view then own (rows.looked w i c x) d else 0)
-looked_own w view i c x other = fun_ext λ v. fun_ext λ d.
-    ap (λ y. if v == view then y else 0)
+looked_own : (w : Words) (kept : ℕ → ℕ → ℕ) (view i c x : ℕ) → i ≢ w.me
+    → ◌≡◌ {A = ℕ → ℕ → ℕ} (λ v d. if v == view then own w d else kept v d)
+    (λ v d. if v == view then own (rows.looked w i c x) d else kept v d)
+looked_own w kept view i c x other = fun_ext λ v. fun_ext λ d.
+    ap (λ y. if v == view then y else kept v d)
     (sym (ap (λ r. slice_index r d) (with_word-row w.words i c x w.me (λ e. other (sym e)))))
 
 -- a look at the word that stands in the own copy
@@ -70,7 +70,7 @@ look_effect g rs table m r i c is e column =
     let word = word_inside g table r.view m i c f.bank (inside g m r.rows r.view f) row column in
     let seen = looked_seen r.rows i c x f.words apart (omega (arith, row, f.members))
     (omega (arith, column, f.columns)) in
-    let own = looked_own r.rows r.view i c x apart in
+    let own = looked_own r.rows (kept_word r) r.view i c x apart in
     let after : Holding → Holding = look_after (word_of g table) m i c in
     replaced g rs table table m r (looked r i c x) (looks (world_of g rs table) m i c) after is.there
     (look_changes (world_of g rs table) m i c)
@@ -94,7 +94,7 @@ push_effect g rs table m r j c is e column =
     let w : World = world_of g rs table in
     let cell : Holding → ℕ → ℕ → ℕ → ℕ
     → ℕ = λ h. at₄ w.table h.view j m c (h.own h.view c) in
-    let word : own r.rows c ≡ in_view r r.view (own r.rows c) 0 = rw (same_number r.view) refl in
+    let word : own r.rows c ≡ in_view r r.view (own r.rows c) (kept_word r r.view c) = rw (same_number r.view) refl in
     replaced g rs table (slice_set table (word_index_of (roster g) g.window r.view j m c) (own r.rows c)) m
     r (pushed r j c) (pushes w m j c) (λ h. h) is.there
     (push_changes w m j c) refl

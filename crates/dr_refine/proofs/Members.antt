@@ -13,7 +13,7 @@ use Rattle.dr_machine.specs.World.{World, own_word, shown}
 use Rattle.dr_machine.specs.Effects as effects
 use Rattle.dr_machine.specs.Effects.{one_more, stamped}
 use Rattle.dr_program.specs.Replica.{Replica, me, acted}
-use Rattle.dr_program.specs.Reading.{world_of, word_of, in_view}
+use Rattle.dr_program.specs.Reading.{world_of, word_of, in_view, kept_word}
 use Rattle.dr_program.proofs.Holdings.{Holding, held, holding_of, held_of, Changes, changed_world, replica_set}
 use Rattle.dr_program.proofs.OwnWords.{same_number, other_number, own_with, seen_with}
 use Rattle.dr_refine.specs.Programs.{IsMember, IsTable, acted_table}
@@ -55,17 +55,18 @@ fits_own g m rows view c x f = record {
   bank = f.bank;
 }
 
-view_written : (f : ℕ → ℕ) (view c x v d : ℕ)
-    → (if v == view then (if d == c then x else f d) else 0)
-    ≡ at₂ (λ b k. if b == view then f k else 0) view c x v d
-view_written f view c x v d = grind arith
+view_written : (f : ℕ → ℕ) (kept : ℕ → ℕ → ℕ) (view c x v d : ℕ)
+    → (if v == view then (if d == c then x else f d) else kept v d)
+    ≡ at₂ (λ b k. if b == view then f k else kept b k) view c x v d
+view_written f kept view c x v d = grind arith
 
 -- the own words of a view, one of them written
-pub own_written : (rows : Words) (view c x : ℕ) → IsWords rows → c < rows.columns
-    → ◌≡◌ {A = ℕ → ℕ → ℕ} (λ v d. if v == view then own (with_own rows c x) d else 0)
-    (at₂ (λ v d. if v == view then own rows d else 0) view c x)
-own_written rows view c x words within =
-    fun_ext λ v. fun_ext λ d. rw (own_with rows c x d words within) (view_written (own rows) view c x v d)
+pub own_written : (rows : Words) (kept : ℕ → ℕ → ℕ) (view c x : ℕ) → IsWords rows
+    → c < rows.columns
+    → ◌≡◌ {A = ℕ → ℕ → ℕ} (λ v d. if v == view then own (with_own rows c x) d else kept v d)
+    (at₂ (λ v d. if v == view then own rows d else kept v d) view c x)
+own_written rows kept view c x words within = fun_ext λ v. fun_ext λ d.
+    rw (own_with rows c x d words within) (view_written (own rows) kept view c x v d)
 
 -- and the seen words of the others stay
 pub seen_kept : (rows : Words) (c x : ℕ)
@@ -111,7 +112,7 @@ pub own_world : (g : Group) (rs : List Replica) (table : List ℕ) (m : ℕ) (r 
     → world_of g (slice_set rs m (record r { rows = with_own r.rows c x })) table
     ≡ effects.with_own (world_of g rs table) m c x
 own_world g rs table m r c x there f within =
-    let own = own_written r.rows r.view c x f.words (omega (arith, f.columns, within)) in
+    let own = own_written r.rows (kept_word r) r.view c x f.words (omega (arith, f.columns, within)) in
     let seen = seen_kept r.rows c x in
     replaced g rs table table m r (record r { rows = with_own r.rows c x })
     (effects.with_own (world_of g rs table) m c x) (own_after c x) there
@@ -138,7 +139,7 @@ acted_world g rs table m r there f whole =
     let w : World = world_of g rs table in
     let within : BEAT_COLUMN < columns g = omega arith in
     let member = inside g m r.rows r.view f in
-    let own = own_written r.rows r.view BEAT_COLUMN (one_more 64 r.acts) f.words
+    let own = own_written r.rows (kept_word r) r.view BEAT_COLUMN (one_more 64 r.acts) f.words
     (omega (arith, f.columns, within)) in
     let seen = seen_kept r.rows BEAT_COLUMN (one_more 64 r.acts) in
     let cell : (h : Holding) → ℕ → ℕ → ℕ → ℕ
@@ -163,7 +164,7 @@ then_acted g rs table m r w within f whole before =
 
 -- the word of a row, as the replica has it
 pub shown_word : (r : Replica) (m i c : ℕ) → me r ≡ m
-    → (if i == m then in_view r r.view (own r.rows c) 0 else (if i == me r then 0 else seen r.rows i c))
+    → (if i == m then in_view r r.view (own r.rows c) (kept_word r r.view c) else (if i == me r then 0 else seen r.rows i c))
     ≡ seen r.rows i c
 shown_word r m i c number =
     elim (cases_eq i m) [

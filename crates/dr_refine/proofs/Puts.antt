@@ -29,7 +29,7 @@ use Rattle.dr_machine.specs.Guards as guards
 use Rattle.dr_machine.specs.Guards.{seen_slot}
 use Rattle.dr_machine.specs.Effects.{stamped, gains, puts, sends, nulls, receives, next_item, row_with}
 use Rattle.dr_program.specs.Replica.{Replica, me, count, item, gained, received, put, sent, nulled, greatest, next_index, ready_item, is_other, is_behind, is_wedged, may_send, may_null, may_receive, acted}
-use Rattle.dr_program.specs.Reading.{world_of}
+use Rattle.dr_program.specs.Reading.{kept_word, left_in, world_of}
 use Rattle.dr_program.proofs.Holdings.{Holding, held, holding_of, Changes, replica_set}
 use Rattle.dr_program.proofs.OwnWords.{same_number, other_number}
 use Rattle.dr_refine.specs.Programs.{IsMember, acted_table}
@@ -173,9 +173,9 @@ place_changes g w m name item = record {
   here = rw (same_number m) refl;
 }
 
-view_set : {X : Type 0} (x y none : X) (view v : ℕ)
-    → ◌≡◌ {A = X} (if v == view then y else none) (at (λ b. if b == view then x else none) view y v)
-view_set x y none view v = elim (cases_eq v view) [
+view_set : {X : Type 0} (x y : X) (kept : ℕ → X) (view v : ℕ)
+    → ◌≡◌ {A = X} (if v == view then y else kept v) (at (λ b. if b == view then x else kept b) view y v)
+view_set x y kept view v = elim (cases_eq v view) [
   | inl same ↦ rw (same, same_number view) refl
   | inr other ↦ rw (other_number v view other) refl
 ]
@@ -220,12 +220,12 @@ placed_world g rs table m r name item is slot few =
         (pieces item) d) is.of.number
 
     own_is : (holding_of g (placed r name item)).own ≡ at (holding_of g r).own r.view row
-    own_is = fun_ext λ v. fun_ext λ d. ap (λ x. if v == r.view then x else 0) (words d)
-        ∙ row_written (own r.rows) row r.view v d
+    own_is = fun_ext λ v. fun_ext λ d. ap (λ x. if v == r.view then x else kept_word r v d) (words d)
+        ∙ row_written (own r.rows) row (kept_word r) r.view v d
 
     sent_is : (holding_of g (placed r name item)).sent
         ≡ at (holding_of g r).sent r.view (r.sent ++ name ∷ [])
-    sent_is = fun_ext λ v. view_set r.sent (r.sent ++ name ∷ []) [] r.view v
+    sent_is = fun_ext λ v. view_set r.sent (r.sent ++ name ∷ []) (λ b. (left_in r b).sent) r.view v
 
     seen_is : (holding_of g (placed r name item)).seen ≡ (holding_of g r).seen
     seen_is = fun_ext λ i. fun_ext λ d. elim (cases_eq i r.rows.me) [

@@ -20,7 +20,7 @@ use Rattle.dr_machine.specs.Group.{Group, roster}
 use Rattle.dr_machine.specs.World.{World}
 use Rattle.dr_machine.specs.Effects.{stamped, suspects, wedged_word}
 use Rattle.dr_program.specs.Replica.{Replica, acted, is_other, may_suspect, rewritten, suspected}
-use Rattle.dr_program.specs.Reading.{world_of}
+use Rattle.dr_program.specs.Reading.{kept_word, world_of}
 use Rattle.dr_program.proofs.Holdings.{Holding, held, holding_of, Changes}
 use Rattle.dr_program.proofs.OwnWords.{same_number, other_number}
 use Rattle.dr_refine.specs.Programs.{IsMember, acted_table}
@@ -179,9 +179,9 @@ suspect_effect g rs table m r j is e =
     own_is : (holding_of g (suspected r j)).own
         ≡ at (holding_of g r).own r.view
         (λ c. wedged_word (roster g) r.members mask promise c (own r.rows c))
-    own_is = fun_ext λ v. fun_ext λ c. ap (λ x. if v == r.view then x else 0) (words c)
+    own_is = fun_ext λ v. fun_ext λ c. ap (λ x. if v == r.view then x else kept_word r v c) (words c)
         ∙ row_written (own r.rows)
-        (λ d. wedged_word (roster g) r.members mask promise d (own r.rows d)) r.view v c
+        (λ d. wedged_word (roster g) r.members mask promise d (own r.rows d)) (kept_word r) r.view v c
 
     seen_is : (holding_of g (suspected r j)).seen ≡ (holding_of g r).seen
     seen_is = fun_ext λ i. fun_ext λ c. elim (cases_eq i r.rows.me) [

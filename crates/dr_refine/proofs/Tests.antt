@@ -1,5 +1,5 @@
 -- A replica that has no end and passes its test is one whose event may come, and the other way round.
-use Rattle.std.proofs.Common.{◌≡◌, refl, sym, ap, ◌∙◌, ◌↔◌, subst, ℕ, ◌+◌, ◌*◌, ◌<◌, ◌≤◌, ◌&&◌, not, true, Bool, List, length, arith, slice_index}
+use Rattle.std.proofs.Common.{◌≡◌, refl, sym, ap, ◌∙◌, ◌↔◌, subst, ℕ, ◌+◌, ◌*◌, ◌<◌, ◌&&◌, not, true, Bool, List, length, arith, slice_index}
 use Rattle.std.proofs.lemmas.Bool.Decides.{nat_tests}
 use Rattle.std.specs.Prelude.{Option, None, Some, is_some, nat_lt, slice_set}
 use Rattle.std.proofs.lemmas.Bool.{and_from, and_parts}
@@ -30,7 +30,8 @@ use Rattle.dr_words.specs.declared.column.TheConstants.{BEAT_COLUMN}
 use Rattle.dr_words.specs.Layout.{word_index_of}
 use Rattle.dr_machine.specs.Effects.{one_more}
 use Rattle.dr_refine.proofs.Acts.{append_effect, beat_effect, deliver_effect, publish_effect, report_effect, mark_effect, end_effect}
-use Rattle.dr_refine.proofs.Bounds.{deliver_bounded, receive_bounded}
+use Rattle.dr_refine.proofs.Bounds.{deliver_bounded, receive_bounded, finish_bounded}
+use Rattle.dr_refine.proofs.Finishes.{finish_effect, finish_guard}
 use Rattle.dr_refine.proofs.Looks.{look_effect, push_effect}
 use Rattle.dr_refine.proofs.Suspects.{suspect_effect}
 use Rattle.dr_refine.proofs.Puts.{null_effect, send_effect, receive_effect}
@@ -95,6 +96,11 @@ act_guard g rs table m r acts.Report is unended = with_nothing (report_guard g r
 act_guard g rs table m r acts.Mark is unended = with_nothing (mark_guard g rs table m r is unended)
 act_guard g rs table m r (acts.Suspect j) is unended =
     with_nothing (suspect_guard g rs table m r j is unended)
+act_guard g rs table m r acts.Finish is unended =
+    let same = finish_guard g rs table m r is unended in (
+      λ e. let t = same.0 e in (t.0, (t.1, t.2)),
+      λ can. same.1 (can.0, can.1.0, can.1.1),
+    )
 act_guard g rs table m r acts.Propose is unended =
     with_nothing (propose_guard g rs table m r is unended.0)
 act_guard g rs table m r acts.Accept is unended =
@@ -201,6 +207,7 @@ act_effect g rs table m r acts.Publish is may = publish_effect g rs table m r is
 act_effect g rs table m r acts.Report is may = report_effect g rs table m r is
 act_effect g rs table m r acts.Mark is may = mark_effect g rs table m r is
 act_effect g rs table m r (acts.Suspect j) is may = suspect_effect g rs table m r j is may
+act_effect g rs table m r acts.Finish is may = finish_effect g rs table m r is
 act_effect g rs table m r acts.Propose is may = accept_effect g rs table m r is
 act_effect g rs table m r acts.Accept is may = accept_effect g rs table m r is
 act_effect g rs table m r acts.Commit is may = commit_effect g rs table m r is
@@ -212,12 +219,14 @@ act_effect g rs table m r (acts.Crash end) is may = end_effect g rs table m r en
 -- the room for a step is there by itself
 pub has_room : (g : Group) (rs : List Replica) (table : List ℕ) (m : ℕ) (r : Replica) (s : Step)
     → IsMember g rs table m r
-    → length g.opening.start + banks g + greatest r.totals * roster g ≤ r.room
+    → length g.opening.start + banks g + greatest r.totals * roster g < r.room
     → IsReached g (world_of g rs table) → CanTake g (world_of g rs table) m s → HasRoomFor r s
 has_room g rs table m r (steps.Do (acts.Receive s)) is room reached can =
     receive_bounded g rs table m r s is reached can
 has_room g rs table m r (steps.Do acts.Deliver) is room reached can =
-    deliver_bounded g rs table m r is room reached can
+    deliver_bounded g rs table m r is room reached
+has_room g rs table m r (steps.Do acts.Finish) is room reached can =
+    finish_bounded g rs table m r is room reached can
 has_room g rs table m r s is room reached can = tt
 
 -- ---- words of the table

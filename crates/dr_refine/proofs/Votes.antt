@@ -1,26 +1,22 @@
 -- A replica may vote, act on its vote and commit exactly where that may come, and what it makes of the world.
-use Rattle.std.proofs.Common.{◌≡◌, ◌↔◌, refl, sym, ap, ◌∙◌, subst, ℕ, ◌+◌, ◌^◌, ◌<◌, ◌≤◌, ◌==◌, ◌||◌, ◌⊎◌, inl, inr, not, Bool, true, false, if◌then◌else◌, List, [], ◌∷◌, ◌++◌, length, slice_index, arith}
+use Rattle.std.proofs.Common.{◌≡◌, ◌↔◌, refl, sym, ap, ◌∙◌, subst, ℕ, ◌+◌, ◌^◌, ◌<◌, ◌≤◌, ◌==◌, ◌||◌, ◌⊎◌, inl, inr, not, Bool, true, false, if◌then◌else◌, List, [], ◌∷◌, ◌++◌, length, arith}
 use Rattle.std.proofs.Math.Path.{fun_ext}
 use Rattle.std.specs.Prelude.{Option, Some, None, is_some, slice_set, unwrap_or}
-use Rattle.std.specs.List.{list_all, range_with_len}
-use Rattle.std.proofs.lemmas.Bool.{and_from, and_parts, cases_eq, cases_lt, eq-eqb, eqb-true}
+use Rattle.std.proofs.lemmas.Bool.{and_from, and_parts, cases_eq, eq-eqb, eqb-true}
 use Rattle.std.proofs.lemmas.Bool.Decides.{nat_tests}
-use Rattle.std.proofs.lemmas.List.{get_or_past, length-take-le}
-use Rattle.std.proofs.lemmas.List.FromFn.{get_or-range_with_len}
-use Rattle.std.proofs.lemmas.List.Folds.{list_all_at}
+use Rattle.std.proofs.lemmas.List.{length-take-le}
 use Rattle.std.proofs.lemmas.Option.{slice_get_within}
 use Rattle.dr_entry.specs.declared.record.Value.{Value}
 use Rattle.dr_entry.specs.declared.record.Vote.{Vote}
 use Rattle.dr_history.specs.Members.{has}
 use Rattle.dr_rows.specs.Words.{own, seen}
-use Rattle.dr_words.proofs.Choices.{accept_test, commit_test, proposal_is, proposal_long, propose_test, shows_value, trims_long}
+use Rattle.dr_words.proofs.Choices.{accept_test, commit_test, proposal_is, propose_test, shows_value}
 use Rattle.dr_words.proofs.Masks.{has_without_mask, in_roster_small}
-use Rattle.dr_words.proofs.Values.{proposal_once, same_value, shows_once}
-use Rattle.dr_words.specs.Accepts.{Shown, Shows, promise_of, trim_word}
+use Rattle.dr_words.proofs.Values.{proposal_once, shows_once}
+use Rattle.dr_words.specs.Accepts.{Shown, Shows, promise_of}
 use Rattle.dr_words.specs.Changes.{IsProposal, MayAccept, MayCommit, MayPropose}
 use Rattle.dr_words.specs.Choices.{proposal, shown_value}
 use Rattle.dr_words.specs.Masks.{without}
-use Rattle.dr_words.specs.Packing.{accept_value}
 use Rattle.dr_machine.specs.Effects.{accepted_word, accepts, commits, logs_vote, stamped}
 use Rattle.dr_machine.specs.Group.{Group, roster}
 use Rattle.dr_machine.specs.Guards.{CanAccept, CanCommit, CanLogVote, CanPropose}
@@ -29,7 +25,7 @@ use Rattle.dr_machine.specs.World.{World, no_vote, shown}
 use Rattle.dr_machine.specs.Writes.{at}
 use Rattle.dr_program.specs.Replica.{Replica, accepted, acted, decided, is_others, is_own, is_value, is_wedged, may_append, may_commit, may_vote, me, promise, value_due, vote_of, voted}
 use Rattle.dr_program.specs.Replica as replicas
-use Rattle.dr_program.specs.Reading.{world_of}
+use Rattle.dr_program.specs.Reading.{kept_word, world_of}
 use Rattle.dr_program.proofs.Holdings.{Changes, Holding, held, held_of, holding_of}
 use Rattle.dr_program.proofs.OwnWords.{same_number, other_number}
 use Rattle.dr_program.proofs.Voting.{value_long, value_test}
@@ -403,9 +399,9 @@ accept_effect g rs table m r is =
     own_is : (holding_of g (accepted r)).own
         ≡ at (holding_of g r).own r.view
         (λ c. accepted_word (roster g) r.members (vote.ballot + 1) vote.value c (own r.rows c))
-    own_is = fun_ext λ v. fun_ext λ c. ap (λ x. if v == r.view then x else 0) (words c)
+    own_is = fun_ext λ v. fun_ext λ c. ap (λ x. if v == r.view then x else kept_word r v c) (words c)
         ∙ row_written (own r.rows)
-        (λ d. accepted_word (roster g) r.members (vote.ballot + 1) vote.value d (own r.rows d)) r.view v c
+        (λ d. accepted_word (roster g) r.members (vote.ballot + 1) vote.value d (own r.rows d)) (kept_word r) r.view v c
 
     seen_is : (holding_of g (accepted r)).seen ≡ (holding_of g r).seen
     seen_is = fun_ext λ i. fun_ext λ c. elim (cases_eq i r.rows.me) [

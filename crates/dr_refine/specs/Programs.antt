@@ -1,13 +1,13 @@
 -- Replicas and programs of a group, in their form.
-use Rattle.std.specs.Prelude.{◌≡◌, ℕ, ◌<◌, List, length, slice_get, slice_set, Some}
+use Rattle.std.specs.Prelude.{◌≡◌, ℕ, ◌<◌, ◌≤◌, List, length, slice_get, slice_set, Some}
 use Rattle.dr_words.specs.declared.column.TheConstants.{BEAT_COLUMN}
 use Rattle.dr_words.specs.Layout.{words_of, word_index_of}
 use Rattle.dr_machine.specs.Group.{Group, IsGroup, banks, roster}
 use Rattle.dr_machine.specs.Effects.{one_more}
-use Rattle.dr_machine.specs.declared.event.Act.TheVariants.{Receive, Deliver}
+use Rattle.dr_machine.specs.declared.event.Act.TheVariants.{Receive, Deliver, Finish}
 use Rattle.dr_machine.specs.declared.step.Step.{Step}
 use Rattle.dr_machine.specs.declared.step.Step.TheVariants.{Do}
-use Rattle.dr_program.specs.Replica.{Replica, count, greatest}
+use Rattle.dr_program.specs.Replica.{Replica, count, finished, greatest}
 use Rattle.dr_program.specs.Running.{Running}
 use Rattle.dr_program.specs.Program.{Program}
 use Rattle.dr_program.specs.Form.{HasForm, IsOf, IsRunningMember}
@@ -37,8 +37,11 @@ pub record IsProgram (g : Group) (p : Program) : Type 0 where
   pub of : (m : ℕ) (r : Running) → slice_get p.members m ≡ Some r → IsOf g m r.replica
   pub table : IsTable g p.table
 
--- a replica has room for what a step adds: for an item of a sender, and for an entry
+-- a replica has room for what a step adds: for an item of a sender, for an entry, and for what ends a view,
+-- of which no more are its own messages than it has
 abbrev pub HasRoomFor : Replica → Step → Type 0
 HasRoomFor r (Do (Receive s)) = count r s < greatest r.totals
 HasRoomFor r (Do Deliver) = length r.history < r.room
+HasRoomFor r (Do Finish) =
+    (length (finished r).history ≤ r.room) × ((finished r).base ≤ length r.messages)
 HasRoomFor r s = Unit {0}

@@ -16,8 +16,8 @@ ghost use Rattle.dr_program.specs.Form.{IsRunningMember};
 ghost use Rattle.dr_refine.specs.Programs.{HasRoomFor, IsMember, IsProgram};
 
 /// A member's step may come exactly where its replica has no end and passes the test of the step, but
-/// for two ranges: it takes no more items of a member than anyone has messages, and delivers only
-/// where it has room for an entry.
+/// for three ranges: it takes no more items of a member than anyone has messages, delivers only
+/// where it has room for an entry, and ends its view only where it has room for what this adds.
 pub fn tests_are_guards()
     ensures { (g : Group) (rs : List Replica) (table : List ℕ) (m : ℕ) (r : Replica) (s : Step)
         → IsMember g rs table m r
@@ -29,18 +29,18 @@ pub fn tests_are_guards()
 pub fn room_is_there()
     ensures { (g : Group) (rs : List Replica) (table : List ℕ) (m : ℕ) (r : Replica) (s : Step)
         → IsMember g rs table m r
-        → length g.opening.start + banks g + greatest r.totals * roster g ≤ r.room
+        → length g.opening.start + banks g + greatest r.totals * roster g < r.room
         → IsReached g (world_of g rs table) → CanTake g (world_of g rs table) m s → HasRoomFor r s }
 {}
 
-/// In a reached world a history has no more entries than the start, View 0, and for each member of the
-/// roster as many messages as the script gives any of them.
+/// In a reached world a history has no more entries than the start, a View for each bank, and for each member
+/// of the roster as many messages as the script gives any of them.
 pub fn histories_are_bounded()
     ensures script { (g : Group) (w : World) (m : ℕ) → IsGroup g → IsReached g w → m < roster g
         → length (w.past.history m)
-        ≤ length g.opening.start + 1 + greatest (map length g.opening.messages) * roster g }
+        ≤ length g.opening.start + banks g + greatest (map length g.opening.messages) * roster g }
     ensures limits { (g : Group) (w : World) (m : ℕ) → IsGroup g → IsReached g w → m < roster g
-        → length (w.past.history m) ≤ length g.opening.start + 1 + MAX_MESSAGES * MAX_MEMBERS }
+        → length (w.past.history m) ≤ length g.opening.start + MAX_MEMBERS + MAX_MESSAGES * MAX_MEMBERS }
 {}
 
 /// What a step makes of a replica and of the table is the effect of the step on the world that they

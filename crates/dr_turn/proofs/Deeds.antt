@@ -35,7 +35,7 @@ use Rattle.dr_turn.specs.Work.{tasks, work, deeds_of, left_to, may_fail, deeds_l
 use Rattle.dr_turn.proofs.Fewer.{NoneRises, fewer_here, fewer_turns, sum_falls, sum_keeps}
 use Rattle.dr_turn.proofs.Order.{after_beat, after_vote, beat_last, after_in, all_below, each_below, from_part, left_falls, left_small, left_some}
 use Rattle.dr_turn.proofs.Search.{part_before, settle_less, settle_only, settled_running, settled_underway, some_column, some_member}
-use Rattle.dr_turn.proofs.Tasks.{risen, received_less, put_less, delivered_less, reported_less, published_less, marked_less, suspected_less, proposed_less, accepted_less, decided_less, sender_within, me_within, none_rises}
+use Rattle.dr_turn.proofs.Tasks.{ends_view, finished_less, view_stays, views_keep, risen, received_less, put_less, delivered_less, reported_less, published_less, marked_less, suspected_less, proposed_less, accepted_less, decided_less, sender_within, me_within, none_rises}
 
 -- ---- the work
 
@@ -52,17 +52,22 @@ no_task : Replica → ℕ
 no_task r = 0
 
 -- the task with this number is less by so much
-less_by : (word : ℕ) (r : Replica) (s : Step) (i by : ℕ) → NoneRises r (stepped word r s) tasks
+less_by : (word : ℕ) (r : Replica) (s : Step) → ends_view s ≡ false → (i by : ℕ) → NoneRises r (stepped word r s) tasks
     → i < length tasks
     → slice_index_or tasks i no_task (stepped word r s) + by ≤ slice_index_or tasks i no_task r
     → work (stepped word r s) + by ≤ work r
 unfolding work
-less_by word r s i by none within less = sum_falls r (stepped word r s) tasks i by no_task none within less
+less_by word r s stays i by none within less = omega (
+  arith,
+  views_keep word r s stays,
+  sum_falls r (stepped word r s) tasks i by no_task none within less,
+)
 
-no_more : (word : ℕ) (r : Replica) (s : Step) → NoneRises r (stepped word r s) tasks
+no_more : (word : ℕ) (r : Replica) (s : Step) → ends_view s ≡ false → NoneRises r (stepped word r s) tasks
     → work (stepped word r s) ≤ work r
 unfolding work
-no_more word r s none = sum_keeps r (stepped word r s) tasks none
+no_more word r s stays none =
+    omega (arith, views_keep word r s stays, sum_keeps r (stepped word r s) tasks none)
 
 one_less : (a b : ℕ) → a < b → a + 1 ≤ b
 one_less a b h = omega arith
@@ -70,59 +75,72 @@ one_less a b h = omega arith
 above : (a b : ℕ) → a + 1 ≤ b → a < b
 above a b h = omega arith
 
-lowers_task : (word : ℕ) (r : Replica) (s : Step) → HasForm r → allows r s ≡ true
+lowers_task : (word : ℕ) (r : Replica) (s : Step) → ends_view s ≡ false → HasForm r → allows r s ≡ true
     → HasForm (stepped word r s) → NoneRises r (stepped word r s) tasks
     → Lowers s (work r) (work (stepped word r s))
-lowers_task word r (steps.Do acts.Beat) f may form none = no_more word r (steps.Do acts.Beat) none
-lowers_task word r (steps.Do (acts.Receive s)) f may form none =
-    above _ _ (less_by word r (steps.Do (acts.Receive s)) 0 1 none (omega arith)
+lowers_task word r (steps.Do acts.Beat) stays f may form none = no_more word r (steps.Do acts.Beat) stays none
+lowers_task word r (steps.Do (acts.Receive s)) stays f may form none =
+    above _ _ (less_by word r (steps.Do (acts.Receive s)) stays 0 1 none (omega arith)
     (one_less _ _ (received_less r s (sender_within r s f may) form)))
-lowers_task word r (steps.Do acts.Send) f may form none =
-    above _ _ (less_by word r (steps.Do acts.Send) 0 1 none (omega arith)
+lowers_task word r (steps.Do acts.Send) stays f may form none =
+    above _ _ (less_by word r (steps.Do acts.Send) stays 0 1 none (omega arith)
     (one_less _ _ (put_less r _ _ (me_within r f) form)))
-lowers_task word r (steps.Do acts.Null) f may form none =
-    above _ _ (less_by word r (steps.Do acts.Null) 0 1 none (omega arith)
+lowers_task word r (steps.Do acts.Null) stays f may form none =
+    above _ _ (less_by word r (steps.Do acts.Null) stays 0 1 none (omega arith)
     (one_less _ _ (put_less r _ _ (me_within r f) form)))
-lowers_task word r (steps.Do acts.Deliver) f may form none =
-    above _ _ (less_by word r (steps.Do acts.Deliver) 1 1 none (omega arith)
+lowers_task word r (steps.Do acts.Deliver) stays f may form none =
+    above _ _ (less_by word r (steps.Do acts.Deliver) stays 1 1 none (omega arith)
     (one_less _ _ (delivered_less r may)))
-lowers_task word r (steps.Do acts.Publish) f may form none =
-    two _ _ (less_by word r (steps.Do acts.Publish) 2 2 none (omega arith) (published_less r f may))
+lowers_task word r (steps.Do acts.Publish) stays f may form none =
+    two _ _ (less_by word r (steps.Do acts.Publish) stays 2 2 none (omega arith) (published_less r f may))
   where
     two : (a b : ℕ) → a + 2 ≤ b → a + 1 < b
     two a b h = omega arith
-lowers_task word r (steps.Do acts.Report) f may form none =
-    above _ _ (less_by word r (steps.Do acts.Report) 3 1 none (omega arith)
+lowers_task word r (steps.Do acts.Report) stays f may form none =
+    above _ _ (less_by word r (steps.Do acts.Report) stays 3 1 none (omega arith)
     (one_less _ _ (reported_less r may)))
-lowers_task word r (steps.Do acts.Mark) f may form none =
-    above _ _ (less_by word r (steps.Do acts.Mark) 4 1 none (omega arith)
+lowers_task word r (steps.Do acts.Mark) stays f may form none =
+    above _ _ (less_by word r (steps.Do acts.Mark) stays 4 1 none (omega arith)
     (one_less _ _ (marked_less r f may)))
-lowers_task word r (steps.Do (acts.Suspect j)) f may form none =
-    above _ _ (less_by word r (steps.Do (acts.Suspect j)) 5 1 none (omega arith)
+lowers_task word r (steps.Do (acts.Suspect j)) stays f may form none =
+    above _ _ (less_by word r (steps.Do (acts.Suspect j)) stays 5 1 none (omega arith)
     (one_less _ _ (suspected_less r j f may)))
-lowers_task word r (steps.Do acts.Propose) f may form none =
-    above _ _ (less_by word r (steps.Do acts.Propose) 6 1 none (omega arith)
+lowers_task word r (steps.Do acts.Finish) stays f may form none = absurd (cc stays)
+lowers_task word r (steps.Do acts.Propose) stays f may form none =
+    above _ _ (less_by word r (steps.Do acts.Propose) stays 6 1 none (omega arith)
     (one_less _ _ (proposed_less r f may)))
-lowers_task word r (steps.Do acts.Accept) f may form none =
-    above _ _ (less_by word r (steps.Do acts.Accept) 6 1 none (omega arith)
+lowers_task word r (steps.Do acts.Accept) stays f may form none =
+    above _ _ (less_by word r (steps.Do acts.Accept) stays 6 1 none (omega arith)
     (one_less _ _ (accepted_less r f may)))
-lowers_task word r (steps.Do acts.Commit) f may form none =
-    above _ _ (less_by word r (steps.Do acts.Commit) 7 1 none (omega arith)
+lowers_task word r (steps.Do acts.Commit) stays f may form none =
+    above _ _ (less_by word r (steps.Do acts.Commit) stays 7 1 none (omega arith)
     (one_less _ _ (decided_less r may)))
-lowers_task word r (steps.Do (acts.Halt end)) f may form none = no_more word r (steps.Do (acts.Halt end)) none
-lowers_task word r (steps.Do (acts.Crash end)) f may form none =
-    no_more word r (steps.Do (acts.Crash end)) none
-lowers_task word r (steps.Look i c) f may form none = no_more word r (steps.Look i c) none
-lowers_task word r s f may form none = no_more word r s none
+lowers_task word r (steps.Do (acts.Halt end)) stays f may form none = no_more word r (steps.Do (acts.Halt end)) stays none
+lowers_task word r (steps.Do (acts.Crash end)) stays f may form none =
+    no_more word r (steps.Do (acts.Crash end)) stays none
+lowers_task word r (steps.Look i c) stays f may form none = no_more word r (steps.Look i c) stays none
+lowers_task word r s stays f may form none = no_more word r s stays none
+
+-- the end of a view lowers it
+ending_lowers : (word : ℕ) (r : Replica) (s : Step) → ends_view s ≡ true → HasForm r
+    → Lowers s (work r) (work (stepped word r s))
+ending_lowers word r (steps.Do acts.Finish) ends f = finished_less r f
+ending_lowers word r (steps.Do acts.Beat) ends f = absurd (cc ends)
+ending_lowers word r (steps.Do a) ends f = absurd (cc ends)
+ending_lowers word r s ends f = absurd (cc ends)
 
 -- an allowed step lowers the work that it does
 pub lowers : (word : ℕ) (r : Replica) (s : Step) → HasForm r → allows r s ≡ true
-    → HasForm (stepped word r s) → NoWordFell r (stepped word r s)
+    → HasForm (stepped word r s)
+    → ((stepped word r s).view ≡ r.view → NoWordFell r (stepped word r s))
     → Lowers s (work r) (work (stepped word r s))
-lowers word r s f may form grown =
-    lowers_task word r s f may form
-    (none_rises word r s f may form (risen r (stepped word r s)
-    (ap (λ (t : Told). t.number) (step_told word r s)) grown))
+lowers word r s f may form grown = by (ends_view s) refl
+  where
+    by : (b : Bool) → ends_view s ≡ b → Lowers s (work r) (work (stepped word r s))
+    by true ends = ending_lowers word r s ends f
+    by false stays = lowers_task word r s stays f may form
+        (none_rises word r s stays f may form (risen r (stepped word r s)
+        (ap (λ (t : Told). t.number) (step_told word r s)) (grown (view_stays word r s stays))))
 
 -- ---- deeds
 
@@ -234,6 +252,7 @@ waits_keep word r (steps.Look i c) is = by (c + 1 == columns r)
         → IsWaits (if b then compared r.waits (rows.looked r.replica.rows i c word) i else r.waits)
     by true = compared_form r.waits (rows.looked r.replica.rows i c word) i is
     by false = is
+waits_keep word r (steps.Do acts.Finish) is = record { counts = refl; beats = refl }
 waits_keep word r s is = is
 
 -- what is known before a deed, and of the replica after it
@@ -660,7 +679,7 @@ does word r part fits d grown =
 settled_done : (r y : Running) → IsDone r y → IsDone r (settled y)
 settled_done r y d = record {
   underway = settled_underway y d.underway;
-  grown = subst (λ (q : Replica). NoWordFell r.replica q) (sym same) d.grown;
+  grown = subst (λ (q : Replica). q.view ≡ r.replica.view → NoWordFell r.replica q) (sym same) d.grown;
   fewer = le_trans (suc-le-suc (settle_less _ y d.underway)) d.fewer;
   still = λ g m o. subst (IsOf g m) (sym same) (d.still g m o);
 }

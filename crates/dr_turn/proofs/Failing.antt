@@ -74,7 +74,7 @@ pub failed_done : (why : LogWhy) (r : Running) → IsRunningMember r → r.repli
     → IsAppend (next_step r) → IsDone r (broken_off why r)
 failed_done why r m none e = record {
   underway = record { replica = m.replica; place = m.place; turns = m.turns; waits = m.waits; free = m.free; left = m.left };
-  grown = Grown_refl r.replica.roster r.replica.rows.words r.replica.rows.frozen;
+  grown = λ e. Grown_refl r.replica.roster r.replica.rows.words r.replica.rows.frozen;
   fewer = lower r (broken_off why r) none refl fewer;
   still = λ g number is. is;
 }

@@ -1,8 +1,10 @@
 -- The tasks of a replica: which of its deeds lowers each, and that no deed raises any.
-use Rattle.std.proofs.Common.{◌≡◌, refl, ap, inl, sym, subst, ◌∙◌, ℕ, ◌+◌, ◌-◌, ◌^◌, ◌<◌, ◌≤◌, ◌==◌, nat_lt, not, true, length, slice_index, le_refl, arith}
+use Rattle.std.proofs.Common.{◌≡◌, refl, ap, inl, sym, subst, ◌∙◌, ℕ, suc, ◌+◌, ◌-◌, ◌*◌, ◌^◌, ◌<◌, ◌≤◌, ◌==◌, nat_lt, not, Bool, true, false, length, slice_index, le_refl, arith}
 use Rattle.std.proofs.lemmas.Bool.{and_parts, ltb-true}
 use Rattle.std.proofs.lemmas.Bool.Decides.{nat_tests}
 use Rattle.std.proofs.lemmas.List.{get_or-set_same}
+use Rattle.std.proofs.lemmas.List.Folds.{sum_by-replicate}
+use Rattle.std.proofs.Math.Nat.{mul_comm, mul-suc}
 use Rattle.dr_entry.specs.declared.entry.Item.{Item}
 use Rattle.dr_entry.specs.declared.end.SentItem.{SentItem}
 use Rattle.dr_entry.specs.declared.record.Value.{Value}
@@ -20,12 +22,18 @@ use Rattle.dr_words.specs.declared.column.TheConstants.{BEAT_COLUMN, RECEIVED_CO
 use Rattle.dr_words.proofs.Masks.{in_roster_small, with_member_greater, with_member_small}
 use Rattle.dr_words.specs.Masks.{with_member}
 use Rattle.dr_program.specs.Acts.{may}
-use Rattle.dr_program.specs.Replica.{Replica, me, greatest, is_other, is_wedged, least_seen, may_deliver, may_mark, may_publish, may_receive, may_report, may_suspect, acted, received, put, delivered, published, reported, marked, suspected, accepted, decided, is_own, is_others, may_commit, promise}
+use Rattle.dr_program.specs.Replica.{Replica, me, greatest, is_other, is_wedged, least_seen, may_deliver, may_mark, may_publish, may_receive, may_report, may_suspect, acted, received, put, delivered, published, reported, marked, suspected, accepted, decided, finished, is_own, is_others, may_commit, promise}
 use Rattle.dr_program.specs.Steps.{NoWordFell, allows, stepped}
 use Rattle.dr_program.specs.Form.{HasForm}
 use Rattle.dr_program.proofs.Least.{least_fits}
-use Rattle.dr_turn.specs.Work.{ballots_left, commit_left, items_left, open_count, places_left, log_left, reports_left, mark_left, trust_left, tasks}
+use Rattle.dr_program.proofs.Opening.{first_own}
+use Rattle.dr_turn.specs.Work.{ballots_left, commit_left, items_left, open_count, places_left, log_left, refill, reports_left, mark_left, sum_of, trust_left, tasks, views_left, work}
 use Rattle.dr_turn.proofs.Fewer.{NoneRises, items_less}
+
+-- the step ends a view
+abbrev pub ends_view : Step → Bool
+ends_view (Do acts.Finish) = true
+ends_view s = false
 
 -- ---- the own words
 
@@ -83,15 +91,16 @@ sender_within r s f is =
 pub me_within : (r : Replica) → HasForm r → me r < length r.counts
 me_within r f = omega (arith, f.counts, f.members, f.rows.present)
 
-items_keep : (word : ℕ) (r : Replica) (s : Step) → HasForm r → allows r s ≡ true
+items_keep : (word : ℕ) (r : Replica) (s : Step) → ends_view s ≡ false → HasForm r → allows r s ≡ true
     → HasForm (stepped word r s) → items_left (stepped word r s) ≤ items_left r
 unfolding items_left
-items_keep word r (Do (acts.Receive s)) f is form =
+items_keep word r (Do acts.Finish) stays f is form = absurd (cc stays)
+items_keep word r (Do (acts.Receive s)) stays f is form =
     omega (arith, received_less r s (sender_within r s f is) form)
-items_keep word r (Do acts.Send) f is form = omega (arith, put_less r _ _ (me_within r f) form)
-items_keep word r (Do acts.Null) f is form = omega (arith, put_less r _ _ (me_within r f) form)
-items_keep word r (Do a) f is form = le_refl _
-items_keep word r s f is form = le_refl _
+items_keep word r (Do acts.Send) stays f is form = omega (arith, put_less r _ _ (me_within r f) form)
+items_keep word r (Do acts.Null) stays f is form = omega (arith, put_less r _ _ (me_within r f) form)
+items_keep word r (Do a) stays f is form = le_refl _
+items_keep word r s stays f is form = le_refl _
 
 -- ---- places
 
@@ -104,12 +113,13 @@ delivered_less r is =
     (and_parts (nat_lt r.next (least_seen r RECEIVED_COLUMN)) _ (and_parts (not (is_wedged r)) _ is).1).0 in
     minus_less (2 ^ 64) r.next (r.next + 1) (omega arith) (omega (arith, below, least_fits r RECEIVED_COLUMN))
 
-places_keep : (word : ℕ) (r : Replica) (s : Step) → allows r s ≡ true
+places_keep : (word : ℕ) (r : Replica) (s : Step) → ends_view s ≡ false → allows r s ≡ true
     → places_left (stepped word r s) ≤ places_left r
 unfolding places_left
-places_keep word r (Do acts.Deliver) is = omega (arith, delivered_less r is)
-places_keep word r (Do a) is = le_refl _
-places_keep word r s is = le_refl _
+places_keep word r (Do acts.Finish) stays is = absurd (cc stays)
+places_keep word r (Do acts.Deliver) stays is = omega (arith, delivered_less r is)
+places_keep word r (Do a) stays is = le_refl _
+places_keep word r s stays is = le_refl _
 
 -- ---- the log
 
@@ -202,12 +212,13 @@ suspected_less r j form is = minus_less (2 ^ 16) r.suspects (with_member r.suspe
     few = omega
         (arith, ltb-true j r.roster (and_parts (nat_lt j r.roster) _ is).0, form.rows.few, form.members)
 
-trust_keeps : (word : ℕ) (r : Replica) (s : Step) → HasForm r → allows r s ≡ true
+trust_keeps : (word : ℕ) (r : Replica) (s : Step) → ends_view s ≡ false → HasForm r → allows r s ≡ true
     → trust_left (stepped word r s) ≤ trust_left r
 unfolding trust_left
-trust_keeps word r (Do (acts.Suspect j)) form is = omega (arith, suspected_less r j form is)
-trust_keeps word r (Do a) form is = le_refl _
-trust_keeps word r s form is = le_refl _
+trust_keeps word r (Do acts.Finish) stays form is = absurd (cc stays)
+trust_keeps word r (Do (acts.Suspect j)) stays form is = omega (arith, suspected_less r j form is)
+trust_keeps word r (Do a) stays form is = le_refl _
+trust_keeps word r s stays form is = le_refl _
 
 -- ---- votes
 
@@ -251,13 +262,14 @@ pub accepted_less : (r : Replica) → HasForm r → may r acts.Accept ≡ true
     → ballots_left (acted (accepted r)) < ballots_left r
 accepted_less r form is = let t = waits_others (me r) r.pending is in accepted_from r t.0 form t.1
 
-ballots_keep : (word : ℕ) (r : Replica) (s : Step) → HasForm r → allows r s ≡ true
+ballots_keep : (word : ℕ) (r : Replica) (s : Step) → ends_view s ≡ false → HasForm r → allows r s ≡ true
     → ballots_left (stepped word r s) ≤ ballots_left r
 unfolding ballots_left
-ballots_keep word r (Do acts.Propose) form is = omega (arith, proposed_less r form is)
-ballots_keep word r (Do acts.Accept) form is = omega (arith, accepted_less r form is)
-ballots_keep word r (Do a) form is = le_refl _
-ballots_keep word r s form is = le_refl _
+ballots_keep word r (Do acts.Finish) stays form is = absurd (cc stays)
+ballots_keep word r (Do acts.Propose) stays form is = omega (arith, proposed_less r form is)
+ballots_keep word r (Do acts.Accept) stays form is = omega (arith, accepted_less r form is)
+ballots_keep word r (Do a) stays form is = le_refl _
+ballots_keep word r s stays form is = le_refl _
 
 -- a commit leaves none to come
 open_one : (o : Option Value) → not (is_some o) ≡ true → open_count o ≡ 1
@@ -272,32 +284,85 @@ decided_less r is =
     (and_parts (is_wedged r) _ is).1).0 in
     omega (arith, one)
 
-commit_keeps : (word : ℕ) (r : Replica) (s : Step) → allows r s ≡ true
+commit_keeps : (word : ℕ) (r : Replica) (s : Step) → ends_view s ≡ false → allows r s ≡ true
     → commit_left (stepped word r s) ≤ commit_left r
 unfolding commit_left
-commit_keeps word r (Do acts.Commit) is = omega (arith, decided_less r is)
-commit_keeps word r (Do a) is = le_refl _
-commit_keeps word r s is = le_refl _
+commit_keeps word r (Do acts.Finish) stays is = absurd (cc stays)
+commit_keeps word r (Do acts.Commit) stays is = omega (arith, decided_less r is)
+commit_keeps word r (Do a) stays is = le_refl _
+commit_keeps word r s stays is = le_refl _
 
 -- ---- all of them
 
--- no step raises any of the tasks
-pub none_rises : (word : ℕ) (r : Replica) (s : Step) → HasForm r → allows r s ≡ true
+-- no step in a view raises any of the tasks
+pub none_rises : (word : ℕ) (r : Replica) (s : Step) → ends_view s ≡ false → HasForm r → allows r s ≡ true
     → HasForm (stepped word r s) → HasRisen r (stepped word r s)
     → NoneRises r (stepped word r s) tasks
-none_rises word r s f is form rise = (
-  items_keep word r s f is form,
+none_rises word r s stays f is form rise = (
+  items_keep word r s stays f is form,
   (
-    places_keep word r s is,
+    places_keep word r s stays is,
     (
       log_keeps word r s f is rise,
       (
         reports_keep word r s is,
         (
           mark_keeps word r s rise,
-          (trust_keeps word r s f is, (ballots_keep word r s f is, (commit_keeps word r s is, tt))),
+          (trust_keeps word r s stays f is, (ballots_keep word r s stays f is, (commit_keeps word r s stays is, tt))),
         ),
       ),
     ),
   ),
+)
+
+-- ---- the views
+
+-- other steps stay in the view
+pub view_stays : (word : ℕ) (r : Replica) (s : Step) → ends_view s ≡ false
+    → (stepped word r s).view ≡ r.view
+view_stays word r (Do acts.Finish) stays = absurd (cc stays)
+view_stays word r (Do acts.Beat) stays = refl
+view_stays word r (Do a) stays = refl
+view_stays word r s stays = refl
+
+pub views_keep : (word : ℕ) (r : Replica) (s : Step) → ends_view s ≡ false
+    → views_left (stepped word r s) ≡ views_left r
+unfolding views_left refill
+views_keep word r (Do acts.Finish) stays = absurd (cc stays)
+views_keep word r (Do acts.Beat) stays = refl
+views_keep word r (Do a) stays = refl
+views_keep word r s stays = refl
+
+-- the next view is one less
+one_view_less : (r : Replica) → r.view < r.banks → views_left (finished (acted r)) + refill r ≤ views_left r
+unfolding views_left refill
+one_view_less r l =
+    let most : ℕ = greatest r.totals * r.roster + 2 ^ 64 + 2 ^ 16 + 16 + 4 in
+    let next : r.banks - r.view ≡ suc (r.banks - (r.view + 1)) = omega (arith, l) in
+    omega (
+      arith,
+      ap (λ n. most * n) next,
+      mul-suc most (r.banks - (r.view + 1)),
+    )
+
+-- what is logged is published in the new view from its beginning on
+published_there : (r : Replica) → HasForm r → own (finished (acted r)).rows LOGGED_COLUMN ≡ r.logged
+published_there r form = first_own r.rows.members r.rows.columns (me r) r.logged LOGGED_COLUMN form.rows.few
+    form.rows.narrow form.rows.present (omega (arith, form.columns))
+
+items_anew : (r : Replica) → items_left (finished (acted r)) ≡ greatest r.totals * r.roster
+unfolding items_left
+items_anew r =
+    let all : greatest r.totals - 0 ≡ greatest r.totals = omega arith in
+    sum_by-replicate (λ (count : ℕ). greatest r.totals - count) r.roster 0
+    ∙ ap (λ k. r.roster * k) all ∙ mul_comm r.roster (greatest r.totals)
+
+-- so less work is left
+pub finished_less : (r : Replica) → HasForm r → work (finished (acted r)) < work r
+unfolding work sum_of refill places_left log_left reports_left mark_left trust_left ballots_left commit_left
+finished_less r form = omega (
+  arith,
+  one_view_less r form.bank,
+  items_anew r,
+  published_there r form,
 )

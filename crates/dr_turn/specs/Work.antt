@@ -1,5 +1,5 @@
 -- How much a running member still has to do at most: a number that each of its deeds lowers.
-use Rattle.std.specs.Prelude.{ℕ, ◌+◌, ◌*◌, ◌-◌, ◌^◌, ◌<◌, List, [], ◌∷◌, Option, None, Some, sum_by}
+use Rattle.std.specs.Prelude.{◌≡◌, ℕ, ◌+◌, ◌*◌, ◌-◌, ◌^◌, ◌<◌, List, [], ◌∷◌, Option, None, Some, sum_by}
 use Rattle.dr_entry.specs.declared.end.End.{End}
 use Rattle.dr_entry.specs.declared.record.Value.{Value}
 use Rattle.dr_entry.specs.declared.limits.TheConstants.{MAX_MEMBERS}
@@ -15,7 +15,8 @@ use Rattle.dr_program.specs.Steps.{NoWordFell}
 use Rattle.dr_program.specs.Running.{Running, members, columns}
 use Rattle.dr_turn.specs.Search.{left, IsUnderway}
 
--- ---- what a replica still has to do: tasks, each with a number that its own deeds lower and no deed raises
+-- ---- what a replica still has to do: tasks, each with a number that its own deeds lower and no deed in
+-- its view raises
 
 -- items to take and to put
 unfoldable pub items_left : Replica → ℕ
@@ -63,8 +64,15 @@ unfoldable pub sum_of : List (Replica → ℕ) → Replica → ℕ
 sum_of [] r = 0
 sum_of (task ∷ tasks) r = task r + sum_of tasks r
 
+-- views to end: each ending begins the tasks of a view anew, which are no more than this
+unfoldable pub refill : Replica → ℕ
+refill r = greatest r.totals * r.roster + 2 ^ 64 + 2 ^ MAX_MEMBERS + MAX_MEMBERS + 4
+
+unfoldable pub views_left : Replica → ℕ
+views_left r = refill r * (r.banks - r.view)
+
 unfoldable pub work : Replica → ℕ
-work r = sum_of tasks r
+work r = views_left r + sum_of tasks r
 
 -- ---- what a running member still has to do
 
@@ -87,9 +95,9 @@ left_to r (Some end) = 0
 abbrev pub deeds_left : Running → ℕ
 deeds_left r = left_to r r.replica.end
 
--- no word of the member has fallen
+-- no word of the member has fallen, where it is in the same view
 abbrev pub HasGrownTo : Running → Running → Type 0
-HasGrownTo r x = NoWordFell r.replica x.replica
+HasGrownTo r x = x.replica.view ≡ r.replica.view → NoWordFell r.replica x.replica
 
 -- it is still the member that it was of a group
 abbrev pub IsStill : Running → Running → Type 0
