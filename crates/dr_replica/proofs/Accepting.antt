@@ -27,7 +27,7 @@ use Rattle.dr_replica.proofs.Wedging.{accept_within, promise_of, tag_of, value_o
 
 noted_form : (r : Replica) (committed : Option Value) (pending : Option Vote) (votes : List Vote) → HasForm r
     → ((x : Vote) → pending ≡ Some x → IsVoteDue r.roster r.tag (promise r) x)
-    → length votes ≤ r.tag + waiting pending
+    → length votes ≤ r.view * r.roster + r.tag + waiting pending
     → HasForm (record r { committed = committed; pending = pending; votes = votes })
 noted_form r committed pending votes f waits few = record {
   rows = f.rows;
@@ -39,6 +39,7 @@ noted_form r committed pending votes f waits few = record {
   suspicion = f.suspicion;
   frozen = f.frozen;
   bank = f.bank;
+  left = f.left;
   roster = f.roster;
   present = f.present;
   counts = f.counts;
@@ -83,7 +84,7 @@ voted_form r v f none may =
         let same : vote_of r v ≡ x = cc e in
         subst (IsVoteDue r.roster r.tag (promise r)) same (vote_due r v f may)
 
-    few : length (r.votes ++ vote_of r v ∷ []) ≤ r.tag + waiting (Some (vote_of r v))
+    few : length (r.votes ++ vote_of r v ∷ []) ≤ r.view * r.roster + r.tag + waiting (Some (vote_of r v))
     few =
         let before : waiting r.pending ≡ 0 = ap waiting none in
         omega (arith, length_push r.votes (vote_of r v), before, f.votes)
@@ -245,6 +246,7 @@ accepted_form r x f e = record {
   suspicion = f.suspicion;
   frozen = f.frozen;
   bank = f.bank;
+  left = f.left;
   roster = f.roster;
   present = f.present;
   counts = f.counts;

@@ -60,6 +60,9 @@ state_kept a rows logged durable turns acts end inside me form rise = record {
   next = inside.next;
   received = le_trans inside.received rise;
   sent = inside.sent;
+  left = inside.left;
+  spares = inside.spares;
+  enough = inside.enough;
   past = inside.past;
   end = inside.end;
   votes = inside.votes;
@@ -191,6 +194,9 @@ suspected_kept a s rows j inside may rest there = record {
       (λ (r : Replica). least_seen (view_of a) RECEIVED_COLUMN ≤ least_seen r RECEIVED_COLUMN) (sym there)
       (suspected_received (view_of a) j inside.form may));
   sent = inside.sent;
+  left = inside.left;
+  spares = inside.spares;
+  enough = inside.enough;
   past = inside.past;
   end = inside.end;
   votes = inside.votes;
@@ -227,7 +233,7 @@ voted_after a now v x votes same vote more =
     (vote ∙ ap (λ (r : Replica). vote_of r v) (sym same))
 
 pub votes_kept : (a : Inside) (pending : Option Vote) (votes : _) → IsInside a
-    → a.shape.members ≤ vec_capacity votes → HasForm (view_of (record a { pending = pending; votes = votes }))
+    → a.shape.banks * a.shape.members ≤ vec_capacity votes → HasForm (view_of (record a { pending = pending; votes = votes }))
     → IsInside (record a { pending = pending; votes = votes })
 votes_kept a pending votes inside room form = record {
   form = form;
@@ -239,6 +245,9 @@ votes_kept a pending votes inside room form = record {
   next = inside.next;
   received = inside.received;
   sent = inside.sent;
+  left = inside.left;
+  spares = inside.spares;
+  enough = inside.enough;
   past = inside.past;
   end = inside.end;
   votes = room;
@@ -275,6 +284,9 @@ accepted_kept a x rows inside waits there = record {
       (λ (r : Replica). least_seen (view_of a) RECEIVED_COLUMN ≤ least_seen r RECEIVED_COLUMN) (sym there)
       (accepted_received (view_of a) x inside.form waits));
   sent = inside.sent;
+  left = inside.left;
+  spares = inside.spares;
+  enough = inside.enough;
   past = inside.past;
   end = inside.end;
   votes = inside.votes;

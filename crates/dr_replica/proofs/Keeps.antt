@@ -29,7 +29,9 @@ use Rattle.dr_words.specs.Form.{IsInForm}
 use Rattle.dr_words.specs.Grown.{HasGrown, Grown}
 use Rattle.dr_words.specs.Packing.{accept_promise, accept_tag, accept_value, recv_word, ring_tag}
 use Rattle.dr_words.proofs.Order.{Grown_trans}
-use Rattle.dr_program.specs.Acts.{may, taken}
+use Rattle.dr_machine.specs.declared.step.Step.TheVariants.{Do}
+use Rattle.dr_program.specs.Acts.{done, may, taken}
+use Rattle.dr_program.specs.Steps as steps
 use Rattle.dr_machine.proofs.Sending.{messages_within, next_message, next_null, only_messages}
 use Rattle.dr_machine.specs.Sending.{IsPut}
 use Rattle.dr_machine.specs.Effects.{is_accept_of, one_more, entries_of}
@@ -42,6 +44,7 @@ use Rattle.dr_replica.proofs.Tables.{IsTable, free_in_form, done_in_form, free_g
 use Rattle.dr_replica.specs.Puts.{MayPut}
 use Rattle.dr_replica.proofs.Puts.{table_put, put_left, put_tags, put_grown}
 use Rattle.dr_replica.proofs.Accepting.{accepted_form, accepted_grown, decided_form, others_wait, own_waits}
+use Rattle.dr_replica.proofs.Finishing.{finished_form, none_waits}
 use Rattle.dr_replica.proofs.Wedging.{accept_within, suspected_form, suspected_grown}
 use Rattle.dr_replica.proofs.Gains.{counts_bounded, front_rises, shown, table_shown, shown_left, shown_recv, shown_received, shown_grown}
 
@@ -83,6 +86,7 @@ rest_keeps r next logged durable turns acts history end f more within room rises
   suspicion = f.suspicion;
   frozen = f.frozen;
   bank = f.bank;
+  left = f.left;
   roster = f.roster;
   present = f.present;
   counts = f.counts;
@@ -134,6 +138,7 @@ words_keep r words sent f w = record {
   suspicion = f.suspicion;
   frozen = f.frozen;
   bank = f.bank;
+  left = f.left;
   roster = f.roster;
   present = f.present;
   counts = f.counts;
@@ -402,6 +407,7 @@ gained_keeps r s item words puts f p =
       suspicion = f.suspicion;
       frozen = f.frozen;
       bank = f.bank;
+      left = f.left;
       roster = f.roster;
       present = f.present;
       counts = length-set r.counts s k ∙ f.counts;
@@ -650,40 +656,62 @@ accepting_grown r x f e =
 -- ---- every act
 
 -- each act that a replica may take keeps it in form
-pub taken_keeps : (r : Replica) (a : Act) → HasForm r → may r a ≡ true → HasForm (taken r a)
-taken_keeps r acts.Beat f m = beaten_keeps r f
-taken_keeps r (acts.Receive s) f m =
+pub taken_keeps : (r : Replica) (a : Act) → HasForm r → may r a ≡ true → steps.is_free r (Do a) ≡ true
+    → HasForm (taken r a)
+taken_keeps r acts.Beat f m free = beaten_keeps r f
+taken_keeps r (acts.Receive s) f m free =
     received_keeps r s f (and_parts (nat_lt s r.roster) (may_receive r s) m).1
-taken_keeps r acts.Send f m = put_keeps r _ _ f (sending r f m)
-taken_keeps r acts.Null f m = put_keeps r _ _ f (filling r f m)
-taken_keeps r acts.Deliver f m = delivered_keeps r f m
-taken_keeps r acts.Publish f m = published_keeps r f
-taken_keeps r acts.Report f m = reported_keeps r f
-taken_keeps r acts.Mark f m = marked_keeps r f
-taken_keeps r (acts.Suspect j) f m = acted_keeps (suspected r j) (suspected_form r j f m)
-taken_keeps r acts.Propose f m =
+taken_keeps r acts.Send f m free = put_keeps r _ _ f (sending r f m)
+taken_keeps r acts.Null f m free = put_keeps r _ _ f (filling r f m)
+taken_keeps r acts.Deliver f m free = delivered_keeps r f m
+taken_keeps r acts.Publish f m free = published_keeps r f
+taken_keeps r acts.Report f m free = reported_keeps r f
+taken_keeps r acts.Mark f m free = marked_keeps r f
+taken_keeps r (acts.Suspect j) f m free = acted_keeps (suspected r j) (suspected_form r j f m)
+taken_keeps r acts.Propose f m free =
     let x = own_waits (me r) r.pending m in acted_keeps (accepted r) (accepted_form r x.0 f x.1)
-taken_keeps r acts.Accept f m =
+taken_keeps r acts.Accept f m free =
     let x = others_wait (me r) r.pending m in acted_keeps (accepted r) (accepted_form r x.0 f x.1)
-taken_keeps r acts.Commit f m = acted_keeps (decided r) (decided_form r f)
-taken_keeps r (acts.Halt end) f m = ended_keeps r end f
-taken_keeps r (acts.Crash end) f m = ended_keeps r end f
+taken_keeps r acts.Commit f m free = acted_keeps (decided r) (decided_form r f)
+taken_keeps r (acts.Halt end) f m free = ended_keeps r end f
+taken_keeps r (acts.Crash end) f m free = ended_keeps r end f
+taken_keeps r acts.Finish f m free =
+    finished_form (acted r) (acted_keeps r f) m (none_waits r.pending free)
 
--- no word falls by an act that a replica may take
-pub taken_grown : (r : Replica) (a : Act) → HasForm r → may r a ≡ true
+-- no word falls by an act that a replica may take, by which it stays in its view
+pub taken_grown : (r : Replica) (a : Act) → HasForm r → may r a ≡ true → (taken r a).view ≡ r.view
     → Grown r.roster r.rows.words (taken r a).rows.words r.rows.frozen (taken r a).rows.frozen
-taken_grown r (acts.Receive s) f m =
+taken_grown r (acts.Receive s) f m same =
     received_grown r s f (and_parts (nat_lt s r.roster) (may_receive r s) m).1
-taken_grown r acts.Send f m = put_rises r _ _ f (sending r f m)
-taken_grown r acts.Null f m = put_rises r _ _ f (filling r f m)
-taken_grown r acts.Publish f m = published_grown r f
-taken_grown r acts.Mark f m = marked_grown r f
-taken_grown r (acts.Suspect j) f m =
+taken_grown r acts.Send f m same = put_rises r _ _ f (sending r f m)
+taken_grown r acts.Null f m same = put_rises r _ _ f (filling r f m)
+taken_grown r acts.Publish f m same = published_grown r f
+taken_grown r acts.Mark f m same = marked_grown r f
+taken_grown r (acts.Suspect j) f m same =
     Grown_trans r.roster r.rows.words (suspected r j).rows.words (acted (suspected r j)).rows.words
     r.rows.frozen (suspected r j).rows.frozen (suspected r j).rows.frozen (suspected_grown r j f m)
     (acted_grown (suspected r j) (suspected_form r j f m))
-taken_grown r acts.Propose f m =
+taken_grown r acts.Propose f m same =
     let x = own_waits (me r) r.pending m in accepting_grown r x.0 f x.1
-taken_grown r acts.Accept f m =
+taken_grown r acts.Accept f m same =
     let x = others_wait (me r) r.pending m in accepting_grown r x.0 f x.1
-taken_grown r a f m = acted_grown r f
+taken_grown r acts.Finish f m same = absurd (omega (arith, same))
+taken_grown r a f m same = acted_grown r f
+
+-- an act that doesn't end the view is done and then stamped
+pub taken_other : (r : Replica) (a : Act) → (a ≡ acts.Finish → ⊥) → taken r a ≡ acted (done r a)
+taken_other r acts.Finish other = absurd (other refl)
+taken_other r acts.Beat other = refl
+taken_other r (acts.Receive s) other = refl
+taken_other r acts.Send other = refl
+taken_other r acts.Null other = refl
+taken_other r acts.Deliver other = refl
+taken_other r acts.Publish other = refl
+taken_other r acts.Report other = refl
+taken_other r acts.Mark other = refl
+taken_other r (acts.Suspect j) other = refl
+taken_other r acts.Propose other = refl
+taken_other r acts.Accept other = refl
+taken_other r acts.Commit other = refl
+taken_other r (acts.Halt end) other = refl
+taken_other r (acts.Crash end) other = refl

@@ -12,6 +12,10 @@ pub mod Keeps
 pub mod Received
 pub mod Insides
 pub mod Judging
-pub mod Exchanges
+pub mod Delivering
+mod Exchanges
 pub mod Openings
 pub mod Choosing
+pub mod Finishing
+pub mod Lefts
+pub mod Leaving

@@ -1,6 +1,7 @@
 -- The fields of a replica as its age opens.
 use Rattle.std.proofs.Common.{◌≡◌, ℕ, ◌+◌, ◌*◌, ◌^◌, ◌<◌, ◌≤◌, [], List, length, None, refl, sym, ap, subst, ◌∙◌, arith}
-use Rattle.std.specs.Prelude.{vec_capacity}
+use Rattle.std.specs.Prelude.{All, map, vec_capacity}
+use Rattle.dr_replica.specs.Lefts.{IsSpare, left_of}
 use Rattle.dr_entry.specs.declared.entry.Entry.{Entry}
 use Rattle.dr_history.specs.Members.{members_of}
 use Rattle.dr_history.specs.Order.{messages_from}
@@ -30,7 +31,7 @@ few_messages_each s can = greatest_within s.totals 0 4096 (omega arith) can.few
 -- the history of a member that can begin, with all messages and a View for each bank, has fewer
 -- than 2 ^ 32 entries
 pub small_room : (s : Setup) (most : ℕ) → CanBegin s → most ≡ greatest s.totals
-    → length s.start + s.shape.banks + most * s.shape.members < 2 ^ 32
+    → length s.start + s.shape.banks + most * s.shape.members + 1 < 2 ^ 32
 small_room s most can is =
     let few : most ≤ 4096 = omega (arith, is, few_messages_each s can) in
     let product = product_within most s.shape.members few s.shape.most_members in
@@ -55,12 +56,13 @@ pub record AreBegun (a : Inside) (s : Setup) (fresh : Words) (top : ℕ) : Type 
   pub items : a.items ≡ none_held s.members s.shape.members top
   pub base : a.base ≡ length (messages_from s.me a.history.entries)
   pub sent : a.sent.items ≡ []
+  pub left : a.left.items ≡ []
   pub next : a.next ≡ first_spot
   pub received : a.received ≡ 0
   pub history : a.history ≡ record {
     roster = s.shape.members;
     entries = first_entries_of s;
-    room = length s.start + s.shape.banks + top * s.shape.members;
+    room = length s.start + s.shape.banks + top * s.shape.members + 1;
   }
   pub logged : a.logged ≡ length a.history.entries
   pub durable : a.durable ≡ length a.history.entries
@@ -79,9 +81,9 @@ pub begun_view : (a : Inside) (s : Setup) (first : Words) (most : ℕ) → AreBe
     → view_of a ≡ begun_replica s
 begun_view a s first most b =
     let entries : a.history.entries ≡ first_entries_of s = ap (λ (h : Kept). h.entries) b.history in
-    let room : a.history.room ≡ length s.start + s.shape.banks + greatest s.totals * s.shape.members =
+    let room : a.history.room ≡ length s.start + s.shape.banks + greatest s.totals * s.shape.members + 1 =
     ap (λ (h : Kept). h.room) b.history
-    ∙ ap (λ (n : ℕ). length s.start + s.shape.banks + n * s.shape.members) b.most in
+    ∙ ap (λ (n : ℕ). length s.start + s.shape.banks + n * s.shape.members + 1) b.most in
     let items : a.items ≡ none_held s.members s.shape.members (greatest s.totals) = b.items
     ∙ ap (λ (n : ℕ). none_held s.members s.shape.members n) b.most in
     let count : ℕ = length (first_entries_of s) in
@@ -99,17 +101,26 @@ begun_view a s first most b =
     let shape = b.shape in let messages = b.messages in let totals = b.totals in let view = b.view in
     let members = b.members in
     let suspects : a.suspects.suspects ≡ 0 = ap (λ (x : Suspicion). x.suspects) b.suspects in
-    let sent = b.sent in
+    let sent = b.sent in let left = ap (map left_of) b.left in
     let next : a.next.place ≡ 0 = ap (λ (n : Spot). n.place) b.next in let turns = b.turns in
     let acts = b.acts in let end = b.end in let age = b.age in let tag = b.tag in let value = b.value in
     let committed = b.committed in let pending = b.pending in let votes = b.votes in
     cc
 
+-- the memory that was taken for what the member keeps of its views, for its end and for its votes
+pub record AreReserved (a : Inside) : Type 0 where
+  pub left : a.shape.banks ≤ vec_capacity a.left
+  pub spares : All (IsSpare (columns_of a.shape.members a.shape.window) a.shape.members (greatest a.totals))
+      a.spares.items
+  pub enough : a.shape.banks ≤ a.view + 1 + length a.spares.items
+  pub end : a.shape.banks ≤ vec_capacity a.past
+  pub votes : a.shape.banks * a.shape.members ≤ vec_capacity a.votes
+
 -- the fields as they were made are in good order inside
 pub begun_inside : (a : Inside) (s : Setup) (first : Words) (most : ℕ) → CanBegin s
-    → AreBegun a s first most → most ≤ vec_capacity a.sent → a.past.items ≡ []
-    → 1 ≤ vec_capacity a.past → s.shape.members ≤ vec_capacity a.votes → IsInside a
-begun_inside a s first most can b sent past end votes = record {
+    → AreBegun a s first most → most ≤ vec_capacity a.sent → AreReserved a
+    → a.past.items ≡ [] → IsInside a
+begun_inside a s first most can b sent held past = record {
   form = subst HasForm (sym (begun_view a s first most b)) (begun_in_form s can);
   suspicion =
       let me : a.rows.me ≡ s.me = ap (λ (w : Words). w.me) b.rows ∙ ap (λ (w : Words). w.me) b.first in
@@ -121,7 +132,10 @@ begun_inside a s first most can b sent past end votes = record {
   next = rw (b.next, b.members) (first_is_spot (length (members_of s.members)) (someone s can));
   received = rw b.received (omega arith);
   sent = rw (b.totals, ← b.most) sent;
+  left = held.left;
+  spares = held.spares;
+  enough = held.enough;
   past = past;
-  end = end;
-  votes = rw b.shape votes;
+  end = held.end;
+  votes = held.votes;
 }

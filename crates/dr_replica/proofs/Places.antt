@@ -10,15 +10,17 @@ use Rattle.dr_words.specs.Masks.{IsInRoster}
 use Rattle.dr_program.proofs.OpeningForm.{front_of_none}
 use Rattle.dr_replica.proofs.Members.{few_members, roster_members}
 use Rattle.dr_history.specs.Places.{place_of, is_held, AllHeldBelow, front_of}
-use Rattle.dr_history.proofs.Fronts.{front_is, front_only, front_held}
+use Rattle.dr_history.proofs.Fronts.{front_is, front_only}
 use Rattle.dr_history.proofs.FrontLemmas.{IsFront-least, is_held-below}
-use Rattle.dr_replica.specs.Items.{Held, IsHeld, counts_of, front, sender_at, item_at, taken}
+use Rattle.dr_replica.specs.Items.{Held, IsHeld, counts_of, front, none_held, sender_at, item_at, taken}
 use Rattle.dr_replica.specs.Inside.{AreItems, held_of}
+use Rattle.dr_replica.specs.Rests.{AreWithin}
 use Rattle.dr_replica.specs.declared.items.Items.TheInside.{Inside}
 use Rattle.dr_replica.specs.Spots.{IsSpot, first_spot}
 use Rattle.dr_replica.specs.declared.spot.Spot.{Spot}
 use Rattle.dr_replica.proofs.Spots.{first_is_spot, spot_number, spot_rank}
 use Rattle.dr_replica.proofs.Gains.{counts_rise, counts_bounded}
+use Rattle.dr_replica.proofs.Lefts.{all_null}
 
 below_product : (p n q : ℕ) → 0 < n → p / n < q → p < n * q
 below_product p n q some h =
@@ -41,6 +43,26 @@ held_item counts members p some held =
     let which = get_or-map (slice_index counts) members (p % length members) 0 0
     (mod_below p (length members) some) in
     omega (arith, at, which)
+
+-- and a place of an item that its member has is held
+held_by : (counts members : List ℕ) (p : ℕ) → 0 < length members
+    → p / length members < get_or counts (get_or members (p % length members) 0) 0
+    → is_held (map (slice_index counts) members) p ≡ true
+held_by counts members p some there =
+    let which = get_or-map (slice_index counts) members (p % length members) 0 0
+    (mod_below p (length members) some) in
+    let at : nat_lt (p / length members) (get_or (map (slice_index counts) members) (p % length members) 0)
+    ≡ true = grind (arith, which, there) in
+    subst (λ (n : ℕ). nat_lt (p / n) (get_or (map (slice_index counts) members) (p % n) 0) ≡ true)
+    (sym (length-map members (slice_index counts))) at
+
+-- a place that the trims of the members take has its item
+pub trims_held : (h : Held) (trim : List ℕ) (p : ℕ) → 0 < length h.members → AreWithin h trim
+    → is_held (map (slice_index trim) h.members) p ≡ true → is_held (counts_of h) p ≡ true
+trims_held h trim p some within held =
+    let there = held_item trim h.members p some held in
+    let which = within (p % length h.members) (mod_below p (length h.members) some) in
+    held_by h.counts h.members p some (omega (arith, there, which))
 
 -- the item at a spot is held exactly where its number is below its member's count
 pub held_read : (counts members : List ℕ) (s : Spot) (m c : ℕ) → IsSpot (length members) s → m
@@ -72,14 +94,12 @@ front_reached counts p some all gap =
     front_only counts p some (IsFront-least counts p some
     (λ q below. is_held-below counts p q some all below) gap)
 
--- an item before the front has its place
-item_within : (h : Held) (p : ℕ) → IsHeld h → p < front h
+-- an item that is held has its place
+item_within : (h : Held) (p : ℕ) → IsHeld h → is_held (counts_of h) p ≡ true
     → p / length h.members * h.roster + sender_at h p < length h.items
-item_within h p is before =
+item_within h p is held =
     let n : ℕ = length h.members in
-    let some : 0 < length (counts_of h) =
-    omega (arith, length-map h.members (slice_index h.counts), is.some) in
-    let item = held_item h.counts h.members p is.some (front_held (counts_of h) p before) in
+    let item = held_item h.counts h.members p is.some held in
     let most = is.bounded (sender_at h p) in
     let sender = is.members (p % n) (mod_below p n is.some) in
     let place = mul-add-lt (p / n) h.roster (sender_at h p) h.most (omega (arith, item, most)) sender in
@@ -96,20 +116,21 @@ item_number a now s same is =
     subst (λ (h : Held). s.number ≡ s.place / length h.members) (sym same)
     (spot_number (length now.members) s is)
 
--- an item below the front has a place in the list
-pub item_place : (a : Inside) (now : Held) (p k r s : ℕ) → held_of a ≡ now → AreItems a → p
-    < front now → k ≡ p / length a.members.items → r ≡ a.roster → s ≡ sender_at now p
+-- an item that is held has a place in the list
+pub item_place : (a : Inside) (now : Held) (p k r s : ℕ) → held_of a ≡ now → AreItems a
+    → is_held (counts_of now) p ≡ true → k ≡ p / length a.members.items → r ≡ a.roster → s ≡ sender_at now p
     → (k * r + s < length a.items.items) × (length a.items.items ≤ 65536)
 item_place a now p k r s same are before number roster sender =
-    let there = item_within (held_of a) p are.form (subst (λ (h : Held). p < front h) (sym same) before) in (
+    let there = item_within (held_of a) p are.form
+    (ap (λ (h : Held). is_held (counts_of h) p) same ∙ before) in (
       rw (number, roster, sender ∙ ap (λ (h : Held). sender_at h p) (sym same)) there,
       few_items (held_of a) are.form,
     )
 
 -- the item read at its place in the list is the one at that place
 pub item_read : (a : Inside) (now : Held) (p k r s : ℕ) (x : Item) → held_of a ≡ now → AreItems a
-    → p < front now → k ≡ p / length a.members.items → r ≡ a.roster → s ≡ sender_at now p
-    → x ≡ slice_index_or a.items.items (k * r + s) x → x ≡ item_at now p
+    → is_held (counts_of now) p ≡ true → k ≡ p / length a.members.items → r ≡ a.roster
+    → s ≡ sender_at now p → x ≡ slice_index_or a.items.items (k * r + s) x → x ≡ item_at now p
 item_read a now p k r s x same are before number roster sender read =
     let there = item_place a now p k r s same are before number roster sender in
     let here : x ≡ slice_index_or a.items.items (k * r + s) Null =
@@ -158,24 +179,52 @@ still_held h s is sender =
 
 -- ---- the fields of the items
 
--- no items held yet are items in good order inside
-pub begun_items : (a : Inside) (view : ℕ) → a.members.items ≡ members_of view → a.counts.items
-    ≡ replicate a.roster 0 → a.items.items ≡ replicate (a.most * a.roster) Null
-    → a.front ≡ first_spot → a.roster ≤ 16 → IsInRoster a.roster view → 0
-    < length (members_of view) → a.most ≤ 4096 → AreItems a
-begun_items a view members counts items zero few roster some most = record {
-  form = record {
+-- the fields where no item is held of the members of a view
+pub record AreNone (a : Inside) (view n k : ℕ) : Type 0 where
+  pub members : a.members.items ≡ members_of view
+  pub roster : a.roster ≡ n
+  pub most : a.most ≡ k
+  pub counts : a.counts.items ≡ replicate n 0
+  pub items : a.items.items ≡ replicate (k * n) Null
+
+-- contracts see them as no items
+pub none_is : (a : Inside) (view n most : ℕ) → AreNone a view n most → held_of a ≡ none_held view n most
+none_is a view n most e =
+    let members = e.members in let roster = e.roster in let top = e.most in let counts = e.counts in
+    let items = e.items in cc
+
+-- so they are where others were made so
+pub renewed_none : (old new : Inside) (view : ℕ) → AreItems old → new.members.items ≡ members_of view
+    → new.roster ≡ old.roster → new.most ≡ old.most
+    → new.counts.items ≡ replicate (length old.counts.items) 0
+    → length new.items.items ≡ length old.items.items
+    → ((k : ℕ) → k < length old.items.items → slice_index_or new.items.items k Null ≡ Null)
+    → AreNone new view old.roster old.most
+renewed_none old new view are members roster most counts long nulls = record {
+  members = members;
+  roster = roster;
+  most = most;
+  counts = counts ∙ ap (λ (n : ℕ). replicate n 0) are.form.counts;
+  items = all_null new.items.items (old.most * old.roster) (long ∙ are.form.items)
+      (λ k l. nulls k (omega (arith, l, are.form.items)));
+}
+
+-- and they are in good order
+pub begun_items : (a : Inside) (view n most : ℕ) → AreNone a view n most → a.front ≡ first_spot
+    → n ≤ 16 → IsInRoster n view → 0 < length (members_of view) → most ≤ 4096 → AreItems a
+begun_items a view n most e zero few members some small = record {
+  form = subst IsHeld (sym (none_is a view n most e)) record {
     roster = few;
-    some = rw members some;
-    few = rw members (few_members view);
-    members = rw members (λ i l. roster_members view a.roster roster i l);
-    most = most;
-    counts = ap length counts ∙ length-replicate a.roster 0;
-    bounded = λ s. rw counts (omega (arith, none a.roster s));
-    items = ap length items ∙ length-replicate (a.most * a.roster) _;
+    some = some;
+    few = few_members view;
+    members = λ i l. roster_members view n members i l;
+    most = small;
+    counts = length-replicate n 0;
+    bounded = λ s. omega (arith, none n s);
+    items = length-replicate (most * n) _;
   };
-  front = rw (zero, counts) (sym (front_of_none a.roster a.members.items));
-  spot = rw zero (first_is_spot (length a.members.items) (rw members some));
+  front = rw (zero, e.counts) (sym (front_of_none n a.members.items));
+  spot = rw (zero, e.members) (first_is_spot (length (members_of view)) some);
 }
   where
     none : (n i : ℕ) → get_or (replicate n 0) i 0 ≤ 0

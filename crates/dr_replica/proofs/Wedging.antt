@@ -304,6 +304,7 @@ suspected_form r j f may = record {
       (omega (arith, s.within, f.members))
       ∙ ap (λ (b : Bool). i == j || b) (f.frozen i) ∙ sym (has_with_member r.suspects j i s.small s.number);
   bank = f.bank;
+  left = f.left;
   roster = f.roster;
   present = f.present;
   counts = f.counts;

@@ -1,11 +1,13 @@
 -- How the fields hold what contracts see of them.
-use Rattle.std.specs.Prelude.{◌≡◌, ℕ, ◌<◌, ◌≤◌, [], length, slice_index, vec_capacity}
+use Rattle.std.specs.Prelude.{◌≡◌, ℕ, ◌+◌, ◌*◌, ◌<◌, ◌≤◌, All, [], length, map, slice_index, vec_capacity}
 use Rattle.dr_history.specs.Order.{messages_from}
 use Rattle.dr_history.specs.Members.{members_of}
 use Rattle.dr_program.specs.Replica.{Replica, greatest, least_seen, suspicion_of}
 use Rattle.dr_program.specs.Form.{HasForm}
+use Rattle.dr_words.specs.Columns.{columns_of}
 use Rattle.dr_words.specs.declared.column.TheConstants.{RECEIVED_COLUMN}
 use Rattle.dr_replica.specs.Items.{Held, IsHeld, front}
+use Rattle.dr_replica.specs.Lefts.{IsSpare, left_of}
 use Rattle.dr_replica.specs.Spots.{IsSpot}
 use Rattle.dr_replica.specs.History.{Kept, IsKept}
 use Rattle.dr_replica.specs.declared.items.Items.TheInside as items
@@ -58,6 +60,7 @@ view_of a = record {
   items = a.items.items;
   base = a.base;
   sent = a.sent.items;
+  left = map left_of a.left.items;
   next = a.next.place;
   history = a.history.entries;
   room = a.history.room;
@@ -79,9 +82,14 @@ pub record IsInside (a : replica.Inside) : Type 0 where
   pub messages : a.history.roster ≡ a.shape.members
   pub next : IsSpot (length (members_of a.members)) a.next
   pub received : a.received ≤ least_seen (view_of a) RECEIVED_COLUMN
-  -- there is room for what it has yet to put, and to tell how it ended
+  -- there is room for what it has yet to put, to keep something of each view that it leaves, and to tell how
+  -- it ended
   pub sent : greatest a.totals ≤ vec_capacity a.sent
+  pub left : a.shape.banks ≤ vec_capacity a.left
+  pub spares : All (IsSpare (columns_of a.shape.members a.shape.window) a.shape.members (greatest a.totals))
+      a.spares.items
+  pub enough : a.shape.banks ≤ a.view + 1 + length a.spares.items
   pub past : a.past.items ≡ []
-  pub end : 1 ≤ vec_capacity a.past
-  -- and for a vote by each member's ballot
-  pub votes : a.shape.members ≤ vec_capacity a.votes
+  pub end : a.shape.banks ≤ vec_capacity a.past
+  -- and for a vote by each member's ballot in each view
+  pub votes : a.shape.banks * a.shape.members ≤ vec_capacity a.votes

@@ -1,6 +1,8 @@
 pub mod Items
 pub mod Spots
 pub mod History
+pub mod Lefts
 pub mod Inside
 pub mod Puts
+pub mod Rests
 pub mod Wedges

@@ -109,6 +109,15 @@ impl History {
             .unwrap();
     }
 
+    /// Installs a View, the next entry.
+    pub(crate) fn install(&mut self, view: Entry)
+        requires view { (s : ℕ) → messages_from s (view ∷ []) ≡ [] }
+        requires room { length self.old.entries < self.old.room }
+        ensures { self.new ≡ record self.old { entries = self.old.entries ++ view ∷ [] } }
+    {
+        self.entries.push(view).unwrap();
+    }
+
     /// The entries as a list.
     pub(crate) fn into_entries(self) -> Seq<Entry>
         ensures { result ≡ self.entries }

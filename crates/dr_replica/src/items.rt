@@ -1,4 +1,4 @@
-ghost use Rattle.std.specs.Prelude.{◌≡◌, ℕ, ◌<◌, ◌≤◌, IfOk, length, map, nat_lt, replicate, slice_index};
+ghost use Rattle.std.specs.Prelude.{◌≡◌, ℕ, ◌<◌, ◌≤◌, IfOk, length, map, nat_lt, replicate, slice_index, true};
 ghost use Rattle.std.specs.List.{list_any};
 ghost use Rattle.dr_history.specs.Members.{has, members_of};
 ghost use Rattle.dr_history.specs.Places.{AllHeldBelow, front_of, is_held};
@@ -6,7 +6,8 @@ ghost use Rattle.dr_replica.specs.Spots.{IsSpot};
 ghost use Rattle.dr_words.specs.Masks.{IsInRoster};
 
 use crate::spot::Spot;
-use dr_entry::Item;
+use arrayvec::ArrayVec;
+use dr_entry::{Item, MAX_MEMBERS};
 use dr_history::members_of;
 use dr_order::null_due;
 use dr_words::Mask;
@@ -16,7 +17,7 @@ use std::marker::Model;
 /// The items that a member has in its view, with the front of their numbers.
 #[derive(Drop)]
 pub(crate) struct Items {
-    members: Vec<u8>,
+    members: ArrayVec<u8, MAX_MEMBERS>,
     roster: u8,
     most: u32,
     counts: Vec<u32>,
@@ -37,7 +38,7 @@ impl Model for Items {
 }
 
 impl Items {
-    ghost use Rattle.dr_replica.specs.Items.{IsHeld, front, item_at, none_held, sender_at, taken};
+    ghost use Rattle.dr_replica.specs.Items.{IsHeld, counts_of, front, item_at, none_held, sender_at, taken};
 
     /// No items of the members of a view, of each of whom there will be up to `most`. No later call
     /// takes memory.
@@ -54,16 +55,28 @@ impl Items {
         ensures begun { IfOk result (λ held. held ≡ none_held view roster most) }
     {
         let places = most as usize * usize::from(roster);
-        let mut members = Vec::new(alloc);
-        members.extend_from_slice(members_of(view.bits()).as_slice())?;
         Ok(Items {
-            members,
+            members: members_of(view.bits()),
             roster,
             most,
             counts: vec![in alloc; 0; usize::from(roster)]?,
             items: nulls(alloc, places)?,
             front: Spot::first(),
         })
+    }
+
+    /// No items of the members of another view.
+    pub(crate) fn renew(&mut self, view: Mask)
+        requires members { IsInRoster self.old.roster view }
+        requires some { 0 < length (members_of view) }
+        ensures { self.new ≡ none_held view self.old.roster self.old.most }
+    {
+        self.members = members_of(view.bits());
+        self.counts.fill(0);
+        for place in 0..self.items.len() {
+            self.items[place] = Item::Null;
+        }
+        self.front = Spot::first();
     }
 
     /// The members of the view, ascending.
@@ -82,6 +95,14 @@ impl Items {
         ensures bounded { result ≤ 4096 }
     {
         self.counts[usize::from(member)]
+    }
+
+    /// How many items of each member there are.
+    pub(crate) fn counts(&self) -> &[u32]
+        ensures counts { result.now ≡ self.now.counts }
+        ensures form { IsHeld self.now }
+    {
+        self.counts.as_slice()
     }
 
     /// Whether there are more items of some member than of this one.
@@ -133,10 +154,10 @@ impl Items {
         self.members[spot.rank]
     }
 
-    /// The item at a place before the front.
+    /// The item at a place that holds one.
     pub(crate) fn item_at(&self, spot: Spot) -> &Item
         requires spot { IsSpot (length self.now.members) spot }
-        requires before { spot.place < front self.now }
+        requires held { is_held (counts_of self.now) spot.place ≡ true }
         ensures { result.now ≡ item_at self.now spot.place }
     {
         let sender = self.sender_at(spot);

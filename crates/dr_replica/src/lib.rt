@@ -8,6 +8,7 @@
 mod acceptance;
 mod history;
 mod items;
+mod left;
 mod replica;
 mod spot;
 mod wedge;

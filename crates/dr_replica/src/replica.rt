@@ -1,4 +1,5 @@
 mod acts;
+mod finish;
 mod guards;
 mod judging;
 mod opening;
@@ -7,6 +8,7 @@ mod votes;
 
 use crate::history::History;
 use crate::items::Items;
+use crate::left::Left;
 use crate::spot::Spot;
 use dr_entry::{End, Message, SentItem, Value, ViewSent, Vote};
 use dr_rows::Rows;
@@ -31,7 +33,10 @@ pub struct Replica {
     items: Items,
     base: u32,
     sent: Vec<SentItem>,
-    /// What it put in earlier views, with room for this one.
+    /// What it keeps of each view that it has left.
+    left: Vec<Left>,
+    /// The memory for those that it has yet to leave, and for what it tells at its end.
+    spares: Vec<Left>,
     past: Vec<ViewSent>,
     next: Spot,
     /// Every member of the view was seen to have received the places below this one. That stays so, as

@@ -1,10 +1,11 @@
 //! What a replica does.
 ghost use Rattle.std.specs.Prelude.{◌≡◌, ◌<◌, ◌≤◌, ◌+◌, ◌^◌, false, slice_index, true};
 ghost use Rattle.dr_history.specs.Members.{has};
+ghost use Rattle.dr_machine.specs.declared.step.Step.TheVariants.{Do};
 ghost use Rattle.dr_program.specs.Form.{HasForm};
 ghost use Rattle.dr_program.specs.Acts.{done, may, taken};
 ghost use Rattle.dr_program.specs.Replica.{acted, appended, delivered, is_other, looked, marked, may_append, may_deliver, may_receive, may_send, may_suspect, published, put, pushed, received, reported, sent, suspected};
-ghost use Rattle.dr_program.specs.Steps.{NoWordFell};
+ghost use Rattle.dr_program.specs.Steps.{NoWordFell, is_free};
 ghost use Rattle.dr_replica.specs.Items.{front};
 ghost use Rattle.dr_replica.specs.Puts.{MayPut};
 ghost use Rattle.dr_ring.specs.Slots.{HasShape};
@@ -39,6 +40,7 @@ impl Replica {
             Act::Report => self.may_report(),
             Act::Mark => self.may_mark(),
             Act::Suspect { other } => self.may_suspect(other),
+            Act::Finish => self.may_finish(),
             Act::Propose => self.is_to_propose(),
             Act::Accept => self.is_to_accept(),
             Act::Commit => self.may_commit(),
@@ -53,14 +55,24 @@ impl Replica {
     /// Does an act.
     #[inline(always)]
     pub fn take(&mut self, act: Act)
-        requires { may self.old act ≡ true }
+        requires may { may self.old act ≡ true }
+        requires free { is_free self.old (Do act) ≡ true }
         ensures after { self.new ≡ taken self.old act }
-        ensures grown { NoWordFell self.old self.new }
+        ensures grown { self.new.view ≡ self.old.view → NoWordFell self.old self.new }
         ensures form { HasForm self.new }
     {
         let _ = self.me();
-        self.carry_out(act);
-        self.stamp();
+        match act {
+            // The stamp of a member that ends its view stands in that view.
+            Act::Finish => {
+                self.stamp();
+                self.finish();
+            }
+            act => {
+                self.carry_out(act);
+                self.stamp();
+            }
+        }
     }
 
     /// It takes a word that it saw of another member of its view that it doesn't suspect, in form and
@@ -106,7 +118,8 @@ impl Replica {
     /// Does what an act is for.
     #[inline(always)]
     fn carry_out(&mut self, act: Act)
-        requires { may self.old act ≡ true }
+        requires may { may self.old act ≡ true }
+        requires free { is_free self.old (Do act) ≡ true }
         ensures { self.new ≡ done self.old act }
     {
         match act {
@@ -119,6 +132,7 @@ impl Replica {
             Act::Report => self.report(),
             Act::Mark => self.mark(),
             Act::Suspect { other } => self.suspect(other),
+            Act::Finish => self.finish(),
             Act::Propose => self.accept(),
             Act::Accept => self.accept(),
             Act::Commit => self.committed = Some(self.value),

@@ -1,5 +1,6 @@
 //! How a replica begins and how it is told at its end.
 ghost use Rattle.std.specs.Prelude.{◌≡◌, IfOk};
+ghost use Rattle.dr_machine.specs.World.{no_value};
 ghost use Rattle.dr_program.specs.Form.{CanBegin, HasForm};
 ghost use Rattle.dr_program.specs.Program.{member_end};
 ghost use Rattle.dr_program.specs.Replica.{begun_replica, greatest};
@@ -7,6 +8,7 @@ ghost use Rattle.dr_program.specs.Replica.{begun_replica, greatest};
 use super::Replica;
 use crate::history::History;
 use crate::items::Items;
+use crate::left::spares;
 use crate::spot::Spot;
 use dr_entry::{End, Entry, MAX_MEMBERS, MemberEnd, Seq, Value, ViewSent};
 use dr_program::Setup;
@@ -25,7 +27,7 @@ impl Replica {
         let shape = setup.shape;
         let most = greatest(&setup.totals);
         let places = most as usize * usize::from(shape.members);
-        let room = setup.start.as_slice().len() + usize::from(shape.banks) + places;
+        let room = setup.start.as_slice().len() + usize::from(shape.banks) + places + 1;
         let view = Entry::View {
             age: setup.age,
             number: 0,
@@ -46,8 +48,19 @@ impl Replica {
             items: Items::begin(alloc, setup.members, shape.members, most)?,
             base: history.messages_from(setup.me),
             sent: Vec::with_capacity(alloc, most as usize)?,
-            past: Vec::with_capacity(alloc, 1)?,
-            votes: Vec::with_capacity(alloc, usize::from(shape.members))?,
+            left: Vec::with_capacity(alloc, usize::from(shape.banks))?,
+            spares: spares(
+                alloc,
+                usize::from(shape.banks) - 1,
+                shape.columns(),
+                shape.members,
+                most,
+            )?,
+            past: Vec::with_capacity(alloc, usize::from(shape.banks))?,
+            votes: Vec::with_capacity(
+                alloc,
+                usize::from(shape.banks) * usize::from(shape.members),
+            )?,
             messages,
             next: Spot::first(),
             received: 0,
@@ -59,10 +72,7 @@ impl Replica {
             end: None,
             age: setup.age,
             tag: 0,
-            value: Value {
-                leavers: 0,
-                trim: [0; MAX_MEMBERS],
-            },
+            value: no_value(),
             committed: None,
             pending: None,
         })
@@ -73,6 +83,13 @@ impl Replica {
         ensures { result ≡ member_end self }
     {
         let mut sent = self.past;
+        for left in self.left {
+            sent.push(ViewSent {
+                number: sent.len() as u8,
+                items: Seq::of(left.sent),
+            })
+            .unwrap();
+        }
         sent.push(ViewSent {
             number: self.view,
             items: Seq::of(self.sent),
@@ -86,6 +103,16 @@ impl Replica {
             logged: self.logged as u64,
             durable: self.durable,
         }
+    }
+}
+
+/// The value that nobody votes for: nobody leaves, and no item is taken.
+pub(super) fn no_value() -> Value
+    ensures { result ≡ no_value }
+{
+    Value {
+        leavers: 0,
+        trim: [0; MAX_MEMBERS],
     }
 }
 

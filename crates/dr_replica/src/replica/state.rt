@@ -1,5 +1,5 @@
 //! What is known of a replica.
-ghost use Rattle.std.specs.Prelude.{◌≡◌, ◌+◌, ◌-◌, ◌<◌, length, slice_get, Some, true};
+ghost use Rattle.std.specs.Prelude.{◌≡◌, ◌+◌, ◌-◌, ◌*◌, ◌<◌, length, slice_get, Some, true};
 ghost use Rattle.dr_history.specs.Members.{has};
 ghost use Rattle.dr_machine.specs.Effects.{one_more};
 ghost use Rattle.dr_program.specs.Form.{HasForm};
@@ -142,9 +142,10 @@ impl Replica {
 
     /// How many votes more its log may get in this age.
     pub fn votes_left(&self) -> usize
-        ensures { result ≡ self.now.roster - length self.now.votes }
+        ensures { result ≡ self.now.banks * self.now.roster - length self.now.votes }
     {
-        usize::from(self.shape.members).saturating_sub(self.votes.len())
+        let most = usize::from(self.shape.banks) * usize::from(self.shape.members);
+        most.saturating_sub(self.votes.len())
     }
 
     /// The number of entries that it reported durable.

@@ -1,13 +1,15 @@
 use Rattle.std.proofs.Common.{ℕ, List, length, None, refl, rules, sym, ap, subst, ◌∙◌, arith}
 use Rattle.dr_entry.specs.declared.entry.Entry.{Entry}
+use Rattle.std.specs.Prelude.{All}
+use Rattle.dr_words.specs.Columns.{columns_of}
+use Rattle.dr_replica.specs.Lefts.{IsSpare}
 use Rattle.dr_rows.specs.Words.{begun, with_own}
-use Rattle.dr_machine.specs.World.{no_value}
 use Rattle.dr_program.specs.Form.{HasForm}
 use Rattle.dr_program.proofs.OpeningForm.{begun_in_form}
 use Rattle.dr_replica.specs.declared.replica.Replica.TheInside.{Inside}
-use Rattle.dr_replica.proofs.Openings.{AreBegun, few_messages_each, small_room, someone, begun_view, begun_inside}
+use Rattle.dr_replica.proofs.Openings.{AreBegun, AreReserved, few_messages_each, small_room, someone, begun_view, begun_inside}
 use Rattle.dr_replica.proofs.replica.Replica.begin.Goals as goal
-use Rattle.dr_replica.proofs.replica.Replica.begin.Goals.{After-first}
+use Rattle.dr_replica.proofs.replica.Replica.begin.Goals.{After-no_value}
 
 pub begin-requires-clause-small : goal.begin-requires-clause-small
 begin-requires-clause-small c =
@@ -22,7 +24,7 @@ begin-requires-2-clause-most c =
     omega (arith, c.greatest-most.ensures, few_messages_each c.args.setup c.requires)
 
 -- the fields, as they are made
-abbrev fields : After-first → Inside
+abbrev fields : After-no_value → Inside
 fields c = record {
   shape = c.args.setup.shape;
   messages = c.into_vec-messages.result;
@@ -34,7 +36,9 @@ fields c = record {
   items = c.in_ok-begin.field-0;
   base = c.messages_from.result;
   sent = c.in_ok-with_capacity.field-0;
-  past = c.in_ok-with_capacity-2.field-0;
+  left = c.in_ok-with_capacity-2.field-0;
+  spares = c.in_ok-spares.field-0;
+  past = c.in_ok-with_capacity-3.field-0;
   next = c.first.result;
   received = 0;
   history = c.in_ok-history.history;
@@ -45,13 +49,13 @@ fields c = record {
   end = None;
   age = c.args.setup.age;
   tag = 0;
-  value = no_value;
+  value = c.no_value.result;
   committed = None;
   pending = None;
-  votes = c.in_ok-with_capacity-3.field-0;
+  votes = c.in_ok-with_capacity-4.field-0;
 }
 
-made : (c : After-first) → AreBegun (fields c) c.args.setup c.in_ok-rows.rows c.greatest-most.result
+made : (c : After-no_value) → AreBegun (fields c) c.args.setup c.in_ok-rows.rows c.greatest-most.result
 made c = record {
   shape = refl;
   messages = c.into_vec-messages.ensures;
@@ -68,6 +72,7 @@ made c = record {
   items = c.in_ok-begin.ensures.begun;
   base = c.messages_from.ensures;
   sent = c.in_ok-with_capacity.ensures.items;
+  left = c.in_ok-with_capacity-2.ensures.items;
   next = c.first.ensures;
   received = refl;
   history = cc (
@@ -84,17 +89,35 @@ made c = record {
   end = refl;
   age = refl;
   tag = refl;
-  value = refl;
+  value = c.no_value.ensures;
   committed = refl;
   pending = refl;
-  votes = c.in_ok-with_capacity-3.ensures.items;
+  votes = c.in_ok-with_capacity-4.ensures.items;
+}
+
+reserved : (c : After-no_value) → AreReserved (fields c)
+reserved c = record {
+  left = search rules;
+  spares = subst (λ (n : ℕ). All (IsSpare (columns_of c.args.setup.shape.members c.args.setup.shape.window)
+      c.args.setup.shape.members n) c.in_ok-spares.field-0.items) c.greatest-most.ensures
+      (subst (λ (n : ℕ). All (IsSpare n c.args.setup.shape.members c.greatest-most.result)
+      c.in_ok-spares.field-0.items) c.columns-2.ensures c.in_ok-spares.ensures.spare);
+  enough = search rules;
+  end = search rules;
+  votes = search rules;
 }
 
 pub invariant_of-result : goal.invariant_of-result
 invariant_of-result c =
     begun_inside (fields c) c.args.setup c.in_ok-rows.rows c.greatest-most.result c.requires (made c)
-    (search rules) c.in_ok-with_capacity-2.ensures.items c.in_ok-with_capacity-2.ensures.capacity
-    (rw (← c.from-3.ensures) c.in_ok-with_capacity-3.ensures.capacity)
+    (search rules) (reserved c) c.in_ok-with_capacity-3.ensures.items
+
+pub returns-clause-begun : goal.returns-clause-begun
+returns-clause-begun c =
+    begun_view (fields at) c.args.setup c.in_ok-rows.rows c.greatest-most.result (made at)
+  where
+    at : After-no_value
+    at = (goal.at.returns-clause-begun c).After-no_value
 
 pub returns-clause-form : goal.returns-clause-form
 returns-clause-form c =
@@ -102,5 +125,5 @@ returns-clause-form c =
     (begun_view (fields at) c.args.setup c.in_ok-rows.rows c.greatest-most.result (made at)))
     (begun_in_form c.args.setup c.requires)
   where
-    at : After-first
-    at = (goal.at.returns-clause-form c).After-first
+    at : After-no_value
+    at = (goal.at.returns-clause-form c).After-no_value

@@ -1,13 +1,30 @@
-use Rattle.std.proofs.Common.{◌≡◌, ◌<◌, ◌≤◌, true, sym, ap, subst, ◌∙◌}
-use Rattle.dr_program.specs.Replica.{Replica, least_seen, may_receive, received}
+use Rattle.std.proofs.Common.{◌≡◌, ℕ, ◌+◌, ◌<◌, ◌≤◌, true, not, slice_index, sym, ap, subst, ◌∙◌, arith}
+use Rattle.std.proofs.lemmas.Bool.{and_parts, not-true}
+use Rattle.std.proofs.lemmas.List.{get_or-set_same}
+use Rattle.dr_replica.specs.Items.{Held}
+use Rattle.dr_program.specs.Replica.{Replica, count, is_wedged, least_seen, may_receive, received}
 use Rattle.dr_program.specs.Form.{HasForm}
 use Rattle.dr_replica.specs.Inside.{view_of}
-use Rattle.dr_replica.proofs.Keeps.{received_form}
+use Rattle.dr_replica.proofs.Keeps.{open_recv, received_form}
 use Rattle.dr_replica.proofs.Received.{received_received}
 use Rattle.dr_words.specs.declared.column.TheConstants.{RECEIVED_COLUMN}
 use Rattle.dr_replica.proofs.Insides.{may_of}
 use Rattle.dr_replica.proofs.Exchanges.{front_after, received_after, items_kept}
 use Rattle.dr_replica.proofs.replica.Replica.receive.Goals as goal
+
+pub show_items-requires-clause-recv : goal.show_items-requires-clause-recv
+show_items-requires-clause-recv c =
+    let r : Replica = view_of c.self.inside in
+    let s : ℕ = c.args.sender in
+    let within : s < r.roster = subst (λ (q : Replica). s < q.roster) (sym c.self.view_is) c.requires.sender in
+    let may : may_receive r s ≡ true = may_of (λ (q : Replica). may_receive q s) r c.args.self.now
+    c.self.view_is c.requires.may in
+    let before = open_recv r s c.self.invariant.form
+    (not-true (is_wedged r) (and_parts (not (is_wedged r)) _ may).0) within in
+    let more : slice_index c.take.new.self.counts s ≡ count r s + 1 =
+    ap (λ (h : Held). slice_index h.counts s) c.take.ensures
+    ∙ get_or-set_same r.counts s (count r s + 1) 0 (omega (arith, within, c.self.invariant.form.counts)) in
+    omega (arith, before, more)
 
 pub show_items-requires-clause-received : goal.show_items-requires-clause-received
 show_items-requires-clause-received c =

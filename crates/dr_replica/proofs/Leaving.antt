@@ -1,0 +1,218 @@
+-- What a member that may end its view has room for.
+use Rattle.std.proofs.Common.{◌≡◌, ℕ, ◌+◌, ◌^◌, ◌<◌, ◌≤◌, true, false, not, nat_lt, List, [], ◌∷◌, ◌++◌, length, map, Option, None, Some, refl, sym, ap, subst, ◌∙◌, arith, length-append}
+use Rattle.std.specs.Prelude.{◌&&◌, All, option_to_list, unwrap_or, vec_capacity}
+use Rattle.std.proofs.lemmas.List.Elements.{All-pop}
+use Rattle.std.proofs.lemmas.Bool.{and_parts, ltb-true}
+use Rattle.dr_entry.specs.declared.entry.Entry.{Entry}
+use Rattle.dr_entry.specs.declared.entry.Entry.TheVariants.{View}
+use Rattle.dr_entry.specs.declared.record.Value.{Value}
+use Rattle.dr_history.specs.Members.{has, members_of}
+use Rattle.dr_history.specs.Order.{messages_from}
+use Rattle.dr_history.proofs.NumberedLemmas.{messages_from-View}
+use Rattle.dr_machine.specs.World.{no_value}
+use Rattle.dr_program.specs.Form.{HasForm}
+use Rattle.dr_program.specs.Replica.{Replica, finished, finished_by, finished_history, greatest, left_now, may_end, may_finish}
+use Rattle.dr_rows.specs.Words.{Words, begun, with_own}
+use Rattle.dr_suspect.specs.Suspicion.{Suspicion, trusting}
+use Rattle.dr_words.specs.declared.column.TheConstants.{LOGGED_COLUMN}
+use Rattle.dr_trim.specs.Trims.{trims_by_rank}
+use Rattle.dr_words.specs.Masks.{IsInRoster, without}
+use Rattle.dr_replica.specs.History.{Kept}
+use Rattle.dr_replica.specs.Items.{Held, none_held}
+use Rattle.dr_replica.specs.Inside.{IsInside, view_of}
+use Rattle.dr_replica.specs.Lefts.{HasRoom, IsSpare, left_of}
+use Rattle.dr_replica.specs.declared.left.Left.{Left}
+use Rattle.dr_words.specs.Columns.{columns_of}
+use Rattle.dr_replica.specs.Spots.{first_spot}
+use Rattle.dr_replica.specs.declared.spot.Spot.{Spot}
+use Rattle.dr_replica.specs.Rests.{has_taken, merged, merged_from}
+use Rattle.dr_replica.specs.declared.replica.Replica.TheInside.{Inside}
+use Rattle.dr_replica.proofs.Delivering.{merged_same}
+use Rattle.dr_replica.proofs.Finishing.{finished_form}
+use Rattle.dr_replica.proofs.Members.{some_member}
+use Rattle.dr_replica.proofs.Openings.{AreReserved}
+use Rattle.dr_replica.proofs.Spots.{first_is_spot}
+use Rattle.dr_words.proofs.Masks.{has_without_mask, in_roster_small}
+
+-- what the fields say of a member that may end its view with a value
+pub record MayLeave (a : Inside) (x : Value) : Type 0 where
+  pub stays : has x.leavers a.rows.me ≡ false
+  pub bank : a.view + 1 < a.shape.banks
+  pub taken : has_taken (view_of a) x.trim ≡ true
+  pub room : length (merged_from a.items a.history.entries (trims_by_rank a.members x.trim) a.next.place)
+      < a.history.room
+  pub base : length (messages_from a.rows.me
+      (merged_from a.items a.history.entries (trims_by_rank a.members x.trim) a.next.place))
+      ≤ length a.messages.items
+
+leaves : (a : Inside) (x : Value) → IsInside a → may_end (view_of a) x ≡ true → MayLeave a x
+leaves a x inside may =
+    let stays = and_parts (not (has x.leavers a.rows.me)) _ may in
+    let bank = and_parts (nat_lt (a.view + 1) a.shape.banks) _ stays.1 in
+    let there = and_parts (has_taken (view_of a) x.trim) _ bank.1 in
+    let fits = and_parts (nat_lt (length (finished_history (view_of a) x)) (a.history.room + 1)) _ there.1 in
+    let same = merged_same a x.trim inside in
+    let view : List Entry = View a.age (a.view + 1) (without a.members x.leavers) ∷ [] in
+    record {
+      stays = grind (arith, stays.0);
+      bank = ltb-true (a.view + 1) a.shape.banks bank.0;
+      taken = there.0;
+      room = omega (
+        arith,
+        ltb-true (length (finished_history (view_of a) x)) (a.history.room + 1) fits.0,
+        length-append (merged (view_of a) x.trim) view,
+        ap length same,
+      );
+      base = omega (
+        arith,
+        ltb-true (length (messages_from a.rows.me (finished_history (view_of a) x)))
+            (length a.messages.items + 1) fits.1,
+        ap length (messages_from-View a.rows.me (merged (view_of a) x.trim) a.age (a.view + 1)
+            (without a.members x.leavers)),
+        ap (λ (es : List Entry). length (messages_from a.rows.me es)) same,
+      );
+    }
+
+pub may_leave : (a : Inside) (now : Replica) (x : Value) → view_of a ≡ now → IsInside a
+    → a.committed ≡ Some x → may_finish now now.committed ≡ true → MayLeave a x
+may_leave a now x same inside committed may =
+    leaves a x inside (subst (λ (o : Option Value). may_finish (view_of a) o ≡ true) committed
+    (ap (λ (r : Replica). may_finish r r.committed) same ∙ may))
+
+-- the fields of a member that has ended its view with a value, beside those of before
+pub record AreLeft (a b : Inside) (x : Value) : Type 0 where
+  pub shape : b.shape ≡ a.shape
+  pub messages : b.messages ≡ a.messages
+  pub totals : b.totals ≡ a.totals
+  pub rows : b.rows ≡ with_own (begun a.rows.members a.rows.columns a.rows.me) LOGGED_COLUMN a.logged
+  pub view : b.view ≡ a.view + 1
+  pub members : b.members ≡ without a.members x.leavers
+  pub suspects : b.suspects ≡ trusting a.rows.me (without a.members x.leavers)
+  pub items : b.items ≡ none_held (without a.members x.leavers) a.items.roster a.items.most
+  pub base : b.base ≡ length (messages_from a.rows.me b.history.entries)
+  pub sent : b.sent.items ≡ []
+  pub left : map left_of b.left.items ≡ map left_of a.left.items ++ left_now (view_of a) ∷ []
+  pub next : b.next ≡ first_spot
+  pub received : b.received ≡ 0
+  pub history : b.history ≡ record a.history {
+    entries = merged_from a.items a.history.entries (trims_by_rank a.members x.trim) a.next.place
+        ++ View a.age (a.view + 1) (without a.members x.leavers) ∷ [];
+  }
+  pub logged : b.logged ≡ a.logged
+  pub durable : b.durable ≡ a.durable
+  pub turns : b.turns ≡ a.turns
+  pub acts : b.acts ≡ a.acts
+  pub end : b.end ≡ a.end
+  pub age : b.age ≡ a.age
+  pub tag : b.tag ≡ 0
+  pub value : b.value ≡ no_value
+  pub committed : b.committed ≡ None
+  pub pending : b.pending ≡ a.pending
+  pub votes : b.votes ≡ a.votes
+
+-- contracts see them as the replica that has ended its view
+left_view : (a b : Inside) (x : Value) → IsInside a → AreLeft a b x → view_of b ≡ finished_by (view_of a) x
+left_view a b x inside l =
+    let entries : b.history.entries ≡ finished_history (view_of a) x =
+    ap (λ (h : Kept). h.entries) l.history
+    ∙ ap (λ (es : List Entry). es ++ View a.age (a.view + 1) (without a.members x.leavers) ∷ [])
+    (merged_same a x.trim inside) in
+    let room = ap (λ (h : Kept). h.room) l.history in
+    let items : b.items ≡ none_held (without a.members x.leavers) a.shape.members (greatest a.totals) = l.items
+    ∙ ap (λ (n : ℕ). none_held (without a.members x.leavers) n a.items.most) inside.roster
+    ∙ ap (λ (k : ℕ). none_held (without a.members x.leavers) a.shape.members k) inside.most in
+    let base : b.base ≡ length (messages_from a.rows.me (finished_history (view_of a) x)) =
+    l.base ∙ ap (λ (es : List Entry). length (messages_from a.rows.me es)) entries in
+    let suspects : b.suspects.suspects ≡ 0 = ap (λ (s : Suspicion). s.suspects) l.suspects in
+    let next : b.next.place ≡ 0 = ap (λ (n : Spot). n.place) l.next in
+    let shape = l.shape in let messages = l.messages in let totals = l.totals in let rows = l.rows in
+    let view = l.view in let members = l.members in let sent = l.sent in let left = l.left in
+    let logged = l.logged in let durable = l.durable in let turns = l.turns in let acts = l.acts in
+    let end = l.end in let age = l.age in let tag = l.tag in let value = l.value in
+    let committed = l.committed in let pending = l.pending in let votes = l.votes in
+    cc
+
+-- this is what ending the view makes of the replica
+pub left_after : (a b : Inside) (now : Replica) (x : Value) → view_of a ≡ now → IsInside a
+    → a.committed ≡ Some x → AreLeft a b x → view_of b ≡ finished now
+left_after a b now x same inside committed l =
+    left_view a b x inside l
+    ∙ ap (λ (o : Option Value). finished_by (view_of a) (unwrap_or o no_value)) (sym committed)
+    ∙ ap finished same
+
+-- some member remains, each of the roster
+pub remaining_some : (a : Inside) (x : Value) → IsInside a → MayLeave a x
+    → (0 < length (members_of (without a.members x.leavers)))
+    × ((has (without a.members x.leavers) a.rows.me ≡ true)
+    × IsInRoster a.items.roster (without a.members x.leavers))
+remaining_some a x inside may =
+    let small : a.members < 2 ^ 16 =
+    in_roster_small 16 a.members (λ i is. omega (arith, inside.form.roster i is, a.shape.most_members)) in
+    let remain : (i : ℕ) → has (without a.members x.leavers) i ≡ (has a.members i && not (has x.leavers i)) =
+    λ i. has_without_mask a.members x.leavers i small in
+    let mine : has (without a.members x.leavers) a.rows.me ≡ true = remain a.rows.me
+    ∙ grind (arith, inside.form.present, may.stays) in
+    let low : a.rows.me < 16 = omega (arith, inside.form.rows.present, inside.form.rows.few) in (
+      some_member (without a.members x.leavers) a.rows.me low mine,
+      (
+        mine,
+        λ i is. omega (
+          arith,
+          inside.form.roster i (and_parts (has a.members i) (not (has x.leavers i)) (sym (remain i) ∙ is)).0,
+          inside.roster,
+        ),
+      ),
+    )
+
+-- and the fields keep their invariant
+pub left_inside : (a b : Inside) (now : Replica) (x : Value) → view_of a ≡ now → IsInside a
+    → a.committed ≡ Some x → may_finish now now.committed ≡ true → now.pending ≡ None → AreLeft a b x
+    → AreReserved b → greatest a.totals ≤ vec_capacity b.sent → b.past ≡ a.past → IsInside b
+left_inside a b now x same inside committed may none l held sent past = record {
+  form = subst HasForm (sym (left_after a b now x same inside committed l))
+      (finished_form now (subst HasForm same inside.form) may none);
+  suspicion =
+      let me : b.rows.me ≡ a.rows.me = ap (λ (w : Words). w.me) l.rows in
+      let suspects = l.suspects in let members = l.members in rw (suspects, me, members) refl;
+  members = ap (λ (h : Held). h.members) l.items ∙ sym (ap members_of l.members);
+  roster = ap (λ (h : Held). h.roster) l.items ∙ inside.roster ∙ ap (λ (s : _). s.members) (sym l.shape);
+  most = ap (λ (h : Held). h.most) l.items ∙ inside.most ∙ ap greatest (sym l.totals);
+  messages = ap (λ (h : Kept). h.roster) l.history ∙ inside.messages ∙ ap (λ (s : _). s.members) (sym l.shape);
+  next = rw (l.next, l.members) (first_is_spot (length (members_of (without a.members x.leavers)))
+      (remaining_some a x inside (may_leave a now x same inside committed may)).0);
+  received = rw l.received (omega arith);
+  sent = rw l.totals sent;
+  left = held.left;
+  spares = held.spares;
+  enough = held.enough;
+  past = ap (λ (v : _). v.items) past ∙ inside.past;
+  end = held.end;
+  votes = held.votes;
+}
+
+-- ---- the memory that was taken for it
+
+-- it takes one of the spares, and there are enough left
+pub record AreTaken (a : Inside) (spares : List Left) (left : Left) : Type 0 where
+  pub spare : IsSpare (columns_of a.shape.members a.shape.window) a.shape.members (greatest a.totals) left
+  pub others : All (IsSpare (columns_of a.shape.members a.shape.window) a.shape.members (greatest a.totals)) spares
+  pub enough : a.shape.banks ≤ a.view + 1 + 1 + length spares
+  pub room : HasRoom a.rows.columns a.items.roster left
+
+pub spare_taken : (a : Inside) (spares : List Left) (r : Option Left) (left : Left) → IsInside a
+    → a.spares.items ≡ spares ++ option_to_list r → r ≡ Some left → AreTaken a spares left
+spare_taken a spares r left inside items is =
+    let P : Left → Type 0 =
+    IsSpare (columns_of a.shape.members a.shape.window) a.shape.members (greatest a.totals) in
+    let old : a.spares.items ≡ spares ++ left ∷ [] = items ∙ ap (λ (o : Option Left). spares ++ option_to_list o) is in
+    let parts = All-pop P a.spares.items spares (Some left) old inside.spares in
+    let spare : P left = parts.1 in
+    record {
+      spare = spare;
+      others = parts.0;
+      enough = omega (arith, inside.enough, ap length old, length-append spares (left ∷ []));
+      room = record {
+        own = spare.room.own ∙ sym inside.form.columns;
+        counts = spare.room.counts ∙ sym inside.roster;
+      };
+    }

@@ -1,0 +1,116 @@
+-- What is copied word by word, and what is emptied.
+use Rattle.std.proofs.Common.{◌≡◌, ℕ, zero, suc, ◌+◌, ◌<◌, inl, inr, List, [], ◌∷◌, ◌++◌, length, length-append, append-nil, map, replicate, get_or, set, refl, sym, ap, ◌∙◌, arith}
+use Rattle.std.specs.Prelude.{unwrap_or}
+use Rattle.std.proofs.lemmas.Bool.{cases_eq}
+use Rattle.std.proofs.lemmas.Grind.{same_number_lists}
+use Rattle.std.proofs.lemmas.List.{get_or-set_same, get_or-set_other, length-map, map-append}
+use Rattle.dr_replica.specs.Lefts.{left_of}
+use Rattle.dr_replica.specs.declared.left.Left.{Left}
+use Rattle.dr_entry.specs.declared.end.End.{End}
+use Rattle.dr_entry.specs.declared.end.End.TheVariants.{Done}
+use Rattle.dr_entry.specs.declared.entry.Entry.{Entry}
+use Rattle.dr_entry.specs.declared.entry.Item.{Item}
+use Rattle.dr_entry.specs.declared.entry.Item.TheVariants.{Null}
+use Rattle.dr_entry.specs.declared.end.SentItem.{SentItem}
+use Rattle.dr_entry.specs.declared.end.ViewSent.{ViewSent}
+use Rattle.dr_program.specs.Program.{member_end, sent_before}
+use Rattle.dr_program.specs.Form.{HasForm}
+use Rattle.dr_program.specs.Replica.{LeftView, Replica}
+use Rattle.dr_rows.specs.Words.{IsWords, Words, own, row_of}
+
+-- one number more is copied
+pub copied_more : (xs : List ℕ) (from : ℕ → ℕ) (c : ℕ) → c < length xs
+    → ((k : ℕ) → k < c → get_or xs k 0 ≡ from k)
+    → (k : ℕ) → k < c + 1 → get_or (set xs c (from c)) k 0 ≡ from k
+copied_more xs from c within all k lt =
+    elim (cases_eq k c) [
+      | inl same ↦ let there = get_or-set_same xs c (from c) 0 within in rw (same, there) refl
+      | inr other ↦ get_or-set_other xs c k (from c) 0 other ∙ all k (omega (arith, lt, other))
+    ]
+
+-- items that are each a null are as many nulls
+pub all_null : (items : List Item) (n : ℕ) → length items ≡ n
+    → ((k : ℕ) → k < n → get_or items k Null ≡ Null) → items ≡ replicate n Null
+all_null [] zero e all = refl
+all_null [] (suc n) e all = absurd (omega (arith, e))
+all_null (x ∷ items) zero e all = absurd (omega (arith, e))
+all_null (x ∷ items) (suc n) e all =
+    let first : x ≡ Null = all 0 (omega arith) in
+    let rest = all_null items n (omega (arith, e)) (λ k l. all (suc k) (omega (arith, l))) in
+    cc (first, rest)
+
+-- the own words, copied one by one, are the own row
+pub own_copied : (w : Words) (xs : List ℕ) → IsWords w → length xs ≡ w.columns
+    → ((c : ℕ) → c < w.columns → get_or xs c 0 ≡ own w c) → xs ≡ row_of w.words w.me
+own_copied w xs is long all =
+    let wide = is.rows.width w.me [] (omega (arith, is.rows.height, is.present)) in
+    same_number_lists xs (row_of w.words w.me) (long ∙ sym wide) (λ c l. all c (omega (arith, l, long)))
+
+-- there is a list of what was put for each view that was left, and for one view more there is one more
+pub sent_before_long : (v : ℕ) (ls : List LeftView) → length (sent_before v ls) ≡ length ls
+sent_before_long v [] = refl
+sent_before_long v (l ∷ ls) = omega (arith, sent_before_long (v + 1) ls)
+
+pub sent_before_more : (v : ℕ) (ls : List LeftView) (l : LeftView)
+    → sent_before v (ls ++ l ∷ []) ≡ sent_before v ls ++ record { number = v + length ls; items = l.sent } ∷ []
+sent_before_more v [] l = ap (λ (n : ℕ). record { number = n; items = l.sent } ∷ []) (omega arith)
+sent_before_more v (k ∷ ls) l =
+    ap (λ (x : List ViewSent). record { number = v; items = k.sent } ∷ x) (sent_before_more (v + 1) ls l)
+    ∙ ap (λ (n : ℕ). record { number = v; items = k.sent }
+    ∷ (sent_before (v + 1) ls ++ record { number = n; items = l.sent } ∷ [])) (omega arith)
+
+-- a member's lists are put together view by view, each with its number
+pub put_before : (sent : List ViewSent) (given : List Left) (l : Left) (n : ℕ) (items : List SentItem)
+    → sent ≡ sent_before 0 (map left_of given) → n ≡ length sent → items ≡ l.sent.items
+    → sent ++ record { number = n; items = items } ∷ [] ≡ sent_before 0 (map left_of (given ++ l ∷ []))
+put_before sent given l n items told count is =
+    ap (λ (x : List ViewSent). x ++ record { number = n; items = items } ∷ []) told
+    ∙ ap (λ (k : ℕ). sent_before 0 (map left_of given) ++ record { number = k; items = items } ∷ []) number
+    ∙ ap (λ (x : List SentItem). sent_before 0 (map left_of given)
+    ++ record { number = 0 + length (map left_of given); items = x } ∷ []) is
+    ∙ sym (sent_before_more 0 (map left_of given) (left_of l))
+    ∙ ap (sent_before 0) (sym (map-append left_of given (l ∷ [])))
+  where
+    number : n ≡ 0 + length (map left_of given)
+    number = omega (arith, count, ap length told, sent_before_long 0 (map left_of given))
+
+-- so far there are fewer lists than views that were left, whose number is below that of the banks
+pub put_few : (sent : List ViewSent) (given rest : List Left) (l : Left) (r : Replica)
+    → sent ≡ sent_before 0 (map left_of given) → map left_of (given ++ l ∷ rest) ≡ r.left → HasForm r
+    → (length sent < r.view) × (r.view < r.banks)
+put_few sent given rest l r told all form = (
+  omega (
+    arith,
+    ap length told,
+    sent_before_long 0 (map left_of given),
+    length-map given left_of,
+    ap length all,
+    length-map (given ++ l ∷ rest) left_of,
+    length-append given (l ∷ rest),
+    form.left,
+  ),
+  form.bank,
+)
+
+-- in the end there is a list for each of them
+pub put_all : (sent : List ViewSent) (given rest : List Left) (r : Replica)
+    → sent ≡ sent_before 0 (map left_of given) → map left_of (given ++ rest) ≡ r.left → length rest ≡ 0
+    → HasForm r → (sent ≡ sent_before 0 r.left) × ((length sent ≡ r.view) × (r.view < r.banks))
+put_all sent given (l ∷ rest) r told all none form = absurd (omega (arith, none))
+put_all sent given [] r told all none form =
+    let same : sent ≡ sent_before 0 r.left = told
+    ∙ ap (λ (ls : List Left). sent_before 0 (map left_of ls)) (sym (append-nil given)) ∙ ap (sent_before 0) all in
+    (same, (omega (arith, ap length same, sent_before_long 0 r.left, form.left), form.bank))
+
+-- a member's end is told by its parts
+pub end_told : (r : Replica) (end : End) (sent : List ViewSent) (history : List Entry)
+    → end ≡ unwrap_or r.end Done → sent ≡ sent_before 0 r.left ++ record { number = r.view; items = r.sent } ∷ []
+    → history ≡ r.history → record {
+      end = end;
+      turns = r.turns;
+      sent = sent;
+      history = history;
+      logged = r.logged;
+      durable = r.durable;
+    } ≡ member_end r
+end_told r end sent history how what which = cc
