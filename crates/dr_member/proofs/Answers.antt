@@ -51,6 +51,8 @@ pub fate_of_act : (word : ℕ) (replica : Replica) (fate : Fate) (place : Place)
     → IsFateAfter word (standing replica fate place) (steps.Do a) (fate_after fate a turn)
 fate_of_act word replica fate place acts.Beat turn =
     record { limit = refl; waits = refl; crashes = refl; suspicions = refl; pushes = refl; failed = refl }
+fate_of_act word replica fate place acts.Finish turn =
+    record { limit = refl; waits = refl; crashes = refl; suspicions = refl; pushes = refl; failed = refl }
 fate_of_act word replica fate place a turn = record {
   limit = refl;
   waits = refl;
@@ -69,7 +71,7 @@ pub record IsTaken (word : ℕ) (r : Running) (s : Step) (q : Replica) (fate : F
   pub due : next_step r ≡ s
   pub replica : q ≡ stepped word r.replica s
   pub form : HasForm q
-  pub grown : NoWordFell r.replica q
+  pub grown : q.view ≡ r.replica.view → NoWordFell r.replica q
   pub place : from ≡ goes (members r) (columns r) (part_of r.place) r.place
   pub told : IsFateAfter word r s fate
 
@@ -92,7 +94,7 @@ is_done word r s q fate from t =
     let same = is_took word r s q fate from t in
     let replica = t.replica ∙ ap (stepped word r.replica) (sym t.due) in
     subst (IsDone r) (sym same) (deed_done word r t.running t.fits t.none (subst HasForm replica t.form)
-    (subst (NoWordFell r.replica) replica t.grown))
+    (subst (λ (x : Replica). x.view ≡ r.replica.view → NoWordFell r.replica x) replica t.grown))
 
 -- what a running member is after a deed, once it has settled
 pub record IsAnswer (word : ℕ) (r x : Running) : Type 0 where
@@ -108,7 +110,7 @@ is_answer word r s q fate from place t searched =
     ∙ ap settled (is_took word r s q fate from t) in
     let replica = t.replica ∙ ap (stepped word r.replica) (sym t.due) in
     let kept = deeds_keep word r t.running t.fits t.none (subst HasForm replica t.form)
-    (subst (NoWordFell r.replica) replica t.grown) in
+    (subst (λ (x : Replica). x.view ≡ r.replica.view → NoWordFell r.replica x) replica t.grown) in
     record {
       after = same;
       form = subst IsRunningMember (sym same) kept.0;

@@ -103,6 +103,7 @@ some_at_push fate turn t =
 pub timely_act : (fate : Fate) (r : Replica) (a : Act) → IsTimely fate r.turns
     → IsTimely (fate_after fate a (taken r a).turns) (taken r a).turns
 timely_act fate r acts.Beat t = record { crash = refl; ahead = λ push e. omega arith }
+timely_act fate r acts.Finish t = record { crash = t.crash; ahead = t.ahead }
 timely_act fate r a t = record { crash = t.crash; ahead = t.ahead }
 
 -- and over a push before which the member doesn't crash

@@ -23,10 +23,11 @@ use Rattle.dr_program.specs.Acts.{may}
 use Rattle.dr_program.specs.Replica.{is_other, is_wedged, may_vote, value_due, vote_of}
 use Rattle.dr_program.specs.Steps.{IsAppend, allows, has_cell}
 use Rattle.dr_program.specs.Turn.{part_of}
-use Rattle.dr_program.specs.Running.{Running, WaitsAt, append_or_end, asks, columns, crashes_now, deed, deed_of, end_by, members, next_deed, next_step, push_or_crash, step_at, vote_or_end}
+use Rattle.dr_program.specs.Running.{Running, append_or_end, asks, columns, crashes_now, deed, deed_of, end_by, members, next_deed, next_step, push_or_crash, step_at, vote_or_end}
 use Rattle.dr_program.specs.Reading.{step_due, step_of_member}
 use Rattle.dr_program.specs.Sight.{IsSeenNext, MaySee}
 use Rattle.dr_program.specs.Form.{IsRunningMember}
+use Rattle.dr_program.proofs.Waiting.{vote_free}
 use Rattle.dr_member.specs.declared.search.Due.{Due}
 use Rattle.dr_member.specs.declared.search.Due.TheVariants as dues
 use Rattle.dr_member.specs.Deeds.{is_act, is_look, is_push, is_append}
@@ -239,7 +240,7 @@ vote_due r m e at = record {
   step = step;
   may = may;
   wedged = (and_parts (is_wedged r.replica) _ may).0;
-  free = free m.free;
+  free = vote_free r m.free (value_due r.replica) step;
 }
   where
     due : (r.replica.end ≡ None) × (is_append (deed_of r (next_step r)) ≡ true)
@@ -253,11 +254,6 @@ vote_due r m e at = record {
 
     may : may_vote r.replica (value_due r.replica) ≡ true
     may = allowed r m due.0 (steps.LogVote (value_due r.replica)) step
-
-    free : WaitsAt r (part_of r.place) → r.replica.pending ≡ None
-    free (inl none) = none
-    free (inr (inl other)) = absurd (cc (other, at))
-    free (inr (inr t)) = absurd (cc (t.0, at))
 
 -- and elsewhere an entry
 pub entry_due : (r : Running) → is_append (next_deed r) ≡ true → part_of r.place ≢ parts.Vote

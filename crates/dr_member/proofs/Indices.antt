@@ -1,17 +1,20 @@
--- The numbers by which a member finds words of the table: the indices that they give, and that deeds keep
--- them.
-use Rattle.std.proofs.Common.{◌≡◌, sym, ap, subst, ◌∙◌, ℕ, ◌+◌, ◌*◌, ◌^◌, ◌<◌, ◌≤◌, arith}
+-- The numbers by which a member finds words of the table: the indices that they give, and that deeds within a
+-- view keep them.
+use Rattle.std.proofs.Common.{◌≡◌, ◌≢◌, refl, false, sym, ap, subst, ◌∙◌, ℕ, ◌+◌, ◌*◌, ◌^◌, ◌<◌, ◌≤◌, arith}
 use Rattle.std.proofs.lemmas.Nat.{mul-le}
 use Rattle.dr_words.specs.Columns.{columns_of}
 use Rattle.dr_words.specs.Layout.{word_index_of}
 use Rattle.dr_words.proofs.Places.{word_index_within}
+use Rattle.dr_machine.specs.declared.event.Act.{Act}
 use Rattle.dr_machine.specs.declared.event.Act.TheVariants as acts
 use Rattle.dr_machine.specs.declared.step.Step.{Step}
 use Rattle.dr_machine.specs.declared.step.Step.TheVariants.{Do}
+use Rattle.dr_program.specs.Acts.{taken}
 use Rattle.dr_program.specs.Replica.{Replica, me}
 use Rattle.dr_program.specs.Running.{Running, members, columns}
 use Rattle.dr_program.specs.Steps.{index_in, stepped}
 use Rattle.dr_program.specs.Form.{HasForm}
+use Rattle.dr_turn.proofs.Tasks.{ends_view}
 use Rattle.dr_member.specs.declared.bases.Bases.{Bases}
 use Rattle.dr_member.specs.declared.member.Member.TheInside.{Inside}
 use Rattle.dr_member.specs.Bases.{bases_of, AreBases}
@@ -132,12 +135,23 @@ made r n w v m k f l o p en ew ev em small a b d e h = record {
 
 -- ---- the deeds
 
-kept : (b : Bases) (word : ℕ) (r : Replica) (s : Step) → AreBases b r → AreBases b (stepped word r s)
-kept b word r (Do acts.Report) f = record { are = f.are; small = f.small }
-kept b word r (Do a) f = record { are = f.are; small = f.small }
-kept b word r s f = record { are = f.are; small = f.small }
+kept : (b : Bases) (word : ℕ) (r : Replica) (s : Step) → ends_view s ≡ false → AreBases b r
+    → AreBases b (stepped word r s)
+kept b word r (Do acts.Finish) stays f = absurd (cc stays)
+kept b word r (Do acts.Beat) stays f = record { are = f.are; small = f.small }
+kept b word r (Do a) stays f = record { are = f.are; small = f.small }
+kept b word r s stays f = record { are = f.are; small = f.small }
 
--- no step changes a replica's bases
-pub deeds_keep_bases : (b : Bases) (word : ℕ) (r q : Replica) (s : Step) → q ≡ stepped word r s
-    → AreBases b r → AreBases b q
-deeds_keep_bases b word r q s e f = subst (AreBases b) (sym e) (kept b word r s f)
+-- no step within a view changes a replica's bases
+pub deeds_keep_bases : (b : Bases) (word : ℕ) (r q : Replica) (s : Step) → ends_view s ≡ false
+    → q ≡ stepped word r s → AreBases b r → AreBases b q
+deeds_keep_bases b word r q s stays e f = subst (AreBases b) (sym e) (kept b word r s stays f)
+
+-- so no act but the end of a view
+stays_in_view : (a : Act) → a ≢ acts.Finish → ends_view (Do a) ≡ false
+stays_in_view acts.Finish other = absurd (other refl)
+stays_in_view a other = refl
+
+pub acts_keep_bases : (b : Bases) (a : Act) (r q : Replica) → a ≢ acts.Finish → AreBases b r
+    → q ≡ taken r a → AreBases b q
+acts_keep_bases b a r q other f e = deeds_keep_bases b 0 r q (Do a) (stays_in_view a other) e f

@@ -17,13 +17,15 @@ use Rattle.dr_program.specs.declared.place.Place.{Place}
 use Rattle.std.specs.Prelude.{None}
 use Rattle.dr_program.specs.Acts.{may, taken}
 use Rattle.dr_program.specs.Replica.{Replica, is_other, looked, me, pushed, value_due}
-use Rattle.dr_program.specs.Steps.{IsAppend, NoWordFell, allows, has_cell, stepped}
+use Rattle.dr_program.specs.Steps.{IsAppend, NoWordFell, allows, has_cell, is_free, stepped}
 use Rattle.dr_program.specs.Turn.{columns_in, part_of}
 use Rattle.dr_program.specs.Running.{Running, columns, goes, next_deed, next_step, settled, waits_after}
 use Rattle.dr_program.specs.Reading.{step_of_member}
 use Rattle.dr_program.specs.Sight.{MaySee}
 use Rattle.dr_program.specs.Form.{HasForm, IsRunningMember}
+use Rattle.dr_program.proofs.Waiting.{free_step}
 use Rattle.dr_turn.specs.Search.{IsUnderway}
+use Rattle.dr_turn.proofs.Tasks.{ends_view}
 use Rattle.dr_member.specs.declared.fate.Fate.{Fate}
 use Rattle.dr_member.specs.declared.member.Member.TheInside.{Inside}
 use Rattle.dr_member.specs.Deeds.{is_act, is_append, is_push}
@@ -155,7 +157,7 @@ look_taken replica q fate told p word l is = record {
   due = l.due.step;
   replica = l.after;
   form = l.form;
-  grown = l.grown;
+  grown = λ same. l.grown;
   place = behind replica q p parts.Look l.due.at (ap (λ (x : Replica). x.roster) l.after)
       (ap (λ (x : Replica). x.window) l.after) refl;
   told = is;
@@ -248,7 +250,7 @@ push_taken replica q fate p n t word l = record {
   due = l.due.step;
   replica = l.after;
   form = l.form;
-  grown = l.grown;
+  grown = λ same. l.grown;
   place = behind replica q p parts.Push l.due.at (ap (λ (x : Replica). x.roster) l.after)
       (ap (λ (x : Replica). x.window) l.after) refl;
   told = record {
@@ -339,18 +341,18 @@ pushed_timely replica q fate p n t l =
 
 -- ---- the code's fields after a step
 
--- a step leaves the member in good order inside
+-- a step within its view leaves the member in good order inside
 pub inside_after : (a : Inside) (q : Replica) (fate : Fate) (place : Place) (word : ℕ) (s : Step)
-    → IsInside a → q ≡ stepped word a.replica s
+    → ends_view s ≡ false → IsInside a → q ≡ stepped word a.replica s
     → IsRunningMember (standing q fate place) → IsTimely fate q.turns → fate.limit ≡ a.fate.limit
     → IsInside (record { replica = q; place = place; fate = fate; bases = a.bases })
-inside_after a q fate place word s is e form timely limit =
+inside_after a q fate place word s stays is e form timely limit =
     record {
       form = form;
       fate = timely;
       limit = omega (arith, limit, is.limit);
       bases =
-          deeds_keep_bases a.bases word a.replica q s e is.bases;
+          deeds_keep_bases a.bases word a.replica q s stays e is.bases;
     }
 
 -- of a look
@@ -402,11 +404,16 @@ pub act_allowed : (now : Running) (a : Inside) (act : Act) → view_of a ≡ now
 act_allowed now a act view is acts due =
     allowed (view_of a) is.form (act_none now a view acts) (steps.Do act) due
 
+-- a vote waits only where the act is the vote's
+pub act_free : (a : Inside) (act : Act) → IsInside a → next_step (view_of a) ≡ steps.Do act
+    → is_free a.replica (steps.Do act) ≡ true
+act_free a act is due = subst (λ s. is_free a.replica s ≡ true) due (free_step (view_of a) is.form.free)
+
 pub act_taken : (word : ℕ) (now : Running) (a : Inside) (q : Replica) (fate : Fate) (from : Place)
     (act : Act) (turn : ℕ) → view_of a ≡ now → IsInside a
     → is_act (next_deed now) ≡ true → next_step (view_of a) ≡ steps.Do act → q
     ≡ taken a.replica act
-    → HasForm q → NoWordFell a.replica q
+    → HasForm q → (q.view ≡ a.replica.view → NoWordFell a.replica q)
     → from ≡ goes a.replica.roster (columns_of a.replica.roster a.replica.window)
     (part_of a.place) a.place
     → fate ≡ fate_after a.fate act turn
@@ -464,7 +471,7 @@ append_taken word now a s q from view is append step kind after form grown place
       due = ap next_step view ∙ step;
       replica = after;
       form = form;
-      grown = grown;
+      grown = λ same. grown;
       place = place;
       told = append_fate word a.replica a.fate a.place s kind;
     }
@@ -515,7 +522,7 @@ is_pushed now a q n t view is push after form grown pushes unchanged above withi
 }
 
 -- the kept number of columns is that of the replica after a step
-pub columns_after : (a : Inside) (q : Replica) (word : ℕ) (s : Step) → IsInside a
+pub columns_after : (a : Inside) (q : Replica) (word : ℕ) (s : Step) → ends_view s ≡ false → IsInside a
     → q ≡ stepped word a.replica s → a.bases.columns ≡ columns_of q.roster q.window
-columns_after a q word s is e = columns_kept a.bases q.roster q.window q.view (me q)
-    (deeds_keep_bases a.bases word a.replica q s e is.bases).are
+columns_after a q word s stays is e = columns_kept a.bases q.roster q.window q.view (me q)
+    (deeds_keep_bases a.bases word a.replica q s stays e is.bases).are

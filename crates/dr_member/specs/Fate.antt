@@ -2,6 +2,7 @@
 use Rattle.std.specs.Prelude.{◌≡◌, ℕ, ◌==◌, ◌≤◌, min, if◌then◌else◌, Bool, false, List, fold, Option, None, Some}
 use Rattle.dr_machine.specs.declared.event.Act.{Act}
 use Rattle.dr_machine.specs.declared.event.Act.TheVariants as acts
+use Rattle.dr_suspect.specs.Waits.{begun}
 use Rattle.dr_program.specs.declared.setup.CrashPoint.{CrashPoint}
 use Rattle.dr_member.specs.declared.fate.Fate.{Fate}
 
@@ -30,4 +31,5 @@ pub record IsTimely (fate : Fate) (turn : ℕ) : Type 0 where
 -- the fate after an act, in this turn
 abbrev pub fate_after : Fate → Act → ℕ → Fate
 fate_after fate acts.Beat turn = record fate { pushes = 0; crash = first_push turn fate.crashes }
+fate_after fate acts.Finish turn = record fate { waits = begun fate.waits.limit }
 fate_after fate act turn = fate

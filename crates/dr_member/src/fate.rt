@@ -80,13 +80,17 @@ impl Fate {
     }
 
     /// Takes note of an act, after which the member is in this turn. With a new turn the script's
-    /// points of that turn are sought among all of them.
+    /// points of that turn are sought among all of them; in a new view it waits anew.
     pub(crate) fn note(&mut self, act: Act, turn: u32)
         ensures { self.new ≡ fate_after self.old act turn }
     {
-        if let Act::Beat = act {
-            self.pushes = 0;
-            self.crash = first_push(self.crashes.as_slice(), turn);
+        match act {
+            Act::Beat => {
+                self.pushes = 0;
+                self.crash = first_push(self.crashes.as_slice(), turn);
+            }
+            Act::Finish => self.waits.reset(),
+            _ => {}
         }
     }
 }

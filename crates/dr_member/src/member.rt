@@ -1,4 +1,4 @@
-ghost use Rattle.std.specs.Prelude.{◌≡◌, ◌-◌, ◌<◌, ◌≤◌, ℕ, true, IfOk, Some, is_some, length};
+ghost use Rattle.std.specs.Prelude.{◌≡◌, ◌*◌, ◌-◌, ◌<◌, ◌≤◌, ℕ, true, IfOk, Some, is_some, length};
 ghost use Rattle.dr_machine.specs.declared.event.Act.TheVariants.{Crash};
 ghost use Rattle.dr_machine.specs.declared.step.Step.TheVariants.{Append, Do};
 ghost use Rattle.dr_program.specs.declared.place.Part.TheVariants as parts;
@@ -9,7 +9,7 @@ ghost use Rattle.dr_program.specs.Replica.{is_wedged, me, value_due, vote_of};
 ghost use Rattle.dr_program.specs.Running.{after_step, begun_running, broken_off, columns, crashes_now, deed_of, end_by, members, next_deed, next_step, push_or_crash};
 ghost use Rattle.dr_program.specs.Schedule.{is_between_turns};
 ghost use Rattle.dr_program.specs.Sight.{MaySee};
-ghost use Rattle.dr_program.specs.Steps.{index_in};
+ghost use Rattle.dr_program.specs.Steps.{NoWordFell, index_in};
 ghost use Rattle.dr_program.specs.Turn.{part_of};
 ghost use Rattle.dr_member.specs.Deeds.{IsWithin, is_act, is_append, is_before_turn, is_push, table_size};
 ghost use Rattle.dr_turn.specs.Work.{HasGrownTo, IsStill, deeds_left};
@@ -122,7 +122,7 @@ impl Member {
         requires { MaySee self.old (step_of_member self.old) word }
         ensures after { self.new ≡ after_step word self.old }
         ensures form { IsRunningMember self.new }
-        ensures grown { HasGrownTo self.old self.new }
+        ensures grown { NoWordFell self.old.replica self.new.replica }
         ensures falls { deeds_left self.new < deeds_left self.old }
         ensures keeps { IsStill self.old self.new }
     {
@@ -144,7 +144,7 @@ impl Member {
         requires { is_push (next_deed self.old) ≡ true }
         ensures after { (word : ℕ) → self.new ≡ after_step word self.old }
         ensures form { IsRunningMember self.new }
-        ensures grown { HasGrownTo self.old self.new }
+        ensures grown { NoWordFell self.old.replica self.new.replica }
         ensures falls { deeds_left self.new < deeds_left self.old }
         ensures keeps { IsStill self.old self.new }
     {
@@ -164,7 +164,8 @@ impl Member {
         }
     }
 
-    /// Does its act, whose beat word was stored.
+    /// Does its act, whose beat word was stored. The act that ends a view leads it into the next one, whose
+    /// words stand in another bank of the table.
     #[inline(never)]
     pub fn acted(&mut self)
         requires { is_act (next_deed self.old) ≡ true }
@@ -178,6 +179,7 @@ impl Member {
             go(&self.replica.shape(), &mut self.place);
             self.replica.take(act);
             self.fate.note(act, self.replica.turns());
+            self.bases.note(act, &self.replica);
             settle(&self.replica, &self.fate, &mut self.place);
         }
     }
@@ -188,7 +190,7 @@ impl Member {
         requires { is_append (next_deed self.old) ≡ true }
         ensures after { (word : ℕ) → self.new ≡ after_step word self.old }
         ensures form { IsRunningMember self.new }
-        ensures grown { HasGrownTo self.old self.new }
+        ensures grown { NoWordFell self.old.replica self.new.replica }
         ensures falls { deeds_left self.new < deeds_left self.old }
         ensures keeps { IsStill self.old self.new }
     {
@@ -204,7 +206,7 @@ impl Member {
         requires { is_append (next_deed self.old) ≡ true }
         ensures after { self.new ≡ broken_off why.now self.old }
         ensures form { IsRunningMember self.new }
-        ensures grown { HasGrownTo self.old self.new }
+        ensures grown { NoWordFell self.old.replica self.new.replica }
         ensures falls { deeds_left self.new < deeds_left self.old }
         ensures keeps { IsStill self.old self.new }
         ensures ends { next_step self.new ≡ Do (Crash (end_by why.now)) }
@@ -278,7 +280,8 @@ impl Member {
 
     /// How many votes more its log may get in this age.
     pub fn votes_left(&self) -> usize
-        ensures { result ≡ self.now.replica.roster - length self.now.replica.votes }
+        ensures { result ≡ self.now.replica.banks * self.now.replica.roster
+            - length self.now.replica.votes }
     {
         self.replica.votes_left()
     }
@@ -305,7 +308,7 @@ impl Member {
         requires step { next_step self.old ≡ Append }
         ensures after { (word : ℕ) → self.new ≡ after_step word self.old }
         ensures form { IsRunningMember self.new }
-        ensures grown { HasGrownTo self.old self.new }
+        ensures grown { NoWordFell self.old.replica self.new.replica }
         ensures falls { deeds_left self.new < deeds_left self.old }
         ensures keeps { IsStill self.old self.new }
     {
@@ -330,7 +333,7 @@ impl Member {
         requires at { part_of self.old.place ≡ parts.Vote }
         ensures after { (word : ℕ) → self.new ≡ after_step word self.old }
         ensures form { IsRunningMember self.new }
-        ensures grown { HasGrownTo self.old self.new }
+        ensures grown { NoWordFell self.old.replica self.new.replica }
         ensures falls { deeds_left self.new < deeds_left self.old }
         ensures keeps { IsStill self.old self.new }
     {

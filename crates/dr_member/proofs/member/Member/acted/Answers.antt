@@ -1,4 +1,4 @@
-use Rattle.std.proofs.Common.{ℕ, ap, ◌∙◌}
+use Rattle.std.proofs.Common.{ℕ, ap, ◌∙◌, arith}
 use Rattle.dr_words.specs.Columns.{columns_of}
 use Rattle.dr_machine.specs.declared.step.Step.TheVariants.{Do}
 use Rattle.dr_program.specs.Turn.{part_of}
@@ -8,7 +8,7 @@ use Rattle.dr_program.specs.Replica.{value_due}
 use Rattle.dr_member.specs.Search.{standing}
 use Rattle.dr_member.proofs.Answers.{IsAnswer, IsTaken, answer_at, is_answer, is_done}
 use Rattle.dr_member.proofs.Dues.{act_by, act_step, step_is}
-use Rattle.dr_member.proofs.Moves.{act_allowed, act_taken, acted_limit, acted_timely, inside_after}
+use Rattle.dr_member.proofs.Moves.{act_allowed, act_free, act_taken, acted_limit, acted_timely}
 use Rattle.dr_member.proofs.member.Member.acted.Goals as goal
 
 known : (c : goal.After-settle-arg-in-Act-2-1) (word : ℕ)
@@ -31,9 +31,14 @@ answer c word = answer_at word _ c.args.self.now _ c.self.view_is
     (is_answer word _ _ _ _ _ c.settle.new.place
     (known c.before word) c.settle.ensures)
 
-pub take-requires : goal.take-requires
-take-requires c =
+pub take-requires-clause-may : goal.take-requires-clause-may
+take-requires-clause-may c =
     act_allowed c.args.self.now c.self.inside c.in-Act.act c.self.view_is c.self.invariant c.requires
+    (step_is _ c.due_at.result c.self.inside.place (value_due c.self.inside.replica) c.in-Act.act
+    c.due_at.ensures c.in-Act.is)
+
+pub take-requires-clause-free : goal.take-requires-clause-free
+take-requires-clause-free c = act_free c.self.inside c.in-Act.act c.self.invariant
     (step_is _ c.due_at.result c.self.inside.place (value_due c.self.inside.replica) c.in-Act.act
     c.due_at.ensures c.in-Act.is)
 
@@ -46,12 +51,17 @@ settle-requires-clause-fate c =
     c.take.ensures.after c.note.ensures c.turns.ensures
 
 pub invariant_of-self : goal.invariant_of-self
-invariant_of-self c =
-    inside_after c.self.inside c.take.new.self c.note.new.self c.settle.new.place 0
-    (Do c.in-Act.act) c.self.invariant c.take.ensures.after (answer c 0).form
-    (acted_timely c.self.inside c.take.new.self c.note.new.self c.in-Act.act c.turns.result c.self.invariant
-    c.take.ensures.after c.note.ensures c.turns.ensures)
-    (acted_limit c.self.inside c.note.new.self c.in-Act.act c.turns.result c.note.ensures)
+invariant_of-self c = record {
+  form = (answer c 0).form;
+  fate = acted_timely c.self.inside c.take.new.self c.note.new.self c.in-Act.act c.turns.result
+      c.self.invariant c.take.ensures.after c.note.ensures c.turns.ensures;
+  limit = omega (
+    arith,
+    acted_limit c.self.inside c.note.new.self c.in-Act.act c.turns.result c.note.ensures,
+    c.self.invariant.limit,
+  );
+  bases = c.note-in-Act.ensures c.self.inside.replica c.self.invariant.bases c.take.ensures.after;
+}
 
 pub returns-in-Act-clause-after : goal.returns-in-Act-clause-after
 returns-in-Act-clause-after c = λ word. (answer c word).after

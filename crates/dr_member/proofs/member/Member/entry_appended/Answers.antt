@@ -35,7 +35,7 @@ settle-requires-clause-underway c = (is_done 0 _ _ _ _ _
 pub invariant_of-self : goal.invariant_of-self
 invariant_of-self c =
     inside_after c.self.inside c.append.new.self c.self.inside.fate c.settle.new.place 0 Append
-    c.self.invariant c.append.ensures.after (answer c 0).form
+    refl c.self.invariant c.append.ensures.after (answer c 0).form
     (appended_timely c.self.inside Append c.append.new.self c.self.invariant tt c.append.ensures.after) refl
 
 pub returns-clause-after : goal.returns-clause-after

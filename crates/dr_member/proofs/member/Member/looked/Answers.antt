@@ -23,7 +23,8 @@ within c = looked_within c.args.self.now c.self.inside.replica c.look.new.self c
       arith,
       c.if-next-self.true,
       columns_after c.self.inside c.look.new.self c.args.word
-          (Look c.self.inside.place.row c.self.inside.place.column) c.self.invariant c.look.ensures.after,
+          (Look c.self.inside.place.row c.self.inside.place.column) refl c.self.invariant
+          c.look.ensures.after,
     )
 
 known_past : (c : goal.After-leave_row-arg-else-next-self-2-1)
@@ -41,7 +42,7 @@ outer c = record {
     arith,
     c.if-next-self.false,
     columns_after c.self.inside c.look-else-next-self.new.self c.args.word
-        (Look c.self.inside.place.row c.self.inside.place.column) c.self.invariant
+        (Look c.self.inside.place.row c.self.inside.place.column) refl c.self.invariant
         c.look-else-next-self.ensures.after,
   );
   waits = c.wait_for.ensures.after;
@@ -88,7 +89,7 @@ leave_row-requires-clause-fate c =
 pub invariant_of-self : goal.invariant_of-self
 invariant_of-self c = inside_after c.self.inside c.look.new.self c.self.inside.fate
     (record c.self.inside.place { column = c.self.inside.place.column + 1 }) c.args.word
-    (Look c.self.inside.place.row c.self.inside.place.column) c.self.invariant c.look.ensures.after
+    (Look c.self.inside.place.row c.self.inside.place.column) refl c.self.invariant c.look.ensures.after
     (within c).form
     (looked_timely c.self.inside c.look.new.self _ _ c.args.word c.self.invariant c.look.ensures.after) refl
 
@@ -96,7 +97,7 @@ pub invariant_of-self-else-next-self : goal.invariant_of-self-else-next-self
 invariant_of-self-else-next-self c =
     inside_after c.self.inside c.look-else-next-self.new.self
     (waited c.self.inside.fate c.wait_for.new.patience) c.leave_row.new.place c.args.word
-    (Look c.self.inside.place.row c.self.inside.place.column) c.self.invariant
+    (Look c.self.inside.place.row c.self.inside.place.column) refl c.self.invariant
     c.look-else-next-self.ensures.after (past c).form
     (looked_row_timely c.self.inside c.look-else-next-self.new.self _ _ c.args.word
     c.wait_for.new.patience c.self.invariant c.look-else-next-self.ensures.after) refl

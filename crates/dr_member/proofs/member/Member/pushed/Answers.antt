@@ -31,7 +31,8 @@ next c word =
       arith,
       c.if-next-columns.true,
       columns_after c.self.inside c.push.new.self 0
-          (Push c.self.inside.place.row c.self.inside.place.column) c.self.invariant c.push.ensures.after,
+          (Push c.self.inside.place.row c.self.inside.place.column) refl c.self.invariant
+          c.push.ensures.after,
     )
 
 known_past : (c : goal.After-leave_row-arg-else-next-columns-2-1)
@@ -50,7 +51,7 @@ outer c = omega (
   arith,
   c.if-next-columns.false,
   columns_after c.self.inside c.push.new.self 0
-      (Push c.self.inside.place.row c.self.inside.place.column) c.self.invariant c.push.ensures.after,
+      (Push c.self.inside.place.row c.self.inside.place.column) refl c.self.invariant c.push.ensures.after,
 )
 
 past : (c : goal.After-leave_row) (word : ℕ)
@@ -65,7 +66,7 @@ past c word =
 pub next_changed-next-requires-clause-columns : goal.next_changed-next-requires-clause-columns
 next_changed-next-requires-clause-columns c =
     columns_after c.self.inside c.push.new.self 0
-    (Push c.self.inside.place.row c.self.inside.place.column) c.self.invariant c.push.ensures.after
+    (Push c.self.inside.place.row c.self.inside.place.column) refl c.self.invariant c.push.ensures.after
 
 pub leave_row-requires-clause-underway : goal.leave_row-requires-clause-underway
 leave_row-requires-clause-underway c =
@@ -83,7 +84,7 @@ invariant_of-self c =
     inside_after c.self.inside c.push.new.self
     (counted c.self.inside.fate c.saturating_add-self-inside.result)
     (record c.self.inside.place { column = c.next_changed-next.result }) 0
-    (Push c.self.inside.place.row c.self.inside.place.column) c.self.invariant c.push.ensures.after
+    (Push c.self.inside.place.row c.self.inside.place.column) refl c.self.invariant c.push.ensures.after
     (next c 0).form
     (pushed_timely c.self.inside.replica c.push.new.self c.self.inside.fate c.self.inside.place
     c.saturating_add-self-inside.result c.next_changed-next.result
@@ -93,7 +94,7 @@ pub invariant_of-self-else-next-columns : goal.invariant_of-self-else-next-colum
 invariant_of-self-else-next-columns c =
     inside_after c.self.inside c.push.new.self
     (counted c.self.inside.fate c.saturating_add-self-inside.result) c.leave_row.new.place 0
-    (Push c.self.inside.place.row c.self.inside.place.column) c.self.invariant c.push.ensures.after
+    (Push c.self.inside.place.row c.self.inside.place.column) refl c.self.invariant c.push.ensures.after
     (past c 0).form
     (pushed_timely c.self.inside.replica c.push.new.self c.self.inside.fate c.self.inside.place
     c.saturating_add-self-inside.result c.next_changed-next.result
@@ -108,6 +109,9 @@ returns-then-next-columns-clause-form c = (next c 0).form
 pub returns-then-next-columns-clause-falls : goal.returns-then-next-columns-clause-falls
 returns-then-next-columns-clause-falls c = (next c 0).done.fewer
 
+pub returns-then-next-columns-clause-keeps : goal.returns-then-next-columns-clause-keeps
+returns-then-next-columns-clause-keeps c = (next c 0).done.still
+
 pub returns-else-next-columns-clause-after : goal.returns-else-next-columns-clause-after
 returns-else-next-columns-clause-after c = λ word. (past c word).after
 
@@ -116,3 +120,6 @@ returns-else-next-columns-clause-form c = (past c 0).form
 
 pub returns-else-next-columns-clause-falls : goal.returns-else-next-columns-clause-falls
 returns-else-next-columns-clause-falls c = (past c 0).done.fewer
+
+pub returns-else-next-columns-clause-keeps : goal.returns-else-next-columns-clause-keeps
+returns-else-next-columns-clause-keeps c = (past c 0).done.still

@@ -60,7 +60,7 @@ vote-requires-clause-free c =
 pub invariant_of-self : goal.invariant_of-self
 invariant_of-self c =
     inside_after c.self.inside c.vote.new.self c.self.inside.fate c.settle.new.place 0
-    (LogVote c.value_due-value.result) c.self.invariant c.vote.ensures.after (answer c 0).form
+    (LogVote c.value_due-value.result) refl c.self.invariant c.vote.ensures.after (answer c 0).form
     (appended_timely c.self.inside (LogVote c.value_due-value.result) c.vote.new.self c.self.invariant tt
     c.vote.ensures.after) refl
 
