@@ -5,8 +5,7 @@ use Rattle.dr_machine.proofs.Presence.{is_present}
 use Rattle.dr_machine.specs.Group.{Group, IsGroup, roster}
 use Rattle.dr_machine.specs.Run.{IsReached, accounts_in}
 use Rattle.dr_machine.specs.World.{World}
-use Rattle.dr_world_laws.proofs.Agreeing.{agreed}
-use Rattle.dr_world_laws.proofs.Reached.{known}
+use Rattle.dr_world_laws.proofs.Worlds.{agreed, known}
 
 -- a member has delivered all that it knows to be durable
 pub durable_delivered : (g : Group) (w : World) (m : ℕ) → IsGroup g → IsReached g w → m < roster g

@@ -1,2 +1,3 @@
+mod Certain
 mod Durable
 mod Runs

@@ -7,6 +7,7 @@ ghost use Rattle.dr_machine.specs.World.{opening_world};
 ghost use Rattle.dr_script.specs.Ranges.{HasGroupRanges};
 ghost use Rattle.dr_restart.specs.Groups.{group_of};
 ghost use Rattle.dr_world.specs.Held.{its_group, its_world};
+ghost use Rattle.dr_agree.specs.Certain.{DoneHoldAll, ViewsAgreed, WholeAreOne};
 
 use dr_entry::Entry;
 use dr_oracle::is_prefix;
@@ -16,8 +17,9 @@ use dr_world::{Event, World};
 use std::alloc::{AllocError, Global};
 
 /// Runs the group of a script from a start through these events, whatever they are: those that may
-/// not come change nothing. In the world after them the members agree, and no slot holds a later item
-/// than the one that a member waits for there.
+/// not come change nothing. In the world after them the members agree on their histories and on their
+/// views, members that have ended as done have everything, and no slot holds a later item than the one
+/// that a member waits for there.
 ///
 /// # Errors
 ///
@@ -33,6 +35,9 @@ pub fn agreed_run(
     ensures run { IfOk result (λ w. Run (group_of script.now start.now)
         (opening_world (group_of script.now start.now)) events.now (its_world w)) }
     ensures agreed { IfOk result (λ w. WorldAgreed (group_of script.now start.now) (its_world w)) }
+    ensures views { IfOk result (λ w. ViewsAgreed (group_of script.now start.now) (its_world w)) }
+    ensures done { IfOk result (λ w. DoneHoldAll (group_of script.now start.now) (its_world w)) }
+    ensures whole { IfOk result (λ w. WholeAreOne (group_of script.now start.now) (its_world w)) }
     ensures no_later_item { IfOk result (λ w. NoLaterItem (group_of script.now start.now) (its_world w)) }
     ensures script { IfOk result (λ w. w.script ≡ script.now) }
     ensures start { IfOk result (λ w. w.start ≡ start.now) }

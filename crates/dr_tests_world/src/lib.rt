@@ -7,4 +7,6 @@
 #[cfg(test)]
 mod tests;
 #[cfg(test)]
+mod views;
+#[cfg(test)]
 mod votes;

@@ -123,6 +123,9 @@ fn a_later_ballot_takes_over_the_value_of_an_earlier_one(rt: HostRuntime) -> Res
         assert!(rt; show(&mut world, m, 1, 10, 16));
     }
     assert!(rt; world.step(&Event::Commit { m: 1 }));
+    // What member 2 has of its proposal: promise 1, tag 2, and the leavers.
+    assert!(rt; world.members() == 5 && world.script().window == 1);
+    assert!(rt; world.word(2, 1, 10) == 0x0102_0000_0000_0010);
     assert!(rt; agree(&world));
     Ok(())
 }

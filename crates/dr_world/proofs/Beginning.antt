@@ -1,5 +1,5 @@
 -- Replicas that have begun are the group's as its age opens.
-use Rattle.std.proofs.Common.{◌≡◌, refl, sym, ap, ◌∙◌, subst, ℕ, ◌+◌, ◌*◌, ◌<◌, ◌≤◌, List, [], ◌∷◌, ◌++◌, length, map, replicate, arith}
+use Rattle.std.proofs.Common.{◌≡◌, refl, sym, ap, ◌∙◌, subst, ℕ, ◌+◌, ◌*◌, ◌<◌, List, [], ◌∷◌, ◌++◌, length, map, replicate, arith}
 use Rattle.std.specs.Prelude.{Option, Some, None, option_map, slice_get}
 use Rattle.std.proofs.lemmas.List.{length-map, length-replicate, map-append}
 use Rattle.std.proofs.lemmas.Option.{slice_get-map, slice_get_within, same_Some}
@@ -50,7 +50,7 @@ begins g limit m s is setup within =
 
 begun_room : (g : Group) (limit m : ℕ) (s : Setup) → IsSetup g limit m s
     → length g.opening.start + banks g + greatest (begun_replica s).totals * roster g
-    ≤ (begun_replica s).room
+    < (begun_replica s).room
 begun_room g limit m s setup =
     let product : greatest s.totals * s.shape.members
     ≡ greatest s.totals * roster g = ap (λ n. greatest s.totals * n) setup.members in
@@ -79,7 +79,7 @@ begun_members g limit setups is are = record {
   of = λ m r there. begun_at g limit setups are (IsOf g m) m r there
       (λ s setup within. (begins g limit m s is setup within).1);
   room = λ m r there. begun_at g limit setups are
-      (λ q. length g.opening.start + banks g + greatest q.totals * roster g ≤ q.room) m r there
+      (λ q. length g.opening.start + banks g + greatest q.totals * roster g < q.room) m r there
       (λ s setup within. begun_room g limit m s setup);
 }
 

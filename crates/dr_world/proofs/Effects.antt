@@ -1,6 +1,6 @@
 -- What an event makes of the replica of its member and of the table is its effect on the world.
 use Rattle.std.proofs.Common.{◌≡◌, ◌≢◌, refl, sym, ap, ◌∙◌, subst, ℕ, ◌<◌, true, not, List, arith}
-use Rattle.std.specs.Prelude.{Some, slice_get, slice_set}
+use Rattle.std.specs.Prelude.{Some, slice_get, slice_index, slice_set}
 use Rattle.std.proofs.lemmas.Bool.{and_parts}
 use Rattle.std.proofs.lemmas.Option.{slice_get_within}
 use Rattle.dr_history.specs.Members.{has}
@@ -15,11 +15,12 @@ use Rattle.dr_machine.specs.Group.{Group, roster, columns}
 use Rattle.dr_machine.specs.World.{World}
 use Rattle.dr_machine.specs.Acts.{effect}
 use Rattle.dr_program.specs.Replica.{Replica, is_other}
-use Rattle.dr_program.specs.Steps.{has_cell, allows, found, stepped_over, stored}
+use Rattle.dr_program.specs.Steps.{has_cell, allows, found, index_in, stepped_over, stored}
 use Rattle.dr_program.specs.Reading.{world_of}
 use Rattle.dr_program.proofs.Holdings.{held_of}
 use Rattle.dr_faithful.specs.Faithful.{Faithful}
-use Rattle.dr_faithful.proofs.Faithfulness.{faithful}
+use Rattle.dr_faithful.specs.Chosen.{views_by}
+use Rattle.dr_world_laws.proofs.Worlds.{Known, faithful, known}
 use Rattle.dr_refine.specs.Programs.{IsMember}
 use Rattle.dr_refine.proofs.Tables.{word_inside}
 use Rattle.dr_refine.proofs.Guards.{other_member, other_within, seen_is}
@@ -70,7 +71,17 @@ word_is g rs table m r i c is member row column =
     ∙ word_inside g table r.view m i c (omega (arith, is.form.bank, is.of.banks)) member row column
     ∙ sym (found_is g rs table m r i c is)
 
--- it is in form, and has grown from the one last seen
+-- so is the word that stands at the index of a cell
+pub word_at : (h : Held) (m : ℕ) (r : Replica) (i c : ℕ) → IsHeld h → slice_get h.replicas m ≡ Some r
+    → i < roster (its_group h) → c < columns (its_group h)
+    → slice_index h.table (index_in r m i c) ≡ (its_world h).table ((its_world h).past.view m) m i c
+word_at h m r i c is there row column =
+    let member : IsMember (its_group h) h.replicas h.table m r = is_member h m r is there in
+    ap (λ j. slice_index h.table (index_in r j i c)) (sym member.of.number)
+    ∙ sym (word_is (its_group h) h.replicas h.table m r i c member
+    (omega (arith, slice_get_within h.replicas m r there, is.members.all)) row column)
+
+-- what a look finds is in form, and has grown from the word last seen
 sight : (h : Held) (m : ℕ) (r : Replica) (i c : ℕ) → IsHeld h → slice_get h.replicas m ≡ Some r
     → has_cell r i c ≡ true → IsSight h.table r i c
 sight h m r i c is there cell = record {
@@ -97,8 +108,11 @@ sight h m r i c is there cell = record {
     apart : i ≢ m
     apart = ((other_member g h.replicas h.table m r i member).0 tests.0).other
 
-    told : Faithful (its_group h) (λ v. (its_group h).opening.members) (its_world h)
-    told = faithful g w is.group is.reached
+    so : Known (its_group h) (its_world h)
+    so = known g w is.group is.reached
+
+    told : Faithful (its_group h) (views_by (its_group h) so.values) (its_world h)
+    told = faithful g w so
 
     word : (its_world h).table ((its_world h).past.view m) m i c ≡ found h.table r i c
     word = word_is g h.replicas h.table m r i c member

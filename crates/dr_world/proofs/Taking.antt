@@ -17,7 +17,7 @@ use Rattle.dr_program.specs.Form.{HasForm, IsOf}
 use Rattle.dr_machine.proofs.Runs.{reached_more, run_on}
 use Rattle.dr_program.proofs.Fixed.{Told, told, step_told, of_told}
 use Rattle.dr_program.proofs.Holdings.{replica_set, replica_kept}
-use Rattle.dr_faithful.proofs.Faithfulness.{words_grew}
+use Rattle.dr_world_laws.proofs.Worlds.{known, words_grew}
 use Rattle.dr_refine.proofs.Steps.{stored_length}
 use Rattle.dr_world.specs.Held.{Held, its_group, its_world, AreMembers, IsHeld}
 use Rattle.dr_program.specs.Steps.{allows, is_free, may_take, sight, stepped_over, stored}
@@ -27,10 +27,10 @@ use Rattle.dr_world.proofs.Effects.{after, take_effect}
 -- ---- what no event changes of a replica
 
 room_told : (g : Group) (r q : Replica) → told q ≡ told r
-    → length g.opening.start + banks g + greatest r.totals * roster g ≤ r.room
-    → length g.opening.start + banks g + greatest q.totals * roster g ≤ q.room
+    → length g.opening.start + banks g + greatest r.totals * roster g < r.room
+    → length g.opening.start + banks g + greatest q.totals * roster g < q.room
 room_told g r q same room = subst
-    (λ (t : Told). length g.opening.start + banks g + greatest t.totals * roster g ≤ t.room)
+    (λ (t : Told). length g.opening.start + banks g + greatest t.totals * roster g < t.room)
     (sym same) room
 
 -- ---- the members
@@ -72,9 +72,9 @@ members_kept g rs m r q are there form same = record {
     by_of k x (inr other) = are.of k x other
 
     by_room : (k : ℕ) (x : Replica) → ((k ≡ m) × (q ≡ x)) ⊎ (slice_get rs k ≡ Some x)
-        → length g.opening.start + banks g + greatest x.totals * roster g ≤ x.room
+        → length g.opening.start + banks g + greatest x.totals * roster g < x.room
     by_room k x (inl here) = subst
-        (λ (y : Replica). length g.opening.start + banks g + greatest y.totals * roster g ≤ y.room)
+        (λ (y : Replica). length g.opening.start + banks g + greatest y.totals * roster g < y.room)
         here.1 (room_told g r q same (are.room m r there))
     by_room k x (inr other) = are.room k x other
 
@@ -131,7 +131,8 @@ pub taken_grew : (h : Held) (e : Event) (r : Replica) → IsHeld h → slice_get
 taken_grew h e r is there may =
     let happens = taken_happens h e r is there may in
     subst (WordsGrew (its_group h) (its_world h)) (sym happens.1)
-    (words_grew (its_group h) (its_world h) e is.group is.reached happens.0)
+    (words_grew (its_group h) (its_world h) e is.group (known (its_group h) (its_world h) is.group is.reached)
+    happens.0)
 
 -- ---- as the program finds them
 

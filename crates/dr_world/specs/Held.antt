@@ -1,5 +1,5 @@
 -- What the program holds of a group, and the world that it is.
-use Rattle.std.specs.Prelude.{◌≡◌, ℕ, ◌+◌, ◌*◌, ◌≤◌, List, length, slice_get, Some}
+use Rattle.std.specs.Prelude.{◌≡◌, ℕ, ◌+◌, ◌*◌, ◌<◌, List, length, slice_get, Some}
 use Rattle.dr_script.specs.declared.script.Script.{Script}
 use Rattle.dr_restart.specs.declared.start.Start.{Start}
 use Rattle.dr_restart.specs.Groups.{group_of}
@@ -32,7 +32,7 @@ pub record AreMembers (g : Group) (rs : List Replica) : Type 0 where
   pub form : (m : ℕ) (r : Replica) → slice_get rs m ≡ Some r → HasForm r
   pub of : (m : ℕ) (r : Replica) → slice_get rs m ≡ Some r → IsOf g m r
   pub room : (m : ℕ) (r : Replica) → slice_get rs m ≡ Some r
-      → length g.opening.start + banks g + greatest r.totals * roster g ≤ r.room
+      → length g.opening.start + banks g + greatest r.totals * roster g < r.room
 
 -- the members of a group, in a world that some events lead to
 pub record IsHeld (h : Held) : Type 0 where

@@ -36,6 +36,7 @@ fn is_free(replica: &Replica, step: Step) -> bool
             | Act::Mark
             | Act::Suspect { .. }
             | Act::Commit
+            | Act::Finish
             | Act::Halt { .. },
         )
         | Step::Look { .. }
@@ -46,7 +47,7 @@ fn is_free(replica: &Replica, step: Step) -> bool
 }
 
 /// The index of a word of the table, in the bank of the replica's view.
-fn index_in(replica: &Replica, copy: u8, row: u8, column: usize) -> usize
+pub(crate) fn index_in(replica: &Replica, copy: u8, row: u8, column: usize) -> usize
     requires copy { copy < replica.now.roster }
     requires row { row < replica.now.roster }
     requires column { column < columns_of replica.now.roster replica.now.window }

@@ -1,5 +1,5 @@
 ghost use Rattle.std.specs.Prelude.{◌≡◌, ◌↔◌, ◌<◌, IfOk, IsTrue, Some, false, slice_get};
-ghost use Rattle.dr_machine.specs.Group.{IsGroup, roster};
+ghost use Rattle.dr_machine.specs.Group.{IsGroup, columns, roster};
 ghost use Rattle.dr_machine.specs.Acts.{Guard};
 ghost use Rattle.dr_machine.specs.Run.{Happens, IsReached, Run, WordsGrew};
 ghost use Rattle.dr_machine.specs.World.{count_of, opening_world};
@@ -8,7 +8,7 @@ ghost use Rattle.dr_restart.specs.Groups.{group_of};
 ghost use Rattle.dr_world.specs.Held.{AreMembers, its_group, its_world};
 
 use crate::opening::{copy_script, replicas_of};
-use crate::steps::{may_take, store, take};
+use crate::steps::{index_in, may_take, store, take};
 use dr_entry::{Entry, SentItem};
 use dr_machine::Event;
 use dr_replica::Replica;
@@ -156,6 +156,16 @@ impl World {
         ensures { result ≡ count_of (its_world self.now) m s }
     {
         self.replica(m).count(s)
+    }
+
+    /// The word of a column in a row of a member's copy of the table, in the bank of its view.
+    pub fn word(&self, m: u8, row: u8, column: usize) -> u64
+        requires member { m < roster (its_group self.now) }
+        requires row { row < roster (its_group self.now) }
+        requires column { column < columns (its_group self.now) }
+        ensures { result ≡ (its_world self.now).table ((its_world self.now).past.view m) m row column }
+    {
+        self.table[index_in(self.replica(m), m, row, column)]
     }
 
     /// The replica of a member.

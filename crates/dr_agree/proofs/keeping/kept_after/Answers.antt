@@ -2,8 +2,7 @@ use Rattle.std.proofs.Common.{arith}
 use Rattle.dr_history_laws.proofs.Keeping.{longest_keeps}
 use Rattle.dr_machine.specs.Run.{accounts_in}
 use Rattle.dr_restart.specs.Groups.{group_of}
-use Rattle.dr_world_laws.proofs.Agreeing.{agreed}
-use Rattle.dr_world_laws.proofs.Reached.{known}
+use Rattle.dr_world_laws.proofs.Worlds.{agreed, known}
 use Rattle.dr_agree.specs.Left.{entries_of}
 use Rattle.dr_agree.proofs.keeping.kept_after.Goals as goal
 

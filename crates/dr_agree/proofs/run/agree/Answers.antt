@@ -1,8 +1,7 @@
 use Rattle.std.proofs.Common.{◌<◌, refl, arith}
 use Rattle.dr_machine.specs.Group.{roster}
 use Rattle.dr_world.specs.Held.{its_group, its_world}
-use Rattle.dr_world_laws.proofs.Agreeing.{agreed}
-use Rattle.dr_world_laws.proofs.Reached.{known}
+use Rattle.dr_world_laws.proofs.Worlds.{agreed, known}
 use Rattle.dr_agree.proofs.Runs.{either_prefix}
 use Rattle.dr_agree.proofs.run.agree.Goals as goal
 
