@@ -25,6 +25,7 @@ use Rattle.dr_program_laws.specs.Swept.{IsIdle, Swept}
 use Rattle.dr_program_laws.specs.Wants.{Wants, ShowsMore, is_work, IsToTake, IsLeft, NoneIsLeft, IsToEnd, IsToPublish, IsToMark}
 use Rattle.dr_turn.proofs.Deeds.{is_publish, is_verdict}
 use Rattle.dr_turn.proofs.Order.{all_below, each_below}
+use Rattle.dr_turn.proofs.Tasks.{ends_view}
 use Rattle.dr_words.proofs.Bits.{has_zero}
 use Rattle.dr_words.specs.declared.column.TheConstants.{BEAT_COLUMN, DONE_COLUMN, LOGGED_COLUMN, RECEIVED_COLUMN}
 use Rattle.dr_program.specs.Replica.{Replica}
@@ -74,6 +75,14 @@ asked g w m (steps.Do (acts.Suspect j)) may calm wants =
 asked g w m (steps.Do acts.Propose) may calm wants = absurd wants
 asked g w m (steps.Do acts.Accept) may calm wants = absurd wants
 asked g w m (steps.Do acts.Commit) may calm wants = absurd wants
+asked g w m (steps.Do acts.Finish) may calm wants = record {
+  may = may;
+  value = wants.0;
+  committed = wants.1;
+  stays = wants.2;
+  bank = wants.3;
+  items = wants.4;
+}
 asked g w m (steps.Do (acts.Halt end)) may calm wants = record { may = may; due = is_due w m end calm wants }
 asked g w m (steps.Do (acts.Crash end)) may calm wants = record { alive = may.alive; fault = wants }
 asked g w m (steps.Look i c) may calm wants = record {
@@ -103,6 +112,7 @@ asks g w m (steps.Do (acts.Suspect j)) calm can = can.other
 asks g w m (steps.Do acts.Propose) calm can = absurd (cc ((calm refl).0.idle, can.waits))
 asks g w m (steps.Do acts.Accept) calm can = absurd (cc ((calm refl).0.idle, can.waits))
 asks g w m (steps.Do acts.Commit) calm can = absurd (can.wedged (calm refl).1)
+asks g w m (steps.Do acts.Finish) calm can = (can.value, can.committed, can.stays, can.bank, can.items)
 asks g w m (steps.Do (acts.Halt end)) calm can = is_to_end w m end (calm refl).1 can.due
 asks g w m (steps.Do (acts.Crash end)) calm can = can.fault
 asks g w m (steps.Look i c) calm can = (can.row, can.column)
@@ -122,6 +132,7 @@ receive_kept g w m (steps.Do acts.Send) i c =
 receive_kept g w m (steps.Do acts.Null) i c =
     Some (λ old wants. old (gained_other g w (effect_of g w m (steps.Do acts.Null)) m m i wants.0.other refl
     wants.0 wants.1))
+receive_kept g w m (steps.Do acts.Finish) i c = None
 receive_kept g w m (steps.Look j d) i c = None
 receive_kept g w m s i c = Some (λ old wants. old
     (to_take g w (effect_of g w m s) m i (count_of w m i) refl refl wants.0 wants.1))
@@ -131,6 +142,7 @@ send_kept : (g : Group) (w : World) (m : ℕ) (s : Step) (i c : ℕ)
 send_kept g w m (steps.Do (acts.Receive j)) i c = None
 send_kept g w m (steps.Do acts.Send) i c = None
 send_kept g w m (steps.Do acts.Null) i c = Some (λ old wants. old (nulled_left g w m wants))
+send_kept g w m (steps.Do acts.Finish) i c = None
 send_kept g w m (steps.Look j d) i c = None
 send_kept g w m s i c = Some (λ old wants. old (
   wants.0,
@@ -143,6 +155,7 @@ null_kept : (g : Group) (w : World) (m : ℕ) (s : Step) (i c : ℕ)
 null_kept g w m (steps.Do (acts.Receive j)) i c = None
 null_kept g w m (steps.Do acts.Send) i c = None
 null_kept g w m (steps.Do acts.Null) i c = None
+null_kept g w m (steps.Do acts.Finish) i c = None
 null_kept g w m (steps.Look j d) i c = None
 null_kept g w m s i c = Some (λ old wants. old (
   wants.0,
@@ -226,6 +239,7 @@ does_kept g w m (acts.Suspect j) part i c = None
 does_kept g w m acts.Propose part i c = None
 does_kept g w m acts.Accept part i c = None
 does_kept g w m acts.Commit part i c = None
+does_kept g w m acts.Finish part i c = None
 does_kept g w m (acts.Halt end) parts.Push i c = None
 does_kept g w m (acts.Halt end) (parts.Do acts.Mark) i c = Some (λ old. old)
 does_kept g w m (acts.Halt end) part i c = Some (λ old. old)
@@ -248,6 +262,7 @@ kept g w m s (parts.Do (acts.Suspect j)) i c = None
 kept g w m s (parts.Do (acts.Halt end)) i c = None
 kept g w m s (parts.Do acts.Send) i c = send_kept g w m s i c
 kept g w m s (parts.Do acts.Null) i c = null_kept g w m s i c
+kept g w m (steps.Do acts.Finish) part i c = None
 kept g w m (steps.Do (acts.Halt end)) parts.Push i c = Some (end_kept g w m end i c)
 kept g w m (steps.Do (acts.Crash end)) parts.Push i c = Some (end_kept g w m end i c)
 kept g w m (steps.Do a) part i c = both (does_kept g w m a part i c) (stamp_kept g (does g w m a) m part i c)
@@ -279,13 +294,15 @@ abbrev pub is_judge : Part → Bool
 is_judge parts.Judge = true
 is_judge part = false
 
--- the part is one that a member which suspects nobody passes: it judges nothing, and has no vote
+-- the part is one that a member which suspects nobody passes: it judges nothing, has no vote, and doesn't end
+-- its view
 abbrev pub is_passed : Part → Bool
 is_passed parts.Judge = true
 is_passed parts.Vote = true
 is_passed (parts.Do acts.Propose) = true
 is_passed (parts.Do acts.Accept) = true
 is_passed (parts.Do acts.Commit) = true
+is_passed (parts.Do acts.Finish) = true
 is_passed parts.Excluded = true
 is_passed part = false
 
@@ -326,12 +343,12 @@ earlier_kept g w m r p q inside before plain forth =
 -- the member stands behind the pushes in its turn, and its view is of the roster
 pub record IsPastPushes (g : Group) (w : World) (m : ℕ) (p : Place) : Type 0 where
   pub swept : Swept g w m p
-  pub late : length TURN - 4 < p.part
+  pub late : length TURN - 5 < p.part
   pub view : (i : ℕ) → has (w.members m) i ≡ true → i < roster g
 
 -- a row and a column of a part
 pub idle_part : (g : Group) (w : World) (m : ℕ) (p : Place) (a i c : ℕ) → IsPastPushes g w m p
-    → a < length TURN - 4 → i < rows_in (roster g) (numbered a) → c < columns_in (columns g) (numbered a)
+    → a < length TURN - 5 → i < rows_in (roster g) (numbered a) → c < columns_in (columns g) (numbered a)
     → IsIdle g w m (numbered a) i c
 idle_part g w m p a i c behind early row column =
     behind.swept (record { part = a; row = i; column = c })
@@ -343,7 +360,7 @@ pub idle_work : (g : Group) (w : World) (m : ℕ) (p : Place) → IsPastPushes g
     → (s : Step) → is_work s ≡ true → Wants g w m s → ⊥
 idle_work g w m p behind s work = by s work
   where
-    one : (a : ℕ) → a < length TURN - 4 → rows_in (roster g) (numbered a) ≡ 1
+    one : (a : ℕ) → a < length TURN - 5 → rows_in (roster g) (numbered a) ≡ 1
         → columns_in (columns g) (numbered a) ≡ 1 → IsIdle g w m (numbered a) 0 0
     one a early row column =
         idle_part g w m p a 0 0 behind early (omega (arith, row)) (omega (arith, column))
@@ -353,12 +370,12 @@ idle_work g w m p behind s work = by s work
         idle_part g w m p 2 i 0 behind (omega arith) (behind.view i wants.0.member) (omega arith) wants
     by (steps.Do acts.Send) work = one 3 (omega arith) refl refl
     by (steps.Do acts.Null) work = one 4 (omega arith) refl refl
-    by (steps.Do acts.Deliver) work = one (length TURN - 15) (omega arith) refl refl
-    by steps.Append work = λ wants. one (length TURN - 13) (omega arith) refl refl
-        (one (length TURN - 14) (omega arith) refl refl wants)
-    by (steps.Do acts.Publish) work = one (length TURN - 13) (omega arith) refl refl
-    by (steps.Do acts.Report) work = one (length TURN - 12) (omega arith) refl refl
-    by (steps.Do acts.Mark) work = one (length TURN - 11) (omega arith) refl refl
+    by (steps.Do acts.Deliver) work = one (length TURN - 16) (omega arith) refl refl
+    by steps.Append work = λ wants. one (length TURN - 14) (omega arith) refl refl
+        (one (length TURN - 15) (omega arith) refl refl wants)
+    by (steps.Do acts.Publish) work = one (length TURN - 14) (omega arith) refl refl
+    by (steps.Do acts.Report) work = one (length TURN - 13) (omega arith) refl refl
+    by (steps.Do acts.Mark) work = one (length TURN - 12) (omega arith) refl refl
     by s work = absurd (cc)
 
 -- ---- a member at rest
@@ -422,28 +439,30 @@ verdict_no_beat a verdict = refl
 pub turns_stay : (g : Group) (w : World) (m : ℕ) (a : Act) → is_beat (parts.Do a) ≡ false
     → (effect_of g w m (steps.Do a)).turns m ≡ w.turns m
 turns_stay g w m acts.Beat other = absurd (cc)
+turns_stay g w m acts.Finish other = refl
 turns_stay g w m a other = refl
 
 pub taken_turns : (r : Replica) (a : Act) → is_beat (parts.Do a) ≡ false → (taken r a).turns ≡ r.turns
 taken_turns r acts.Beat other = absurd (cc)
+taken_turns r acts.Finish other = refl
 taken_turns r a other = refl
 
 pub taken_end : (r : Replica) (a : Act) → is_end (parts.Do a) ≡ false → (taken r a).end ≡ r.end
 taken_end r (acts.Halt end) other = absurd (cc)
 taken_end r (acts.Crash end) other = absurd (cc)
+taken_end r acts.Finish other = refl
 taken_end r a other = refl
 
--- no act changes the view or what was pushed, and in the table only its stamp changes
-pub taken_view : (r : Replica) (a : Act) → (taken r a).view ≡ r.view
-taken_view r acts.Mark = refl
-taken_view r a = refl
-
-pub taken_pushed : (r : Replica) (a : Act) → (taken r a).rows.sent ≡ r.rows.sent
-taken_pushed r acts.Mark = refl
-taken_pushed r a = refl
+-- no act by which the member stays in its view changes what was pushed, and in the table only a stamp changes
+pub taken_pushed : (r : Replica) (a : Act) → ends_view (steps.Do a) ≡ false
+    → (taken r a).rows.sent ≡ r.rows.sent
+taken_pushed r acts.Finish stays = absurd (cc stays)
+taken_pushed r acts.Mark stays = refl
+taken_pushed r a stays = refl
 
 pub table_stays : (g : Group) (w : World) (m : ℕ) (a : Act) → (does g w m a).table ≡ w.table
 table_stays g w m acts.Mark = refl
+table_stays g w m acts.Finish = refl
 table_stays g w m a = refl
 
 -- where a member goes on after an act that is no beat: a part before, or where it was

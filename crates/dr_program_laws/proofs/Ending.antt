@@ -1,18 +1,26 @@
 -- Members that have all ended have ended as they should.
-use Rattle.std.proofs.Common.{◌≡◌, refl, sym, ap, ◌∙◌, inl, inr, subst, ℕ, ◌<◌, ◌≤◌, List, ◌++◌, length, take, true, arith}
+use Rattle.std.proofs.Common.{◌≡◌, ◌⊎◌, refl, sym, ap, ◌∙◌, inl, inr, subst, ℕ, ◌+◌, ◌<◌, ◌≤◌, ◌&&◌, not, Bool, List, [], ◌++◌, length, take, true, false, Contains, append-nil, length-append, arith}
 use Rattle.std.specs.Prelude.{IsTrue, Option, None, Some, is_some, option_map, slice_get, unwrap_or}
-use Rattle.std.proofs.lemmas.List.{length-map, length-take}
+use Rattle.std.proofs.lemmas.List.{length-map, length-take, nil_from_length}
 use Rattle.std.proofs.lemmas.Option.{get_or_from_slice_get, slice_get_cases, slice_get-map, slice_get_within, same_Some}
 use Rattle.dr_entry.specs.declared.entry.Entry.{Entry}
+use Rattle.dr_entry.specs.declared.entry.Entry.TheVariants.{View}
 use Rattle.dr_entry.specs.declared.end.End.{End}
 use Rattle.dr_entry.specs.declared.end.End.TheVariants as ends
+use Rattle.dr_entry.specs.declared.end.MemberEnd.{MemberEnd}
+use Rattle.dr_faithful.proofs.Suspicions.{members_small}
+use Rattle.dr_faithful.specs.Chosen.{views_by}
 use Rattle.dr_history.specs.Agreement.{EndsAgreed}
-use Rattle.dr_history.specs.Order.{first_entries}
+use Rattle.dr_history.specs.History.{GroupView, IsPrefixOf, view_of}
+use Rattle.dr_history.specs.Members.{has, members_of}
+use Rattle.dr_history.specs.Order.{first_entries, messages_from, numbered_messages}
+use Rattle.dr_history.proofs.NumberedLemmas.{length-numbered_messages}
 use Rattle.dr_history_laws.specs.Remaining.{remaining}
+use Rattle.dr_history_laws.proofs.Keeping.{prefix_beside, prefix_shorter, prefix_then}
 use Rattle.dr_program.specs.declared.setup.CrashPoint.{CrashPoint}
 use Rattle.dr_program.specs.declared.setup.Setup.{Setup}
-use Rattle.dr_machine.specs.Group.{Group, IsGroup, roster}
-use Rattle.dr_machine.specs.World.{opening_world}
+use Rattle.dr_machine.specs.Group.{Group, IsGroup, IsPresent, roster}
+use Rattle.dr_machine.specs.World.{World, opening_world}
 use Rattle.dr_machine.proofs.Presence.{is_present}
 use Rattle.dr_program.specs.Running.{Running}
 use Rattle.dr_program.specs.Program.{Program, AllEnded, AreSetups, IsRanFrom, begun_program, end_of}
@@ -25,140 +33,405 @@ use Rattle.dr_restart.specs.Groups.{group_of}
 use Rattle.dr_restart.specs.Setups.{IsBegun, crashes_of}
 use Rattle.dr_restart.proofs.Setups.{are_setups}
 use Rattle.dr_vote_laws.proofs.Exclusions.{excluded_so}
-use Rattle.dr_world_laws.proofs.Leavings.{IsLeftSo, left_so}
-use Rattle.dr_world_laws.proofs.Agreeing.{done-durable, done-whole}
-use Rattle.dr_world_laws.proofs.Remaining.{holds-remaining}
-use Rattle.dr_world_laws.proofs.Reached.{Known, known}
-use Rattle.dr_program_laws.specs.Ended.{HasEnded, HaveEnded, IsBeforeCrash, IsDone, IsLeftOut, is_log_end}
+use Rattle.dr_words.proofs.Masks.{has_without_mask}
+use Rattle.dr_words.specs.Masks.{IsMajorityOf, without}
+use Rattle.dr_world_laws.proofs.Agreeing.{done-lacks-none, done-same, either-prefix, the-view}
+use Rattle.dr_world_laws.proofs.ChosenViews.{views-next}
+use Rattle.dr_world_laws.proofs.HeldViews.{view-held}
+use Rattle.dr_world_laws.proofs.Leavings.{IsLeftSo}
+use Rattle.dr_world_laws.proofs.Worlds.{Known, commits, done-durable, done-whole, holds-remaining, in-order, known, left_so}
+use Rattle.dr_program_laws.specs.Causes.{HasCause, IsVotedOut}
+use Rattle.dr_program_laws.specs.Ended.{GoOnWithout, HasEnded, HasReason, HaveEnded, IsComplete, IsInView, IsLeftOut, IsWhole, is_log_end}
 use Rattle.dr_program_laws.proofs.Keeping.{deeds_kept}
 use Rattle.dr_program_laws.proofs.Programs.{AllStand, all_stand}
 use Rattle.dr_program_laws.proofs.Standing.{IsProper, Stands}
-use Rattle.dr_program_laws.proofs.Worlds.{ends_agreed, ends_of, of_there}
+use Rattle.dr_program_laws.proofs.Worlds.{all_ends, ends_agreed, ends_of, of_there}
 
--- each member of a program is of the roster
-of_roster : (g : Group) (p : Program) (m : ℕ) (r : Running) → IsProgram g p
-    → slice_get p.members m ≡ Some r → m < roster g
-of_roster g p m r program there = omega (arith, slice_get_within p.members m r there, program.all)
+-- ---- a member in its world
+
+-- member m of a program of the group, in a world that is reached
+pub record IsThere (g : Group) (p : Program) (m : ℕ) (r : Running) : Type 0 where
+  pub group : IsGroup g
+  pub program : IsProgram g p
+  pub reached : IsReached g (world g p)
+  pub there : slice_get p.members m ≡ Some r
+
+known_of : (g : Group) (p : Program) (m : ℕ) (r : Running) → IsThere g p m r → Known g (world g p)
+known_of g p m r is = known g (world g p) is.group is.reached
+
+-- it is of the roster
+within : (g : Group) (p : Program) (m : ℕ) (r : Running) → IsThere g p m r → m < roster g
+within g p m r is = omega (arith, slice_get_within p.members m r is.there, is.program.all)
+
+there_is : (g : Group) (p : Program) (m : ℕ) (r : Running) → IsThere g p m r → IsPresent g m
+there_is g p m r is = is_present g m is.group (within g p m r is)
+
+-- another one
+beside : (g : Group) (p : Program) (m : ℕ) (r : Running) (i : ℕ) (q : Running) → IsThere g p m r
+    → slice_get p.members i ≡ Some q → IsThere g p i q
+beside g p m r i q is at = record { group = is.group; program = is.program; reached = is.reached; there = at }
+
+-- what the world has of it
+history_is : (g : Group) (p : Program) (m : ℕ) (r : Running) → IsThere g p m r
+    → (world g p).past.history m ≡ r.replica.history
+history_is g p m r is = of_there p (λ q. q.history) (opening_world g).past.history m r is.there
+
+log_is : (g : Group) (p : Program) (m : ℕ) (r : Running) → IsThere g p m r
+    → (world g p).past.log m ≡ take r.replica.logged r.replica.history
+log_is g p m r is = of_there p (λ q. take q.logged q.history) (opening_world g).past.log m r is.there
+
+durable_is : (g : Group) (p : Program) (m : ℕ) (r : Running) → IsThere g p m r
+    → (world g p).past.durable m ≡ r.replica.durable
+durable_is g p m r is = of_there p (λ q. q.durable) (opening_world g).past.durable m r is.there
+
+ended_is : (g : Group) (p : Program) (m : ℕ) (r : Running) (end : End) → IsThere g p m r
+    → r.replica.end ≡ Some end → (world g p).end m ≡ Some end
+ended_is g p m r end is e = of_there p (λ q. q.end) (opening_world g).end m r is.there ∙ e
+
+view_is : (g : Group) (p : Program) (m : ℕ) (r : Running) → IsThere g p m r
+    → (world g p).past.view m ≡ r.replica.view
+view_is g p m r is = of_there p (λ q. q.view) (opening_world g).past.view m r is.there
+
+members_are : (g : Group) (p : Program) (m : ℕ) (r : Running) → IsThere g p m r
+    → (world g p).members m ≡ r.replica.members
+members_are g p m r is = of_there p (λ q. q.members) (opening_world g).members m r is.there
+
+-- the members of its view are those that the world knows of it
+views_are : (g : Group) (p : Program) (m : ℕ) (r : Running) (is : IsThere g p m r)
+    → views_by g (known_of g p m r is).values ((world g p).past.view m) ≡ r.replica.members
+views_are g p m r is =
+    sym ((known_of g p m r is).chosen.faithful.views.own m) ∙ members_are g p m r is
+
+-- its history is in the view that it is in
+in_view : (g : Group) (p : Program) (m : ℕ) (r : Running) → IsThere g p m r
+    → IsInView g.opening r.replica.view r.replica.members r.replica.history
+in_view g p m r is =
+    ap view_of (sym (history_is g p m r is))
+    ∙ the-view g y.values (world g p) m is.group y.chosen (within g p m r is)
+    ∙ ap (λ mask. Some (view_with ((world g p).past.view m) mask)) (views_are g p m r is)
+    ∙ ap (λ v. Some (view_with v r.replica.members)) (view_is g p m r is)
+  where
+    y : Known g (world g p)
+    y = known_of g p m r is
+
+    view_with : ℕ → ℕ → GroupView
+    view_with number mask = record { age = g.opening.age; number = number; members = members_of mask }
+
+-- and it is a member of it
+own_view : (g : Group) (p : Program) (m : ℕ) (r : Running) → IsThere g p m r
+    → has r.replica.members m ≡ true
+own_view g p m r is = ap (λ mask. has mask m) (sym (views_are g p m r is))
+    ∙ (known_of g p m r is).chosen.faithful.views.present m (there_is g p m r is)
+
+-- each of the ends is that of a member
+end_at : (p : Program) (i : ℕ) (e : MemberEnd) → slice_get (ends_of p) i ≡ Some e
+    → (r : Running) × (slice_get p.members i ≡ Some r) × (end_of r ≡ e)
+end_at p i e at = by (slice_get p.members i) refl
+  where
+    named : (o : Option Running) → slice_get p.members i ≡ o → option_map end_of o ≡ Some e
+    named o is = ap (option_map end_of) (sym is) ∙ sym (slice_get-map end_of p.members i) ∙ at
+
+    by : (o : Option Running) → slice_get p.members i ≡ o
+        → (r : Running) × (slice_get p.members i ≡ Some r) × (end_of r ≡ e)
+    by None none = absurd (cc (named None none))
+    by (Some r) there = (r, there, same_Some (end_of r) e (named (Some r) there))
 
 -- ---- a member that is done
 
-taken_within : (n : ℕ) (xs : List Entry) → length (take n xs) ≤ n
-taken_within n xs = omega (arith, length-take n xs)
-
-done_history : (g : Group) (p : Program) (m : ℕ) (r : Running) → IsGroup g → Known g (world g p) → m
-    < roster g → slice_get p.members m ≡ Some r → r.replica.end ≡ Some ends.Done
-    → r.replica.history ≡ first_entries g.opening ++ remaining g.opening
-done_history g p m r is y within there end =
-    sym (of_there p (λ q. q.history) (opening_world g).past.history m r there)
-    ∙ holds-remaining g (world g p) m is y within (done-whole g (world g p) m is y within
-    (of_there p (λ q. q.end) (opening_world g).end m r there ∙ end))
-
-done_durable : (g : Group) (p : Program) (m : ℕ) (r : Running) → Known g (world g p) → m < roster g
-    → slice_get p.members m ≡ Some r → r.replica.end ≡ Some ends.Done
-    → r.replica.durable ≡ length r.replica.history
-done_durable g p m r y within there end =
-    sym (of_there p (λ q. q.durable) (opening_world g).past.durable m r there)
-    ∙ (done-durable g (world g p) m y within
-    (of_there p (λ q. q.end) (opening_world g).end m r there ∙ end)
-    ∙ ap length (of_there p (λ q. q.history) (opening_world g).past.history m r there))
-
-pub done : (g : Group) (p : Program) (points : List CrashPoint) (m : ℕ) (r : Running) → IsGroup g
-    → IsProgram g p → IsReached g (world g p)
-    → slice_get p.members m ≡ Some r → r.replica.end ≡ Some ends.Done
-    → IsBeforeCrash points r.replica.turns → IsDone g.opening points (end_of r)
-done g p points m r is program run there end uncrashed = record {
-  complete = record {
-    end = ap (λ o. unwrap_or o ends.Done) end;
-    history = done_history g p m r is y within there end;
-    logged = omega (arith, durable, all, (program.form m r there).replica.logged);
-    durable = durable;
-  };
-  uncrashed = uncrashed;
-}
+-- it has all messages of the members of its view
+done_whole : (g : Group) (p : Program) (m : ℕ) (r : Running) → IsThere g p m r
+    → r.replica.end ≡ Some ends.Done → (s : ℕ) → has r.replica.members s ≡ true
+    → messages_from s r.replica.history ≡ numbered_messages g.opening s
+done_whole g p m r is end s member =
+    ap (messages_from s) (sym (history_is g p m r is))
+    ∙ all (messages_from s ((world g p).past.history m)) numbered.0 (numbered_messages g.opening s) numbered.1
+    (done-whole g (world g p) m is.group y (within g p m r is) (ended_is g p m r ends.Done is end) s
+    (ap (λ mask. has mask s) (members_are g p m r is) ∙ member) ∙ sym (length-numbered_messages g.opening s))
   where
-    within : m < roster g
-    within = of_roster g p m r program there
+    y : Known g (world g p)
+    y = known_of g p m r is
+
+    numbered : IsPrefixOf (messages_from s ((world g p).past.history m)) (numbered_messages g.opening s)
+    numbered = (in-order g (world g p) m is.group y (within g p m r is)).numbered s
+
+    all : (xs rest ys : List Entry) → xs ++ rest ≡ ys → length xs ≡ length ys → xs ≡ ys
+    all xs rest ys front same =
+        let none : length rest ≡ 0 = omega (arith, same, ap length front, length-append xs rest) in
+        sym (append-nil xs) ∙ ap (λ es. xs ++ es) (sym (nil_from_length rest none)) ∙ front
+
+-- all of it is durable
+done_durable : (g : Group) (p : Program) (m : ℕ) (r : Running) → IsThere g p m r
+    → r.replica.end ≡ Some ends.Done → r.replica.durable ≡ length r.replica.history
+done_durable g p m r is end =
+    sym (durable_is g p m r is)
+    ∙ done-durable g (world g p) m (known_of g p m r is) (within g p m r is)
+    (ended_is g p m r ends.Done is end)
+    ∙ ap length (history_is g p m r is)
+
+-- so each member of its view has it on its log
+done_kept : (g : Group) (p : Program) (m : ℕ) (r : Running) (i : ℕ) (q : Running) → IsThere g p m r
+    → r.replica.end ≡ Some ends.Done → has r.replica.members i ≡ true → slice_get p.members i ≡ Some q
+    → IsPrefixOf r.replica.history (take q.replica.logged q.replica.history)
+done_kept g p m r i q is end member at =
+    subst (λ h. IsPrefixOf h (take q.replica.logged q.replica.history)) (history_is g p m r is)
+    (subst (IsPrefixOf (w.past.history m)) (log_is g p i q other)
+    (by (either-prefix g y.values w m i is.group y.chosen (within g p m r is) (within g p i q other))))
+  where
+    w : World
+    w = world g p
 
     y : Known g (world g p)
-    y = known g (world g p) is run
+    y = known_of g p m r is
 
-    durable : r.replica.durable ≡ length r.replica.history
-    durable = done_durable g p m r (known g (world g p) is run) within there end
+    other : IsThere g p i q
+    other = beside g p m r i q is at
 
-    all : r.replica.durable ≤ r.replica.logged
-    all =
-        let safe = y.faithful.logs.safe m m (is_present g m is within)
-        (y.faithful.views.present m (is_present g m is within)) in
-        let log = ap length (of_there p (λ q. take q.logged q.history)
-        (opening_world g).past.log m r there) in
-        omega (
-          arith,
-          safe,
-          log,
-          of_there p (λ q. q.durable) (opening_world g).past.durable m r there,
-          taken_within r.replica.logged r.replica.history,
-        )
+    front : IsPrefixOf ((world g p).past.log i) ((world g p).past.history i)
+    front = y.chosen.faithful.logs.front i
+
+    long : length ((world g p).past.history m) ≤ length ((world g p).past.log i)
+    long = omega (
+      arith,
+      y.chosen.faithful.logs.safe m i (there_is g p m r is)
+          (ap (λ mask. has mask i) (views_are g p m r is) ∙ member),
+      done-durable g w m y (within g p m r is) (ended_is g p m r ends.Done is end),
+    )
+
+    by : IsPrefixOf ((world g p).past.history m) ((world g p).past.history i)
+        ⊎ IsPrefixOf ((world g p).past.history i) ((world g p).past.history m)
+        → IsPrefixOf ((world g p).past.history m) ((world g p).past.log i)
+    by (inl less) = prefix_beside (w.past.history m) (w.past.log i) (w.past.history i) less front long
+    by (inr more) = prefix_beside (w.past.history m) (w.past.log i) (w.past.history m)
+        ([], append-nil (w.past.history m))
+        (prefix_then (w.past.log i) (w.past.history i) (w.past.history m) front more) long
+
+-- it has itself all of it on its log
+done_logged : (g : Group) (p : Program) (m : ℕ) (r : Running) → IsThere g p m r
+    → r.replica.end ≡ Some ends.Done → r.replica.logged ≡ length r.replica.history
+done_logged g p m r is end = omega (
+  arith,
+  (is.program.form m r is.there).replica.logged,
+  length-take r.replica.logged r.replica.history,
+  prefix_shorter r.replica.history (take r.replica.logged r.replica.history)
+      (done_kept g p m r m r is end (own_view g p m r is) is.there),
+)
+
+-- nobody has a message that it lacks
+done_lacks : (g : Group) (p : Program) (m : ℕ) (r : Running) (s i : ℕ) (q : Running) → IsThere g p m r
+    → r.replica.end ≡ Some ends.Done → slice_get p.members i ≡ Some q
+    → IsPrefixOf (messages_from s q.replica.history) (messages_from s r.replica.history)
+done_lacks g p m r s i q is end at =
+    let y = known_of g p m r is in
+    let other = beside g p m r i q is at in
+    subst (λ h. IsPrefixOf (messages_from s h) (messages_from s r.replica.history)) (history_is g p i q other)
+    (subst (λ h. IsPrefixOf (messages_from s ((world g p).past.history i)) (messages_from s h))
+    (history_is g p m r is) (done-lacks-none g y.values (world g p) m i s is.group y.chosen
+    (within g p m r is)
+    (ended_is g p m r ends.Done is end) (within g p i q other)))
+
+-- who has ended as done is told so
+told_done : (o : Option End) → IsTrue (is_some o) → unwrap_or o ends.Done ≡ ends.Done → o ≡ Some ends.Done
+told_done None some e = absurd (cc)
+told_done (Some end) some e = ap Some e
+
+-- who is done in the same view has the same history
+done_same : (g : Group) (p : Program) (m : ℕ) (r : Running) (i : ℕ) (q : Running) → IsThere g p m r
+    → r.replica.end ≡ Some ends.Done → slice_get p.members i ≡ Some q → q.replica.end ≡ Some ends.Done
+    → IsInView g.opening r.replica.view r.replica.members q.replica.history
+    → q.replica.history ≡ r.replica.history
+done_same g p m r i q is end at done here =
+    let y = known_of g p m r is in
+    let other = beside g p m r i q is at in
+    let view : q.replica.view ≡ r.replica.view =
+    ap number (sym (in_view g p i q other) ∙ here) in
+    sym (history_is g p i q other)
+    ∙ sym (done-same g y.values (world g p) m i is.group y.chosen (within g p m r is)
+    (ended_is g p m r ends.Done is end) (within g p i q other) (ended_is g p i q ends.Done other done)
+    (view_is g p m r is ∙ sym view ∙ sym (view_is g p i q other)))
+    ∙ history_is g p m r is
+  where
+    number : Option GroupView → ℕ
+    number None = 0
+    number (Some v) = v.number
+
+-- in the first view its history is what the script and the start alone determine
+done_first : (g : Group) (p : Program) (m : ℕ) (r : Running) → IsThere g p m r
+    → r.replica.end ≡ Some ends.Done → r.replica.view ≡ 0
+    → r.replica.history ≡ first_entries g.opening ++ remaining g.opening
+done_first g p m r is end first =
+    let y = known_of g p m r is in
+    sym (history_is g p m r is)
+    ∙ holds-remaining g (world g p) m is.group y (within g p m r is) (view_is g p m r is ∙ first)
+    (done-whole g (world g p) m is.group y (within g p m r is) (ended_is g p m r ends.Done is end))
+
+-- so a member that has ended as done there is complete
+pub complete : (g : Group) (p : Program) (m : ℕ) (r : Running) → IsThere g p m r
+    → r.replica.end ≡ Some ends.Done → r.replica.view ≡ 0 → IsComplete g.opening (end_of r)
+complete g p m r is end first = record {
+  end = ap (λ o. unwrap_or o ends.Done) end;
+  history = done_first g p m r is end first;
+  logged = done_logged g p m r is end;
+  durable = done_durable g p m r is end;
+}
+
+whole : (g : Group) (p : Program) (m : ℕ) (r : Running) → IsThere g p m r → AllEnded p
+    → r.replica.end ≡ Some ends.Done
+    → IsWhole g.opening (ends_of p) r.replica.view r.replica.members (end_of r)
+whole g p m r is ended end = record {
+  end = ap (λ o. unwrap_or o ends.Done) end;
+  whole = done_whole g p m r is end;
+  lacks_none = λ s. all_ends (λ (e : MemberEnd). IsPrefixOf (messages_from s e.history)
+      (messages_from s r.replica.history)) p (λ i q at. done_lacks g p m r s i q is end at);
+  logged = done_logged g p m r is end;
+  durable = done_durable g p m r is end;
+  kept = λ i e member at. let q = end_at p i e at in
+      subst (λ (x : MemberEnd). IsPrefixOf r.replica.history (take x.logged x.history)) q.2
+      (done_kept g p m r i q.0 is end member q.1);
+  same = λ i e at done here. let q = end_at p i e at in
+      ap (λ (x : MemberEnd). x.history) (sym q.2)
+      ∙ done_same g p m r i q.0 is end q.1
+      (told_done q.0.replica.end (subst (λ (x : Running). IsTrue (is_some x.replica.end))
+      (get_or_from_slice_get p.members i q.0 q.0 q.1) (ended i q.0 (slice_get_within p.members i q.0 q.1)))
+      (ap (λ (x : MemberEnd). x.end) q.2 ∙ done))
+      (ap (λ (x : MemberEnd). view_of x.history) q.2 ∙ here);
+  first = done_first g p m r is end;
+}
 
 -- ---- a member that is left out
 
+-- it has committed a value that names it
+voted_out : (g : Group) (p : Program) (m : ℕ) (r : Running) (view : ℕ) → IsThere g p m r
+    → r.replica.end ≡ Some (ends.Excluded view) → IsVotedOut (world g p) m view
+voted_out g p m r view is end =
+    let out = excluded_so g (world g p) m view is.reached (ended_is g p m r (ends.Excluded view) is end) in
+    let most = commits g (world g p) m out.value (known_of g p m r is) out.committed in record {
+      value = out.value;
+      committed = out.committed;
+      ballot = most.0;
+      voted = most.1;
+      named = out.named;
+      next = out.next;
+    }
+
+-- so the next view goes on without it
+without_it : (g : Group) (p : Program) (m : ℕ) (r : Running) (view : ℕ) → IsThere g p m r
+    → r.replica.end ≡ Some (ends.Excluded view) → GoOnWithout g.opening (ends_of p) view m
+without_it g p m r view is end =
+    all_ends (λ (e : MemberEnd). (members : ℕ) → Contains e.history (View g.opening.age view members)
+    → has members m ≡ false) p (λ i q at members held. let other = beside g p m r i q is at in
+    left members (view-held g y.values (world g p) i ((world g p).past.view m + 1) members is.group y.chosen
+    (within g p i q other) (subst (λ h. Contains h (View g.opening.age ((world g p).past.view m + 1) members))
+    (sym (history_is g p i q other))
+    (subst (λ v. Contains q.replica.history (View g.opening.age v members)) out.next held))).1)
+  where
+    y : Known g (world g p)
+    y = known_of g p m r is
+
+    out : IsVotedOut (world g p) m view
+    out = voted_out g p m r view is end
+
+    gone : (a b : Bool) → b ≡ true → (a && not b) ≡ false
+    gone true b e = ap not e
+    gone false b e = refl
+
+    left : (members : ℕ) → views_by g y.values ((world g p).past.view m + 1) ≡ members
+        → has members m ≡ false
+    left members same =
+        ap (λ mask. has mask m) (sym same
+        ∙ views-next g y.values ((world g p).past.view m)
+        ∙ ap (λ mask. without mask (y.values ((world g p).past.view m)).leavers)
+        (sym (y.chosen.faithful.views.own m))
+        ∙ ap (λ x. without ((world g p).members m) x.leavers) (sym (y.by.now m out.value out.committed)))
+        ∙ has_without_mask ((world g p).members m) out.value.leavers m
+        (members_small g (views_by g y.values) (world g p) m is.group y.chosen.faithful)
+        ∙ gone (has ((world g p).members m) m) (has out.value.leavers m) out.named
+
 -- an end by suspicion is as the world has it
-left_so_there : (g : Group) (p : Program) (m : ℕ) (r : Running) → IsGroup g → IsProgram g p
-    → IsReached g (world g p) → slice_get p.members m ≡ Some r
-    → IsLeftSo g (world g p) m r.replica.end
-left_so_there g p m r is program run there =
-    subst (IsLeftSo g (world g p) m) (of_there p (λ q. q.end) (opening_world g).end m r there)
-    (left_so g (world g p) is run m (of_roster g p m r program there))
+left_so_there : (g : Group) (p : Program) (m : ℕ) (r : Running) (end : End) → IsThere g p m r
+    → r.replica.end ≡ Some end → IsLeftSo (world g p) m (Some end)
+left_so_there g p m r end is e =
+    subst (IsLeftSo (world g p) m) (ended_is g p m r end is e)
+    (left_so g (world g p) is.group (known_of g p m r is) m (within g p m r is))
+
+-- the end of a member has its cause
+pub has_cause : (g : Group) (p : Program) (m : ℕ) (r : Running) (end : End) → IsThere g p m r
+    → r.replica.end ≡ Some end → HasCause g (world g p) m end
+has_cause g p m r ends.Done is e =
+    let y = known_of g p m r is in
+    let over = ended_is g p m r ends.Done is e in (
+      done-whole g (world g p) m is.group y (within g p m r is) over,
+      done-durable g (world g p) m y (within g p m r is) over,
+    )
+has_cause g p m r (ends.Suspected other) is e = left_so_there g p m r (ends.Suspected other) is e
+has_cause g p m r (ends.NoMajority mask) is e = left_so_there g p m r (ends.NoMajority mask) is e
+has_cause g p m r (ends.Excluded view) is e = voted_out g p m r view is e
+has_cause g p m r end is e = tt
 
 -- ---- a member that has ended
 
-has_ended : (g : Group) (p : Program) (limit : ℕ) (points : List CrashPoint) (m : ℕ) (r : Running)
-    → IsGroup g → IsProgram g p → IsReached g (world g p)
-    → slice_get p.members m ≡ Some r → IsTrue (is_some r.replica.end) → Stands limit points r
-    → HasEnded g.opening limit m points (end_of r)
-has_ended g p limit points m r is program run there ended v = by r.replica.end refl ended v.proper
+has_reason : (g : Group) (p : Program) (limit : ℕ) (points : List CrashPoint) (m : ℕ) (r : Running)
+    → IsThere g p m r → AllEnded p → IsTrue (is_some r.replica.end) → Stands limit points r
+    → HasReason g.opening (ends_of p) r.replica.view r.replica.members limit m points (end_of r)
+has_reason g p limit points m r is all ended v = by r.replica.end refl ended v.proper
   where
-    stopped : (end : End) → r.replica.end ≡ Some end → is_log_end end ≡ true
-        → HasEnded g.opening limit m points (end_of r)
+    Reason : Type 0
+    Reason = HasReason g.opening (ends_of p) r.replica.view r.replica.members limit m points (end_of r)
+
+    members : (i : ℕ) → has ((world g p).members m) i ≡ has r.replica.members i
+    members i = ap (λ mask. has mask i) (members_are g p m r is)
+
+    stopped : (end : End) → r.replica.end ≡ Some end → is_log_end end ≡ true → Reason
     stopped end e by_log = inr (inr (inr (inl (record {
       end = ap (λ o. is_log_end (unwrap_or o ends.Done)) e ∙ by_log;
       first = v.later;
     }))))
 
     left : (end : End) → r.replica.end ≡ Some end
-        → (IsLeftSo g (world g p) m (Some end) → IsLeftOut g.opening m end)
-        → HasEnded g.opening limit m points (end_of r)
+        → IsLeftOut g.opening (ends_of p) r.replica.view r.replica.members m end → Reason
     left end e out = inr (inr (inr (inr (record {
-      end = subst (λ o. IsLeftOut g.opening m (unwrap_or o ends.Done)) (sym e)
-          (out (subst (IsLeftSo g (world g p) m) e (left_so_there g p m r is program run there)));
+      end = subst (λ o. IsLeftOut g.opening (ends_of p) r.replica.view r.replica.members m
+          (unwrap_or o ends.Done)) (sym e) out;
       first = v.later;
     }))))
 
-    without : (view : ℕ) → r.replica.end ≡ Some (ends.Excluded view) → view ≡ 1
-    without view e =
-        let out = excluded_so g (world g p) m view run
-        (of_there p (λ q. q.end) (opening_world g).end m r there ∙ e) in
-        omega (arith, out.next, (known g (world g p) is run).faithful.beginning.first m)
-
     by : (o : Option End) → r.replica.end ≡ o → IsTrue (is_some o)
-        → IsProper limit points r.replica.turns o → HasEnded g.opening limit m points (end_of r)
+        → IsProper limit points r.replica.turns o → Reason
     by None e t so = absurd (cc)
-    by (Some ends.Done) e t so = inl (done g p points m r is program run there e so)
+    by (Some ends.Done) e t so = inl (record { whole = whole g p m r is all e; uncrashed = so })
     by (Some ends.Crashed) e t so =
         inr (inr (inl (record { end = ap (λ x. unwrap_or x ends.Done) e; named = so; first = v.later })))
     by (Some ends.DiskFault) e t so = stopped ends.DiskFault e refl
     by (Some (ends.LogFull len)) e t so = stopped (ends.LogFull len) e refl
-    by (Some (ends.Suspected other)) e t so = left (ends.Suspected other) e (λ out. (out.member, out.other))
+    by (Some (ends.Suspected other)) e t so =
+        let out = left_so_there g p m r (ends.Suspected other) is e in
+        left (ends.Suspected other) e (sym (members other) ∙ out.member, out.other)
     by (Some (ends.NoMajority mask)) e t so =
-        left (ends.NoMajority mask) e (λ out. (out.own, out.members, out.minority))
-    by (Some (ends.Excluded view)) e t so = inr (inr (inr (inr (record {
-      end = subst (λ o. IsLeftOut g.opening m (unwrap_or o ends.Done)) (sym e) (without view e);
-      first = v.later;
-    }))))
+        let out = left_so_there g p m r (ends.NoMajority mask) is e in
+        left (ends.NoMajority mask) e (
+          out.own,
+          λ i h. sym (members i) ∙ out.members i h,
+          subst (λ n. ¬ IsMajorityOf mask n) (members_are g p m r is) out.minority,
+        )
+    by (Some (ends.Excluded view)) e t so = left (ends.Excluded view) e (
+      (voted_out g p m r view is e).next ∙ ap (λ n. n + 1) (view_is g p m r is),
+      without_it g p m r view is e,
+    )
     by (Some (ends.Spent n)) e t so = inr (inl (record {
       end = ap (λ x. unwrap_or x ends.Done) e ∙ ap ends.Spent so.0;
       turns = so.1;
       uncrashed = so.2;
     }))
+
+has_ended : (g : Group) (p : Program) (limit : ℕ) (points : List CrashPoint) (m : ℕ) (r : Running)
+    → IsThere g p m r → AllEnded p → IsTrue (is_some r.replica.end) → Stands limit points r
+    → HasEnded g.opening (ends_of p) limit m points (end_of r)
+has_ended g p limit points m r is all ended v = record {
+  number = r.replica.view;
+  members = r.replica.members;
+  view = in_view g p m r is;
+  own = own_view g p m r is;
+  reason = has_reason g p limit points m r is all ended v;
+}
 
 -- the members of any program that comes of deeds
 pub have_ended : (g : Group) (turns : ℕ) (setups : List Setup) (points : ℕ → List CrashPoint)
@@ -167,7 +440,7 @@ pub have_ended : (g : Group) (turns : ℕ) (setups : List Setup) (points : ℕ �
     → IsRanFrom (begun_program g setups) p → AllEnded p → HaveEnded g.opening turns points (ends_of p)
 have_ended g turns setups points p is some are planned ran ended m e at =
     elim (slice_get_cases p.members m).1 [
-      | inl here ↦ subst (HasEnded g.opening turns m (points m))
+      | inl here ↦ subst (HasEnded g.opening (ends_of p) turns m (points m))
           (same_Some (end_of here.0) e
           (sym (slice_get-map end_of p.members m ∙ ap (option_map end_of) here.2)
           ∙ at)) (each here.0 here.1 here.2)
@@ -187,14 +460,24 @@ have_ended g turns setups points p is some are planned ran ended m e at =
         (subst (λ ps. Stands s.turns ps r) (planned m s there) v)
 
     each : (r : Running) → m < length p.members → slice_get p.members m ≡ Some r
-        → HasEnded g.opening turns m (points m) (end_of r)
+        → HasEnded g.opening (ends_of p) turns m (points m) (end_of r)
     each r within there = elim (slice_get_cases setups m).1 [
-      | inl here ↦ has_ended g p turns (points m) m r is kept.0 kept.1 there
+      | inl here ↦ has_ended g p turns (points m) m r
+          (record { group = is; program = kept.0; reached = kept.1; there = there }) ended
           (subst (λ (x : Running). IsTrue (is_some x.replica.end))
           (get_or_from_slice_get p.members m r r there) (ended m r within))
           (as_wanted r here.0 here.2 (stand m here.0 r here.2 there))
       | inr past ↦ absurd (omega (arith, past.0, within, are.all, kept.0.all))
     ]
+
+-- and each that has ended has its cause
+pub have_causes : (g : Group) (turns : ℕ) (setups : List Setup) (p : Program) (m : ℕ) (r : Running)
+    (end : End)
+    → IsGroup g → 1 ≤ turns → AreSetups g turns setups → IsRanFrom (begun_program g setups) p
+    → slice_get p.members m ≡ Some r → r.replica.end ≡ Some end → HasCause g (world g p) m end
+have_causes g turns setups p m r end is some are ran there e =
+    let kept = deeds_kept g turns setups p is some are ran in
+    has_cause g p m r end (record { group = is; program = kept.0; reached = kept.1; there = there }) e
 
 -- the members of a script's program in an age
 pub ended_by_script : (script : Script) (start : Start) (nth : ℕ) (begun p : Program)

@@ -25,7 +25,6 @@ use Rattle.dr_refine.specs.Programs.{IsProgram}
 use Rattle.dr_refine.proofs.Deeds.{rest_changes_nothing, step_is}
 use Rattle.dr_refine.proofs.Steps.{begun_is_program}
 use Rattle.dr_turn.proofs.Deeds.{is_verdict, verdict_of}
-use Rattle.dr_turn.proofs.Failing.{append_at}
 use Rattle.dr_turn.proofs.Search.{settle_only}
 use Rattle.dr_program_laws.specs.Failing.{AreFailing, EndsBy, IsFailing, has_log_end}
 use Rattle.dr_program_laws.proofs.Acts.{is_end, no_end, taken_end}

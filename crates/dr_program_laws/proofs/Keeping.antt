@@ -1,5 +1,5 @@
 -- Moves keep a program of its group, in a world that is reached.
-use Rattle.std.proofs.Common.{◌≡◌, inl, inr, refl, sym, ap, subst, ℕ, ◌<◌, ◌≤◌, ◌&&◌, not, true, nat_lt, List, [], ◌∷◌}
+use Rattle.std.proofs.Common.{◌≡◌, refl, sym, subst, ℕ, ◌<◌, ◌≤◌, ◌&&◌, not, true, nat_lt, List, [], ◌∷◌}
 use Rattle.std.specs.Prelude.{Option, None, Some, slice_get}
 use Rattle.std.proofs.lemmas.Bool.{and_parts, ltb-true}
 use Rattle.std.proofs.lemmas.Option.{same_Some}
@@ -9,12 +9,8 @@ use Rattle.dr_words.specs.Columns.{columns_of}
 use Rattle.dr_words.specs.Form.{IsInForm}
 use Rattle.dr_machine.specs.declared.step.Step.{Step}
 use Rattle.dr_machine.specs.declared.step.Step.TheVariants.{Append, Do, LogVote, Look, Push}
-use Rattle.dr_machine.specs.declared.event.Act.TheVariants as acts
-use Rattle.dr_entry.specs.declared.record.Value.{Value}
-use Rattle.dr_program.specs.declared.place.Part.{Part}
-use Rattle.dr_program.specs.declared.place.Part.TheVariants as parts
-use Rattle.dr_program.specs.Turn.{part_of}
 use Rattle.dr_replica.proofs.Accepting.{voted_form}
+use Rattle.dr_replica.proofs.Finishing.{none_waits}
 use Rattle.dr_machine.specs.Group.{Group, IsGroup}
 use Rattle.dr_machine.specs.Run.{IsReached}
 use Rattle.dr_program.specs.declared.outcome.Outcome.{Outcome}
@@ -23,11 +19,12 @@ use Rattle.dr_program.specs.Form.{HasForm, IsRunningMember}
 use Rattle.dr_program.specs.Program.{AreSetups, IsRanFrom, Move, Program, after_deed, begun_program, next_sight, ran, step_of}
 use Rattle.dr_program.specs.Reading.{step_due, step_of_member, world}
 use Rattle.dr_program.specs.Replica.{Replica, is_other}
-use Rattle.dr_program.specs.Running.{Running, WaitsAt, after_step, next_step, step_at}
+use Rattle.dr_program.specs.Running.{Running, after_step, next_step}
 use Rattle.dr_program.specs.Sight.{IsSeenNext, MaySee}
-use Rattle.dr_program.specs.Steps.{allows, has_cell, sight, stepped}
+use Rattle.dr_program.specs.Steps.{allows, has_cell, is_free, sight, stepped}
 use Rattle.dr_program.proofs.Opening.{begins_at_the_opening}
 use Rattle.dr_program.proofs.Runs.{after_either}
+use Rattle.dr_program.proofs.Waiting.{free_step}
 use Rattle.dr_refine.specs.Programs.{IsProgram}
 use Rattle.dr_refine.proofs.Deeds.{due_allowed, step_reached}
 use Rattle.dr_refine.proofs.Steps.{begun_is_program, step_kept}
@@ -39,12 +36,12 @@ use Rattle.dr_program_laws.proofs.Sight.{found_seen}
 -- ---- one move
 
 -- a cell that a step names: another member's row, and a column
-record IsCell (r : Replica) (i c : ℕ) : Type 0 where
-  row : i < r.roster
-  other : is_other r i ≡ true
-  column : c < columns_of r.roster r.window
+pub record IsCell (r : Replica) (i c : ℕ) : Type 0 where
+  pub row : i < r.roster
+  pub other : is_other r i ≡ true
+  pub column : c < columns_of r.roster r.window
 
-cell : (r : Replica) (i c : ℕ) → has_cell r i c ≡ true → IsCell r i c
+pub cell : (r : Replica) (i c : ℕ) → has_cell r i c ≡ true → IsCell r i c
 cell r i c e =
     let two = and_parts (nat_lt i r.roster) (is_other r i && nat_lt c (columns_of r.roster r.window)) e in
     let three = and_parts (is_other r i) (nat_lt c (columns_of r.roster r.window)) two.1 in
@@ -57,41 +54,35 @@ cell r i c e =
 -- a replica keeps its form over a step that it allows, where a word that it sees is in form
 stepped_form : (word : ℕ) (r : Replica) (s : Step) → HasForm r → allows r s ≡ true
     → ((i c : ℕ) → s ≡ Look i c → IsInForm r.roster c word)
-    → ((v : Value) → s ≡ LogVote v → r.pending ≡ None) → HasForm (stepped word r s)
-stepped_form word r (Do a) form may seen free = taken_keeps r a form may
+    → is_free r s ≡ true → HasForm (stepped word r s)
+stepped_form word r (Do a) form may seen free = taken_keeps r a form may free
 stepped_form word r (Look i c) form may seen free =
     let at = cell r i c (and_parts (not (has r.suspects i)) (has_cell r i c) may).1 in
     looked_keeps r i c word form at.other at.column (seen i c refl)
 stepped_form word r (Push j c) form may seen free = pushed_keeps r j c form (cell r j c may).row
 stepped_form word r Append form may seen free = appended_keeps r form may
-stepped_form word r (LogVote v) form may seen free = voted_form r v form (free v refl) may
+stepped_form word r (LogVote v) form may seen free = voted_form r v form (none_waits r.pending free) may
 
--- a vote is due only where none waits
-pub vote_free : (r : Running) → IsRunningMember r → (v : Value) → next_step r ≡ LogVote v
-    → r.replica.pending ≡ None
-vote_free r m v at = by m.free
+-- the replica of a member of a program in a reached world keeps its form over its next step
+pub next_form : (g : Group) (p : Program) (m : ℕ) (r : Running) → IsGroup g → IsProgram g p
+    → IsReached g (world g p) → slice_get p.members m ≡ Some r → r.replica.end ≡ None
+    → HasForm (stepped (next_sight p.table r) r.replica (next_step r))
+next_form g p m r group is run there unended =
+    stepped_form (next_sight p.table r) r.replica (next_step r) (is.form m r there).replica may (λ i c at.
+    subst (λ s. IsInForm r.replica.roster c (sight p.table r.replica s)) (sym at)
+    (found_seen g p m r i c group is run there (subst (λ s. allows r.replica s ≡ true) at may)).form)
+    (free_step r (is.form m r there).free)
   where
-    step : (part : Part) → part_of r.place ≡ part → next_step r ≡ step_at r part r.place.row r.place.column
-    step part e = ap (λ x. step_at r x r.place.row r.place.column) e
+    may : allows r.replica (next_step r) ≡ true
+    may = due_allowed r ((is.form m r there).due unended)
 
-    by : WaitsAt r (part_of r.place) → r.replica.pending ≡ None
-    by (inl none) = none
-    by (inr (inl e)) = absurd (cc (step (parts.Do acts.Propose) e, at))
-    by (inr (inr t)) = absurd (cc (step (parts.Do acts.Accept) t.0, at))
-
--- the member of a program in a reached world keeps its form over its next step
+-- and so does the member
 member_kept : (g : Group) (p : Program) (m : ℕ) (r : Running) → IsGroup g → IsProgram g p
     → IsReached g (world g p) → slice_get p.members m ≡ Some r
     → r.replica.end ≡ None → IsRunningMember (after_step (next_sight p.table r) r)
 member_kept g p m r group is run there unended =
     deeds_keep_form (next_sight p.table r) r (is.form m r there) unended
-    (stepped_form (next_sight p.table r) r.replica (next_step r) (is.form m r there).replica may (λ i c at.
-    subst (λ s. IsInForm r.replica.roster c (sight p.table r.replica s)) (sym at)
-    (found_seen g p m r i c group is run there (subst (λ s. allows r.replica s ≡ true) at may)).form)
-    (vote_free r (is.form m r there)))
-  where
-    may : allows r.replica (next_step r) ≡ true
-    may = due_allowed r ((is.form m r there).due unended)
+    (next_form g p m r group is run there unended)
 
 -- and over its next deed, however its append goes
 deed_kept : (g : Group) (p : Program) (m : ℕ) (o : Outcome) (r : Running) → IsGroup g → IsProgram g p

@@ -10,11 +10,15 @@ pub mod Schedules
 pub mod Trusting
 pub mod Leaving
 pub mod Acts
+pub mod Patience
 pub mod Failing
 pub mod Before
 pub mod Sweeping
+pub mod Working
 pub mod Steadying
 pub mod Passing
 pub mod Resting
 pub mod Stepping
+pub mod Beats
+pub mod Looking
 pub mod Turning

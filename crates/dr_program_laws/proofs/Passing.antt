@@ -3,7 +3,7 @@ use Rattle.std.proofs.Common.{◌≡◌, ◌≢◌, refl, sym, ap, ◌∙◌, su
 use Rattle.std.specs.Prelude.{Option, None, Some, slice_get}
 use Rattle.std.proofs.lemmas.Bool.{and_parts}
 use Rattle.std.proofs.lemmas.Bool.Decides.{nat_tests}
-use Rattle.dr_faithful.proofs.Faithfulness.{faithful}
+use Rattle.dr_faithful.specs.Chosen.{views_by}
 use Rattle.dr_history.specs.Members.{has}
 use Rattle.dr_machine.specs.declared.step.Step.{Step}
 use Rattle.dr_machine.specs.declared.step.Step.TheVariants as steps
@@ -32,41 +32,46 @@ use Rattle.dr_turn.specs.Search.{Passed, here, on}
 use Rattle.dr_turn.proofs.Failing.{may_end}
 use Rattle.dr_turn.proofs.Search.{applies_at}
 use Rattle.dr_words.specs.Columns.{columns_of}
+use Rattle.dr_world_laws.proofs.Worlds.{faithful, known}
 use Rattle.dr_program_laws.specs.Steady.{IsSteady}
 use Rattle.dr_program_laws.specs.Swept.{IsBefore, IsIdle, Swept}
-use Rattle.dr_program_laws.specs.Trusting.{AreTrusting}
+use Rattle.dr_program_laws.specs.Trusting.{AreAtEase}
 use Rattle.dr_program_laws.specs.Wants.{Wants}
 use Rattle.dr_program_laws.proofs.Acts.{asked}
 use Rattle.dr_program_laws.proofs.Before.{before_after}
-use Rattle.dr_program_laws.proofs.Trusting.{IsAmongTrusting, nobody_suspects, votes_nothing}
+use Rattle.dr_program_laws.proofs.Trusting.{IsAmong, nobody_suspects, stay_first, votes_nothing}
 
 -- member m of a steady program in which nobody suspects anybody, which has not ended
 pub record IsGoing (g : Group) (p : Program) (m : ℕ) (r : Running) : Type 0 where
   pub steady : IsSteady g p
-  pub trusting : AreTrusting p
+  pub ease : AreAtEase p
   pub there : slice_get p.members m ≡ Some r
   pub unended : r.replica.end ≡ None
 
-member : (g : Group) (p : Program) (m : ℕ) (r : Running) → IsGoing g p m r
+pub member : (g : Group) (p : Program) (m : ℕ) (r : Running) → IsGoing g p m r
     → IsMember g (replicas p.members) p.table m r.replica
 member g p m r is = program_member g p m r is.steady.group is.steady.program is.there
 
 -- it is among members that suspect nobody
-pub among : (g : Group) (p : Program) (m : ℕ) (r : Running) → IsGoing g p m r → IsAmongTrusting g p m r
+pub among : (g : Group) (p : Program) (m : ℕ) (r : Running) → IsGoing g p m r → IsAmong g p m r
 among g p m r is = record {
   group = is.steady.group;
   program = is.steady.program;
   reached = is.steady.reached;
-  trusting = is.trusting;
+  ease = is.ease;
   there = is.there;
 }
 
 -- the others of the roster are in its view
-in_view : (g : Group) (p : Program) (m : ℕ) (r : Running) (i : ℕ) → IsGoing g p m r → i < roster g
+pub in_view : (g : Group) (p : Program) (m : ℕ) (r : Running) (i : ℕ) → IsGoing g p m r → i < roster g
     → has ((world g p).members m) i ≡ true
 in_view g p m r i is within =
-    let told = faithful g (world g p) is.steady.group is.steady.reached in
-    ap (λ x. has x i) (told.views.own m) ∙ told.views.present i (is_present g i is.steady.group within)
+    let y = known g (world g p) is.steady.group is.steady.reached in
+    let told = faithful g (world g p) y in
+    ap (λ x. has x i) (told.views.own m)
+    ∙ ap (λ v. has (views_by g y.values v) i)
+    (stay_first g p m is.ease ∙ sym (stay_first g p i is.ease))
+    ∙ told.views.present i (is_present g i is.steady.group within)
 
 -- ---- tests
 
@@ -77,7 +82,7 @@ allowed g p m r s is wants =
     let can = asked g (world g p) m s
     (guards.may_choose g (replicas p.members) p.table m r.replica (member g p m r is)
     (is.unended, (votes_nothing g p m r (among g p m r is)).0))
-    (nobody_suspects g p m is.trusting) wants in
+    (nobody_suspects g p m is.ease) wants in
     (and_parts (is_free r.replica s) (allows r.replica s)
     ((step_guard g (replicas p.members) p.table m r.replica s (member g p m r is) is.unended).1 (
       can,
@@ -86,7 +91,7 @@ allowed g p m r s is wants =
     ))).1
 
 -- so what fails its test isn't asked for
-unasked : (g : Group) (p : Program) (m : ℕ) (r : Running) (s : Step) → IsGoing g p m r
+pub unasked : (g : Group) (p : Program) (m : ℕ) (r : Running) (s : Step) → IsGoing g p m r
     → allows r.replica s ≡ false → Wants g (world g p) m s → ⊥
 unasked g p m r s is fails wants = absurd (cc (allowed g p m r s is wants, fails))
 

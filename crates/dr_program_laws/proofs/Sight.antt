@@ -21,12 +21,13 @@ use Rattle.dr_program.specs.Reading.{world}
 use Rattle.dr_program.specs.Sight.{IsSeenNext}
 use Rattle.dr_program.proofs.Holdings.{held_of}
 use Rattle.dr_faithful.specs.Faithful.{Faithful}
-use Rattle.dr_faithful.proofs.Faithfulness.{faithful}
+use Rattle.dr_faithful.specs.Chosen.{views_by}
 use Rattle.dr_refine.specs.Programs.{IsMember, IsProgram}
 use Rattle.dr_refine.proofs.Deeds.{program_member, replicas}
 use Rattle.dr_refine.proofs.Guards.{other_member, other_within, seen_is}
 use Rattle.dr_refine.proofs.Tables.{word_inside}
 use Rattle.dr_refine.proofs.Tests.{cell_test}
+use Rattle.dr_world_laws.proofs.Worlds.{Known, faithful, known}
 
 -- the word that the look finds is that of the world's table
 word_found : (g : Group) (p : Program) (m : ℕ) (r : Running) (i c : ℕ)
@@ -74,8 +75,11 @@ found_seen g p m r i c group is run there may = record {
     apart : i ≢ m
     apart = ((other_member g (replicas p.members) p.table m r.replica i member).0 cell.0).other
 
-    told : Faithful g (λ v. g.opening.members) (world g p)
-    told = faithful g (world g p) group run
+    y : Known g (world g p)
+    y = known g (world g p) group run
+
+    told : Faithful g (views_by g y.values) (world g p)
+    told = faithful g (world g p) y
 
     same : (world g p).table ((world g p).past.view m) m i c ≡ found p.table r.replica i c
     same = word_found g p m r i c member

@@ -6,6 +6,7 @@ use Rattle.std.proofs.lemmas.Bool.Decides.{nat_tests}
 use Rattle.std.proofs.lemmas.List.Folds.{list_any_at}
 use Rattle.dr_entry.specs.declared.end.End.{End}
 use Rattle.dr_entry.specs.declared.end.End.TheVariants as ends
+use Rattle.dr_machine.specs.declared.event.Act.TheVariants as acts
 use Rattle.dr_program.specs.declared.setup.CrashPoint.{CrashPoint}
 use Rattle.dr_program.specs.declared.place.Part.{Part}
 use Rattle.dr_program.specs.declared.place.Part.TheVariants as parts
@@ -53,6 +54,7 @@ no_crash points turns later none =
 -- the parts behind the end of a member that was to crash, and the beginning of the next turn
 abbrev pub is_late : Part → Bool
 is_late parts.Done = true
+is_late (parts.Do acts.Finish) = true
 is_late parts.Spent = true
 is_late part = is_beat part
 

@@ -1,11 +1,12 @@
 -- Programs begin steady, and moves keep them so.
-use Rattle.std.proofs.Common.{◌≡◌, ◌≢◌, refl, sym, ap, ◌∙◌, subst, inl, inr, ◌⊎◌, ℕ, ◌+◌, ◌*◌, ◌^◌, ◌<◌, ◌≤◌, ◌==◌, not, false, List, length, slice_index, arith}
+use Rattle.std.proofs.Common.{◌≡◌, ◌≢◌, refl, sym, ap, ◌∙◌, subst, inl, inr, ◌⊎◌, ℕ, ◌+◌, ◌*◌, ◌^◌, ◌<◌, ◌≤◌, ◌==◌, not, Bool, true, false, List, length, slice_index, arith}
 use Rattle.std.specs.Prelude.{Option, None, Some, is_some, option_map, slice_get, slice_set}
 use Rattle.std.proofs.lemmas.Bool.{cases_eq}
 use Rattle.std.proofs.lemmas.Bool.Decides.{nat_tests}
 use Rattle.std.proofs.lemmas.Option.{same_Some, slice_get-map, slice_get_within}
 use Rattle.dr_entry.specs.declared.end.End.{End}
 use Rattle.dr_machine.specs.declared.event.Act.{Act}
+use Rattle.dr_machine.specs.declared.event.Act.TheVariants as acts
 use Rattle.dr_machine.specs.declared.step.Step.{Step}
 use Rattle.dr_machine.specs.declared.step.Step.TheVariants.{Do, Look, Push, Append, LogVote}
 use Rattle.dr_machine.specs.Acts.{CanTake, does, effect_of}
@@ -19,8 +20,11 @@ use Rattle.dr_program.specs.declared.setup.Setup.{Setup}
 use Rattle.dr_program.specs.Acts.{taken}
 use Rattle.dr_program.specs.Program.{AreSetups, IsSetup, Move, Program, after_deed, begun_program, moved_by, next_sight, ok, step_of}
 use Rattle.dr_program.specs.Reading.{comes_to, step_by, step_due, world}
-use Rattle.dr_program.specs.Replica.{Replica, first_entries_of, greatest}
-use Rattle.dr_program.specs.Running.{Running, after_step, begun_running, broken_off, next_step, took}
+use Rattle.dr_program.specs.Replica.{Replica, first_entries_of, greatest, value_due}
+use Rattle.dr_program.specs.Running.{Running, after_step, append_or_end, begun_running, broken_off, crashes_now, judged, next_step, push_or_crash, step_at, took, vote_or_end}
+use Rattle.dr_program.specs.Turn.{is_beat, part_of}
+use Rattle.dr_program.specs.declared.place.Part.{Part}
+use Rattle.dr_program.specs.declared.place.Part.TheVariants as parts
 use Rattle.dr_program.specs.Steps.{IsAppend, stepped, stored}
 use Rattle.dr_program.proofs.Fixed.{Told, step_told}
 use Rattle.dr_program.proofs.Holdings.{held_of, replica_kept, replica_set}
@@ -35,11 +39,16 @@ use Rattle.dr_refine.proofs.Steps.{begun_is_program}
 use Rattle.dr_rows.specs.Words.{IsWords, begun, last_pushed, own, with_word, word_at}
 use Rattle.dr_rows.proofs.Grids.{with_word-same, with_word-row, with_word-column}
 use Rattle.dr_rows.proofs.WordsLemmas.{IsFresh-begun}
-use Rattle.dr_turn.proofs.Search.{settle_only}
+use Rattle.dr_turn.specs.Work.{work}
+use Rattle.dr_turn.proofs.Deeds.{verdict_of}
+use Rattle.dr_turn.proofs.Search.{beat_test, settle_only}
+use Rattle.dr_turn.proofs.Tasks.{ends_view, view_stays}
 use Rattle.dr_words.specs.declared.column.TheConstants.{BEAT_COLUMN}
 use Rattle.dr_words.specs.Columns.{columns_of}
-use Rattle.dr_program_laws.specs.Steady.{HasRooms, IsSteady}
-use Rattle.dr_program_laws.proofs.Acts.{table_stays, taken_pushed, taken_view}
+use Rattle.dr_world_laws.proofs.Worlds.{faithful, known}
+use Rattle.dr_program_laws.specs.Steady.{HasRooms, HasWorked, IsSteady, all_work}
+use Rattle.dr_program_laws.proofs.Acts.{table_stays, taken_pushed, verdict_no_beat}
+use Rattle.dr_program_laws.proofs.Working.{works_begin, works_on}
 use Rattle.dr_program_laws.proofs.Programs.{replaced_either}
 
 -- ---- a move
@@ -93,16 +102,11 @@ pub stepped_failed : (p : Program) (r : Running) → (stepped_on p r).failed ≡
 stepped_failed p r =
     ap (λ (x : Running). x.failed) (settle_only _ (took (next_sight p.table r) r (next_step r)))
 
--- the view
-step_view : (word : ℕ) (r : Replica) (s : Step) → (stepped word r s).view ≡ r.view
-step_view word r (Do a) = taken_view r a
-step_view word r s = refl
-
--- and the room
+-- the room
 rooms_told : (g : Group) (word : ℕ) (r : Replica) (s : Step) → HasRooms g r
     → HasRooms g (stepped word r s)
 rooms_told g word r s rooms = subst
-    (λ (t : Told). length g.opening.start + banks g + greatest t.totals * roster g ≤ t.room)
+    (λ (t : Told). length g.opening.start + banks g + greatest t.totals * roster g < t.room)
     (sym (step_told word r s)) rooms
 
 -- ---- the table
@@ -116,7 +120,7 @@ cell_apart table b m d x v j i c (inr other) = grind (arith, other)
 act_cells : (g : Group) (w : World) (m : ℕ) (a : Act) (v j i c : ℕ) → (j ≢ m) ⊎ (i ≢ m)
     → (effect_of g w m (Do a)).table v j i c ≡ w.table v j i c
 act_cells g w m a v j i c apart =
-    cell_apart (does g w m a).table ((does g w m a).past.view m) m BEAT_COLUMN
+    cell_apart (does g w m a).table (w.past.view m) m BEAT_COLUMN
     (one_more 64 ((does g w m a).past.acts m)) v j i c apart
     ∙ ap (λ t. t v j i c) (table_stays g w m a)
 
@@ -173,15 +177,35 @@ record HasShown (g : Group) (w : World) (m : ℕ) (r : Replica) : Type 0 where
   wide : r.rows.columns ≡ columns g
   view : w.past.view m ≡ r.view
   own : (c : ℕ) → own_word w m c ≡ own r.rows c
+  unwritten : (j c : ℕ) → w.table (r.view + 1) j m c ≡ 0
 
--- no step changes that
+-- rows that begin have pushed nothing
+begun_unpushed : (n k m logged j c : ℕ) → last_pushed (first_rows n k m logged) j c ≡ 0
+begun_unpushed n k m logged j c =
+    zero (own (begun n k m) c) (last_pushed (begun n k m) j c) ((IsFresh-begun n k m).zero m c)
+    ((IsFresh-begun n k m).unchanged j c)
+  where
+    zero : (a b : ℕ) → a ≡ 0 → not (a == b) ≡ false → b ≡ 0
+    zero a b none same = grind (arith, nat_tests, none, same)
+
+-- an act by which the member stays in its view doesn't change that
+act_stands : (g : Group) (w : World) (m word : ℕ) (r : Replica) (a : Act) → ends_view (Do a) ≡ false
+    → ArePushed g w m r → ArePushed g (effect_of g w m (Do a)) m (stepped word r (Do a))
+act_stands g w m word r a stays old = λ j c l other low.
+    ap (λ rows. word_at rows j c) (taken_pushed r a stays)
+    ∙ old j c l other low
+    ∙ ap (λ v. w.table v j m c) (sym (view_stays word r (Do a) stays))
+    ∙ sym (act_cells g w m a (taken r a).view j m c (inl other))
+
+-- nor does any step. In a view that it has not come to, it has written nothing
 step_stands : (g : Group) (w : World) (m word : ℕ) (r : Replica) (s : Step) → HasShown g w m r
     → ArePushed g w m r → ArePushed g (effect_of g w m s) m (stepped word r s)
-step_stands g w m word r (Do a) shown old = λ j c l other low.
-    ap (λ rows. word_at rows j c) (taken_pushed r a)
-    ∙ old j c l other low
-    ∙ ap (λ v. w.table v j m c) (sym (step_view word r (Do a)))
-    ∙ sym (act_cells g w m a (taken r a).view j m c (inl other))
+step_stands g w m word r (Do acts.Finish) shown old = λ j c l other low.
+    begun_unpushed r.rows.members r.rows.columns r.rows.me r.logged j c
+    ∙ sym (shown.unwritten j c)
+    ∙ sym (act_cells g w m acts.Finish (r.view + 1) j m c (inl other))
+step_stands g w m word r (Do acts.Beat) shown old = act_stands g w m word r acts.Beat refl old
+step_stands g w m word r (Do a) shown old = act_stands g w m word r a refl old
 step_stands g w m word r (Push k d) shown old =
     push_stands g w m r k d shown.form shown.rows shown.wide shown.view (shown.own d) old
 step_stands g w m word r (Look k d) shown old = old
@@ -189,6 +213,13 @@ step_stands g w m word r Append shown old = old
 step_stands g w m word r (LogVote value) shown old = old
 
 -- ---- the program
+
+-- no word stands in the bank of a view that its member has not come to
+none_ahead : (g : Group) (w : World) (m v j c : ℕ) → IsGroup g → IsReached g w → w.past.view m < v
+    → w.table v j m c ≡ 0
+none_ahead g w m v j c is run ahead =
+    let f = faithful g w (known g w is run) in
+    omega (arith, (f.old.in_table v j m c).number, f.fresh.unwritten m v c ahead)
 
 shown_in : (g : Group) (p : Program) (m : ℕ) (r : Running) → IsSteady g p
     → slice_get p.members m ≡ Some r → HasShown g (world g p) m r.replica
@@ -199,6 +230,8 @@ shown_in g p m r is there =
       wide = member.form.columns ∙ λ z. columns_of (member.of.members z) (member.of.window z);
       view = ap (λ h. h.view) (held_of g (replicas p.members) p.table m r.replica member.there);
       own = λ c. own_shown g (replicas p.members) p.table m r.replica c member.there;
+      unwritten = λ j c. none_ahead g (world g p) m (r.replica.view + 1) j c is.group is.reached
+          (omega (arith, ap (λ h. h.view) (held_of g (replicas p.members) p.table m r.replica member.there)));
     }
 
 -- the world after the next step of a member
@@ -215,6 +248,32 @@ moved_either : (p : Program) (m : ℕ) (r : Running) → slice_get p.members m �
     → ((i ≡ m) × (stepped_on p r ≡ y)) ⊎ ((i ≢ m) × (slice_get p.members i ≡ Some y))
 moved_either p m r there unended i y at = replaced_either p.members m r (stepped_on p r) there i y
     (sym (ap (λ (x : Program). slice_get x.members i) (move_made p m r there unended)) ∙ at)
+
+-- the step begins a turn; only one part of a turn does so
+abbrev is_beat_step : Step → Bool
+is_beat_step (Do a) = is_beat (parts.Do a)
+is_beat_step s = false
+
+plain_begins : (r : Running) (part : Part) (i c : ℕ) → is_beat part ≡ false
+    → is_beat_step (step_at r part i c) ≡ false
+plain_begins r parts.Judge i c other = verdict_no_beat (judged r) (verdict_of r)
+plain_begins r parts.Append i c other = by r.failed
+  where
+    by : (o : Option LogWhy) → is_beat_step (append_or_end o) ≡ false
+    by None = refl
+    by (Some why) = refl
+plain_begins r parts.Vote i c other = by r.failed
+  where
+    by : (o : Option LogWhy) → is_beat_step (vote_or_end o (value_due r.replica)) ≡ false
+    by None = refl
+    by (Some why) = refl
+plain_begins r parts.Push i c other = by (crashes_now r)
+  where
+    by : (b : Bool) → is_beat_step (push_or_crash b i c) ≡ false
+    by true = refl
+    by false = refl
+plain_begins r (parts.Do a) i c other = other
+plain_begins r part i c other = refl
 
 steady_on : (g : Group) (p : Program) (m : ℕ) (r : Running) → IsSteady g p
     → slice_get p.members m ≡ Some r → r.replica.end ≡ None → IsSteady g (step_of p (ok m))
@@ -233,6 +292,12 @@ steady_on g p m r is there unended = record {
         (rooms_told g (next_sight p.table r) r.replica (next_step r) (is.rooms m r there)))
     | inr there ↦ is.rooms i y there.1
   ];
+  works = λ i y at. elim (moved_either p m r there unended i y at) [
+    | inl here ↦ subst HasWorked here.1 (subst (λ (q : Replica). q.end ≡ None
+        → q.acts + work q ≤ all_work q + q.turns) (sym (stepped_replica p r))
+        (works_on g p m r is.group is.program is.reached there unended begins_early (is.works m r there)))
+    | inr there ↦ is.works i y there.1
+  ];
   pushes = λ i y at. elim (moved_either p m r there unended i y at) [
     | inl here ↦ rw here.0 (subst (λ (x : Running). ArePushed g after m x.replica) here.1
         (subst (ArePushed g after m) (sym (stepped_replica p r))
@@ -248,6 +313,20 @@ steady_on g p m r is there unended = record {
   where
     after : World
     after = world g (step_of p (ok m))
+
+    begins_early : next_step r ≡ Do acts.Beat → r.replica.turns + 1 < 2 ^ 32
+    begins_early at = by (is_beat (part_of r.place)) refl
+      where
+        by : (b : Bool) → is_beat (part_of r.place) ≡ b → r.replica.turns + 1 < 2 ^ 32
+        by true beat = omega (
+          arith,
+          (is.program.form m r there).left unended (beat_test (part_of r.place) beat),
+          is.limits m r there,
+        )
+        by false other = absurd (cc (
+          ap is_beat_step at,
+          plain_begins r (part_of r.place) r.place.row r.place.column other,
+        ))
 
     moved : CanTake g (world g p) m (next_step r)
         × (world g (step_of p (ok m)) ≡ effect_of g (world g p) m (next_step r))
@@ -304,6 +383,9 @@ steady_failed g p m why r is there unended due = record {
       subst (λ n. n < 2 ^ 32) old.3 (is.limits i old.0 old.1);
   rooms = λ i y at. let old = failed_leaves p m why r there i y at in
       subst (HasRooms g) old.2 (is.rooms i old.0 old.1);
+  works = λ i y at none. let old = failed_leaves p m why r there i y at in
+      subst (λ (q : Replica). q.acts + work q ≤ all_work q + q.turns) old.2
+      (is.works i old.0 old.1 (ap (λ (q : Replica). q.end) old.2 ∙ none));
   pushes = λ i y at. let old = failed_leaves p m why r there i y at in
       subst (λ v. ArePushed g v i y.replica) (sym same)
       (subst (ArePushed g (world g p) i) old.2 (is.pushes i old.0 old.1));
@@ -359,18 +441,11 @@ steady_moves g p e is = by (slice_get p.members e.member) refl
 
 -- ---- the beginning
 
-begun_unpushed : (n k m logged j c : ℕ) → last_pushed (first_rows n k m logged) j c ≡ 0
-begun_unpushed n k m logged j c =
-    zero (own (begun n k m) c) (last_pushed (begun n k m) j c) ((IsFresh-begun n k m).zero m c)
-    ((IsFresh-begun n k m).unchanged j c)
-  where
-    zero : (a b : ℕ) → a ≡ 0 → not (a == b) ≡ false → b ≡ 0
-    zero a b none same = grind (arith, nat_tests, none, same)
-
 -- a member that begins, where its setup is of the group
 record BeginsSteady (g : Group) (turns m : ℕ) (r : Running) : Type 0 where
   limit : r.limit ≡ turns
   rooms : HasRooms g r.replica
+  works : HasWorked r
   unpushed : (j c : ℕ) → last_pushed r.replica.rows j c ≡ 0
 
 begun_member : (g : Group) (turns m : ℕ) (s : Setup) → IsSetup g turns m s
@@ -383,6 +458,7 @@ begun_member g turns m s of = record {
     of.banks,
     ap (λ n. greatest s.totals * n) of.members,
   );
+  works = works_begin s;
   unpushed = λ j c. begun_unpushed s.shape.members (columns_of s.shape.members s.shape.window) s.me
       (length (first_entries_of s)) j c;
 }
@@ -396,6 +472,7 @@ steady_begins g turns setups group some small are = record {
   reached = begun_reached g turns setups group are;
   limits = λ m r there. omega (arith, small, (begins m r there).limit);
   rooms = λ m r there. (begins m r there).rooms;
+  works = λ m r there. (begins m r there).works;
   pushes = λ m r there j c l other low. (begins m r there).unpushed j c
       ∙ sym (ap (λ (w : World). w.table r.replica.view j m c)
       (begins_at_the_opening g turns setups group are));

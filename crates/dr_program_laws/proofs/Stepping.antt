@@ -1,9 +1,9 @@
 -- What is known of a member within its turn, after its next deed.
 use Rattle.std.proofs.Common.{◌≡◌, refl, sym, ap, ◌∙◌, subst, ℕ, ◌<◌, Bool, true, false, length}
 use Rattle.std.specs.Prelude.{None, Some, is_some}
+use Rattle.std.proofs.lemmas.Option.{same_Some}
 use Rattle.dr_entry.specs.declared.end.End.{End}
 use Rattle.dr_entry.specs.declared.end.End.TheVariants as ends
-use Rattle.dr_faithful.proofs.Faithfulness.{faithful}
 use Rattle.dr_machine.specs.declared.step.Step.{Step}
 use Rattle.dr_machine.specs.Acts.{CanTake, effect_of}
 use Rattle.dr_machine.specs.Group.{Group, columns, roster}
@@ -18,13 +18,12 @@ use Rattle.dr_program.specs.Running as running
 use Rattle.dr_program.specs.Running.{Running, append_or_end, crashes_now, goes, members, next_step, push_or_crash, settled, step_at, took}
 use Rattle.dr_program.specs.Steps.{stepped}
 use Rattle.dr_program.specs.Turn.{IsIn, columns_in, is_beat, part_of, rows_in}
-use Rattle.dr_turn.specs.Search.{Passed}
-use Rattle.dr_turn.proofs.Search.{passed_at, settle_only, settle_passed}
 use Rattle.dr_turn.proofs.Staying.{settled_end}
 use Rattle.dr_words.specs.Columns.{columns_of}
 use Rattle.dr_words.specs.declared.column.TheConstants.{LOGGED_COLUMN}
+use Rattle.dr_world_laws.proofs.Worlds.{faithful, known}
 use Rattle.dr_program_laws.specs.Swept.{Swept}
-use Rattle.dr_program_laws.specs.Trusting.{AreTrusting}
+use Rattle.dr_program_laws.specs.Trusting.{AreAtEase, MayWait}
 use Rattle.dr_program_laws.specs.Wants.{SeesAllDone}
 use Rattle.dr_program_laws.proofs.Acts.{asks, is_end, is_passed, no_end, taken_end, uncrashed}
 use Rattle.dr_program_laws.proofs.Leaving.{end_sees}
@@ -32,23 +31,18 @@ use Rattle.dr_program_laws.proofs.Passing.{IsGoing, among, passes}
 use Rattle.dr_program_laws.proofs.Resting.{Knows}
 use Rattle.dr_program_laws.proofs.Steadying.{moved_member, steady_moves, stepped_on, stepped_replica, world_on}
 use Rattle.dr_program_laws.proofs.Sweeping.{swept_behind, world_behind}
-use Rattle.dr_program_laws.proofs.Trusting.{move_trusts, never_passed, nobody_suspects}
-
--- ---- the search
-
--- the search passes only places with nothing to do, as its member is behind it
-pub settled_passed : (y : Running) → Passed (settled y) y.place (settled y).place
-settled_passed y =
-    subst (λ (z : Running). Passed z y.place (settled y).place) (sym (settle_only _ y))
-    (passed_at (record y { place = (settled y).place }) y.place y.place (settled y).place (settle_passed _ y))
+use Rattle.dr_program_laws.proofs.Patience.{settled_passed}
+use Rattle.dr_program_laws.proofs.Trusting.{move_eases, never_passed, nobody_suspects}
 
 -- ---- a deed
 
--- a move of its member leaves nobody suspecting
-pub trusting_on : (g : Group) (p : Program) (m : ℕ) (r : Running) → IsGoing g p m r
-    → AreTrusting (step_of p (ok m))
-trusting_on g p m r is =
-    move_trusts g p (ok m) is.steady.group is.steady.program is.steady.reached is.trusting
+-- a move of its member leaves all at ease, where it may wait if its turn begins by it
+pub ease_on : (g : Group) (p : Program) (m : ℕ) (r : Running) → IsGoing g p m r
+    → (is_beat (part_of r.place) ≡ true → MayWait r) → AreAtEase (step_of p (ok m))
+ease_on g p m r is waits =
+    move_eases g p (ok m) is.steady.group is.steady.program is.steady.reached is.ease
+    (λ y there. subst (λ (x : Running). is_beat (part_of x.place) ≡ true → MayWait x)
+    (same_Some r y (sym is.there ∙ there)) waits)
 
 -- member m is within its turn, no append of it has failed, and nothing is left to do before its place
 pub record IsWithin (g : Group) (p : Program) (m : ℕ) (r : Running) : Type 0 where
@@ -85,8 +79,8 @@ swept_on g p m r is plain =
       place = place_of g p m r is.going;
       begun = is.begun;
       unpassed = never_passed g p m r (among g p m r is.going) is.going.unended is.well;
-      published = ((faithful g (world g p) is.going.steady.group is.going.steady.reached).words.own m
-          ((world g p).past.view m) LOGGED_COLUMN).logged refl;
+      published = ((faithful g (world g p) (known g (world g p) is.going.steady.group
+          is.going.steady.reached)).words.own m ((world g p).past.view m) LOGGED_COLUMN).logged refl;
       can = subst (CanTake g (world g p) m) plain on.0;
       swept = is.swept;
     })))
@@ -112,7 +106,7 @@ onward g p m r part is at plain unended =
     (passes g (step_of p (ok m)) m (stepped_on p r) (took (next_sight p.table r) r (next_step r)).place
     (stepped_on p r).place (record {
       steady = steady_moves g p (ok m) is.going.steady;
-      trusting = trusting_on g p m r is.going;
+      ease = ease_on g p m r is.going (λ beat. absurd (cc (beat, is.begun)));
       there = moved_member p m r is.going.there is.going.unended;
       unended = none;
     }) (settled_passed (took (next_sight p.table r) r (next_step r)))
@@ -166,7 +160,7 @@ knows_next g p m r is = by (part_of r.place) refl
     sees : part_of r.place ≡ parts.Done → SeesAllDone v m
     sees at = subst (λ u. SeesAllDone u m) (sym (moved.1 ∙ ap (λ x. effect_of g w m (due r x)) at))
         (end_sees w m ends.Done
-        (asks g w m (due r parts.Done) (λ end. ((halts at).may, nobody_suspects g p m is.going.trusting))
+        (asks g w m (due r parts.Done) (λ end. ((halts at).may, nobody_suspects g p m is.going.ease))
         (halts at)))
 
     push : (b : Bool) → crashes_now r ≡ b → part_of r.place ≡ parts.Push → KnowsNext g p m r

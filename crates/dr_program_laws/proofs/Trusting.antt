@@ -1,17 +1,17 @@
--- Members that suspect nobody, and wait for everybody, judge nothing: so nobody is suspected, and no member
--- is ended by suspicion.
-use Rattle.std.proofs.Common.{◌≡◌, ◌≢◌, refl, sym, ap, ◌∙◌, subst, inl, inr, ℕ, suc, ◌+◌, ◌≤◌, ◌==◌, ◌&&◌, not, Bool, true, false, if◌then◌else◌, All, List, [], ◌∷◌, length, map, arith}
+-- Members that suspect nobody, and wait for everybody or have not waited for too long, judge nothing: so
+-- nobody is suspected, and no member is ended by suspicion.
+use Rattle.std.proofs.Common.{◌≡◌, ◌≢◌, refl, sym, ap, ◌∙◌, subst, inl, inr, ◌⊎◌, ℕ, suc, ◌+◌, ◌<◌, ◌≤◌, ◌==◌, ◌&&◌, not, nat_lt, Bool, true, false, if◌then◌else◌, All, List, [], ◌∷◌, length, map, arith}
 use Rattle.std.proofs.Math.Path.{fun_ext}
 use Rattle.std.specs.List.{find}
 use Rattle.std.specs.Option.{option_and_then, option_map, option_or}
 use Rattle.std.specs.Prelude.{Option, None, Some, filter_map, is_some, slice_get, slice_index_or, unwrap_or}
-use Rattle.std.proofs.lemmas.Bool.{and_left, and_right, cases_eq}
+use Rattle.std.proofs.lemmas.Bool.{and_left, and_right, cases_eq, cases_lt}
+use Rattle.std.proofs.lemmas.Bool.Decides.{nat_tests}
 use Rattle.std.proofs.lemmas.Option.{get_or_from_slice_get, same_Some, slice_get-get_or, slice_get-map, slice_get_within}
 use Rattle.dr_entry.specs.declared.end.End.{End}
 use Rattle.dr_entry.specs.declared.end.End.TheVariants as ends
-use Rattle.dr_faithful.proofs.Faithfulness.{faithful}
+use Rattle.dr_faithful.specs.Chosen.{views_by}
 use Rattle.dr_faithful.specs.Faithful.{Faithful}
-use Rattle.dr_faithful.specs.Tells.{views_of}
 use Rattle.dr_machine.specs.declared.event.Act.TheVariants as acts
 use Rattle.dr_machine.specs.declared.step.Step.{Step}
 use Rattle.dr_machine.specs.declared.step.Step.TheVariants.{Do, Look}
@@ -25,12 +25,14 @@ use Rattle.dr_program.specs.declared.setup.Setup.{Setup}
 use Rattle.dr_program.specs.declared.setup.Suspicion.{Suspicion}
 use Rattle.dr_program.specs.Program.{AreSetups, IsRanFrom, Move, Program, after_deed, begun_program, end_of, moved_by, next_sight, step_of}
 use Rattle.dr_program.specs.Reading.{world}
-use Rattle.dr_program.specs.Replica.{Replica, has_majority, is_due, is_fault, is_named, is_others, is_own, is_wedged, may_commit, may_suspect, may_vote, me, value_due}
+use Rattle.dr_program.specs.Replica.{Replica, has_majority, is_due, is_fault, is_named, is_others, is_own, is_wedged, may_commit, may_finish, may_suspect, may_vote, me, value_due}
 use Rattle.dr_program.specs.Replica as replica
 use Rattle.dr_program.specs.Running.{Running, after_step, append_or_end, begun_running, columns, crashes_now, is_scripted, judged, judgement, minority, named_by, next_step, overdue, push_or_crash, scripted, step_at, told, took, vote_or_end, waits_after}
 use Rattle.dr_program.specs.Steps.{allows, stepped}
-use Rattle.dr_program.specs.Turn.{part_of}
+use Rattle.dr_program.specs.Turn.{is_beat, part_of}
+use Rattle.dr_program.specs.Form.{HasForm, IsRunningMember}
 use Rattle.dr_program.proofs.Runs.{after_either}
+use Rattle.dr_program.proofs.Voting.{view_small}
 use Rattle.dr_refine.specs.Programs.{IsProgram}
 use Rattle.dr_refine.proofs.Deeds.{due_allowed, program_member, replicas, rest_changes_nothing, step_is, step_reached}
 use Rattle.dr_refine.proofs.Guards.{seen_is}
@@ -44,13 +46,17 @@ use Rattle.dr_script.specs.declared.script.Fault.{Fault}
 use Rattle.dr_script.specs.declared.script.Script.{Script}
 use Rattle.dr_suspect.specs.Answers.{least_where}
 use Rattle.dr_suspect.specs.Suspicion.{is_unsuspected, names, names_me, spreads}
-use Rattle.dr_suspect.specs.Waits.{Waits, compared, is_late}
+use Rattle.dr_suspect.specs.Waits.{Waits, compared, count_of, is_late, is_overdue}
 use Rattle.dr_turn.proofs.Deeds.{is_verdict}
 use Rattle.dr_turn.proofs.Search.{settle_only}
+use Rattle.dr_turn.proofs.Tasks.{ends_view, view_stays}
 use Rattle.dr_words.proofs.Bits.{has_zero}
+use Rattle.dr_words.proofs.Masks.{has_without_mask}
 use Rattle.dr_words.specs.declared.column.TheConstants.{SUSPECTED_COLUMN}
+use Rattle.dr_world_laws.proofs.Worlds.{Known, faithful, known}
 use Rattle.dr_history.specs.Members.{has}
-use Rattle.dr_program_laws.specs.Trusting.{AreTrusting, IsCalm, IsTrusting, NoneLeft, SuspectsNobody, has_been_left, is_left_out}
+use Rattle.dr_program_laws.specs.Trusting.{AreAtEase, AreTrusting, IsAtEase, IsCalm, IsPatient, IsTrusting, MayWait, NoneLeft, SuspectsNobody, has_been_left, is_left_out, to_come}
+use Rattle.dr_program_laws.proofs.Patience.{patient_on}
 use Rattle.dr_program_laws.proofs.Acts.{has_verdict, is_judge, is_passed, no_verdict}
 use Rattle.dr_program_laws.proofs.Keeping.{begun_reached}
 use Rattle.dr_program_laws.proofs.Programs.{ran_keeps, replaced_either}
@@ -60,28 +66,37 @@ use Rattle.dr_program_laws.proofs.Worlds.{all_ends, of_there}
 -- ---- words
 
 -- nobody suspects anybody in the world of such a program
-pub nobody_suspects : (g : Group) (p : Program) (m : ℕ) → AreTrusting p → (world g p).suspects m ≡ 0
-nobody_suspects g p m trusting = by (slice_get p.members m) refl
+pub nobody_suspects : (g : Group) (p : Program) (m : ℕ) → AreAtEase p → (world g p).suspects m ≡ 0
+nobody_suspects g p m ease = by (slice_get p.members m) refl
   where
     by : (o : Option Running) → slice_get p.members m ≡ o → (world g p).suspects m ≡ 0
     by None none = rw (slice_get-map (λ (x : Running). x.replica) p.members m, none) refl
     by (Some r) there = of_there p (λ q. q.suspects) (opening_world g).suspects m r there
-        ∙ (trusting m r there).unwedged
+        ∙ (ease m r there).unwedged
+
+-- and everybody is in the first view
+pub stay_first : (g : Group) (p : Program) (m : ℕ) → AreAtEase p → (world g p).past.view m ≡ 0
+stay_first g p m ease = by (slice_get p.members m) refl
+  where
+    by : (o : Option Running) → slice_get p.members m ≡ o → (world g p).past.view m ≡ 0
+    by None none = rw (slice_get-map (λ (x : Running). x.replica) p.members m, none) refl
+    by (Some r) there = of_there p (λ q. q.view) (opening_world g).past.view m r there
+        ∙ (ease m r there).first
 
 -- member m of such a program, in a world that is reached
-pub record IsAmongTrusting (g : Group) (p : Program) (m : ℕ) (r : Running) : Type 0 where
+pub record IsAmong (g : Group) (p : Program) (m : ℕ) (r : Running) : Type 0 where
   pub group : IsGroup g
   pub program : IsProgram g p
   pub reached : IsReached g (world g p)
-  pub trusting : AreTrusting p
+  pub ease : AreAtEase p
   pub there : slice_get p.members m ≡ Some r
 
 -- so no suspected word names anybody: neither the own one, nor any that it has seen
-unsuspecting : (g : Group) (p : Program) (m : ℕ) (r : Running) → IsAmongTrusting g p m r → (i : ℕ)
+unsuspecting : (g : Group) (p : Program) (m : ℕ) (r : Running) → IsAmong g p m r → (i : ℕ)
     → seen r.replica.rows i SUSPECTED_COLUMN ≡ 0
 unsuspecting g p m r is i = elim (cases_eq i (me r.replica)) [
   | inl same ↦ rw same ((is.program.form m r is.there).replica.suspected
-      ∙ (is.trusting m r is.there).unwedged)
+      ∙ (is.ease m r is.there).unwedged)
   | inr apart ↦
       let other : i ≢ m = λ same. apart (same ∙ sym (is.program.of m r is.there).number) in
       sym (seen_is g (replicas p.members) p.table m r.replica i SUSPECTED_COLUMN
@@ -93,18 +108,30 @@ unsuspecting g p m r is i = elim (cases_eq i (me r.replica)) [
     w : World
     w = world g p
 
-    told_truly : Faithful g (views_of g w) w
-    told_truly = faithful g w is.group is.reached
+    y : Known g (world g p)
+    y = known g w is.group is.reached
+
+    told_truly : Faithful g (views_by g y.values) w
+    told_truly = faithful g w y
 
     own : w.past.own i (w.past.view m) SUSPECTED_COLUMN ≡ 0
     own = ap (λ v. w.past.own i v SUSPECTED_COLUMN)
-        (told_truly.beginning.first m ∙ sym (told_truly.beginning.first i))
-        ∙ told_truly.suspicions.told i ∙ nobody_suspects g p i is.trusting
+        (stay_first g p m is.ease ∙ sym (stay_first g p i is.ease))
+        ∙ told_truly.suspicions.told i ∙ nobody_suspects g p i is.ease
 
     nothing : {a b c : ℕ} → a ≤ b → b ≤ c → c ≡ 0 → a ≡ 0
     nothing low high none = omega (arith, low, high, none)
 
 -- ---- judging
+
+-- a count below the limit hasn't reached it
+soon : (count more limit : ℕ) → count + more < limit → not (nat_lt count limit) ≡ false
+soon count more limit l = grind (arith, l)
+
+-- who is beyond a roster is not of a mask of it
+not_in : {n i : ℕ} (b : Bool) → (b ≡ true → i < n) → n ≤ i → b ≡ false
+not_in true inside beyond = absurd (omega (arith, inside refl, beyond))
+not_in false inside beyond = refl
 
 -- nothing is found where nothing passes the test
 nothing_found : (test : ℕ → Bool) → ((i : ℕ) → test i ≡ false) → least_where test ≡ None
@@ -116,7 +143,7 @@ nothing_spreads test none = ap (λ (t : ℕ → ℕ → Bool). option_and_then (
     (least_where (λ i. is_some (least_where (t i))))) (fun_ext λ i. fun_ext (none i))
 
 -- such a member judges nothing
-judges_nothing : (g : Group) (p : Program) (m : ℕ) (r : Running) → IsAmongTrusting g p m r
+judges_nothing : (g : Group) (p : Program) (m : ℕ) (r : Running) → IsAmong g p m r
     → judgement r ≡ None
 judges_nothing g p m r is = λ z.
     option_or (option_map (λ by. acts.Halt (ends.Suspected by)) (named z))
@@ -127,8 +154,11 @@ judges_nothing g p m r is = λ z.
     q : Replica
     q = r.replica
 
-    so : IsTrusting r
-    so = is.trusting m r is.there
+    so : IsAtEase r
+    so = is.ease m r is.there
+
+    form : HasForm r.replica
+    form = (is.program.form m r is.there).replica
 
     unnamed : (i j : ℕ) → names q.rows i j ≡ false
     unnamed i j = ap (λ x. has x j) (unsuspecting g p m r is i) ∙ has_zero j
@@ -145,16 +175,36 @@ judges_nothing g p m r is = λ z.
         and_right (is_unsuspected (replica.suspicion_of q) i) _
         (and_left (names q.rows i j) _ (unnamed i j)))
 
+    -- in a view whose members are none of the roster's, nobody is waited for
+    unknown : (i : ℕ) → r.replica.roster ≤ i → has (replica.unsuspected r.replica) i ≡ false
+    unknown i beyond = has_without_mask q.members q.suspects i (view_small q form)
+        ∙ and_left (has q.members i) _ (not_in (has q.members i) (form.roster i) beyond)
+
+    in_time : IsPatient r → (i : ℕ)
+        → is_overdue r.waits r.replica.rows (replica.unsuspected r.replica) i ≡ false
+    in_time (inl none) i = and_left (not (r.waits.limit == 0)) _ (ap (λ n. not (n == 0)) none)
+    in_time (inr enough) i = and_right (not (r.waits.limit == 0)) _ (by (cases_lt i q.roster) (cases_eq i
+        (me q)))
+      where
+        by : (i < r.replica.roster) ⊎ (r.replica.roster ≤ i) → (i ≡ me r.replica) ⊎ (i ≢ me r.replica)
+            → ((has (replica.unsuspected r.replica) i && not (i == me r.replica))
+            && is_late r.waits r.replica.rows i) ≡ false
+        by (inr beyond) side = and_left _ _ (and_left _ _ (unknown i beyond))
+        by (inl within) (inl same) =
+            and_left _ _ (and_right (has (replica.unsuspected q) i) _ (grind (arith, nat_tests, same)))
+        by (inl within) (inr other) = and_right (has (replica.unsuspected q) i && not (i == me q)) _
+            (and_left (not (nat_lt (count_of r.waits i) r.waits.limit)) _ (soon (count_of r.waits i)
+            (to_come (part_of r.place) r.place.row i) r.waits.limit (enough i (within, other))))
+
     late : overdue r ≡ None
-    late = ap (λ n. least_where (λ i. not (n == 0)
-        && ((has (replica.unsuspected q) i && not (i == me q)) && is_late r.waits q.rows i))) so.patient
+    late = nothing_found (is_overdue r.waits q.rows (replica.unsuspected q)) (in_time so.patient)
 
     few : minority q ≡ None
     few = ap (λ n. if not (n == 0) && not (has_majority q)
         then Some (acts.Halt (ends.NoMajority (replica.unsuspected q))) else None) so.unwedged
 
 -- so it never stands where members judge
-pub never_judges : (g : Group) (p : Program) (m : ℕ) (r : Running) → IsAmongTrusting g p m r
+pub never_judges : (g : Group) (p : Program) (m : ℕ) (r : Running) → IsAmong g p m r
     → r.replica.end ≡ None → is_judge (part_of r.place) ≡ false
 never_judges g p m r is unended = by (part_of r.place) refl
   where
@@ -175,16 +225,16 @@ never_judges g p m r is unended = by (part_of r.place) refl
 -- ---- voting
 
 -- such a member has no vote that waits, and has committed nothing
-pub votes_nothing : (g : Group) (p : Program) (m : ℕ) (r : Running) → IsAmongTrusting g p m r
+pub votes_nothing : (g : Group) (p : Program) (m : ℕ) (r : Running) → IsAmong g p m r
     → (r.replica.pending ≡ None) × (r.replica.committed ≡ None)
 votes_nothing g p m r is =
-    let none = quiet g (world g p) m is.group is.reached (nobody_suspects g p m is.trusting) in (
+    let none = quiet g (world g p) m is.group is.reached (nobody_suspects g p m is.ease) in (
       sym (of_there p (λ q. q.pending) (opening_world g).pending m r is.there) ∙ none.0,
       sym (of_there p (λ q. q.committed) (opening_world g).committed m r is.there) ∙ none.1,
     )
 
 -- so until an append of it fails it stands at no part that it passes
-pub never_passed : (g : Group) (p : Program) (m : ℕ) (r : Running) → IsAmongTrusting g p m r
+pub never_passed : (g : Group) (p : Program) (m : ℕ) (r : Running) → IsAmong g p m r
     → r.replica.end ≡ None → r.failed ≡ None → is_passed (part_of r.place) ≡ false
 never_passed g p m r is unended well = by (part_of r.place) refl
   where
@@ -192,7 +242,7 @@ never_passed g p m r is unended well = by (part_of r.place) refl
     none = votes_nothing g p m r is
 
     calm : is_wedged r.replica ≡ false
-    calm = ap (λ n. not (n == 0)) (is.trusting m r is.there).unwedged
+    calm = ap (λ n. not (n == 0)) (is.ease m r is.there).unwedged
 
     no_vote : may_vote r.replica (value_due r.replica) ≡ false
     no_vote = and_left (is_wedged r.replica) _ calm
@@ -220,6 +270,7 @@ never_passed g p m r is unended well = by (part_of r.place) refl
     by (parts.Do acts.Accept) at = never (parts.Do acts.Accept) at (ap (is_others (me r.replica)) none.0)
     by (parts.Do acts.Commit) at = never (parts.Do acts.Commit) at no_commit
     by parts.Excluded at = never parts.Excluded at unnamed
+    by (parts.Do acts.Finish) at = never (parts.Do acts.Finish) at (ap (may_finish r.replica) none.1)
     by part at = refl
 
 -- ---- other steps
@@ -251,12 +302,26 @@ plain_step r parts.Push i c other none = by (crashes_now r)
 plain_step r (parts.Do a) i c other none = none
 plain_step r part i c other none = refl
 
+-- who has committed nothing doesn't end its view
+view_goes_on : (r : Replica) (s : Step) → r.committed ≡ None → allows r s ≡ true → ends_view s ≡ false
+view_goes_on r (Do acts.Finish) none may = absurd (cc (ap (may_finish r) none, may))
+view_goes_on r (Do a) none may = refl
+view_goes_on r s none may = refl
+
+-- so such a member stays in its view
+pub never_ends : (g : Group) (p : Program) (m : ℕ) (r : Running) → IsAmong g p m r → r.replica.end ≡ None
+    → ends_view (next_step r) ≡ false
+never_ends g p m r is unended = view_goes_on r.replica (next_step r) (votes_nothing g p m r is).1
+    (due_allowed r ((is.program.form m r is.there).due unended))
+
 -- and no other step makes a member suspect anybody
-suspects_stay : (word : ℕ) (r : Replica) (s : Step) → judges s ≡ false
+suspects_stay : (word : ℕ) (r : Replica) (s : Step) → judges s ≡ false → ends_view s ≡ false
     → (stepped word r s).suspects ≡ r.suspects
-suspects_stay word r (Do (acts.Suspect j)) other = absurd (cc)
-suspects_stay word r (Do a) other = refl
-suspects_stay word r s other = refl
+suspects_stay word r (Do (acts.Suspect j)) other stays = absurd (cc other)
+suspects_stay word r (Do acts.Finish) other stays = absurd (cc stays)
+suspects_stay word r (Do acts.Beat) other stays = refl
+suspects_stay word r (Do a) other stays = refl
+suspects_stay word r s other stays = refl
 
 -- or ends it by suspicion
 halt_kept : (r : Replica) (end : End) → r.committed ≡ None → is_verdict (acts.Halt end) ≡ false
@@ -279,71 +344,131 @@ end_stays : (word : ℕ) (r : Replica) (s : Step) → r.committed ≡ None → j
     → allows r s ≡ true → has_been_left r.end ≡ false → has_been_left (stepped word r s).end ≡ false
 end_stays word r (Do (acts.Halt end)) none other may kept = halt_kept r end none other may
 end_stays word r (Do (acts.Crash end)) none other may kept = crash_kept end may
+end_stays word r (Do acts.Finish) none other may kept = kept
+end_stays word r (Do acts.Beat) none other may kept = kept
 end_stays word r (Do a) none other may kept = kept
 end_stays word r s none other may kept = kept
 
 -- no step at all changes for how long it waits
-limit_stays : (word : ℕ) (r : Running) (s : Step) → (waits_after word r s).limit ≡ r.waits.limit
+pub limit_stays : (word : ℕ) (r : Running) (s : Step) → (waits_after word r s).limit ≡ r.waits.limit
 limit_stays word r (Look i c) =
     by (c + 1 == columns r) (compared r.waits (looked r.replica.rows i c word) i) refl
   where
     by : (b : Bool) (w : Waits) → w.limit ≡ r.waits.limit → (if b then w else r.waits).limit ≡ r.waits.limit
     by true w same = same
     by false w same = refl
+limit_stays word r (Do acts.Finish) = refl
 limit_stays word r s = refl
 
 -- ---- a move
 
--- a member that takes such a step stays as it is
-step_trusts : (word : ℕ) (r : Running) → r.replica.committed ≡ None → judges (next_step r) ≡ false
-    → allows r.replica (next_step r) ≡ true → IsTrusting r → IsTrusting (after_step word r)
-step_trusts word r none other may so =
-    subst IsTrusting (sym (settle_only _ (took word r (next_step r)))) (record {
-      unwedged = suspects_stay word r.replica (next_step r) other ∙ so.unwedged;
-      patient = limit_stays word r (next_step r) ∙ so.patient;
-      unscripted = so.unscripted;
-      kept = end_stays word r.replica (next_step r) none other may so.kept;
-    })
+-- a member that takes such a step stays as it is, where it may wait as its turn begins
+step_eases : (word : ℕ) (r : Running) → IsRunningMember r → r.replica.committed ≡ None
+    → judges (next_step r) ≡ false → allows r.replica (next_step r) ≡ true
+    → (is_beat (part_of r.place) ≡ true → MayWait r) → IsAtEase r → IsAtEase (after_step word r)
+step_eases word r member none other may waits so =
+    let stays = view_goes_on r.replica (next_step r) none may in
+    let only = settle_only _ (took word r (next_step r)) in record {
+      first = ap (λ (x : Running). x.replica.view) only
+          ∙ view_stays word r.replica (next_step r) stays ∙ so.first;
+      unwedged = ap (λ (x : Running). x.replica.suspects) only
+          ∙ suspects_stay word r.replica (next_step r) other stays ∙ so.unwedged;
+      patient = patient_on word r member stays waits (limit_stays word r (next_step r)) so.patient;
+      unscripted = ap (λ (x : Running). x.suspicions) only ∙ so.unscripted;
+      kept = ap (λ (x : Running). has_been_left x.replica.end) only
+          ∙ end_stays word r.replica (next_step r) none other may so.kept;
+    }
 
 -- the member after its next deed
-deed_trusts : (g : Group) (p : Program) (e : Move) (r : Running) → IsAmongTrusting g p e.member r
-    → r.replica.end ≡ None → IsTrusting (after_deed (next_sight p.table r) e.outcome r (next_step r))
-deed_trusts g p e r is unended =
+deed_eases : (g : Group) (p : Program) (e : Move) (r : Running) → IsAmong g p e.member r
+    → r.replica.end ≡ None → (is_beat (part_of r.place) ≡ true → MayWait r)
+    → IsAtEase (after_deed (next_sight p.table r) e.outcome r (next_step r))
+deed_eases g p e r is unended waits =
     let form = is.program.form e.member r is.there in
-    let so = is.trusting e.member r is.there in
-    after_either IsTrusting p.table e.outcome r (next_step r)
-    (step_trusts (next_sight p.table r) r (votes_nothing g p e.member r is).1
+    let so = is.ease e.member r is.there in
+    after_either IsAtEase p.table e.outcome r (next_step r)
+    (step_eases (next_sight p.table r) r form (votes_nothing g p e.member r is).1
     (plain_step r (part_of r.place) r.place.row r.place.column (never_judges g p e.member r is unended)
     (no_verdict r.place.part form.place.part))
-    (due_allowed r (form.due unended)) so)
-    (λ why due. record
-    { unwedged = so.unwedged; patient = so.patient; unscripted = so.unscripted; kept = so.kept })
+    (due_allowed r (form.due unended)) waits so)
+    (λ why due. record {
+      first = so.first;
+      unwedged = so.unwedged;
+      patient = so.patient;
+      unscripted = so.unscripted;
+      kept = so.kept;
+    })
 
--- a move keeps the members of the program so
-pub move_trusts : (g : Group) (p : Program) (e : Move) → IsGroup g → IsProgram g p
-    → IsReached g (world g p) → AreTrusting p → AreTrusting (step_of p e)
-move_trusts g p e group is run trusting = by (slice_get p.members e.member) refl
+-- what holds of each member, and of the one that moves after its deed, holds after a move
+pub moved_all : (P : Running → Type 0) (p : Program) (e : Move)
+    → ((k : ℕ) (y : Running) → slice_get p.members k ≡ Some y → P y)
+    → ((r : Running) → slice_get p.members e.member ≡ Some r → r.replica.end ≡ None
+    → P (after_deed (next_sight p.table r) e.outcome r (next_step r)))
+    → (k : ℕ) (y : Running) → slice_get (step_of p e).members k ≡ Some y → P y
+moved_all P p e all deed = by (slice_get p.members e.member) refl
   where
+    Holds : Program → Type 0
+    Holds q = (k : ℕ) (y : Running) → slice_get q.members k ≡ Some y → P y
+
     at : (r : Running) → slice_get p.members e.member ≡ Some r → (o : Option End) → r.replica.end ≡ o
-        → AreTrusting (step_of p e)
-    at r there (Some x) ended = subst AreTrusting (sym (rest_changes_nothing p e r there (ap is_some ended)))
-        trusting
-    at r there None unended = subst AreTrusting (sym (step_is p e r there unended)) (λ k y here.
+        → Holds (step_of p e)
+    at r there (Some x) ended = subst (λ (q : Program). (k : ℕ) (y : Running) → slice_get q.members k ≡ Some y
+        → P y) (sym (rest_changes_nothing p e r there (ap is_some ended))) all
+    at r there None unended = subst (λ (q : Program). (k : ℕ) (y : Running) → slice_get q.members k ≡ Some y
+        → P y) (sym (step_is p e r there unended)) (λ k y here.
         elim (replaced_either p.members e.member r
         (after_deed (next_sight p.table r) e.outcome r (next_step r)) there k y here) [
-          | inl moved ↦ subst IsTrusting moved.1 (deed_trusts g p e r (record {
-            group = group;
-            program = is;
-            reached = run;
-            trusting = trusting;
-            there = there;
-          }) unended)
-          | inr other ↦ trusting k y other.1
+          | inl moved ↦ subst P moved.1 (deed r there unended)
+          | inr other ↦ all k y other.1
         ])
 
-    by : (o : Option Running) → slice_get p.members e.member ≡ o → AreTrusting (step_of p e)
-    by None none = subst AreTrusting (sym (ap (λ o. moved_by p o e) none)) trusting
+    by : (o : Option Running) → slice_get p.members e.member ≡ o → Holds (step_of p e)
+    by None none = subst (λ (q : Program). (k : ℕ) (y : Running) → slice_get q.members k ≡ Some y → P y)
+        (sym (ap (λ o. moved_by p o e) none)) all
     by (Some r) there = at r there r.replica.end refl
+
+-- a move keeps the members of the program so, where a member that begins its turn by it may wait
+pub move_eases : (g : Group) (p : Program) (e : Move) → IsGroup g → IsProgram g p
+    → IsReached g (world g p) → AreAtEase p
+    → ((r : Running) → slice_get p.members e.member ≡ Some r → is_beat (part_of r.place) ≡ true → MayWait r)
+    → AreAtEase (step_of p e)
+move_eases g p e group is run ease waits = moved_all IsAtEase p e ease (λ r there unended.
+    deed_eases g p e r (record {
+      group = group;
+      program = is;
+      reached = run;
+      ease = ease;
+      there = there;
+    }) unended (waits r there))
+
+-- ---- members without a limit
+
+-- who trusts is at ease, and may wait
+pub at_ease : (p : Program) → AreTrusting p → AreAtEase p
+at_ease p trusting m r there = let so = trusting m r there in record {
+  first = so.first;
+  unwedged = so.unwedged;
+  patient = inl so.patient;
+  unscripted = so.unscripted;
+  kept = so.kept;
+}
+
+-- a move keeps the members of the program trusting
+pub move_trusts : (g : Group) (p : Program) (e : Move) → IsGroup g → IsProgram g p
+    → IsReached g (world g p) → AreTrusting p → AreTrusting (step_of p e)
+move_trusts g p e group is run trusting k y here =
+    let so = move_eases g p e group is run (at_ease p trusting)
+    (λ r there beat. inl (trusting e.member r there).patient) k y here in record {
+      first = so.first;
+      unwedged = so.unwedged;
+      patient = moved_all (λ r. r.waits.limit ≡ 0) p e (λ i r there. (trusting i r there).patient)
+          (λ r there unended. after_either (λ x. x.waits.limit ≡ 0) p.table e.outcome r (next_step r)
+          (ap (λ (x : Running). x.waits.limit) (settle_only _ (took (next_sight p.table r) r (next_step r)))
+          ∙ limit_stays (next_sight p.table r) r (next_step r) ∙ (trusting e.member r there).patient)
+          (λ why due. (trusting e.member r there).patient)) k y here;
+      unscripted = so.unscripted;
+      kept = so.kept;
+    }
 
 -- ---- every run
 
@@ -354,7 +479,15 @@ trusting_begins g turns setups group are calm m r there =
     by (slice_get setups m) refl (sym (slice_get-map begun_running setups m) ∙ there)
   where
     begun : (s : Setup) → IsCalm s → IsTrusting (begun_running s)
-    begun s so = record { unwedged = refl; patient = so.patient; unscripted = so.unscripted; kept = refl }
+    begun s so =
+        record {
+          first = refl;
+          unwedged = refl;
+          patient = so.patient;
+          unscripted = so.unscripted;
+          kept =
+              refl;
+        }
 
     by : (o : Option Setup) → slice_get setups m ≡ o → option_map begun_running o ≡ Some r → IsTrusting r
     by None e same = absurd (cc)

@@ -1,12 +1,11 @@
 -- The ends of a program's members in the world that it is.
-use Rattle.std.proofs.Common.{◌≡◌, refl, sym, ap, ◌∙◌, subst, ℕ, ◌<◌, ◌≤◌, ◌==◌, if◌then◌else◌, All, List, [], length, map, take, arith}
+use Rattle.std.proofs.Common.{◌≡◌, refl, sym, ap, ◌∙◌, subst, ℕ, ◌<◌, ◌≤◌, All, List, [], length, map, take, arith}
 use Rattle.std.specs.Prelude.{Option, None, Some, slice_get, option_map}
 use Rattle.std.specs.Option.{option_map_or}
 use Rattle.std.proofs.lemmas.List.{length-map}
 use Rattle.std.proofs.lemmas.Option.{get_or_from_slice_get, slice_get-map}
-use Rattle.std.proofs.lemmas.Bool.Decides.{nat_tests}
 use Rattle.dr_entry.specs.declared.end.MemberEnd.{MemberEnd}
-use Rattle.dr_history.specs.History.{items_in, sent_of}
+use Rattle.dr_history.specs.History.{sent_of}
 use Rattle.dr_history.specs.Agreement.{EndsAgreed, accounts_of}
 use Rattle.dr_history_laws.proofs.Lists.{slice_get-some}
 use Rattle.dr_machine.specs.Group.{Group, IsGroup, roster}
@@ -14,11 +13,12 @@ use Rattle.dr_machine.specs.World.{opening_world}
 use Rattle.dr_program.specs.Replica.{Replica}
 use Rattle.dr_program.specs.Running.{Running}
 use Rattle.dr_program.specs.Program.{Program, end_of}
-use Rattle.dr_program.specs.Reading.{in_view, of_member, world}
+use Rattle.dr_program.specs.Reading.{of_member, world}
+use Rattle.dr_program.proofs.Sent.{sent_there}
 use Rattle.dr_machine.specs.Run.{IsReached}
 use Rattle.dr_refine.specs.Programs.{IsProgram}
-use Rattle.dr_world_laws.proofs.Agreeing.{AreAccounts, agreed-by}
-use Rattle.dr_world_laws.proofs.Reached.{known}
+use Rattle.dr_world_laws.proofs.Agreeing.{AreAccounts}
+use Rattle.dr_world_laws.proofs.Worlds.{agreed-by, known}
 use mathlib.Core.Path.{fun_ext}
 
 -- the ends of the members
@@ -40,15 +40,9 @@ of_there p f opening m r there =
 
 -- ---- what was sent
 
-same_test : (a b : ℕ) → (a == b) ≡ (b == a)
-same_test a b = grind (arith, nat_tests)
-
-sent_there : (r : Running) (v : ℕ) → in_view r.replica v r.replica.sent [] ≡ items_in v (end_of r).sent
-sent_there r v = ap (λ b. if b then r.replica.sent else []) (same_test v r.replica.view)
-
 -- what was sent in the world of a program is what the ends of its members say
-pub world_sent : (g : Group) (p : Program) → (world g p).past.sent ≡ sent_of (ends_of p)
-world_sent g p = fun_ext λ m. fun_ext λ v. by m v (slice_get p.members m) refl
+pub world_sent : (g : Group) (p : Program) → IsProgram g p → (world g p).past.sent ≡ sent_of (ends_of p)
+world_sent g p program = fun_ext λ m. fun_ext λ v. by m v (slice_get p.members m) refl
   where
     by : (m v : ℕ) (o : Option Running) → slice_get p.members m ≡ o → (world g p).past.sent m v
         ≡ sent_of (ends_of p) m v
@@ -61,7 +55,7 @@ world_sent g p = fun_ext λ m. fun_ext λ v. by m v (slice_get p.members m) refl
       slice_get-map (λ (x : Running). x.replica) p.members m,
       slice_get-map end_of p.members m,
       e,
-    ) (sent_there r v)
+    ) (sent_there r.replica v (program.form m r e).replica.left)
 
 -- ---- what else they have done
 
@@ -73,10 +67,9 @@ of_end p f none m r there = ap (λ o. option_map_or f o none)
     (slice_get-map end_of p.members m ∙ ap (option_map end_of) there)
 
 -- the ends tell what the members have done in the world
-are_accounts : (g : Group) (p : Program) → length p.members ≡ roster g
-    → AreAccounts g (world g p) (accounts_of (ends_of p))
-are_accounts g p all = record {
-  sent = sym (world_sent g p);
+are_accounts : (g : Group) (p : Program) → IsProgram g p → AreAccounts g (world g p) (accounts_of (ends_of p))
+are_accounts g p program = record {
+  sent = sym (world_sent g p program);
   history = λ m l. let x = at m l in
       of_end p (λ e. e.history) [] m x.0 x.1
       ∙ sym (of_there p (λ r. r.history) (opening_world g).past.history m x.0 x.1);
@@ -89,7 +82,7 @@ are_accounts g p all = record {
 }
   where
     at : (m : ℕ) → m < roster g → (r : Running) × (slice_get p.members m ≡ Some r)
-    at m l = slice_get-some p.members m (omega (arith, l, all))
+    at m l = slice_get-some p.members m (omega (arith, l, program.all))
 
 -- what is true of each member's end is true of all ends
 pub all_ends : (P : MemberEnd → Type 0) (p : Program)
@@ -112,5 +105,5 @@ pub ends_agreed : (g : Group) (p : Program) → IsGroup g → IsProgram g p → 
 ends_agreed g p is program run = record {
   told = all_told g p program;
   agreed = agreed-by g (world g p) (accounts_of (ends_of p)) is (known g (world g p) is run)
-      (are_accounts g p program.all);
+      (are_accounts g p program);
 }

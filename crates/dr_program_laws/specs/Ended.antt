@@ -1,11 +1,14 @@
 -- How the members of an age are to end.
-use Rattle.std.specs.Prelude.{◌≡◌, ◌≢◌, ◌⊎◌, ℕ, ◌<◌, ◌≤◌, All, Any, Bool, true, false, List, ◌++◌, length, slice_get, Some}
+use Rattle.std.specs.Prelude.{◌≡◌, ◌≢◌, ◌⊎◌, ℕ, ◌+◌, ◌<◌, ◌≤◌, All, Any, Bool, true, false, Contains, List, ◌++◌, length, slice_get, take, Some}
 use Rattle.dr_entry.specs.declared.end.End.{End}
 use Rattle.dr_entry.specs.declared.end.End.TheVariants.{Done, Crashed, Suspected, Excluded, NoMajority, DiskFault, LogFull, Spent}
 use Rattle.dr_entry.specs.declared.end.MemberEnd.{MemberEnd}
+use Rattle.dr_entry.specs.declared.entry.Entry.{Entry}
+use Rattle.dr_entry.specs.declared.entry.Entry.TheVariants.{View}
 use Rattle.dr_history.specs.declared.opening.Opening.{Opening}
-use Rattle.dr_history.specs.Members.{has}
-use Rattle.dr_history.specs.Order.{first_entries}
+use Rattle.dr_history.specs.History.{IsPrefixOf, view_of}
+use Rattle.dr_history.specs.Members.{has, members_of}
+use Rattle.dr_history.specs.Order.{first_entries, messages_from, numbered_messages}
 use Rattle.dr_history_laws.specs.Remaining.{remaining}
 use Rattle.dr_program.specs.declared.setup.CrashPoint.{CrashPoint}
 use Rattle.dr_words.specs.Masks.{IsMajorityOf, IsPartOf}
@@ -14,8 +17,30 @@ use Rattle.dr_words.specs.Masks.{IsMajorityOf, IsPartOf}
 abbrev pub IsBeforeCrash : List CrashPoint → ℕ → Type 0
 IsBeforeCrash points turns = All (λ (c : CrashPoint). 1 ≤ c.turn → turns < c.turn) points
 
--- a member has ended as done: its history is the start, View 0, and all messages that the start leaves, in
--- the order of the round robin, and all of it is logged and durable
+-- a history is in the view of this number, of which these are the members: its last View says so
+abbrev pub IsInView : Opening → ℕ → ℕ → List Entry → Type 0
+IsInView o number members history =
+    view_of history ≡ Some (record { age = o.age; number = number; members = members_of members })
+
+-- a member has ended as done in the view of this number and these members
+pub record IsWhole (o : Opening) (ends : List MemberEnd) (number members : ℕ) (e : MemberEnd) : Type 0 where
+  pub end : e.end ≡ Done
+  -- it has all messages that the script gives the members of the view, and nobody has a message that it lacks
+  pub whole : (s : ℕ) → has members s ≡ true → messages_from s e.history ≡ numbered_messages o s
+  pub lacks_none : (s : ℕ) → All (λ (other : MemberEnd).
+      IsPrefixOf (messages_from s other.history) (messages_from s e.history)) ends
+  -- all of it is logged and durable: each member of the view has it on its log
+  pub logged : e.logged ≡ length e.history
+  pub durable : e.durable ≡ length e.history
+  pub kept : (i : ℕ) (other : MemberEnd) → has members i ≡ true → slice_get ends i ≡ Some other
+      → IsPrefixOf e.history (take other.logged other.history)
+  -- who is done in the same view has the same history, and in the first view it is that of a complete member
+  pub same : (i : ℕ) (other : MemberEnd) → slice_get ends i ≡ Some other → other.end ≡ Done
+      → IsInView o number members other.history → other.history ≡ e.history
+  pub first : number ≡ 0 → e.history ≡ first_entries o ++ remaining o
+
+-- a member that is done in the first view has ended as done: its history is the start, View 0, and all
+-- messages that the start leaves, in the order of the round robin, and all of it is logged and durable
 pub record IsComplete (o : Opening) (e : MemberEnd) : Type 0 where
   pub end : e.end ≡ Done
   pub history : e.history ≡ first_entries o ++ remaining o
@@ -26,9 +51,10 @@ pub record IsComplete (o : Opening) (e : MemberEnd) : Type 0 where
 abbrev pub AreComplete : Opening → List MemberEnd → Type 0
 AreComplete o ends = (m : ℕ) (e : MemberEnd) → slice_get ends m ≡ Some e → IsComplete o e
 
--- a member has ended so before any crash
-pub record IsDone (o : Opening) (points : List CrashPoint) (e : MemberEnd) : Type 0 where
-  pub complete : IsComplete o e
+-- a member of the view has ended so before any crash
+pub record IsDone (o : Opening) (ends : List MemberEnd) (number members : ℕ) (points : List CrashPoint)
+    (e : MemberEnd) : Type 0 where
+  pub whole : IsWhole o ends number members e
   pub uncrashed : IsBeforeCrash points e.turns
 
 -- a member has ended with all its turns spent, before any crash
@@ -54,27 +80,44 @@ pub record HasStopped (points : List CrashPoint) (e : MemberEnd) : Type 0 where
   pub end : is_log_end e.end ≡ true
   pub first : All (λ (c : CrashPoint). 1 ≤ c.turn → e.turns ≤ c.turn) points
 
--- the end is by suspicion: it names another member of View 0 than m, or members of it, m itself among them,
--- that are no majority, or the view behind it, which goes on without m
-abbrev pub IsLeftOut : Opening → ℕ → End → Type 0
-IsLeftOut o m (Suspected by) = (has o.members by ≡ true) × (by ≢ m)
-IsLeftOut o m (NoMajority mask) =
-    (has mask m ≡ true) × IsPartOf mask o.members × (¬ IsMajorityOf mask o.members)
-IsLeftOut o m (Excluded view) = view ≡ 1
-IsLeftOut o m end = ⊥
+-- member m is in no view of this number that anybody has come to
+abbrev pub GoOnWithout : Opening → List MemberEnd → ℕ → ℕ → Type 0
+GoOnWithout o ends number m = All (λ (e : MemberEnd).
+    (members : ℕ) → Contains e.history (View o.age number members) → has members m ≡ false) ends
 
--- member m has been left out, in no later turn than the first that a crash point names
-pub record HasBeenLeft (o : Opening) (m : ℕ) (points : List CrashPoint) (e : MemberEnd) : Type 0 where
-  pub end : IsLeftOut o m e.end
+-- the end of member m of the view of this number and these members is by suspicion: it names another member
+-- of the view, or members of it, m itself among them, that are no majority, or the next view, which goes on
+-- without m
+abbrev pub IsLeftOut : Opening → List MemberEnd → ℕ → ℕ → ℕ → End → Type 0
+IsLeftOut o ends number members m (Suspected by) = (has members by ≡ true) × (by ≢ m)
+IsLeftOut o ends number members m (NoMajority mask) =
+    (has mask m ≡ true) × IsPartOf mask members × (¬ IsMajorityOf mask members)
+IsLeftOut o ends number members m (Excluded view) = (view ≡ number + 1) × GoOnWithout o ends view m
+IsLeftOut o ends number members m end = ⊥
+
+-- member m has been left out of the view, in no later turn than the first that a crash point names
+pub record HasBeenLeft (o : Opening) (ends : List MemberEnd) (number members m : ℕ) (points : List CrashPoint)
+    (e : MemberEnd) : Type 0 where
+  pub end : IsLeftOut o ends number members m e.end
   pub first : All (λ (c : CrashPoint). 1 ≤ c.turn → e.turns ≤ c.turn) points
 
--- member m with these crash points, which takes at most so many turns, has ended as it should
-abbrev pub HasEnded : Opening → ℕ → ℕ → List CrashPoint → MemberEnd → Type 0
-HasEnded o limit m points e =
-    IsDone o points e
-    ⊎ (IsSpent limit points e ⊎ (HasCrashed points e ⊎ (HasStopped points e ⊎ HasBeenLeft o m points e)))
+-- why member m of the view ended, with these crash points, where it takes at most so many turns
+abbrev pub HasReason : Opening → List MemberEnd → ℕ → ℕ → ℕ → ℕ → List CrashPoint → MemberEnd → Type 0
+HasReason o ends number members limit m points e =
+    IsDone o ends number members points e
+    ⊎ (IsSpent limit points e
+    ⊎ (HasCrashed points e ⊎ (HasStopped points e ⊎ HasBeenLeft o ends number members m points e)))
+
+-- member m has ended as it should, in the view that its history is in, as a member of it
+pub record HasEnded (o : Opening) (ends : List MemberEnd) (limit m : ℕ) (points : List CrashPoint)
+    (e : MemberEnd) : Type 0 where
+  pub number : ℕ
+  pub members : ℕ
+  pub view : IsInView o number members e.history
+  pub own : has members m ≡ true
+  pub reason : HasReason o ends number members limit m points e
 
 -- all members have, each with the crash points of its number
 abbrev pub HaveEnded : Opening → ℕ → (ℕ → List CrashPoint) → List MemberEnd → Type 0
 HaveEnded o limit points ends = (m : ℕ) (e : MemberEnd) → slice_get ends m ≡ Some e
-    → HasEnded o limit m (points m) e
+    → HasEnded o ends limit m (points m) e

@@ -1,4 +1,5 @@
 pub mod Ended
+pub mod Causes
 pub mod Failing
 pub mod Trusting
 pub mod Wants

@@ -1,14 +1,19 @@
 -- Members that suspect nobody, and never will.
-use Rattle.std.specs.Prelude.{◌≡◌, ℕ, All, Bool, true, false, List, [], Option, None, Some, slice_get}
+use Rattle.std.specs.Prelude.{◌≡◌, ◌≢◌, ◌⊎◌, ℕ, ◌+◌, ◌<◌, nat_lt, if◌then◌else◌, All, Bool, true, false, List, [], Option, None, Some, slice_get}
 use Rattle.dr_entry.specs.declared.end.End.{End}
 use Rattle.dr_entry.specs.declared.end.End.TheVariants.{Suspected, Excluded, NoMajority}
 use Rattle.dr_entry.specs.declared.end.MemberEnd.{MemberEnd}
+use Rattle.dr_program.specs.declared.place.Part.{Part}
+use Rattle.dr_program.specs.declared.place.Part.TheVariants as parts
 use Rattle.dr_program.specs.declared.setup.Setup.{Setup}
 use Rattle.dr_program.specs.Program.{Program}
+use Rattle.dr_program.specs.Replica.{Replica, me}
 use Rattle.dr_program.specs.Running.{Running}
+use Rattle.dr_program.specs.Turn.{part_of}
 use Rattle.dr_restart.specs.Setups.{suspicion_in}
 use Rattle.dr_script.specs.declared.script.Fault.{Fault}
 use Rattle.dr_script.specs.declared.script.Script.{Script}
+use Rattle.dr_suspect.specs.Waits.{count_of}
 
 -- the end is by suspicion
 abbrev pub is_left_out : End → Bool
@@ -35,8 +40,9 @@ pub record SuspectsNobody (s : Script) : Type 0 where
   pub patient : s.patience ≡ 0
   pub unscripted : All (λ (f : Fault). suspicion_in f.what ≡ None) s.faults
 
--- a member suspects nobody, waits for everybody, and was not ended by suspicion
+-- a member is in the first view, suspects nobody, waits for everybody, and was not ended by suspicion
 pub record IsTrusting (r : Running) : Type 0 where
+  pub first : r.replica.view ≡ 0
   pub unwedged : r.replica.suspects ≡ 0
   pub patient : r.waits.limit ≡ 0
   pub unscripted : r.suspicions ≡ []
@@ -45,3 +51,34 @@ pub record IsTrusting (r : Running) : Type 0 where
 -- all members of the program do
 abbrev pub AreTrusting : Program → Type 0
 AreTrusting p = (m : ℕ) (r : Running) → slice_get p.members m ≡ Some r → IsTrusting r
+
+-- whether a row is still to be compared in this turn: one look at it is to come then
+abbrev pub to_come : Part → ℕ → ℕ → ℕ
+to_come parts.Look row i = if nat_lt i row then 0 else 1
+to_come part row i = 0
+
+-- the row is that of another member of the roster
+abbrev pub IsOthers : Replica → ℕ → Type 0
+IsOthers r i = (i < r.roster) × (i ≢ me r)
+
+-- a member waits without a limit, or for no row as long as that, whatever the looks of this turn will find
+abbrev pub IsPatient : Running → Type 0
+IsPatient r = (r.waits.limit ≡ 0) ⊎ ((i : ℕ) → IsOthers r.replica i
+    → count_of r.waits i + to_come (part_of r.place) r.place.row i < r.waits.limit)
+
+-- so it does where a turn begins
+abbrev pub MayWait : Running → Type 0
+MayWait r = (r.waits.limit ≡ 0)
+    ⊎ ((i : ℕ) → IsOthers r.replica i → count_of r.waits i + 1 < r.waits.limit)
+
+-- a member is in the first view, suspects nobody, has no reason to, and was not ended by suspicion
+pub record IsAtEase (r : Running) : Type 0 where
+  pub first : r.replica.view ≡ 0
+  pub unwedged : r.replica.suspects ≡ 0
+  pub patient : IsPatient r
+  pub unscripted : r.suspicions ≡ []
+  pub kept : has_been_left r.replica.end ≡ false
+
+-- all members of the program are
+abbrev pub AreAtEase : Program → Type 0
+AreAtEase p = (m : ℕ) (r : Running) → slice_get p.members m ≡ Some r → IsAtEase r

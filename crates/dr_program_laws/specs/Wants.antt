@@ -1,13 +1,14 @@
 -- What a step asks of a member that may choose and suspects nobody.
-use Rattle.std.specs.Prelude.{◌≡◌, ⊤, ℕ, ◌<◌, ◌≤◌, Bool, true, false, length}
+use Rattle.std.specs.Prelude.{◌≡◌, ⊤, ℕ, ◌+◌, ◌<◌, ◌≤◌, Bool, true, false, length, slice_index, Some}
 use Rattle.dr_entry.specs.declared.end.End.{End}
 use Rattle.dr_entry.specs.declared.end.End.TheVariants.{Done, Excluded, Suspected}
+use Rattle.dr_entry.specs.declared.record.Value.{Value}
 use Rattle.dr_history.specs.History.{messages_of}
 use Rattle.dr_history.specs.Members.{has}
 use Rattle.dr_machine.specs.declared.event.Act.TheVariants as acts
 use Rattle.dr_machine.specs.declared.step.Step.{Step}
 use Rattle.dr_machine.specs.declared.step.Step.TheVariants as steps
-use Rattle.dr_machine.specs.Group.{Group, columns}
+use Rattle.dr_machine.specs.Group.{Group, banks, columns}
 use Rattle.dr_machine.specs.Guards.{HasRoom, HoldsAll, IsBehind, IsExcluded, IsFault, IsOther, next_index, seen_slot}
 use Rattle.dr_machine.specs.World.{World, count_of, own_word, shown}
 use Rattle.dr_ring.specs.Slots.{IsReady}
@@ -46,6 +47,14 @@ abbrev pub IsToMark : Group → World → ℕ → Type 0
 IsToMark g w m = (own_word w m DONE_COLUMN ≡ 0) × HoldsAll g w m
     × (w.past.durable m ≡ length (w.past.history m))
 
+-- m has committed a value by which it stays, the table has a bank for the next view, and m has the items that
+-- the value takes
+abbrev pub IsToFinish : Group → World → ℕ → Type 0
+IsToFinish g w m =
+    (value : Value) × (w.committed m ≡ Some value) × (has value.leavers m ≡ false)
+    × (w.past.view m + 1 < banks g)
+    × ((s : ℕ) → has (w.members m) s ≡ true → slice_index value.trim s ≤ count_of w m s)
+
 -- m is to end so: done, suspected, or excluded; one that suspects nobody has a majority
 abbrev pub IsToEnd : World → ℕ → End → Type 0
 IsToEnd w m Done = SeesAllDone w m
@@ -67,6 +76,7 @@ Wants g w m (steps.Do (acts.Suspect j)) = IsOther w m j
 Wants g w m (steps.Do acts.Propose) = ⊥
 Wants g w m (steps.Do acts.Accept) = ⊥
 Wants g w m (steps.Do acts.Commit) = ⊥
+Wants g w m (steps.Do acts.Finish) = IsToFinish g w m
 Wants g w m (steps.Do (acts.Halt end)) = IsToEnd w m end
 Wants g w m (steps.Do (acts.Crash end)) = IsFault end
 Wants g w m (steps.Look i c) = IsOther w m i × (c < columns g)
@@ -81,6 +91,7 @@ is_work (steps.Do (acts.Suspect j)) = false
 is_work (steps.Do acts.Propose) = false
 is_work (steps.Do acts.Accept) = false
 is_work (steps.Do acts.Commit) = false
+is_work (steps.Do acts.Finish) = false
 is_work (steps.Do (acts.Halt end)) = false
 is_work (steps.Do (acts.Crash end)) = false
 is_work (steps.Do a) = true

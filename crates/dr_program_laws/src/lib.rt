@@ -9,6 +9,7 @@
 mod turns;
 
 ghost use Rattle.std.specs.Prelude.{◌≡◌, ℕ, ◌≤◌, All, List, length, map, slice_get, Some};
+ghost use Rattle.dr_entry.specs.declared.end.End.{End};
 ghost use Rattle.dr_history.specs.Agreement.{EndsAgreed};
 ghost use Rattle.dr_machine.specs.declared.step.Step.TheVariants.{Look};
 ghost use Rattle.dr_machine.specs.Group.{Group, IsGroup};
@@ -25,9 +26,10 @@ ghost use Rattle.dr_restart.specs.declared.start.Start.{Start};
 ghost use Rattle.dr_restart.specs.Groups.{group_of};
 ghost use Rattle.dr_restart.specs.Setups.{IsBegun, crashes_of};
 ghost use Rattle.dr_script.specs.declared.script.Script.{Script};
+ghost use Rattle.dr_program_laws.specs.Causes.{HasCause};
 ghost use Rattle.dr_program_laws.specs.Ended.{HaveEnded};
 ghost use Rattle.dr_program_laws.specs.Failing.{AreFailing, IsFailing};
-ghost use Rattle.dr_program_laws.specs.Trusting.{AreTrusting, IsCalm, NoneLeft, SuspectsNobody};
+ghost use Rattle.dr_program_laws.specs.Trusting.{AreAtEase, AreTrusting, IsCalm, NoneLeft, SuspectsNobody};
 
 pub use turns::{a_turn_leaves_nothing_to_do, programs_are_steady, what_is_asked_is_the_guard};
 
@@ -70,16 +72,22 @@ pub fn ends_agree()
         → IsRanFrom (begun_program g setups) p → EndsAgreed g.opening (map end_of p.members) }
 {}
 
-/// Members that have all ended have ended as they should, each by its setup: done, with everything, or
-/// with all turns spent, or crashed where its setup says, or by a log that failed or was full, or by
-/// suspicion, in no later turn than that of its crash. It holds whatever deeds they took, and in whatever
-/// order.
+/// Members that have all ended have ended as they should, each by its setup, and in the view that it was in:
+/// done, with everything, or with all turns spent, or crashed where its setup says, or by a log that failed
+/// or was full, or by suspicion, in no later turn than that of its crash. It holds whatever deeds they took,
+/// and in whatever order. Whoever has ended so, also while others go on, has its cause in the world that the
+/// program is: it has everything durably, another member suspects it, it is left with no majority, or it
+/// has committed a value that its view has voted for, and that names it.
 pub fn members_end_as_they_should()
-    ensures { (g : Group) (turns : ℕ) (setups : List Setup) (points : ℕ → List CrashPoint) (p : Program)
+    ensures ends { (g : Group) (turns : ℕ) (setups : List Setup) (points : ℕ → List CrashPoint) (p : Program)
         → IsGroup g → 1 ≤ turns → AreSetups g turns setups
         → ((m : ℕ) (s : Setup) → slice_get setups m ≡ Some s → s.crashes ≡ points m)
         → IsRanFrom (begun_program g setups) p → AllEnded p
         → HaveEnded g.opening turns points (map end_of p.members) }
+    ensures causes { (g : Group) (turns : ℕ) (setups : List Setup) (p : Program) (m : ℕ) (r : Running)
+        (end : End) → IsGroup g → 1 ≤ turns → AreSetups g turns setups
+        → IsRanFrom (begun_program g setups) p → slice_get p.members m ≡ Some r
+        → r.replica.end ≡ Some end → HasCause g (world g p) m end }
 {}
 
 /// So it is in each age of a script, with the crashes that it gives for this age.
@@ -93,12 +101,13 @@ pub fn members_end_as_their_script_says()
 {}
 
 /// Where no setup gives a reason to suspect anybody, nobody is suspected, whatever deeds the members take,
-/// and no member is ended by suspicion.
+/// and no member is ended by suspicion. So everybody stays in the first view, and waits without a limit.
 pub fn trusting_members_suspect_nobody()
     ensures begins { (g : Group) (turns : ℕ) (setups : List Setup) → IsGroup g → AreSetups g turns setups
         → All IsCalm setups → AreTrusting (begun_program g setups) }
     ensures keeps { (g : Group) (p : Program) (e : Move) → IsGroup g → IsProgram g p
         → IsReached g (world g p) → AreTrusting p → AreTrusting (step_of p e) }
+    ensures ease { (p : Program) → AreTrusting p → AreAtEase p }
     ensures ends { (g : Group) (turns : ℕ) (setups : List Setup) (p : Program)
         → IsGroup g → 1 ≤ turns → AreSetups g turns setups → All IsCalm setups
         → IsRanFrom (begun_program g setups) p → NoneLeft (map end_of p.members) }

@@ -12,7 +12,7 @@ ghost use Rattle.dr_program.specs.Schedule.{IsTurn};
 ghost use Rattle.dr_program.specs.Turn.{part_of, turn_begins};
 ghost use Rattle.dr_program_laws.specs.Rested.{HasTurned, IsRested};
 ghost use Rattle.dr_program_laws.specs.Steady.{IsSteady};
-ghost use Rattle.dr_program_laws.specs.Trusting.{AreTrusting};
+ghost use Rattle.dr_program_laws.specs.Trusting.{AreAtEase, MayWait};
 ghost use Rattle.dr_program_laws.specs.Wants.{Wants, is_work};
 
 /// A program begins steady, where its turns are 32 bits, and each move keeps it so.
@@ -28,14 +28,15 @@ pub fn what_is_asked_is_the_guard()
         → Wants g w m s ↔ CanTake g w m s }
 {}
 
-/// After a whole turn of a program in which nobody suspects anybody, where its appends have gone well and go
-/// well in it, a member has nothing left to do, unless it has crashed: none of the steps from the receipts
+/// After a whole turn of a program in which nobody suspects anybody or has a reason to, and whose member
+/// has not waited too long as it begins, where its appends have gone well and go well in it, the member has
+/// nothing left to do, unless it has crashed: none of the steps from the receipts
 /// to the mark may come, all at once; it has seen the table as it stands; and the table has its words. It
 /// has ended as done exactly where it sees that all are done.
 pub fn a_turn_leaves_nothing_to_do()
     ensures turned { (g : Group) (p : Program) (m : ℕ) (r : Running) (es : List Move) (q : Program)
-        → IsSteady g p → AreTrusting p → slice_get p.members m ≡ Some r → r.replica.end ≡ None
-        → r.failed ≡ None
+        → IsSteady g p → AreAtEase p → slice_get p.members m ≡ Some r → r.replica.end ≡ None
+        → r.failed ≡ None → MayWait r
         → part_of r.place ≡ turn_begins → AllOk es → IsTurn m p es q → HasTurned g p m q }
     ensures none_may_come { (g : Group) (w : World) (m : ℕ) (s : Step) → IsRested g w m
         → is_work s ≡ true → CanTake g w m s → ⊥ }

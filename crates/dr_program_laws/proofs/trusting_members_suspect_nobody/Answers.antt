@@ -1,4 +1,4 @@
-use Rattle.dr_program_laws.proofs.Trusting.{move_trusts, none_by_script, none_is_left, trusting_begins}
+use Rattle.dr_program_laws.proofs.Trusting.{at_ease, move_trusts, none_by_script, none_is_left, trusting_begins}
 use Rattle.dr_program_laws.proofs.trusting_members_suspect_nobody.Goals as goal
 
 pub returns-clause-begins : goal.returns-clause-begins
@@ -6,6 +6,9 @@ returns-clause-begins c = trusting_begins
 
 pub returns-clause-keeps : goal.returns-clause-keeps
 returns-clause-keeps c = move_trusts
+
+pub returns-clause-ease : goal.returns-clause-ease
+returns-clause-ease c = at_ease
 
 pub returns-clause-ends : goal.returns-clause-ends
 returns-clause-ends c = none_is_left
