@@ -3,7 +3,7 @@ use Rattle.std.proofs.Common.{ap, arith, inl, inr, le_trans, length, length-appe
 use Rattle.std.proofs.lemmas.Bool.{cases_eq, cases_lt}
 use Rattle.std.proofs.lemmas.Nat.{mod_below}
 use Rattle.dr_history.specs.History.{messages_in, messages_of}
-use Rattle.dr_history.specs.Members.{has}
+use Rattle.dr_history.specs.Members.{has, members_of}
 use Rattle.dr_history.specs.Order.{messages_from}
 use Rattle.dr_history.specs.Places.{front_of}
 use Rattle.dr_words.specs.declared.column.TheConstants.{BEAT_COLUMN, DONE_COLUMN, LOGGED_COLUMN, RECEIVED_COLUMN}
@@ -11,19 +11,20 @@ use Rattle.dr_words.specs.Columns.{recv_column}
 use Rattle.dr_words.specs.Packing.{recv_count}
 use Rattle.dr_ring.specs.Slots.{slot_column}
 use Rattle.dr_machine.proofs.Presence.{is_present}
-use Rattle.dr_machine.specs.Group.{Group, IsGroup, columns, roster}
+use Rattle.dr_machine.specs.Group.{Group, columns, roster}
 use Rattle.dr_machine.specs.Guards.{HasRoom, HoldsAll, next_index}
 use Rattle.dr_machine.specs.World.{World, count_of, own_word, shown}
 use Rattle.dr_program.proofs.Holdings.{Holding, held}
-use Rattle.dr_faithful.proofs.Faithfulness.{whole}
+use Rattle.dr_faithful.specs.Chosen.{views_by}
 use Rattle.dr_faithful.specs.Faithful.{Faithful}
-use Rattle.dr_world_laws.proofs.Reached.{Known}
+use Rattle.dr_world_laws.proofs.ChosenViews.{views-first}
+use Rattle.dr_world_laws.proofs.Worlds.{holds-remaining, put_first}
 use Rattle.dr_program_laws.proofs.Acts.{nothing_left}
 use Rattle.dr_program_laws.specs.Rested.{IsRested}
 use Rattle.dr_program_laws.specs.Wants.{IsLeft}
 use Rattle.dr_complete.proofs.Come.{HasCome, Rests, Room, come_less, come_more, come_none}
 use Rattle.dr_complete.proofs.DoneWords.{done_is_one}
-use Rattle.dr_world_laws.proofs.Remaining.{holds-remaining, put_first}
+use Rattle.dr_complete.proofs.Firsts.{IsFirst, count_first, members_are, of_members, of_roster, own_first, start_first, told}
 use Rattle.dr_machine.proofs.Sending.{messages_within}
 use Rattle.dr_world_laws.proofs.SentItems.{all_put}
 use Rattle.dr_complete.proofs.Takes.{takes_all}
@@ -72,8 +73,7 @@ SeesOwn g w r m = (i c : ℕ) → i < roster g → i ≢ m → c < columns g →
 
 -- m has had its turn, and the others have come at least as far as r rounds bring them
 pub record HasHadTurn (g : Group) (w : World) (most r m : ℕ) : Type 0 where
-  pub group : IsGroup g
-  pub known : Known g w
+  pub known : IsFirst g w
   pub member : m < roster g
   pub few : (s : ℕ) → messages_left g.opening s ≤ most
   pub rested : IsRested g w m
@@ -83,23 +83,11 @@ pub record HasHadTurn (g : Group) (w : World) (most r m : ℕ) : Type 0 where
 -- ---- what m sees
 
 -- the members of its view are those of the roster
-is_in_view : (g : Group) (w : World) (m i : ℕ) → IsGroup g → Faithful g (whole g) w → i < roster g
-    → has (w.members m) i ≡ true
-is_in_view g w m i is f l = ap (λ mask. has mask i) (f.views.own m) ∙ f.views.present i (is_present g i is l)
+is_in_view : {g : Group} {w : World} → IsFirst g w → (m i : ℕ) → i < roster g → has (w.members m) i ≡ true
+is_in_view y m i l = ap (λ mask. has mask i) (members_are y m) ∙ of_members y i l
 
-pub in_view_is : (g : Group) (w : World) (m i : ℕ) → Faithful g (whole g) w → has (w.members m) i ≡ true
-    → i < roster g
-in_view_is g w m i f member =
-    f.views.within (w.past.view m) i (ap (λ mask. has mask i) (sym (f.views.own m)) ∙ member)
-
--- what it has of an item's sender is what it has in the first view
-count_first : (g : Group) (w : World) (m s : ℕ) → Faithful g (whole g) w
-    → count_of w m s ≡ w.past.count m 0 s
-count_first g w m s f = ap (λ v. w.past.count m v s) (f.beginning.first m)
-
-pub own_first : (g : Group) (w : World) (m c : ℕ) → Faithful g (whole g) w
-    → own_word w m c ≡ w.past.own m 0 c
-own_first g w m c f = ap (λ v. w.past.own m v c) (f.beginning.first m)
+pub in_view_is : {g : Group} {w : World} → IsFirst g w → (m i : ℕ) → has (w.members m) i ≡ true → i < roster g
+in_view_is y m i member = of_roster y i (ap (λ mask. has mask i) (sym (members_are y m)) ∙ member)
 
 -- its own row shows its own words
 pub shown_mine : (w : World) (m i c x : ℕ) → i ≡ m → own_word w m c ≡ x → shown w m i c ≡ x
@@ -117,7 +105,7 @@ shows_own {g = g} {w = w} {m = m} h i c l inside apart begun = by (cases_eq i m)
   where
     by : (i ≡ m) ⊎ (i ≢ m) → shown w m i c ≡ w.past.own i 0 c
     by (inl same) = shown_mine w m i c (w.past.own i 0 c) same
-        (own_first g w m c h.known.faithful ∙ ap (λ k. w.past.own k 0 c) (sym same))
+        (own_first h.known m c ∙ ap (λ k. w.past.own k 0 c) (sym same))
     by (inr other) = shown_other w m i c (w.past.own i 0 c) other (h.sees i c l other inside apart begun)
 
 -- ---- items
@@ -128,63 +116,58 @@ sees_slot : {g : Group} {w : World} {most r m : ℕ} → HasHadTurn g w most r m
 sees_slot {g = g} {w = w} {m = m} h t l other part small =
     let k : ℕ = count_of w m t in
     let column : ℕ = slot_column (roster g) g.window k + part in
-    let slot : k % g.window < g.window = mod_below k g.window h.group.some_slot in
+    let slot : k % g.window < g.window = mod_below k g.window h.known.group.some_slot in
     h.sees t column l other (omega (arith, slot, small)) (λ e. omega (arith, e))
     (λ e. absurd (omega (arith, e)))
-    ∙ ap (λ v. w.past.own t v column) (sym (h.known.faithful.beginning.first m))
+    ∙ ap (λ v. w.past.own t v column) (sym (h.known.view m))
 
 -- so it has all that they have put
 has_taken : {g : Group} {w : World} {most r m : ℕ} → HasHadTurn g w most r m → (t : ℕ) → t < roster g → t ≢ m
     → w.past.count m 0 t ≡ w.past.count t 0 t
 has_taken {g = g} {w = w} {m = m} h t l other =
-    let f = h.known.faithful in
-    let member = is_in_view g w m t h.group f l in
-    sym (count_first g w m t f)
-    ∙ takes_all g w m t h.group h.known.run h.member (record { member = member; other = other })
+    let member = is_in_view h.known m t l in
+    sym (count_first h.known m t)
+    ∙ takes_all g w m t h.known.group h.known.known.run h.member (record { member = member; other = other })
     (sees_slot h t l other)
     (λ ready. (nothing_left h.rested).items t (record { member = member; other = other }, ready))
-    ∙ ap (λ v. w.past.count t v t) (f.beginning.first m)
+    ∙ ap (λ v. w.past.count t v t) (h.known.view m)
 
 -- room by the counts of the others is a free slot
 slot_is_free : {g : Group} {w : World} {most r m : ℕ} → HasHadTurn g w most r m
     → Room (roster g) g.window (λ i. w.past.count i 0) m → HasRoom g w m (count_of w m m)
 slot_is_free {g = g} {w = w} {m = m} h (inl early) =
-    inl (omega (arith, count_first g w m m h.known.faithful, early))
+    inl (omega (arith, count_first h.known m m, early))
 slot_is_free {g = g} {w = w} {m = m} h (inr all) = inr (λ i other.
-    let f = h.known.faithful in
-    let l = in_view_is g w m i f other.member in
+    let l = in_view_is h.known m i other.member in
     let word = h.sees i (recv_column m) l other.other (omega (arith, h.member)) (λ e. omega (arith, e))
     (λ e. absurd (omega (arith, e))) in
     omega (
       arith,
       all i l other.other,
-      count_first g w m m f,
+      count_first h.known m m,
       ap recv_count word,
-      f.counts.recv i 0 m h.member,
+      (told h.known).counts.recv i 0 m h.member,
     ))
 
 -- the number of the next message behind those of the start is that of the messages that m has put
-next_is : (g : Group) (w : World) (m : ℕ) → Faithful g (whole g) w
+next_is : (g : Group) (w : World) (m : ℕ) → IsFirst g w → m < roster g
     → next_index w m ≡ length (messages_from m g.opening.start) + messages_in (w.past.sent m 0)
-next_is g w m f =
-    ap (λ b. b + messages_in (w.past.sent m (w.past.view m))) (f.beginning.start m)
-    ∙ ap (λ v. length (messages_from m g.opening.start) + messages_in (w.past.sent m v))
-    (f.beginning.first m)
+next_is g w m y l =
+    ap (λ b. b + messages_in (w.past.sent m (w.past.view m))) (start_first y m l)
+    ∙ ap (λ v. length (messages_from m g.opening.start) + messages_in (w.past.sent m v)) (y.view m)
 
 -- a message is left where m has put fewer items than it had messages left, and only there
-is_left : (g : Group) (w : World) (m : ℕ) → Known g w
+is_left : (g : Group) (w : World) (m : ℕ) → IsFirst g w → m < roster g
     → w.past.count m 0 m < messages_left g.opening m → IsLeft g w m
-is_left g w m y fewer =
-    let f = y.faithful in
-    omega (arith, next_is g w m f, messages_within (w.past.sent m 0), f.sent.all m 0, fewer)
+is_left g w m y l fewer =
+    omega (arith, next_is g w m y l, messages_within (w.past.sent m 0), (told y).sent.all m 0, fewer)
 
-none_left : (g : Group) (w : World) (m : ℕ) → Known g w
+none_left : (g : Group) (w : World) (m : ℕ) → IsFirst g w → m < roster g
     → messages_left g.opening m ≤ w.past.count m 0 m → length (messages_of g.opening m) ≤ next_index w m
-none_left g w m y enough =
-    let f = y.faithful in
-    let put = put_first g w m y in
-    let all = all_put _ _ (w.past.sent m 0) put (omega (arith, f.sent.all m 0, enough)) in
-    omega (arith, next_is g w m f, all, put.left)
+none_left g w m y l enough =
+    let put = put_first g w m y.group y.known l in
+    let all = all_put _ _ (w.past.sent m 0) put (omega (arith, (told y).sent.all m 0, enough)) in
+    omega (arith, next_is g w m y l, all, put.left)
 
 -- where no message is left and the slot is free, nobody is ahead of m: it would have put a null
 fills : {g : Group} {w : World} {most r m : ℕ} → HasHadTurn g w most r m
@@ -194,15 +177,12 @@ fills : {g : Group} {w : World} {most r m : ℕ} → HasHadTurn g w most r m
 fills {g = g} {w = w} {m = m} h enough room s =
     by (cases_lt (w.past.count m 0 m) (w.past.count m 0 s))
   where
-    f : Faithful g (whole g) w
-    f = h.known.faithful
-
     by : (w.past.count m 0 m < w.past.count m 0 s) ⊎ (w.past.count m 0 s ≤ w.past.count m 0 m)
         → w.past.count m 0 s ≤ w.past.count m 0 m
     by (inl ahead) = absurd ((nothing_left h.rested).nulls (
-      none_left g w m h.known enough,
+      none_left g w m h.known h.member enough,
       slot_is_free h room,
-      (s, omega (arith, ahead, count_first g w m s f, count_first g w m m f)),
+      (s, omega (arith, ahead, count_first h.known m s, count_first h.known m m)),
     ))
     by (inr level) = level
 
@@ -212,7 +192,7 @@ rests : {g : Group} {w : World} {most r m : ℕ} → HasHadTurn g w most r m
 rests {g = g} {w = w} {m = m} h = record {
   taken = λ t l other. has_taken h t l other;
   sent = λ fewer room. (nothing_left h.rested).messages
-      (is_left g w m h.known fewer, slot_is_free h room);
+      (is_left g w m h.known h.member fewer, slot_is_free h room);
   filled = λ enough room s l. fills h enough room s;
 }
 
@@ -221,7 +201,7 @@ has_come : {g : Group} {w : World} {most r m : ℕ} → HasHadTurn g w most r m
     → HasCome (roster g) (messages_left g.opening) (r + 1) m (w.past.count m 0)
 has_come {g = g} {w = w} {r = r} {m = m} h =
     come_more (roster g) g.window (messages_left g.opening) r m (λ i. w.past.count i 0)
-    h.group.some_slot h.member (rests h) (λ i l other. (h.others i l other).come)
+    h.known.group.some_slot h.member (rests h) (λ i l other. (h.others i l other).come)
 
 -- ---- all messages
 
@@ -241,9 +221,10 @@ has_received : {g : Group} {w : World} {most r m : ℕ} → HasHadTurn g w most 
     → k * roster g + s < w.past.own i 0 RECEIVED_COLUMN
 has_received {g = g} {w = w} h i s k late l a left =
     subst (λ (z : ℕ). k * roster g + s < z)
-    (sym (h.known.faithful.counts.received i 0
-    ∙ ap (λ ms. front_of (map (w.past.count i 0) ms)) (members_first g h.group)))
-    (front_past (w.past.count i 0) (roster g) (k * roster g + s) h.group.some_member
+    (sym ((told h.known).counts.received i 0
+    ∙ ap (λ mask. front_of (map (w.past.count i 0) (members_of mask))) (views-first g h.known.known.values)
+    ∙ ap (λ ms. front_of (map (w.past.count i 0) ms)) (members_first g h.known.group)))
+    (front_past (w.past.count i 0) (roster g) (k * roster g + s) h.known.group.some_member
     (λ j t b before. let less = round_le (roster g) j k s t a before in
     has_items h i s t j late l a b (omega (arith, less, left))))
 
@@ -255,7 +236,7 @@ is_past_all {g = g} {w = w} {m = m} h late s k a left = by (cases_lt (k * roster
     by : (k * roster g + s < w.next m) ⊎ (w.next m ≤ k * roster g + s) → k * roster g + s < w.next m
     by (inl past) = past
     by (inr short) = absurd ((nothing_left h.rested).places (λ i member.
-        let l = in_view_is g w m i h.known.faithful member in
+        let l = in_view_is h.known m i member in
         omega (
           arith,
           short,
@@ -275,7 +256,7 @@ has_put_all {g = g} {w = w} h late s l = by (cases_lt (length (w.past.sent s 0))
     by (inl fewer) = absurd (omega (
       arith,
       has_items h s s s (length (w.past.sent s 0)) late l l l fewer,
-      h.known.faithful.sent.all s 0,
+      (told h.known).sent.all s 0,
     ))
     by (inr enough) = enough
 
@@ -283,14 +264,13 @@ has_put_all {g = g} {w = w} h late s l = by (cases_lt (length (w.past.sent s 0))
 holds : {g : Group} {w : World} {most r m : ℕ} → HasHadTurn g w most r m → 3 * most ≤ r
     → HoldsAll g w m
 holds {g = g} {w = w} {m = m} h late =
-    holds_all g w m h.group h.known h.member (is_past_all h late)
-    (has_put_all h late)
+    holds_all g w m h.known h.member (is_past_all h late) (has_put_all h late)
 
 -- its logged word says how many entries its history has
-has_logged : (g : Group) (w : World) (m : ℕ) → IsRested g w m → Faithful g (whole g) w
+has_logged : (g : Group) (w : World) (m : ℕ) → IsRested g w m → IsFirst g w
     → length (w.past.history m) ≤ w.past.own m 0 LOGGED_COLUMN
-has_logged g w m rested f = subst (λ (z : ℕ). length (w.past.history m) ≤ z)
-    (own_first g w m LOGGED_COLUMN f)
+has_logged g w m rested y = subst (λ (z : ℕ). length (w.past.history m) ≤ z)
+    (own_first y m LOGGED_COLUMN)
     (by (cases_lt (length (w.past.log m)) (length (w.past.history m)))
     (cases_lt (own_word w m LOGGED_COLUMN) (length (w.past.log m))))
   where
@@ -314,14 +294,15 @@ shows_logged {g = g} {w = w} {m = m} h i late l = rw word (by (cases_eq i m))
     word = shows_own h i LOGGED_COLUMN l (omega arith) (λ e. omega (arith, e)) (λ e. omega arith)
 
     by : (i ≡ m) ⊎ (i ≢ m) → length (w.past.history m) ≤ w.past.own i 0 LOGGED_COLUMN
-    by (inl same) = rw same (has_logged g w m h.rested h.known.faithful)
+    by (inl same) = rw same (has_logged g w m h.rested h.known)
     by (inr other) =
         let theirs = (h.others i l other).whole late in
         omega (
           arith,
           theirs.1,
-          ap length (holds-remaining g w i h.group h.known l theirs.0),
-          ap length (holds-remaining g w m h.group h.known h.member (holds h (omega (arith, late)))),
+          ap length (holds-remaining g w i h.known.group h.known.known l (h.known.view i) theirs.0),
+          ap length (holds-remaining g w m h.known.group h.known.known h.member (h.known.view m)
+              (holds h (omega (arith, late)))),
         )
 
 -- so m knows its whole history to be durable
@@ -329,20 +310,18 @@ knows_durable : {g : Group} {w : World} {most r m : ℕ} → HasHadTurn g w most
     → w.past.durable m ≡ length (w.past.history m)
 knows_durable {g = g} {w = w} {m = m} h late = by (cases_lt (w.past.durable m) (length (w.past.history m)))
   where
-    f : Faithful g (whole g) w
-    f = h.known.faithful
-
-    present : has g.opening.members m ≡ true
-    present = f.views.present m (is_present g m h.group h.member)
+    f : Faithful g (views_by g h.known.known.values) w
+    f = told h.known
 
     by : (w.past.durable m < length (w.past.history m)) ⊎ (length (w.past.history m) ≤ w.past.durable m)
         → w.past.durable m ≡ length (w.past.history m)
     by (inl short) = absurd ((nothing_left h.rested).durable
-        (λ i member. le_trans short (shows_logged h i late (in_view_is g w m i f member))))
+        (λ i member. le_trans short (shows_logged h i late (in_view_is h.known m i member))))
     by (inr enough) = omega (
       arith,
       enough,
-      f.logs.safe m m (is_present g m h.group h.member) present,
+      f.logs.safe m m (is_present g m h.known.group h.member)
+          (f.views.present m (is_present g m h.known.group h.member)),
       length-append (w.past.log m) (f.logs.front m).0,
       ap length (f.logs.front m).1,
     )
@@ -351,10 +330,10 @@ knows_durable {g = g} {w = w} {m = m} h late = by (cases_lt (w.past.durable m) (
 shows_done : {g : Group} {w : World} {most r m : ℕ} → HasHadTurn g w most r m → 3 * most + 1 ≤ r
     → w.past.own m 0 DONE_COLUMN ≡ 1
 shows_done {g = g} {w = w} {m = m} h late =
-    sym (own_first g w m DONE_COLUMN h.known.faithful) ∙ by (cases_lt 0 (own_word w m DONE_COLUMN))
+    sym (own_first h.known m DONE_COLUMN) ∙ by (cases_lt 0 (own_word w m DONE_COLUMN))
   where
     by : (0 < own_word w m DONE_COLUMN) ⊎ (own_word w m DONE_COLUMN ≤ 0) → own_word w m DONE_COLUMN ≡ 1
-    by (inl some) = done_is_one g w m h.known.faithful some
+    by (inl some) = done_is_one g (views_by g h.known.known.values) w m (w.past.view m) (told h.known) some
     by (inr none) = absurd ((nothing_left h.rested).mark (
       omega (arith, none),
       holds h (omega (arith, late)),
@@ -368,6 +347,6 @@ pub along_more : {g : Group} {w : World} {most r m : ℕ} → HasHadTurn g w mos
     → IsAlong g most (r + 1) m (held w m)
 along_more {g = g} {w = w} {m = m} h = record {
   come = has_come h;
-  whole = λ late. (holds h (omega (arith, late)), has_logged g w m h.rested h.known.faithful);
+  whole = λ late. (holds h (omega (arith, late)), has_logged g w m h.rested h.known);
   done = λ late. shows_done h (omega (arith, late));
 }

@@ -14,13 +14,15 @@ use Rattle.dr_program.specs.Reading.{world}
 use Rattle.dr_program.specs.Running.{Running}
 use Rattle.dr_program.specs.Schedule.{is_between_turns}
 use Rattle.dr_program.specs.declared.setup.Setup.{Setup}
-use Rattle.dr_faithful.proofs.Faithfulness.{faithful, whole}
-use Rattle.dr_faithful.specs.Faithful.{Faithful}
 use Rattle.dr_refine.proofs.Deeds.{replicas}
+use Rattle.dr_suspect.specs.Waits.{beat_of, count_of}
 use Rattle.dr_program_laws.proofs.Programs.{AllStand}
+use Rattle.dr_program_laws.proofs.Trusting.{stay_first}
+use Rattle.dr_world_laws.proofs.Worlds.{known}
 use Rattle.dr_program_laws.specs.Steady.{IsSteady}
-use Rattle.dr_program_laws.specs.Trusting.{AreTrusting}
+use Rattle.dr_program_laws.specs.Trusting.{AreAtEase}
 use Rattle.dr_complete.proofs.Along.{IsAlong}
+use Rattle.dr_complete.proofs.Firsts.{IsFirst}
 use Rattle.dr_complete.specs.Reached.{AllShowDone}
 use Rattle.dr_history_laws.specs.Remaining.{messages_left}
 
@@ -45,22 +47,45 @@ ArePushed g w = (i j c : ℕ) → i < roster g → j < roster g → j ≢ i → 
 abbrev pub IsUpright : Option End → Type 0
 IsUpright end = (end ≡ None) ⊎ (end ≡ Some ends.Done)
 
+-- between turns a member waits without a limit or for three turns at least, and while it goes on it has
+-- waited for nobody for more than one
+pub record HasWaited (g : Group) (w : World) (m : ℕ) (r : Running) : Type 0 where
+  pub limit : (r.waits.limit ≡ 0) ⊎ (3 ≤ r.waits.limit)
+  pub beat : (i : ℕ) → i < roster g → i ≢ m → beat_of r.waits i ≡ w.seen m i BEAT_COLUMN
+  pub few : (i : ℕ) → i < roster g → i ≢ m → r.replica.end ≡ None → count_of r.waits i ≤ 1
+
+-- in a round in which the members below x have had their turn, i has had one since m has
+abbrev pub IsAfter : ℕ → ℕ → ℕ → Type 0
+IsAfter x m i = ((x ≤ m) × ((m < i) ⊎ (i < x))) ⊎ ((m < x) × (m < i) × (i < x))
+
+-- who has had a turn since has news: its beat has risen, unless it was the first turn
+abbrev pub AreFresh : Group → ℕ → Program → Type 0
+AreFresh g x p = (m i : ℕ) (r : Running) → slice_get p.members m ≡ Some r → i < roster g → i ≢ m
+    → IsAfter x m i
+    → (count_of r.waits i ≡ 0) ⊎ ((world g p).seen m i BEAT_COLUMN < (world g p).table 0 m i BEAT_COLUMN)
+
 -- the program is between turns: nobody suspects anybody, no append has failed, no member is amid a turn or
 -- has ended but as done, and words stand where they were pushed
 pub record IsPaused (g : Group) (setups : List Setup) (p : Program) : Type 0 where
   pub steady : IsSteady g p
-  pub trusting : AreTrusting p
+  pub ease : AreAtEase p
   pub stand : AllStand setups p
   pub well : (m : ℕ) (r : Running) → slice_get p.members m ≡ Some r → r.failed ≡ None
   pub whole : (m : ℕ) → is_between_turns (slice_get p.members m) ≡ true
   pub upright : (i : ℕ) → i < roster g → IsUpright ((world g p).end i)
   pub pushed : ArePushed g (world g p)
+  pub waits : (m : ℕ) (r : Running) → slice_get p.members m ≡ Some r → HasWaited g (world g p) m r
+
+-- all members show done in the first view
+abbrev pub ShowDone : Group → World → Type 0
+ShowDone g w = AllShowDone w 0 g.opening.members
 
 -- it is so in a round behind r others, in which the members below x have had their turn: all show done, or
 -- nobody has ended
 pub record IsBetween (g : Group) (setups : List Setup) (most r x : ℕ) (p : Program) : Type 0 where
   pub paused : IsPaused g setups p
-  pub state : AllShowDone g (world g p) ⊎ IsGoing g most r x (world g p)
+  pub fresh : ((i : ℕ) → i < roster g → (world g p).end i ≡ None) → AreFresh g x p
+  pub state : ShowDone g (world g p) ⊎ IsGoing g most r x (world g p)
 
 -- no member is to crash, none has more than `most` messages left, and there are turns enough
 pub record IsFit (g : Group) (setups : List Setup) (limit most : ℕ) : Type 0 where
@@ -76,9 +101,13 @@ pub member_at : (g : Group) (p : Program) (m : ℕ) → IsSteady g p → m < ros
     → (r : Running) × (slice_get p.members m ≡ Some r)
 member_at g p m steady l = slice_get-some p.members m (omega (arith, l, steady.program.all))
 
--- what is true of the world of such a program
-pub true_of : (g : Group) (p : Program) → IsSteady g p → Faithful g (whole g) (world g p)
-true_of g p steady = faithful g (world g p) steady.group steady.reached
+-- its world is one in which everybody is in the first view
+pub first_of : (g : Group) (p : Program) → IsSteady g p → AreAtEase p → IsFirst g (world g p)
+first_of g p steady ease = record {
+  group = steady.group;
+  known = known g (world g p) steady.group steady.reached;
+  view = λ m. stay_first g p m ease;
+}
 
 -- what the world has of a member is the same where the member is
 pub same_held : (g : Group) (p q : Program) (i : ℕ) → slice_get q.members i ≡ slice_get p.members i

@@ -1,14 +1,17 @@
 -- In lockstep, without crashes, suspicions and failed appends and with turns enough, all members end as done,
 -- with everything.
-use Rattle.std.proofs.Common.{Bool, List, None, Some, [], ap, arith, if◌then◌else◌, inl, inr, map, nat_lt, refl, subst, sym, true, ℕ, ◌&&◌, ◌*◌, ◌+◌, ◌<◌, ◌==◌, ◌^◌, ◌∙◌, ◌≡◌, ◌≤◌}
+use Rattle.std.proofs.Common.{Bool, List, None, Some, [], ap, arith, if◌then◌else◌, inl, inr, map, nat_lt, refl, replicate, slice_index, subst, sym, true, ℕ, ◌&&◌, ◌*◌, ◌+◌, ◌<◌, ◌==◌, ◌^◌, ◌∙◌, ◌≡◌, ◌≤◌, ◌⊎◌}
 use Rattle.std.specs.Prelude.{All, IsTrue, Option, is_some, option_map, slice_get}
+use Rattle.std.proofs.lemmas.Bool.{cases_lt}
 use Rattle.std.proofs.lemmas.Bool.Decides.{nat_tests}
+use Rattle.std.proofs.lemmas.List.{get_or-replicate, get_or_past, length-replicate}
 use Rattle.std.proofs.lemmas.Option.{get_or_from_slice_get, same_Some, slice_get-map, slice_get_within}
 use Rattle.dr_entry.specs.declared.end.End.{End}
 use Rattle.dr_entry.specs.declared.end.End.TheVariants as ends
 use Rattle.dr_entry.specs.declared.end.MemberEnd.{MemberEnd}
+use Rattle.dr_entry.specs.declared.limits.TheConstants.{MAX_MEMBERS}
 use Rattle.dr_history_laws.specs.Remaining.{messages_left}
-use Rattle.dr_words.specs.declared.column.TheConstants.{LOGGED_COLUMN}
+use Rattle.dr_words.specs.declared.column.TheConstants.{BEAT_COLUMN, LOGGED_COLUMN}
 use Rattle.dr_machine.specs.Group.{Group, IsGroup, roster}
 use Rattle.dr_machine.specs.World.{World, opening_world}
 use Rattle.dr_program.proofs.Opening.{begins_at_the_opening}
@@ -17,16 +20,17 @@ use Rattle.dr_program.specs.Reading.{world}
 use Rattle.dr_program.specs.Running.{Running, begun_running}
 use Rattle.dr_program.specs.Schedule.{IsLockstep, is_between_turns}
 use Rattle.dr_program.specs.declared.setup.Setup.{Setup}
-use Rattle.dr_program_laws.proofs.Ending.{done}
+use Rattle.dr_program_laws.proofs.Ending as ending
 use Rattle.dr_program_laws.proofs.Programs.{all_stand}
 use Rattle.dr_program_laws.proofs.Worlds.{of_there}
 use Rattle.dr_program_laws.specs.Ended.{IsComplete}
-use Rattle.dr_program_laws.specs.Trusting.{IsCalm}
+use Rattle.dr_program_laws.specs.Trusting.{IsAtEase}
+use Rattle.dr_complete.specs.Time.{IsLenient}
+use Rattle.dr_suspect.specs.Waits.{beat_of, count_of}
 use Rattle.dr_program_laws.proofs.Steadying.{steady_begins}
-use Rattle.dr_program_laws.proofs.Trusting.{trusting_begins}
 use Rattle.dr_complete.proofs.Along.{along_none}
 use Rattle.dr_complete.proofs.Rounds.{rounds_keep}
-use Rattle.dr_complete.proofs.Between.{ArePushed, IsBetween, IsUpright}
+use Rattle.dr_complete.proofs.Between.{ArePushed, HasWaited, IsBetween, IsUpright}
 
 -- ---- the beginning
 
@@ -50,6 +54,80 @@ begins_well setups m r there =
     by (Some s) same =
         sym (ap (λ (x : Running). x.failed) (same_Some (begun_running s) r same))
 
+-- each is one that its setup begins
+began_by : (setups : List Setup) (m : ℕ) (r : Running) → slice_get (map begun_running setups) m ≡ Some r
+    → (s : Setup) × (slice_get setups m ≡ Some s) × (begun_running s ≡ r)
+began_by setups m r there = by (slice_get setups m) refl
+  where
+    by : (o : Option Setup) → slice_get setups m ≡ o
+        → (s : Setup) × (slice_get setups m ≡ Some s) × (begun_running s ≡ r)
+    by None e = absurd (cc (ap (option_map begun_running) (sym e)
+        ∙ sym (slice_get-map begun_running setups m) ∙ there))
+    by (Some s) e = (
+      s,
+      e,
+      same_Some (begun_running s) r (ap (option_map begun_running) (sym e)
+          ∙ sym (slice_get-map begun_running setups m) ∙ there),
+    )
+
+patient_at : (setups : List Setup) (m : ℕ) (s : Setup) → All IsLenient setups → slice_get setups m ≡ Some s
+    → IsLenient s
+patient_at setups m s calm there = subst IsLenient (get_or_from_slice_get setups m s s there)
+    (calm m s (slice_get_within setups m s there))
+
+-- all counts and beats are 0
+zero_at : (i : ℕ) → slice_index (replicate MAX_MEMBERS 0) i ≡ 0
+zero_at i = by (cases_lt i 16)
+  where
+    none : ℕ
+    none = 0
+
+    by : (i < 16) ⊎ (16 ≤ i) → slice_index (replicate MAX_MEMBERS 0) i ≡ 0
+    by (inl l) = get_or-replicate 16 i none none l
+    by (inr past) = get_or_past (replicate 16 none) i none (omega (arith, past, length-replicate 16 none))
+
+-- it has waited for nobody
+begins_uncounted : (setups : List Setup) (m : ℕ) (r : Running)
+    → slice_get (map begun_running setups) m ≡ Some r → (i : ℕ) → count_of r.waits i ≡ 0
+begins_uncounted setups m r there i =
+    let t = began_by setups m r there in
+    ap (λ (x : Running). count_of x.waits i) (sym t.2) ∙ zero_at i
+
+begins_easy : (setups : List Setup) → All IsLenient setups
+    → (m : ℕ) (r : Running) → slice_get (map begun_running setups) m ≡ Some r → IsAtEase r
+begins_easy setups calm m r there = subst IsAtEase t.2 (easy so.patience)
+  where
+    t : (s : Setup) × (slice_get setups m ≡ Some s) × (begun_running s ≡ r)
+    t = began_by setups m r there
+
+    so : IsLenient t.0
+    so = patient_at setups m t.0 calm t.1
+
+    easy : (t.0.patience ≡ 0) ⊎ (3 ≤ t.0.patience) → IsAtEase (begun_running t.0)
+    easy (inl none) =
+        record { first = refl; unwedged = refl; patient = inl none; unscripted = so.unscripted; kept = refl }
+    easy (inr long) = record {
+      first = refl;
+      unwedged = refl;
+      patient = inr (λ i is. omega (arith, long, zero_at i));
+      unscripted = so.unscripted;
+      kept = refl;
+    }
+
+begins_waiting : (g : Group) (setups : List Setup) → All IsLenient setups → (m : ℕ) (r : Running)
+    → slice_get (map begun_running setups) m ≡ Some r
+    → ((i : ℕ) → (world g (begun_program g setups)).seen m i BEAT_COLUMN ≡ 0)
+    → HasWaited g (world g (begun_program g setups)) m r
+begins_waiting g setups calm m r there unseen = record {
+  limit = subst (λ (x : Running). (x.waits.limit ≡ 0) ⊎ (3 ≤ x.waits.limit)) t.2
+      (patient_at setups m t.0 calm t.1).patience;
+  beat = λ i l d. ap (λ (x : Running). beat_of x.waits i) (sym t.2) ∙ zero_at i ∙ sym (unseen i);
+  few = λ i l d going. omega (arith, ap (λ (x : Running). count_of x.waits i) t.2, zero_at i);
+}
+  where
+    t : (s : Setup) × (slice_get setups m ≡ Some s) × (begun_running s ≡ r)
+    t = began_by setups m r there
+
 -- all words are 0 but the logged ones
 begins_pushed : (g : Group) → ArePushed g (opening_world g)
 begins_pushed g i j c a b other inside apart begun =
@@ -61,18 +139,22 @@ begins_pushed g i j c a b other inside apart begun =
 
 -- so no round is over yet
 begins : (g : Group) (limit most : ℕ) (setups : List Setup) → IsGroup g → 1 ≤ limit → limit < 2 ^ 32
-    → AreSetups g limit setups → All IsCalm setups → IsBetween g setups most 0 0 (begun_program g setups)
+    → AreSetups g limit setups → All IsLenient setups → IsBetween g setups most 0 0 (begun_program g setups)
 unfolding ran
 begins g limit most setups is some small are calm = record {
   paused = record {
     steady = steady_begins g limit setups is some small are;
-    trusting = trusting_begins g limit setups is are calm;
+    ease = begins_easy setups calm;
     stand = all_stand g limit setups [] is some are;
     well = begins_well setups;
     whole = begins_whole setups;
     upright = λ i l. inl (ap (λ (w : World). w.end i) opens);
     pushed = subst (ArePushed g) (sym opens) (begins_pushed g);
+    waits = λ m y there. begins_waiting g setups calm m y there (λ i. ap (λ
+        (w : World). w.seen m i BEAT_COLUMN) opens);
   };
+  fresh = λ unended m i y there l d after.
+      inl (begins_uncounted setups m y there i);
   state = inr (record {
     early = omega arith;
     unended = λ i l. ap (λ (w : World). w.end i) opens;
@@ -101,13 +183,17 @@ complete g setups most r m p y between there ended =
     let end_is = of_there p (λ q. q.end) (opening_world g).end m y there in
     let end : y.replica.end ≡ Some ends.Done =
     upright_end y.replica.end (rw end_is at (between.paused.upright m l)) ended in
-    (done g p [] m y steady.group steady.program steady.reached there end
-    (λ k d within some. absurd (omega (arith, within)))).complete
+    ending.complete g p m y (record {
+      group = steady.group;
+      program = steady.program;
+      reached = steady.reached;
+      there = there;
+    }) end (between.paused.ease m y there).first
 
 -- in lockstep, without crashes, suspicions and failed appends and with turns enough, all members are
 pub completes : (g : Group) (limit most : ℕ) (setups : List Setup) (es : List Move) (p : Program)
     → IsGroup g → AreSetups g limit setups
-    → ((m : ℕ) (s : Setup) → slice_get setups m ≡ Some s → s.crashes ≡ []) → All IsCalm setups
+    → ((m : ℕ) (s : Setup) → slice_get setups m ≡ Some s → s.crashes ≡ []) → All IsLenient setups
     → ((s : ℕ) → messages_left g.opening s ≤ most) → 3 * most + 3 ≤ limit → limit < 2 ^ 32
     → AllOk es → IsLockstep (begun_program g setups) es p → (m : ℕ) (e : MemberEnd)
     → slice_get (map end_of p.members) m ≡ Some e → IsComplete g.opening e

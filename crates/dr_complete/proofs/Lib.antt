@@ -1,3 +1,4 @@
+mod Firsts
 mod Along
 mod Between
 mod Come

@@ -22,12 +22,13 @@ use Rattle.dr_machine.specs.World.{World, count_of, opening_world}
 use Rattle.dr_machine.specs.Writes.{at, at₂, at₃}
 use Rattle.dr_machine.specs.declared.event.Event.{Event}
 use Rattle.dr_machine.specs.declared.step.Step.{Step}
-use Rattle.dr_faithful.proofs.Faithfulness.{faithful, past_grew, puts_or_leaves, words_grew}
+use Rattle.dr_faithful.proofs.Faithfulness.{puts_or_leaves}
 use Rattle.dr_faithful.proofs.Pasts.{item_kept}
 use Rattle.dr_faithful.proofs.Puts.{row_in}
 use Rattle.dr_faithful.proofs.Writes.{at₂_case}
 use Rattle.dr_faithful.specs.Faithful.{Numbers}
 use Rattle.dr_faithful.specs.Tells.{item_named, item_sent}
+use Rattle.dr_world_laws.proofs.Worlds.{Known, known, past_grew, words_grew}
 use Rattle.dr_complete.specs.Reached.{RingsKeep}
 
 -- ---- the words of an item that is put
@@ -129,8 +130,11 @@ event_keeps : (g : Group) (w : World) (e : Event) → IsGroup g → Guard g w e 
     → RingsKeep g (effect g w e).past
 event_keeps g w e is can kept s v k part l below needed =
     by (step_stands g w (member_of e) (step_of e) s v k part is can
-    ((faithful g w is kept.run).sent.all (member_of e) (w.past.view (member_of e))) below needed)
+    (y.chosen.faithful.sent.all (member_of e) (w.past.view (member_of e))) below needed)
   where
+    y : Known g w
+    y = known g w is kept.run
+
     column : ℕ
     column = slot_column (roster g) g.window k + part
 
@@ -138,10 +142,10 @@ event_keeps g w e is can kept s v k part l below needed =
     by (inr now) = now
     by (inl before) =
         let same = item_kept g w.past.sent (effect g w e).past.sent s v k
-        ((past_grew g w e is kept.run can).sent s v) before in
+        ((past_grew g w e is y can).sent s v) before in
         let old = kept.rings s v k part l before
         (subst (λ (x : Item). part < length (pieces x)) same needed) in
-        omega (arith, old, ((words_grew g w e is kept.run can).own s v column).number)
+        omega (arith, old, ((words_grew g w e is y can).own s v column).number)
 
 -- rings keep their items in every world that is reached
 pub rings_keep : (g : Group) (w : World) → IsGroup g → IsReached g w → RingsKeep g w.past

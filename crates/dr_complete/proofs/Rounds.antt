@@ -6,7 +6,6 @@ use Rattle.std.proofs.Math.Seq.{drop-append_seam, take-append_seam}
 use Rattle.std.proofs.lemmas.Bool.{cases_lt}
 use Rattle.std.proofs.lemmas.List.Elements.{All-drop, All-take}
 use Rattle.dr_entry.specs.declared.end.End.{End}
-use Rattle.dr_words.specs.declared.column.TheConstants.{DONE_COLUMN}
 use Rattle.dr_machine.specs.Group.{Group, roster}
 use Rattle.dr_machine.specs.World.{opening_world}
 use Rattle.dr_program.specs.declared.outcome.Outcome.TheVariants as outcomes
@@ -20,10 +19,13 @@ use Rattle.dr_turn.proofs.Search.{beat_test}
 use Rattle.dr_program_laws.proofs.Programs.{AllStand, ran_stands}
 use Rattle.dr_program_laws.proofs.Worlds.{of_there}
 use Rattle.dr_program_laws.proofs.Turning.{takes_turn}
-use Rattle.dr_complete.proofs.Along.{own_first}
-use Rattle.dr_complete.proofs.Between.{IsBetween, IsFit, IsGoing, member_at, true_of}
+use Rattle.dr_complete.proofs.Between.{AreFresh, HasWaited, IsAfter, IsBetween, IsFit, IsGoing, ShowDone, first_of, member_at}
+use Rattle.dr_program.specs.Form.{IsOf}
+use Rattle.dr_program_laws.specs.Steady.{IsSteady}
+use Rattle.dr_program_laws.specs.Trusting.{MayWait}
+use Rattle.std.proofs.lemmas.Option.{slice_get_within}
+use Rattle.dr_complete.proofs.Firsts.{of_roster}
 use Rattle.dr_complete.proofs.Turns.{turn_keeps}
-use Rattle.dr_complete.specs.Reached.{AllShowDone}
 
 -- ---- moves
 
@@ -44,6 +46,22 @@ at_beginning : (o : Option End) (beat : Bool) → is_some o ≡ false → (is_so
 at_beginning None beat going e = (refl, e)
 at_beginning (Some end) beat going e = absurd (cc)
 
+-- it hasn't waited too long as its turn begins
+may_wait : (g : Group) (p : Program) (x : ℕ) (y : Running) → IsSteady g p → slice_get p.members x ≡ Some y
+    → y.replica.end ≡ None → HasWaited g (world g p) x y → MayWait y
+may_wait g p x y steady there none waited = by waited.limit
+  where
+    of : IsOf g x y.replica
+    of = steady.program.of x y there
+
+    by : (y.waits.limit ≡ 0) ⊎ (3 ≤ y.waits.limit) → MayWait y
+    by (inl unlimited) = inl unlimited
+    by (inr long) = inr (λ i is. omega (
+      arith,
+      long,
+      waited.few i (omega (arith, is.0, of.members)) (λ same. is.1 (same ∙ sym of.number)) none,
+    ))
+
 -- it takes its turn
 takes : (g : Group) (setups : List Setup) (limit most r x : ℕ) (p : Program) (es : List Move)
     (q : Program) → IsFit g setups limit most → x < roster g → IsBetween g setups most r x p
@@ -59,8 +77,12 @@ takes g setups limit most r x p es q fit l between going well turn =
       fit = fit;
       within = l;
       before = between;
-      turned = takes_turn g p x y es q steady between.paused.trusting member.1 stands.0
-          (between.paused.well x y member.1) (beat_test (part_of y.place) stands.1) well turn;
+      turned = takes_turn g p x y es q steady between.paused.ease member.1 stands.0
+          (between.paused.well x y member.1) (may_wait g p x y steady member.1 stands.0
+          (between.paused.waits x y member.1)) (beat_test (part_of y.place) stands.1) well turn;
+      start = y;
+      began = member.1;
+      alive = stands.0;
       stand = subst (AllStand setups) (sym turn.taken)
           (ran_stands g setups p es steady.group steady.program steady.reached between.paused.stand);
       whole = turn.whole;
@@ -70,7 +92,8 @@ takes g setups limit most r x p es q fit l between going well turn =
 passes : (g : Group) (setups : List Setup) (most r x : ℕ) (p : Program) → x < roster g
     → IsBetween g setups most r x p → has_ended (slice_get p.members x) ≡ true
     → IsBetween g setups most r (x + 1) p
-passes g setups most r x p l between over = record { paused = between.paused; state = state between.state }
+passes g setups most r x p l between over =
+    record { paused = between.paused; fresh = fresh; state = state between.state }
   where
     member : (y : Running) × (slice_get p.members x ≡ Some y)
     member = member_at g p x between.paused.steady l
@@ -78,8 +101,12 @@ passes g setups most r x p l between over = record { paused = between.paused; st
     ended : member.0.replica.end ≡ None → ⊥
     ended none = absurd (cc (sym (ap has_ended member.1) ∙ over))
 
-    state : AllShowDone g (world g p) ⊎ IsGoing g most r x (world g p)
-        → AllShowDone g (world g p) ⊎ IsGoing g most r (x + 1) (world g p)
+    fresh : ((i : ℕ) → i < roster g → (world g p).end i ≡ None) → AreFresh g (x + 1) p
+    fresh unended = absurd (ended (sym (of_there p (λ y. y.end) (opening_world g).end x member.0 member.1)
+        ∙ unended x l))
+
+    state : ShowDone g (world g p) ⊎ IsGoing g most r x (world g p)
+        → ShowDone g (world g p) ⊎ IsGoing g most r (x + 1) (world g p)
     state (inl shows) = inl shows
     state (inr go) = absurd (ended (sym (of_there p (λ y. y.end) (opening_world g).end x member.0 member.1)
         ∙ go.unended x l))
@@ -111,21 +138,34 @@ turns_keep g setups limit most r (suc d) x p es q fit all between well (turn, re
 -- where all members have had their turn, the next round begins, or all show done
 round_over : (g : Group) (setups : List Setup) (most r : ℕ) (p : Program)
     → IsBetween g setups most r (roster g) p → IsBetween g setups most (r + 1) 0 p
-round_over g setups most r p between = record { paused = between.paused; state = state between.state }
+round_over g setups most r p between =
+    record { paused = between.paused; fresh = fresh; state = state between.state }
   where
+    fresh : ((i : ℕ) → i < roster g → (world g p).end i ≡ None) → AreFresh g 0 p
+    fresh unended m i y there l d after = between.fresh unended m i y there l d (by after)
+      where
+        within : m < roster g
+        within = omega (arith, slice_get_within p.members m y there, between.paused.steady.program.all)
+
+        by : IsAfter 0 m i → IsAfter (roster g) m i
+        by (inl (low, inl less)) = inr (within, less, l)
+        by (inl (low, inr none)) = absurd (omega (arith, none))
+        by (inr (none, less, more)) = absurd (omega (arith, none))
+
     next : IsGoing g most r (roster g) (world g p) → (r < 3 * most + 1) ⊎ (3 * most + 1 ≤ r)
-        → AllShowDone g (world g p) ⊎ IsGoing g most (r + 1) 0 (world g p)
+        → ShowDone g (world g p) ⊎ IsGoing g most (r + 1) 0 (world g p)
     next go (inl early) = inr (record {
       early = omega (arith, early);
       unended = go.unended;
       gone = λ i a l. absurd (omega (arith, l));
       ahead = λ i a l. go.gone i a a;
     })
-    next go (inr late) = inl (λ i a. own_first g (world g p) i DONE_COLUMN (true_of g p between.paused.steady)
-        ∙ (go.gone i a a).1.done (omega (arith, late)))
+    next go (inr late) = inl (λ i member.
+        let a = of_roster (first_of g p between.paused.steady between.paused.ease) i member in
+        (go.gone i a a).1.done (omega (arith, late)))
 
-    state : AllShowDone g (world g p) ⊎ IsGoing g most r (roster g) (world g p)
-        → AllShowDone g (world g p) ⊎ IsGoing g most (r + 1) 0 (world g p)
+    state : ShowDone g (world g p) ⊎ IsGoing g most r (roster g) (world g p)
+        → ShowDone g (world g p) ⊎ IsGoing g most (r + 1) 0 (world g p)
     state (inl shows) = inl shows
     state (inr go) = next go (cases_lt r (3 * most + 1))
 

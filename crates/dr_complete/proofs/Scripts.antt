@@ -1,22 +1,35 @@
 -- The members of a script that gives them time enough are complete.
-use Rattle.std.proofs.Common.{ap, sym, ◌≡◌, ◌∙◌, subst, All, None, ℕ, ◌-◌, ◌/◌, ◌≤◌, [], List, length, map, arith}
+use Rattle.std.proofs.Common.{ap, sym, inl, inr, ◌≡◌, ◌⊎◌, ◌∙◌, subst, All, ℕ, ◌-◌, ◌/◌, ◌≤◌, [], List, length, map, arith}
+use Rattle.std.proofs.lemmas.Option.{slice_get-get_or}
 use Rattle.dr_history.specs.History.{messages_of}
 use Rattle.dr_machine.specs.Group.{IsGroup}
 use Rattle.dr_program.specs.Program.{AllOk, Move, Program, end_of}
 use Rattle.dr_program.specs.Schedule.{IsLockstep}
 use Rattle.dr_program_laws.specs.Ended.{AreComplete}
-use Rattle.dr_program_laws.specs.Trusting.{SuspectsNobody}
-use Rattle.dr_program_laws.proofs.Trusting.{calm_setups}
+use Rattle.dr_program.specs.declared.setup.Setup.{Setup}
 use Rattle.dr_restart.specs.declared.start.Start.{Start}
 use Rattle.dr_restart.specs.Groups.{group_of}
-use Rattle.dr_restart.specs.Setups.{IsBegun, crashes_of, suspicion_in}
+use Rattle.dr_restart.specs.Setups.{AreSetupsOf, IsBegun, crashes_of, suspicions_of}
 use Rattle.dr_restart.proofs.Groups.{few_at}
 use Rattle.dr_restart.proofs.Setups.{are_setups}
-use Rattle.dr_script.specs.declared.script.Fault.{Fault}
 use Rattle.dr_script.specs.declared.script.Script.{Script}
 use Rattle.dr_script.specs.Ranges.{HasRanges}
-use Rattle.dr_complete.specs.Time.{HasTime}
+use Rattle.dr_complete.specs.Time.{HasTime, IsLenient}
 use Rattle.dr_complete.proofs.Completeness.{completes}
+
+-- its setups suspect nobody, and have its patience
+lenient_setups : (script : Script) (start : Start) (nth : ℕ) (setups : List Setup) → HasRanges script
+    → HasTime script → AreSetupsOf script start nth setups → All IsLenient setups
+lenient_setups script start nth setups ranges time are k d within =
+    let s = are.each k _ (slice_get-get_or setups k d within) in record {
+      patience = subst (λ n. (n ≡ 0) ⊎ (3 ≤ n)) (sym s.patience) (long ranges.patience);
+      unscripted = s.suspicions ∙ ap (λ faults. suspicions_of faults nth k) time.faultless;
+    }
+  where
+    long : (script.patience ≡ 0) ⊎ ((3 ≤ script.patience) × (script.patience ≤ 1000000))
+        → (script.patience ≡ 0) ⊎ (3 ≤ script.patience)
+    long (inl none) = inl none
+    long (inr some) = inr some.0
 
 pub completes_by_script : (script : Script) (start : Start) (nth : ℕ) (begun p : Program)
     (es : List Move) → IsGroup (group_of script start) → HasRanges script → HasTime script
@@ -27,17 +40,10 @@ completes_by_script script start nth begun p es is ranges time (setups, are, sam
     (are_setups script start nth setups ranges.group.lists are)
     (λ m s there. (are.each m s there).crashes
     ∙ ap (λ faults. crashes_of faults nth m) time.faultless)
-    (calm_setups script start nth setups nobody are)
+    (lenient_setups script start nth setups ranges time are)
     (λ s. omega (arith, few s)) (omega (arith, some)) (omega (arith, ranges.most_turns))
     well (subst (λ b. IsLockstep b es p) same run)
   where
-    nobody : SuspectsNobody script
-    nobody = record {
-      patient = time.calm;
-      unscripted = subst (All (λ (f : Fault). suspicion_in f.what ≡ None)) (sym time.faultless)
-          (λ k f l. absurd (omega (arith, l)));
-    }
-
     most : ℕ
     most = (script.turns - 8) / 4
 

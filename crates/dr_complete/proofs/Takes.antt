@@ -14,10 +14,11 @@ use Rattle.dr_machine.specs.Group.{Group, IsGroup, roster}
 use Rattle.dr_machine.specs.Guards.{IsOther, seen_slot}
 use Rattle.dr_machine.specs.Run.{IsReached}
 use Rattle.dr_machine.specs.World.{World, count_of}
-use Rattle.dr_faithful.proofs.Faithfulness.{faithful, no_later, whole}
 use Rattle.dr_faithful.proofs.Pieces.{piece_of, sent_item}
+use Rattle.dr_faithful.specs.Chosen.{views_by}
 use Rattle.dr_faithful.specs.Faithful.{Faithful}
 use Rattle.dr_faithful.specs.Tells.{item_sent, part_column}
+use Rattle.dr_world_laws.proofs.Worlds.{Known, known, no_later}
 use Rattle.dr_complete.proofs.Rings.{rings_keep}
 use Rattle.dr_complete.specs.Reached.{SeesSlot}
 
@@ -65,8 +66,11 @@ sees_pieces g w m s is run l other fresh below part needed = (
     k : ℕ
     k = count_of w m s
 
-    f : Faithful g (whole g) w
-    f = faithful g w is run
+    y : Known g w
+    y = known g w is run
+
+    f : Faithful g (views_by g y.values) w
+    f = y.chosen.faithful
 
     sender : s < roster g
     sender = f.views.within v s (ap (λ mask. has mask s) (sym (f.views.own m)) ∙ other.member)
@@ -79,7 +83,7 @@ sees_pieces g w m s is run l other fresh below part needed = (
       arith,
       ap ring_tag (fresh part few),
       rings_keep g w is run s v k part sender below needed,
-      (no_later g w is run m s part (is_present g m is l) other few).1,
+      (no_later g w is y m s part (is_present g m is l) other few).1,
     )
 
 -- so it has taken all of them
@@ -92,8 +96,11 @@ takes_all g w m s is run l other fresh none = by (cases_lt (count_of w m s) (len
     v : ℕ
     v = w.past.view m
 
-    f : Faithful g (whole g) w
-    f = faithful g w is run
+    y : Known g w
+    y = known g w is run
+
+    f : Faithful g (views_by g y.values) w
+    f = y.chosen.faithful
 
     by : (count_of w m s < length (w.past.sent s v)) ⊎ (length (w.past.sent s v) ≤ count_of w m s)
         → count_of w m s ≡ w.past.count s (w.past.view m) s

@@ -1,13 +1,15 @@
 -- A turn of a member, in a round in which the members below it have had theirs.
-use Rattle.std.proofs.Common.{List, None, Some, [], ap, arith, inl, inr, refl, subst, sym, true, false, ℕ, ◌+◌, ◌<◌, ◌∙◌, ◌≡◌, ◌≢◌, ◌≤◌, ◌⊎◌}
+use Rattle.std.proofs.Common.{Bool, List, None, Some, [], ap, arith, if◌then◌else◌, inl, inr, min, refl, subst, suc, sym, true, false, ℕ, ◌+◌, ◌-◌, ◌^◌, ◌==◌, ◌<◌, ◌∙◌, ◌≡◌, ◌≢◌, ◌≤◌, ◌⊎◌}
 use Rattle.std.specs.Prelude.{Any, Option, slice_get}
 use Rattle.std.proofs.lemmas.Bool.{cases_eq, cases_lt}
+use Rattle.std.proofs.lemmas.Bool.Decides.{nat_tests}
+use Rattle.std.proofs.lemmas.Option.{slice_get_within}
 use Rattle.dr_entry.specs.declared.end.End.{End}
 use Rattle.dr_entry.specs.declared.end.End.TheVariants as ends
 use Rattle.dr_history_laws.proofs.Lists.{slice_get-some}
 use Rattle.dr_words.specs.declared.column.TheConstants.{BEAT_COLUMN, DONE_COLUMN, LOGGED_COLUMN}
 use Rattle.dr_machine.specs.Group.{Group, columns, roster}
-use Rattle.dr_machine.specs.World.{World, opening_world, own_word, shown}
+use Rattle.dr_machine.specs.World.{World, opening_world, shown}
 use Rattle.dr_program.proofs.Holdings.{Holding, held}
 use Rattle.dr_program.specs.Program.{Program}
 use Rattle.dr_program.specs.Reading.{world}
@@ -15,19 +17,18 @@ use Rattle.dr_program.specs.Running.{Running}
 use Rattle.dr_program.specs.Schedule.{is_between_turns}
 use Rattle.dr_program.specs.declared.setup.CrashPoint.{CrashPoint}
 use Rattle.dr_program.specs.declared.setup.Setup.{Setup}
-use Rattle.dr_faithful.proofs.Faithfulness.{whole}
-use Rattle.dr_faithful.specs.Faithful.{Faithful}
-use Rattle.dr_world_laws.proofs.Reached.{known}
+use Rattle.dr_faithful.specs.Chosen.{views_by}
 use Rattle.dr_program_laws.proofs.Programs.{AllStand}
 use Rattle.dr_program_laws.proofs.Standing.{IsProper}
 use Rattle.dr_program_laws.proofs.Worlds.{of_there}
 use Rattle.dr_program_laws.specs.Failing.{has_log_end}
-use Rattle.dr_program_laws.specs.Rested.{HasTurned, IsRested}
-use Rattle.dr_program_laws.specs.Steady.{IsSteady}
+use Rattle.dr_program_laws.specs.Rested.{HasCompared, HasTurned, IsRested}
+use Rattle.dr_suspect.specs.Waits.{beat_of, count_of, next_count}
 use Rattle.dr_program_laws.specs.Trusting.{has_been_left}
-use Rattle.dr_complete.proofs.Between.{ArePushed, HasGone, IsBetween, IsFit, IsGoing, IsUpright, member_at, same_held, true_of}
-use Rattle.dr_complete.proofs.Along.{IsAlong, along_less, along_more, in_view_is, own_first, shown_mine, shown_other}
+use Rattle.dr_complete.proofs.Between.{AreFresh, ArePushed, HasGone, HasWaited, IsAfter, IsBetween, IsFit, IsGoing, IsUpright, ShowDone, first_of, member_at, same_held}
+use Rattle.dr_complete.proofs.Along.{IsAlong, along_less, along_more, in_view_is, shown_mine, shown_other}
 use Rattle.dr_complete.proofs.DoneWords.{done_is_one, done_shows_all}
+use Rattle.dr_complete.proofs.Firsts.{IsFirst, members_are, of_members, own_first, told}
 use Rattle.dr_complete.specs.Reached.{AllShowDone}
 
 -- member x has taken its turn, by which p has become q
@@ -36,6 +37,9 @@ pub record HasTaken (g : Group) (setups : List Setup) (limit most r x : ℕ) (p 
   pub within : x < roster g
   pub before : IsBetween g setups most r x p
   pub turned : HasTurned g p x q
+  pub start : Running
+  pub began : slice_get p.members x ≡ Some start
+  pub alive : start.replica.end ≡ None
   pub stand : AllStand setups q
   pub whole : is_between_turns (slice_get q.members x) ≡ true
 
@@ -87,7 +91,7 @@ end_so {g = g} {setups = setups} {limit = limit} {x = x} {q = q} t =
     let bound = (t.fit.are.each x setup.0 setup.1).turns in
     rw (end, turns) (proper_end limit member.0.replica.turns member.0.replica.end
     (rw (bound, t.fit.uncrashed x setup.0 setup.1) at (t.stand x setup.0 member.0 setup.1 member.1).proper)
-    (sym (ap has_log_end end) ∙ t.turned.logs) (t.turned.trusting x member.0 member.1).kept)
+    (sym (ap has_log_end end) ∙ t.turned.logs) (t.turned.ease x member.0 member.1).kept)
 
 -- so it has nothing left to do
 has_rested : {g : Group} {setups : List Setup} {limit most r x : ℕ} {p q : Program}
@@ -101,12 +105,14 @@ has_rested {g = g} {limit = limit} {x = x} {q = q} t = by t.turned.rested
 
 -- ---- what was pushed
 
--- so far each member is in the first view
-view_first : (g : Group) (p : Program) (i : ℕ) (r : Running) → IsSteady g p → slice_get p.members i ≡ Some r
-    → r.replica.view ≡ 0
-view_first g p i r steady there =
-    sym (of_there p (λ z. z.view) (opening_world g).past.view i r there)
-    ∙ (true_of g p steady).beginning.first i
+-- everybody is in the first view before the turn, and behind it
+first_before : {g : Group} {setups : List Setup} {limit most r x : ℕ} {p q : Program}
+    → HasTaken g setups limit most r x p q → IsFirst g (world g p)
+first_before {g = g} {p = p} t = first_of g p t.before.paused.steady t.before.paused.ease
+
+first_behind : {g : Group} {setups : List Setup} {limit most r x : ℕ} {p q : Program}
+    → HasTaken g setups limit most r x p q → IsFirst g (world g q)
+first_behind {g = g} {q = q} t = first_of g q t.turned.steady t.turned.ease
 
 -- the words of the others in the table are as they were
 others_stay : {g : Group} {setups : List Setup} {limit most r x : ℕ} {p q : Program}
@@ -115,7 +121,7 @@ others_stay : {g : Group} {setups : List Setup} {limit most r x : ℕ} {p q : Pr
 others_stay {g = g} {p = p} {q = q} t i j c d a b other inside =
     let member = member_at g p i t.before.paused.steady a in
     subst (λ v. (world g q).table v j i c ≡ (world g p).table v j i c)
-    (view_first g p i member.0 t.before.paused.steady member.1)
+    (t.before.paused.ease i member.0 member.1).first
     (sym (t.turned.steady.pushes i member.0 (t.turned.others i d ∙ member.1) j c b other inside)
     ∙ t.before.paused.steady.pushes i member.0 member.1 j c b other inside)
 
@@ -129,7 +135,7 @@ still_pushed {g = g} {x = x} {q = q} t i j c a b other inside apart begun = by (
 
     by : (i ≡ x) ⊎ (i ≢ x) → (world g q).table 0 j i c ≡ (world g q).past.own i 0 c
     by (inl e) = rw e (subst (λ (v : ℕ). w.table v j x c ≡ w.past.own x v c)
-        ((true_of g q t.turned.steady).beginning.first x)
+        ((first_behind t).view x)
         ((has_rested t).pushed j c b (λ z. other (z ∙ sym e)) inside
         (λ z. absurd (apart z))))
     by (inr d) =
@@ -146,47 +152,45 @@ sees_own : {g : Group} {setups : List Setup} {limit most r x : ℕ} {p q : Progr
     → (world g q).seen x i c ≡ (world g q).past.own i 0 c
 sees_own {g = g} {x = x} {q = q} t i c a other inside apart begun =
     (has_rested t).seen i c a other inside
-    ∙ ap (λ v. (world g q).table v x i c) ((true_of g q t.turned.steady).beginning.first x)
+    ∙ ap (λ v. (world g q).table v x i c) ((first_behind t).view x)
     ∙ still_pushed t i x c a t.within (λ e. other (sym e)) inside apart begun
 
 -- ---- where all show done
 
 -- they go on to do so
 still_show : {g : Group} {setups : List Setup} {limit most r x : ℕ} {p q : Program}
-    → HasTaken g setups limit most r x p q → AllShowDone g (world g p) → AllShowDone g (world g q)
+    → HasTaken g setups limit most r x p q → ShowDone g (world g p) → ShowDone g (world g q)
 still_show {g = g} {x = x} {p = p} {q = q} t shows i a = by (cases_eq i x)
   where
-    f : Faithful g (whole g) (world g q)
-    f = true_of g q t.turned.steady
+    y : IsFirst g (world g q)
+    y = first_behind t
 
-    by : (i ≡ x) ⊎ (i ≢ x) → own_word (world g q) i DONE_COLUMN ≡ 1
-    by (inl e) = rw e (done_is_one g (world g q) x f (omega (
+    by : (i ≡ x) ⊎ (i ≢ x) → (world g q).past.own i 0 DONE_COLUMN ≡ 1
+    by (inl e) = rw e (done_is_one g (views_by g y.known.values) (world g q) x 0 (told y) (omega (
       arith,
-      own_first g (world g q) x DONE_COLUMN f,
       t.turned.rises 0 DONE_COLUMN,
-      own_first g (world g p) x DONE_COLUMN (true_of g p t.before.paused.steady),
-      shows x t.within,
+      shows x (of_members (first_before t) x t.within),
     )))
-    by (inr d) = ap (λ (h : Holding). h.own h.view DONE_COLUMN)
-        (others_same t i d) ∙ shows i a
+    by (inr d) = ap (λ (h : Holding). h.own 0 DONE_COLUMN) (others_same t i d) ∙ shows i a
 
 -- and the member, which sees them all, has ended as done
 ends_done : {g : Group} {setups : List Setup} {limit most r x : ℕ} {p q : Program}
-    → HasTaken g setups limit most r x p q → AllShowDone g (world g q)
+    → HasTaken g setups limit most r x p q → ShowDone g (world g q)
     → (world g q).end x ≡ Some ends.Done
 ends_done {g = g} {x = x} {q = q} t shows =
     (has_rested t).done.1
-    (λ i member. by i (cases_eq i x) (in_view_is g (world g q) x i f member))
+    (λ i member. by i (cases_eq i x) (in_view_is y x i member))
   where
-    f : Faithful g (whole g) (world g q)
-    f = true_of g q t.turned.steady
+    y : IsFirst g (world g q)
+    y = first_behind t
 
     by : (i : ℕ) → (i ≡ x) ⊎ (i ≢ x) → i < roster g → shown (world g q) x i DONE_COLUMN ≡ 1
-    by i (inl e) a = shown_mine (world g q) x i DONE_COLUMN 1 e (shows x t.within)
+    by i (inl e) a = shown_mine (world g q) x i DONE_COLUMN 1 e
+        (own_first y x DONE_COLUMN ∙ shows x (of_members y x t.within))
     by i (inr d) a = shown_other (world g q) x i DONE_COLUMN 1 d
         (sees_own t i DONE_COLUMN a d (omega arith) (λ e. omega (arith, e))
         (λ e. absurd (omega (arith, e)))
-        ∙ sym (own_first g (world g q) i DONE_COLUMN f) ∙ shows i a)
+        ∙ shows i (of_members y i a))
 
 -- ---- where nobody has ended
 
@@ -210,8 +214,7 @@ comes_on : {g : Group} {setups : List Setup} {limit most r x : ℕ} {p q : Progr
 comes_on {g = g} {most = most} {r = r} {x = x} {q = q} t go = (
   turns,
   along_more (record {
-    group = t.turned.steady.group;
-    known = known g (world g q) t.turned.steady.group t.turned.steady.reached;
+    known = first_behind t;
     member = t.within;
     few = t.fit.few;
     rested = has_rested t;
@@ -231,7 +234,7 @@ stays_upright : {g : Group} {setups : List Setup} {limit most r x : ℕ} {p q : 
 stays_upright {g = g} {limit = limit} {most = most} {r = r} {x = x} {p = p} {q = q} t =
     by t.before.state (end_so t)
   where
-    by : AllShowDone g (world g p) ⊎ IsGoing g most r x (world g p)
+    by : ShowDone g (world g p) ⊎ IsGoing g most r x (world g p)
         → IsUprightOrSpent limit ((world g q).turns x) ((world g q).end x) → IsUpright ((world g q).end x)
     by state (inl upright) = upright
     by (inl shows) how = inr (ends_done t (still_show t shows))
@@ -267,6 +270,161 @@ goes_on {g = g} {most = most} {r = r} {x = x} {p = p} {q = q} t go none = record
     gone i a l (inl e) = rw e (comes_on t go)
     gone i a l (inr d) = subst (HasGone g most (r + 1) i) (sym (same i d)) (go.gone i a (omega (arith, l, d)))
 
+-- ---- waiting
+
+-- the members that haven't had the turn are as they were
+member_same : {g : Group} {setups : List Setup} {limit most r x : ℕ} {p q : Program}
+    → HasTaken g setups limit most r x p q → (m : ℕ) (y : Running) → m ≢ x → slice_get q.members m ≡ Some y
+    → slice_get p.members m ≡ Some y
+member_same t m y other there = sym (t.turned.others m other) ∙ there
+
+-- the member compares what it has seen with what it sees now, and that differs
+newly : (count last beat : ℕ) → (count ≡ 0) ⊎ (last < beat) → next_count count last beat ≤ 1
+newly count last beat (inl none) = by (beat == last)
+  where
+    by : (b : Bool) → (if b then min (suc count) (2 ^ 32 - 1) else 0) ≤ 1
+    by true = omega (arith, none)
+    by false = omega arith
+newly count last beat (inr less) = by (beat == last) refl
+  where
+    by : (b : Bool) → (beat == last) ≡ b → (if b then min (suc count) (2 ^ 32 - 1) else 0) ≤ 1
+    by true e = absurd (grind (arith, nat_tests, e, less))
+    by false e = omega arith
+
+-- between turns members have waited so
+still_waits : {g : Group} {setups : List Setup} {limit most r x : ℕ} {p q : Program}
+    → HasTaken g setups limit most r x p q → (m : ℕ) (y : Running) → slice_get q.members m ≡ Some y
+    → HasWaited g (world g q) m y
+still_waits {g = g} {limit = limit} {most = most} {r = r} {x = x} {p = p} {q = q} t m y there =
+    by (cases_eq m x)
+  where
+    before : HasWaited g (world g p) x t.start
+    before = t.before.paused.waits x t.start t.began
+
+    fresh_there : (i : ℕ) → i < roster g → i ≢ x → IsGoing g most r x (world g p)
+        → (count_of t.start.waits i ≡ 0)
+        ⊎ ((world g p).seen x i BEAT_COLUMN < (world g p).table 0 x i BEAT_COLUMN)
+    fresh_there i l d go = t.before.fresh go.unended x i t.start t.began l d
+        (inl (omega arith, sides (cases_lt i x)))
+      where
+        sides : (i < x) ⊎ (x ≤ i) → (x < i) ⊎ (i < x)
+        sides (inl less) = inr less
+        sides (inr more) = inl (omega (arith, more, d))
+
+    -- what it sees is what stood in the table before
+    sees : (i : ℕ) → i < roster g → i ≢ x
+        → (world g q).seen x i BEAT_COLUMN ≡ (world g p).table 0 x i BEAT_COLUMN
+    sees i l d = (has_rested t).seen i BEAT_COLUMN l d (omega arith)
+        ∙ ap (λ v. (world g q).table v x i BEAT_COLUMN) ((first_behind t).view x)
+        ∙ others_stay t i x BEAT_COLUMN d l t.within (λ e. d (sym e)) (omega arith)
+
+    own : (v : Running) → slice_get q.members x ≡ Some v → HasWaited g (world g q) x v
+    own v here = record {
+      limit = subst (λ n. (n ≡ 0) ⊎ (3 ≤ n)) (sym (t.turned.limit t.start v t.began here)) before.limit;
+      beat = λ i l d. (compared i l d).beat;
+      few = λ i l d none. by_state i l d none t.before.state;
+    }
+      where
+        end : (world g q).end x ≡ v.replica.end
+        end = of_there q (λ z. z.end) (opening_world g).end x v here
+
+        compared : (i : ℕ) → i < roster g → i ≢ x
+            → HasCompared t.start.waits v.waits i ((world g q).seen x i BEAT_COLUMN)
+        compared i l d = t.turned.compared
+            (uncrashed limit ((world g q).turns x) ((world g q).end x)
+            (end_so t)) t.start v t.began here i l d
+
+        by_state : (i : ℕ) → i < roster g → i ≢ x → v.replica.end ≡ None
+            → ShowDone g (world g p) ⊎ IsGoing g most r x (world g p) → count_of v.waits i ≤ 1
+        by_state i l d none (inl shows) =
+            absurd (cc (end, none, ends_done t (still_show t shows)))
+        by_state i l d none (inr go) = omega (
+          arith,
+          (compared i l d).count,
+          newly (count_of t.start.waits i) (beat_of t.start.waits i) ((world g q).seen x i BEAT_COLUMN)
+              (news (fresh_there i l d go)),
+        )
+          where
+            news : (count_of t.start.waits i ≡ 0)
+                ⊎ ((world g p).seen x i BEAT_COLUMN < (world g p).table 0 x i BEAT_COLUMN)
+                → (count_of t.start.waits i ≡ 0)
+                ⊎ (beat_of t.start.waits i < (world g q).seen x i BEAT_COLUMN)
+            news (inl none) = inl none
+            news (inr less) = inr (omega (arith, less, before.beat i l d, sees i l d))
+
+    by : (m ≡ x) ⊎ (m ≢ x) → HasWaited g (world g q) m y
+    by (inl e) = rw e (own y (rw e at there))
+    by (inr d) =
+        let was = t.before.paused.waits m y (member_same t m y d there) in record {
+          limit = was.limit;
+          beat = λ i l e. was.beat i l e
+              ∙ sym (ap (λ (h : Holding). h.seen i BEAT_COLUMN) (others_same t m d));
+          few = was.few;
+        }
+
+-- where nobody has ended, whoever has had a turn since has news
+still_fresh : {g : Group} {setups : List Setup} {limit most r x : ℕ} {p q : Program}
+    → HasTaken g setups limit most r x p q → ((i : ℕ) → i < roster g → (world g q).end i ≡ None)
+    → AreFresh g (x + 1) q
+still_fresh {g = g} {x = x} {p = p} {q = q} t unended m i y there l d since =
+    by (cases_eq m x) (cases_eq i x) since
+  where
+    going : (k : ℕ) → k < roster g → (world g p).end k ≡ None
+    going k a = by_member (cases_eq k x)
+      where
+        by_member : (k ≡ x) ⊎ (k ≢ x) → (world g p).end k ≡ None
+        by_member (inl e) = rw e (of_there p (λ z. z.end) (opening_world g).end x t.start t.began ∙ t.alive)
+        by_member (inr other) = ap (λ (h : Holding). h.end) (sym (others_same t k other)) ∙ unended k a
+
+    seen_same : m ≢ x → (world g q).seen m i BEAT_COLUMN ≡ (world g p).seen m i BEAT_COLUMN
+    seen_same other = ap (λ (h : Holding). h.seen i BEAT_COLUMN) (others_same t m other)
+
+    -- the beat that x has pushed is higher than what anybody has seen
+    risen : m ≢ x → i ≡ x
+        → (count_of y.waits i ≡ 0) ⊎ ((world g q).seen m i BEAT_COLUMN < (world g q).table 0 m i BEAT_COLUMN)
+    risen other e = rw e (inr (omega (
+      arith,
+      ap (λ (h : Holding). h.seen x BEAT_COLUMN) (others_same t m other),
+      ((told (first_before t)).old.in_seen m x BEAT_COLUMN (λ z. other (sym z))).number,
+      ap (λ v. (world g p).table v m x BEAT_COLUMN) ((first_before t).view m),
+      ((told (first_before t)).old.in_table 0 m x BEAT_COLUMN).number,
+      t.turned.beats,
+      subst (λ v. (world g q).table v m x BEAT_COLUMN ≡ (world g q).past.own x v BEAT_COLUMN)
+          ((first_behind t).view x) ((has_rested t).pushed m BEAT_COLUMN
+          (omega (arith, slice_get_within q.members m y there, t.turned.steady.program.all)) other
+          (omega arith)
+          (λ z. unended x t.within)),
+    )))
+
+    by : (m ≡ x) ⊎ (m ≢ x) → (i ≡ x) ⊎ (i ≢ x) → IsAfter (x + 1) m i
+        → (count_of y.waits i ≡ 0) ⊎ ((world g q).seen m i BEAT_COLUMN < (world g q).table 0 m i BEAT_COLUMN)
+    by (inl e) side (inl early) = absurd (omega (arith, e, early.0))
+    by (inl e) side (inr late) = absurd (omega (arith, e, late.1, late.2))
+    by (inr other) (inl e) after = risen other e
+    by (inr other) (inr apart) after = same
+        (t.before.fresh going m i y (member_same t m y other there) l d (earlier after))
+      where
+        earlier : IsAfter (x + 1) m i → IsAfter x m i
+        earlier (inl (low, inl less)) = inl (omega (arith, low), inl less)
+        earlier (inl (low, inr less)) = inl (omega (arith, low), inr (omega (arith, less, apart)))
+        earlier (inr (low, less, more)) =
+            inr (omega (arith, low, other), less, omega (arith, more, apart))
+
+        same : (count_of y.waits i ≡ 0)
+            ⊎ ((world g p).seen m i BEAT_COLUMN < (world g p).table 0 m i BEAT_COLUMN)
+            → (count_of y.waits i ≡ 0)
+            ⊎ ((world g q).seen m i BEAT_COLUMN < (world g q).table 0 m i BEAT_COLUMN)
+        same (inl none) = inl none
+        same (inr less) = inr (omega (
+          arith,
+          less,
+          seen_same other,
+          others_stay t i m BEAT_COLUMN apart l
+              (omega (arith, slice_get_within q.members m y there, t.turned.steady.program.all)) (λ e. d
+              (sym e))
+              (omega arith),
+        ))
+
 -- ---- the turn
 
 -- behind the turn of member x the program is between turns again, with one member more that has had its own
@@ -275,13 +433,15 @@ pub turn_keeps : {g : Group} {setups : List Setup} {limit most r x : ℕ} {p q :
 turn_keeps {g = g} {most = most} {r = r} {x = x} {p = p} {q = q} t = record {
   paused = record {
     steady = t.turned.steady;
-    trusting = t.turned.trusting;
+    ease = t.turned.ease;
     stand = t.stand;
     well = λ m y there. well m y there (cases_eq m x);
     whole = λ m. between m (cases_eq m x);
     upright = λ i a. upright i a (cases_eq i x);
     pushed = still_pushed t;
+    waits = still_waits t;
   };
+  fresh = still_fresh t;
   state = state t.before.state (stays_upright t);
 }
   where
@@ -298,9 +458,10 @@ turn_keeps {g = g} {most = most} {r = r} {x = x} {p = p} {q = q} t = record {
     upright i a (inr d) = subst (λ (h : Holding). IsUpright h.end)
         (sym (others_same t i d)) (t.before.paused.upright i a)
 
-    state : AllShowDone g (world g p) ⊎ IsGoing g most r x (world g p) → IsUpright ((world g q).end x)
-        → AllShowDone g (world g q) ⊎ IsGoing g most r (x + 1) (world g q)
+    state : ShowDone g (world g p) ⊎ IsGoing g most r x (world g p) → IsUpright ((world g q).end x)
+        → ShowDone g (world g q) ⊎ IsGoing g most r (x + 1) (world g q)
     state (inl shows) how = inl (still_show t shows)
     state (inr go) (inl none) = inr (goes_on t go none)
-    state (inr go) (inr is_done) =
-        inl (done_shows_all g (world g q) x t.turned.steady.group t.turned.steady.reached is_done)
+    state (inr go) (inr is_done) = inl (subst (AllShowDone (world g q) 0) (members_are (first_behind t) x)
+        (subst (λ v. AllShowDone (world g q) v ((world g q).members x)) ((first_behind t).view x)
+        (done_shows_all g (world g q) x t.turned.steady.group t.turned.steady.reached is_done)))

@@ -18,11 +18,11 @@ use Rattle.dr_history_laws.specs.Laid.{first_view, laid}
 use Rattle.dr_machine.specs.Group.{Group, IsGroup, roster}
 use Rattle.dr_machine.specs.Guards.{HoldsAll}
 use Rattle.dr_machine.specs.World.{World}
-use Rattle.dr_world_laws.proofs.Agreeing.{history-first, in-order}
-use Rattle.dr_world_laws.proofs.Reached.{Known}
-use Rattle.dr_world_laws.proofs.Remaining.{put_first, start_messages}
+use Rattle.dr_world_laws.proofs.Remaining.{start_messages}
+use Rattle.dr_world_laws.proofs.Worlds.{goes_first, history-first, in-order, put_first}
 use Rattle.dr_world_laws.proofs.SentItems.{all_put, first_messages, range_at}
 use Rattle.dr_history_laws.specs.Remaining.{messages_left}
+use Rattle.dr_complete.proofs.Firsts.{IsFirst, members_are, of_roster}
 
 -- ---- places
 
@@ -79,15 +79,15 @@ abbrev pub PutAll : Group → World → Type 0
 PutAll g w = (s : ℕ) → s < roster g → messages_left g.opening s ≤ length (w.past.sent s 0)
 
 -- the messages of a member in a history: those of the start, and those among its first items
-messages_laid : (g : Group) (w : World) (m s : ℕ) → IsGroup g → Known g w → m < roster g → s < roster g
+messages_laid : (g : Group) (w : World) (m s : ℕ) → IsFirst g w → m < roster g → s < roster g
     → (c : Counted g.opening w.past.sent (first_view g.opening) s s (w.next m))
     × (length (messages_from s (w.past.history m))
     ≡ length (messages_from s g.opening.start) + messages_in (take c.0 (w.past.sent s 0)))
-messages_laid g w m s is y l within = (
+messages_laid g w m s y l within = (
   c,
   omega (
     arith,
-    ap (λ es. length (messages_from s es)) (history-first g w m y l),
+    ap (λ es. length (messages_from s es)) (history-first g w m y.known l (y.view m)),
     ap length (messages_from-append s (first_entries g.opening) (laid g.opening w.past.sent v (w.next m))),
     length-append (messages_from s (first_entries g.opening))
         (messages_from s (laid g.opening w.past.sent v (w.next m))),
@@ -100,14 +100,15 @@ messages_laid g w m s is y l within = (
     v = first_view g.opening
 
     c : Counted g.opening w.past.sent (first_view g.opening) s s (w.next m)
-    c = counted g.opening w.past.sent (first_entries g.opening) v s s (w.next m) (y.historic.goes 0)
-        (view-distinct (first_entries g.opening) v (first-ends g.opening)) (at_rank g s is within)
+    c = counted g.opening w.past.sent (first_entries g.opening) v s s (w.next m)
+        (goes_first g w y.group y.known)
+        (view-distinct (first_entries g.opening) v (first-ends g.opening)) (at_rank g s y.group within)
 
 -- the member has all messages that are left to s
-has_left : (g : Group) (w : World) (m s : ℕ) → IsGroup g → Known g w → m < roster g → s < roster g
+has_left : (g : Group) (w : World) (m s : ℕ) → IsFirst g w → m < roster g → s < roster g
     → IsPastAll g w m → PutAll g w
     → length (messages_of g.opening s) ≤ length (messages_from s (w.past.history m))
-has_left g w m s is y l within past put = omega (
+has_left g w m s y l within past put = omega (
   arith,
   laid_so.1,
   first_messages (w.past.sent s 0) left told,
@@ -120,33 +121,33 @@ has_left g w m s is y l within past put = omega (
     laid_so : (c : Counted g.opening w.past.sent (first_view g.opening) s s (w.next m))
         × (length (messages_from s (w.past.history m))
         ≡ length (messages_from s g.opening.start) + messages_in (take c.0 (w.past.sent s 0)))
-    laid_so = messages_laid g w m s is y l within
+    laid_so = messages_laid g w m s y l within
 
     told : (k : ℕ) → k < left → (i : ℕ) × (slice_get (w.past.sent s 0) k ≡ Some (Index i))
     told k h =
-        let all = all_put _ _ (w.past.sent s 0) (put_first g w s y) (put s within) in
-        (length (messages_from s g.opening.start) + k, (put_first g w s y).index k (omega (arith, h, all)))
+        let first = put_first g w s y.group y.known within in
+        let all = all_put _ _ (w.past.sent s 0) first (put s within) in
+        (length (messages_from s g.opening.start) + k, first.index k (omega (arith, h, all)))
 
     many : (n : ℕ) → messages_left g.opening s ≡ n → n ≤ laid_so.0.0
     many zero e = omega arith
     many (suc k) e = round_lt (roster g) k laid_so.0.0 s (w.next m) (past s k within (omega (arith, e)))
-        (subst (λ (z : ℕ). w.next m ≤ laid_so.0.0 * z + s) (ranks g is) laid_so.0.1.low)
+        (subst (λ (z : ℕ). w.next m ≤ laid_so.0.0 * z + s) (ranks g y.group) laid_so.0.1.low)
 
 -- a member whose next place is behind all messages holds them all
-pub holds_all : (g : Group) (w : World) (m : ℕ) → IsGroup g → Known g w → m < roster g
+pub holds_all : (g : Group) (w : World) (m : ℕ) → IsFirst g w → m < roster g
     → IsPastAll g w m → PutAll g w → HoldsAll g w m
-holds_all g w m is y l past put s member = omega (
+holds_all g w m y l past put s member = omega (
   arith,
-  has_left g w m s is y l within past put,
+  has_left g w m s y l within past put,
   ap length numbered.1,
   length-append (messages_from s (w.past.history m)) numbered.0,
   length-numbered_messages g.opening s,
 )
   where
     within : s < roster g
-    within = y.faithful.views.within (w.past.view m) s
-        (ap (λ mask. has mask s) (sym (y.faithful.views.own m)) ∙ member)
+    within = of_roster y s (ap (λ mask. has mask s) (sym (members_are y m)) ∙ member)
 
     numbered : (rest : List Entry)
         × (messages_from s (w.past.history m) ++ rest ≡ numbered_messages g.opening s)
-    numbered = (in-order g w m is y l).numbered s
+    numbered = (in-order g w m y.group y.known l).numbered s

@@ -1,13 +1,14 @@
 -- What is so in every world that is reached: what rings keep, what a member has seen of one, and who shows
 -- done.
-use Rattle.std.specs.Prelude.{◌≡◌, ℕ, ◌+◌, ◌<◌, ◌≤◌, length}
+use Rattle.std.specs.Prelude.{◌≡◌, ℕ, ◌+◌, ◌<◌, ◌≤◌, length, true}
+use Rattle.dr_history.specs.Members.{has}
 use Rattle.dr_ring.specs.Pieces.{pieces}
 use Rattle.dr_ring.specs.Slots.{slot_column}
 use Rattle.dr_words.specs.declared.column.TheConstants.{DONE_COLUMN, PIECES}
 use Rattle.dr_words.specs.Packing.{ring_tag}
 use Rattle.dr_machine.specs.Group.{Group, roster}
 use Rattle.dr_machine.specs.Guards.{seen_slot}
-use Rattle.dr_machine.specs.World.{Past, World, count_of, own_word}
+use Rattle.dr_machine.specs.World.{Past, World, count_of}
 use Rattle.dr_faithful.specs.Tells.{item_sent}
 
 -- each member's ring has the pieces of every item that it has put, or pieces of later ones in their place
@@ -22,6 +23,6 @@ SeesSlot g w m s = (part : ℕ) → part < PIECES
     → seen_slot g w m s (count_of w m s) part
     ≡ w.past.own s (w.past.view m) (slot_column (roster g) g.window (count_of w m s) + part)
 
--- every member shows done
-abbrev pub AllShowDone : Group → World → Type 0
-AllShowDone g w = (i : ℕ) → i < roster g → own_word w i DONE_COLUMN ≡ 1
+-- every member of a view shows done in it: so its own word says, also once it has left the view
+abbrev pub AllShowDone : World → ℕ → ℕ → Type 0
+AllShowDone w v members = (i : ℕ) → has members i ≡ true → w.past.own i v DONE_COLUMN ≡ 1

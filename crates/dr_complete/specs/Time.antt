@@ -1,5 +1,6 @@
--- Scripts whose members come to the end of their work.
-use Rattle.std.specs.Prelude.{◌≡◌, ◌+◌, ◌*◌, ◌≤◌, [], All, length}
+-- Scripts and setups whose members come to the end of their work.
+use Rattle.std.specs.Prelude.{◌≡◌, ◌⊎◌, ◌+◌, ◌*◌, ◌≤◌, [], All, length}
+use Rattle.dr_program.specs.declared.setup.Setup.{Setup}
 use Rattle.dr_script.specs.declared.script.Script.{Script}
 use Rattle.dr_script.specs.declared.script.Schedule.TheVariants.{Lockstep}
 
@@ -8,5 +9,9 @@ use Rattle.dr_script.specs.declared.script.Schedule.TheVariants.{Lockstep}
 pub record HasTime (s : Script) : Type 0 where
   pub faultless : s.faults ≡ []
   pub lockstep : s.schedule ≡ Lockstep
-  pub calm : s.patience ≡ 0
   pub turns : All (λ messages. 4 * length messages + 8 ≤ s.turns) s.messages
+
+-- a setup suspects nobody by its script, and where it has patience, it is that of three turns or more
+pub record IsLenient (s : Setup) : Type 0 where
+  pub patience : (s.patience ≡ 0) ⊎ (3 ≤ s.patience)
+  pub unscripted : s.suspicions ≡ []

@@ -17,9 +17,8 @@ ghost use Rattle.dr_machine.specs.World.{World, count_of};
 ghost use Rattle.dr_program.specs.declared.setup.Setup.{Setup};
 ghost use Rattle.dr_program.specs.Program.{AllOk, AreSetups, Move, Program, begun_program, end_of};
 ghost use Rattle.dr_program.specs.Schedule.{IsLockstep};
-ghost use Rattle.dr_complete.specs.Time.{HasTime};
+ghost use Rattle.dr_complete.specs.Time.{HasTime, IsLenient};
 ghost use Rattle.dr_program_laws.specs.Ended.{AreComplete, IsComplete};
-ghost use Rattle.dr_program_laws.specs.Trusting.{IsCalm};
 ghost use Rattle.dr_restart.specs.declared.start.Start.{Start};
 ghost use Rattle.dr_restart.specs.Groups.{group_of};
 ghost use Rattle.dr_restart.specs.Setups.{IsBegun};
@@ -42,20 +41,21 @@ pub fn nothing_ready_is_overlooked()
         → count_of w m s ≡ w.past.count s (w.past.view m) s }
 {}
 
-/// In every world that is reached in which some member has ended as done, all members show done.
+/// In every world that is reached in which some member has ended as done, all members of its view show done
+/// in it.
 pub fn all_show_done_where_one_has_ended()
     ensures { (g : Group) (w : World) (m : ℕ) → IsGroup g → IsReached g w
-        → w.end m ≡ Some Done → AllShowDone g w }
+        → w.end m ≡ Some Done → AllShowDone w (w.past.view m) (w.members m) }
 {}
 
-/// In lockstep, where no member is to crash or to suspect anybody and all appends go well, no member has
-/// more than `most` messages left, and each may take three turns for each of these and three more, every
-/// member ends as done. Its history is the start, View 0, and the merge of all that the start leaves, and
-/// all of it is logged and durable.
+/// In lockstep, with every patience that lasts for three turns, where no member is to crash or to suspect
+/// anybody by its setup and all appends go well, no member has more than `most` messages left, and each may
+/// take three turns for each of these and three more, every member ends as done. Its history is the start,
+/// View 0, and the merge of all that the start leaves, and all of it is logged and durable.
 pub fn lockstep_completes()
     ensures { (g : Group) (limit most : ℕ) (setups : List Setup) (es : List Move) (p : Program)
         → IsGroup g → AreSetups g limit setups
-        → ((m : ℕ) (s : Setup) → slice_get setups m ≡ Some s → s.crashes ≡ []) → All IsCalm setups
+        → ((m : ℕ) (s : Setup) → slice_get setups m ≡ Some s → s.crashes ≡ []) → All IsLenient setups
         → ((s : ℕ) → messages_left g.opening s ≤ most) → 3 * most + 3 ≤ limit → limit < 2 ^ 32
         → AllOk es → IsLockstep (begun_program g setups) es p → (m : ℕ) (e : MemberEnd)
         → slice_get (map end_of p.members) m ≡ Some e → IsComplete g.opening e }
