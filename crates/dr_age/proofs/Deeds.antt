@@ -14,7 +14,7 @@ use Rattle.dr_program.specs.Program.{after_deed, appended_as}
 use Rattle.dr_program.specs.Replica.{Replica}
 use Rattle.dr_program.specs.Running.{Running, after_step, deed, deed_of, next_deed, next_step}
 use Rattle.dr_program.proofs.Voting.{vote_room, vote_valid}
-use Rattle.dr_program_laws.proofs.Keeping.{vote_free}
+use Rattle.dr_program.proofs.Waiting.{vote_free}
 use Rattle.dr_program.specs.Steps.{IsAppend, allows, sight, stored}
 use Rattle.dr_refine.proofs.Deeds.{due_allowed}
 use Rattle.dr_logged.specs.Appended.{IsAppendDue, MayLog, record_due, record_of}
@@ -124,7 +124,7 @@ at_append r due form is =
     let t = deed_tells [] r (deeds.Append due) is in (
       record {
         due = may_log r (next_step r) form.replica t.says.0 (due_allowed r (form.due t.none))
-            (vote_free r form);
+            (vote_free r form.free);
         room = form.replica.room;
       },
       t.says.1,

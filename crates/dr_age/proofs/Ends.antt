@@ -1,5 +1,6 @@
 -- The logs of an age: how they begin, and what has come of them where all members have ended.
-use Rattle.std.proofs.Common.{◌≡◌, refl, sym, ap, ◌∙◌, subst, inl, inr, ℕ, ◌+◌, ◌*◌, ◌<◌, ◌≤◌, false, List, [], ◌∷◌, ◌++◌, length, map, take, true≢false, arith, length-take}
+use Rattle.std.proofs.Common.{◌≡◌, refl, sym, ap, ◌∙◌, subst, inl, inr, ℕ, ◌+◌, ◌*◌, ◌<◌, ◌≤◌, false, List, [], ◌∷◌, ◌++◌, length, map, take, true≢false, arith, le_trans, length-take}
+use Rattle.std.proofs.Math.Nat.{mul-le-mul}
 use Rattle.std.proofs.lemmas.List.{length-map}
 use Rattle.std.specs.Prelude.{All, IsTrue, Option, None, Some, is_some, option_map, slice_get, slice_index_or, unwrap_or}
 use Rattle.std.proofs.lemmas.Option.{get_or_from_slice_get, same_Some, slice_get-get_or, slice_get-map, slice_get_cases, slice_get_within}
@@ -40,9 +41,8 @@ use Rattle.dr_restart.proofs.Setups.{are_setups}
 use Rattle.dr_script.specs.declared.script.Script.{Script}
 use Rattle.dr_refine.proofs.Bounds.{history_small}
 use Rattle.dr_refine.proofs.Deeds.{program_member, replicas}
-use Rattle.dr_vote_laws.proofs.Steps.{voting}
-use Rattle.dr_world_laws.proofs.Messages.{holds_messages, valid_history}
-use Rattle.dr_world_laws.proofs.Reached.{known}
+use Rattle.dr_world_laws.proofs.Messages.{valid_history}
+use Rattle.dr_world_laws.proofs.Worlds.{holds_messages, known}
 use Rattle.dr_logged.specs.Served.{AreReady, AreRoomy, HasCome, HasServed, HaveServed, IsNext, IsReady, WentSo}
 use Rattle.dr_logged.proofs.Serving.{begins}
 use Rattle.dr_age.specs.Logged.{AreOpened, HaveCome, IsAmple, IsNotFull, IsOpened, NoneFull, why_ended}
@@ -176,18 +176,33 @@ pub have_come : {D : Type 0} (told : D → Option Told) (count : D → ℕ) (g :
 have_come {D} told count g bases logs p over = λ m base log e from there end.
     by m base log e from there (slice_get p.members m) refl (sym (slice_get-map end_of p.members m) ∙ end)
   where
+    -- there are as many banks as members
+    as_many : (m : ℕ) (r : Running) → slice_get p.members m ≡ Some r
+        → r.replica.banks ≡ length (map end_of p.members)
+    as_many m r at = omega (
+      arith,
+      (over.sound.form.of m r at).banks,
+      over.sound.form.all,
+      length-map p.members end_of,
+    )
+
     by : (m : ℕ) (base log : LogState D) (e : MemberEnd) → slice_get bases m ≡ Some base
         → slice_get logs m ≡ Some log → (o : Option Running) → slice_get p.members m ≡ o
         → option_map end_of o ≡ Some e
-        → (votes : List Vote) × HasCome told count base log e.history e.logged votes (why_ended e.end)
+        → (votes : List Vote)
+        × HasCome told count base log (length (map end_of p.members)) e.history e.logged votes
+        (why_ended e.end)
     by m base log e from there None at end = absurd (cc)
     by m base log e from there (Some r) at end = (
       r.replica.votes,
       subst (λ (x : MemberEnd).
-          HasCome told count base log x.history x.logged r.replica.votes (why_ended x.end))
-          (same_Some (end_of r) e end)
-          (subst (HasCome told count base log r.replica.history r.replica.logged r.replica.votes)
-          (sym (over_tells told count g bases logs p m r over at)) (over.served m base log r from there at)),
+          HasCome told count base log (length (map end_of p.members)) x.history x.logged r.replica.votes
+          (why_ended x.end)) (same_Some (end_of r) e end)
+          (subst (λ n. HasCome told count base log n r.replica.history r.replica.logged r.replica.votes
+          (why_ended (end_of r).end)) (as_many m r at)
+          (subst (HasCome told count base log r.replica.banks r.replica.history r.replica.logged
+          r.replica.votes) (sym (over_tells told count g bases logs p m r over at))
+          (over.served m base log r from there at))),
     )
 
 -- ---- ample logs
@@ -236,30 +251,34 @@ ample_log {D} told count g p m r base log len is there ample at served =
     valid = subst (All IsValidEntry) same (valid_history g ((world g p).past.history m) is.group
         (holds_messages g (world g p) m (known g (world g p) is.group is.reached) below))
 
-    small : length r.replica.history ≤ length g.opening.start + 1 + MAX_MESSAGES * MAX_MEMBERS
-    small = subst (λ h. length h ≤ length g.opening.start + 1 + MAX_MESSAGES * MAX_MEMBERS) same
+    small : length r.replica.history ≤ length g.opening.start + MAX_MEMBERS + MAX_MESSAGES * MAX_MEMBERS
+    small = subst (λ h. length h ≤ length g.opening.start + MAX_MEMBERS + MAX_MESSAGES * MAX_MEMBERS) same
         (history_small g (world g p) m is.group is.reached below)
 
-    few : length r.replica.votes ≤ MAX_MEMBERS
-    few = omega (
-      arith,
-      votes_within r.replica (is.form.form m r there).replica,
-      (is.form.of m r there).members,
-      is.group.most_members,
-    )
+    banks : r.replica.banks ≤ MAX_MEMBERS
+    banks = omega (arith, (is.form.of m r there).banks, is.group.most_members)
+
+    members : r.replica.roster ≤ MAX_MEMBERS
+    members = omega (arith, (is.form.of m r there).members, is.group.most_members)
+
+    few : length r.replica.votes ≤ MAX_MEMBERS * MAX_MEMBERS
+    few = le_trans (votes_within r.replica (is.form.form m r there).replica) (mul-le-mul banks members)
 
     short : All (λ (v : Vote). v.members ≤ MAX_MEMBERS) r.replica.votes
     short k d within =
-        let own = (voting g (world g p) is.group is.reached).valid.own m (slice_index_or r.replica.votes k d) (
+        let own = (known g (world g p) is.group is.reached).chosen.voting.valid.own m
+        (slice_index_or r.replica.votes k d) (
           k,
           ap (λ vs. slice_get vs k) (votes_there g p m r is there)
               ∙ slice_get-get_or r.replica.votes k d within,
         ) in
         omega (arith, ap (λ (v : Vote). v.members) own, is.group.most_members)
 
-    went : WentSo told count base log r.replica.history r.replica.logged r.replica.votes
+    went : WentSo told count base log r.replica.banks r.replica.history r.replica.logged r.replica.votes
         (Some (whys.LogFull len))
-    went = subst (WentSo told count base log r.replica.history r.replica.logged r.replica.votes) at served.last
+    went = subst
+        (WentSo told count base log r.replica.banks r.replica.history r.replica.logged r.replica.votes) at
+        served.last
 
     long : len ≤ log_length [] base.votes + 72 * length log.entries + 73 * length r.replica.votes
     long = omega (
@@ -285,7 +304,7 @@ ample_log {D} told count g p m r base log len is there ample at served =
     )
 
     -- the next record isn't there, as there is room for it
-    by : (next : Record) → IsNext r.replica.history r.replica.logged r.replica.votes next
+    by : (next : Record) → IsNext r.replica.banks r.replica.history r.replica.logged r.replica.votes next
         → log.limit < len + block_length next → ⊥
     by (records.Entry e) (inr vote) over = absurd vote
     by (records.Entry e) (inl due) over =
@@ -295,7 +314,8 @@ ample_log {D} told count g p m r base log len is there ample at served =
     by (records.Vote v) (inl due) over = absurd (cc (due.1))
     by (records.Vote v) (inr vote) over =
         let block : block_length (records.Vote v) ≤ 73 = short_vote v vote.0.members in
-        omega (arith, over, block, long, all, vote.1, vote.0.members, small, ample.limit, served.limit)
+        let most = mul-le-mul banks vote.0.members in
+        omega (arith, over, block, long, all, vote.1, most, small, ample.limit, served.limit)
 
 -- so none is full where all are ample
 pub none_full : {D : Type 0} (told : D → Option Told) (count : D → ℕ) (g : Group)

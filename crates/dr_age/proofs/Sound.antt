@@ -14,8 +14,8 @@ use Rattle.dr_program.specs.Reading.{world}
 use Rattle.dr_program.specs.Running.{Running, next_step}
 use Rattle.dr_program.proofs.Holdings.{held_of}
 use Rattle.dr_refine.proofs.Deeds.{program_member, replicas}
-use Rattle.dr_world_laws.proofs.Messages.{holds_messages, valid_history}
-use Rattle.dr_world_laws.proofs.Reached.{known}
+use Rattle.dr_world_laws.proofs.Messages.{valid_history}
+use Rattle.dr_world_laws.proofs.Worlds.{holds_messages, known}
 use Rattle.dr_age.specs.Sound.{IsSound}
 use Rattle.dr_age.proofs.Deeds.{at_append}
 

@@ -31,12 +31,14 @@ why_ended ends.DiskFault = Some whys.DiskFault
 why_ended (ends.LogFull len) = Some (whys.LogFull len)
 why_ended end = None
 
--- what has come of each log since `bases`, with some votes behind it, by how the member of its number ended
+-- what has come of each log since `bases`, with some votes behind it, by how the member of its number ended.
+-- There are as many banks as members
 abbrev pub HaveCome : {D : Type 0} → (D → Option Told) → (D → ℕ) → List (LogState D)
     → List (LogState D) → List MemberEnd → Type 0
 HaveCome {D} told faults bases logs members = (m : ℕ) (base log : LogState D) (e : MemberEnd)
     → slice_get bases m ≡ Some base → slice_get logs m ≡ Some log → slice_get members m ≡ Some e
-    → (votes : List Vote) × HasCome told faults base log e.history e.logged votes (why_ended e.end)
+    → (votes : List Vote)
+    × HasCome told faults base log (length members) e.history e.logged votes (why_ended e.end)
 
 -- each log has the votes that it had, and behind them those of the member of its number
 abbrev pub HaveVoted : {D : Type 0} → List (LogState D) → List (LogState D) → List Running → Type 0
@@ -55,11 +57,13 @@ IsNotFull end = ⊤
 abbrev pub NoneFull : List MemberEnd → Type 0
 NoneFull members = All (λ (e : MemberEnd). IsNotFull e.end) members
 
--- the limit of a log is enough for its votes and for all that an age may bring: 72 bytes for each entry of the
--- start, for View 0, and for each of 4,096 messages of 16 members, and 73 for each of 16 votes more
+-- the limit of a log is enough for its votes and for all that an age may bring: 72 bytes for each entry of
+-- the start, for each of 16 Views, and for each of 4,096 messages of 16 members, and 73 for each vote more, of
+-- which there may be 16 in each view
 pub record IsAmple {D : Type 0} (g : Group) (log : LogState D) : Type 0 where
-  pub limit : log_length [] log.votes + 72 * (length g.opening.start + 1 + MAX_MESSAGES * MAX_MEMBERS)
-      + 73 * MAX_MEMBERS ≤ log.limit
+  pub limit : log_length [] log.votes
+      + 72 * (length g.opening.start + MAX_MEMBERS + MAX_MESSAGES * MAX_MEMBERS)
+      + 73 * (MAX_MEMBERS * MAX_MEMBERS) ≤ log.limit
 
 -- a log has the entries and votes of before
 pub record IsAsBefore {D : Type 0} (old new : LogState D) : Type 0 where

@@ -109,7 +109,7 @@ pub record IsFreshAt (script : Script) (k : ℕ) (yard : YardState) : Type 0 whe
   pub tell : AllTell script.members yard
   pub good : IsGood script yard
   pub few : (lists : List (List Entry)) (votes : ℕ → List Vote) → AreFound script.members yard lists votes
-      → (m : ℕ) → m < script.members → length (votes m) ≤ MAX_MEMBERS * k
+      → (m : ℕ) → m < script.members → length (votes m) ≤ MAX_MEMBERS * MAX_MEMBERS * k
   pub next : (lists : List (List Entry)) (votes : ℕ → List Vote) → AreFound script.members yard lists votes
       → (es : List Entry) → IsLongest lists es → next_age (view_of es) ≡ k
 

@@ -155,15 +155,15 @@ age_leaves_good script mode nth before yard age ranges is tell = record {
     whole : (m at : ℕ) → m < script.members → IfSome (yard.told m) (ReadsDamaged at) → ⊥
     whole m at l =
         let e = slice_get-some age.members m (omega (arith, l, is.roster)) in
-        readable (yard.told m) at e.0 (is.votes m) (is.cast m) (tell m l) (is.left m e.0 e.1)
+        readable (yard.told m) at script.members e.0 (is.votes m) (is.cast m) (tell m l) (is.left m e.0 e.1)
       where
-        readable : (t : Option Told) (at : ℕ) (e : MemberEnd) (found cast : List Vote) → IsTrue (is_some t)
-            → HasLeft t e found cast → IfSome t (ReadsDamaged at) → ⊥
-        readable None at e found cast some left reads = absurd (cc)
-        readable (Some t) at e found cast some (inl safe) reads =
+        readable : (t : Option Told) (at banks : ℕ) (e : MemberEnd) (found cast : List Vote)
+            → IsTrue (is_some t) → HasLeft t banks e found cast → IfSome t (ReadsDamaged at) → ⊥
+        readable None at banks e found cast some left reads = absurd (cc)
+        readable (Some t) at banks e found cast some (inl safe) reads =
             stands_or_damaged (content_of t) (take e.logged e.history) (found ++ cast) at
             (safe (content_of t) reads.image) reads.damaged
-        readable (Some t) at e found cast some (inr broken) reads =
+        readable (Some t) at banks e found cast some (inr broken) reads =
             elim (broken.left (content_of t) reads.image) [
               | inl before ↦ stands_or_damaged (content_of t) (take e.logged e.history) (found ++ cast) at before
                   reads.damaged

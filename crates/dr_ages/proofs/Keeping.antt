@@ -1,8 +1,9 @@
 -- What an age leaves is what the next one finds; so nothing durable is lost.
-use Rattle.std.proofs.Common.{◌≡◌, refl, sym, ap, ◌∙◌, subst, ℕ, zero, suc, ◌+◌, ◌-◌, ◌<◌, ◌≤◌, inl, inr, arith, List, [], ◌∷◌, ◌++◌, length, length-append, take, drop, get_or, append-nil, append_assoc}
+use Rattle.std.proofs.Common.{◌≡◌, refl, sym, ap, ◌∙◌, subst, ℕ, zero, suc, ◌+◌, ◌-◌, ◌*◌, ◌<◌, ◌≤◌, inl, inr, arith, List, [], ◌∷◌, ◌++◌, length, length-append, take, drop, get_or, append-nil, append_assoc}
 use Rattle.std.specs.Prelude.{IfSome, IsTrue, Option, None, Some, is_some, slice_get}
 use Rattle.std.specs.Option.{option_map_or}
 use Rattle.std.proofs.lemmas.List.{take-append-drop, take_more}
+use Rattle.std.proofs.lemmas.Nat.{mul-le}
 use Rattle.std.proofs.lemmas.Option.{slice_get_within}
 use Rattle.dr_disk.specs.Disk.{Told, content_of}
 use Rattle.dr_entry.specs.declared.end.AgeEnd.{AgeEnd}
@@ -39,21 +40,22 @@ use Rattle.dr_ages.proofs.Chain.{AreBeside, beside, tell_on}
 
 -- ---- one disk
 
--- votes, and behind them no more than a roster has members
+-- votes, and behind them no more than the views of an age bring
 pub record HasFewMore (old new : List Vote) : Type 0 where
   pub more : List Vote
   pub parts : new ≡ old ++ more
-  pub few : length more ≤ MAX_MEMBERS
+  pub few : length more ≤ MAX_MEMBERS * MAX_MEMBERS
 
 -- what is read where an end of a member has left it
 pub record IsLeftBy (e : MemberEnd) (found : List Vote) (es : List Entry) (vs : List Vote) : Type 0 where
   pub entries : IsLeftOf e.history e.logged es
   pub votes : HasFewMore found vs
 
-read_left : (o : Option Told) (e : MemberEnd) (es : List Entry) (vs found cast : List Vote) → IsTrue (is_some o)
-    → IfSome o (ReadsAs es vs) → length cast ≤ MAX_MEMBERS → HasLeft o e found cast → IsLeftBy e found es vs
-read_left None e es vs found cast some reads few left = absurd (cc)
-read_left (Some t) e es vs found cast some reads few left = by left
+read_left : (o : Option Told) (banks : ℕ) (e : MemberEnd) (es : List Entry) (vs found cast : List Vote)
+    → IsTrue (is_some o) → IfSome o (ReadsAs es vs) → banks ≤ MAX_MEMBERS
+    → length cast ≤ MAX_MEMBERS * MAX_MEMBERS → HasLeft o banks e found cast → IsLeftBy e found es vs
+read_left None banks e es vs found cast some reads most few left = absurd (cc)
+read_left (Some t) banks e es vs found cast some reads most few left = by left
   where
     logged : List Entry
     logged = take e.logged e.history
@@ -97,7 +99,7 @@ read_left (Some t) e es vs found cast some reads few left = by left
         }
 
     -- with a vote
-    vote : (v : Vote) → IsVote (length cast) (records.Vote v)
+    vote : (v : Vote) → IsVote banks (length cast) (records.Vote v)
         → StandsFor (content_of t) logged ((found ++ cast) ++ v ∷ []) → IsLeftBy e found es vs
     vote v due s = record {
       entries = inl (one_list (content_of t) es logged vs ((found ++ cast) ++ v ∷ []) reads.stands s);
@@ -105,11 +107,16 @@ read_left (Some t) e es vs found cast some reads few left = by left
         more = cast ++ v ∷ [];
         parts = one_list_of_votes (content_of t) es logged vs ((found ++ cast) ++ v ∷ []) reads.stands s
             ∙ append_assoc found cast (v ∷ []);
-        few = omega (arith, length-append cast (v ∷ []), due.1, due.0.members);
+        few = omega (
+          arith,
+          length-append cast (v ∷ []),
+          due.1,
+          mul-le banks v.members MAX_MEMBERS MAX_MEMBERS most due.0.members,
+        );
       };
     }
 
-    one_more : (r : Record) → IsNext e.history e.logged cast r
+    one_more : (r : Record) → IsNext banks e.history e.logged cast r
         → StandsFor (content_of t) (with_entry r logged) (with_vote r (found ++ cast)) → IsLeftBy e found es vs
     one_more r (inl due) s =
         entry due.0 (subst (λ (r : Record). StandsFor (content_of t) (with_entry r logged)
@@ -117,7 +124,7 @@ read_left (Some t) e es vs found cast some reads few left = by left
     one_more (records.Entry x) (inr due) s = absurd due
     one_more (records.Vote v) (inr due) s = vote v due s
 
-    by : HasLeft (Some t) e found cast → IsLeftBy e found es vs
+    by : HasLeft (Some t) banks e found cast → IsLeftBy e found es vs
     by (inl safe) = same (safe (content_of t) reads.image)
     by (inr broken) = elim (broken.left (content_of t) reads.image) [
       | inl before ↦ same before
@@ -159,9 +166,12 @@ pub found_left : (script : Script) (yard : YardState) (age : AgeEnd) (lists : Li
     (votes : ℕ → List Vote) (m : ℕ) (e : MemberEnd) (es : List Entry) → (b : IsBehind script yard age lists votes)
     → slice_get age.members m ≡ Some e → slice_get lists m ≡ Some es → IsLeftBy e (b.is.votes m) es (votes m)
 found_left script yard age lists votes m e es b there here =
-    read_left (yard.told m) e es (votes m) (b.is.votes m) (b.is.cast m)
+    let most = b.ranges.most_members in
+    let few : length (b.is.cast m) ≤ MAX_MEMBERS * MAX_MEMBERS =
+    omega (arith, b.is.few m, mul-le script.members script.members MAX_MEMBERS MAX_MEMBERS most most) in
+    read_left (yard.told m) script.members e es (votes m) (b.is.votes m) (b.is.cast m)
     (b.tell m (omega (arith, slice_get_within age.members m e there, b.is.roster))) (b.found.each m es here)
-    (omega (arith, b.is.few m, b.ranges.most_members)) (b.is.left m e there)
+    most few (b.is.left m e there)
 
 leave_logs : (script : Script) (yard : YardState) (age : AgeEnd) (lists : List (List Entry))
     (votes : ℕ → List Vote) → IsBehind script yard age lists votes

@@ -79,9 +79,9 @@ are_opened told faults script start olds news lists all caught = record {
 -- ---- the logs go on
 
 come_on : {D : Type 0} (told : D → Option Told) (faults : D → ℕ) (base log : LogState D)
-    (history : List Entry) (logged : ℕ) (votes : List Vote) (why : Option LogWhy)
-    → HasCome told faults base log history logged votes why → IsLater told faults base log
-come_on told faults base log history logged votes why come = record {
+    (banks : ℕ) (history : List Entry) (logged : ℕ) (votes : List Vote) (why : Option LogWhy)
+    → HasCome told faults base log banks history logged votes why → IsLater told faults base log
+come_on told faults base log banks history logged votes why come = record {
   entries = (come.more.0, sym come.more.1);
   votes = (votes, sym come.voted);
   tells = goes_tells (told base.disk) (told log.disk) (λ s. LosesNone base.entries base.votes) come.moments;
@@ -96,7 +96,7 @@ pub later_by_come : {D : Type 0} (told : D → Option Told) (faults : D → ℕ)
 later_by_come told faults olds news members all come m old new there here =
     let e = slice_get-some members m (omega (arith, slice_get_within olds m old there, all)) in
     let came = come m old new e.0 there here e.1 in
-    come_on told faults old new e.0.history e.0.logged came.0 (why_ended e.0.end) came.1
+    come_on told faults old new (length members) e.0.history e.0.logged came.0 (why_ended e.0.end) came.1
 
 later_by_calm : {D : Type 0} (told : D → Option Told) (faults : D → ℕ) (olds news : List (LogState D))
     → AreAsBefore olds news → AreCalm told faults olds news → AreLater told faults olds news
@@ -176,18 +176,19 @@ by_disk ends.DiskFault e = refl
 by_disk (ends.LogFull len) e = absurd (cc)
 by_disk end e = absurd (cc)
 
-left_by : {D : Type 0} (tells : D → Option Told) (faults : D → ℕ) (base log : LogState D) (e : MemberEnd)
-    (found cast : List Vote) → HasCome tells faults base log e.history e.logged cast (why_ended e.end)
-    → log.votes ≡ found ++ cast → HasLeft (tells log.disk) e found cast
-left_by {D} tells faults base log e found cast come kept = by (why_ended e.end) refl come.last
+left_by : {D : Type 0} (tells : D → Option Told) (faults : D → ℕ) (base log : LogState D) (banks : ℕ)
+    (e : MemberEnd) (found cast : List Vote)
+    → HasCome tells faults base log banks e.history e.logged cast (why_ended e.end)
+    → log.votes ≡ found ++ cast → HasLeft (tells log.disk) banks e found cast
+left_by {D} tells faults base log banks e found cast come kept = by (why_ended e.end) refl come.last
   where
-    safe : IsSafe tells log → HasLeft (tells log.disk) e found cast
+    safe : IsSafe tells log → HasLeft (tells log.disk) banks e found cast
     safe is = inl (subst (λ (es : List Entry). IsLeft (tells log.disk) (λ image. StandsFor image es (found ++ cast)))
         come.entries
         (subst (λ (vs : List Vote). IsLeft (tells log.disk) (λ image. StandsFor image log.entries vs)) kept is))
 
-    by : (why : Option LogWhy) → why_ended e.end ≡ why → WentSo tells faults base log e.history e.logged cast why
-        → HasLeft (tells log.disk) e found cast
+    by : (why : Option LogWhy) → why_ended e.end ≡ why
+        → WentSo tells faults base log banks e.history e.logged cast why → HasLeft (tells log.disk) banks e found cast
     by None is went = safe went.1
     by (Some (logs.LogFull len)) is went = safe went.2.safe
     by (Some logs.DiskFault) is went = inr (record {
@@ -243,7 +244,7 @@ same_start tells faults script mode nth before start olds mids news age w = λ i
 
 -- a member of it, with its log
 record IsOf {D : Type 0} (tells : D → Option Told) (faults : D → ℕ) (whole : List Entry) (yard : YardState)
-    (olds mids news : List (LogState D)) (m : ℕ) (e : MemberEnd) (cast : List Vote) : Type 0 where
+    (olds mids news : List (LogState D)) (banks m : ℕ) (e : MemberEnd) (cast : List Vote) : Type 0 where
   old : LogState D
   mid : LogState D
   new : LogState D
@@ -252,13 +253,13 @@ record IsOf {D : Type 0} (tells : D → Option Told) (faults : D → ℕ) (whole
   to : slice_get news m ≡ Some new
   mounted : IsMounted tells faults (yard.told m) (yard.faults m) old
   caught : IsCaughtUp tells faults whole old mid
-  come : HasCome tells faults mid new e.history e.logged cast (why_ended e.end)
+  come : HasCome tells faults mid new banks e.history e.logged cast (why_ended e.end)
 
 is_of : {D : Type 0} (tells : D → Option Told) (faults : D → ℕ) (script : Script) (mode : Mode) (nth : ℕ)
     (before : YardState) (start : Start) (olds mids news : List (LogState D)) (age : AgeEnd) (m : ℕ)
     (e : MemberEnd) → (w : WasPlayed tells faults script mode nth before start olds mids news age)
     → slice_get age.members m ≡ Some e
-    → IsOf tells faults (opened_with start start.members) before olds mids news m e
+    → IsOf tells faults (opened_with start start.members) before olds mids news (length age.members) m e
     (votes_of (over_of mode script start nth age w.run) m)
 is_of {D} tells faults script mode nth before start olds mids news age m e w at =
     let within : m < length mids = omega (arith, slice_get_within age.members m e at, w.members) in
@@ -286,16 +287,18 @@ is_of {D} tells faults script mode nth before start olds mids news age m e w at 
 
     -- the votes behind those that it had are those of its member
     come : (mid new : LogState D) → slice_get mids m ≡ Some mid → slice_get news m ≡ Some new
-        → HasCome tells faults mid new e.history e.logged (votes_of over m) (why_ended e.end)
+        → HasCome tells faults mid new (length age.members) e.history e.logged (votes_of over m)
+        (why_ended e.end)
     come mid new by to = at_member (slice_get over.members m) refl
       where
         at_member : (o : Option Running) → slice_get over.members m ≡ o
-            → HasCome tells faults mid new e.history e.logged
+            → HasCome tells faults mid new (length age.members) e.history e.logged
             (option_map_or (λ (r : Running). r.replica.votes) o []) (why_ended e.end)
         at_member None there = absurd (cc (sym at ∙ ends ∙ ap (option_map end_of) there))
         at_member (Some r) there =
             let came = w.come m mid new e by to at in
-            subst (λ (vs : List Vote). HasCome tells faults mid new e.history e.logged vs (why_ended e.end))
+            subst (λ (vs : List Vote). HasCome tells faults mid new (length age.members) e.history e.logged vs
+            (why_ended e.end))
             (append_cancel_left mid.votes came.0 r.replica.votes
             (sym came.1.voted ∙ w.voted m mid new r by to there)) came.1
 
@@ -309,7 +312,7 @@ is_age {D} tells faults script mode nth before start olds mids news age w = reco
   found = are_found tells faults before olds script.members w.mounted w.all;
   starts = subst (IsStartOf script (entries_on olds)) same w.starts;
   small = omega (arith, w.small, ap (λ (s : Start). s.age) same);
-  roster = w.members ∙ (w.caught.all ∙ w.all);
+  roster = roster;
   run = ran.0;
   agreed = subst (λ (s : Start). EndsAgreed (group_of script s).opening age.members) same w.agreed;
   ended = subst (λ (s : Start). HaveEnded (group_of script s).opening script.turns
@@ -340,6 +343,10 @@ is_age {D} tells faults script mode nth before start olds mids news age w = reco
     whole : List Entry
     whole = opened_with start start.members
 
+    -- there are as many banks as members
+    roster : length age.members ≡ script.members
+    roster = w.members ∙ (w.caught.all ∙ w.all)
+
     cast : ℕ → List Vote
     cast = votes_of (over_of mode script start nth age w.run)
 
@@ -349,8 +356,10 @@ is_age {D} tells faults script mode nth before start olds mids news age w = reco
         × ((m : ℕ) → cast m ≡ votes_of (over_of mode script s nth age is) m)) same (w.run, λ m. refl)
 
     one : (m : ℕ) (e : MemberEnd) → slice_get age.members m ≡ Some e
-        → IsOf tells faults whole before olds mids news m e (cast m)
-    one m e at = is_of tells faults script mode nth before start olds mids news age m e w at
+        → IsOf tells faults whole before olds mids news script.members m e (cast m)
+    one m e at =
+        subst (λ (banks : ℕ). IsOf tells faults whole before olds mids news banks m e (cast m)) roster
+        (is_of tells faults script mode nth before start olds mids news age m e w at)
 
     opened : (m : ℕ) (e : MemberEnd) → slice_get age.members m ≡ Some e
         → IsPrefixOf whole (take e.logged e.history)
@@ -369,31 +378,33 @@ is_age {D} tells faults script mode nth before start olds mids news age w = reco
         ∙ ap (λ (vs : List Vote). vs ++ cast m) (x.caught.0.votes ∙ sym (votes_at olds m x.old x.from))
 
     left : (m : ℕ) (e : MemberEnd) → slice_get age.members m ≡ Some e
-        → HasLeft ((with_logs tells faults before news).told m) e (votes_on olds m) (cast m)
+        → HasLeft ((with_logs tells faults before news).told m) script.members e (votes_on olds m) (cast m)
     left m e at =
         let x = one m e at in
-        subst (λ (o : Option Told). HasLeft o e (votes_on olds m) (cast m))
+        subst (λ (o : Option Told). HasLeft o script.members e (votes_on olds m) (cast m))
         (sym (told_at tells faults before news m x.new x.to))
-        (left_by tells faults x.mid x.new e (votes_on olds m) (cast m) x.come (votes m e at))
+        (left_by tells faults x.mid x.new script.members e (votes_on olds m) (cast m) x.come (votes m e at))
 
     failed : (m : ℕ) (e : MemberEnd) → slice_get age.members m ≡ Some e → e.end ≡ ends.DiskFault
         → Rose (before.faults m) ((with_logs tells faults before news).faults m)
     failed m e at end =
         let x = one m e at in
-        let went : (next : Record) × (IsNext e.history e.logged (cast m) next) × BrokeOff tells faults x.mid x.new next =
-        subst (λ (y : End). WentSo tells faults x.mid x.new e.history e.logged (cast m) (why_ended y)) end
-        x.come.last in
+        let went : (next : Record) × (IsNext script.members e.history e.logged (cast m) next)
+        × BrokeOff tells faults x.mid x.new next =
+        subst (λ (y : End). WentSo tells faults x.mid x.new script.members e.history e.logged (cast m)
+        (why_ended y)) end x.come.last in
         subst (Rose (before.faults m)) (sym (faults_at tells faults before news m x.new x.to))
         (rose_since (before.faults m) (faults x.mid.disk) (faults x.new.disk)
         (omega (arith, x.mounted.on.later, x.caught.0.later)) went.2.rose)
 
     full : (m : ℕ) (e : MemberEnd) (len : ℕ) → slice_get age.members m ≡ Some e → e.end ≡ ends.LogFull len
-        → IsFullAt e (votes_on olds m) (cast m) len
+        → IsFullAt script.members e (votes_on olds m) (cast m) len
     full m e len at end =
         let x = one m e at in
-        let went : (next : Record) × (IsNext e.history e.logged (cast m) next) × IsFull tells x.new len next =
-        subst (λ (y : End). WentSo tells faults x.mid x.new e.history e.logged (cast m) (why_ended y)) end
-        x.come.last in
+        let went : (next : Record) × (IsNext script.members e.history e.logged (cast m) next)
+        × IsFull tells x.new len next =
+        subst (λ (y : End). WentSo tells faults x.mid x.new script.members e.history e.logged (cast m)
+        (why_ended y)) end x.come.last in
         record {
           long = went.2.length ∙ (ap (λ (l : List Entry). log_length l x.new.votes) x.come.entries
               ∙ ap (log_length (take e.logged e.history)) (votes m e at));

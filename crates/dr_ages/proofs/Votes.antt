@@ -1,9 +1,9 @@
 -- The votes that are found on disks, and those that the members of an age cast.
-use Rattle.std.proofs.Common.{◌≡◌, refl, sym, subst, ℕ, ◌<◌, ◌≤◌, inl, inr, arith, List, [], ◌∷◌, length}
+use Rattle.std.proofs.Common.{◌≡◌, refl, sym, subst, ℕ, ◌*◌, ◌<◌, ◌≤◌, inl, inr, arith, List, [], ◌∷◌, length}
 use Rattle.std.specs.Prelude.{All, IfSome, IsTrue, Option, None, Some, is_some, slice_get}
 use Rattle.std.specs.Option.{option_map_or}
 use Rattle.std.proofs.lemmas.List.Elements.{All-cons, All-nil}
-use Rattle.std.proofs.lemmas.Option.{slice_get_within}
+use Rattle.std.proofs.lemmas.Nat.{mul-le}
 use Rattle.dr_disk.specs.Disk.{Told, content_of}
 use Rattle.dr_entry.specs.declared.end.AgeEnd.{AgeEnd}
 use Rattle.dr_entry.specs.declared.entry.Entry.{Entry}
@@ -77,10 +77,10 @@ ran_over Sim script start nth age is = record {
 }
 ran_over Run script start nth age is = record { begun = is.begun; begins = is.begins; ran = is.ran }
 
--- so a member casts no more votes than there are members
+-- so a member casts in each view no more votes than there are members
 pub few_cast : (mode : Mode) (script : Script) (start : Start) (nth : ℕ) (age : AgeEnd) → HasRanges script
     → IsGroup (group_of script start) → (is : IsPlayed mode script start nth age) → (m : ℕ)
-    → length (votes_of (over_of mode script start nth age is) m) ≤ script.members
+    → length (votes_of (over_of mode script start nth age is) m) ≤ script.members * script.members
 few_cast mode script start nth age ranges group is m = by (slice_get over.members m) refl
   where
     over : Program
@@ -94,11 +94,13 @@ few_cast mode script start nth age ranges group is m = by (slice_get over.member
         (subst (λ (b : Program). IsRanFrom b over) r.begins.2 r.ran)).0
 
     by : (o : Option Running) → slice_get over.members m ≡ o
-        → length (option_map_or (λ (r : Running). r.replica.votes) o []) ≤ script.members
+        → length (option_map_or (λ (r : Running). r.replica.votes) o []) ≤ script.members * script.members
     by None at = omega arith
-    by (Some r) at = omega (
-      arith,
-      votes_within r.replica (form.form m r at).replica,
-      (form.of m r at).members,
-      ranges.group.lists,
-    )
+    by (Some r) at =
+        let of = form.of m r at in
+        omega (
+          arith,
+          votes_within r.replica (form.form m r at).replica,
+          mul-le r.replica.banks r.replica.roster script.members script.members
+              (omega (arith, of.banks, ranges.group.lists)) (omega (arith, of.members, ranges.group.lists)),
+        )

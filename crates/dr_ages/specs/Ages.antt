@@ -1,5 +1,5 @@
 -- The ages of a run.
-use Rattle.std.specs.Prelude.{◌≡◌, ℕ, ◌+◌, ◌-◌, ◌^◌, ◌<◌, ◌≤◌, List, [], ◌∷◌, length, slice_get, take, Some}
+use Rattle.std.specs.Prelude.{◌≡◌, ℕ, ◌+◌, ◌-◌, ◌*◌, ◌^◌, ◌<◌, ◌≤◌, List, [], ◌∷◌, length, slice_get, take, Some}
 use Rattle.std.specs.Option.{option_map_or}
 use Rattle.dr_complete.specs.Time.{HasTime}
 use Rattle.dr_entry.specs.declared.end.AgeEnd.{AgeEnd}
@@ -76,21 +76,21 @@ pub record IsAgeOf (script : Script) (mode : Mode) (nth : ℕ) (before after : Y
   pub trusting : SuspectsNobody script → NoneLeft age.members
   pub complete : mode ≡ Sim → HasTime script → NoneStopped age.members
       → AreComplete (opening_of script age) age.members
-  -- its members cast these votes, each no more than there are members
+  -- its members cast these votes, each in each view no more than there are members
   pub cast : ℕ → List Vote
   pub own : (m : ℕ) → cast m ≡ votes_of (over_of mode script (start_of script age) nth age run) m
-  pub few : (m : ℕ) → length (cast m) ≤ script.members
+  pub few : (m : ℕ) → length (cast m) ≤ script.members * script.members
   -- each log begins with what every history of the age does
   pub opened : (m : ℕ) (e : MemberEnd) → slice_get age.members m ≡ Some e
       → IsPrefixOf (first_entries (opening_of script age)) (take e.logged e.history)
   -- whatever a crash leaves of each disk is what its member may leave, behind the votes that were found
   pub left : (m : ℕ) (e : MemberEnd) → slice_get age.members m ≡ Some e
-      → HasLeft (after.told m) e (votes m) (cast m)
+      → HasLeft (after.told m) script.members e (votes m) (cast m)
   -- who ends by its disk has one that failed, and who ends by a full log has one
   pub failed : (m : ℕ) (e : MemberEnd) → slice_get age.members m ≡ Some e → e.end ≡ DiskFault
       → Rose (before.faults m) (after.faults m)
   pub full : (m : ℕ) (e : MemberEnd) (len : ℕ) → slice_get age.members m ≡ Some e → e.end ≡ LogFull len
-      → IsFullAt e (votes m) (cast m) len
+      → IsFullAt script.members e (votes m) (cast m) len
   -- logs with few votes have room for all that an age may bring
   pub ample : ((m : ℕ) → m < script.members → AreFew (votes m)) → NoneFull age.members
   -- no disk has lost anything

@@ -22,7 +22,7 @@ pub record AreFound (n : ℕ) (yard : YardState) (lists : List (List Entry)) (vo
     pub each : (m : ℕ) (es : List Entry) → slice_get lists m ≡ Some es
         → IfSome (yard.told m) (ReadsAs es (votes m))
 
--- valid votes, and no more than all ages of a group bring
+-- valid votes, and no more than all views of all ages of a group bring
 pub record AreFew (votes : List Vote) : Type 0 where
   pub valid : All IsValidVote votes
-  pub few : length votes ≤ MAX_MEMBERS * 2 ^ 16
+  pub few : length votes ≤ MAX_MEMBERS * MAX_MEMBERS * 2 ^ 16

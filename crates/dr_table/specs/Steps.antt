@@ -67,6 +67,7 @@ nobody = record {
     items = [];
     base = 0;
     sent = [];
+    left = [];
     next = 0;
     history = [];
     room = 0;

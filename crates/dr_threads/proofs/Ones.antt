@@ -1,5 +1,5 @@
 -- The run of one member: its log before, and behind it.
-use Rattle.std.proofs.Common.{◌≡◌, sym, ap, ◌∙◌, subst, inl, ℕ, ◌-◌, max, false, List, [], append-nil, length, length-set, get_or, arith}
+use Rattle.std.proofs.Common.{◌≡◌, sym, ap, ◌∙◌, subst, inl, ℕ, ◌*◌, ◌-◌, max, false, List, [], append-nil, length, length-set, get_or, arith}
 use Rattle.std.specs.Prelude.{Option, Some, slice_get, slice_set}
 use Rattle.std.proofs.lemmas.Option.{same_Some, slice_get_read, slice_get_within}
 use Rattle.atomic_table.specs.Seated.{TableId}
@@ -34,7 +34,8 @@ module _ {D : Type 0} (told : D → Option Told) (faults : D → ℕ) where
   -- the log got room for all that its member may append: it is ready, and has served it so far
   pub opened_ready : (logs : List (LogState D)) (members : List Running) (old new : LogState D) (r : Running)
       (n k : ℕ) → AreFor logs members → slice_get logs 0 ≡ Some old → slice_get members 0 ≡ Some r
-      → n ≡ r.replica.room - r.replica.logged → k ≡ r.replica.roster - length r.replica.votes
+      → n ≡ r.replica.room - r.replica.logged
+      → k ≡ r.replica.banks * r.replica.roster - length r.replica.votes
       → new ≡ record old {
         disk = new.disk;
         spare_entries = max old.spare_entries n;

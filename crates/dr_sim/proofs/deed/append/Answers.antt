@@ -4,7 +4,7 @@ use Rattle.dr_logged.specs.Served.{HasServed, IsReady}
 use Rattle.dr_logged.proofs.Serving.{appended_ready, appended_served}
 use Rattle.dr_logged.proofs.Appends.{did_append, did_fail, has_spares}
 use Rattle.dr_age.proofs.Deeds.{at_append}
-use Rattle.dr_sim.proofs.Deeds.{append_taken}
+use Rattle.dr_sim.proofs.Deeds.{append_taken, failure_taken}
 use Rattle.dr_sim.proofs.deed.append.Goals as goal
 
 pub append-requires-clause-spare_vote : goal.append-requires-clause-spare_vote
@@ -41,6 +41,16 @@ returns-in-Ok-clause-served g c = λ base served.
     subst (HasServed g.D.Disk.told g.D.Disk.faults base c.append.new.self) (sym (c.appended.ensures.after 0))
     (appended_served _ _ base c.args.log.now c.append.new.self 0 c.args.member.now at.0.due served
     did.made did.fits did.goes did.lasting did.safe did.calm)
+
+pub returns-in-Err-clause-member : goal.returns-in-Err-clause-member
+returns-in-Err-clause-member g c = λ table.
+    (failure_taken table c.args.member.now _ _ c.append_failed.new.self (sym c.in-Append.ensures.deed)
+    c.append_failed.ensures.after).member
+
+pub returns-in-Err-clause-table : goal.returns-in-Err-clause-table
+returns-in-Err-clause-table g c = λ table.
+    (failure_taken table c.args.member.now _ _ c.append_failed.new.self (sym c.in-Append.ensures.deed)
+    c.append_failed.ensures.after).table
 
 pub returns-in-Err-clause-served : goal.returns-in-Err-clause-served
 returns-in-Err-clause-served g c = λ base served.
