@@ -1,5 +1,5 @@
 -- Why the status of a call is what it is, and what its clauses say in each case.
-use Rattle.std.proofs.Common.{◌≡◌, ◌⊎◌, refl, sym, ap, ap₂, ◌∙◌, subst, inl, inr, ℕ, ◌<◌, ◌≤◌, Bool, true, false, true≢false, IsTrue, arith, List, [], ◌∷◌, Contains, Option, None, Some, is_some, IsSomeAnd, MatchOption, if◌then◌else◌, String}
+use Rattle.std.proofs.Common.{◌≡◌, ◌⊎◌, refl, sym, ap, ap₂, ◌∙◌, subst, inl, inr, ℕ, ◌<◌, ◌≤◌, Bool, true, false, true≢false, IsTrue, arith, List, [], ◌∷◌, Contains, Option, None, Some, is_some, IsSomeAnd, if◌then◌else◌, String}
 use Rattle.std.specs.declared.alloc.Global.{Global}
 use Rattle.std.proofs.lemmas.Bool.{cases_Bool, or_parts}
 use Rattle.std.proofs.lemmas.Option.{same_Some}
@@ -10,18 +10,19 @@ use Rattle.dr_ages.specs.Ages.{AreAges}
 use Rattle.dr_complete.specs.Time.{HasTime}
 use Rattle.dr_entry.specs.declared.end.AgeEnd.{AgeEnd}
 use Rattle.dr_io.specs.Faults.{Rose}
+use Rattle.dr_program_laws.specs.Trusting.{SuspectsNobody}
 use Rattle.dr_script.specs.declared.script.Script.{Script}
 use Rattle.dr_script.specs.Reading.{Reading, reading_of, TooLong as TooLongText, NotJson as NoJsonText, Wrong, Reads}
 use Rattle.dr_text.specs.declared.last.Last.{Last}
+use Rattle.dr_text.specs.declared.last.Last.TheVariants as lasts
 use Rattle.dr_yard.specs.Yards.{YardState, empty_yard}
-use Rattle.derecho.specs.declared.last.Kind.TheVariants.{DiskFault, LogFull, Spent}
-use Rattle.derecho.specs.Built.{refusal, runnable}
-use Rattle.derecho.specs.Last.{first_end, first_told, is_memory, last_by, last_of, refusal_of, some_end, some_so, stopped_by}
-use Rattle.derecho.specs.Outcome.{Course, no_memory, no_command, no_source, read, Exactly, HasRun, IsRunInMemory, RanNothing, Wrote, WroteOrNot, status_of}
+use Rattle.derecho.specs.declared.last.Kind.TheVariants.{DiskFault, LogFull, NoMajority, Spent}
+use Rattle.derecho.specs.Last.{first_end, first_told, is_memory, last_by, refusal_of, some_end, some_so, stopped_by}
+use Rattle.derecho.specs.Outcome.{Course, no_memory, no_command, no_source, read, Exactly, HasRun, IsRunInMemory, IsRunOver, RanNothing, Wrote, WroteOrNot, status_of}
 use Rattle.derecho.specs.Reading.{IsNoScript, IsScript, WasRead}
 use Rattle.derecho.specs.Words.{IsCommand, asked_by}
 use Rattle.derecho.proofs.Lasts.{end_so, refusal_status, told_so}
-use Rattle.derecho.proofs.Runs.{memory_accepts, memory_has_room, memory_holds, none_spent}
+use Rattle.derecho.proofs.Runs.{memory_accepts, memory_has_room, memory_holds, none_spent, none_split}
 
 -- a call: its words, its source and its yard before and after, and what it ran
 pub record Call : Type 0 where
@@ -54,6 +55,7 @@ pub record IsQuiet (c : Call) : Type 0 where
   pub logs : is_some (refusal_of c.stop) ≡ false
   pub full : some_so LogFull c.ages c.stop ≡ false
   pub turns : some_end Spent c.ages ≡ false
+  pub split : some_end NoMajority c.ages ≡ false
 
 -- the status behind the ages of a run, by the first of these that has come
 pub data Rank (c : Call) (status : ℕ) : Type 0 where
@@ -64,6 +66,9 @@ pub data Rank (c : Call) (status : ℕ) : Type 0 where
       → some_so LogFull c.ages c.stop ≡ true → Rank c status
   by_turns : status ≡ 8 → some_so DiskFault c.ages c.stop ≡ false → is_some (refusal_of c.stop) ≡ false
       → some_so LogFull c.ages c.stop ≡ false → some_end Spent c.ages ≡ true → Rank c status
+  by_split : status ≡ 9 → some_so DiskFault c.ages c.stop ≡ false → is_some (refusal_of c.stop) ≡ false
+      → some_so LogFull c.ages c.stop ≡ false → some_end Spent c.ages ≡ false
+      → some_end NoMajority c.ages ≡ true → Rank c status
   by_none : status ≡ 0 → IsQuiet c → Rank c status
 
 -- the status comes before all others
@@ -84,6 +89,7 @@ quiet c nothing = record {
   logs = ap (λ stop. is_some (refusal_of stop)) nothing.unstopped;
   full = ap₂ (some_so LogFull) nothing.none nothing.unstopped;
   turns = ap (some_end Spent) nothing.none;
+  split = ap (some_end NoMajority) nothing.none;
 }
 
 -- the status behind a last line, and behind none
@@ -104,50 +110,68 @@ unsaid held holds fell falls status ages last (inr wrote) is =
     absurd (subst (λ o. IsSomeAnd o (Wrote held holds fell falls status ages)) is wrote)
 
 -- the first of what a status tells decides
-rank_by : (c : Call) (status : ℕ) (disk : Option ℕ) (logs : Option Last) (full turns : Option ℕ)
+rank_by : (c : Call) (status : ℕ) (disk : Option ℕ) (logs : Option Last) (full turns split : Option ℕ)
     → first_told DiskFault c.ages c.stop ≡ disk → refusal_of c.stop ≡ logs
     → first_told LogFull c.ages c.stop ≡ full → first_end Spent c.ages ≡ turns
-    → status ≡ status_of (last_by disk logs full turns) → Rank c status
-rank_by c status (Some m) logs full turns d l f t is =
+    → first_end NoMajority c.ages ≡ split
+    → status ≡ status_of (last_by disk logs full turns split) → Rank c status
+rank_by c status (Some m) logs full turns split d l f t p is =
     by_disk is (sym (told_so DiskFault c.ages c.stop) ∙ ap is_some d)
-rank_by c status None (Some line) full turns d l f t is =
+rank_by c status None (Some line) full turns split d l f t p is =
     by_logs (is ∙ refusal_status c.stop line l) (sym (told_so DiskFault c.ages c.stop) ∙ ap is_some d)
     (ap is_some l)
-rank_by c status None None (Some m) turns d l f t is =
+rank_by c status None None (Some m) turns split d l f t p is =
     by_full is (sym (told_so DiskFault c.ages c.stop) ∙ ap is_some d) (ap is_some l)
     (sym (told_so LogFull c.ages c.stop) ∙ ap is_some f)
-rank_by c status None None None (Some m) d l f t is =
+rank_by c status None None None (Some m) split d l f t p is =
     by_turns is (sym (told_so DiskFault c.ages c.stop) ∙ ap is_some d) (ap is_some l)
     (sym (told_so LogFull c.ages c.stop) ∙ ap is_some f) (sym (end_so Spent c.ages) ∙ ap is_some t)
-rank_by c status None None None None d l f t is = by_none is (record {
+rank_by c status None None None None (Some m) d l f t p is =
+    by_split is (sym (told_so DiskFault c.ages c.stop) ∙ ap is_some d) (ap is_some l)
+    (sym (told_so LogFull c.ages c.stop) ∙ ap is_some f) (sym (end_so Spent c.ages) ∙ ap is_some t)
+    (sym (end_so NoMajority c.ages) ∙ ap is_some p)
+rank_by c status None None None None None d l f t p is = by_none is (record {
   disk = sym (told_so DiskFault c.ages c.stop) ∙ ap is_some d;
   logs = ap is_some l;
   full = sym (told_so LogFull c.ages c.stop) ∙ ap is_some f;
   turns = sym (end_so Spent c.ages) ∙ ap is_some t;
+  split = sym (end_so NoMajority c.ages) ∙ ap is_some p;
 })
 
--- the status of every refusal of a text
-refused_status : (r : Reading) → status_of (refusal r) ≡ 3
-refused_status TooLongText = refl
-refused_status NoJsonText = refl
-refused_status (Wrong rule path) = refl
-refused_status (Reads s) = refl
+-- whether what is read of a text is a script
+abbrev is_script : Reading → Bool
+is_script (Reads s) = true
+is_script r = false
+
+-- a call whose text is no script
+refused_standing : (c : Call) (held holds : Option (List ℕ)) (fell falls status : ℕ) (last : Option Last)
+    (line : Last) → status_of line ≡ 3 → IsCommand c.words → (bytes : List ℕ) → WasRead c.old c.new bytes
+    → is_script (reading_of bytes) ≡ false
+    → RanNothing c.before c.after c.ages c.stop × (last ≡ Some line)
+    → WroteOrNot held holds fell falls status c.ages last → Standing c status
+refused_standing c held holds fell falls status last line three known bytes was other (nothing, is) wrote =
+    elim (said held holds fell falls status c.ages last line wrote is) [
+      | inl first ↦ early first
+      | inr due ↦ bad_script (due ∙ three) known
+          (bytes, was, λ s both. true≢false (sym (ap is_script both) ∙ other)) (quiet c nothing)
+    ]
 
 -- a call whose script was read
 read_standing : (c : Call) (held holds : Option (List ℕ)) (fell falls status : ℕ) (last : Option Last)
     (mode : Mode) (folder : Option (List ℕ)) → asked_by c.words ≡ Some (mode, folder) → (bytes : List ℕ)
-    → WasRead c.old c.new bytes → (o : Option Script) → runnable (reading_of bytes) ≡ o
-    → MatchOption o
-    (RanNothing c.before c.after c.ages c.stop × (last ≡ Some (refusal (reading_of bytes))))
-    (λ script. HasRun mode folder script c.before c.after c.ages c.stop × (last ≡ last_of c.ages c.stop))
+    → WasRead c.old c.new bytes → (r : Reading) → reading_of bytes ≡ r
+    → IsRunOver mode folder r c.before c.after c.ages c.stop last
     → WroteOrNot held holds fell falls status c.ages last → Standing c status
-read_standing c held holds fell falls status last mode folder asked bytes was None is (nothing, line) wrote =
-    elim (said held holds fell falls status c.ages last (refusal (reading_of bytes)) wrote line) [
-      | inl first ↦ early first
-      | inr due ↦ bad_script (due ∙ refused_status (reading_of bytes)) (ap is_some asked) (bytes, was, is)
-          (quiet c nothing)
-    ]
-read_standing c held holds fell falls status last mode folder asked bytes was (Some script) is (ran, line) wrote =
+read_standing c held holds fell falls status last mode folder asked bytes was TooLongText is over wrote =
+    refused_standing c held holds fell falls status last lasts.TooLong refl (ap is_some asked) bytes was
+    (ap is_script is) over wrote
+read_standing c held holds fell falls status last mode folder asked bytes was NoJsonText is over wrote =
+    refused_standing c held holds fell falls status last lasts.NotJson refl (ap is_some asked) bytes was
+    (ap is_script is) over wrote
+read_standing c held holds fell falls status last mode folder asked bytes was (Wrong rule path) is over wrote =
+    refused_standing c held holds fell falls status last (lasts.Rule rule path) refl (ap is_some asked) bytes
+    was (ap is_script is) over wrote
+read_standing c held holds fell falls status last mode folder asked bytes was (Reads script) is (ran, line) wrote =
     elim (cases_Bool (is_memory c.stop)) [
       | inl wanting ↦ early (unsaid held holds fell falls status c.ages last wrote
           (line ∙ ap (λ b. if b then None else Some told) wanting))
@@ -166,13 +190,14 @@ read_standing c held holds fell falls status last mode folder asked bytes was (S
                   ample = ample;
                 })
                 (rank_by c status (first_told DiskFault c.ages c.stop) (refusal_of c.stop)
-                (first_told LogFull c.ages c.stop) (first_end Spent c.ages) refl refl refl refl due)
+                (first_told LogFull c.ages c.stop) (first_end Spent c.ages) (first_end NoMajority c.ages) refl
+                refl refl refl refl due)
           ]
     ]
   where
     told : Last
     told = last_by (first_told DiskFault c.ages c.stop) (refusal_of c.stop) (first_told LogFull c.ages c.stop)
-        (first_end Spent c.ages)
+        (first_end Spent c.ages) (first_end NoMajority c.ages)
 
 -- a call that has been written
 pub standing_of : (c : Call) (held holds : Option (List ℕ)) (fell falls status : ℕ) (last : Option Last)
@@ -190,8 +215,8 @@ standing_of c held holds fell falls status last course wrote = elim course [
         | inr due ↦ bad_source due known rose (quiet c nothing)
       ]
   | read mode folder asked bytes was over ↦
-      read_standing c held holds fell falls status last mode folder asked bytes was (runnable (reading_of bytes))
-      refl over wrote
+      read_standing c held holds fell falls status last mode folder asked bytes was (reading_of bytes) refl over
+      wrote
 ]
 
 in_early : (rest : List ℕ) (status : ℕ) → IsEarly status → Contains (10 ∷ 5 ∷ rest) status
@@ -210,6 +235,7 @@ ranked c status rank low high = elim rank [
   | by_logs e disk logs ↦ omega (arith, high, e)
   | by_full e disk logs full ↦ omega (arith, high, e)
   | by_turns e disk logs full turns ↦ omega (arith, high, e)
+  | by_split e disk logs full turns split ↦ omega (arith, high, e)
   | by_none e calm ↦ omega (arith, low, e)
 ]
 
@@ -272,6 +298,7 @@ disk_fault_of {c} {status} standing = record {
     | by_logs e disk logs ↦ absurd (omega (arith, is, e))
     | by_full e disk logs full ↦ absurd (omega (arith, is, e))
     | by_turns e disk logs full turns ↦ absurd (omega (arith, is, e))
+    | by_split e disk logs full turns split ↦ absurd (omega (arith, is, e))
     | by_none e calm ↦ absurd (omega (arith, is, e))
   ];
   unless = λ came. unless_of c status 6 [] (some_so DiskFault c.ages c.stop) came (λ calm. calm.disk)
@@ -280,6 +307,7 @@ disk_fault_of {c} {status} standing = record {
         | by_logs e disk logs ↦ absurd (true≢false (sym came ∙ disk))
         | by_full e disk logs full ↦ absurd (true≢false (sym came ∙ disk))
         | by_turns e disk logs full turns ↦ absurd (true≢false (sym came ∙ disk))
+        | by_split e disk logs full turns split ↦ absurd (true≢false (sym came ∙ disk))
         | by_none e calm ↦ absurd (true≢false (sym came ∙ calm.disk))
       ]) standing;
 }
@@ -292,6 +320,7 @@ logs_refused_of {c} {status} standing = record {
     | by_logs e disk logs ↦ logs
     | by_full e disk logs full ↦ absurd (omega (arith, is, e))
     | by_turns e disk logs full turns ↦ absurd (omega (arith, is, e))
+    | by_split e disk logs full turns split ↦ absurd (omega (arith, is, e))
     | by_none e calm ↦ absurd (omega (arith, is, e))
   ];
   unless = λ came. unless_of c status 7 (6 ∷ []) (is_some (refusal_of c.stop)) came (λ calm. calm.logs)
@@ -300,6 +329,7 @@ logs_refused_of {c} {status} standing = record {
         | by_logs e disk logs ↦ inl e
         | by_full e disk logs full ↦ absurd (true≢false (sym came ∙ logs))
         | by_turns e disk logs full turns ↦ absurd (true≢false (sym came ∙ logs))
+        | by_split e disk logs full turns split ↦ absurd (true≢false (sym came ∙ logs))
         | by_none e calm ↦ absurd (true≢false (sym came ∙ calm.logs))
       ]) standing;
 }
@@ -312,6 +342,7 @@ log_full_of {c} {status} standing = record {
     | by_logs e disk logs ↦ absurd (omega (arith, is, e))
     | by_full e disk logs full ↦ full
     | by_turns e disk logs full turns ↦ absurd (omega (arith, is, e))
+    | by_split e disk logs full turns split ↦ absurd (omega (arith, is, e))
     | by_none e calm ↦ absurd (omega (arith, is, e))
   ];
   unless = λ came. unless_of c status 11 (6 ∷ 7 ∷ []) (some_so LogFull c.ages c.stop) came
@@ -321,6 +352,7 @@ log_full_of {c} {status} standing = record {
         | by_logs e disk logs ↦ inr (3, omega arith, sym e)
         | by_full e disk logs full ↦ inl e
         | by_turns e disk logs full turns ↦ absurd (true≢false (sym came ∙ full))
+        | by_split e disk logs full turns split ↦ absurd (true≢false (sym came ∙ full))
         | by_none e calm ↦ absurd (true≢false (sym came ∙ calm.full))
       ]) standing;
 }
@@ -333,6 +365,7 @@ unfinished_of {c} {status} standing = record {
     | by_logs e disk logs ↦ absurd (omega (arith, is, e))
     | by_full e disk logs full ↦ absurd (omega (arith, is, e))
     | by_turns e disk logs full turns ↦ turns
+    | by_split e disk logs full turns split ↦ absurd (omega (arith, is, e))
     | by_none e calm ↦ absurd (omega (arith, is, e))
   ];
   unless = λ came. unless_of c status 8 (6 ∷ 7 ∷ 11 ∷ []) (some_end Spent c.ages) came (λ calm. calm.turns)
@@ -341,7 +374,31 @@ unfinished_of {c} {status} standing = record {
         | by_logs e disk logs ↦ inr (3, omega arith, sym e)
         | by_full e disk logs full ↦ inr (4, omega arith, sym e)
         | by_turns e disk logs full turns ↦ inl e
+        | by_split e disk logs full turns split ↦ absurd (true≢false (sym came ∙ turns))
         | by_none e calm ↦ absurd (true≢false (sym came ∙ calm.turns))
+      ]) standing;
+}
+
+pub no_majority_of : {c : Call} {status : ℕ} → Standing c status
+    → Exactly status 9 (10 ∷ 5 ∷ 6 ∷ 7 ∷ 11 ∷ 8 ∷ []) (IsTrue (some_end NoMajority c.ages))
+no_majority_of {c} {status} standing = record {
+  only = λ is. elim (run_of c 9 status is (omega arith) (λ e. omega (arith, e)) standing).1 [
+    | by_disk e disk ↦ absurd (omega (arith, is, e))
+    | by_logs e disk logs ↦ absurd (omega (arith, is, e))
+    | by_full e disk logs full ↦ absurd (omega (arith, is, e))
+    | by_turns e disk logs full turns ↦ absurd (omega (arith, is, e))
+    | by_split e disk logs full turns split ↦ split
+    | by_none e calm ↦ absurd (omega (arith, is, e))
+  ];
+  unless = λ came. unless_of c status 9 (6 ∷ 7 ∷ 11 ∷ 8 ∷ []) (some_end NoMajority c.ages) came
+      (λ calm. calm.split)
+      (λ rank. elim rank [
+        | by_disk e disk ↦ inr (2, omega arith, sym e)
+        | by_logs e disk logs ↦ inr (3, omega arith, sym e)
+        | by_full e disk logs full ↦ inr (4, omega arith, sym e)
+        | by_turns e disk logs full turns ↦ inr (5, omega arith, sym e)
+        | by_split e disk logs full turns split ↦ inl e
+        | by_none e calm ↦ absurd (true≢false (sym came ∙ calm.split))
       ]) standing;
 }
 
@@ -373,31 +430,54 @@ untimely_of {c} {status} standing folder asked is =
             (or_parts (some_end DiskFault c.ages) (is_some (stopped_by DiskFault c.stop)) disk).0
             (or_parts (some_end LogFull c.ages) (is_some (stopped_by LogFull c.stop)) full).0),
       )
+      | by_split e disk logs full turns split ↦ absurd (omega (arith, is, e))
+      | by_none e calm ↦ absurd (omega (arith, is, e))
+    ]
+
+-- a script whose members are left without a majority has them suspect others
+pub untrusting_of : {c : Call} {status : ℕ} → Standing c status → status ≡ 9
+    → (s : Script) × IsScript c.old c.new s × (SuspectsNobody s → ⊥)
+untrusting_of {c} {status} standing is =
+    let has = run_of c 9 status is (omega arith) (λ e. omega (arith, e)) standing in
+    let ran = has.0 in
+    let course = ages_of ran.mode ran.folder ran.script c.before c.after c.ages c.stop ran.run in
+    elim has.1 [
+      | by_disk e disk ↦ absurd (omega (arith, is, e))
+      | by_logs e disk logs ↦ absurd (omega (arith, is, e))
+      | by_full e disk logs full ↦ absurd (omega (arith, is, e))
+      | by_turns e disk logs full turns ↦ absurd (omega (arith, is, e))
+      | by_split e disk logs full turns split ↦ (
+        ran.script,
+        ran.is,
+        λ trusting. true≢false (sym split
+            ∙ none_split ran.script ran.mode 0 course.0 course.1 c.ages course.2 trusting),
+      )
       | by_none e calm ↦ absurd (omega (arith, is, e))
     ]
 
 -- the status of each call is one of these
 pub status_known : {c : Call} {status : ℕ} → Standing c status
-    → Contains (0 ∷ 2 ∷ 3 ∷ 4 ∷ 5 ∷ 6 ∷ 7 ∷ 8 ∷ 10 ∷ 11 ∷ []) status
+    → Contains (0 ∷ 2 ∷ 3 ∷ 4 ∷ 5 ∷ 6 ∷ 7 ∷ 8 ∷ 9 ∷ 10 ∷ 11 ∷ []) status
 status_known {c} {status} standing = elim standing [
-  | early e ↦ elim e [ inl e ↦ (8, omega arith, sym e) | inr e ↦ (4, omega arith, sym e) ]
+  | early e ↦ elim e [ inl e ↦ (9, omega arith, sym e) | inr e ↦ (4, omega arith, sym e) ]
   | bad_words e other calm ↦ (1, omega arith, sym e)
   | bad_source e known rose calm ↦ (3, omega arith, sym e)
   | bad_script e known bad calm ↦ (2, omega arith, sym e)
   | has_run ran rank ↦ elim rank [
     | by_disk e disk ↦ (5, omega arith, sym e)
     | by_logs e disk logs ↦ (6, omega arith, sym e)
-    | by_full e disk logs full ↦ (9, omega arith, sym e)
+    | by_full e disk logs full ↦ (10, omega arith, sym e)
     | by_turns e disk logs full turns ↦ (7, omega arith, sym e)
+    | by_split e disk logs full turns split ↦ (8, omega arith, sym e)
     | by_none e calm ↦ (0, omega arith, sym e)
   ]
 ]
 
 -- and one of these where the words name no folder
 pub memory_status : {c : Call} {status : ℕ} → Standing c status → (mode : Mode)
-    → asked_by c.words ≡ Some (mode, None) → Contains (0 ∷ 3 ∷ 4 ∷ 5 ∷ 8 ∷ 10 ∷ []) status
+    → asked_by c.words ≡ Some (mode, None) → Contains (0 ∷ 3 ∷ 4 ∷ 5 ∷ 8 ∷ 9 ∷ 10 ∷ []) status
 memory_status {c} {status} standing mode asked = elim standing [
-  | early e ↦ elim e [ inl e ↦ (5, omega arith, sym e) | inr e ↦ (3, omega arith, sym e) ]
+  | early e ↦ elim e [ inl e ↦ (6, omega arith, sym e) | inr e ↦ (3, omega arith, sym e) ]
   | bad_words e other calm ↦ absurd (other (ap is_some asked))
   | bad_source e known rose calm ↦ (2, omega arith, sym e)
   | bad_script e known bad calm ↦ (1, omega arith, sym e)
@@ -409,6 +489,7 @@ memory_status {c} {status} standing mode asked = elim standing [
     | by_full e disk logs full ↦
         absurd (true≢false (sym full ∙ memory_has_room ran.script ran.mode c.ages c.stop (in_memory ran)))
     | by_turns e disk logs full turns ↦ (4, omega arith, sym e)
+    | by_split e disk logs full turns split ↦ (5, omega arith, sym e)
     | by_none e calm ↦ (0, omega arith, sym e)
   ]
 ]

@@ -22,11 +22,12 @@ use Rattle.dr_entry.specs.declared.end.MemberEnd.{MemberEnd}
 use Rattle.dr_entry.specs.declared.limits.TheConstants.{MAX_MEMBERS}
 use Rattle.dr_history.specs.declared.opening.Opening.{Opening}
 use Rattle.dr_program_laws.specs.Ended.{AreComplete}
+use Rattle.dr_program_laws.specs.Trusting.{NoneLeft, SuspectsNobody, is_left_out}
 use Rattle.dr_script.specs.declared.script.Script.{Script}
 use Rattle.dr_age.specs.Logged.{IsNotFull, why_ended}
 use Rattle.dr_yard.specs.Yards.{YardState, empty_yard}
 use Rattle.derecho.specs.declared.last.Kind.{Kind}
-use Rattle.derecho.specs.declared.last.Kind.TheVariants.{DiskFault, LogFull, Spent}
+use Rattle.derecho.specs.declared.last.Kind.TheVariants.{DiskFault, LogFull, NoMajority, Spent}
 use Rattle.derecho.specs.Last.{is_memory, is_of, refusal_of, some_end, some_so, stopped_by}
 use Rattle.derecho.specs.Outcome.{IsRunInMemory}
 
@@ -119,6 +120,29 @@ none_spent script mode nth before after (age ∷ ages) (between, is, rest) sim t
     (none_of (λ (m : MemberEnd). is_of DiskFault m.end) age.members k d fails.0 within)
     (none_of (λ (m : MemberEnd). is_of LogFull m.end) age.members k d fills.0 within))))
     (none_spent script mode (nth + 1) between after ages rest sim time fails.1 fills.1)
+
+unsplit : (e : End) → is_left_out e ≡ false → is_of NoMajority e ≡ false
+unsplit ends.Done stays = refl
+unsplit ends.Crashed stays = refl
+unsplit (ends.Suspected by) stays = refl
+unsplit (ends.Excluded view) stays = refl
+unsplit (ends.NoMajority mask) stays = absurd (true≢false stays)
+unsplit ends.DiskFault stays = refl
+unsplit (ends.LogFull len) stays = refl
+unsplit (ends.Spent turns) stays = refl
+
+-- where nobody suspects others none is left without a majority
+none_splits : (members : List MemberEnd) → NoneLeft members → some_of NoMajority members ≡ false
+none_splits members stay = list_any_none (λ (m : MemberEnd). is_of NoMajority m.end) members
+    (λ k d within. unsplit (get_or members k d).end (stay k d within))
+
+pub none_split : (script : Script) (mode : Mode) (nth : ℕ) (before after : YardState) (ages : List AgeEnd)
+    → AreAges script mode nth before ages after → SuspectsNobody script → some_end NoMajority ages ≡ false
+none_split script mode nth before after [] are trusting = refl
+none_split script mode nth before after (age ∷ ages) (between, is, rest) trusting =
+    or_from (some_of NoMajority age.members) (some_end NoMajority ages)
+    (none_splits age.members (is.trusting trusting))
+    (none_split script mode (nth + 1) between after ages rest trusting)
 
 unfull : (e : End) → IsNotFull e → is_of LogFull e ≡ false
 unfull ends.Done room = refl

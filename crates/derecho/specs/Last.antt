@@ -11,13 +11,14 @@ use Rattle.dr_entry.specs.declared.end.MemberEnd.{MemberEnd}
 use Rattle.dr_text.specs.declared.last.Last.{Last}
 use Rattle.dr_text.specs.declared.last.Last.TheVariants as lasts
 use Rattle.derecho.specs.declared.last.Kind.{Kind}
-use Rattle.derecho.specs.declared.last.Kind.TheVariants.{DiskFault, LogFull, Spent}
+use Rattle.derecho.specs.declared.last.Kind.TheVariants.{DiskFault, LogFull, NoMajority, Spent}
 
 -- whether an end is of a kind
 abbrev pub is_of : Kind → End → Bool
 is_of DiskFault ends.DiskFault = true
 is_of LogFull (ends.LogFull len) = true
 is_of Spent (ends.Spent turns) = true
+is_of NoMajority (ends.NoMajority mask) = true
 is_of kind end = false
 
 -- the first member that ended so, in the order of ages, and of members in an age
@@ -54,13 +55,14 @@ refusal_of (Some stops.AgesUsedUp) = Some lasts.AgesUsedUp
 refusal_of stop = None
 
 -- the last line by the first member whose disk failed, the refusal of the logs, the first member whose log
--- was full, and the first that had spent its turns
-abbrev pub last_by : Option ℕ → Option Last → Option ℕ → Option ℕ → Last
-last_by (Some member) refusal full spent = lasts.DiskFault member
-last_by None (Some refusal) full spent = refusal
-last_by None None (Some member) spent = lasts.LogFull member
-last_by None None None (Some member) = lasts.Unfinished
-last_by None None None None = lasts.Done
+-- was full, the first that had spent its turns, and the first that was left with no majority
+abbrev pub last_by : Option ℕ → Option Last → Option ℕ → Option ℕ → Option ℕ → Last
+last_by (Some member) refusal full spent few = lasts.DiskFault member
+last_by None (Some refusal) full spent few = refusal
+last_by None None (Some member) spent few = lasts.LogFull member
+last_by None None None (Some member) few = lasts.Unfinished
+last_by None None None None (Some member) = lasts.NoMajority
+last_by None None None None None = lasts.Done
 
 -- whether memory was wanting
 abbrev pub is_memory : Option Stop → Bool
@@ -72,4 +74,4 @@ abbrev pub last_of : List AgeEnd → Option Stop → Option Last
 last_of ages stop =
     if is_memory stop then None
     else Some (last_by (first_told DiskFault ages stop) (refusal_of stop) (first_told LogFull ages stop)
-    (first_end Spent ages))
+    (first_end Spent ages) (first_end NoMajority ages))

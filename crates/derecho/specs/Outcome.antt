@@ -1,5 +1,5 @@
 -- What comes of a call: what was run, its last line, and its status.
-use Rattle.std.specs.Prelude.{◌≡◌, ◌⊎◌, ℕ, List, [], Option, Some, None, Contains, IsSomeAnd, MatchOption, String}
+use Rattle.std.specs.Prelude.{◌≡◌, ◌⊎◌, ℕ, List, [], Option, Some, None, Contains, IsSomeAnd, String}
 use Rattle.std.specs.declared.alloc.Global.{Global}
 use Rattle.dr_ages.specs.declared.mode.Mode.{Mode}
 use Rattle.dr_ages.specs.declared.stop.Stop.{Stop}
@@ -9,13 +9,12 @@ use Rattle.dr_io.specs.Faults.{Rose}
 use Rattle.dr_io.specs.Source.{Loses}
 use Rattle.dr_io.specs.Sink.{Gains}
 use Rattle.dr_script.specs.declared.script.Script.{Script}
-use Rattle.dr_script.specs.Reading.{reading_of}
+use Rattle.dr_script.specs.Reading.{Reading, TooLong, NotJson, Wrong, Reads, reading_of}
 use Rattle.dr_text.specs.declared.last.Last.{Last}
-use Rattle.dr_text.specs.declared.last.Last.TheVariants.{Done, Usage, TooLong, NotJson, Rule, NotBuilt, SourceFault, DiskFault, Damaged, Foreign, Disagree, AgesUsedUp, Unfinished, NoMajority, LogFull}
+use Rattle.dr_text.specs.declared.last.Last.TheVariants as lasts
 use Rattle.dr_text.specs.Report.{report_text}
 use Rattle.dr_yard.specs.Yards.{YardState, empty_yard}
 use Rattle.derecho.specs.Words.{IsCommand, asked_by}
-use Rattle.derecho.specs.Built.{runnable, refusal}
 use Rattle.derecho.specs.Last.{last_of}
 use Rattle.derecho.specs.Reading.{WasRead}
 use Rattle.dr_text.specs.Writing.{WroteFront}
@@ -39,15 +38,18 @@ abbrev pub HasRun : Mode → Option (List ℕ) → Script → YardState → Yard
 HasRun mode (Some folder) script before after ages stop = IsRunOf script mode before after ages stop
 HasRun mode None script before after ages stop = (after ≡ before) × IsRunInMemory script mode ages stop
 
--- what comes of the bytes that were read: a refusal, where they are no script that can be run, and else the
--- run of that script in this mode
-abbrev pub IsRunOver : Mode → Option (List ℕ) → List ℕ → YardState → YardState → List AgeEnd → Option Stop
+-- what comes of a text, by what is read of it: a refusal, where it is no script, and else the run of that
+-- script in this mode
+abbrev pub IsRunOver : Mode → Option (List ℕ) → Reading → YardState → YardState → List AgeEnd → Option Stop
     → Option Last → Type 0
-IsRunOver mode folder bytes before after ages stop last =
-    MatchOption
-    (runnable (reading_of bytes))
-    (RanNothing before after ages stop × (last ≡ Some (refusal (reading_of bytes))))
-    (λ script. HasRun mode folder script before after ages stop × (last ≡ last_of ages stop))
+IsRunOver mode folder TooLong before after ages stop last =
+    RanNothing before after ages stop × (last ≡ Some lasts.TooLong)
+IsRunOver mode folder NotJson before after ages stop last =
+    RanNothing before after ages stop × (last ≡ Some lasts.NotJson)
+IsRunOver mode folder (Wrong rule path) before after ages stop last =
+    RanNothing before after ages stop × (last ≡ Some (lasts.Rule rule path))
+IsRunOver mode folder (Reads script) before after ages stop last =
+    HasRun mode folder script before after ages stop × (last ≡ last_of ages stop)
 
 -- What a call with these words comes to before it is written, by what its source had left and then has, how
 -- many of its calls had failed and then have, and how the yard was and then is: which ages ran, what ended
@@ -59,32 +61,32 @@ pub data Course (words : List (String Global)) (old new : Option (List ℕ)) (fa
       → Course words old new failed fails before after ages stop last
   -- the words are no command
   no_command : (IsCommand words → ⊥) → Loses old new [] → RanNothing before after ages stop
-      → last ≡ Some Usage → Course words old new failed fails before after ages stop last
+      → last ≡ Some lasts.Usage → Course words old new failed fails before after ages stop last
   -- the source failed
   no_source : IsCommand words → Rose failed fails → RanNothing before after ages stop
-      → last ≡ Some SourceFault → Course words old new failed fails before after ages stop last
+      → last ≡ Some lasts.SourceFault → Course words old new failed fails before after ages stop last
   -- it was read, and what was read decides
   read : (mode : Mode) (folder : Option (List ℕ)) → asked_by words ≡ Some (mode, folder)
-      → (bytes : List ℕ) → WasRead old new bytes → IsRunOver mode folder bytes before after ages stop last
+      → (bytes : List ℕ) → WasRead old new bytes
+      → IsRunOver mode folder (reading_of bytes) before after ages stop last
       → Course words old new failed fails before after ages stop last
 
 -- the status of a last line
 abbrev pub status_of : Last → ℕ
-status_of Done = 0
-status_of Usage = 2
-status_of TooLong = 3
-status_of NotJson = 3
-status_of (Rule rule path) = 3
-status_of NotBuilt = 3
-status_of SourceFault = 4
-status_of (DiskFault member) = 6
-status_of (Damaged member at) = 7
-status_of (Foreign member place) = 7
-status_of (Disagree a b place) = 7
-status_of AgesUsedUp = 7
-status_of Unfinished = 8
-status_of NoMajority = 9
-status_of (LogFull member) = 11
+status_of lasts.Done = 0
+status_of lasts.Usage = 2
+status_of lasts.TooLong = 3
+status_of lasts.NotJson = 3
+status_of (lasts.Rule rule path) = 3
+status_of lasts.SourceFault = 4
+status_of (lasts.DiskFault member) = 6
+status_of (lasts.Damaged member at) = 7
+status_of (lasts.Foreign member place) = 7
+status_of (lasts.Disagree a b place) = 7
+status_of lasts.AgesUsedUp = 7
+status_of lasts.Unfinished = 8
+status_of lasts.NoMajority = 9
+status_of (lasts.LogFull member) = 11
 
 -- the whole report of these ages was written, with the status of its last line, or a front part of it, where
 -- the sink failed

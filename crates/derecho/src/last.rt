@@ -14,6 +14,7 @@ pub(crate) enum Kind {
     DiskFault,
     LogFull,
     Spent,
+    NoMajority,
 }
 
 /// What the last line says behind these ages, and behind what ended the run before its last age. Nothing
@@ -34,8 +35,11 @@ pub(crate) fn last_of(ages: &[AgeEnd], stop: Option<Stop>) -> Option<Last>
     if let Some(member) = first_told(Kind::LogFull, ages, stop) {
         return Some(Last::LogFull { member });
     }
-    match first_end(Kind::Spent, ages) {
-        Some(_) => Some(Last::Unfinished),
+    if let Some(_) = first_end(Kind::Spent, ages) {
+        return Some(Last::Unfinished);
+    }
+    match first_end(Kind::NoMajority, ages) {
+        Some(_) => Some(Last::NoMajority),
         None => Some(Last::Done),
     }
 }
@@ -74,6 +78,7 @@ fn is_of(kind: Kind, end: End) -> bool
         Kind::DiskFault => matches!(end, End::DiskFault),
         Kind::LogFull => matches!(end, End::LogFull { .. }),
         Kind::Spent => matches!(end, End::Spent { .. }),
+        Kind::NoMajority => matches!(end, End::NoMajority { .. }),
     }
 }
 

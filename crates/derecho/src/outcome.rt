@@ -1,14 +1,13 @@
 ghost use Rattle.std.specs.Prelude.{◌≡◌, ◌<◌, ◌⊎◌, ℕ, Some, None, [], false, true, option_map};
 ghost use Rattle.dr_entry.specs.declared.limits.TheConstants.{MAX_MEMBERS};
 ghost use Rattle.dr_script.specs.Ranges.{HasRanges};
+ghost use Rattle.dr_script.specs.Reading.{reading_of};
 ghost use Rattle.dr_text.specs.declared.last.Last.TheVariants.{SourceFault};
 ghost use Rattle.dr_yard.specs.Yards.{state_by};
 ghost use Rattle.dr_ages.specs.Runs.{IsRunOf};
-ghost use Rattle.derecho.specs.Built.{is_built};
 ghost use Rattle.derecho.specs.Last.{last_of};
 ghost use Rattle.derecho.specs.Outcome.{Course, HasRun, IsRunInMemory, IsRunOver, RanNothing};
 
-use crate::built::is_built;
 use crate::last::last_of;
 use crate::reading::{ReadFault, read_all};
 use crate::words::{Command, command_of};
@@ -57,7 +56,7 @@ pub(crate) fn outcome_of<R: Threads + Sync, S: Source, Y: Yard, P: Pace + Sync>(
     }
 }
 
-/// Runs what was read, where it is a script that can be run.
+/// Runs what was read, where it is a script.
 fn judge<R: Threads + Sync, Y: Yard, P: Pace + Sync>(
     rt: &R,
     alloc: Global,
@@ -70,13 +69,12 @@ fn judge<R: Threads + Sync, Y: Yard, P: Pace + Sync>(
     ensures here { (m : ℕ) → m < MAX_MEMBERS → Y.is_lent yard.new m ≡ false }
     ensures over { (RanNothing (state_by Y.told Y.faults yard.old) (state_by Y.told Y.faults yard.new)
         result.ages result.stop × (result.last ≡ None))
-        ⊎ IsRunOver command.now.mode (option_map (λ f. f.now) command.now.folder) bytes.now
-        (state_by Y.told Y.faults yard.old)
+        ⊎ IsRunOver command.now.mode (option_map (λ f. f.now) command.now.folder)
+        (reading_of bytes.now) (state_by Y.told Y.faults yard.old)
         (state_by Y.told Y.faults yard.new) result.ages result.stop result.last }
 {
     match read_script(alloc, bytes) {
-        Ok(script) if is_built(&script) => run(rt, alloc, &script, command, yard, pace),
-        Ok(_) => without_ages(alloc, Some(Last::NotBuilt)),
+        Ok(script) => run(rt, alloc, &script, command, yard, pace),
         Err(ScriptFault::TooLong) => without_ages(alloc, Some(Last::TooLong)),
         Err(ScriptFault::NotJson) => without_ages(alloc, Some(Last::NotJson)),
         Err(ScriptFault::Wrong { rule, path }) => {

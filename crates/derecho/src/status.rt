@@ -4,7 +4,7 @@ pub const DONE: u8 = 0;
 /// The words are not those of a command.
 pub const USAGE: u8 = 2;
 
-/// What was read is not a script that can be run.
+/// What was read is not a script.
 pub const SCRIPT_REFUSED: u8 = 3;
 
 /// The source failed.

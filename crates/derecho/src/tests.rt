@@ -82,6 +82,20 @@ const RESTART_LOG: &[u8] = b"DERLOG01\
     \x01\x02\x01\0\0\0\0\x01b\
     \x01\x01\0\x01\0\0\x03\0";
 
+/// Two members that suspect each other at once: neither is more than half of their view.
+const SPLIT: &[u8] =
+    br#"{"members":2,"window":1,"turns":12,"patience":0,"ages":1,"messages":[[],[]],"schedule":"lockstep",
+    "faults":[{"age":0,"member":0,"suspect":[1,1]},{"age":0,"member":1,"suspect":[1,0]}]}"#;
+
+const SPLIT_TEXT: &[u8] = b"\
+age 0 start 0
+member 0 nomajority 0 history 1 logged 1 durable 1
+  view 0 0 0,1
+member 1 nomajority 1 history 1 logged 1 durable 1
+  view 0 0 0,1
+no majority
+";
+
 /// Two members with a message each, which have four turns in each of two ages.
 const TWO_AGES: &[u8] =
     br#"{"members":2,"window":1,"turns":4,"patience":0,"ages":2,"messages":[["a"],["b"]],"faults":[],"schedule":"lockstep"}"#;
@@ -213,6 +227,15 @@ fn faults_of_a_source_and_a_sink_are_told(rt: HostRuntime) -> Result<(), Fail> {
     ends(&rt, alloc, failing, &mut yard, (4, b"fault: source\n"))?;
     let narrow = Call { room: 10, ..one };
     ends(&rt, alloc, narrow, &mut yard, (5, b"age 0 star"))
+}
+
+/// Members that are left without a majority are told.
+#[test]
+fn a_split_is_told(rt: HostRuntime) -> Result<(), Fail> {
+    let alloc = rt.alloc();
+    let mut yard = CalmYard::new(alloc)?;
+    let split = plain_call(&["sim"], SPLIT);
+    ends(&rt, alloc, split, &mut yard, (9, SPLIT_TEXT))
 }
 
 /// The second age begins with what the first has left, in memory and in the files of a folder.

@@ -5,10 +5,11 @@ ghost use Rattle.dr_complete.specs.Time.{HasTime};
 ghost use Rattle.dr_entry.specs.declared.limits.TheConstants.{MAX_MEMBERS};
 ghost use Rattle.dr_io.specs.Faults.{Rose};
 ghost use Rattle.dr_io.specs.Sink.{Gains};
+ghost use Rattle.dr_program_laws.specs.Trusting.{SuspectsNobody};
 ghost use Rattle.dr_script.specs.declared.script.Script.{Script};
 ghost use Rattle.dr_text.specs.declared.last.Last.{Last};
 ghost use Rattle.dr_yard.specs.Yards.{state_by};
-ghost use Rattle.derecho.specs.declared.last.Kind.TheVariants.{DiskFault, LogFull, Spent};
+ghost use Rattle.derecho.specs.declared.last.Kind.TheVariants.{DiskFault, LogFull, NoMajority, Spent};
 ghost use Rattle.derecho.specs.Last.{refusal_of, some_end, some_so};
 ghost use Rattle.derecho.specs.Outcome.{Course, Exactly, WroteOrNot, status_of};
 ghost use Rattle.derecho.specs.Reading.{IsNoScript, IsScript};
@@ -70,9 +71,10 @@ pub fn derecho<R: Threads + Sync, S: Source, K: Sink, Y: Yard, P: Pace + Sync>(
     ensures given_up { result.status ≡ 10 → Gains (K.held sink.old) (K.held sink.new) [] }
 
     // Where each status comes: 2 for words, 3 for a script, 4 for a read, 5 for a write, 6 for a disk, 7 for
-    // logs, 8 for turns that were spent, 10 for memory, 11 for a full log, and else 0. Where several apply,
-    // the first of 10, 5, 2, 4, 3, 6, 7, 11, 8 is taken. Over disks in memory 6, 7 and 11 don't come.
-    ensures statuses { Contains (0 ∷ 2 ∷ 3 ∷ 4 ∷ 5 ∷ 6 ∷ 7 ∷ 8 ∷ 10 ∷ 11 ∷ []) result.status }
+    // logs, 8 for turns that were spent, 9 for a member without a majority of its view, 10 for memory, 11 for
+    // a full log, and else 0. Where several apply, the first of 10, 5, 2, 4, 3, 6, 7, 11, 8, 9 is taken. Over
+    // disks in memory 6, 7 and 11 don't come.
+    ensures statuses { Contains (0 ∷ 2 ∷ 3 ∷ 4 ∷ 5 ∷ 6 ∷ 7 ∷ 8 ∷ 9 ∷ 10 ∷ 11 ∷ []) result.status }
     ensures usage { Exactly result.status 2 (10 ∷ 5 ∷ []) (¬ IsCommand words.now) }
     ensures refused { result.status ≡ 3 → IsNoScript (S.left source.old) (S.left source.new) }
     ensures read_fault { result.status ≡ 4 → Rose (S.faults source.old) (S.faults source.new) }
@@ -88,12 +90,17 @@ pub fn derecho<R: Threads + Sync, S: Source, K: Sink, Y: Yard, P: Pace + Sync>(
         (IsTrue (some_so LogFull result.ages result.stop)) }
     ensures unfinished { Exactly result.status 8 (10 ∷ 5 ∷ 6 ∷ 7 ∷ 11 ∷ [])
         (IsTrue (some_end Spent result.ages)) }
+    ensures no_majority { Exactly result.status 9 (10 ∷ 5 ∷ 6 ∷ 7 ∷ 11 ∷ 8 ∷ [])
+        (IsTrue (some_end NoMajority result.ages)) }
     // A simulation that spends the turns of a member had too few of them. Of threads nothing is said.
     ensures untimely { (folder : Option (List ℕ)) → asked_by words.now ≡ Some (Sim, folder)
         → result.status ≡ 8
         → (s : Script) × IsScript (S.left source.old) (S.left source.new) s × ¬ HasTime s }
+    // A member without a majority had a reason to suspect others.
+    ensures untrusting { result.status ≡ 9
+        → (s : Script) × IsScript (S.left source.old) (S.left source.new) s × ¬ SuspectsNobody s }
     ensures in_memory { (mode : Mode) → asked_by words.now ≡ Some (mode, None)
-        → Contains (0 ∷ 3 ∷ 4 ∷ 5 ∷ 8 ∷ 10 ∷ []) result.status }
+        → Contains (0 ∷ 3 ∷ 4 ∷ 5 ∷ 8 ∷ 9 ∷ 10 ∷ []) result.status }
 {
     let outcome = outcome_of(rt, alloc, words, source, yard, pace);
     let status = tell(alloc, &outcome, sink);
@@ -129,7 +136,7 @@ fn status_of(last: &Last) -> u8
     match last {
         Last::Done => DONE,
         Last::Usage => USAGE,
-        Last::TooLong | Last::NotJson | Last::Rule { .. } | Last::NotBuilt => SCRIPT_REFUSED,
+        Last::TooLong | Last::NotJson | Last::Rule { .. } => SCRIPT_REFUSED,
         Last::SourceFault => READ_FAULT,
         Last::DiskFault { .. } => DISK_FAULT,
         Last::Damaged { .. } | Last::Foreign { .. } | Last::Disagree { .. } | Last::AgesUsedUp => {

@@ -11,7 +11,6 @@ fn where_no_age_ran_the_last_line_stands_alone(rt: HostRuntime) -> Result<(), Fa
     let lines = [
         (Last::Done, "ok\n"),
         (Last::Usage, "usage: derecho (sim|run) [--logs FOLDER]\n"),
-        (Last::NotBuilt, "refused: not built\n"),
         (Last::TooLong, "refused: too long\n"),
         (Last::NotJson, "refused: not json\n"),
         (

@@ -83,7 +83,6 @@ rule_text rule path = concat (codes "refused: rule " ∷ decimal rule ∷ codes 
 abbrev pub last_text : Last → List ℕ
 last_text lasts.Done = codes "ok\n"
 last_text lasts.Usage = codes "usage: derecho (sim|run) [--logs FOLDER]\n"
-last_text lasts.NotBuilt = codes "refused: not built\n"
 last_text lasts.TooLong = codes "refused: too long\n"
 last_text lasts.NotJson = codes "refused: not json\n"
 last_text (lasts.Rule rule path) = rule_text rule path

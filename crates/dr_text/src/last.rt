@@ -13,8 +13,6 @@ pub enum Last {
     Done,
     /// The words are not those of a command: the line says which are.
     Usage,
-    /// The script is not one of those that can be run so far.
-    NotBuilt,
     /// The script is longer than a script may be.
     TooLong,
     /// The script is not JSON.
@@ -48,7 +46,6 @@ pub(crate) fn push_last(out: &mut String, last: &Last) -> Result<(), AllocError>
     match last {
         Last::Done => out.push_str("ok\n"),
         Last::Usage => out.push_str("usage: derecho (sim|run) [--logs FOLDER]\n"),
-        Last::NotBuilt => out.push_str("refused: not built\n"),
         Last::TooLong => out.push_str("refused: too long\n"),
         Last::NotJson => out.push_str("refused: not json\n"),
         Last::Rule { rule, path } => push_rule(out, *rule, path.as_str()),

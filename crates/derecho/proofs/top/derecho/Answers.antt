@@ -5,7 +5,7 @@ use Rattle.dr_text.specs.declared.last.Last.TheVariants.{SourceFault}
 use Rattle.dr_yard.specs.Yards.{state_by}
 use Rattle.derecho.specs.declared.outcome.Outcome.{Outcome}
 use Rattle.derecho.specs.Outcome.{WroteOrNot}
-use Rattle.derecho.proofs.Course.{Call, IsCourse, Standing, disk_fault_of, fault_told, log_full_of, logs_refused_of, memory_status, refused_of, standing_of, status_known, unfinished_of, untimely_of, usage_of}
+use Rattle.derecho.proofs.Course.{Call, IsCourse, Standing, disk_fault_of, fault_told, log_full_of, logs_refused_of, memory_status, no_majority_of, refused_of, standing_of, status_known, unfinished_of, untimely_of, untrusting_of, usage_of}
 use Rattle.derecho.proofs.top.derecho.Given as given
 use Rattle.derecho.proofs.top.derecho.Goals as goal
 
@@ -74,9 +74,21 @@ returns-clause-unfinished g c =
     c.args.yard.now c.outcome_of-outcome.new.yard c.outcome_of-outcome.result c.args.sink.now c.tell-status.new.sink
     c.tell-status.result c.outcome_of-outcome.ensures.course c.tell-status.ensures.wrote)
 
+pub returns-clause-no_majority : goal.returns-clause-no_majority
+returns-clause-no_majority g c =
+    no_majority_of (stands g c.args.words.now c.args.source.now c.outcome_of-outcome.new.source
+    c.args.yard.now c.outcome_of-outcome.new.yard c.outcome_of-outcome.result c.args.sink.now c.tell-status.new.sink
+    c.tell-status.result c.outcome_of-outcome.ensures.course c.tell-status.ensures.wrote)
+
 pub returns-clause-untimely : goal.returns-clause-untimely
 returns-clause-untimely g c =
     untimely_of (stands g c.args.words.now c.args.source.now c.outcome_of-outcome.new.source
+    c.args.yard.now c.outcome_of-outcome.new.yard c.outcome_of-outcome.result c.args.sink.now c.tell-status.new.sink
+    c.tell-status.result c.outcome_of-outcome.ensures.course c.tell-status.ensures.wrote)
+
+pub returns-clause-untrusting : goal.returns-clause-untrusting
+returns-clause-untrusting g c =
+    untrusting_of (stands g c.args.words.now c.args.source.now c.outcome_of-outcome.new.source
     c.args.yard.now c.outcome_of-outcome.new.yard c.outcome_of-outcome.result c.args.sink.now c.tell-status.new.sink
     c.tell-status.result c.outcome_of-outcome.ensures.course c.tell-status.ensures.wrote)
 
