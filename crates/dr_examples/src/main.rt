@@ -1,14 +1,17 @@
-//! Four examples for those who build on these layers: members that are led deed by deed, a world that takes
-//! events, a log over a disk of one's own, and an age of a script. `docs/LIBRARY.md` shows their lines.
+//! Five examples for those who build on these layers: members that are led deed by deed, a second leader by its
+//! words, a world that takes events, a log over a disk of one's own, and an age of a script. `docs/LIBRARY.md`
+//! shows their lines.
 #![tactic(auto)]
 
 mod ages;
 mod disk;
+mod leaders;
 mod logs;
 mod members;
 mod worlds;
 
 use ages::show_age;
+use leaders::show_leader;
 use logs::show_log;
 use members::show_members;
 use worlds::show_world;
@@ -16,6 +19,8 @@ use worlds::show_world;
 fn main(rt: HostRuntime) -> anyhow::Result<()> {
     println!(rt; "members that are led deed by deed")?;
     show_members(&rt, rt.alloc())?;
+    println!(rt; "a second leader")?;
+    show_leader(&rt, rt.alloc())?;
     println!(rt; "a world that takes events")?;
     show_world(&rt, rt.alloc())?;
     println!(rt; "a log over a disk of one's own")?;

@@ -38,7 +38,7 @@ pub fn show_members(rt: &impl Print, alloc: Global) -> anyhow::Result<()> {
 }
 
 /// The members of a script's group as its age opens, and the words of its table.
-fn opened(
+pub(crate) fn opened(
     alloc: Global,
     script: &Script,
     start: &Start,
@@ -68,7 +68,7 @@ fn lead(members: &mut [Member], words: &mut [u64])
 }
 
 /// The member `m` takes its next deed. Its words go by way of this list; what it appends is not kept.
-fn take_deed(members: &mut [Member], words: &mut [u64], m: usize)
+pub(crate) fn take_deed(members: &mut [Member], words: &mut [u64], m: usize)
     requires within { m < length members.old }
     requires sound { (g : Group) × IsSound g (record { members = members.old; table = words.old }) }
     ensures sound { (g : Group) → IsSound g (record { members = members.old; table = words.old })
