@@ -5,10 +5,17 @@ ghost use Rattle.dr_words.specs.Form.{AllInForm, IsInForm};
 use dr_entry::Value;
 use dr_lead::{Standing, try_propose};
 use dr_rows::Rows;
+use dr_trim::trim_of;
 use dr_words::{Mask, Shape};
 use std::alloc::{AllocError, Global};
 use std::process::Abort;
 use std::test::Fail;
+
+const SHAPE: Shape = Shape {
+    members: 5,
+    window: 1,
+    banks: 2,
+};
 
 // The rows of member 1 of five, whose columns are those of a window of one slot.
 #[derive(Drop)]
@@ -85,14 +92,17 @@ impl Five {
             me: 1,
             members: Mask::all(5),
             suspects: Mask::of(0b10001),
-            shape: Shape {
-                members: 5,
-                window: 1,
-                banks: 2,
-            },
+            shape: SHAPE,
             caught_up: true,
         };
         try_propose(&self.rows, &standing)
+    }
+
+    // The least counts of the first three members, of their items.
+    fn trim(&self, rt: &impl Abort) -> [u32; 16] {
+        let members = Mask::all(3);
+        assert!(rt; members.count() > 0);
+        trim_of(&self.rows, &SHAPE, members, members)
     }
 }
 
@@ -146,5 +156,23 @@ fn a_proposal_that_was_seen_is_proposed(rt: HostRuntime) -> Result<(), Fail> {
         });
         assert_eq!(rt; seen.proposal(), value);
     }
+    Ok(())
+}
+
+// The members 0, 1 and 2 have received four, three and five items of member 0, and one, two and two of
+// member 1; the counts of member 1 are final. Nobody has items of member 2, and member 3 has none at all.
+#[test]
+fn a_trim_is_the_least_of_the_rows_that_are_asked(rt: HostRuntime) -> Result<(), Fail> {
+    let mut seen = Five::begin(rt.alloc())?;
+    seen.show(&rt, 0, 5, 8);
+    seen.show(&rt, 0, 6, 2);
+    seen.show(&rt, 1, 5, 7);
+    seen.show(&rt, 1, 6, 5);
+    seen.show(&rt, 2, 5, 10);
+    seen.show(&rt, 2, 6, 4);
+    let mut trim = [0; 16];
+    trim[0] = 3;
+    trim[1] = 1;
+    assert_eq!(rt; seen.trim(&rt), trim);
     Ok(())
 }

@@ -10,11 +10,16 @@ use std::test::Fail;
 /// A message of 64 bytes.
 const MESSAGE: &str = "\"0123456789abcdef0123456789ABCDEF0123456789abcdef0123456789ABCDEF\"";
 
-const LARGEST: &str = "{\"members\":16,\"window\":8,\"turns\":44,\"schedule\":\"lockstep\"";
+const LARGEST: &str =
+    "{\"members\":16,\"window\":8,\"turns\":44,\"patience\":0,\"schedule\":\"lockstep\"";
 
-const LONG: &str = "{\"members\":2,\"window\":8,\"turns\":1000,\"schedule\":\"lockstep\"";
+const ORDINARY: &str =
+    "{\"members\":5,\"window\":4,\"turns\":408,\"patience\":50,\"schedule\":\"lockstep\"";
 
-const SEEDED: &str = "{\"members\":12,\"window\":2,\"turns\":1000000,\"schedule\":7";
+const LONG: &str =
+    "{\"members\":2,\"window\":8,\"turns\":1000,\"patience\":0,\"schedule\":\"lockstep\"";
+
+const SEEDED: &str = "{\"members\":12,\"window\":2,\"turns\":1000000,\"patience\":0,\"schedule\":7";
 
 /// Two members with one message each. Member 0 crashes in its first turn, before its push number 5.
 const BEFORE_THE_LAST: &[u8] = br#"{"members":2,"window":1,"turns":3,"patience":0,"ages":1,
@@ -38,7 +43,7 @@ fn silent_script(alloc: Global, turns: u8) -> Result<String, AllocError> {
 /// A script that begins so, without faults, in which each of the members has so many messages.
 fn script_of(alloc: Global, head: &str, members: u8, messages: u8) -> Result<String, AllocError> {
     let mut script = String::from_str(alloc, head)?;
-    script.push_str(",\"patience\":0,\"ages\":1,\"faults\":[],\"messages\":[")?;
+    script.push_str(",\"ages\":1,\"faults\":[],\"messages\":[")?;
     for me in 0..members {
         script.push_str(if me == 0 { "[" } else { ",[" })?;
         for k in 0..messages {
@@ -80,6 +85,14 @@ fn the_largest_group_is_done_in_44_turns(rt: HostRuntime) -> Result<(), Fail> {
     let script = script_of(rt.alloc(), LARGEST, 16, 9)?;
     let age = ended(rt.alloc(), script.as_bytes())?;
     shows_rounds(&rt, &age, 16, 145);
+    Ok(())
+}
+
+#[test]
+fn an_ordinary_group_suspects_nobody(rt: HostRuntime) -> Result<(), Fail> {
+    let script = script_of(rt.alloc(), ORDINARY, 5, 100)?;
+    let age = ended(rt.alloc(), script.as_bytes())?;
+    shows_rounds(&rt, &age, 5, 501);
     Ok(())
 }
 

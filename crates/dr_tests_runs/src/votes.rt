@@ -1,6 +1,6 @@
 //! Ages in which members suspect others, and vote for what becomes of their view.
 use dr_disk::{CalmDisk, Disk};
-use dr_entry::{AgeEnd, End, MAX_MEMBERS, Value, Vote};
+use dr_entry::{AgeEnd, End, Entry, MAX_MEMBERS, Value, Vote};
 use dr_fresh::logs_of;
 use dr_log::Log;
 use dr_restart::first_start;
@@ -33,6 +33,14 @@ const FIVE_TURNS: &[u8] = br#"{"members":5,"window":1,"turns":5,"patience":0,"ag
     {"age":0,"member":0,"suspect":[2,4]},{"age":0,"member":0,"crash":[3,7]},
     {"age":0,"member":1,"suspect":[4,0]}]}"#;
 
+/// Three members without messages, of whom member 2 crashes at once, and has done no act that another sees.
+const THREE_TURNS: &[u8] = br#"{"members":3,"window":1,"turns":3,"patience":3,"ages":1,
+    "messages":[[],[],[]],"schedule":"lockstep","faults":[{"age":0,"member":2,"crash":[1,0]}]}"#;
+
+/// The same for one turn more.
+const ONE_MORE: &[u8] = br#"{"members":3,"window":1,"turns":4,"patience":3,"ages":1,
+    "messages":[[],[],[]],"schedule":"lockstep","faults":[{"age":0,"member":2,"crash":[1,0]}]}"#;
+
 /// How the first age of a script ends, and the logs of its members.
 fn ended(alloc: Global, script: &[u8]) -> Result<(AgeEnd, Vec<Log<CalmDisk>>), Fail> {
     let script = read_script(alloc, script)?;
@@ -56,16 +64,21 @@ fn four_leaves(ballot: u8) -> Vote {
     }
 }
 
-/// Two of three members suspect the third, and agree that it leaves. They take the turns that are left,
-/// since the view does not change.
+/// Two of three members suspect the third, agree that it leaves, and go on without it.
 #[test]
 fn members_vote_for_one_that_they_suspect_to_leave(rt: HostRuntime) -> Result<(), Fail> {
     let (age, logs) = ended(rt.alloc(), THREE)?;
     let [zero, one, two] = age.members.as_slice() else {
         return Err("there are three members")?;
     };
-    assert!(rt; zero.end == End::Spent { turns: 12 } && one.end == End::Spent { turns: 12 });
-    assert!(rt; two.end == End::Suspected { by: 0 });
+    assert!(rt; zero.end == End::Done && one.end == End::Done && zero.history == one.history);
+    let [_, view, first, second] = zero.history.as_slice() else {
+        return Err("there are four entries")?;
+    };
+    assert!(rt; matches!(view, Entry::View { number: 1, members, .. } if *members == 3));
+    assert!(rt; matches!(first, Entry::Msg { sender: 0, index, .. } if *index == 0));
+    assert!(rt; matches!(second, Entry::Msg { sender: 1, index, .. } if *index == 0));
+    assert!(rt; two.end == End::Suspected { by: 0 } && two.history.as_slice().len() == 1);
     for (me, log) in logs.into_iter().enumerate() {
         let votes = log.votes().len();
         let mut disk = log.unmount();
@@ -97,6 +110,20 @@ fn who_takes_over_proposes_the_value_that_it_accepted(rt: HostRuntime) -> Result
         };
         assert!(rt; zero.end == End::Crashed && zero_log.votes() == [first].as_slice());
         assert!(rt; one_log.votes() == one_votes && two_log.votes() == two_votes);
+    }
+    Ok(())
+}
+
+/// Members that have had no news of another for three turns suspect it in the third of them, and vote in the
+/// next one.
+#[test]
+fn members_suspect_one_that_keeps_them_waiting(rt: HostRuntime) -> Result<(), Fail> {
+    for (script, votes) in [(THREE_TURNS, 0), (ONE_MORE, 1)] {
+        let (_, logs) = ended(rt.alloc(), script)?;
+        let [zero, ..] = logs.as_slice() else {
+            return Err("there are three members")?;
+        };
+        assert!(rt; zero.votes().len() == votes);
     }
     Ok(())
 }

@@ -1,78 +1,98 @@
-//! A test program: it runs one age of each script that it reads, a script a line, and prints the turns of
-//! each member, the votes on its log, and the age's report. Members may suspect each other, by script and by
-//! patience.
+//! A test program: it runs the ages of each script that it reads, a script a line, by the script's
+//! schedule, and prints of each member of each age the turns that it took and what it put in each of its
+//! views, then the votes on each log, and the report of the ages. Members may suspect each other, by script
+//! and by patience, and go on in next views.
 //!
-//! The scripts on its standard input were drawn at random, but for the first four, and what it has to print
-//! was computed for them by another program, apart from this repository. In most of them members vote, in
-//! sixteen by two ballots, and in the third a member learns that it is excluded.
+//! The scripts on its standard input were drawn at random, but for the first eight, and what it has to
+//! print was computed for them by another program, apart from this repository. In sixty-seven of them
+//! members come to a second view, in fifteen members of one view vote by several ballots, in twenty-three a
+//! message is sent again, and in the eighth a member learns that it is excluded.
 #![tactic(auto)]
 
-use dr_disk::CalmDisk;
-use dr_entry::{AgeEnd, Seq, Vote};
-use dr_fresh::logs_of;
+use anyhow::anyhow;
+use dr_ages::{AgesEnd, Mode, run_ages};
+use dr_disk::MemoryDisk;
+use dr_entry::{AgeEnd, MemberEnd, SentItem, Seq, Vote};
 use dr_io::OutputSink;
 use dr_log::Log;
-use dr_restart::first_start;
+use dr_pace::SnoozePace;
 use dr_script::read_script;
-use dr_sim::sim_age;
 use dr_text::{Last, Report};
+use dr_yard::MemoryYard;
 use std::alloc::Global;
 use std::io::{BufRead, BufReader};
+use std::thread::Threads;
+
+/// The most bytes of a log.
+const LOG_LIMIT: u64 = 1 << 31;
 
 fn main(rt: HostRuntime) -> anyhow::Result<()> {
     for line in BufReader::new(rt.alloc(), rt.reader())?.lines(rt.alloc()) {
-        let (age, logs) = ended(rt.alloc(), line?.as_bytes())?;
-        print_members(&rt, &age, &logs)?;
-        print_report(&rt, rt.alloc(), age)?;
-    }
-    Ok(())
-}
-
-/// How the first age of a script ends, and the log of each member.
-fn ended(alloc: Global, script: &[u8]) -> anyhow::Result<(AgeEnd, Vec<Log<CalmDisk>>)> {
-    let script = read_script(alloc, script)?;
-    let start = first_start(alloc, &script);
-    let mut logs = logs_of(alloc, &script, &start)?;
-    let age = sim_age(alloc, &script, &start, 0, &mut logs)?;
-    Ok((age, logs))
-}
-
-/// Prints the turns of each member of an age, and the votes on its log.
-fn print_members(rt: &HostRuntime, age: &AgeEnd, logs: &[Log<CalmDisk>]) -> anyhow::Result<()> {
-    for (me, (member, log)) in age.members.as_slice().iter().zip(logs).enumerate() {
-        println!(rt; "turns of {me}: {}", member.turns)?;
-        for vote in log.votes() {
-            print!(rt; "vote of {me}: ")?;
-            print_vote(rt, vote)?;
+        let (end, disks) = ended(&rt, rt.alloc(), line?.as_bytes())?;
+        for age in end.ages.as_slice() {
+            print_members(&rt, age)?;
         }
+        for (me, disk) in disks.into_iter().enumerate() {
+            print_votes(&rt, rt.alloc(), me, disk)?;
+        }
+        let report = Report::of(rt.alloc(), end.ages.as_slice(), &Last::Done)?;
+        report.write_to(&mut OutputSink::new(rt.stdout()))?;
     }
     Ok(())
 }
 
-/// Prints the rest of the line of a vote. The leavers are a mask, in hexadecimal.
-fn print_vote(rt: &HostRuntime, vote: &Vote) -> anyhow::Result<()> {
-    let Vote {
-        view,
-        ballot,
-        members,
-        value,
-        ..
-    } = vote;
-    print!(rt;
-        "view {view} ballot {ballot} leavers {:x} trim",
-        value.leavers
-    )?;
-    for count in value.trim.iter().take(usize::from(*members)) {
-        print!(rt; " {count}")?;
+/// How the ages of a script end, and the disks of its members.
+fn ended(
+    rt: &(impl Threads + Sync),
+    alloc: Global,
+    script: &[u8],
+) -> anyhow::Result<(AgesEnd, Vec<MemoryDisk>)> {
+    let script = read_script(alloc, script)?;
+    let mut yard = MemoryYard::new(alloc, Vec::new(alloc), &[])?;
+    let end = run_ages(rt, alloc, &script, Mode::Sim, "", &mut yard, &SnoozePace);
+    let mut disks = yard.into_disks();
+    disks.truncate(usize::from(script.members));
+    Ok((end, disks))
+}
+
+/// Prints the turns of each member of an age, and what it put in each view: the index of a message, or a dash
+/// for a null.
+fn print_members(rt: &HostRuntime, age: &AgeEnd) -> anyhow::Result<()> {
+    for (me, member) in age.members.as_slice().iter().enumerate() {
+        print!(rt; "age {} member {me}: {} turns", age.age, member.turns)?;
+        for view in member.sent.as_slice() {
+            print!(rt; ", {}:", view.number)?;
+            for item in view.items.as_slice() {
+                match item {
+                    SentItem::Null => print!(rt; " -")?,
+                    SentItem::Index(index) => print!(rt; " {index}")?,
+                }
+            }
+        }
+        println!(rt)?;
     }
-    println!(rt)?;
     Ok(())
 }
 
-/// Prints an age's report.
-fn print_report(rt: &HostRuntime, alloc: Global, age: AgeEnd) -> anyhow::Result<()> {
-    let mut ages = Vec::new(alloc);
-    ages.push(age)?;
-    Report::of(alloc, ages.as_slice(), &Last::Done)?.write_to(&mut OutputSink::new(rt.stdout()))?;
+/// Prints the votes on a member's log. The leavers are a mask, in hexadecimal.
+fn print_votes(rt: &HostRuntime, alloc: Global, me: usize, disk: MemoryDisk) -> anyhow::Result<()> {
+    let log = Log::mount(alloc, disk, LOG_LIMIT).map_err(|fault| anyhow!("{:?}", fault.why))?;
+    for vote in log.votes() {
+        let Vote {
+            age,
+            view,
+            ballot,
+            members,
+            value,
+        } = vote;
+        print!(rt;
+            "vote of {me}: age {age} view {view} ballot {ballot} leavers {:x} trim",
+            value.leavers
+        )?;
+        for count in value.trim.iter().take(usize::from(*members)) {
+            print!(rt; " {count}")?;
+        }
+        println!(rt)?;
+    }
     Ok(())
 }
