@@ -15,12 +15,15 @@ mod records;
 mod rows;
 
 use group::Group;
-use member::End;
+use member::{End, Scripted};
 use records::{Entry, MAX_MESSAGE};
 use rows::Shape;
 use std::env;
 use std::io::{self, BufWriter, Write};
 use std::process::ExitCode;
+
+/// The turn in which member 0 suspects others, where no word tells it.
+const FROM: usize = 2;
 
 /// The most turns that a script may ask for.
 const MOST_TURNS: usize = 1_000_000;
@@ -34,8 +37,9 @@ struct Task {
     /// `None` for lockstep.
     seed: Option<u64>,
     turns: u32,
-    /// How many members, the last ones, member 0 suspects.
+    /// How many members, the last ones, member 0 suspects, and in which turn.
     suspected: usize,
+    from: u32,
     has_report: bool,
 }
 
@@ -59,12 +63,10 @@ fn last_members(members: usize, count: usize) -> u16 {
 fn read_task(words: &[String]) -> Option<Task> {
     let (words, rest) = words.split_at_checked(6)?;
     let has_report = rest.last().is_some_and(|word| word == "report");
-    let (turns, suspected) = match &rest[..rest.len() - usize::from(has_report)] {
-        [] => (None, None),
-        [turns] => (Some(turns), None),
-        [turns, suspected] => (Some(turns), Some(suspected)),
-        _ => return None,
-    };
+    let rest = &rest[..rest.len() - usize::from(has_report)];
+    if rest.len() > 3 {
+        return None;
+    }
     let seed = match words[5].as_str() {
         "lockstep" => None,
         seed => Some(seed.parse().ok()?),
@@ -81,8 +83,9 @@ fn read_task(words: &[String]) -> Option<Task> {
         totals: totals.collect(),
         bytes: number(&words[4], 0, MAX_MESSAGE)? as u8,
         seed,
-        turns: number_or(MOST_TURNS, turns, 1, MOST_TURNS)? as u32,
-        suspected: number_or(0, suspected, 0, members - 1)?,
+        turns: number_or(MOST_TURNS, rest.first(), 1, MOST_TURNS)? as u32,
+        suspected: number_or(0, rest.get(1), 0, members - 1)?,
+        from: number_or(FROM, rest.get(2), 1, MOST_TURNS)? as u32,
         has_report,
     })
 }
@@ -152,11 +155,14 @@ fn main() -> ExitCode {
     let words: Vec<String> = env::args().skip(1).collect();
     let Some(task) = read_task(&words) else {
         println!(
-            "usage: members MEMBERS WINDOW SENDERS MESSAGES BYTES lockstep|SEED [TURNS [SUSPECTED]] [report]"
+            "usage: members MEMBERS WINDOW SENDERS MESSAGES BYTES lockstep|SEED [TURNS [SUSPECTED [FROM]]] [report]"
         );
         return ExitCode::from(2);
     };
-    let suspected = last_members(task.shape.members, task.suspected);
+    let suspected = Scripted {
+        turn: task.from,
+        members: last_members(task.shape.members, task.suspected),
+    };
     let mut group = Group::begin(task.shape, &task.totals, task.bytes, task.turns, suspected);
     let schedule = match task.seed {
         None => {

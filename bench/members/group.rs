@@ -1,7 +1,7 @@
 //! A group that runs over the words of one table.
 
 use crate::file::{Disk, Fault, Log};
-use crate::member::{Deed, Member};
+use crate::member::{Deed, Member, Scripted};
 use crate::records::{Entry, Message, Record, Value, Vote, mixed};
 use crate::rows::Shape;
 
@@ -18,12 +18,12 @@ pub struct Group {
 
 impl Group {
     /// The members have so many messages by their numbers, each of so many bytes, and take at most so
-    /// many turns. By its script, member 0 suspects those of this mask.
-    pub fn begin(shape: Shape, totals: &[u32], bytes: u8, turns: u32, suspected: u16) -> Group {
+    /// many turns. By its script, member 0 suspects these.
+    pub fn begin(shape: Shape, totals: &[u32], bytes: u8, turns: u32, suspected: Scripted) -> Group {
         let begin = |me| {
             let messages =
                 (0..totals[me] as usize).map(|index| Message::numbered(me, index, bytes));
-            let scripted = if me == 0 { suspected } else { 0 };
+            let scripted = if me == 0 { suspected } else { Scripted::NOBODY };
             Member::begin(
                 shape,
                 me,

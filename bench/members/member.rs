@@ -2,14 +2,10 @@
 
 use crate::records::{Entry, MAX_MEMBERS, Message, Record, Value, Vote};
 use crate::rows::{BEAT, DONE, Item, LOGGED, RECEIVED, Rows, SUSPECTED, Shape};
-use std::iter;
+use std::{iter, mem};
 use std::sync::atomic::{AtomicU64, Ordering};
 
-/// The turn in which a member suspects those whom its script names.
-const SCRIPTED_TURN: u32 = 2;
-
-/// What it has put: a message by its index, or a null. (The members say so at their end, where a
-/// group has more than one view.)
+/// What it has put: a message by its index, or a null.
 #[allow(dead_code)]
 enum Sent {
     Null,
@@ -56,6 +52,7 @@ enum Place {
     Excluded,
     Push { to: usize, column: usize },
     Done,
+    Finish,
     Spent,
     Rest,
 }
@@ -85,24 +82,47 @@ impl Spot {
     }
 }
 
+/// Whom a member suspects by its script, and in which turn.
+#[derive(Clone, Copy)]
+pub struct Scripted {
+    pub turn: u32,
+    pub members: u16,
+}
+
+impl Scripted {
+    pub const NOBODY: Scripted = Scripted { turn: 0, members: 0 };
+}
+
+/// What a member keeps of a view that it has left: its own words, its counts, and what it put. (It says so
+/// at its end; nothing reads it here.)
+#[allow(dead_code)]
+struct Left {
+    own: Vec<u64>,
+    counts: Vec<u32>,
+    sent: Vec<Sent>,
+}
+
 /// A member, which always stands at a place of its turn at which there is something to do.
 pub struct Member {
     shape: Shape,
     me: usize,
-    /// The number of words of a copy, and the index in the table of the first one of the own copy.
+    /// The number of words of a copy, the index in the table of the first word of the bank of its view, and of
+    /// the first one of the own copy in it.
     copy_words: usize,
+    bank: usize,
     own_copy: usize,
     messages: Vec<Message>,
     totals: Vec<u32>,
     most: u32,
     rows: Rows,
-    /// The members of the view, a bit for each, and ascending.
+    /// The number of the view, and its members, a bit for each, and ascending.
+    number: u8,
     members: u16,
     view: Vec<usize>,
     /// Those of them that it suspects, whose rows it looks at no more, and those that it suspects by
     /// its script.
     suspects: u16,
-    scripted: u16,
+    scripted: Scripted,
     /// The vote on its log that it has not yet acted on, and the value that it has committed.
     pending: Option<Vote>,
     pub committed: Option<Value>,
@@ -111,7 +131,10 @@ pub struct Member {
     items: Vec<Item>,
     /// The first spot whose item isn't there.
     front: Spot,
+    /// The index of its first message in the view, what it has put there, and what it keeps of earlier views.
+    base: usize,
     sent: Vec<Sent>,
+    left: Vec<Left>,
     /// The next spot that it delivers.
     next: Spot,
     /// Every member was seen to have received the spots below this one. It is asked anew once the next
@@ -132,14 +155,15 @@ pub struct Member {
 
 impl Member {
     /// A member of View 0, which has everyone, before its first turn, with its messages, the number of
-    /// those of each member, and the others that it suspects by its script. No later call takes memory.
+    /// those of each member, and the others that it suspects by its script. No later call takes memory but
+    /// that by which it leaves a view.
     pub fn begin(
         shape: Shape,
         me: usize,
         messages: Vec<Message>,
         totals: Vec<u32>,
         limit: u32,
-        scripted: u16,
+        scripted: Scripted,
     ) -> Member {
         let roster = shape.members;
         let members = u16::MAX >> (16 - roster);
@@ -159,12 +183,16 @@ impl Member {
             shape,
             me,
             copy_words: roster * columns,
+            bank: 0,
             own_copy: me * roster * columns,
+            base: 0,
             sent: Vec::with_capacity(most as usize),
+            left: Vec::new(),
             messages,
             totals,
             most,
             rows,
+            number: 0,
             members,
             view: (0..roster).collect(),
             suspects: 0,
@@ -197,7 +225,7 @@ impl Member {
                 Deed::Look(self.own_copy + row * self.rows.columns + column)
             }
             Place::Push { to, column } => {
-                let index = to * self.copy_words + self.rows.own_row + column;
+                let index = self.bank + to * self.copy_words + self.rows.own_row + column;
                 Deed::Push(index, self.rows.own(column))
             }
             Place::Append => Deed::Append,
@@ -312,8 +340,14 @@ impl Member {
                 self.committed = Some(self.shown(self.me));
                 self.seek_excluded()
             }
-            Place::Excluded => self.halt(End::Excluded { view: 1 }),
+            Place::Excluded => self.halt(End::Excluded {
+                view: self.number + 1,
+            }),
             Place::Done => self.halt(End::Done),
+            Place::Finish => {
+                self.finish();
+                self.seek_spent()
+            }
             Place::Spent => self.halt(End::Spent { turns: self.turns }),
             place => place,
         };
@@ -455,7 +489,15 @@ impl Member {
     fn seek_done(&self) -> Place {
         if self.is_all_done() {
             Place::Done
-        } else if self.turns == self.limit {
+        } else if self.committed.is_some() {
+            Place::Finish
+        } else {
+            self.seek_spent()
+        }
+    }
+
+    fn seek_spent(&self) -> Place {
+        if self.turns == self.limit {
             Place::Spent
         } else {
             Place::Beat
@@ -487,9 +529,9 @@ impl Member {
         self.suspects != 0
     }
 
-    /// It votes at most once by the ballot of each member.
+    /// It votes in each view at most once by the ballot of each member.
     pub fn most_votes(&self) -> usize {
-        self.shape.members
+        self.shape.members * self.shape.members
     }
 
     fn has_majority(&self) -> bool {
@@ -499,8 +541,8 @@ impl Member {
     /// The least other member whom its script has it suspect now, or else whom the rows do.
     fn next_suspect(&self) -> Option<usize> {
         let others = self.unsuspected_others();
-        if self.turns == SCRIPTED_TURN && self.scripted & others != 0 {
-            return least_of(self.scripted & others);
+        if self.turns == self.scripted.turn && self.scripted.members & others != 0 {
+            return least_of(self.scripted.members & others);
         }
         let row = self.least_row_naming(others)?;
         least_of(self.named_by(row) & others)
@@ -539,7 +581,7 @@ impl Member {
 
     /// It puts nulls only behind its last message.
     fn has_message_left(&self) -> bool {
-        self.sent.len() < self.messages.len()
+        self.base + self.sent.len() < self.messages.len()
     }
 
     /// Whether it has more items of some member than it has put.
@@ -633,7 +675,7 @@ impl Member {
         let ballot = self.promise();
         Vote {
             age: 0,
-            view: 0,
+            view: self.number,
             ballot: ballot as u8,
             members: self.shape.members as u8,
             value: if ballot == self.me {
@@ -724,7 +766,7 @@ impl Member {
     }
 
     fn send(&mut self) {
-        let index = self.sent.len();
+        let index = self.base + self.sent.len();
         let item = Item::Text(self.messages[index].clone());
         self.put(Sent::Index(index as u32), item);
     }
@@ -753,6 +795,10 @@ impl Member {
         if self.next.number as u64 >= self.received {
             self.received = self.least_seen(RECEIVED);
         }
+        self.deliver_next();
+    }
+
+    fn deliver_next(&mut self) {
         let sender = self.view[self.next.rank];
         if let Item::Text(message) =
             &self.items[self.next.round as usize * self.shape.members + sender]
@@ -766,6 +812,52 @@ impl Member {
             });
         }
         self.next.step(self.view.len());
+    }
+
+    /// It ends its view with the value that it has committed, and goes on in the next one, in which all is
+    /// as at the beginning.
+    #[inline(never)]
+    fn finish(&mut self) {
+        if let Some(value) = self.committed.take() {
+            self.deliver_rest(&value.trim);
+            self.members &= !value.leavers;
+            self.number += 1;
+            self.history.push(Entry::View {
+                age: 0,
+                number: self.number,
+                members: self.members,
+            });
+            let roster = self.shape.members;
+            self.left.push(Left {
+                own: self.rows.own_words().to_vec(),
+                counts: mem::replace(&mut self.counts, vec![0; roster]),
+                sent: mem::replace(&mut self.sent, Vec::with_capacity(self.most as usize)),
+            });
+            self.rows.renew();
+            self.rows.set_own(LOGGED, self.logged as u64);
+            self.bank += roster * self.copy_words;
+            self.own_copy += roster * self.copy_words;
+            let members = self.members;
+            self.view.retain(|member| has(members, *member));
+            self.suspects = 0;
+            // Items beyond the counts are never read.
+            self.front = Spot::FIRST;
+            self.next = Spot::FIRST;
+            self.received = 0;
+            self.base = self.delivered[self.me] as usize;
+        }
+    }
+
+    /// Delivers what these trims have left of the view.
+    fn deliver_rest(&mut self, trim: &[u32; MAX_MEMBERS]) {
+        let most = trim.iter().copied().max().unwrap_or(0);
+        while self.next.round < most {
+            if self.next.round < trim[self.view[self.next.rank]] {
+                self.deliver_next();
+            } else {
+                self.next.step(self.view.len());
+            }
+        }
     }
 
     fn halt(&mut self, end: End) -> Place {
@@ -807,7 +899,7 @@ impl Member {
     pub fn push_rows(&mut self, table: &[AtomicU64], order: Ordering) -> u64 {
         let mut pushes = 0;
         while let Place::Push { to, .. } = self.place {
-            let own_row = to * self.copy_words + self.rows.own_row;
+            let own_row = self.bank + to * self.copy_words + self.rows.own_row;
             let words = &table[own_row..][..self.rows.columns];
             pushes += self.rows.push_row(to, words, order);
             self.place = self.seek_push(to + 1);

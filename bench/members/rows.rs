@@ -129,6 +129,16 @@ impl Rows {
         self.words[self.own_row + column] = word;
     }
 
+    pub fn own_words(&self) -> &[u64] {
+        &self.words[self.own_row..][..self.columns]
+    }
+
+    /// All words are 0 again, as at the beginning.
+    pub fn renew(&mut self) {
+        self.words.fill(0);
+        self.sent.fill(0);
+    }
+
     /// Makes the count in an own recv word final.
     pub fn finish(&mut self, column: usize) {
         self.words[self.own_row + column] |= FINAL;

@@ -1,7 +1,7 @@
 //! One thread for each member, over one table of atomic words.
 
 use crate::file::Log;
-use crate::member::{Deed, End, Member};
+use crate::member::{Deed, End, Member, Scripted};
 use crate::records::Message;
 use crate::rows::Shape;
 use crate::tally::{Ended, append, log_with};
@@ -100,7 +100,7 @@ pub fn run<const TIMED: bool, const SEQUENTIAL: bool>(
                 own.collect(),
                 vec![messages; shape.members],
                 TURNS,
-                0,
+                Scripted::NOBODY,
             )
         })
         .collect();

@@ -1,10 +1,10 @@
-//! Runs the largest group, so that a clock outside can tell its speed.
+//! Runs a group, so that a clock outside can tell its speed.
 #![tactic(auto)]
 
 mod members;
 
 use dr_script::Schedule;
-use members::{MEMBERS, MOST_SUSPECTED, TURNS, WEDGED_TURNS, members};
+use members::{Group, MEMBERS, TURNS, members};
 use std::process::ExitCode;
 use std::rt::Env;
 use std::{env, io};
@@ -12,54 +12,36 @@ use std::{env, io};
 /// The seed of seeded groups.
 const SEED: u64 = 7;
 
+/// The turn in which member 0 suspects others, where no word tells it.
+const FROM: u32 = 2;
+
 fn main(rt: HostRuntime) -> io::Result<ExitCode> {
-    let alloc = rt.alloc();
-    let Some(task) = read_task(&rt)? else {
+    let Some(group) = read_group(&rt)? else {
         println!(rt;
-            "usage: dr_bench_groups lockstep|seeded MESSAGES [SENDERS [SUSPECTED [TURNS]]]"
+            "usage: dr_bench_groups lockstep|seeded MESSAGES [SENDERS [SUSPECTED [TURNS [MEMBERS [FROM]]]]]"
         )?;
         return Ok(ExitCode::from(2));
     };
-    let name = match task.schedule {
+    let name = match group.schedule {
         Schedule::Lockstep => "lockstep",
         Schedule::Seed(_) => "seeded",
     };
-    let tally = members(
-        alloc,
-        task.messages,
-        task.senders,
-        task.suspected,
-        task.turns,
-        task.schedule,
-    )?;
+    let tally = members(rt.alloc(), group)?;
     let count = tally.count;
     let checksum = tally.checksum;
     println!(rt; "{name}: {count} checksum: {checksum:016x}")?;
     Ok(ExitCode::SUCCESS)
 }
 
-/// What the program was told to do.
-#[derive(Clone, Copy, Debug, PartialEq, Eq)]
-struct Task {
-    schedule: Schedule,
-    /// The messages of each sender.
-    messages: u32,
-    /// How many members have messages: the first so many.
-    senders: u8,
-    /// How many members are suspected: the last so many.
-    suspected: u8,
-    /// The most turns of each member.
-    turns: u32,
-}
-
-/// The task in the words behind the program's name; `None` where they are none.
-fn read_task(rt: &(impl Env + AllocGlobal)) -> io::Result<Option<Task>> {
+/// The group in the words behind the program's name; `None` where they are none. A number that no word tells
+/// is that of the largest group, in which nobody is suspected.
+fn read_group(rt: &(impl Env + AllocGlobal)) -> io::Result<Option<Group>> {
     let mut words = env::args(rt)?.skip(1);
     let (Some(schedule), Some(messages)) = (words.next(), words.next()) else {
         return Ok(None);
     };
-    let (senders, suspected) = (words.next(), words.next());
-    let (turns, None) = (words.next(), words.next()) else {
+    let (senders, suspected, turns) = (words.next(), words.next(), words.next());
+    let (members, from, None) = (words.next(), words.next(), words.next()) else {
         return Ok(None);
     };
     let schedule = match schedule.as_str() {
@@ -67,48 +49,43 @@ fn read_task(rt: &(impl Env + AllocGlobal)) -> io::Result<Option<Task>> {
         "seeded" => Schedule::Seed(SEED),
         _ => return Ok(None),
     };
-    let (Ok(messages), Some(senders), Some(suspected)) = (
-        messages.as_str().parse(),
-        read_senders(senders.as_deref()),
-        read_suspected(suspected.as_deref()),
+    let (Some(messages), Some(senders), Some(suspected)) = (
+        large_or(0, Some(messages.as_str())),
+        small_or(MEMBERS, senders.as_deref()),
+        small_or(0, suspected.as_deref()),
     ) else {
         return Ok(None);
     };
-    let Some(turns) = read_turns(turns.as_deref(), suspected) else {
+    let (Some(turns), Some(members), Some(from)) = (
+        large_or(TURNS, turns.as_deref()),
+        small_or(MEMBERS, members.as_deref()),
+        large_or(FROM, from.as_deref()),
+    ) else {
         return Ok(None);
     };
-    Ok(Some(Task {
+    Ok(Some(Group {
         schedule,
-        messages,
+        members,
         senders,
+        messages,
         suspected,
+        from,
         turns,
     }))
 }
 
-/// The number of senders in a word, from 1 to all members; all of them where there is no word.
-fn read_senders(word: Option<&str>) -> Option<u8> {
-    let Some(word) = word else {
-        return Some(MEMBERS);
-    };
-    let senders = word.parse().ok()?;
-    (1..=MEMBERS).contains(&senders).then_some(senders)
-}
-
-/// The number of those suspected in a word, at most `MOST_SUSPECTED`; none of them where there is no word.
-fn read_suspected(word: Option<&str>) -> Option<u8> {
-    let Some(word) = word else {
-        return Some(0);
-    };
-    let suspected = word.parse().ok()?;
-    (suspected <= MOST_SUSPECTED).then_some(suspected)
-}
-
-/// The most turns in a word; where there is no word, those of a group of which so many are suspected.
-fn read_turns(word: Option<&str>, suspected: u8) -> Option<u32> {
+/// The number in a word, or this one where there is no word.
+fn small_or(default: u8, word: Option<&str>) -> Option<u8> {
     match word {
         Some(word) => word.parse().ok(),
-        None if suspected == 0 => Some(TURNS),
-        None => Some(WEDGED_TURNS),
+        None => Some(default),
+    }
+}
+
+/// The same of larger numbers.
+fn large_or(default: u32, word: Option<&str>) -> Option<u32> {
+    match word {
+        Some(word) => word.parse().ok(),
+        None => Some(default),
     }
 }

@@ -1,7 +1,8 @@
-ghost use Rattle.std.specs.Prelude.{◌≡◌, ℕ, ◌+◌, ◌-◌, ◌<◌, ◌≤◌, [], All, IfOk, length, slice_index_or};
+ghost use Rattle.std.specs.Prelude.{◌≡◌, ℕ, ◌+◌, ◌<◌, ◌≤◌, [], All, IfOk, length, slice_index_or};
 ghost use Rattle.dr_script.specs.declared.script.Fault.{Fault};
 ghost use Rattle.dr_script.specs.declared.script.What.TheVariants.{Suspect};
 ghost use Rattle.dr_script.specs.Ranges.{HasRanges};
+ghost use Rattle.dr_bench_groups.specs.Groups.{IsBounded, first_suspected};
 
 use dr_disk::CalmDisk;
 use dr_entry::{AgeEnd, Entry, MAX_MESSAGE_LENGTH, MemberEnd, Message, Seq, Vote};
@@ -12,22 +13,13 @@ use dr_script::{Fault, Schedule, Script, What};
 use dr_sim::sim_age;
 use std::alloc::{AllocError, Global};
 
-/// The members of the largest group, and the slots of a ring.
+/// The most members of a group, and the slots of a ring.
 pub const MEMBERS: u8 = 16;
 
 const WINDOW: u8 = 8;
 
 /// The most turns that a member may take: so many that none comes to them.
 pub const TURNS: u32 = 1_000_000;
-
-/// The most turns where members are suspected: those who suspect them take all of these.
-pub const WEDGED_TURNS: u32 = 2_000;
-
-/// The turn in which member 0 suspects others.
-const SUSPICION_TURN: u32 = 2;
-
-/// The most members that it may suspect: those left are a majority.
-pub const MOST_SUSPECTED: u8 = 7;
 
 /// The most messages that a member may have.
 const MOST_MESSAGES: u32 = 4096;
@@ -44,91 +36,104 @@ pub struct Tally {
     pub checksum: u64,
 }
 
-/// Runs the largest group from its opening to the ends of all members, over logs in memory. The first
-/// `senders` of them have so many messages of 64 bytes each, the others none. Member 0 suspects the last
-/// `suspected` of them in turn 2. Each takes so many turns at most.
+/// A group to run.
+#[derive(Clone, Copy, Debug, PartialEq, Eq)]
+pub struct Group {
+    pub schedule: Schedule,
+    pub members: u8,
+    /// How many members have messages, the first ones, and how many each of these.
+    pub senders: u8,
+    pub messages: u32,
+    /// How many members, the last ones, member 0 suspects, and in which turn.
+    pub suspected: u8,
+    pub from: u32,
+    /// The most turns of each member.
+    pub turns: u32,
+}
+
+/// Runs a group from its opening to the ends of all members, over logs in memory. Messages have 64 bytes.
 #[inline(never)]
-pub fn members(
-    alloc: Global,
-    messages: u32,
-    senders: u8,
-    suspected: u8,
-    turns: u32,
-    schedule: Schedule,
-) -> Result<Tally, AllocError> {
-    let messages = messages.min(MOST_MESSAGES);
-    let suspected = suspected.min(MOST_SUSPECTED);
-    let turns = turns.max(SUSPICION_TURN).min(TURNS);
-    let script = script_of(alloc, messages, senders, suspected, turns, schedule)?;
+pub fn members(alloc: Global, group: Group) -> Result<Tally, AllocError> {
+    let script = script_of(alloc, bounded(group))?;
     let start = first_start(alloc, &script);
     let mut logs = logs_of(alloc, &script, &start)?;
     let age = sim_age(alloc, &script, &start, 0, logs.as_mut_slice())?;
     Ok(tally_of(&age, &logs))
 }
 
-fn script_of(
-    alloc: Global,
-    messages: u32,
-    senders: u8,
-    suspected: u8,
-    turns: u32,
-    schedule: Schedule,
-) -> Result<Script, AllocError>
-    requires messages { messages ≤ 4096 }
-    requires suspected { suspected ≤ 7 }
-    requires turns { 2 ≤ turns }
-    requires most { turns ≤ 1000000 }
+/// The group within the bounds of a script, in which those that aren't suspected are a majority.
+fn bounded(group: Group) -> Group
+    ensures { IsBounded result }
+{
+    let members = group.members.max(1).min(MEMBERS);
+    let turns = group.turns.max(1).min(TURNS);
+    Group {
+        members,
+        messages: group.messages.min(MOST_MESSAGES),
+        suspected: group.suspected.min((members - 1) / 2),
+        from: group.from.max(1).min(turns),
+        turns,
+        ..group
+    }
+}
+
+fn script_of(alloc: Global, group: Group) -> Result<Script, AllocError>
+    requires { IsBounded group }
     ensures { IfOk result HasRanges }
 {
     Ok(Script {
-        members: MEMBERS,
+        members: group.members,
         window: WINDOW,
-        turns,
+        turns: group.turns,
         patience: 0,
         ages: 1,
-        messages: Seq::of(lists_of(alloc, messages, senders)?),
-        faults: Seq::of(faults_of(alloc, suspected)?),
-        schedule,
+        messages: Seq::of(lists_of(alloc, group)?),
+        faults: Seq::of(faults_of(alloc, group)?),
+        schedule: group.schedule,
     })
 }
 
-/// The suspicions of member 0: in turn 2 it suspects the last `suspected` members, ascending.
-fn faults_of(alloc: Global, suspected: u8) -> Result<Vec<Fault>, AllocError>
-    requires { suspected ≤ 7 }
-    ensures count { IfOk result (λ faults. length faults.items ≡ suspected) }
-    ensures each { IfOk result (λ faults. (k : ℕ) (d : Fault) → k < suspected
+/// The suspicions of member 0, ascending.
+fn faults_of(alloc: Global, group: Group) -> Result<Vec<Fault>, AllocError>
+    requires { IsBounded group }
+    ensures count { IfOk result (λ faults. length faults.items ≡ group.suspected) }
+    ensures each { IfOk result (λ faults. (k : ℕ) (d : Fault) → k < group.suspected
         → slice_index_or faults.items k d
-        ≡ record { age = 0; member = 0; what = Suspect 2 (16 - suspected + k) }) }
+        ≡ record { age = 0; member = 0; what = Suspect group.from (first_suspected group + k) }) }
 {
-    let mut faults = Vec::with_capacity(alloc, usize::from(suspected))?;
-    for k in 0..suspected {
+    let mut faults = Vec::with_capacity(alloc, usize::from(group.suspected))?;
+    for k in 0..group.suspected {
         faults.push(Fault {
             age: 0,
             member: 0,
             what: What::Suspect {
-                turn: SUSPICION_TURN,
-                other: MEMBERS - suspected + k,
+                turn: group.from,
+                other: group.members - group.suspected + k,
             },
         })?;
     }
     Ok(faults)
 }
 
-/// The messages of all members: the first `senders` have so many each, the others none.
-fn lists_of(alloc: Global, messages: u32, senders: u8) -> Result<Vec<Seq<Message>>, AllocError>
-    requires { messages ≤ 4096 }
-    ensures count { IfOk result (λ lists. length lists.items ≡ 16) }
-    ensures senders { IfOk result (λ lists. (m : ℕ) → m < 16 → m < senders
-        → length (slice_index_or lists.items m []) ≡ messages) }
-    ensures others { IfOk result (λ lists. (m : ℕ) → m < 16 → senders ≤ m
+/// The messages of all members.
+fn lists_of(alloc: Global, group: Group) -> Result<Vec<Seq<Message>>, AllocError>
+    requires { IsBounded group }
+    ensures count { IfOk result (λ lists. length lists.items ≡ group.members) }
+    ensures senders { IfOk result (λ lists. (m : ℕ) → m < group.members → m < group.senders
+        → length (slice_index_or lists.items m []) ≡ group.messages) }
+    ensures others { IfOk result (λ lists. (m : ℕ) → m < group.members → group.senders ≤ m
         → length (slice_index_or lists.items m []) ≡ 0) }
     ensures few { IfOk result (λ lists. All (λ list. length list ≤ 4096) lists.items) }
     ensures short { IfOk result (λ lists. All (All (λ bytes. length bytes ≤ 64)) lists.items) }
     ensures bytes { IfOk result (λ lists. All (All (All (λ byte. byte < 256))) lists.items) }
 {
-    let mut lists = Vec::with_capacity(alloc, usize::from(MEMBERS))?;
-    for me in 0..MEMBERS {
-        let count = if me < senders { messages } else { 0 };
+    let mut lists = Vec::with_capacity(alloc, usize::from(group.members))?;
+    for me in 0..group.members {
+        let count = if me < group.senders {
+            group.messages
+        } else {
+            0
+        };
         lists.push(Seq::of(messages_of(alloc, me, count)?))?;
     }
     Ok(lists)

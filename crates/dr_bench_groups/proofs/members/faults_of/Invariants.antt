@@ -1,11 +1,12 @@
-use Rattle.std.proofs.Common.{◌≡◌, ℕ, ◌+◌, ◌-◌, ◌<◌, length, slice_index_or}
+use Rattle.std.proofs.Common.{◌≡◌, ℕ, ◌+◌, ◌<◌, length, slice_index_or}
 use Rattle.dr_script.specs.declared.script.Fault.{Fault}
 use Rattle.dr_script.specs.declared.script.What.TheVariants.{Suspect}
+use Rattle.dr_bench_groups.specs.Groups.{first_suspected}
 use Rattle.dr_bench_groups.proofs.members.faults_of.Given as goal
 
 abbrev pub invariant-loop-k : goal.invariant-loop-k
 invariant-loop-k l = record {
   count : length l.faults.items ≡ l.k;
   each : (k : ℕ) (d : Fault) → k < l.k → slice_index_or l.faults.items k d
-      ≡ record { age = 0; member = 0; what = Suspect 2 (16 - l.fn.suspected + k) };
+      ≡ record { age = 0; member = 0; what = Suspect l.fn.group.from (first_suspected l.fn.group + k) };
 }
