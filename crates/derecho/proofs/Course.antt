@@ -168,10 +168,12 @@ read_standing c held holds fell falls status last mode folder asked bytes was To
 read_standing c held holds fell falls status last mode folder asked bytes was NoJsonText is over wrote =
     refused_standing c held holds fell falls status last lasts.NotJson refl (ap is_some asked) bytes was
     (ap is_script is) over wrote
-read_standing c held holds fell falls status last mode folder asked bytes was (Wrong rule path) is over wrote =
+read_standing c held holds fell falls status last mode folder asked bytes was
+    (Wrong rule path) is over wrote =
     refused_standing c held holds fell falls status last (lasts.Rule rule path) refl (ap is_some asked) bytes
     was (ap is_script is) over wrote
-read_standing c held holds fell falls status last mode folder asked bytes was (Reads script) is (ran, line) wrote =
+read_standing c held holds fell falls status last mode folder asked bytes was (Reads script) is
+    (ran, line) wrote =
     elim (cases_Bool (is_memory c.stop)) [
       | inl wanting ↦ early (unsaid held holds fell falls status c.ages last wrote
           (line ∙ ap (λ b. if b then None else Some told) wanting))
@@ -215,7 +217,8 @@ standing_of c held holds fell falls status last course wrote = elim course [
         | inr due ↦ bad_source due known rose (quiet c nothing)
       ]
   | read mode folder asked bytes was over ↦
-      read_standing c held holds fell falls status last mode folder asked bytes was (reading_of bytes) refl over
+      read_standing c held holds fell falls status last mode folder asked bytes was
+      (reading_of bytes) refl over
       wrote
 ]
 

@@ -58,8 +58,8 @@ abbrev pub NoneFull : List MemberEnd → Type 0
 NoneFull members = All (λ (e : MemberEnd). IsNotFull e.end) members
 
 -- the limit of a log is enough for its votes and for all that an age may bring: 72 bytes for each entry of
--- the start, for each of 16 Views, and for each of 4,096 messages of 16 members, and 73 for each vote more, of
--- which there may be 16 in each view
+-- the start, for each of 16 Views, and for each of 4,096 messages of 16 members, and 73 for each vote more,
+-- of which there may be 16 in each view
 pub record IsAmple {D : Type 0} (g : Group) (log : LogState D) : Type 0 where
   pub limit : log_length [] log.votes
       + 72 * (length g.opening.start + MAX_MEMBERS + MAX_MESSAGES * MAX_MEMBERS)

@@ -188,7 +188,8 @@ left_by {D} tells faults base log banks e found cast come kept = by (why_ended e
         (subst (λ (vs : List Vote). IsLeft (tells log.disk) (λ image. StandsFor image log.entries vs)) kept is))
 
     by : (why : Option LogWhy) → why_ended e.end ≡ why
-        → WentSo tells faults base log banks e.history e.logged cast why → HasLeft (tells log.disk) banks e found cast
+        → WentSo tells faults base log banks e.history e.logged cast why
+        → HasLeft (tells log.disk) banks e found cast
     by None is went = safe went.1
     by (Some (logs.LogFull len)) is went = safe went.2.safe
     by (Some logs.DiskFault) is went = inr (record {

@@ -1,6 +1,6 @@
-//! Five examples for those who build on these layers: members that are led deed by deed, a second leader by its
-//! words, a world that takes events, a log over a disk of one's own, and an age of a script. `docs/LIBRARY.md`
-//! shows their lines.
+//! Five examples for those who build on these layers: members that are led deed by deed, a second leader by
+//! its words, a world that takes events, a log over a disk of one's own, and an age of a script.
+//! `docs/LIBRARY.md` shows their lines.
 #![tactic(auto)]
 
 mod ages;

@@ -201,7 +201,8 @@ finish_keeps g V w m x is there idle stays well f = record {
     own = at₃_case (λ i v k z. Tells g V new i v k z) w.past.own m (w.past.view m + 1) LOGGED_COLUMN
         (length (w.past.log m))
         (λ i v k. later i v k (w.past.own i v k) (f.words.own i v k))
-        (tells_logged g V new m (w.past.view m + 1) (length (w.past.log m)) (le_refl (length (w.past.log m))));
+        (tells_logged g V new m (w.past.view m + 1) (length (w.past.log m))
+        (le_refl (length (w.past.log m))));
     table = λ v j i k. later i v k (w.table v j i k) (f.words.table v j i k);
     seen = λ a i c. at_both (λ k (b : ℕ) (s : ℕ → ℕ → ℕ). Tells g V new i b c (s i c)) w.past.view w.seen m
         (w.past.view m + 1) (λ i c. 0) (λ k. later i (w.past.view k) c (w.seen k i c) (f.words.seen k i c))

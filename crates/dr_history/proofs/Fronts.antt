@@ -4,12 +4,6 @@ use Rattle.std.proofs.Math.Nat.{mul-div_cancel_left}
 use Rattle.dr_history.specs.Places.{is_held, IsFront, first, front_of}
 use Rattle.dr_history.proofs.FrontLemmas.{IsFront-least, IsFront-monotone, IsFront-only}
 
--- what passes is found at once; what does not is passed over
-first_at : (p : ℕ → Bool) (n k : ℕ) (b : Bool) → p n ≡ b → first p n (suc k)
-    ≡ cond b n (first p (suc n) k)
-unfolding first
-first_at p n k b e = ap (λ (x : Bool). cond x n (first p (suc n) k)) e
-
 -- the first number that passes, of k from n on, is at most n + k
 pub first_within : (p : ℕ → Bool) (n k : ℕ) → first p n k ≤ n + k
 unfolding first

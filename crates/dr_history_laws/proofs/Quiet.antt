@@ -31,14 +31,16 @@ quiet-next o sent h s i given (View a k m) sound order l at q = record {
   absent = λ there. q.absent (All-contains (λ t. Contains q.view.members t) (members_of m) s
       (IsSomeAnd-at (view_of (take i h)) (λ v. MayFollow v a k m) q.view q.is (order.views i a k m l at)).part
       there);
-  same = ap (messages_from s) (take-next h i (View a k m) at) ∙ messages_from-View s (take i h) a k m ∙ q.same;
+  same = ap (messages_from s) (take-next h i (View a k m) at)
+      ∙ messages_from-View s (take i h) a k m ∙ q.same;
 }
 quiet-next o sent h s i given (Msg t k b) sound order l at q = record {
   view = q.view;
   is = ap view_of (take-next h i (Msg t k b) at) ∙ view_of-Msg (take i h) t k b ∙ q.is;
   absent = q.absent;
   same = ap (messages_from s) (take-next h i (Msg t k b) at)
-      ∙ messages_from-other s (take i h) t k b (ne_eqb t s (λ here. q.absent (subst (Contains q.view.members) here
+      ∙ messages_from-other s (take i h) t k b
+      (ne_eqb t s (λ here. q.absent (subst (Contains q.view.members) here
       (IsSomeAnd-at (view_of (take i h)) (λ v. Contains v.members t) q.view q.is
       (history-stands o sent h sound order i (Msg t k b) at).0))))
       ∙ q.same;
@@ -62,6 +64,7 @@ pub no-more : (o : Opening) (sent : Sent) (h : List Entry) (s i : ℕ) (v : Grou
     → (Contains v.members s → ⊥) → messages_from s h ≡ messages_from s (take i h)
 no-more o sent h s i v sound order l within is absent =
     let place : i + (length h - i) ≡ length h = omega (arith, within) in
-    let q = quiet o sent h s i (length h - i) (messages_from s (take i h)) sound order l (omega (arith, place))
+    let q = quiet o sent h s i (length h - i) (messages_from s (take i h)) sound order l
+    (omega (arith, place))
     (record { view = v; is = is; absent = absent; same = refl }) in
     ap (messages_from s) (sym (take_all (i + (length h - i)) h (omega (arith, place)))) ∙ q.same

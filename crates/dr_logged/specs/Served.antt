@@ -58,8 +58,8 @@ pub record IsFull {D : Type 0} (told : D → Option Told) (log : LogState D) (le
   pub length : len ≡ log_length log.entries log.votes
   pub over : log.limit < len + block_length next
 
--- how the last append to a log of so many entries of a history and of these votes has gone, where the table has
--- so many banks: well, or it failed for this reason
+-- how the last append to a log of so many entries of a history and of these votes has gone, where the table
+-- has so many banks: well, or it failed for this reason
 abbrev pub WentSo : {D : Type 0} → (D → Option Told) → (D → ℕ) → LogState D → LogState D
     → ℕ → List Entry → ℕ → List Vote → Option LogWhy → Type 0
 WentSo told faults base log banks history logged votes None = (log.failed ≡ false) × IsSafe told log

@@ -19,14 +19,16 @@ sent_at (x ∷ ls) from zero rest l =
 sent_at (x ∷ ls) from (suc k) rest l =
     let next : from + suc k ≡ from + 1 + k = omega arith in
     rw (other_number from (from + suc k) (omega arith))
-    (ap (λ v. items_in v (sent_before (from + 1) ls ++ rest)) next ∙ sent_at ls (from + 1) k rest (omega (arith, l)))
+    (ap (λ v. items_in v (sent_before (from + 1) ls ++ rest)) next
+    ∙ sent_at ls (from + 1) k rest (omega (arith, l)))
 
 -- and of a later one what is said behind these
 sent_past : (ls : List LeftView) (from v : ℕ) (rest : List ViewSent) → from + length ls ≤ v
     → items_in v (sent_before from ls ++ rest) ≡ items_in v rest
 sent_past [] from v rest l = refl
 sent_past (x ∷ ls) from v rest l =
-    rw (other_number from v (λ e. absurd (omega (arith, l, e)))) (sent_past ls (from + 1) v rest (omega (arith, l)))
+    rw (other_number from v (λ e. absurd (omega (arith, l, e))))
+    (sent_past ls (from + 1) v rest (omega (arith, l)))
 
 -- so it says what the replica has
 pub sent_there : (r : Replica) (v : ℕ) → length r.left ≡ r.view
@@ -44,7 +46,8 @@ sent_there r v left = by (cases_lt v r.view) (cases_eq v r.view)
         (sym (sent_at r.left 0 v (record { number = r.view; items = r.sent } ∷ []) (omega (arith, l, left)))
         ∙ ap (λ u. items_in u (member_end r).sent) start)
     by (inr l) (inl same) = rw (same, same_number r.view)
-        (sym (sent_past r.left 0 r.view (record { number = r.view; items = r.sent } ∷ []) (omega (arith, left))
+        (sym (sent_past r.left 0 r.view (record { number = r.view; items = r.sent } ∷ [])
+        (omega (arith, left))
         ∙ rw (same_number r.view) refl))
     by (inr l) (inr other) = rw (other_number v r.view other)
         (ap (λ (k : LeftView). k.sent) (get_or_past r.left v nothing_left (omega (arith, l, left)))

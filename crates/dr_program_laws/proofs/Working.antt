@@ -146,7 +146,8 @@ items_begin most n =
     sum_by-replicate (λ (count : ℕ). most - count) n 0 ∙ ap (λ k. n * k) none ∙ mul_comm n most
 
 pub works_begin : (s : Setup) → HasWorked (begun_running s)
-unfolding work views_left sum_of items_left places_left log_left reports_left mark_left trust_left ballots_left
+unfolding work views_left sum_of items_left places_left log_left reports_left mark_left trust_left
+    ballots_left
     commit_left
 works_begin s none = omega (
   arith,

@@ -128,7 +128,8 @@ deliver_bounded g rs table m r is room reached =
     let f = fits g rs table m r is in
     omega (
       arith,
-      history_below g (world_of g rs table) m (greatest r.totals) is.group reached (inside g m r.rows r.view f)
+      history_below g (world_of g rs table) m (greatest r.totals) is.group reached
+          (inside g m r.rows r.view f)
           (λ s. omega (arith, is.of.totals s, greatest_at r.totals s)),
       ap (λ h. length h.history) (held_of g rs table m r is.there),
       room,
@@ -152,7 +153,8 @@ finish_bounded g rs table m r is room reached can =
     let value : committed_value w m ≡ can.value = ap (λ o. unwrap_or o no_value) can.committed in
     let base : length (messages_from m (finished_history g w m (committed_value w m))) ≡ (finished r).base =
     sym (based_here g w m) ∙ based_is g rs table m r is in
-    let same : length ((effect g (world_of g rs table) (Finish m)).past.history m) ≡ length (finished r).history =
+    let same : length ((effect g (world_of g rs table) (Finish m)).past.history m)
+    ≡ length (finished r).history =
     ap length (finished_is g rs table m r is) in (
       omega (
         arith,

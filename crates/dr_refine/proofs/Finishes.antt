@@ -96,7 +96,8 @@ finish_guard g rs table m r is free = by r.committed refl
             stays = ap (has x.leavers) (sym is.of.number) ∙ flip _ a.0;
             bank = omega (arith, view, bank, is.of.banks);
             items = λ s h.
-                let test = each_member (λ s. nat_lt (slice_index x.trim s) (count r s + 1)) r.roster r.members few
+                let test = each_member (λ s. nat_lt (slice_index x.trim s) (count r s + 1)) r.roster
+                r.members few
                 is.form.roster c.0 s (ap (λ k. has k s) (sym members) ∙ h) in
                 let below : slice_index x.trim s < count r s + 1 = grind (arith, nat_tests, test) in
                 omega (arith, below, count_is g rs table m r s is);
@@ -113,11 +114,13 @@ finish_guard g rs table m r is free = by r.committed refl
     from x e can room few =
         let one : can.value ≡ x = same can.value x (sym can.committed ∙ committed ∙ e) in
         let bank : r.view + 1 < r.banks = omega (arith, view, can.bank, is.of.banks) in
-        let rooms : length (finished_history r x) < r.room + 1 = omega (arith, room, ap length (history x e)) in
+        let rooms : length (finished_history r x) < r.room + 1 =
+        omega (arith, room, ap length (history x e)) in
         let mine : length (messages_from (me r) (finished_history r x)) < length r.messages + 1 =
         omega (arith, few, ap (λ es. length (messages_from (me r) es)) (history x e)) in
         and_from _ _
-        (back _ (ap (has x.leavers) is.of.number ∙ subst (λ (y : Value). has y.leavers m ≡ false) one can.stays))
+        (back _ (ap (has x.leavers) is.of.number
+        ∙ subst (λ (y : Value). has y.leavers m ≡ false) one can.stays))
         (and_from _ _ (grind (arith, nat_tests, bank)) (and_from _ _
         (all_members (λ s. nat_lt (slice_index x.trim s) (count r s + 1)) r.members (λ s h. below s
         (omega (
@@ -157,7 +160,8 @@ place_from h history p =
 
 abbrev history_from : Group → Value → Holding → List Entry
 history_from g x h =
-    fold (place_from h) h.history (rest_places (map (λ s. slice_index x.trim s) (members_of h.members)) h.next)
+    fold (place_from h) h.history (rest_places
+    (map (λ s. slice_index x.trim s) (members_of h.members)) h.next)
     ++ View g.opening.age (h.view + 1) (without h.members x.leavers) ∷ []
 
 abbrev finish_after : Group → ℕ → Value → Holding → Holding

@@ -174,8 +174,10 @@ gained_world g rs table m r s x there f may =
 
     count_is : (holding_of g (gained r s x)).count
         ≡ at (holding_of g r).count r.view (at (slice_index r.counts) s (count r s + 1))
-    count_is = fun_ext λ v. fun_ext λ t. ap (λ (h : ℕ → ℕ). if v == r.view then h t else kept_count r v t) counts
-        ∙ row_written (slice_index r.counts) (at (slice_index r.counts) s (count r s + 1)) (kept_count r) r.view v t
+    count_is = fun_ext λ v. fun_ext λ t. ap
+        (λ (h : ℕ → ℕ). if v == r.view then h t else kept_count r v t) counts
+        ∙ row_written (slice_index r.counts) (at (slice_index r.counts) s (count r s + 1))
+        (kept_count r) r.view v t
 
     seen_is : (holding_of g (gained r s x)).seen ≡ (holding_of g r).seen
     seen_is = seen_kept (with_own r.rows (recv_column s) (recv_word (count r s + 1) false)) RECEIVED_COLUMN

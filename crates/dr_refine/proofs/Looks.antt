@@ -94,7 +94,8 @@ push_effect g rs table m r j c is e column =
     let w : World = world_of g rs table in
     let cell : Holding → ℕ → ℕ → ℕ → ℕ
     → ℕ = λ h. at₄ w.table h.view j m c (h.own h.view c) in
-    let word : own r.rows c ≡ in_view r r.view (own r.rows c) (kept_word r r.view c) = rw (same_number r.view) refl in
+    let word : own r.rows c ≡ in_view r r.view (own r.rows c) (kept_word r r.view c) =
+    rw (same_number r.view) refl in
     replaced g rs table (slice_set table (word_index_of (roster g) g.window r.view j m c) (own r.rows c)) m
     r (pushed r j c) (pushes w m j c) (λ h. h) is.there
     (push_changes w m j c) refl

@@ -164,7 +164,8 @@ then_acted g rs table m r w within f whole before =
 
 -- the word of a row, as the replica has it
 pub shown_word : (r : Replica) (m i c : ℕ) → me r ≡ m
-    → (if i == m then in_view r r.view (own r.rows c) (kept_word r r.view c) else (if i == me r then 0 else seen r.rows i c))
+    → (if i == m then in_view r r.view (own r.rows c) (kept_word r r.view c) else
+    (if i == me r then 0 else seen r.rows i c))
     ≡ seen r.rows i c
 shown_word r m i c number =
     elim (cases_eq i m) [

@@ -401,7 +401,8 @@ accept_effect g rs table m r is =
         (λ c. accepted_word (roster g) r.members (vote.ballot + 1) vote.value c (own r.rows c))
     own_is = fun_ext λ v. fun_ext λ c. ap (λ x. if v == r.view then x else kept_word r v c) (words c)
         ∙ row_written (own r.rows)
-        (λ d. accepted_word (roster g) r.members (vote.ballot + 1) vote.value d (own r.rows d)) (kept_word r) r.view v c
+        (λ d. accepted_word (roster g) r.members (vote.ballot + 1) vote.value d (own r.rows d))
+        (kept_word r) r.view v c
 
     seen_is : (holding_of g (accepted r)).seen ≡ (holding_of g r).seen
     seen_is = fun_ext λ i. fun_ext λ c. elim (cases_eq i r.rows.me) [

@@ -70,9 +70,10 @@ history_is h g es roster entries room =
     ∙ ap (λ (x : List Entry). record { roster = g.roster; entries = x; room = h.room }) entries
     ∙ ap (λ (n : ℕ). record { roster = g.roster; entries = es; room = n }) room
 
--- there is a history of so many entries, so many of which are the member's messages, behind which what is left
--- from a place on makes what there will be
-pub record AreCounted (h : Held) (es : List Entry) (trims : List ℕ) (start from me entries own : ℕ) : Type 0 where
+-- there is a history of so many entries, so many of which are the member's messages, behind which what is
+-- left from a place on makes what there will be
+pub record AreCounted (h : Held) (es : List Entry) (trims : List ℕ)
+    (start from me entries own : ℕ) : Type 0 where
   pub so_far : List Entry
   pub entries_are : entries ≡ length so_far
   pub own_are : own ≡ length (messages_from me so_far)
@@ -82,7 +83,8 @@ pub record AreCounted (h : Held) (es : List Entry) (trims : List ℕ) (start fro
 pub counted_more : (h : Held) (es : List Entry) (trims : List ℕ) (start from p me entries own e o : ℕ)
     → 0 < length trims → IsNextHeld trims from (Some p) → AreCounted h es trims start from me entries own
     → ((so_far : List Entry) → e ≡ length (entries_of so_far (sender_at h p) (item_at h p)))
-    → ((so_far : List Entry) → o ≡ length (messages_from me (entries_of so_far (sender_at h p) (item_at h p))))
+    → ((so_far : List Entry) → o ≡ length
+    (messages_from me (entries_of so_far (sender_at h p) (item_at h p))))
     → AreCounted h es trims start (p + 1) me (entries + e) (own + o)
 counted_more h es trims start from p me entries own e o some next are more mine = record {
   so_far = with_item h are.so_far p;
@@ -116,15 +118,19 @@ pub counted_all : (h : Held) (es : List Entry) (trims : List ℕ) (start from me
     → (entries ≡ length (merged_from h es trims start))
     × (own ≡ length (messages_from me (merged_from h es trims start)))
 counted_all h es trims start from me entries own some none are =
-    let whole = sym (none_merged h are.so_far trims from some none) ∙ are.left in
-    (are.entries_are ∙ ap length whole, are.own_are ∙ ap (λ (x : List Entry). length (messages_from me x)) whole)
+    let whole = sym (none_merged h are.so_far trims from some none) ∙ are.left in (
+      are.entries_are ∙ ap length whole,
+      are.own_are
+          ∙ ap (λ (x : List Entry). length (messages_from me x)) whole,
+    )
 
 -- ---- the same of a replica's fields
 
 -- a member that has what a trim takes has the item of each place that it holds
 pub taken_within : (a : Inside) (trim : List ℕ) → a.items.members ≡ members_of a.members
     → has_taken (replica_of a) trim ≡ true → AreWithin a.items trim
-taken_within a trim members taken i l = by (nat_lt (slice_index trim s) (slice_index a.items.counts s + 1)) refl
+taken_within a trim members taken i l = by (nat_lt (slice_index trim s)
+    (slice_index a.items.counts s + 1)) refl
   where
     s : ℕ
     s = slice_index a.items.members i

@@ -43,8 +43,10 @@ finished_by_form r x f may none =
     let q : Replica = finished_by r x in
     let stays = and_parts (not (has x.leavers (me r))) _ may in
     let bank = and_parts (nat_lt (r.view + 1) r.banks) _ stays.1 in
-    let there = and_parts _ (nat_lt (length q.history) (r.room + 1) && nat_lt q.base (length r.messages + 1)) bank.1 in
-    let fits = and_parts (nat_lt (length q.history) (r.room + 1)) (nat_lt q.base (length r.messages + 1)) there.1 in
+    let there = and_parts _ (nat_lt (length q.history) (r.room + 1) && nat_lt q.base
+    (length r.messages + 1)) bank.1 in
+    let fits = and_parts (nat_lt (length q.history) (r.room + 1))
+    (nat_lt q.base (length r.messages + 1)) there.1 in
     let room : length q.history ≤ r.room = omega (arith, ltb-true (length q.history) (r.room + 1) fits.0) in
     let base : q.base ≤ length r.messages = omega (arith, ltb-true q.base (length r.messages + 1) fits.1) in
     let few : r.rows.members ≤ 16 = f.rows.few in
@@ -76,7 +78,8 @@ finished_by_form r x f may none =
       suspected = word SUSPECTED_COLUMN (omega arith);
       bank = ltb-true (r.view + 1) r.banks bank.0;
       left = length_push r.left _ ∙ ap (λ (v : ℕ). v + 1) f.left;
-      roster = λ i is. f.roster i (and_parts (has r.members i) (not (has x.leavers i)) (sym (remain i) ∙ is)).0;
+      roster = λ i is. f.roster i (and_parts (has r.members i) (not (has x.leavers i))
+          (sym (remain i) ∙ is)).0;
       present = remain (me r) ∙ grind (arith, f.present, stays.0);
       counts = length-replicate n 0;
       bounded = λ i. omega (arith, zero i);
@@ -85,7 +88,8 @@ finished_by_form r x f may none =
       recv = λ i l. word (recv_column i) (omega arith) ∙ sym (ap (λ x. recv_word x false) (zero i));
       accept = λ c is. ap accept_promise (word c (λ e. omega (arith, accept_within n q.members c is, e)));
       tagged = λ c is. ap accept_tag (word c (λ e. omega (arith, accept_within n q.members c is, e)));
-      valued = λ c is. ap accept_value (word c (λ e. omega (arith, accept_within n q.members c is, e))) ∙ sym (no_part n c);
+      valued = λ c is. ap accept_value (word c (λ e. omega (arith, accept_within n q.members c is, e)))
+          ∙ sym (no_part n c);
       low = omega arith;
       waits = λ v e. absurd (cc (none, e));
       votes = omega (arith, f.votes, f.low, promise_within r f, suc-mul r.view n);

@@ -233,7 +233,8 @@ voted_after a now v x votes same vote more =
     (vote ∙ ap (λ (r : Replica). vote_of r v) (sym same))
 
 pub votes_kept : (a : Inside) (pending : Option Vote) (votes : _) → IsInside a
-    → a.shape.banks * a.shape.members ≤ vec_capacity votes → HasForm (view_of (record a { pending = pending; votes = votes }))
+    → a.shape.banks * a.shape.members ≤ vec_capacity votes
+    → HasForm (view_of (record a { pending = pending; votes = votes }))
     → IsInside (record a { pending = pending; votes = votes })
 votes_kept a pending votes inside room form = record {
   form = form;

@@ -118,7 +118,8 @@ left_view a b x inside l =
     ∙ ap (λ (es : List Entry). es ++ View a.age (a.view + 1) (without a.members x.leavers) ∷ [])
     (merged_same a x.trim inside) in
     let room = ap (λ (h : Kept). h.room) l.history in
-    let items : b.items ≡ none_held (without a.members x.leavers) a.shape.members (greatest a.totals) = l.items
+    let items : b.items ≡ none_held (without a.members x.leavers) a.shape.members
+    (greatest a.totals) = l.items
     ∙ ap (λ (n : ℕ). none_held (without a.members x.leavers) n a.items.most) inside.roster
     ∙ ap (λ (k : ℕ). none_held (without a.members x.leavers) a.shape.members k) inside.most in
     let base : b.base ≡ length (messages_from a.rows.me (finished_history (view_of a) x)) =
@@ -177,7 +178,8 @@ left_inside a b now x same inside committed may none l held sent past = record {
   members = ap (λ (h : Held). h.members) l.items ∙ sym (ap members_of l.members);
   roster = ap (λ (h : Held). h.roster) l.items ∙ inside.roster ∙ ap (λ (s : _). s.members) (sym l.shape);
   most = ap (λ (h : Held). h.most) l.items ∙ inside.most ∙ ap greatest (sym l.totals);
-  messages = ap (λ (h : Kept). h.roster) l.history ∙ inside.messages ∙ ap (λ (s : _). s.members) (sym l.shape);
+  messages = ap (λ (h : Kept). h.roster) l.history ∙ inside.messages
+      ∙ ap (λ (s : _). s.members) (sym l.shape);
   next = rw (l.next, l.members) (first_is_spot (length (members_of (without a.members x.leavers)))
       (remaining_some a x inside (may_leave a now x same inside committed may)).0);
   received = rw l.received (omega arith);
@@ -195,7 +197,8 @@ left_inside a b now x same inside committed may none l held sent past = record {
 -- it takes one of the spares, and there are enough left
 pub record AreTaken (a : Inside) (spares : List Left) (left : Left) : Type 0 where
   pub spare : IsSpare (columns_of a.shape.members a.shape.window) a.shape.members (greatest a.totals) left
-  pub others : All (IsSpare (columns_of a.shape.members a.shape.window) a.shape.members (greatest a.totals)) spares
+  pub others : All (IsSpare (columns_of a.shape.members a.shape.window) a.shape.members
+      (greatest a.totals)) spares
   pub enough : a.shape.banks ≤ a.view + 1 + 1 + length spares
   pub room : HasRoom a.rows.columns a.items.roster left
 
@@ -204,7 +207,8 @@ pub spare_taken : (a : Inside) (spares : List Left) (r : Option Left) (left : Le
 spare_taken a spares r left inside items is =
     let P : Left → Type 0 =
     IsSpare (columns_of a.shape.members a.shape.window) a.shape.members (greatest a.totals) in
-    let old : a.spares.items ≡ spares ++ left ∷ [] = items ∙ ap (λ (o : Option Left). spares ++ option_to_list o) is in
+    let old : a.spares.items ≡ spares ++ left ∷ [] =
+    items ∙ ap (λ (o : Option Left). spares ++ option_to_list o) is in
     let parts = All-pop P a.spares.items spares (Some left) old inside.spares in
     let spare : P left = parts.1 in
     record {

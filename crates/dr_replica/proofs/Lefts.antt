@@ -52,7 +52,8 @@ sent_before_long v [] = refl
 sent_before_long v (l ∷ ls) = omega (arith, sent_before_long (v + 1) ls)
 
 pub sent_before_more : (v : ℕ) (ls : List LeftView) (l : LeftView)
-    → sent_before v (ls ++ l ∷ []) ≡ sent_before v ls ++ record { number = v + length ls; items = l.sent } ∷ []
+    → sent_before v (ls ++ l ∷ []) ≡ sent_before v ls
+    ++ record { number = v + length ls; items = l.sent } ∷ []
 sent_before_more v [] l = ap (λ (n : ℕ). record { number = n; items = l.sent } ∷ []) (omega arith)
 sent_before_more v (k ∷ ls) l =
     ap (λ (x : List ViewSent). record { number = v; items = k.sent } ∷ x) (sent_before_more (v + 1) ls l)
@@ -99,12 +100,14 @@ pub put_all : (sent : List ViewSent) (given rest : List Left) (r : Replica)
 put_all sent given (l ∷ rest) r told all none form = absurd (omega (arith, none))
 put_all sent given [] r told all none form =
     let same : sent ≡ sent_before 0 r.left = told
-    ∙ ap (λ (ls : List Left). sent_before 0 (map left_of ls)) (sym (append-nil given)) ∙ ap (sent_before 0) all in
+    ∙ ap (λ (ls : List Left). sent_before 0 (map left_of ls)) (sym (append-nil given))
+    ∙ ap (sent_before 0) all in
     (same, (omega (arith, ap length same, sent_before_long 0 r.left, form.left), form.bank))
 
 -- a member's end is told by its parts
 pub end_told : (r : Replica) (end : End) (sent : List ViewSent) (history : List Entry)
-    → end ≡ unwrap_or r.end Done → sent ≡ sent_before 0 r.left ++ record { number = r.view; items = r.sent } ∷ []
+    → end ≡ unwrap_or r.end Done → sent ≡ sent_before 0 r.left
+    ++ record { number = r.view; items = r.sent } ∷ []
     → history ≡ r.history → record {
       end = end;
       turns = r.turns;

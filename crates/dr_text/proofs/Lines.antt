@@ -18,14 +18,6 @@ first_text f xs n =
     ap (take (length (flat_map f (take n xs)))) (text_parts f xs n)
     ∙ take-append_seam (flat_map f (take n xs)) (flat_map f (drop n xs))
 
--- a text that goes on by the texts of what two lists begin with, and then by those of the rest
-pub first_and_rest : {A B : Type 0} (f : A → List B) (xs ys : List A) (n : ℕ) (old now new : List B)
-    → take n xs ≡ take n ys → now ≡ old ++ flat_map f (take n xs)
-    → new ≡ now ++ flat_map f (drop n ys)
-    → new ≡ old ++ flat_map f ys
-first_and_rest f xs ys n old now new same first rest =
-    rw (rest, first, same, text_parts f ys n, append_assoc) refl
-
 -- what holds up to n and at the next number holds up to it
 up_to_more : (P : ℕ → Type 0) (n : ℕ)
     → ((i : ℕ) → i ≤ n → P i) → P (n + 1) → (i : ℕ) → i ≤ n + 1 → P i

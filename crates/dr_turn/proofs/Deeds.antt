@@ -52,7 +52,8 @@ no_task : Replica → ℕ
 no_task r = 0
 
 -- the task with this number is less by so much
-less_by : (word : ℕ) (r : Replica) (s : Step) → ends_view s ≡ false → (i by : ℕ) → NoneRises r (stepped word r s) tasks
+less_by : (word : ℕ) (r : Replica) (s : Step) → ends_view s ≡ false → (i by : ℕ)
+    → NoneRises r (stepped word r s) tasks
     → i < length tasks
     → slice_index_or tasks i no_task (stepped word r s) + by ≤ slice_index_or tasks i no_task r
     → work (stepped word r s) + by ≤ work r
@@ -115,7 +116,8 @@ lowers_task word r (steps.Do acts.Accept) stays f may form none =
 lowers_task word r (steps.Do acts.Commit) stays f may form none =
     above _ _ (less_by word r (steps.Do acts.Commit) stays 7 1 none (omega arith)
     (one_less _ _ (decided_less r may)))
-lowers_task word r (steps.Do (acts.Halt end)) stays f may form none = no_more word r (steps.Do (acts.Halt end)) stays none
+lowers_task word r (steps.Do (acts.Halt end)) stays f may form none =
+    no_more word r (steps.Do (acts.Halt end)) stays none
 lowers_task word r (steps.Do (acts.Crash end)) stays f may form none =
     no_more word r (steps.Do (acts.Crash end)) stays none
 lowers_task word r (steps.Look i c) stays f may form none = no_more word r (steps.Look i c) stays none

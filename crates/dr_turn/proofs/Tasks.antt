@@ -308,7 +308,10 @@ none_rises word r s stays f is form rise = (
         reports_keep word r s is,
         (
           mark_keeps word r s rise,
-          (trust_keeps word r s stays f is, (ballots_keep word r s stays f is, (commit_keeps word r s stays is, tt))),
+          (
+            trust_keeps word r s stays f is,
+            (ballots_keep word r s stays f is, (commit_keeps word r s stays is, tt)),
+          ),
         ),
       ),
     ),

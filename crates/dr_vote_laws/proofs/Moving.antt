@@ -43,7 +43,8 @@ moved_votes g V view tag value committed pending own table seen votes m next x i
         (λ b e. absurd (omega (arith, e, at_same tag m 0)))
         (λ d b e. rw (at_other view m next i d, at_other value m x i d)
         (old.acted.accepted i b (sym (at_other tag m 0 i d) ∙ e))) b;
-    waiting = λ i y e. by_member i (λ k. pending k ≡ Some y → HasLogged votes k y × (y.view ≡ at view m next k))
+    waiting = λ i y e. by_member i (λ k. pending k ≡ Some y → HasLogged votes k y
+        × (y.view ≡ at view m next k))
         (λ e. absurd (cc (idle, e)))
         (λ d e. rw (at_other view m next i d) (old.acted.waiting i y e)) e;
   };

@@ -33,7 +33,8 @@ use Rattle.dr_world_laws.proofs.Reached.{Known}
 -- ---- agreement
 
 -- a member has come where it may, to a view and to a place of it
-pub may-reach : (g : Group) (values : Values) (w : World) (m : ℕ) → IsGroup g → Known g values w → m < roster g
+pub may-reach : (g : Group) (values : Values) (w : World) (m : ℕ) → IsGroup g → Known g values w
+    → m < roster g
     → MayReach g.opening w.past.sent (endings_by g.opening values) (w.past.view m) (w.next m)
 may-reach g values w m is y l = record {
   view = record {

@@ -55,7 +55,8 @@ whole-small n l = let most : 2 ^ n ≤ 2 ^ 16 = pow_mono l in omega (arith, most
 
 -- each is a mask
 pub views-small : (g : Group) (values : Values) (v : ℕ) → IsGroup g → views_by g values v < 2 ^ 16
-views-small g values zero is = rw (views-first g values, is.sound.whole) (whole-small (roster g) is.most_members)
+views-small g values zero is = rw (views-first g values, is.sound.whole)
+    (whole-small (roster g) is.most_members)
 views-small g values (suc v) is =
     let next : suc v ≡ v + 1 = omega arith in
     rw (next, views-next g values v) (without_small (views_by g values v) (values v).leavers)
@@ -65,7 +66,8 @@ was_in true b e = refl
 was_in false b e = e
 
 -- who is in a later view is in the one before
-pub views-part : (g : Group) (values : Values) (v i : ℕ) → IsGroup g → has (views_by g values (v + 1)) i ≡ true
+pub views-part : (g : Group) (values : Values) (v i : ℕ) → IsGroup g
+    → has (views_by g values (v + 1)) i ≡ true
     → has (views_by g values v) i ≡ true
 views-part g values v i is h = was_in _ _
     (sym (has_without_mask (views_by g values v) (values v).leavers i (views-small g values v is))
@@ -78,7 +80,8 @@ views-within g values zero i is h =
     grind (arith, has_ones (roster g) i, is.sound.whole, views-first g values, h)
 views-within g values (suc v) i is h =
     let next : suc v ≡ v + 1 = omega arith in
-    views-within g values v i is (views-part g values v i is (subst (λ n. has (views_by g values n) i ≡ true) next h))
+    views-within g values v i is (views-part g values v i is
+    (subst (λ n. has (views_by g values n) i ≡ true) next h))
 
 stays_in : (a b : Bool) → a ≡ true → b ≡ false → (a && not b) ≡ true
 stays_in a b e d = grind (arith, e, d)
@@ -129,7 +132,8 @@ fewer_below : (a b i n : ℕ) → IsPartOf a b → has b i ≡ true → has a i 
     → length (members_below a n) < length (members_below b n)
 fewer_below a b i zero part there gone l = absurd (omega (arith, l))
 fewer_below a b i (suc n) part there gone l =
-    rw (length-members_below_suc a n, length-members_below_suc b n) (by (cases_eq i n) (fewer_below a b i n part there gone))
+    rw (length-members_below_suc a n, length-members_below_suc b n)
+    (by (cases_eq i n) (fewer_below a b i n part there gone))
   where
     last : (k : ℕ) → i ≡ k → has a k ≡ false
     last k e = subst (λ x. has a x ≡ false) e gone
@@ -247,7 +251,8 @@ place-kept g values w m is f l least = (front_is (map taken ms) some).greatest (
       some_member (views_by g values v) m (omega (arith, l, is.most_members)) (f.views.present m there),
     )
 
-    few : (j : ℕ) → 0 < length (map (w.past.count j (w.past.view m)) (members_of (views_by g values (w.past.view m))))
+    few : (j : ℕ) → 0 < length (map (w.past.count j (w.past.view m))
+        (members_of (views_by g values (w.past.view m))))
     few j = omega (arith, some, length-map ms taken, length-map ms (w.past.count j v))
 
     held : AllHeldBelow (map taken (members_of (views_by g values (w.past.view m)))) (w.next m)

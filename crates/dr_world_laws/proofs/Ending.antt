@@ -18,7 +18,8 @@ use Rattle.dr_world_laws.specs.Historic.{HasEndedSafely}
 
 -- each view that was left has fewer members than the one before, so there are no more views than members
 pub views-few : (g : Group) (values : Values) (w : World) (v : ℕ) → IsGroup g
-    → ((u : ℕ) → u < v → HasEndedSafely g values w u) → length (members_of (views_by g values v)) + v ≤ roster g
+    → ((u : ℕ) → u < v → HasEndedSafely g values w u)
+    → length (members_of (views_by g values v)) + v ≤ roster g
 views-few g values w zero is left = omega (
   arith,
   ap (λ mask. length (members_of mask)) (views-first g values ∙ is.sound.whole),

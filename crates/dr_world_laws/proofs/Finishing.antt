@@ -99,8 +99,13 @@ leaves g values w m x is f y = record {
         omega (arith, y.items s there, f.items.counted m v s, f.sent.all s v);
   };
   least = λ s there.
-      let t = y.safe.least s (sym (member s) ∙ there) in
-      (t.0, member t.0 ∙ t.1, t.2, subst (λ (z : Value). w.past.count t.0 v s ≤ slice_index z.trim s) y.chosen t.3);
+      let t = y.safe.least s (sym (member s) ∙ there) in (
+        t.0,
+        member t.0 ∙ t.1,
+        t.2,
+        subst (λ (z : Value). w.past.count t.0 v s ≤ slice_index z.trim s)
+            y.chosen t.3,
+      );
   covered = λ i s remains there. subst (λ (z : Value). slice_index z.trim s ≤ w.past.count i v s) y.chosen
       (y.safe.covered i s (sym (member i) ∙ views-part g values v i is remains)
       (subst (λ (z : Value). has z.leavers i ≡ false) (sym y.chosen) (views-remain g values v i is remains))

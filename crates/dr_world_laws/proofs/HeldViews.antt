@@ -72,7 +72,8 @@ head_views g sent endings zero u members is c = by (Contains-append_cases g.open
         let first : u ≡ 0 = cc in
         let same : members ≡ g.opening.members = cc in
         (omega (arith, first), subst (λ n. members_in g.opening endings n ≡ members) (sym first) (sym same))
-head_views g sent endings (suc v) u members is c = by (λ before. head_views g sent endings v u members is before)
+head_views g sent endings (suc v) u members is c =
+    by (λ before. head_views g sent endings v u members is before)
     (Contains-append_cases (head_of g.opening sent endings v
     ++ merge g.opening sent (view_in g.opening endings v) (counts_taken g.opening endings v))
     (View g.opening.age (suc v) (endings v).remaining ∷ []) (View g.opening.age u members) c)
@@ -100,7 +101,8 @@ head_views g sent endings (suc v) u members is c = by (λ before. head_views g s
     by rest (inl before) = earlier rest (Contains-append_cases (head_of g.opening sent endings v) merged
         (View g.opening.age u members) before)
     by rest (inr here) =
-        let e = one_is (View g.opening.age (suc v) (endings v).remaining) (View g.opening.age u members) here in
+        let e = one_is (View g.opening.age (suc v) (endings v).remaining)
+        (View g.opening.age u members) here in
         let last : u ≡ suc v = cc in
         let same : members ≡ (endings v).remaining = cc in
         (omega (arith, last), subst (λ n. members_in g.opening endings n ≡ members) (sym last) (sym same))
@@ -109,7 +111,8 @@ head_views g sent endings (suc v) u members is c = by (λ before. head_views g s
 pub view-held : (g : Group) (values : Values) (w : World) (k v members : ℕ) → IsGroup g → Known g values w
     → k < roster g → Contains (w.past.history k) (View g.opening.age v members)
     → (v ≤ w.past.view k) × (views_by g values v ≡ members)
-view-held g values w k v members is y l c = by (Contains-append_cases (head_by g values w (w.past.view k)) here
+view-held g values w k v members is y l c =
+    by (Contains-append_cases (head_by g values w (w.past.view k)) here
     (View g.opening.age v members)
     (subst (λ es. Contains es (View g.opening.age v members)) (y.laid.historic.history k l) c))
   where
@@ -184,7 +187,8 @@ view-there g values w m v y l come =
 -- ---- what stands behind a View
 
 -- each stands once, so what is behind it is one list
-pub behind-is : (g : Group) (values : Values) (w : World) (k v m n : ℕ) (before behind first rest : List Entry)
+pub behind-is : (g : Group) (values : Values) (w : World) (k v m n : ℕ)
+    (before behind first rest : List Entry)
     → IsGroup g → Known g values w → k < roster g
     → w.past.history k ≡ before ++ View g.opening.age v m ∷ behind
     → w.past.history k ≡ first ++ View g.opening.age v n ∷ rest → behind ≡ rest

@@ -149,7 +149,8 @@ put_keeps g values w m name item ended held next h = record {
     now : Sent
     now = at₂ w.past.sent m (w.past.view m) (w.past.sent m (w.past.view m) ++ name ∷ [])
 
-    more : SentMore w.past.sent (at₂ w.past.sent m (w.past.view m) (w.past.sent m (w.past.view m) ++ name ∷ []))
+    more : SentMore w.past.sent (at₂ w.past.sent m (w.past.view m)
+        (w.past.sent m (w.past.view m) ++ name ∷ []))
     more = sent_more w.past.sent m (w.past.view m) name
 
     steady : (k v : ℕ) → k < roster g → v ≤ w.past.view k

@@ -46,7 +46,8 @@ pub record IsReceived (g : Group) (V : Views) (w : World) (m p : ℕ) : Type 0 w
 
 -- a place of whose member m has more items holds one that m has
 pub item-here : (g : Group) (V : Views) (w : World) (m p : ℕ) → Faithful g V w
-    → (s : ℕ) × (slice_get (members_of (V (w.past.view m))) (p % length (members_of (V (w.past.view m)))) ≡ Some s)
+    → (s : ℕ) × (slice_get (members_of (V (w.past.view m)))
+    (p % length (members_of (V (w.past.view m)))) ≡ Some s)
     × (p / length (members_of (V (w.past.view m))) < w.past.count m (w.past.view m) s)
     → IsReceived g V w m p
 item-here g V w m p f at = record {

@@ -141,7 +141,8 @@ step_leaves g V w m (Do (Halt end)) is f can grew old =
     (λ k other l. stays_so g w (effect_of g w m (Do (Halt end))) k (w.end k) grew
     (λ other e. stays_still g w m (Do (Halt end)) k other can e) (old k l))
     (λ l. stays_so g w (effect_of g w m (Do (Halt end))) m (Some end) grew
-    (λ other e. record { members = refl; suspects = refl; view = refl }) (halts_so g V w m end is f l can.due))
+    (λ other e. record { members = refl; suspects = refl; view = refl })
+    (halts_so g V w m end is f l can.due))
 step_leaves g V w m (Do (Crash end)) is f can grew old =
     at_case (λ k o. k < roster g → IsLeftSo (effect_of g w m (Do (Crash end))) k o) w.end m (Some end)
     (λ k other l. stays_so g w (effect_of g w m (Do (Crash end))) k (w.end k) grew

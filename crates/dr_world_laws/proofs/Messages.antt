@@ -106,7 +106,8 @@ head_holds g sent endings zero ended =
 head_holds g sent endings (suc v) ended =
     let rest = head_holds g sent endings v (λ u l. ended u (omega (arith, l))) in
     let follows = (ended v (omega arith)).follows in
-    let merged : List Entry = merge g.opening sent (view_in g.opening endings v) (counts_taken g.opening endings v) in
+    let merged : List Entry = merge g.opening sent (view_in g.opening endings v)
+    (counts_taken g.opening endings v) in
     let last : List Entry = View g.opening.age (suc v) (endings v).remaining ∷ [] in (
       (rest.0 ++ merged) ++ last,
       ap (λ es. (es ++ merged) ++ last) rest.1

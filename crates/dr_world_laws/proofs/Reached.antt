@@ -186,7 +186,8 @@ all-left g values w e is chosen can y k v l less =
   where
     by : (v < w.past.view k) ⊎ (CanFinish g w k × (v ≡ w.past.view k)) → HasEndedSafely g values w v
     by (inl before) = y.laid.left k v l before
-    by (inr (finish, same)) = subst (HasEndedSafely g values w) (sym same) (leaves g values w k finish.value is
+    by (inr (finish, same)) = subst (HasEndedSafely g values w) (sym same)
+        (leaves g values w k finish.value is
         y.faithful (may-end g values w k is y chosen finish))
 
 -- ---- the induction
@@ -253,7 +254,8 @@ event-known g values w e is chosen can y = record {
       ended = λ m v l less. (y.laid.left m v l less).ended;
       held = λ m l. held-next g (views_by g values) w m y.faithful l;
       adds = λ m d. adds-entry g values w m is y d;
-      comes = λ m can. comes-to_head g values w m can.value is y.faithful y.laid.historic (may-end g values w m is y chosen can);
+      comes = λ m can. comes-to_head g values w m can.value is y.faithful y.laid.historic
+          (may-end g values w m is y chosen can);
     }
 
 -- and so it is known of each world that is reached by them

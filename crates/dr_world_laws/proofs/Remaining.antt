@@ -109,7 +109,8 @@ view-first g values = ap (λ mask. view_with mask) (views-first g values)
 
 pub history-first : (g : Group) (values : Values) (w : World) (m : ℕ) → Known g values w → m < roster g
     → w.past.view m ≡ 0
-    → w.past.history m ≡ first_entries g.opening ++ laid g.opening w.past.sent (first_view g.opening) (w.next m)
+    → w.past.history m ≡ first_entries g.opening
+    ++ laid g.opening w.past.sent (first_view g.opening) (w.next m)
 history-first g values w m y l first = y.laid.historic.history m l
     ∙ ap (λ n. course g.opening w.past.sent (endings_by g.opening values) n (w.next m)) first
     ∙ ap (λ es. es ++ laid g.opening w.past.sent (view_numbered g (views_by g values) 0) (w.next m))
@@ -138,7 +139,8 @@ put_now g values w s y l first =
   where
     base : w.base s ≡ length (messages_from s g.opening.start)
     base = y.laid.historic.based s l ∙ ap (λ n. length (messages_from s (head_by g values w n))) first
-        ∙ ap (λ es. length (messages_from s es)) (head-first g.opening w.past.sent (endings_by g.opening values))
+        ∙ ap (λ es. length (messages_from s es))
+        (head-first g.opening w.past.sent (endings_by g.opening values))
         ∙ start_messages g.opening s
 
 first_or : (v : ℕ) → (v ≡ 0) ⊎ (0 < v)

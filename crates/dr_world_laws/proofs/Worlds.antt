@@ -188,7 +188,8 @@ pub done-whole : (g : Group) (w : World) (m : ℕ) → IsGroup g → Known g w �
 done-whole g w m is y l e = agreeing.done-whole g y.values w m is y.chosen l e
 
 pub history-first : (g : Group) (w : World) (m : ℕ) → Known g w → m < roster g → w.past.view m ≡ 0
-    → w.past.history m ≡ first_entries g.opening ++ laid g.opening w.past.sent (first_view g.opening) (w.next m)
+    → w.past.history m ≡ first_entries g.opening
+    ++ laid g.opening w.past.sent (first_view g.opening) (w.next m)
 history-first g w m y l first = remainders.history-first g y.values w m y.chosen l first
 
 pub goes_first : (g : Group) (w : World) → IsGroup g → Known g w

@@ -149,8 +149,8 @@ fn added_at(items: &Items, spot: Spot, me: u8) -> (usize, usize)
     requires held { is_held (counts_of items.now) spot.place ≡ true }
     ensures entries { (es : List Entry) → result.0
         ≡ length (entries_of es (sender_at items.now spot.place) (item_at items.now spot.place)) }
-    ensures own { (es : List Entry) → result.1
-        ≡ length (messages_from me (entries_of es (sender_at items.now spot.place) (item_at items.now spot.place))) }
+    ensures own { (es : List Entry) → result.1 ≡ length (messages_from me
+        (entries_of es (sender_at items.now spot.place) (item_at items.now spot.place))) }
     ensures few { result.1 ≤ result.0 }
     ensures one { result.0 ≤ 1 }
 {

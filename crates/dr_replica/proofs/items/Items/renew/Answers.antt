@@ -7,14 +7,16 @@ use Rattle.dr_replica.proofs.items.Items.renew.Goals as goal
 
 pub invariant_of-self : goal.invariant_of-self
 invariant_of-self c =
-    let e = renewed_none c.self.inside (record c.loop-place.self-inside { front = c.first-self-inside.result })
+    let e = renewed_none c.self.inside (record
+    c.loop-place.self-inside { front = c.first-self-inside.result })
     c.args.view c.self.invariant
     (ap (λ (x : _). x.items) c.loop-place.invariant.members ∙ c.members_of-self-inside.ensures
     ∙ ap members_of c.bits.ensures) c.loop-place.invariant.roster c.loop-place.invariant.most
     (ap (λ (x : _). x.items) c.loop-place.invariant.counts ∙ c.fill.ensures.items (λ y h. h)
     ∙ ap (λ (n : ℕ). replicate n 0) (omega arith))
     c.loop-place.invariant.long
-    (λ k l. c.loop-place.invariant.nulls k (omega (arith, l, c.loop-place-test.false, c.len-place-end.ensures))) in
+    (λ k l. c.loop-place.invariant.nulls k
+    (omega (arith, l, c.loop-place-test.false, c.len-place-end.ensures))) in
     begun_items _ c.args.view c.self.inside.roster c.self.inside.most e c.first-self-inside.ensures
     c.self.invariant.form.roster
     (subst (λ (h : Held). IsInRoster h.roster c.args.view) (sym c.self.view_is) c.requires.members)
@@ -22,13 +24,15 @@ invariant_of-self c =
 
 pub returns : goal.returns
 returns c =
-    let e = renewed_none c.self.inside (record c.loop-place.self-inside { front = c.first-self-inside.result })
+    let e = renewed_none c.self.inside (record
+    c.loop-place.self-inside { front = c.first-self-inside.result })
     c.args.view c.self.invariant
     (ap (λ (x : _). x.items) c.loop-place.invariant.members ∙ c.members_of-self-inside.ensures
     ∙ ap members_of c.bits.ensures) c.loop-place.invariant.roster c.loop-place.invariant.most
     (ap (λ (x : _). x.items) c.loop-place.invariant.counts ∙ c.fill.ensures.items (λ y h. h)
     ∙ ap (λ (n : ℕ). replicate n 0) (omega arith))
     c.loop-place.invariant.long
-    (λ k l. c.loop-place.invariant.nulls k (omega (arith, l, c.loop-place-test.false, c.len-place-end.ensures))) in
+    (λ k l. c.loop-place.invariant.nulls k
+    (omega (arith, l, c.loop-place-test.false, c.len-place-end.ensures))) in
     none_is _ c.args.view c.self.inside.roster c.self.inside.most e
     ∙ ap (λ (h : Held). none_held c.args.view h.roster h.most) c.self.view_is

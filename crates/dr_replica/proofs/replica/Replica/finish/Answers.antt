@@ -87,7 +87,8 @@ made c = record {
       ∙ ap (λ (w : Words). with_own w LOGGED_COLUMN c.self.inside.logged) c.renew-2.ensures.after;
   view = refl;
   members = remaining;
-  suspects = c.new-self-inside.ensures.value ∙ ap (λ (i : ℕ). trusting i c.without-remaining.result) c.me-me.ensures.me
+  suspects = c.new-self-inside.ensures.value
+      ∙ ap (λ (i : ℕ). trusting i c.without-remaining.result) c.me-me.ensures.me
       ∙ ap (trusting c.self.inside.rows.me) remaining;
   items = c.renew.ensures
       ∙ ap (λ (m : ℕ). none_held m c.self.inside.items.roster c.self.inside.items.most) remaining;
@@ -105,7 +106,8 @@ made c = record {
       ∙ ap (λ (h : Kept). record h { entries = h.entries ++ c.next_view.result ∷ [] }) c.deliver_rest.ensures
       ∙ ap (λ (e : Entry). record c.self.inside.history {
         entries = merged_from c.self.inside.items c.self.inside.history.entries
-            (trims_by_rank c.self.inside.members c.unwrap-value.result.trim) c.self.inside.next.place ++ e ∷ [];
+            (trims_by_rank c.self.inside.members c.unwrap-value.result.trim)
+            c.self.inside.next.place ++ e ∷ [];
       }) c.next_view.ensures;
   logged = refl;
   durable = refl;

@@ -48,7 +48,8 @@ overflow_add-own c =
 pub overflow_add-from : goal.overflow_add-from
 overflow_add-from c =
     let low = (taken_held c.self.inside c.args.self.now c.args.trim.now c.loop-place.from c.in-Some.place
-    c.self.view_is c.self.invariant c.members-ranks.ensures.form c.requires (search rules) c.in-Some.ensures).1 in
+    c.self.view_is c.self.invariant c.members-ranks.ensures.form c.requires
+    (search rules) c.in-Some.ensures).1 in
     omega (arith, low)
 
 pub loop-place-smaller : goal.loop-place-smaller
@@ -80,7 +81,8 @@ returns-then-entries-room-2 c =
     c.me-me.result c.loop-place.entries c.loop-place.own
     (some_trims c.self.inside.items c.self.inside.members c.args.trim.now c.members-ranks.ensures.form
     c.self.invariant.members)
-    (subst (λ (o : Option ℕ). IsNextHeld (trims_by_rank c.self.inside.members c.args.trim.now) c.loop-place.from o)
+    (subst (λ (o : Option ℕ). IsNextHeld (trims_by_rank c.self.inside.members c.args.trim.now)
+    c.loop-place.from o)
     c.in_default.is c.next_rest.ensures) c.loop-place.invariant in
     fits_told c.self.inside c.args.self.now c.args.trim.now c.loop-place.entries c.loop-place.own c.len.result
     c.me-me.result c.self.view_is c.self.invariant c.me-me.ensures.me (omega arith)
@@ -93,7 +95,8 @@ returns-else-entries-room-2 c =
     c.me-me.result c.loop-place.entries c.loop-place.own
     (some_trims c.self.inside.items c.self.inside.members c.args.trim.now c.members-ranks.ensures.form
     c.self.invariant.members)
-    (subst (λ (o : Option ℕ). IsNextHeld (trims_by_rank c.self.inside.members c.args.trim.now) c.loop-place.from o)
+    (subst (λ (o : Option ℕ). IsNextHeld (trims_by_rank c.self.inside.members c.args.trim.now)
+    c.loop-place.from o)
     c.in_default.is c.next_rest.ensures) c.loop-place.invariant in
     let entries = all.0 in
     grind (

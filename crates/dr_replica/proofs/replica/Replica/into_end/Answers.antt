@@ -58,10 +58,16 @@ returns c =
     (c.loop-left.invariant.all ∙ sym (ap (λ (r : Replica). r.left) c.self.view_is))
     (search rules) c.self.invariant.form in
     let pushed : c.push-2.new.self.items
-    ≡ c.loop-left.sent.items ++ record { number = c.self.inside.view; items = c.of-2.result } ∷ [] = search rules in
-    end_told (view_of c.self.inside) c.unwrap_or.result c.of-3.result c.into_entries.result c.unwrap_or.ensures
+    ≡ c.loop-left.sent.items ++ record { number = c.self.inside.view; items = c.of-2.result } ∷ [] =
+    search rules in
+    end_told (view_of c.self.inside) c.unwrap_or.result c.of-3.result c.into_entries.result
+    c.unwrap_or.ensures
     (c.of-3.ensures ∙ pushed
-    ∙ ap (λ (x : List ViewSent). x ++ record { number = c.self.inside.view; items = c.of-2.result } ∷ []) all.0
+    ∙ ap (λ (x : List ViewSent). x ++ record {
+      number = c.self.inside.view;
+      items =
+          c.of-2.result;
+    } ∷ []) all.0
     ∙ ap (λ (x : List SentItem). sent_before 0 (view_of c.self.inside).left
     ++ record { number = c.self.inside.view; items = x } ∷ []) c.of-2.ensures)
     c.into_entries.ensures ∙ ap member_end c.self.view_is

@@ -16,7 +16,8 @@ pub show_items-requires-clause-recv : goal.show_items-requires-clause-recv
 show_items-requires-clause-recv c =
     let r : Replica = view_of c.self.inside in
     let s : ℕ = c.args.sender in
-    let within : s < r.roster = subst (λ (q : Replica). s < q.roster) (sym c.self.view_is) c.requires.sender in
+    let within : s < r.roster = subst (λ (q : Replica). s < q.roster)
+    (sym c.self.view_is) c.requires.sender in
     let may : may_receive r s ≡ true = may_of (λ (q : Replica). may_receive q s) r c.args.self.now
     c.self.view_is c.requires.may in
     let before = open_recv r s c.self.invariant.form

@@ -52,7 +52,8 @@ loop-place-preserved c = record {
     entries : c.deliver.new.self.entries
         ≡ with_item c.args.items.now c.loop-place.history.entries c.in-Some.place
     entries = ap (λ (h : Kept). h.entries) c.deliver.ensures
-        ∙ ap (λ (s : ℕ). c.loop-place.history.entries ++ entries_of c.loop-place.history.entries s c.item_at.result.now)
+        ∙ ap (λ (s : ℕ). c.loop-place.history.entries
+        ++ entries_of c.loop-place.history.entries s c.item_at.result.now)
         c.sender_at.ensures.sender
         ∙ ap (λ (x : Item). c.loop-place.history.entries ++ entries_of c.loop-place.history.entries
         (sender_at c.args.items.now here) x) c.item_at.ensures
