@@ -1,7 +1,7 @@
 -- How calls follow one another, and how what is known of each moment goes on.
 use Rattle.std.proofs.Common.{◌≡◌, ℕ, List, [], ◌∷◌, ◌++◌, Option, Some, None, IfSome, refl, sym, ap, subst, ◌∙◌, append_assoc, append-nil}
 use Rattle.dr_disk.specs.Calls.{Call, State, step, run_from, run}
-use Rattle.dr_disk.specs.Disk.{Told, Calls, Now, state_of, content_of, after}
+use Rattle.dr_disk.specs.Disk.{Told, Calls, Now, state_of, after}
 use Rattle.dr_disk.specs.Images.{AllImages, During, WentBy, Went, Goes, IsLeft, LastsDuring, LastsBy, LastsFrom, Lasts}
 
 -- calls behind others begin where these end

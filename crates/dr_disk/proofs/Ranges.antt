@@ -1,10 +1,9 @@
 -- What a crash leaves by ranges is among what it leaves by the first and the last place that was written.
-use Rattle.std.proofs.Common.{◌≡◌, ℕ, ◌+◌, ◌<◌, ◌≤◌, min, max, List, [], ◌∷◌, length, get_or, take, ◌⊎◌, inl, inr, ⊎_elim, refl, sym, ◌∙◌, ap, arith, length-take}
-use Rattle.std.proofs.lemmas.Bool.{cases_lt}
+use Rattle.std.proofs.Common.{◌≡◌, ℕ, ◌+◌, ◌<◌, ◌≤◌, min, max, List, [], ◌∷◌, length, get_or, take, ◌⊎◌, inl, inr, refl, sym, ◌∙◌, ap, arith}
 use Rattle.std.proofs.lemmas.List.{get_or-take}
 use Rattle.dr_disk.specs.Calls.{Call, Write, FailedWrite, Cut, FailedCut, Sync, State, at_rest, written, step, run_from, run}
 use Rattle.dr_disk.specs.Images.{IsImage}
-use Rattle.dr_disk.specs.Ranges.{Pending, settled, pend, pend_all, IsUntouched, IsLeftBy, IsImageByRanges}
+use Rattle.dr_disk.specs.Ranges.{Pending, settled, pend, pend_all, IsUntouched, IsImageByRanges}
 use Rattle.dr_disk.proofs.Images.{IsBetween, between-step, written_before, written_behind}
 
 -- a place below the least length, outside of all that was written

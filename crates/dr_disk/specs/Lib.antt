@@ -2,6 +2,5 @@ pub mod Calls
 pub mod Disk
 pub mod Images
 pub mod Ranges
-pub mod Plan
 pub mod Memory
 pub mod Steps

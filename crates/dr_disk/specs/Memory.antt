@@ -1,8 +1,8 @@
 -- What a disk in memory is to its callers.
-use Rattle.std.specs.Prelude.{ℕ, List}
+use Rattle.std.specs.Prelude.{ℕ, ◌≤◌, List, Option, IsSomeAnd, ◌⊎◌}
 use Rattle.dr_disk.specs.Calls.{Call, State}
-use Rattle.dr_disk.specs.Plan.{DiskPlan}
 use Rattle.dr_io.specs.Faults.{count_after}
+use Rattle.dr_io.specs.Plan.{CallPlan, IsPlanned}
 
 -- what has become of it, and for how many more bytes there is room
 pub record CalmState : Type 0 where
@@ -15,12 +15,17 @@ pub record KeptState : Type 0 where
   pub room_calls : ℕ
   pub room_bytes : ℕ
 
--- the same, and which calls fail
+-- the same, which calls fail, and after how many calls all fail
 pub record MemoryState : Type 0 where
   pub calls : List Call
   pub room_calls : ℕ
   pub room_bytes : ℕ
-  pub plan : DiskPlan
+  pub plan : CallPlan
+  pub stop : Option ℕ
+
+-- its next call is to fail
+abbrev pub FailsNext : MemoryState → Type 0
+FailsNext disk = IsPlanned disk.plan ⊎ IsSomeAnd disk.stop (λ stop. stop ≤ disk.plan.calls)
 
 -- the same disk with one fault more
 abbrev pub with_fault : MemoryState → MemoryState

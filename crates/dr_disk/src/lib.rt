@@ -14,7 +14,6 @@ mod disk;
 mod kept;
 mod laws;
 mod memory_disk;
-mod plan;
 
 pub use calm_disk::CalmDisk;
 pub use disk::Disk;
@@ -22,4 +21,3 @@ pub use laws::{
     content_is_an_image, parts_leave_no_more, ranges_leave_no_more, syncs_leave_the_content,
 };
 pub use memory_disk::MemoryDisk;
-pub use plan::Plan;

@@ -1,13 +1,12 @@
 //! A disk in memory whose calls fail where they are planned to.
 
-ghost use Rattle.std.specs.Prelude.{◌≡◌, ◌+◌, ◌≤◌, ◌↔◌, [], IfOk, IfSome, IsErr, OnOk, OnErr, length, take, drop};
+ghost use Rattle.std.specs.Prelude.{◌≡◌, ◌+◌, ◌≤◌, ◌↔◌, [], IfOk, IfSome, IsErr, IsSomeAnd, IsTrue, OnOk, OnErr, length, take, drop};
 ghost use Rattle.dr_io.specs.Faults.{HasCause};
-ghost use Rattle.dr_disk.specs.Plan.{IsPlanned, plan_after};
+ghost use Rattle.dr_io.specs.Plan.{plan_after};
 
 use crate::disk::Disk;
 use crate::kept::Kept;
-use crate::plan::Plan;
-use dr_io::Failed;
+use dr_io::{Failed, Plan};
 use std::alloc::{AllocError, Global};
 use std::marker::Model;
 
@@ -17,6 +16,7 @@ use std::marker::Model;
 pub struct MemoryDisk {
     kept: Kept,
     plan: Plan,
+    stop: Option<u64>,
 }
 
 impl Model for MemoryDisk {
@@ -29,13 +29,14 @@ impl Model for MemoryDisk {
       room_calls = a.kept.room_calls;
       room_bytes = a.kept.room_bytes;
       plan = a.plan;
+      stop = a.stop;
     } };
 }
 
 impl MemoryDisk {
     ghost use Rattle.dr_disk.specs.Calls.{content_after};
-    ghost use Rattle.dr_disk.specs.Memory.{with_fault};
-    ghost use Rattle.dr_disk.specs.Plan.{plan_of};
+    ghost use Rattle.dr_disk.specs.Memory.{FailsNext, with_fault};
+    ghost use Rattle.dr_io.specs.Plan.{plan_of};
 
     /// An empty disk. The calls whose numbers, from 1, are in `fails` fail, and all calls after the
     /// first `stop`. Calls of `reserve` have no number.
@@ -45,11 +46,13 @@ impl MemoryDisk {
     /// Want of memory alone.
     pub fn new(alloc: Global, fails: &[u64], stop: Option<u64>) -> Result<MemoryDisk, AllocError>
         ensures calls { IfOk result (λ disk. disk.calls ≡ []) }
-        ensures plan { IfOk result (λ disk. disk.plan ≡ plan_of fails.now stop) }
+        ensures plan { IfOk result (λ disk. disk.plan ≡ plan_of fails.now) }
+        ensures stop { IfOk result (λ disk. disk.stop ≡ stop) }
     {
         Ok(MemoryDisk {
             kept: Kept::new(alloc),
-            plan: Plan::new(alloc, fails, stop)?,
+            plan: Plan::new(alloc, fails)?,
+            stop,
         })
     }
 
@@ -74,6 +77,31 @@ impl MemoryDisk {
     {
         self.plan.count_fault();
     }
+
+    /// Counts one call, and fails where it is to fail, which counts as a fault.
+    fn begin_call(&mut self) -> Result<(), Failed>
+        ensures fails { IsErr result ↔ FailsNext self.old }
+        ensures after { self.new ≡ record self.old { plan = plan_after result self.old.plan } }
+        ensures cause { HasCause self.old.plan.faults self.new.plan.faults result }
+    {
+        let stopped = has_stopped(self.stop, self.plan.calls());
+        self.plan.begin_call()?;
+        if stopped {
+            self.count_fault();
+            return Err(Failed);
+        }
+        Ok(())
+    }
+}
+
+/// Whether all calls after so many fail.
+fn has_stopped(stop: Option<u64>, calls: u64) -> bool
+    ensures { IsTrue result ↔ IsSomeAnd stop (λ stop. stop ≤ calls) }
+{
+    match stop {
+        Some(stop) => stop <= calls,
+        None => false,
+    }
 }
 
 impl Disk for MemoryDisk {
@@ -81,6 +109,7 @@ impl Disk for MemoryDisk {
     ghost use Rattle.dr_disk.specs.Calls.{Write, FailedWrite, Cut, FailedCut, Sync, content_after};
     ghost use Rattle.dr_disk.specs.Disk.{Calls, added};
     ghost use Rattle.dr_disk.specs.Images.{ReadsAnImage};
+    ghost use Rattle.dr_disk.specs.Memory.{FailsNext};
 
     ghost told = { λ disk. Some (Calls disk.calls) };
 
@@ -100,6 +129,7 @@ impl Disk for MemoryDisk {
 
         // It is no call with a number.
         ensures plan { self.new.plan ≡ self.old.plan }
+        ensures stop { self.new.stop ≡ self.old.stop }
     {
         self.kept.reserve(calls, bytes)
     }
@@ -111,10 +141,11 @@ impl Disk for MemoryDisk {
         ensures bytes_kept { self.old.room_bytes ≤ self.new.room_bytes }
         ensures cause { HasCause self.old.plan.faults self.new.plan.faults result }
 
-        ensures fails { IsErr result ↔ IsPlanned self.old.plan }
+        ensures fails { IsErr result ↔ FailsNext self.old }
         ensures plan { self.new.plan ≡ plan_after result self.old.plan }
+        ensures stop { self.new.stop ≡ self.old.stop }
     {
-        self.plan.begin_call()?;
+        self.begin_call()?;
         Ok(self.kept.bytes().len() as u64)
     }
 
@@ -127,10 +158,11 @@ impl Disk for MemoryDisk {
         ensures bytes_kept { self.old.room_bytes ≤ self.new.room_bytes }
         ensures cause { HasCause self.old.plan.faults self.new.plan.faults result }
 
-        ensures fails { IsErr result ↔ IsPlanned self.old.plan }
+        ensures fails { IsErr result ↔ FailsNext self.old }
         ensures plan { self.new.plan ≡ plan_after result self.old.plan }
+        ensures stop { self.new.stop ≡ self.old.stop }
     {
-        self.plan.begin_call()?;
+        self.begin_call()?;
         Ok(self.kept.read_at(at, into))
     }
 
@@ -145,10 +177,11 @@ impl Disk for MemoryDisk {
         ensures bytes_kept { self.old.room_bytes ≤ self.new.room_bytes + length from.now }
         ensures cause { HasCause self.old.plan.faults self.new.plan.faults result }
 
-        ensures fails { IsErr result ↔ IsPlanned self.old.plan }
+        ensures fails { IsErr result ↔ FailsNext self.old }
         ensures plan { self.new.plan ≡ plan_after result self.old.plan }
+        ensures stop { self.new.stop ≡ self.old.stop }
     {
-        if let Err(failed) = self.plan.begin_call() {
+        if let Err(failed) = self.begin_call() {
             self.kept.fail_write(at, from.len());
             return Err(failed);
         }
@@ -164,10 +197,11 @@ impl Disk for MemoryDisk {
         ensures bytes_kept { self.old.room_bytes ≤ self.new.room_bytes }
         ensures cause { HasCause self.old.plan.faults self.new.plan.faults result }
 
-        ensures fails { IsErr result ↔ IsPlanned self.old.plan }
+        ensures fails { IsErr result ↔ FailsNext self.old }
         ensures plan { self.new.plan ≡ plan_after result self.old.plan }
+        ensures stop { self.new.stop ≡ self.old.stop }
     {
-        if let Err(failed) = self.plan.begin_call() {
+        if let Err(failed) = self.begin_call() {
             self.kept.fail_cut(to);
             return Err(failed);
         }
@@ -184,10 +218,11 @@ impl Disk for MemoryDisk {
         ensures bytes_kept { self.old.room_bytes ≤ self.new.room_bytes }
         ensures cause { HasCause self.old.plan.faults self.new.plan.faults result }
 
-        ensures fails { IsErr result ↔ IsPlanned self.old.plan }
+        ensures fails { IsErr result ↔ FailsNext self.old }
         ensures plan { self.new.plan ≡ plan_after result self.old.plan }
+        ensures stop { self.new.stop ≡ self.old.stop }
     {
-        self.plan.begin_call()?;
+        self.begin_call()?;
         self.kept.sync();
         Ok(())
     }

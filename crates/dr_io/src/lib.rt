@@ -19,5 +19,6 @@ pub use input_source::InputSource;
 pub use memory_sink::MemorySink;
 pub use memory_source::MemorySource;
 pub use output_sink::OutputSink;
+pub use plan::Plan;
 pub use sink::Sink;
 pub use source::Source;

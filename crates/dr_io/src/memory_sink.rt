@@ -73,7 +73,8 @@ impl Sink for MemorySink {
         ensures room { self.new.room ≡ room_after result self.old.room }
         ensures plan { self.new.plan ≡ plan_after result self.old.plan }
     {
-        if self.plan.count_call() || self.room == 0 {
+        self.plan.begin_call()?;
+        if self.room == 0 {
             self.plan.count_fault();
             return Err(Failed);
         }

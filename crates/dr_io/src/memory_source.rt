@@ -74,10 +74,7 @@ impl Source for MemorySource {
         ensures piece { self.new.piece ≡ self.old.piece }
         ensures plan { self.new.plan ≡ plan_after result self.old.plan }
     {
-        if self.plan.count_call() {
-            self.plan.count_fault();
-            return Err(Failed);
-        }
+        self.plan.begin_call()?;
         let count = copy_front(&self.bytes[self.at..], self.piece, into);
         self.at += count;
         Ok(count)

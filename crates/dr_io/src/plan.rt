@@ -1,11 +1,12 @@
-ghost use Rattle.std.specs.Prelude.{◌≡◌, ◌+◌, ◌≤◌, ◌↔◌, Contains, IfOk, IsTrue};
+ghost use Rattle.std.specs.Prelude.{◌≡◌, ◌+◌, ◌≤◌, ◌↔◌, Contains, IfOk, IsErr, IsTrue};
 
+use crate::failed::Failed;
 use std::alloc::{AllocError, Global};
 use std::marker::Model;
 
 /// Counts the calls and the faults of an object in memory, and knows which calls are to fail.
 #[derive(Debug, Drop)]
-pub(crate) struct Plan {
+pub struct Plan {
     fails: Vec<u64>,
     calls: u64,
     faults: u64,
@@ -20,11 +21,15 @@ impl Model for Plan {
 }
 
 impl Plan {
-    ghost use Rattle.dr_io.specs.Faults.{count_after};
-    ghost use Rattle.dr_io.specs.Plan.{IsPlanned, plan_of};
+    ghost use Rattle.dr_io.specs.Faults.{HasCause, count_after};
+    ghost use Rattle.dr_io.specs.Plan.{IsPlanned, plan_after, plan_of};
 
     /// The plan by which the calls with these numbers, from 1, fail.
-    pub(crate) fn new(alloc: Global, fails: &[u64]) -> Result<Plan, AllocError>
+    ///
+    /// # Errors
+    ///
+    /// Want of memory alone.
+    pub fn new(alloc: Global, fails: &[u64]) -> Result<Plan, AllocError>
         ensures { IfOk result (λ plan. plan ≡ plan_of fails.now) }
     {
         Ok(Plan {
@@ -34,8 +39,39 @@ impl Plan {
         })
     }
 
+    /// How many calls there were, or the last `u64` where there were more.
+    pub fn calls(&self) -> u64
+        ensures { result ≡ self.now.calls }
+    {
+        self.calls
+    }
+
+    /// How many of them have failed, or the last `u64` where more have.
+    pub fn faults(&self) -> u64
+        ensures { result ≡ self.now.faults }
+    {
+        self.faults
+    }
+
+    /// Counts one call, and fails where it is to fail, which counts as a fault.
+    ///
+    /// # Errors
+    ///
+    /// At the planned calls, and at no others.
+    pub fn begin_call(&mut self) -> Result<(), Failed>
+        ensures planned { IsErr result ↔ IsPlanned self.old }
+        ensures after { self.new ≡ plan_after result self.old }
+        ensures cause { HasCause self.old.faults self.new.faults result }
+    {
+        if self.count_call() {
+            self.count_fault();
+            return Err(Failed);
+        }
+        Ok(())
+    }
+
     /// Counts one call, and answers whether it is to fail.
-    pub(crate) fn count_call(&mut self) -> bool
+    fn count_call(&mut self) -> bool
         ensures planned { IsTrue result ↔ IsPlanned self.old }
         ensures after { self.new ≡ record self.old { calls = count_after self.old.calls } }
     {
@@ -45,7 +81,7 @@ impl Plan {
     }
 
     /// Counts one fault.
-    pub(crate) fn count_fault(&mut self)
+    pub fn count_fault(&mut self)
         ensures after { self.new ≡ record self.old { faults = count_after self.old.faults } }
         ensures later { self.old.faults ≤ self.new.faults }
     {

@@ -3,7 +3,7 @@ use Rattle.std.proofs.Common.{◌≡◌, refl, sym, ap, ◌∙◌, subst, ⊎_el
 use Rattle.std.proofs.lemmas.Bool.{cases_lt}
 use Rattle.std.proofs.lemmas.List.{get_or_append_left, get_or_at, get_or-map, get_or-take}
 use Rattle.dr_disk.specs.Memory.{MemoryState}
-use Rattle.dr_disk.specs.Plan.{plan_of}
+use Rattle.dr_io.specs.Plan.{plan_of}
 use Rattle.dr_yard.specs.declared.place.Place.{Place}
 use Rattle.dr_yard.specs.declared.place.Place.TheVariants.{Here, Lent}
 use Rattle.dr_yard.specs.Memory.{IsEmptyDisk, is_lent, place_of}
@@ -36,4 +36,4 @@ all_here places disks held count same n empty m below = ⊎_elim
     (cases_lt m held)
   where
     none : MemoryState
-    none = record { calls = []; room_calls = 0; room_bytes = 0; plan = plan_of [] None }
+    none = record { calls = []; room_calls = 0; room_bytes = 0; plan = plan_of []; stop = None }

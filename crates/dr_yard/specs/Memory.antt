@@ -2,15 +2,15 @@
 use Rattle.std.specs.Prelude.{◌≡◌, ℕ, ◌<◌, List, [], get_or, Option, None, Some, Bool, true, false, Result, Ok, Err}
 use Rattle.dr_disk.specs.Disk.{Told, Calls}
 use Rattle.dr_disk.specs.Memory.{MemoryState, with_fault}
-use Rattle.dr_disk.specs.Plan.{DiskPlan, plan_of}
 use Rattle.dr_entry.specs.declared.limits.TheConstants.{MAX_MEMBERS}
+use Rattle.dr_io.specs.Plan.{CallPlan, plan_of}
 use Rattle.dr_yard.specs.declared.place.Place.{Place}
 use Rattle.dr_yard.specs.declared.place.Place.TheVariants.{Here, Lent}
 
 -- a place for the disk of each member, by number, and which calls of `lend` are to fail
 pub record MemoryYardState : Type 0 where
   pub places : List Place
-  pub plan : DiskPlan
+  pub plan : CallPlan
 
 abbrev pub is_lent : Place → Bool
 is_lent (Here disk) = false
@@ -36,7 +36,7 @@ AreHere places = (m : ℕ) → m < MAX_MEMBERS → is_lent (place_of places m) �
 
 -- an empty disk none of whose calls is to fail
 abbrev pub IsEmptyDisk : Place → Type 0
-IsEmptyDisk (Here disk) = (disk.calls ≡ []) × (disk.plan ≡ plan_of [] None)
+IsEmptyDisk (Here disk) = (disk.calls ≡ []) × (disk.plan ≡ plan_of []) × (disk.stop ≡ None)
 IsEmptyDisk (Lent faults) = ⊥
 
 -- the same place, whose disk has one fault more

@@ -1,16 +1,16 @@
 //! A yard of disks in memory, some of whose calls fail.
 
 ghost use Rattle.std.specs.Prelude.{◌≡◌, ◌≢◌, ◌<◌, ◌≤◌, ◌↔◌, ℕ, IfOk, IsErr, OnOk, OnErr, Some, false, length, map, slice_set, take};
-ghost use Rattle.dr_disk.specs.Plan.{IsPlanned, plan_after, plan_of};
 ghost use Rattle.dr_entry.specs.declared.limits.TheConstants.{MAX_MEMBERS};
+ghost use Rattle.dr_io.specs.Plan.{IsPlanned, plan_after, plan_of};
 ghost use Rattle.dr_yard.specs.declared.place.Place.TheVariants.{Here};
 ghost use Rattle.dr_yard.specs.Memory.{AreHere, IsEmptyDisk, place_of};
 
 use crate::place::Place;
 use crate::yard::Yard;
-use dr_disk::{MemoryDisk, Plan};
+use dr_disk::MemoryDisk;
 use dr_entry::MAX_MEMBERS;
-use dr_io::Failed;
+use dr_io::{Failed, Plan};
 use std::alloc::{AllocError, Global};
 use std::marker::Model;
 
@@ -38,8 +38,6 @@ impl Model for MemoryYard {
 }
 
 impl MemoryYard {
-    ghost use Rattle.std.specs.Prelude.{None};
-
     /// A yard that holds these disks, by member, and empty ones for the members behind them. The calls of
     /// `lend` whose numbers, from 1, are in `fails` fail.
     ///
@@ -57,7 +55,7 @@ impl MemoryYard {
         ensures empty { IfOk result (λ yard. (m : ℕ) → length disks.items ≤ m → m < MAX_MEMBERS
             → IsEmptyDisk (place_of yard.places m)) }
         ensures here { IfOk result (λ yard. AreHere yard.places) }
-        ensures plan { IfOk result (λ yard. yard.plan ≡ plan_of fails.now None) }
+        ensures plan { IfOk result (λ yard. yard.plan ≡ plan_of fails.now) }
     {
         let held = disks.len();
         let mut places = Vec::with_capacity(alloc, MAX_MEMBERS)?;
@@ -70,7 +68,7 @@ impl MemoryYard {
         }
         Ok(MemoryYard {
             places,
-            plan: Plan::new(alloc, fails, None)?,
+            plan: Plan::new(alloc, fails)?,
             room: Vec::with_capacity(alloc, MAX_MEMBERS)?,
         })
     }
