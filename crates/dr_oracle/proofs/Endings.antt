@@ -1,12 +1,12 @@
 -- Members of a mask, and what the ends of an age tell of their logs.
-use Rattle.std.proofs.Common.{◌≡◌, ℕ, ◌+◌, ◌^◌, ◌<◌, ◌≤◌, ◌⊎◌, inl, inr, Bool, true, Decides, All, List, [], ◌++◌, drop, take, Option, None, Some, slice_get, length, arith, take-append-drop}
+use Rattle.std.proofs.Common.{◌≡◌, ℕ, ◌^◌, ◌<◌, ◌≤◌, ◌⊎◌, inl, inr, Bool, true, Decides, All, List, [], drop, take, Option, None, Some, slice_get, length, arith, take-append-drop}
 use Rattle.std.specs.Option.{option_map_or}
 use Rattle.std.proofs.lemmas.Nat.Bits.{bit_at_above}
 use Rattle.dr_entry.specs.declared.end.MemberEnd.{MemberEnd}
 use Rattle.dr_history.specs.declared.opening.Opening.{Opening}
 use Rattle.dr_history.specs.Members.{has}
 use Rattle.dr_history.specs.History.{IsPrefixOf}
-use Rattle.dr_history.specs.Agreement.{EndsAgreed, accounts_of}
+use Rattle.dr_history.specs.Agreement.{EndsAgreed}
 use Rattle.dr_oracle.specs.Agreeing.{AgreesWithAll}
 
 -- whoever is in a mask of 16 bits is below 16

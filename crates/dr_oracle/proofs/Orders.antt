@@ -1,11 +1,12 @@
 -- What the tests of the parts of an order decide.
-use Rattle.std.proofs.Common.{◌≡◌, ℕ, ◌<◌, Bool, true, false, Decides, List, [], ◌∷◌, ◌++◌, length, take, slice_get, Option, None, Some, IsSome, IsSomeAnd, refl, sym, ap, subst, ◌∙◌, append_assoc, arith}
+use Rattle.std.proofs.Common.{◌≡◌, ℕ, ◌<◌, Bool, true, false, Decides, List, [], ◌∷◌, ◌++◌, length, take, slice_get, Option, None, Some, IsSomeAnd, refl, sym, ap, subst, ◌∙◌, append_assoc, arith}
 use Rattle.std.proofs.lemmas.Option.{none-some, same_Some, slice_get_within}
 use Rattle.dr_entry.specs.declared.entry.Entry.{Entry}
-use Rattle.dr_entry.specs.declared.entry.Entry.TheVariants.{View, Msg}
+use Rattle.dr_entry.specs.declared.entry.Entry.TheVariants.{View}
 use Rattle.dr_history.specs.declared.opening.Opening.{Opening}
-use Rattle.dr_history.specs.History.{IsPrefixOf, GroupView, Sent, view_of, item_at, place_at}
-use Rattle.dr_history.specs.Order.{InOrder, IsDelivered, MayFollow, first_entries, messages_from, numbered_messages}
+use Rattle.dr_history.specs.History.{IsPrefixOf, GroupView, Sent, view_of, place_at}
+use Rattle.dr_history.specs.Order.{InOrder, MayFollow, first_entries}
+use Rattle.dr_oracle.specs.Parts.{AllNumbered, AllPlaced, Follows, LastViewWhole, PlacesRise, ViewsFollow}
 
 slice_get-append : {A : Type 0} (xs ys : List A) → slice_get (xs ++ ys) (length xs) ≡ slice_get ys 0
 slice_get-append [] ys = refl
@@ -45,12 +46,6 @@ begins_decides start first h b at decides = (
   λ p. decides.1 (IsPrefixOf-parts start first h p).0,
 )
 
--- that the View at i may follow the view before it
-abbrev pub Follows : List Entry → ℕ → Type 0
-Follows h i =
-    (age number members : ℕ) → slice_get h i ≡ Some (View age number members)
-    → IsSomeAnd (view_of (take i h)) (λ v. MayFollow v age number members)
-
 -- the test of a View against the view before it decides whether it may follow
 pub follows_decides : (h : List Entry) (i a n m : ℕ) (v : GroupView) (b : Bool)
     → slice_get h i ≡ Some (View a n m)
@@ -89,64 +84,33 @@ place_at-within sent h i p at = by (slice_get h i) refl
     by (Some x) e = slice_get_within h i x e
 
 -- the parts of an order behind the first `start + 1` entries
-abbrev pub ViewsFollow : List Entry → ℕ → Type 0
-ViewsFollow h start =
-    (i age number members : ℕ) → start < i → slice_get h i ≡ Some (View age number members)
-    → IsSomeAnd (view_of (take i h)) (λ v. MayFollow v age number members)
-
-abbrev pub AllPlaced : Sent → List Entry → ℕ → Type 0
-AllPlaced sent h start =
-    (i s index : ℕ) (b : List ℕ) → start < i → slice_get h i ≡ Some (Msg s index b)
-    → IsSome (place_at sent h i)
-
-abbrev pub PlacesRise : Sent → List Entry → ℕ → Type 0
-PlacesRise sent h start =
-    (i j p q : ℕ) → start < i → i < j → view_of (take i h) ≡ view_of (take j h)
-    → place_at sent h i ≡ Some p → place_at sent h j ≡ Some q → p < q
-
-abbrev pub AllNumbered : Opening → List Entry → Type 0
-AllNumbered o h = (s : ℕ) → IsPrefixOf (messages_from s h) (numbered_messages o s)
-
-abbrev pub LastViewWhole : Sent → List Entry → ℕ → Type 0
-LastViewWhole sent h start =
-    (i p q : ℕ) (v : GroupView) → start < i → view_of (take i h) ≡ Some v → view_of h ≡ Some v
-    → place_at sent h i ≡ Some p → q < p → IsSomeAnd (item_at sent v q) (λ t. IsDelivered h t.0 t.1)
-
 abbrev pub Parts : Opening → Sent → List Entry → ℕ → Type 0
 Parts o sent h start =
-    ((((IsPrefixOf (first_entries o) h × ViewsFollow h start) × AllPlaced sent h start)
-    × PlacesRise sent h start) × AllNumbered o h)
+    ((IsPrefixOf (first_entries o) h × ViewsFollow h start) × (AllPlaced sent h start × PlacesRise sent h start))
+    × (AllNumbered o h × LastViewWhole sent h start)
 
 -- the parts together are the order
 pub InOrder-from_parts : (o : Opening) (sent : Sent) (h : List Entry) (start : ℕ)
-    → start ≡ length o.start
-    → Parts o sent h start → LastViewWhole sent h start → InOrder o sent h
-InOrder-from_parts o sent h start is parts whole = record {
-  begins = parts.0.0.0.0;
-  views = λ i age number members after. parts.0.0.0.1 i age number members (omega (arith, is, after));
-  placed = λ i s index b after. parts.0.0.1 i s index b (omega (arith, is, after));
-  rising = λ i j p q after. parts.0.1 i j p q (omega (arith, is, after));
-  numbered = parts.1;
-  whole = λ i p q v after. whole i p q v (omega (arith, is, after));
+    → start ≡ length o.start → Parts o sent h start → InOrder o sent h
+InOrder-from_parts o sent h start is parts = record {
+  begins = parts.0.0.0;
+  views = λ i age number members after. parts.0.0.1 i age number members (omega (arith, is, after));
+  placed = λ i s index b after. parts.0.1.0 i s index b (omega (arith, is, after));
+  rising = λ i j p q after. parts.0.1.1 i j p q (omega (arith, is, after));
+  numbered = parts.1.0;
+  whole = λ i p q v after. parts.1.1 i p q v (omega (arith, is, after));
 }
 
 -- an order has each of its parts
 pub parts_from_InOrder : (o : Opening) (sent : Sent) (h : List Entry) (start : ℕ)
-    → start ≡ length o.start
-    → InOrder o sent h → Parts o sent h start
+    → start ≡ length o.start → InOrder o sent h → Parts o sent h start
 parts_from_InOrder o sent h start is f = (
   (
+    (f.begins, λ i age number members after. f.views i age number members (omega (arith, is, after))),
     (
-      (f.begins, λ i age number members after. f.views i age number members (omega (arith, is, after))),
       λ i s index b after. f.placed i s index b (omega (arith, is, after)),
+      λ i j p q after. f.rising i j p q (omega (arith, is, after)),
     ),
-    λ i j p q after. f.rising i j p q (omega (arith, is, after)),
   ),
-  f.numbered,
+  (f.numbered, λ i p q v after. f.whole i p q v (omega (arith, is, after))),
 )
-
--- in an order the last view is whole
-pub whole_from_InOrder : (o : Opening) (sent : Sent) (h : List Entry) (start : ℕ)
-    → start ≡ length o.start
-    → InOrder o sent h → LastViewWhole sent h start
-whole_from_InOrder o sent h start is f = λ i p q v after. f.whole i p q v (omega (arith, is, after))

@@ -1,7 +1,8 @@
 ghost use Rattle.std.specs.Prelude.{◌≡◌, ◌<◌, ◌≤◌, ◌↔◌, ℕ, List, length, take, slice_get, Some, IsTrue, IsSome, IsSomeAnd};
 ghost use Rattle.dr_entry.specs.declared.entry.Entry.TheVariants.{View, Msg};
 ghost use Rattle.dr_history.specs.History.{IsPrefixOf, GroupView, view_of, sent_of, item_at, place_at};
-ghost use Rattle.dr_history.specs.Order.{InOrder, IsDelivered, MayFollow, first_entries, messages_from, numbered_messages};
+ghost use Rattle.dr_history.specs.Order.{InOrder, IsDelivered, first_entries, messages_from, numbered_messages};
+ghost use Rattle.dr_oracle.specs.Parts.{AllNumbered, AllPlaced, Follows, LastViewWhole, PlacesRise, ViewsFollow};
 
 use crate::sent::messages_of;
 use crate::{is_prefix, item_at, place_at};
@@ -27,9 +28,7 @@ fn begins(opening: &Opening, history: &[Entry]) -> bool
 /// Whether entry `i` may stand in a history after its first entries: a View may follow the view
 /// before it.
 fn view_follows(history: &[Entry], i: usize) -> bool
-    ensures { IsTrue result ↔ ((age number members : ℕ)
-        → slice_get history.now i ≡ Some (View age number members)
-        → IsSomeAnd (view_of (take i history.now)) (λ v. MayFollow v age number members)) }
+    ensures { IsTrue result ↔ Follows history.now i }
 {
     let Some(
         Entry::View {
@@ -49,9 +48,7 @@ fn view_follows(history: &[Entry], i: usize) -> bool
 
 /// Whether each View behind the first `start + 1` entries may follow the view before it.
 fn views_follow(history: &[Entry], start: usize) -> bool
-    ensures { IsTrue result ↔ ((i age number members : ℕ) → start < i
-        → slice_get history.now i ≡ Some (View age number members)
-        → IsSomeAnd (view_of (take i history.now)) (λ v. MayFollow v age number members)) }
+    ensures { IsTrue result ↔ ViewsFollow history.now start }
 {
     for i in 0..history.len() {
         if start < i && !view_follows(history, i) {
@@ -64,9 +61,7 @@ fn views_follow(history: &[Entry], start: usize) -> bool
 /// Whether each message behind the first `start + 1` entries was sent in the view in which it was
 /// delivered, by a member of it.
 fn messages_are_placed(ends: &[MemberEnd], history: &[Entry], start: usize) -> bool
-    ensures { IsTrue result ↔ ((i s index : ℕ) (b : List ℕ) → start < i
-        → slice_get history.now i ≡ Some (Msg s index b)
-        → IsSome (place_at (sent_of ends.now) history.now i)) }
+    ensures { IsTrue result ↔ AllPlaced (sent_of ends.now) history.now start }
 {
     for (i, entry) in history.iter().enumerate() {
         if let Entry::Msg { .. } = entry
@@ -107,10 +102,7 @@ fn rises(ends: &[MemberEnd], history: &[Entry], i: usize, j: usize) -> bool
 
 /// Whether within a view the places of the messages behind the first `start + 1` entries rise.
 fn places_rise(ends: &[MemberEnd], history: &[Entry], start: usize) -> bool
-    ensures { IsTrue result ↔ ((i j p q : ℕ) → start < i → i < j
-        → view_of (take i history.now) ≡ view_of (take j history.now)
-        → place_at (sent_of ends.now) history.now i ≡ Some p
-        → place_at (sent_of ends.now) history.now j ≡ Some q → p < q) }
+    ensures { IsTrue result ↔ PlacesRise (sent_of ends.now) history.now start }
 {
     for j in 0..history.len() {
         for i in 0..j {
@@ -163,8 +155,7 @@ fn is_numbered(opening: &Opening, history: &[Entry], of: u8) -> bool
 /// Whether each sender's messages among the entries are its first ones by the script, in their
 /// order.
 fn all_are_numbered(opening: &Opening, history: &[Entry]) -> bool
-    ensures { IsTrue result ↔ ((s : ℕ)
-        → IsPrefixOf (messages_from s history.now) (numbered_messages opening.now s)) }
+    ensures { IsTrue result ↔ AllNumbered opening.now history.now }
 {
     for entry in history {
         let Entry::Msg { sender, .. } = entry else {
@@ -231,10 +222,7 @@ fn whole_below(ends: &[MemberEnd], history: &[Entry], i: usize) -> bool
 /// Whether below each message that was delivered in the last view, behind the first `start + 1`
 /// entries, every place of that view holds an item that was delivered.
 fn last_view_is_whole(ends: &[MemberEnd], history: &[Entry], start: usize) -> bool
-    ensures { IsTrue result ↔ ((i p q : ℕ) (v : GroupView) → start < i
-        → view_of (take i history.now) ≡ Some v → view_of history.now ≡ Some v
-        → place_at (sent_of ends.now) history.now i ≡ Some p → q < p
-        → IsSomeAnd (item_at (sent_of ends.now) v q) (λ t. IsDelivered history.now t.0 t.1)) }
+    ensures { IsTrue result ↔ LastViewWhole (sent_of ends.now) history.now start }
 {
     for i in 0..history.len() {
         if start < i && !whole_below(ends, history, i) {
@@ -244,15 +232,41 @@ fn last_view_is_whole(ends: &[MemberEnd], history: &[Entry], start: usize) -> bo
     true
 }
 
+/// Whether a history begins as it is to, and each View behind may follow the view before it.
+fn views_are_in_order(opening: &Opening, history: &[Entry], start: usize) -> bool
+    ensures { IsTrue result
+        ↔ (IsPrefixOf (first_entries opening.now) history.now × ViewsFollow history.now start) }
+{
+    begins(opening, history) && views_follow(history, start)
+}
+
+/// Whether each message behind the first `start + 1` entries has a place, and within a view these rise.
+fn places_are_in_order(ends: &[MemberEnd], history: &[Entry], start: usize) -> bool
+    ensures { IsTrue result ↔ (AllPlaced (sent_of ends.now) history.now start
+        × PlacesRise (sent_of ends.now) history.now start) }
+{
+    messages_are_placed(ends, history, start) && places_rise(ends, history, start)
+}
+
+/// Whether no message is missing before another one of its sender, and none in the last view.
+fn messages_are_whole(
+    opening: &Opening,
+    ends: &[MemberEnd],
+    history: &[Entry],
+    start: usize,
+) -> bool
+    ensures { IsTrue result ↔ (AllNumbered opening.now history.now
+        × LastViewWhole (sent_of ends.now) history.now start) }
+{
+    all_are_numbered(opening, history) && last_view_is_whole(ends, history, start)
+}
+
 /// Whether a history is in order, where the members of the age had sent what `ends` say.
 pub fn in_order(opening: &Opening, ends: &[MemberEnd], history: &[Entry]) -> bool
     ensures { IsTrue result ↔ InOrder opening.now (sent_of ends.now) history.now }
 {
     let start = opening.start.as_slice().len();
-    begins(opening, history)
-        && views_follow(history, start)
-        && messages_are_placed(ends, history, start)
-        && places_rise(ends, history, start)
-        && all_are_numbered(opening, history)
-        && last_view_is_whole(ends, history, start)
+    views_are_in_order(opening, history, start)
+        && places_are_in_order(ends, history, start)
+        && messages_are_whole(opening, ends, history, start)
 }

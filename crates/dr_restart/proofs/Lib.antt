@@ -1,4 +1,3 @@
-mod Faults
 pub mod Groups
 pub mod Setups
 mod Totals

@@ -43,6 +43,7 @@ pub fn setup_of(
     ensures { IfOk result (λ s. IsSetupOf script.now start.now nth me s) }
 {
     let lists = script.messages.as_slice();
+    let faults = script.faults.as_slice();
     Ok(Setup {
         shape: shape_of(script),
         me,
@@ -53,8 +54,8 @@ pub fn setup_of(
         start: copy_entries(alloc, &start.entries)?,
         messages: copy_messages(alloc, &lists[usize::from(me)])?,
         totals: totals_of(lists),
-        crashes: crashes_of(alloc, script.faults.as_slice(), nth, me)?,
-        suspicions: suspicions_of(alloc, script.faults.as_slice(), nth, me)?,
+        crashes: Seq::of(crashes_of(alloc, faults, nth, me)?),
+        suspicions: Seq::of(suspicions_of(alloc, faults, nth, me)?),
     })
 }
 
@@ -77,16 +78,13 @@ fn crashes_of(
     faults: &[Fault],
     nth: u8,
     me: u8,
-) -> Result<Seq<CrashPoint>, AllocError>
-    ensures { IfOk result (λ points. points ≡ crashes_of faults.now nth me) }
+) -> Result<Vec<CrashPoint>, AllocError>
+    ensures { IfOk result (λ points. points.items ≡ crashes_of faults.now nth me) }
 {
-    let mut points = Vec::new(alloc);
-    for fault in faults {
-        if let Some(point) = crash_of(fault, nth, me) {
-            points.push(point)?;
-        }
-    }
-    Ok(Seq::of(points))
+    faults
+        .iter()
+        .filter_map(|fault| crash_of(fault, nth, me))
+        .collect(alloc)
 }
 
 /// The crash point that a fault is to the member `me` in the age `nth`.
@@ -107,16 +105,13 @@ fn suspicions_of(
     faults: &[Fault],
     nth: u8,
     me: u8,
-) -> Result<Seq<Suspicion>, AllocError>
-    ensures { IfOk result (λ suspicions. suspicions ≡ suspicions_of faults.now nth me) }
+) -> Result<Vec<Suspicion>, AllocError>
+    ensures { IfOk result (λ suspicions. suspicions.items ≡ suspicions_of faults.now nth me) }
 {
-    let mut suspicions = Vec::new(alloc);
-    for fault in faults {
-        if let Some(suspicion) = suspicion_of(fault, nth, me) {
-            suspicions.push(suspicion)?;
-        }
-    }
-    Ok(Seq::of(suspicions))
+    faults
+        .iter()
+        .filter_map(|fault| suspicion_of(fault, nth, me))
+        .collect(alloc)
 }
 
 /// The suspicion that a fault is to the member `me` in the age `nth`.

@@ -1,3 +1,4 @@
+-- Which value of JSON bytes are, and the elements and keys of its arrays and objects.
 use Rattle.std.proofs.Common.{◌≡◌, ℕ, Bool, true, false, cond, List, [], ◌∷◌, Option, Some, None, refl, ap, String, string_bytes, ◌&&◌, map}
 use Rattle.std.specs.Prelude.{◌||◌}
 use Rattle.std.specs.declared.alloc.Global.{Global}
