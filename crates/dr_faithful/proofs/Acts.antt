@@ -12,7 +12,6 @@ use Rattle.dr_machine.specs.Guards.{CanDeliver, CanMark, CanReport}
 use Rattle.dr_machine.specs.Run.{PastGrew, WordsGrew}
 use Rattle.dr_machine.specs.World.{Past, World, item_at_place, own_word, shown}
 use Rattle.dr_machine.specs.Writes.{at, at₃}
-use Rattle.dr_faithful.proofs.Forms.{form_done, form_free, grown_done, grown_free}
 use Rattle.dr_faithful.proofs.Lists.{least_all, least_most, least_some, prefix_more, prefix_next}
 use Rattle.dr_faithful.proofs.OwnWords.{IsPlain, accepts_word, counts_word, delivered_word, form_word, old_later, own_grown, suspicions_word, closed_written, fresh_written}
 use Rattle.dr_faithful.proofs.Pasts.{past_same, prefix_refl, prefix_short, same_past, tells_done, tells_later, tells_logged, words_later}
@@ -21,6 +20,7 @@ use Rattle.dr_faithful.proofs.Writes.{at_case, at₃_case}
 use Rattle.dr_faithful.specs.Faithful.{Faithful}
 use Rattle.dr_faithful.specs.Tells.{HasAll, Tells, Views}
 use Rattle.dr_words.proofs.Order.{HasGrown_refl}
+use Rattle.dr_words.proofs.Forms.{form_done, form_free, grown_done, grown_free}
 use Rattle.dr_words.specs.declared.column.TheConstants.{DONE_COLUMN, LOGGED_COLUMN}
 use Rattle.dr_words.specs.Form.{IsInForm}
 use Rattle.dr_words.specs.Grown.{HasGrown}
@@ -153,7 +153,7 @@ pub mark_keeps : (g : Group) (V : Views) (w : World) (m : ℕ) → CanMark g w m
     → Faithful g V (marks w m)
 mark_keeps g V w m can f =
     word_keeps g V w m DONE_COLUMN 1 (omega arith, omega arith, omega arith) (mark_grown g V w m f)
-    (form_done (roster g))
+    (form_done (roster g) 1 (le_refl 1))
     (tells_done g V w.past m (w.past.view m) mine) f
   where
     mine : HasAll g (V (w.past.view m)) (take (w.past.durable m) (w.past.history m))

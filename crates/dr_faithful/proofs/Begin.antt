@@ -4,7 +4,7 @@ use Rattle.std.proofs.Math.Nat.{mul-zero}
 use Rattle.std.proofs.lemmas.Bool.{cases_eq, cases_lt, eqb-true}
 use Rattle.std.proofs.lemmas.List.{get_or-replicate, get_or_past, length-replicate, take_all, take_more}
 use Rattle.std.proofs.lemmas.Option.{slice_get_cases, slice_get_within}
-use Rattle.dr_words.proofs.Forms.{form_zero}
+use Rattle.dr_words.proofs.Forms.{form_zero, form_free, grown_zero}
 use Rattle.dr_entry.specs.declared.limits.TheConstants.{MAX_MEMBERS}
 use Rattle.dr_entry.specs.declared.entry.Entry.{Entry}
 use Rattle.dr_entry.specs.declared.entry.Entry.TheVariants.{Msg, View}
@@ -19,11 +19,10 @@ use Rattle.dr_history_laws.proofs.Lengths.{start-short}
 use Rattle.dr_machine.proofs.Presence.{is_present}
 use Rattle.dr_machine.specs.Group.{Group, IsGroup, IsPresent, roster}
 use Rattle.dr_machine.specs.World.{no_value, opening_world}
-use Rattle.dr_faithful.proofs.Forms.{form_free, grown_zero}
-use Rattle.dr_faithful.proofs.OwnWords.{accept_columns}
 use Rattle.dr_faithful.proofs.Pasts.{tells_logged, tells_nothing}
 use Rattle.dr_faithful.specs.Faithful.{Faithful}
 use Rattle.dr_faithful.specs.Tells.{Tells, Views, WordsTell}
+use Rattle.dr_words.proofs.Accepts.{accept_within}
 use Rattle.dr_words.specs.declared.column.TheConstants.{LOGGED_COLUMN}
 use Rattle.dr_words.proofs.Bits.{has_zero}
 use Rattle.dr_words.specs.Accepts.{part_of}
@@ -165,11 +164,11 @@ begun g V is opens within = record {
     final = λ m s d h. absurd (d refl);
     none = λ m e. refl;
     least = λ m d. absurd (d refl);
-    accept = λ m c is. ap accept_promise (none m c (accept_columns (roster g) (V 0) c is));
+    accept = λ m c is. ap accept_promise (none m c (accept_within (roster g) (V 0) c is));
   };
   accepts = record {
-    tagged = λ m c is. ap accept_tag (none m c (accept_columns (roster g) (V 0) c is));
-    valued = λ m c is. ap accept_value (none m c (accept_columns (roster g) (V 0) c is))
+    tagged = λ m c is. ap accept_tag (none m c (accept_within (roster g) (V 0) c is));
+    valued = λ m c is. ap accept_value (none m c (accept_within (roster g) (V 0) c is))
         ∙ sym (no_part (roster g) c);
     low = λ m. omega arith;
     waits = λ m x e. absurd (cc);

@@ -12,25 +12,26 @@ use Rattle.dr_history.specs.History.{IsPrefixOf, messages_of}
 use Rattle.dr_history.specs.Members.{has}
 use Rattle.dr_history.specs.Order.{messages_from}
 use Rattle.dr_history.specs.Places.{rest_places}
-use Rattle.dr_machine.specs.Effects.{counts_by, entries_of, finished_history, finishes_by, is_accept_of, sender_at, with_place}
+use Rattle.dr_machine.specs.Effects.{counts_by, entries_of, finished_history, finishes_by, sender_at, with_place}
 use Rattle.dr_machine.specs.Group.{Group, IsGroup, IsPresent, roster}
 use Rattle.dr_machine.specs.Run.{PastGrew, WordsGrew}
 use Rattle.dr_machine.specs.Sending.{IsPut}
 use Rattle.dr_machine.specs.World.{Past, World, item_at_place, no_value}
 use Rattle.dr_machine.specs.Writes.{at₂, at₃}
 use Rattle.dr_faithful.proofs.Begin.{no_part}
-use Rattle.dr_faithful.proofs.Forms.{form_free, grown_zero}
-use Rattle.dr_faithful.proofs.OwnWords.{IsPlain, accept_columns, accepts_word, counts_word, delivered_word, form_word, old_later, own_grown, suspicions_word}
+use Rattle.dr_faithful.proofs.OwnWords.{IsPlain, accepts_word, counts_word, delivered_word, form_word, old_later, own_grown, suspicions_word}
 use Rattle.dr_faithful.proofs.Pasts.{past_same, prefix_on, prefix_refl, tells_later, tells_logged, tells_nothing}
 use Rattle.dr_faithful.proofs.Suspicions.{members_small}
 use Rattle.dr_faithful.proofs.Writes.{at_both, at_case, at_three, at₃_case, at₃_column, at₃_member, at₃_view}
 use Rattle.dr_faithful.specs.Faithful.{AreAccepts, AreCounts, AreDelivered, AreSuspicions, Faithful, GoesOnWell, IsClosed, IsWaiting, Numbers}
 use Rattle.dr_faithful.specs.Tells.{Tells, Views, item_sent}
 use Rattle.dr_words.proofs.Bits.{has_zero}
-use Rattle.dr_words.proofs.Forms.{form_zero}
+use Rattle.dr_words.proofs.Forms.{form_zero, form_free, grown_zero}
 use Rattle.dr_words.proofs.Masks.{has_without_mask}
 use Rattle.dr_words.proofs.Order.{HasGrown_refl}
+use Rattle.dr_words.proofs.Accepts.{accept_within}
 use Rattle.dr_words.specs.Accepts.{part_of}
+use Rattle.dr_words.specs.Rewrites.{is_accept_of}
 use Rattle.dr_words.specs.declared.column.TheConstants.{LOGGED_COLUMN, RECEIVED_COLUMN, SUSPECTED_COLUMN}
 use Rattle.dr_words.specs.Columns.{recv_column}
 use Rattle.dr_words.specs.Form.{IsInForm}
@@ -175,20 +176,20 @@ finish_keeps g V w m x is there idle stays well f = record {
     accept = λ a c. at_both
         (λ i (promise b : ℕ). is_accept_of (roster g) (V b) c ≡ true → accept_promise (own i b c) ≡ promise)
         w.promise w.past.view m 0 (w.past.view m + 1) (λ i. suspected.accept i c)
-        (λ e. rw (blank c (other_column c (accept_columns (roster g) (V (w.past.view m + 1)) c e).0)) refl)
+        (λ e. rw (blank c (other_column c (accept_within (roster g) (V (w.past.view m + 1)) c e).0)) refl)
         a;
   };
   accepts = record {
     tagged = λ a c. at_both
         (λ i (tag b : ℕ). is_accept_of (roster g) (V b) c ≡ true → accept_tag (own i b c) ≡ tag) w.tag
         w.past.view m 0 (w.past.view m + 1) (λ i. accepted.tagged i c)
-        (λ e. rw (blank c (other_column c (accept_columns (roster g) (V (w.past.view m + 1)) c e).0)) refl)
+        (λ e. rw (blank c (other_column c (accept_within (roster g) (V (w.past.view m + 1)) c e).0)) refl)
         a;
     valued = λ a c. at_both
         (λ i (y : Value) (b : ℕ). is_accept_of (roster g) (V b) c ≡ true
         → accept_value (own i b c) ≡ part_of (roster g) y c)
         w.value w.past.view m no_value (w.past.view m + 1) (λ i. accepted.valued i c)
-        (λ e. rw (blank c (other_column c (accept_columns (roster g) (V (w.past.view m + 1)) c e).0))
+        (λ e. rw (blank c (other_column c (accept_within (roster g) (V (w.past.view m + 1)) c e).0))
         (sym (no_part (roster g) c)))
         a;
     low = at_both (λ i (tag promise : ℕ). tag ≤ promise + 1) w.tag w.promise m 0 0 f.accepts.low

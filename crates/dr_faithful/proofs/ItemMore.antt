@@ -11,14 +11,15 @@ use Rattle.dr_machine.specs.Run.{PastGrew, WordsGrew}
 use Rattle.dr_machine.specs.World.{Past, World, count_of, own_word, view_members}
 use Rattle.dr_machine.specs.Writes.{at, at₂, at₃}
 use Rattle.dr_faithful.proofs.CountMore.{IsMore, more, more_le, more_or_same, new_count}
-use Rattle.dr_faithful.proofs.Forms.{form_free, form_recv, grown_free, grown_recv}
 use Rattle.dr_faithful.proofs.Fronts.{front_rises, some_members}
-use Rattle.dr_faithful.proofs.OwnWords.{accept_columns, accepts_same, old_later, closed_written, fresh_counted, fresh_written}
+use Rattle.dr_faithful.proofs.OwnWords.{accepts_same, old_later, closed_written, fresh_counted, fresh_written}
 use Rattle.dr_faithful.proofs.Pasts.{item_kept, past_same, tells_later, tells_received, tells_recv, tells_ring}
 use Rattle.dr_faithful.proofs.Writes.{at_case, at_other, at_same, at₂_both, at₂_case, at₂_read}
 use Rattle.dr_faithful.specs.Faithful.{AreCounts, AreInForm, AreItems, AreSent, AreSuspicions, Faithful, Items, Numbers}
 use Rattle.dr_faithful.specs.Tells.{Tells, TellsPiece, Views, WordsTell, item_sent, part_column}
 use Rattle.dr_words.proofs.Order.{HasGrown_refl, HasGrown_same}
+use Rattle.dr_words.proofs.Forms.{form_free, form_recv, grown_free, grown_recv}
+use Rattle.dr_words.proofs.Accepts.{accept_within}
 use Rattle.dr_words.specs.declared.column.TheConstants.{RECEIVED_COLUMN}
 use Rattle.dr_words.specs.Columns.{head_column, recv_column}
 use Rattle.dr_words.specs.Form.{IsInForm}
@@ -294,7 +295,7 @@ suspicions_gained g V w m s x row sent may f = record {
   final = λ a b d h. final a b d h (cases_eq a m);
   none = f.suspicions.none;
   least = f.suspicions.least;
-  accept = λ a c is. let l = accept_columns (roster g) (V (w.past.view a)) c is in
+  accept = λ a c is. let l = accept_within (roster g) (V (w.past.view a)) c is in
       ap accept_promise (kept a c l.1 (omega (arith, l.0)) (omega (arith, l.0, within)))
       ∙ f.suspicions.accept a c is;
 }
@@ -425,7 +426,8 @@ form_gained g V w m s x row sent is may f = record {
       (at row (recv_column s) (recv_word (count_of w m s + 1) false)) 2 _
       (λ c d. at_case (λ c z. IsInForm (roster g) c z) row (recv_column s)
       (recv_word (count_of w m s + 1) false) (λ c d. plain c (low_or_high (roster g) c))
-      (form_recv (roster g) s (count_of w m s + 1) (f.views.within (w.past.view m) s may.sender)
+      (form_recv (roster g) s (recv_word (count_of w m s + 1) false)
+      (f.views.within (w.past.view m) s may.sender)
       (omega (arith, may.few.1, is.messages may.few.0))) c)
       (form_free (roster g) 2 _ (inl (omega arith, omega arith))));
   in_table = f.form.in_table;
@@ -453,7 +455,7 @@ gain_keeps g V w m s x row sent is may f = record {
   accepts = accepts_same g V w.past.view w.promise w.tag w.value w.pending w.past.own
       (gained w m s x row sent).past.own
       (λ i c is. accept_gained g V w m s x row sent may f i (w.past.view i) c
-      (accept_columns (roster g) (V (w.past.view i)) c is)) f.accepts;
+      (accept_within (roster g) (V (w.past.view i)) c is)) f.accepts;
   words = words_gained g V w m s x row sent may f;
   logs = f.logs;
   delivered = record {

@@ -1,5 +1,4 @@
 pub mod Writes
-mod Forms
 mod Lists
 pub mod Pieces
 pub mod Pasts

@@ -2,15 +2,16 @@
 use Rattle.std.proofs.Common.{Option, ap, arith, sym, true, ℕ, ◌<◌, ◌∙◌, ◌≡◌, ◌≢◌, ◌≤◌, subst}
 use Rattle.dr_entry.specs.declared.record.Value.{Value}
 use Rattle.dr_entry.specs.declared.record.Vote.{Vote}
-use Rattle.dr_machine.specs.Effects.{is_accept_of}
 use Rattle.dr_machine.specs.Group.{Group, roster}
 use Rattle.dr_machine.specs.Writes.{at₃, at, at₂}
 use Rattle.dr_faithful.proofs.Writes.{at₃_case, at₃_column, at_other, at₂_case}
 use Rattle.dr_faithful.specs.Faithful.{AreAccepts, AreCounts, AreDelivered, AreInForm, AreOld, AreSuspicions, Numbers, Table, AreClosed, AreFresh, IsClosed}
 use Rattle.dr_faithful.specs.Tells.{Views}
 use Rattle.dr_words.proofs.Order.{HasGrown_refl, HasGrown_trans}
+use Rattle.dr_words.proofs.Accepts.{accept_within}
+use Rattle.dr_words.specs.Rewrites.{is_accept_of}
 use Rattle.dr_words.specs.declared.column.TheConstants.{BEAT_COLUMN, RECEIVED_COLUMN, SUSPECTED_COLUMN}
-use Rattle.dr_words.specs.Columns.{head_column, recv_column}
+use Rattle.dr_words.specs.Columns.{recv_column}
 use Rattle.dr_words.specs.Form.{IsInForm}
 use Rattle.dr_words.specs.Grown.{HasGrown}
 use Rattle.dr_words.specs.Packing.{accept_tag, accept_value, accept_promise, is_final}
@@ -34,11 +35,6 @@ counts_word g V view suspects own count m v c x plain f = record {
   few = f.few;
 }
 
--- the accept words stand behind the recv words, and those before the ring
-pub accept_columns : (n members c : ℕ) → is_accept_of n members c ≡ true
-    → (recv_column n ≤ c) × (c < head_column n 0)
-accept_columns n members c is = (grind (arith, is), grind (arith, is))
-
 -- whom a member suspects is told as before
 pub suspicions_word : (g : Group) (V : Views) (view suspects promise : ℕ → ℕ) (own : Numbers)
     (m v c x : ℕ) → IsPlain c
@@ -53,7 +49,7 @@ suspicions_word g V view suspects promise own m v c x plain f = record {
   none = f.none;
   least = f.least;
   accept = λ i k is. rw (at₃_column own m v c x i (view i) k
-      (omega (arith, plain.0, accept_columns (roster g) (V (view i)) k is))) (f.accept i k is);
+      (omega (arith, plain.0, accept_within (roster g) (V (view i)) k is))) (f.accept i k is);
 }
 
 -- what a member has accepted is told as before, where the accept words are
@@ -77,7 +73,7 @@ pub accepts_word : (g : Group) (V : Views) (view promise tag : ℕ → ℕ) (val
 accepts_word g V view promise tag value pending own m v c x plain =
     accepts_same g V view promise tag value pending own (at₃ own m v c x)
     (λ i k is. at₃_column own m v c x i (view i) k
-    (omega (arith, plain.0, accept_columns (roster g) (V (view i)) k is)))
+    (omega (arith, plain.0, accept_within (roster g) (V (view i)) k is)))
 
 -- the received words are as before
 pub delivered_word : (g : Group) (V : Views) (view next : ℕ → ℕ) (own : Numbers) (m v c x : ℕ)
@@ -118,7 +114,7 @@ closed_beat g view m row x f = record {
   trusted = ap (λ mask. has mask m) suspected ∙ f.trusted;
   wedged = λ e. f.wedged (sym suspected ∙ e);
   final = λ s member. ap is_final (other (recv_column s) (omega arith)) ∙ f.final s member;
-  promise = λ c is. ap accept_promise (other c (behind c (accept_columns (roster g) view c is).0))
+  promise = λ c is. ap accept_promise (other c (behind c (accept_within (roster g) view c is).0))
       ∙ f.promise c is ∙ ap (λ mask. least_of (without view mask)) (sym suspected);
 }
   where

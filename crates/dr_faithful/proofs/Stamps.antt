@@ -5,13 +5,13 @@ use Rattle.dr_machine.specs.Group.{Group, roster}
 use Rattle.dr_machine.specs.Run.{PastGrew, WordsGrew}
 use Rattle.dr_machine.specs.World.{Past, World}
 use Rattle.dr_machine.specs.Writes.{at₃, at₄}
-use Rattle.dr_faithful.proofs.Forms.{form_free, grown_free}
 use Rattle.dr_faithful.proofs.OwnWords.{IsPlain, accepts_word, counts_word, delivered_word, form_word, old_later, own_grown, suspicions_word, closed_stamped, fresh_written}
 use Rattle.dr_faithful.proofs.Pasts.{past_same, tells_beat, tells_later}
 use Rattle.dr_faithful.proofs.Writes.{at_case, at_same, at₃_case, at₄_case}
 use Rattle.dr_faithful.specs.Faithful.{AreOld, Faithful}
 use Rattle.dr_faithful.specs.Tells.{Tells, Views}
 use Rattle.dr_words.proofs.Order.{HasGrown_refl, HasGrown_same, HasGrown_trans}
+use Rattle.dr_words.proofs.Forms.{form_free, grown_free}
 use Rattle.dr_words.specs.declared.column.TheConstants.{BEAT_COLUMN}
 use Rattle.dr_words.specs.Form.{IsInForm}
 use Rattle.dr_words.specs.Grown.{HasGrown}

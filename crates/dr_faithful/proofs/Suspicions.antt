@@ -1,203 +1,30 @@
 -- A member suspects another one: its whole row is written anew, and the members stay faithful.
-use Rattle.std.proofs.Common.{Bool, ap, arith, false, inl, inr, le_trans, refl, subst, sym, true, Some, ℕ, ◌+◌, ◌-◌, ◌<◌, ◌==◌, ◌^◌, ◌||◌, ◌∙◌, ◌≡◌, ◌≢◌, ◌≤◌, ◌⊎◌, le_refl}
+use Rattle.std.proofs.Common.{ap, arith, false, inl, inr, le_trans, refl, subst, sym, true, Some, ℕ, ◌+◌, ◌-◌, ◌<◌, ◌^◌, ◌∙◌, ◌≡◌, ◌≢◌, ◌≤◌, ◌⊎◌, le_refl}
 use Rattle.std.proofs.lemmas.Bool.{cases_eq}
 use Rattle.dr_entry.specs.declared.record.Vote.{Vote}
 use Rattle.dr_history.specs.Members.{has}
-use Rattle.dr_machine.specs.Effects.{is_accept_of, is_recv_of, suspects, wedged_word}
+use Rattle.dr_machine.specs.Effects.{suspects}
 use Rattle.dr_machine.specs.Group.{Group, IsGroup, IsPresent, roster}
 use Rattle.dr_machine.specs.Guards.{CanSuspect, unsuspected_of}
 use Rattle.dr_machine.specs.Run.{PastGrew, WordsGrew}
 use Rattle.dr_machine.specs.World.{Past, World, own_word}
 use Rattle.dr_machine.specs.Writes.{at, at₂}
-use Rattle.dr_faithful.proofs.Forms.{accept_between}
-use Rattle.dr_faithful.proofs.OwnWords.{accept_columns, closed_written, fresh_written, old_later}
+use Rattle.dr_faithful.proofs.OwnWords.{closed_written, fresh_written, old_later}
 use Rattle.dr_faithful.proofs.Pasts.{same_past, tells_later, tells_recv, tells_accept, tells_suspected}
 use Rattle.dr_faithful.proofs.Writes.{at_case, at_other, at_same, at₂_case, at₂_read}
 use Rattle.dr_faithful.specs.Faithful.{AreAccepts, AreCounts, AreSuspicions, Faithful, IsWaiting, Numbers}
 use Rattle.dr_faithful.specs.Tells.{SuspicionsTold, Tells, TellsSuspicion, Views, WordsTell}
-use Rattle.dr_words.proofs.Bits.{has_zero}
-use Rattle.dr_words.proofs.Masks.{has_with_member, has_without_mask, in_roster_small, least_of_is, least_of_part, without_small}
-use Rattle.dr_words.proofs.Order.{HasGrown_refl, HasGrown_same, HasGrown_trans, IsPartOf-le}
+use Rattle.dr_words.proofs.Masks.{IsSuspecting, has_without_mask, in_roster_small, least_of_is, left_rises, left_within, more_grows, more_part, more_some, more_trusted, without_small}
+use Rattle.dr_words.proofs.Order.{HasGrown_refl, HasGrown_trans}
+use Rattle.dr_words.proofs.Rewrites.{recv_within, wedged_by, wedged_count, wedged_final, wedged_grown, wedged_in_form, wedged_promise, wedged_rest, wedged_tag, wedged_value}
+use Rattle.dr_words.proofs.Accepts.{accept_within}
+use Rattle.dr_words.specs.Rewrites.{is_accept_of, wedged_word}
 use Rattle.dr_words.specs.declared.column.TheConstants.{RECEIVED_COLUMN, SUSPECTED_COLUMN}
 use Rattle.dr_words.specs.Columns.{recv_column}
 use Rattle.dr_words.specs.Form.{IsInForm}
 use Rattle.dr_words.specs.Grown.{HasGrown}
 use Rattle.dr_words.specs.Masks.{IsLeastOf, IsPartOf, least_of, with_member, without}
-use Rattle.dr_words.specs.Packing.{accept_promise, accept_tag, accept_value, accept_word, is_final, recv_count, recv_word}
-
--- ---- one word
-
--- the column is that of the suspected word, of a recv word or of an accept word of the view, or the word is
--- as before
-abbrev IsRewritten : ℕ → ℕ → ℕ → ℕ → ℕ → ℕ → ℕ → Type 0
-IsRewritten n members mask promise c word new =
-    ((c ≡ SUSPECTED_COLUMN) × (new ≡ mask))
-    ⊎ (((s : ℕ) × (s < n) × (c ≡ recv_column s) × (new ≡ recv_word (recv_count word) true))
-    ⊎ (((is_accept_of n members c ≡ true)
-    × (new ≡ accept_word promise (accept_tag word) (accept_value word)))
-    ⊎ (new ≡ word)))
-
-rewritten : (n members mask promise c word : ℕ)
-    → IsRewritten n members mask promise c word (wedged_word n members mask promise c word)
-rewritten n members mask promise c word =
-    by (cases_eq c 1) (is_recv_of n members c) (is_accept_of n members c) refl refl
-  where
-    by : (c ≡ 1) ⊎ (c ≢ 1) → (p q : Bool) → is_recv_of n members c ≡ p → is_accept_of n members c ≡ q
-        → IsRewritten n members mask promise c word (wedged_word n members mask promise c word)
-    by (inl e) p q f h = inl (e, grind arith)
-    by (inr d) true q f h =
-        inr (inl (c - recv_column 0, grind (arith, f), grind (arith, f), grind (arith, f)))
-    by (inr d) false true f h = inr (inr (inl (h, grind (arith, f, h))))
-    by (inr d) false false f h = inr (inr (inr (grind (arith, f, h))))
-
--- the count of a recv word is as before
-same_count : (word : ℕ) → recv_count (recv_word (recv_count word) true) ≡ recv_count word
-same_count word = omega arith
-
-now_final : (word : ℕ) → is_final (recv_word (recv_count word) true) ≡ true
-now_final word = grind arith
-
--- and so are the tag and the value of an accept word
-new_promise : (promise word : ℕ) → accept_promise (accept_word promise (accept_tag word) (accept_value word))
-    ≡ promise
-new_promise promise word = omega arith
-
-same_tag : (promise word : ℕ) → accept_tag (accept_word promise (accept_tag word) (accept_value word))
-    ≡ accept_tag word
-same_tag promise word = omega arith
-
-same_value : (promise word : ℕ) → accept_value (accept_word promise (accept_tag word) (accept_value word))
-    ≡ accept_value word
-same_value promise word = omega arith
-
--- the word grows, where the mask and the promise do
-rewritten_grown : (n members mask promise c word new : ℕ) → (c ≡ SUSPECTED_COLUMN → IsPartOf word mask)
-    → (is_accept_of n members c ≡ true → accept_promise word ≤ promise)
-    → IsRewritten n members mask promise c word new → HasGrown n c word new
-rewritten_grown n members mask promise c word new part rises (inl t) = record {
-  number = rw t.1 (IsPartOf-le word mask (part t.0));
-  suspected = λ e. rw t.1 (part e);
-  final = λ s l e f. absurd (omega (arith, e, t.0));
-}
-rewritten_grown n members mask promise c word new part rises (inr (inl t)) = record {
-  number = omega (arith, t.3);
-  suspected = λ e. absurd (omega (arith, e, t.2));
-  final = λ s l e f. grind (arith, f, t.3);
-}
-rewritten_grown n members mask promise c word new part rises (inr (inr (inl t))) =
-    let between = accept_columns n members c t.0 in record {
-      number = omega (arith, t.1, rises t.0);
-      suspected = λ e. absurd (omega (arith, e, between));
-      final = λ s l e f. absurd (omega (arith, l, e, between));
-    }
-rewritten_grown n members mask promise c word new part rises (inr (inr (inr e))) =
-    HasGrown_same n c word new e
-
--- and stays in form
-rewritten_form : (n members mask promise c word new : ℕ) → mask < 2 ^ n → promise < n
-    → IsInForm n c word → IsRewritten n members mask promise c word new → IsInForm n c new
-rewritten_form n members mask promise c word new within member f (inl t) = record {
-  suspected = λ e. rw t.1 within;
-  done = λ e. absurd (omega (arith, e, t.0));
-  recv = λ s l e. absurd (omega (arith, e, t.0));
-  promise = λ a. absurd (omega (arith, accept_between n c a, t.0));
-  tag = λ a. absurd (omega (arith, accept_between n c a, t.0));
-  leavers = λ e. absurd (omega (arith, e, t.0));
-  trim = λ s l e. absurd (omega (arith, e, t.0));
-}
-rewritten_form n members mask promise c word new within member f (inr (inl t)) = record {
-  suspected = λ e. absurd (omega (arith, e, t.2));
-  done = λ e. absurd (omega (arith, e, t.2));
-  recv = λ s l e. omega (arith, t.3, f.recv t.0 t.1 t.2);
-  promise = λ a. absurd (omega (arith, accept_between n c a, t.1, t.2));
-  tag = λ a. absurd (omega (arith, accept_between n c a, t.1, t.2));
-  leavers = λ e. absurd (omega (arith, e, t.1, t.2));
-  trim = λ s l e. absurd (omega (arith, e, t.1, t.2));
-}
-rewritten_form n members mask promise c word new within member f (inr (inr (inl t))) =
-    let between = accept_columns n members c t.0 in record {
-      suspected = λ e. absurd (omega (arith, e, between));
-      done = λ e. absurd (omega (arith, e, between));
-      recv = λ s l e. absurd (omega (arith, l, e, between));
-      promise = λ a. rw (t.1, new_promise promise word) member;
-      tag = λ a. rw (t.1, same_tag promise word) (f.tag a);
-      leavers = λ e. rw (t.1, same_value promise word) (f.leavers e);
-      trim = λ s l e. rw (t.1, same_value promise word) (f.trim s l e);
-    }
-rewritten_form n members mask promise c word new within member f (inr (inr (inr e))) =
-    subst (λ (x : ℕ). IsInForm n c x) (sym e) f
-
--- and tells as before
-rewritten_tells : (g : Group) (V : Views) (past : Past) (i v members mask promise c word new : ℕ)
-    → Tells g V past i v c word → IsRewritten (roster g) members mask promise c word new
-    → Tells g V past i v c new
-rewritten_tells g V past i v members mask promise c word new told (inl t) =
-    subst (λ (k : ℕ). Tells g V past i v k new) (sym t.0) (tells_suspected g V past i v new)
-rewritten_tells g V past i v members mask promise c word new told (inr (inl t)) =
-    subst (λ (k : ℕ). Tells g V past i v k new) (sym t.2)
-    (tells_recv g V past i v t.0 new t.1 (omega (arith, t.3, told.recv t.0 t.1 t.2)))
-rewritten_tells g V past i v members mask promise c word new told (inr (inr (inl t))) =
-    tells_accept g V past i v c new (accept_columns (roster g) members c t.0)
-rewritten_tells g V past i v members mask promise c word new told (inr (inr (inr e))) =
-    subst (λ (x : ℕ). Tells g V past i v c x) (sym e) told
-
--- ---- the columns of the row
-
-recv_kept : (n members mask promise s word : ℕ) → s < n
-    → recv_count (wedged_word n members mask promise (recv_column s) word) ≡ recv_count word
-recv_kept n members mask promise s word l = by (rewritten n members mask promise (recv_column s) word)
-  where
-    by : IsRewritten n members mask promise (recv_column s) word
-        (wedged_word n members mask promise (recv_column s) word)
-        → recv_count (wedged_word n members mask promise (recv_column s) word) ≡ recv_count word
-    by (inl t) = absurd (omega (arith, t.0))
-    by (inr (inl t)) = rw t.3 (same_count word)
-    by (inr (inr (inl t))) = absurd (omega (arith, l, accept_columns n members (recv_column s) t.0))
-    by (inr (inr (inr e))) = ap recv_count e
-
-recv_final : (n members mask promise s word : ℕ) → s < n → has members s ≡ true
-    → is_final (wedged_word n members mask promise (recv_column s) word) ≡ true
-recv_final n members mask promise s word l h =
-    let there : recv_column s - recv_column 0 ≡ s = omega arith in
-    let is : is_recv_of n members (recv_column s) ≡ true = grind (arith, l, h, there) in
-    let new : wedged_word n members mask promise (recv_column s) word ≡ recv_word (recv_count word) true =
-    grind (arith, is) in
-    ap is_final new ∙ now_final word
-
-pub accept_rewritten : (n members mask promise c word : ℕ) → is_accept_of n members c ≡ true
-    → wedged_word n members mask promise c word
-    ≡ accept_word promise (accept_tag word) (accept_value word)
-accept_rewritten n members mask promise c word a =
-    let between = accept_columns n members c a in
-    let no : is_recv_of n members c ≡ false = grind (arith, between.0) in
-    grind (arith, a, no, between.0)
-
-pub accept_promised : (n members mask promise c word : ℕ) → is_accept_of n members c ≡ true
-    → accept_promise (wedged_word n members mask promise c word) ≡ promise
-accept_promised n members mask promise c word a =
-    ap accept_promise (accept_rewritten n members mask promise c word a) ∙ new_promise promise word
-
-pub accept_tagged : (n members mask promise c word : ℕ) → is_accept_of n members c ≡ true
-    → accept_tag (wedged_word n members mask promise c word) ≡ accept_tag word
-accept_tagged n members mask promise c word a =
-    ap accept_tag (accept_rewritten n members mask promise c word a) ∙ same_tag promise word
-
-pub accept_valued : (n members mask promise c word : ℕ) → is_accept_of n members c ≡ true
-    → accept_value (wedged_word n members mask promise c word) ≡ accept_value word
-accept_valued n members mask promise c word a =
-    ap accept_value (accept_rewritten n members mask promise c word a) ∙ same_value promise word
-
-other_kept : (n members mask promise c word : ℕ) → c < recv_column 0 → c ≢ SUSPECTED_COLUMN
-    → wedged_word n members mask promise c word ≡ word
-other_kept n members mask promise c word l d = grind arith
-
--- the received, logged, done and beat words are as before
-pub plain_kept : (own : Numbers) (n members mask promise m v a u c : ℕ) → c < recv_column 0
-    → c ≢ SUSPECTED_COLUMN
-    → at₂ own m v (λ k. wedged_word n members mask promise k (own m v k)) a u c ≡ own a u c
-plain_kept own n members mask promise m v a u c l d =
-    at₂_case (λ a u r. r c ≡ own a u c) own m v (λ k. wedged_word n members mask promise k (own m v k))
-    (λ a u. refl) (other_kept n members mask promise c (own m v c) l d) a u
+use Rattle.dr_words.specs.Packing.{accept_promise, accept_tag, accept_value, is_final, recv_count, recv_word}
 
 -- ---- the mask and the promise
 
@@ -211,13 +38,6 @@ abbrev pub row_after : Group → World → ℕ → ℕ → ℕ → ℕ
 row_after g w m j c = wedged_word (roster g) (w.members m) (mask_after w m j) (promise_after w m j) c
     (own_word w m c)
 
--- with one member more: it is there, and others are as before
-with_itself : (j : ℕ) (b : Bool) → (j == j || b) ≡ true
-with_itself j b = grind arith
-
-with_other : (i j : ℕ) (b : Bool) → i ≢ j → (i == j || b) ≡ b
-with_other i j b d = grind arith
-
 -- masks of the view have 16 bits
 pub mask_small : (g : Group) (V : Views) (w : World) (mask v : ℕ) → IsGroup g → Faithful g V w
     → IsPartOf mask (V v) → mask < 2 ^ 16
@@ -229,100 +49,51 @@ pub members_small : (g : Group) (V : Views) (w : World) (m : ℕ) → IsGroup g 
 members_small g V w m is f =
     rw (f.views.own m) (mask_small g V w (V (w.past.view m)) (w.past.view m) is f (λ i h. h))
 
-has_mask : (g : Group) (V : Views) (w : World) (m j i : ℕ) → IsGroup g → CanSuspect g w m j
-    → Faithful g V w → has (mask_after w m j) i ≡ (i == j || has (w.suspects m) i)
-has_mask g V w m j i is can f =
-    let view : has (V (w.past.view m)) j ≡ true =
-    ap (λ k. has k j) (sym (f.views.own m)) ∙ can.other.member in
-    has_with_member (w.suspects m) j i
-    (mask_small g V w (w.suspects m) (w.past.view m) is f (f.suspicions.part m))
-    (le_trans (f.views.within (w.past.view m) j view) is.most_members)
-
--- one that was suspected still is
-pub mask_grown : (g : Group) (V : Views) (w : World) (m j : ℕ) → IsGroup g → CanSuspect g w m j
-    → Faithful g V w → IsPartOf (w.suspects m) (mask_after w m j)
-mask_grown g V w m j is can f i h = grind (arith, has_mask g V w m j i is can f, h)
-
--- and all who are suspected are of the view, without the member itself
-mask_part : (g : Group) (V : Views) (w : World) (m j : ℕ) → IsGroup g → CanSuspect g w m j
-    → Faithful g V w → IsPartOf (mask_after w m j) (V (w.past.view m))
-mask_part g V w m j is can f i h = by (cases_eq i j)
-  where
-    by : (i ≡ j) ⊎ (i ≢ j) → has (V (w.past.view m)) i ≡ true
-    by (inl e) = rw e (ap (λ k. has k j) (sym (f.views.own m)) ∙ can.other.member)
-    by (inr d) = f.suspicions.part m i
-        (sym (has_mask g V w m j i is can f ∙ with_other i j (has (w.suspects m) i) d) ∙ h)
-
-mask_trusted : (g : Group) (V : Views) (w : World) (m j : ℕ) → IsGroup g → CanSuspect g w m j
-    → Faithful g V w → has (mask_after w m j) m ≡ false
-mask_trusted g V w m j is can f =
-    has_mask g V w m j m is can f ∙ with_other m j (has (w.suspects m) m) (λ e. can.other.other (sym e))
-    ∙ f.suspicions.trusted m
+-- what is known of the masks of a member that may suspect another one
+suspecting : (g : Group) (V : Views) (w : World) (m j : ℕ) → IsGroup g → CanSuspect g w m j
+    → Faithful g V w → IsSuspecting (roster g) (w.members m) (w.suspects m) m j
+suspecting g V w m j is can f = record {
+  few = is.most_members;
+  roster = λ i h. f.views.within (w.past.view m) i (ap (λ k. has k i) (sym (f.views.own m)) ∙ h);
+  part = λ i h. ap (λ k. has k i) (f.views.own m) ∙ f.suspicions.part m i h;
+  present = ap (λ k. has k m) (f.views.own m) ∙ f.views.present m can.may.alive.present;
+  trusted = f.suspicions.trusted m;
+  member = can.other.member;
+  apart = can.other.other;
+}
 
 -- somebody is suspected now
 pub mask_some : (g : Group) (V : Views) (w : World) (m j : ℕ) → IsGroup g → CanSuspect g w m j
     → Faithful g V w → mask_after w m j ≢ 0
-mask_some g V w m j is can f none =
-    let there : has (mask_after w m j) j ≡ true =
-    has_mask g V w m j j is can f ∙ with_itself j (has (w.suspects m) j) in
-    let gone : has (mask_after w m j) j ≡ false = ap (λ k. has k j) none ∙ has_zero j in
-    absurd (cc (there, gone))
+mask_some g V w m j is can f = more_some (suspecting g V w m j is can f)
 
--- the promise is the least of those that are left, the member itself among them
-mine_left : (g : Group) (V : Views) (w : World) (m j : ℕ) → IsGroup g → CanSuspect g w m j
-    → Faithful g V w → has (without (w.members m) (mask_after w m j)) m ≡ true
-mine_left g V w m j is can f =
-    has_without_mask (w.members m) (mask_after w m j) m (members_small g V w m is f)
-    ∙ grind (
-      arith,
-      ap (λ k. has k m) (f.views.own m) ∙ f.views.present m can.may.alive.present,
-      mask_trusted g V w m j is can f,
-    )
-
-promise_member : (g : Group) (V : Views) (w : World) (m j : ℕ) → IsGroup g → CanSuspect g w m j
-    → Faithful g V w → promise_after w m j < roster g
-promise_member g V w m j is can f =
-    f.views.within (w.past.view m) (promise_after w m j) (grind (
-      arith,
-      has_without_mask (w.members m) (mask_after w m j) (promise_after w m j) (members_small g V w m is f),
-      (least_of_is (without (w.members m) (mask_after w m j)) m
-          (without_small (w.members m) (mask_after w m j)) (mine_left g V w m j is can f)).member,
-      f.views.own m,
-    ))
-
--- and it rises
+-- the promise doesn't fall
 pub promise_rises : (g : Group) (V : Views) (w : World) (m j : ℕ) → IsGroup g → CanSuspect g w m j
     → Faithful g V w → w.promise m ≤ promise_after w m j
 promise_rises g V w m j is can f = by (cases_eq (w.suspects m) 0)
   where
-    small : w.members m < 2 ^ 16
-    small = members_small g V w m is f
-
-    part : IsPartOf (without (w.members m) (mask_after w m j)) (without (w.members m) (w.suspects m))
-    part i h = grind (
-      arith,
-      has_without_mask (w.members m) (mask_after w m j) i small,
-      has_without_mask (w.members m) (w.suspects m) i small,
-      has_mask g V w m j i is can f,
-      h,
-    )
-
     by : (w.suspects m ≡ 0) ⊎ (w.suspects m ≢ 0) → w.promise m ≤ promise_after w m j
     by (inl e) = omega (arith, f.suspicions.none m e)
     by (inr d) = rw (f.suspicions.least m d, ← f.views.own m)
-        (least_of_part (without (w.members m) (mask_after w m j)) (without (w.members m) (w.suspects m)) m
-        (without_small (w.members m) (w.suspects m)) part (mine_left g V w m j is can f))
+        (left_rises (suspecting g V w m j is can f))
 
 -- ---- the row
+
+-- the received, logged, done and beat words are as before
+pub plain_kept : (own : Numbers) (n members mask promise m v a u c : ℕ) → c < recv_column 0
+    → c ≢ SUSPECTED_COLUMN
+    → at₂ own m v (λ k. wedged_word n members mask promise k (own m v k)) a u c ≡ own a u c
+plain_kept own n members mask promise m v a u c l d =
+    at₂_case (λ a u r. r c ≡ own a u c) own m v (λ k. wedged_word n members mask promise k (own m v k))
+    (λ a u. refl) (wedged_rest n members mask promise c (own m v c) d (inl l)) a u
 
 -- each word of the row has grown
 row_grown : (g : Group) (V : Views) (w : World) (m j : ℕ) → IsGroup g → CanSuspect g w m j
     → Faithful g V w → (c : ℕ) → HasGrown (roster g) c (own_word w m c) (row_after g w m j c)
 row_grown g V w m j is can f c =
-    rewritten_grown (roster g) (w.members m) (mask_after w m j) (promise_after w m j) c (own_word w m c)
-    (row_after g w m j c) (λ e. rw (e, f.suspicions.told m) (mask_grown g V w m j is can f))
+    wedged_grown (roster g) (w.members m) (mask_after w m j) (promise_after w m j) c (own_word w m c)
+    (λ e. rw (e, f.suspicions.told m) (more_grows (suspecting g V w m j is can f)))
     (λ a. rw (f.suspicions.accept m c (rw (← f.views.own m) a)) (promise_rises g V w m j is can f))
-    (rewritten (roster g) (w.members m) (mask_after w m j) (promise_after w m j) c (own_word w m c))
 
 own_after : (g : Group) (V : Views) (w : World) (m j : ℕ) → IsGroup g → CanSuspect g w m j
     → Faithful g V w
@@ -353,7 +124,7 @@ counts_suspected : (g : Group) (V : Views) (w : World) (m j : ℕ) → IsGroup g
 counts_suspected g V w m j is can f = record {
   recv = λ a u b l. at₂_case (λ i v r. recv_count (r (recv_column b)) ≡ w.past.count i v b) w.past.own m
       (w.past.view m) (row_after g w m j) (λ i v. f.counts.recv i v b l)
-      (recv_kept (roster g) (w.members m) (mask_after w m j) (promise_after w m j) b
+      (wedged_count (roster g) (w.members m) (mask_after w m j) (promise_after w m j) b
       (own_word w m (recv_column b)) l ∙ f.counts.recv m (w.past.view m) b l) a u;
   unfinished = λ a b l. at_case (λ i k. k ≡ 0
       → is_final ((suspects g w m j).past.own i (w.past.view i) (recv_column b)) ≡ false) w.suspects m
@@ -373,9 +144,10 @@ suspicions_suspected : (g : Group) (V : Views) (w : World) (m j : ℕ) → IsGro
     (suspects g w m j).past.own
 suspicions_suspected g V w m j is can f = record {
   part = at_case (λ i k. IsPartOf k (V (w.past.view i))) w.suspects m mask
-      (λ i d. f.suspicions.part i) (mask_part g V w m j is can f);
+      (λ i d. f.suspicions.part i)
+      (λ i h. ap (λ k. has k i) (sym (f.views.own m)) ∙ more_part (suspecting g V w m j is can f) i h);
   trusted = at_case (λ i k. has k i ≡ false) w.suspects m mask
-      (λ i d. f.suspicions.trusted i) (mask_trusted g V w m j is can f);
+      (λ i d. f.suspicions.trusted i) (more_trusted (suspecting g V w m j is can f));
   told = λ i. told i (cases_eq i m);
   final = λ i s. final i s (cases_eq i m);
   none = λ i. none i (cases_eq i m);
@@ -407,7 +179,7 @@ suspicions_suspected g V w m j is can f = record {
         → is_final ((suspects g w m j).past.own i (w.past.view i) (recv_column s)) ≡ true
     final i s (inl e) some h =
         let view : has (V (w.past.view m)) s ≡ true = rw (← e) h in
-        rw (e, mine (recv_column s)) (recv_final (roster g) (w.members m) mask promise s _
+        rw (e, mine (recv_column s)) (wedged_final (roster g) (w.members m) mask promise s _
         (f.views.within (w.past.view m) s view) (ap (λ k. has k s) (f.views.own m) ∙ view))
     final i s (inr d) some h = rw (others i (recv_column s) d)
         (f.suspicions.final i s (λ e. some (at_other w.suspects m mask i d ∙ e)) h)
@@ -429,7 +201,7 @@ suspicions_suspected g V w m j is can f = record {
     accept : (i c : ℕ) → (i ≡ m) ⊎ (i ≢ m) → is_accept_of (roster g) (V (w.past.view i)) c ≡ true
         → accept_promise ((suspects g w m j).past.own i (w.past.view i) c) ≡ (suspects g w m j).promise i
     accept i c (inl e) a = rw (e, mine c)
-        (accept_promised (roster g) (w.members m) mask promise c _ (rw (f.views.own m, ← e) a)
+        (wedged_promise (roster g) (w.members m) mask promise c _ (rw (f.views.own m, ← e) a)
         ∙ sym (at_same w.promise m promise))
     accept i c (inr d) a = ap accept_promise (others i c d) ∙ f.suspicions.accept i c a
         ∙ sym (at_other w.promise m promise i d)
@@ -464,13 +236,13 @@ accepts_suspected g V w m j is can f = record {
     tagged : (i c : ℕ) → (i ≡ m) ⊎ (i ≢ m) → is_accept_of (roster g) (V (w.past.view i)) c ≡ true
         → accept_tag ((suspects g w m j).past.own i (w.past.view i) c) ≡ accept_tag (own_word w i c)
     tagged i c (inl e) a = rw (e, mine c)
-        (accept_tagged (roster g) (w.members m) mask promise c _ (rw (f.views.own m, ← e) a))
+        (wedged_tag (roster g) (w.members m) mask promise c _ (rw (f.views.own m, ← e) a))
     tagged i c (inr d) a = ap accept_tag (others i c d)
 
     valued : (i c : ℕ) → (i ≡ m) ⊎ (i ≢ m) → is_accept_of (roster g) (V (w.past.view i)) c ≡ true
         → accept_value ((suspects g w m j).past.own i (w.past.view i) c) ≡ accept_value (own_word w i c)
     valued i c (inl e) a = rw (e, mine c)
-        (accept_valued (roster g) (w.members m) mask promise c _ (rw (f.views.own m, ← e) a))
+        (wedged_value (roster g) (w.members m) mask promise c _ (rw (f.views.own m, ← e) a))
     valued i c (inr d) a = ap accept_value (others i c d)
 
 -- the words tell as before
@@ -479,10 +251,7 @@ words_suspected : (g : Group) (V : Views) (w : World) (m j : ℕ) → Faithful g
 words_suspected g V w m j f = record {
   own = at₂_case (λ i v r. (c : ℕ) → Tells g V new i v c (r c)) w.past.own m (w.past.view m)
       (row_after g w m j) (λ i v c. later i v c (w.past.own i v c) (f.words.own i v c))
-      (λ c. rewritten_tells g V new m (w.past.view m) (w.members m) (mask_after w m j) (promise_after w m j)
-      c (own_word w m c) (row_after g w m j c)
-      (later m (w.past.view m) c (own_word w m c) (f.words.own m (w.past.view m) c))
-      (rewritten (roster g) (w.members m) (mask_after w m j) (promise_after w m j) c (own_word w m c)));
+      (λ c. mine c (later m (w.past.view m) c (own_word w m c) (f.words.own m (w.past.view m) c)));
   table = λ v a i c. later i v c (w.table v a i c) (f.words.table v a i c);
   seen = λ a i c. later i (w.past.view a) c (w.seen a i c) (f.words.seen a i c);
 }
@@ -492,6 +261,22 @@ words_suspected g V w m j f = record {
 
     later : (i v c word : ℕ) → Tells g V w.past i v c word → Tells g V (suspects g w m j).past i v c word
     later i v c word = tells_later g V w.past new i v c word (suspect_past g w m j)
+
+    mine : (c : ℕ) → Tells g V new m (w.past.view m) c (own_word w m c)
+        → Tells g V new m (w.past.view m) c (row_after g w m j c)
+    mine c told = wedged_by (roster g) (w.members m) (mask_after w m j) (promise_after w m j) c
+        (own_word w m c) (Tells g V new m (w.past.view m) c)
+        (λ e. subst (λ (k : ℕ). Tells g V new m (w.past.view m) k (mask_after w m j)) (sym e)
+        (tells_suspected g V new m (w.past.view m) (mask_after w m j)))
+        (λ r. let at = recv_within (roster g) (w.members m) c r in
+        let s : ℕ = c - recv_column 0 in
+        let there : c ≡ recv_column s = omega (arith, at) in
+        let within : s < roster g = omega (arith, at) in
+        subst (λ (k : ℕ). Tells g V new m (w.past.view m) k (recv_word (recv_count (own_word w m c)) true))
+        (sym there) (tells_recv g V new m (w.past.view m) s (recv_word (recv_count (own_word w m c)) true)
+        within (omega (arith, told.recv s within there))))
+        (λ a. tells_accept g V new m (w.past.view m) c _ (accept_within (roster g) (w.members m) c a))
+        told
 
 -- and the members stay faithful
 pub suspect_keeps : (g : Group) (V : Views) (w : World) (m j : ℕ) → IsGroup g → CanSuspect g w m j
@@ -519,16 +304,17 @@ suspect_keeps g V w m j is can f = record {
   form = record {
     in_own = at₂_case (λ i v r. (c : ℕ) → IsInForm (roster g) c (r c)) w.past.own m (w.past.view m)
         (row_after g w m j) f.form.in_own
-        (λ c. rewritten_form (roster g) (w.members m) (mask_after w m j) (promise_after w m j) c
-        (own_word w m c) (row_after g w m j c)
-        (in_roster_small (roster g) (mask_after w m j)
-        (λ i h. f.views.within (w.past.view m) i (mask_part g V w m j is can f i h)))
-        (promise_member g V w m j is can f) (f.form.in_own m (w.past.view m) c)
-        (rewritten (roster g) (w.members m) (mask_after w m j) (promise_after w m j) c (own_word w m c)));
+        (λ c. wedged_in_form (roster g) (w.members m) (mask_after w m j) (promise_after w m j) c
+        (own_word w m c) (in_roster_small (roster g) (mask_after w m j)
+        (λ i h. s.roster i (more_part s i h)))
+        (left_within s) (f.form.in_own m (w.past.view m) c));
     in_table = f.form.in_table;
     in_seen = f.form.in_seen;
   };
 }
+  where
+    s : IsSuspecting (roster g) (w.members m) (w.suspects m) m j
+    s = suspecting g V w m j is can f
 
 -- ---- what is told of suspicions
 

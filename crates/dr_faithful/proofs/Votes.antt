@@ -1,33 +1,35 @@
 -- A member logs a vote, accepts what it has voted for, and commits it: the members stay faithful.
-use Rattle.std.proofs.Common.{Bool, List, None, Some, [], ap, arith, false, inl, inr, le_refl, refl, slice_index, subst, sym, true, ℕ, ◌++◌, ◌+◌, ◌-◌, ◌<◌, ◌^◌, ◌∙◌, ◌∷◌, ◌≡◌, ◌≢◌, ◌≤◌, ◌⊎◌}
+use Rattle.std.proofs.Common.{Bool, List, None, Some, [], ap, arith, false, inl, inr, le_refl, refl, slice_index, subst, sym, true, ℕ, ◌++◌, ◌+◌, ◌<◌, ◌^◌, ◌∙◌, ◌∷◌, ◌≡◌, ◌≢◌, ◌≤◌, ◌⊎◌}
 use Rattle.std.specs.Prelude.{unwrap_or}
-use Rattle.std.proofs.Math.Nat.{pow-le-pow_right}
 use Rattle.std.proofs.lemmas.Bool.{cases_eq}
 use Rattle.dr_entry.specs.declared.record.Value.{Value}
 use Rattle.dr_entry.specs.declared.record.Vote.{Vote}
 use Rattle.dr_history.specs.History.{IsPrefixOf}
 use Rattle.dr_history.specs.Members.{has}
-use Rattle.dr_machine.specs.Effects.{accepted_word, accepts, commits, is_accept_of, logs_vote, vote_for}
+use Rattle.dr_machine.specs.Effects.{accepts, commits, logs_vote, vote_for}
 use Rattle.dr_machine.specs.Group.{Group, IsGroup, roster}
 use Rattle.dr_machine.specs.Guards.{CanLogVote, IsToAccept, IsToPropose}
 use Rattle.dr_machine.specs.Run.{PastGrew, WordsGrew}
 use Rattle.dr_machine.specs.World.{Past, World, no_vote, own_word, shown}
 use Rattle.dr_machine.specs.Writes.{at}
-use Rattle.dr_faithful.proofs.OwnWords.{accept_columns, closed_written, fresh_written, old_later}
+use Rattle.dr_faithful.proofs.OwnWords.{closed_written, fresh_written, old_later}
 use Rattle.dr_faithful.proofs.Pasts.{past_same, prefix_refl, same_past, tells_accept, tells_later, words_later}
 use Rattle.dr_faithful.proofs.Shown.{shown_own, shown_seen}
 use Rattle.dr_faithful.proofs.Writes.{at_case, at_other, at_same, at₂_case, at₂_read}
 use Rattle.dr_faithful.specs.Faithful.{AreAccepts, AreCounts, AreSuspicions, Faithful, IsWaiting}
 use Rattle.dr_faithful.specs.Tells.{Tells, Views, WordsTell}
 use Rattle.dr_words.proofs.Masks.{in_roster_small}
-use Rattle.dr_words.proofs.Order.{HasGrown_refl, HasGrown_same}
+use Rattle.dr_words.proofs.Order.{HasGrown_refl}
+use Rattle.dr_words.proofs.Rewrites.{accepted_by, accepted_grown, accepted_in_form, accepted_promise, accepted_rest, accepted_tag, accepted_value}
+use Rattle.dr_words.proofs.Accepts.{FitsWords, accept_within, leavers_accept}
 use Rattle.dr_words.specs.Accepts.{Shows, part_of, promise_of, tag_of}
 use Rattle.dr_words.specs.Changes.{IsFirstValue, IsLeastReceived}
 use Rattle.dr_words.specs.Columns.{leavers_column, recv_column, trim_column}
 use Rattle.dr_words.specs.Form.{IsInForm}
 use Rattle.dr_words.specs.Grown.{HasGrown}
 use Rattle.dr_words.specs.Masks.{without}
-use Rattle.dr_words.specs.Packing.{accept_promise, accept_tag, accept_value, accept_word}
+use Rattle.dr_words.specs.Packing.{accept_promise, accept_tag, accept_value}
+use Rattle.dr_words.specs.Rewrites.{accepted_word, is_accept_of}
 use Rattle.dr_words.specs.declared.column.TheConstants.{RECEIVED_COLUMN, SUSPECTED_COLUMN}
 
 -- ---- a vote
@@ -48,10 +50,6 @@ vote_past g w m v =
       durable = same.durable;
       acts = same.acts;
     }
-
--- the words of a view that say whom a member has promised, and what it has accepted
-pub leavers_accept : (n members : ℕ) → is_accept_of n members (leavers_column n) ≡ true
-leavers_accept n members = grind arith
 
 -- the own promise and tag, as the member's own row shows them
 pub own_promise : (g : Group) (V : Views) (w : World) (m : ℕ) → Faithful g V w
@@ -178,63 +176,6 @@ vote_keeps g V w m v can f = record {
         let same : vote_for g w m v ≡ x = cc e in
         subst (λ y. IsWaiting g (w.promise m) (w.tag m) y) same this
 
--- ---- one accept word
-
--- the column is that of an accept word of the view, or the word is as before
-abbrev IsAccepted : ℕ → ℕ → ℕ → Value → ℕ → ℕ → ℕ → Type 0
-IsAccepted n members tag v c word new =
-    ((is_accept_of n members c ≡ true) × (new ≡ accept_word (accept_promise word) tag (part_of n v c)))
-    ⊎ ((is_accept_of n members c ≡ false) × (new ≡ word))
-
-accepted : (n members tag : ℕ) (v : Value) (c word : ℕ)
-    → IsAccepted n members tag v c word (accepted_word n members tag v c word)
-accepted n members tag v c word = by (is_accept_of n members c) refl
-  where
-    by : (b : Bool) → is_accept_of n members c ≡ b
-        → IsAccepted n members tag v c word (accepted_word n members tag v c word)
-    by true e = inl (e, grind (arith, e))
-    by false e = inr (e, grind (arith, e))
-
--- the promise, the tag and the value of such a word
-word_promise : (word tag x : ℕ) → tag < 2 ^ 8 → x < 2 ^ 48
-    → accept_promise (accept_word (accept_promise word) tag x) ≡ accept_promise word
-word_promise word tag x l h = omega arith
-
-word_tag : (word tag x : ℕ) → tag < 2 ^ 8 → x < 2 ^ 48
-    → accept_tag (accept_word (accept_promise word) tag x) ≡ tag
-word_tag word tag x l h = omega arith
-
-word_value : (word tag x : ℕ) → tag < 2 ^ 8 → x < 2 ^ 48
-    → accept_value (accept_word (accept_promise word) tag x) ≡ x
-word_value word tag x l h = omega arith
-
--- the word grows by a higher tag
-word_grown : (word tag x : ℕ) → accept_tag word < tag → word ≤ accept_word (accept_promise word) tag x
-word_grown word tag x l = omega arith
-
--- the parts of a value
-pub part_leavers : (n : ℕ) (v : Value) (c : ℕ) → c ≡ leavers_column n → part_of n v c ≡ v.leavers
-part_leavers n v c e = grind (arith, e)
-
-pub part_trim : (n : ℕ) (v : Value) (s c : ℕ) → c ≡ trim_column n s → part_of n v c ≡ slice_index v.trim s
-part_trim n v s c e =
-    let there : c - trim_column n 0 ≡ s = omega (arith, e) in
-    let other : c ≢ leavers_column n = λ q. absurd (omega (arith, e, q)) in
-    grind (arith, there, other)
-
--- the parts of a value that accept words can hold
-parts_small : (g : Group) (x : Vote) (promise tag c : ℕ) → IsGroup g → IsWaiting g promise tag x
-    → part_of (roster g) x.value c < 2 ^ 48
-parts_small g x promise tag c is waits = by (cases_eq c (leavers_column (roster g)))
-  where
-    few : 2 ^ roster g ≤ 2 ^ 16
-    few = pow-le-pow_right (omega arith) is.most_members
-
-    by : (c ≡ leavers_column (roster g)) ⊎ (c ≢ leavers_column (roster g))
-        → part_of (roster g) x.value c < 2 ^ 48
-    by (inl e) = grind (arith, waits.leavers, few)
-    by (inr d) = grind (arith, waits.trims (c - trim_column (roster g) 0))
-
 -- ---- the row
 
 -- the vote that waits
@@ -250,20 +191,6 @@ pub is_waiting : (g : Group) (V : Views) (w : World) (m : ℕ) (x : Vote) → w.
 is_waiting g V w m x e f =
     subst (λ o. IsWaiting g (w.promise m) (w.tag m) (unwrap_or o no_vote)) (sym e) (f.accepts.waits m x e)
 
--- what the row holds now
-pub row_accepted : (g : Group) (V : Views) (w : World) (m c : ℕ) → Faithful g V w
-    → is_accept_of (roster g) (w.members m) c ≡ true
-    → accepted_row g w m c ≡ accept_word (accept_promise (own_word w m c)) ((vote_waiting w m).ballot + 1)
-    (part_of (roster g) (vote_waiting w m).value c)
-row_accepted g V w m c f a = grind (arith, a)
-
-pub row_other : (g : Group) (w : World) (m c : ℕ) → is_accept_of (roster g) (w.members m) c ≡ false
-    → accepted_row g w m c ≡ own_word w m c
-row_other g w m c a = grind (arith, a)
-
-no_accept_column : (n members c : ℕ) → c < recv_column n → is_accept_of n members c ≡ false
-no_accept_column n members c l = grind arith
-
 -- the ballot is that of a member of the roster
 pub ballot_small : (g : Group) (V : Views) (w : World) (m : ℕ) → Faithful g V w → w.promise m < roster g
 ballot_small g V w m f =
@@ -271,62 +198,44 @@ ballot_small g V w m f =
     rw (← f.suspicions.accept m c (leavers_accept (roster g) (V (w.past.view m))))
     ((f.form.in_own m (w.past.view m) c).promise (inl refl))
 
+-- accept words can hold the tag and the value of the vote
+fits : (g : Group) (V : Views) (w : World) (m : ℕ) (x : Vote) → IsGroup g → w.pending m ≡ Some x
+    → Faithful g V w → FitsWords (roster g) ((vote_waiting w m).ballot + 1) (vote_waiting w m).value
+fits g V w m x is e f =
+    let waits = is_waiting g V w m x e f in record {
+      few = is.most_members;
+      ballot = omega (arith, waits.ballot, ballot_small g V w m f);
+      leavers = waits.leavers;
+      trims = waits.trims;
+    }
+
 -- the promise, the tag and the value of the row's accept words
 pub row_promise : (g : Group) (V : Views) (w : World) (m c : ℕ) (x : Vote) → IsGroup g
     → w.pending m ≡ Some x → Faithful g V w → is_accept_of (roster g) (w.members m) c ≡ true
     → accept_promise (accepted_row g w m c) ≡ accept_promise (own_word w m c)
-row_promise g V w m c x is e f a =
-    let waits = is_waiting g V w m x e f in
-    ap accept_promise (row_accepted g V w m c f a)
-    ∙ word_promise (own_word w m c) ((vote_waiting w m).ballot + 1) (part_of (roster g) (vote_waiting w m).value c)
-    (omega (arith, waits.ballot, ballot_small g V w m f, is.most_members))
-    (parts_small g (vote_waiting w m) (w.promise m) (w.tag m) c is waits)
+row_promise g V w m c x is e f = accepted_promise (roster g) (w.members m) ((vote_waiting w m).ballot + 1)
+    (vote_waiting w m).value c (own_word w m c) (fits g V w m x is e f)
 
 pub row_tag : (g : Group) (V : Views) (w : World) (m c : ℕ) (x : Vote) → IsGroup g
     → w.pending m ≡ Some x → Faithful g V w → is_accept_of (roster g) (w.members m) c ≡ true
     → accept_tag (accepted_row g w m c) ≡ (vote_waiting w m).ballot + 1
-row_tag g V w m c x is e f a =
-    let waits = is_waiting g V w m x e f in
-    ap accept_tag (row_accepted g V w m c f a)
-    ∙ word_tag (own_word w m c) ((vote_waiting w m).ballot + 1) (part_of (roster g) (vote_waiting w m).value c)
-    (omega (arith, waits.ballot, ballot_small g V w m f, is.most_members))
-    (parts_small g (vote_waiting w m) (w.promise m) (w.tag m) c is waits)
+row_tag g V w m c x is e f = accepted_tag (roster g) (w.members m) ((vote_waiting w m).ballot + 1)
+    (vote_waiting w m).value c (own_word w m c) (fits g V w m x is e f)
 
 pub row_value : (g : Group) (V : Views) (w : World) (m c : ℕ) (x : Vote) → IsGroup g
     → w.pending m ≡ Some x → Faithful g V w → is_accept_of (roster g) (w.members m) c ≡ true
     → accept_value (accepted_row g w m c) ≡ part_of (roster g) (vote_waiting w m).value c
-row_value g V w m c x is e f a =
-    let waits = is_waiting g V w m x e f in
-    ap accept_value (row_accepted g V w m c f a)
-    ∙ word_value (own_word w m c) ((vote_waiting w m).ballot + 1) (part_of (roster g) (vote_waiting w m).value c)
-    (omega (arith, waits.ballot, ballot_small g V w m f, is.most_members))
-    (parts_small g (vote_waiting w m) (w.promise m) (w.tag m) c is waits)
+row_value g V w m c x is e f = accepted_value (roster g) (w.members m) ((vote_waiting w m).ballot + 1)
+    (vote_waiting w m).value c (own_word w m c) (fits g V w m x is e f)
 
 -- each word of the row has grown
 row_grown : (g : Group) (V : Views) (w : World) (m c : ℕ) (x : Vote) → w.pending m ≡ Some x
     → Faithful g V w → HasGrown (roster g) c (own_word w m c) (accepted_row g w m c)
 row_grown g V w m c x e f =
-    by (accepted (roster g) (w.members m) ((vote_waiting w m).ballot + 1) (vote_waiting w m).value c
-    (own_word w m c))
-  where
-    higher : is_accept_of (roster g) (w.members m) c ≡ true
-        → accept_tag (own_word w m c) < (vote_waiting w m).ballot + 1
-    higher a =
-        let waits = is_waiting g V w m x e f in
-        let old = f.accepts.tagged m c (rw (← f.views.own m) a) in
-        omega (arith, waits.ballot, waits.above, old)
-
-    by : IsAccepted (roster g) (w.members m) ((vote_waiting w m).ballot + 1) (vote_waiting w m).value c
-        (own_word w m c) (accepted_row g w m c)
-        → HasGrown (roster g) c (own_word w m c) (accepted_row g w m c)
-    by (inl t) =
-        let between = accept_columns (roster g) (w.members m) c t.0 in record {
-          number = rw t.1 (word_grown (own_word w m c) ((vote_waiting w m).ballot + 1)
-              (part_of (roster g) (vote_waiting w m).value c) (higher t.0));
-          suspected = λ e. absurd (omega (arith, e, between));
-          final = λ s l e h. absurd (omega (arith, l, e, between));
-        }
-    by (inr t) = HasGrown_same (roster g) c (own_word w m c) (accepted_row g w m c) t.1
+    let waits = is_waiting g V w m x e f in
+    accepted_grown (roster g) (w.members m) ((vote_waiting w m).ballot + 1) (vote_waiting w m).value c
+    (own_word w m c)
+    (λ a. omega (arith, waits.ballot, waits.above, f.accepts.tagged m c (rw (← f.views.own m) a)))
 
 own_after : (g : Group) (V : Views) (w : World) (m : ℕ) (x : Vote) → w.pending m ≡ Some x
     → Faithful g V w
@@ -341,7 +250,8 @@ pub plain_after : (g : Group) (w : World) (m i v c : ℕ) → c < recv_column (r
     → (accepts g w m).past.own i v c ≡ w.past.own i v c
 plain_after g w m i v c l =
     at₂_case (λ i v r. r c ≡ w.past.own i v c) w.past.own m (w.past.view m) (accepted_row g w m)
-    (λ i v. refl) (row_other g w m c (no_accept_column (roster g) (w.members m) c l)) i v
+    (λ i v. refl) (accepted_rest (roster g) (w.members m) ((vote_waiting w m).ballot + 1)
+    (vote_waiting w m).value c (own_word w m c) (inl l)) i v
 
 -- and so are the words of others
 others_after : (g : Group) (w : World) (m i c : ℕ) → i ≢ m
@@ -445,8 +355,7 @@ words_after : (g : Group) (V : Views) (w : World) (m : ℕ) → Faithful g V w
 words_after g V w m f = record {
   own = at₂_case (λ i v r. (c : ℕ) → Tells g V new i v c (r c)) w.past.own m (w.past.view m)
       (accepted_row g w m) (λ i v c. later i v c (w.past.own i v c) (f.words.own i v c))
-      (λ c. mine c (accepted (roster g) (w.members m) ((vote_waiting w m).ballot + 1)
-      (vote_waiting w m).value c (own_word w m c)));
+      (λ c. mine c (later m (w.past.view m) c (own_word w m c) (f.words.own m (w.past.view m) c)));
   table = λ v a i c. later i v c (w.table v a i c) (f.words.table v a i c);
   seen = λ a i c. later i (w.past.view a) c (w.seen a i c) (f.words.seen a i c);
 }
@@ -457,34 +366,11 @@ words_after g V w m f = record {
     later : (i v c word : ℕ) → Tells g V w.past i v c word → Tells g V (accepts g w m).past i v c word
     later i v c word = tells_later g V w.past new i v c word (accept_past g w m)
 
-    mine : (c : ℕ) → IsAccepted (roster g) (w.members m) ((vote_waiting w m).ballot + 1)
-        (vote_waiting w m).value c (own_word w m c) (accepted_row g w m c)
-        → Tells g V (accepts g w m).past m (w.past.view m) c (accepted_row g w m c)
-    mine c (inl t) = tells_accept g V new m (w.past.view m) c (accepted_row g w m c)
-        (accept_columns (roster g) (w.members m) c t.0)
-    mine c (inr t) = subst (λ (z : ℕ). Tells g V new m (w.past.view m) c z) (sym t.1)
-        (later m (w.past.view m) c (own_word w m c) (f.words.own m (w.past.view m) c))
-
--- and are in form
-form_after : (g : Group) (V : Views) (w : World) (m c : ℕ) (x : Vote) → IsGroup g
-    → w.pending m ≡ Some x → Faithful g V w
-    → (b : Bool) → is_accept_of (roster g) (w.members m) c ≡ b
-    → IsInForm (roster g) c (accepted_row g w m c)
-form_after g V w m c x is e f true a =
-    let between = accept_columns (roster g) (w.members m) c a in
-    let waits = is_waiting g V w m x e f in
-    let old = f.form.in_own m (w.past.view m) c in
-    let value = row_value g V w m c x is e f a in record {
-      suspected = λ e. absurd (omega (arith, e, between));
-      done = λ e. absurd (omega (arith, e, between));
-      recv = λ s l e. absurd (omega (arith, l, e, between));
-      promise = λ k. rw (row_promise g V w m c x is e f a) (old.promise k);
-      tag = λ k. rw (row_tag g V w m c x is e f a) (omega (arith, waits.ballot, ballot_small g V w m f));
-      leavers = λ k. rw (value, part_leavers (roster g) (vote_waiting w m).value c k) waits.leavers;
-      trim = λ s l k. rw (value, part_trim (roster g) (vote_waiting w m).value s c k) (waits.trims s);
-    }
-form_after g V w m c x is e f false a =
-    subst (λ z. IsInForm (roster g) c z) (sym (row_other g w m c a)) (f.form.in_own m (w.past.view m) c)
+    mine : (c : ℕ) → Tells g V new m (w.past.view m) c (own_word w m c)
+        → Tells g V new m (w.past.view m) c (accepted_row g w m c)
+    mine c = accepted_by (roster g) (w.members m) ((vote_waiting w m).ballot + 1) (vote_waiting w m).value c
+        (own_word w m c) (Tells g V new m (w.past.view m) c)
+        (λ a. tells_accept g V new m (w.past.view m) c _ (accept_within (roster g) (w.members m) c a))
 
 -- the members stay faithful
 pub accept_keeps : (g : Group) (V : Views) (w : World) (m : ℕ) (x : Vote) → IsGroup g
@@ -511,7 +397,9 @@ accept_keeps g V w m x is e f = record {
   form = record {
     in_own = at₂_case (λ i v r. (c : ℕ) → IsInForm (roster g) c (r c)) w.past.own m (w.past.view m)
         (accepted_row g w m) f.form.in_own
-        (λ c. form_after g V w m c x is e f (is_accept_of (roster g) (w.members m) c) refl);
+        (λ c. accepted_in_form (roster g) (w.members m) ((vote_waiting w m).ballot + 1)
+        (vote_waiting w m).value c (own_word w m c) (fits g V w m x is e f)
+        (f.form.in_own m (w.past.view m) c));
     in_table = f.form.in_table;
     in_seen = f.form.in_seen;
   };

@@ -10,6 +10,7 @@ use Rattle.dr_history.specs.Order.{messages_from}
 use Rattle.dr_history.specs.Members.{has, members_of}
 use Rattle.dr_history.specs.Places.{front_of}
 use Rattle.dr_history.specs.History.{IsPrefixOf, Sent, messages_of}
+use Rattle.dr_words.specs.Rewrites.{is_accept_of}
 use Rattle.dr_words.specs.declared.column.TheConstants.{SUSPECTED_COLUMN, RECEIVED_COLUMN}
 use Rattle.dr_words.specs.Accepts.{part_of}
 use Rattle.dr_words.specs.Columns.{recv_column}
@@ -17,7 +18,7 @@ use Rattle.dr_words.specs.Form.{IsInForm}
 use Rattle.dr_words.specs.Grown.{HasGrown}
 use Rattle.dr_words.specs.Masks.{IsPartOf, least_of, without}
 use Rattle.dr_words.specs.Packing.{accept_promise, accept_tag, accept_value, recv_count, is_final}
-use Rattle.dr_machine.specs.Effects.{is_accept_of, finished_history}
+use Rattle.dr_machine.specs.Effects.{finished_history}
 use Rattle.dr_machine.specs.Guards.{CanFinish}
 use Rattle.dr_machine.specs.Group.{Group, IsPresent, roster}
 use Rattle.dr_machine.specs.Sending.{IsPut}

@@ -11,11 +11,11 @@ use Rattle.dr_history.specs.Places.{front_of}
 use Rattle.dr_history.specs.History.{Sent, messages_of}
 use Rattle.dr_history.specs.Order.{messages_from}
 use Rattle.dr_ring.specs.Pieces.{pieces}
+use Rattle.dr_words.specs.Rewrites.{is_accept_of}
 use Rattle.dr_words.specs.declared.column.TheConstants.{BEAT_COLUMN, SUSPECTED_COLUMN, RECEIVED_COLUMN, LOGGED_COLUMN, DONE_COLUMN, PIECES}
 use Rattle.dr_words.specs.Columns.{recv_column, head_column}
 use Rattle.dr_words.specs.Masks.{IsPartOf}
 use Rattle.dr_words.specs.Packing.{accept_promise, is_final, ring_word, recv_count}
-use Rattle.dr_machine.specs.Effects.{is_accept_of}
 use Rattle.dr_machine.specs.Group.{Group, roster}
 use Rattle.dr_machine.specs.World.{Past, World, own_word}
 

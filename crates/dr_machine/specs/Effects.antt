@@ -1,5 +1,5 @@
 -- What each event makes of the world.
-use Rattle.std.specs.Prelude.{ℕ, ◌%◌, ◌+◌, ◌-◌, ◌^◌, ◌==◌, ◌&&◌, ◌||◌, nat_le, nat_lt, min, true, false, Bool, if◌then◌else◌, List, [], ◌∷◌, ◌++◌, length, map, fold, take, drop, slice_index, slice_index_or, unwrap_or, None, Some}
+use Rattle.std.specs.Prelude.{ℕ, ◌%◌, ◌+◌, ◌-◌, ◌^◌, ◌&&◌, nat_le, nat_lt, min, false, if◌then◌else◌, List, [], ◌∷◌, ◌++◌, length, map, fold, take, drop, slice_index, slice_index_or, unwrap_or, None, Some}
 use Rattle.dr_entry.specs.declared.entry.Entry.{Entry}
 use Rattle.dr_entry.specs.declared.entry.Entry.TheVariants.{View, Msg}
 use Rattle.dr_entry.specs.declared.entry.Item.{Item}
@@ -10,17 +10,16 @@ use Rattle.dr_entry.specs.declared.end.SentItem.{SentItem}
 use Rattle.dr_entry.specs.declared.end.SentItem.TheVariants as sent_items
 use Rattle.dr_entry.specs.declared.end.SentItem.TheVariants.{Index}
 use Rattle.dr_entry.specs.declared.record.Vote.{Vote}
-use Rattle.dr_history.specs.Members.{has}
 use Rattle.dr_history.specs.Places.{front_of, rest_places}
 use Rattle.dr_history.specs.History.{messages_of}
 use Rattle.dr_history.specs.Order.{messages_from}
 use Rattle.dr_ring.specs.Pieces.{pieces}
 use Rattle.dr_ring.specs.Slots.{slot_column, item_in}
-use Rattle.dr_words.specs.declared.column.TheConstants.{BEAT_COLUMN, SUSPECTED_COLUMN, RECEIVED_COLUMN, LOGGED_COLUMN, DONE_COLUMN}
-use Rattle.dr_words.specs.Accepts.{part_of}
-use Rattle.dr_words.specs.Columns.{recv_column, leavers_column, trim_column}
+use Rattle.dr_words.specs.declared.column.TheConstants.{BEAT_COLUMN, RECEIVED_COLUMN, LOGGED_COLUMN, DONE_COLUMN}
+use Rattle.dr_words.specs.Columns.{recv_column}
 use Rattle.dr_words.specs.Masks.{least_of, with_member, without}
-use Rattle.dr_words.specs.Packing.{ring_word, recv_count, recv_word, accept_promise, accept_tag, accept_value, accept_word}
+use Rattle.dr_words.specs.Packing.{ring_word, recv_word}
+use Rattle.dr_words.specs.Rewrites.{accepted_word, wedged_word}
 use Rattle.dr_machine.specs.Writes.{at, at₂, at₃, at₄}
 use Rattle.dr_machine.specs.Group.{Group, roster}
 use Rattle.dr_machine.specs.Votes.{vote_in}
@@ -157,26 +156,6 @@ reports w m = record w {
 abbrev pub marks : World → ℕ → World
 marks w m = with_own w m DONE_COLUMN 1
 
--- the column is that of the recv word of one of these members of a roster of n
-abbrev pub is_recv_of : ℕ → ℕ → ℕ → Bool
-is_recv_of n members c =
-    nat_le (recv_column 0) c && (nat_lt c (recv_column n) && has members (c - recv_column 0))
-
--- it is that of the leavers, or of the trim of one of these members
-abbrev pub is_accept_of : ℕ → ℕ → ℕ → Bool
-is_accept_of n members c =
-    c == leavers_column n
-    || (nat_le (trim_column n 0) c && (nat_lt c (trim_column n n) && has members (c - trim_column n 0)))
-
--- the own word of a column, of one that suspects the members of this mask in a view of these members: the
--- suspected word is the mask, the recv words are final, and the accept words have this promise
-abbrev pub wedged_word : ℕ → ℕ → ℕ → ℕ → ℕ → ℕ → ℕ
-wedged_word n members mask promise c word =
-    if c == SUSPECTED_COLUMN then mask
-    else (if is_recv_of n members c then recv_word (recv_count word) true
-    else (if is_accept_of n members c then accept_word promise (accept_tag word) (accept_value word)
-    else word))
-
 -- m suspects j: it receives and sends no more in its view, and promises to accept what the least member that
 -- it doesn't suspect proposes
 abbrev pub suspects : Group → World → ℕ → ℕ → World
@@ -202,12 +181,6 @@ logs_vote g w m v = record w {
   past = record w.past { votes = at w.past.votes m (w.past.votes m ++ vote_for g w m v ∷ []) };
   pending = at w.pending m (Some (vote_for g w m v));
 }
-
--- the own word of a column, of one that has accepted this value by this tag in a view of these members: the
--- accept words have the tag, and each has its part of the value
-abbrev pub accepted_word : ℕ → ℕ → ℕ → Value → ℕ → ℕ → ℕ
-accepted_word n members tag v c word =
-    if is_accept_of n members c then accept_word (accept_promise word) tag (part_of n v c) else word
 
 -- m accepts the value of the vote that it has logged, by the tag of that vote's ballot
 abbrev pub accepts : Group → World → ℕ → World

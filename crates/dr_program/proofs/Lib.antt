@@ -6,6 +6,7 @@ pub mod Opening
 pub mod OpeningForm
 pub mod Least
 pub mod Voting
+pub mod Suspecting
 pub mod Sent
 pub mod Finishing
 pub mod Waiting

@@ -15,6 +15,7 @@ use Rattle.dr_words.proofs.Choices.{accept_test, proposal_is, proposal_long, pro
 use Rattle.dr_words.proofs.Choices as choices
 use Rattle.dr_words.proofs.Masks.{has_without_mask, in_roster_small}
 use Rattle.dr_words.proofs.Values.{same_value}
+use Rattle.dr_words.proofs.Accepts.{leavers_accept}
 use Rattle.dr_words.specs.Accepts.{Shows, promise_of, tag_of, trim_word}
 use Rattle.dr_words.specs.Changes.{IsFirstValue, IsLeastReceived, IsProposal}
 use Rattle.dr_words.specs.Choices.{proposal, shown_value}
@@ -22,7 +23,6 @@ use Rattle.dr_words.specs.Columns.{leavers_column, recv_column, trim_column}
 use Rattle.dr_words.specs.Form.{IsInForm}
 use Rattle.dr_words.specs.Masks.{without}
 use Rattle.dr_words.specs.Packing.{accept_value}
-use Rattle.dr_machine.specs.Effects.{is_accept_of}
 use Rattle.dr_program.specs.Form.{HasForm, IsVoteDue, waiting}
 use Rattle.dr_program.specs.Replica.{Replica, is_value, is_wedged, may_accept, may_append, may_propose, may_vote, me, promise, value_due, vote_of}
 
@@ -107,9 +107,6 @@ pub votes_for : (r : Replica) (v : Value) → may_vote r v ≡ true → v ≡ va
 votes_for r v e = (voting r v e).value
 
 -- ---- the own row
-
-leavers_accept : (n members : ℕ) → is_accept_of n members (leavers_column n) ≡ true
-leavers_accept n members = grind arith
 
 -- it shows the promise and the tag
 pub own_promise : (r : Replica) → HasForm r → promise_of r.roster (seen r.rows) (me r) ≡ promise r

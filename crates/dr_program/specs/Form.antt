@@ -9,6 +9,7 @@ use Rattle.dr_ring.specs.Slots.{slot_column}
 use Rattle.dr_rows.specs.Words.{IsWords, own, is_frozen}
 use Rattle.dr_entry.specs.declared.record.Vote.{Vote}
 use Rattle.dr_words.specs.Accepts.{part_of as value_part}
+use Rattle.dr_words.specs.Rewrites.{is_accept_of}
 use Rattle.dr_words.specs.declared.column.TheConstants.{BEAT_COLUMN, SUSPECTED_COLUMN, RECEIVED_COLUMN, LOGGED_COLUMN, PIECES}
 use Rattle.dr_words.specs.Columns.{columns_of, recv_column}
 use Rattle.dr_words.specs.Form.{AllInForm}
@@ -16,7 +17,6 @@ use Rattle.dr_words.specs.Masks.{IsInRoster}
 use Rattle.dr_words.specs.Packing.{accept_promise, accept_tag, accept_value, recv_word, ring_tag}
 use Rattle.dr_suspect.specs.Suspicion.{IsSuspicion}
 use Rattle.dr_suspect.specs.Waits.{IsWaits}
-use Rattle.dr_machine.specs.Effects.{is_accept_of}
 use Rattle.dr_program.specs.declared.setup.Setup.{Setup}
 use Rattle.dr_program.specs.Turn.{IsIn, part_of, turn_begins}
 use Rattle.dr_machine.specs.Group.{Group, banks, roster}

@@ -17,11 +17,12 @@ use Rattle.dr_history.specs.History.{messages_in}
 use Rattle.dr_history.specs.Order.{messages_from}
 use Rattle.dr_ring.specs.Slots.{is_free, item_in, slot_of, with_item}
 use Rattle.dr_rows.specs.Words as rows
-use Rattle.dr_rows.specs.Words.{Words, begun, row_of, seen, own, with_frozen}
+use Rattle.dr_rows.specs.Words.{Words, begun, row_of, seen, own, rewritten, with_frozen}
 use Rattle.dr_suspect.specs.Suspicion.{Suspicion, names_me}
 use Rattle.dr_words.specs.Accepts.{promise_of}
 use Rattle.dr_words.specs.Choices as choices
 use Rattle.dr_words.specs.Choices.{proposal, shown_value}
+use Rattle.dr_words.specs.Rewrites.{accepted_word, wedged_word}
 use Rattle.dr_words.specs.declared.column.TheConstants.{BEAT_COLUMN, RECEIVED_COLUMN, LOGGED_COLUMN, DONE_COLUMN}
 use Rattle.dr_words.specs.Columns.{columns_of, recv_column}
 use Rattle.dr_words.specs.Masks.{least_of, with_member, without}
@@ -31,7 +32,7 @@ use Rattle.dr_entry.specs.declared.record.Value.{Value}
 use Rattle.dr_entry.specs.declared.record.Vote.{Vote}
 use Rattle.dr_entry.specs.declared.limits.TheConstants.{MAX_MEMBERS}
 use Rattle.dr_machine.specs.World.{no_value, no_vote}
-use Rattle.dr_machine.specs.Effects.{accepted_word, entries_of, one_more, wedged_word}
+use Rattle.dr_machine.specs.Effects.{entries_of, one_more}
 
 -- what a member keeps of a view that it has left: its own words, how many items of each member it had, and
 -- what it had put
@@ -392,11 +393,6 @@ reported r = record r { durable = least_seen r LOGGED_COLUMN }
 
 abbrev pub marked : Replica → Replica
 marked r = record r { rows = rows.with_own r.rows DONE_COLUMN 1 }
-
--- words of which each own one is made of the one before, by its column
-abbrev pub rewritten : Words → (ℕ → ℕ → ℕ) → Words
-rewritten w make =
-    record w { words = slice_set w.words w.me (map (λ c. make c (own w c)) (range_with_len 0 w.columns)) }
 
 -- it suspects one member more: that one's row is frozen, its recv words are final, and its accept words have
 -- the promise to the least member that it doesn't suspect

@@ -3,21 +3,23 @@ use Rattle.std.proofs.Common.{◌≡◌, ◌↔◌, refl, sym, ap, ◌∙◌, su
 use Rattle.std.proofs.Math.Path.{fun_ext}
 use Rattle.std.specs.Prelude.{Option, Some, None, is_some, slice_set, unwrap_or}
 use Rattle.std.proofs.lemmas.Bool.{and_from, and_parts, cases_eq, eq-eqb, eqb-true}
-use Rattle.std.proofs.lemmas.Bool.Decides.{nat_tests}
 use Rattle.std.proofs.lemmas.List.{length-take-le}
 use Rattle.std.proofs.lemmas.Option.{slice_get_within}
 use Rattle.dr_entry.specs.declared.record.Value.{Value}
 use Rattle.dr_entry.specs.declared.record.Vote.{Vote}
 use Rattle.dr_history.specs.Members.{has}
 use Rattle.dr_rows.specs.Words.{own, seen}
+use Rattle.dr_rows.proofs.Rewrites.{IsWords-rewritten, own_rewritten_all, seen_rewritten}
 use Rattle.dr_words.proofs.Choices.{accept_test, commit_test, proposal_is, propose_test, shows_value}
 use Rattle.dr_words.proofs.Masks.{has_without_mask, in_roster_small}
+use Rattle.dr_words.proofs.Rewrites.{accepted_rest}
 use Rattle.dr_words.proofs.Values.{proposal_once, shows_once}
 use Rattle.dr_words.specs.Accepts.{Shown, Shows, promise_of}
 use Rattle.dr_words.specs.Changes.{IsProposal, MayAccept, MayCommit, MayPropose}
 use Rattle.dr_words.specs.Choices.{proposal, shown_value}
 use Rattle.dr_words.specs.Masks.{without}
-use Rattle.dr_machine.specs.Effects.{accepted_word, accepts, commits, logs_vote, stamped}
+use Rattle.dr_words.specs.Rewrites.{accepted_word}
+use Rattle.dr_machine.specs.Effects.{accepts, commits, logs_vote, stamped}
 use Rattle.dr_machine.specs.Group.{Group, roster}
 use Rattle.dr_machine.specs.Guards.{CanAccept, CanCommit, CanLogVote, CanPropose}
 use Rattle.dr_machine.specs.Votes.{vote_in}
@@ -33,7 +35,6 @@ use Rattle.dr_refine.specs.Programs.{IsMember, acted_table}
 use Rattle.dr_refine.proofs.Gains.{own_here, row_written}
 use Rattle.dr_refine.proofs.Guards.{IsIdle, may_choose, members_are, not_less, running, suspects_are, wedged}
 use Rattle.dr_refine.proofs.Members.{Fits, fits, replaced, shown_seen, then_acted}
-use Rattle.dr_refine.proofs.Suspects.{IsWords-rewritten, own_rewritten, seen_rewritten}
 
 -- ---- the rows
 
@@ -352,11 +353,6 @@ accept_changes g w m = record {
   here = rw (same_number m) refl;
 }
 
--- a word past the row's end is no accept word
-past_row : (n window members tag : ℕ) (v : Value) (c : ℕ) → 6 + n + n ≤ c
-    → accepted_word n members tag v c 0 ≡ 0
-past_row n window members tag v c past = grind (arith, nat_tests, past)
-
 -- what it has voted for is accepted
 pub accept_effect : (g : Group) (rs : List Replica) (table : List ℕ) (m : ℕ) (r : Replica)
     → IsMember g rs table m r
@@ -391,9 +387,9 @@ accept_effect g rs table m r is =
 
     words : (c : ℕ) → own (accepted r).rows c
         ≡ accepted_word (roster g) r.members (vote.ballot + 1) vote.value c (own r.rows c)
-    words c = own_rewritten r.rows make c f.words
-        (λ past. past_row r.roster r.window r.members (vote.ballot + 1) vote.value c
-        (omega (arith, is.form.columns, past)))
+    words c = own_rewritten_all r.rows make c f.words
+        (λ past. accepted_rest r.roster r.members (vote.ballot + 1) vote.value c 0
+        (inr (omega (arith, is.form.columns, past))))
         ∙ ap (λ n. accepted_word n r.members (vote.ballot + 1) vote.value c (own r.rows c)) is.of.members
 
     own_is : (holding_of g (accepted r)).own

@@ -1,11 +1,12 @@
 -- The vector that has the rows one after another, as a grid.
-use Rattle.std.proofs.Common.{◌≡◌, ℕ, ◌+◌, ◌*◌, ◌<◌, List, [], length, get_or, set, replicate, map, slice_index, inl, inr, sym, ap, ◌∙◌, arith}
+use Rattle.std.proofs.Common.{◌≡◌, ℕ, ◌+◌, ◌*◌, ◌<◌, List, [], length, get_or, set, replicate, map, take, drop, ◌≤◌, slice_index, inl, inr, sym, ap, ◌∙◌, arith, le_refl}
 use Rattle.std.proofs.lemmas.Bool.{cases_eq}
-use Rattle.std.proofs.lemmas.List.{get_or-set_same, get_or-set_other, get_or-replicate}
-use Rattle.std.proofs.lemmas.List.FromFn.{length-map-range_with_len, get_or-map-range_with_len}
-use Rattle.std.proofs.lemmas.Nat.{mul-add-lt, same_from_place}
+use Rattle.std.proofs.lemmas.List.{get_or-set_same, get_or-set_other, get_or-replicate, get_or-take, get_or-drop, length-drop, length-take-le}
+use Rattle.std.proofs.lemmas.List.FromFn.{fill_by_all, length-map-range_with_len, get_or-map-range_with_len}
+use Rattle.std.proofs.lemmas.Nat.{mul-add-lt, mul-le, same_from_place}
+use Rattle.std.proofs.Math.Nat.{suc-mul}
 use Rattle.std.specs.List.{range_with_len}
-use Rattle.dr_rows.specs.Words.{IsGrid, word_at, with_word, zeros}
+use Rattle.dr_rows.specs.Words.{IsGrid, row_of, word_at, with_word, zeros}
 use Rattle.dr_rows.specs.Inside.{rows_of}
 use Rattle.dr_rows.proofs.Grids.{same_grids, with_word-same, with_word-row, with_word-column, IsGrid-with_word, IsGrid-zeros}
 
@@ -18,6 +19,18 @@ row_of-rows_of : (n k : ℕ) (flat : List ℕ) (i : ℕ) (d : List ℕ) → i < 
     → get_or (rows_of n k flat) i d ≡ row_in k flat i
 unfolding rows_of
 row_of-rows_of n k flat i d h = get_or-map-range_with_len (row_in k flat) 0 n i i d h (omega arith)
+
+-- and such a run is the row
+pub run_is_row : (n k : ℕ) (flat : List ℕ) (i : ℕ) → length flat ≡ n * k → i < n
+    → take k (drop (i * k) flat) ≡ row_of (rows_of n k flat) i
+run_is_row n k flat i full h =
+    let room : (i + 1) * k ≤ n * k = mul-le (i + 1) k n k (omega (arith, h)) (le_refl k) in
+    let long : k ≤ length (drop (i * k) flat) =
+    omega (arith, length-drop (i * k) flat, full, room, suc-mul i k) in
+    fill_by_all (λ c. slice_index flat (i * k + c)) (take k (drop (i * k) flat)) k 0
+    (length-take-le k (drop (i * k) flat) long)
+    (λ c l. get_or-take k (drop (i * k) flat) c 0 l ∙ get_or-drop (i * k) flat c 0)
+    ∙ sym (row_of-rows_of n k flat i [] h)
 
 -- a word of the grid is the one at its place in the vector
 pub word_at-rows_of : (n k : ℕ) (flat : List ℕ) (i c : ℕ) → i < n → c < k

@@ -1,4 +1,5 @@
 pub mod Grids
 mod FlatRows
 pub mod WordsLemmas
+pub mod Rewrites
 mod Vectors

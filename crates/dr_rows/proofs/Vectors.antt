@@ -1,14 +1,18 @@
 -- What the writes to the vectors of `Rows` are to its callers.
-use Rattle.std.proofs.Common.{◌≡◌, ℕ, ◌+◌, ◌*◌, ◌<◌, ◌≤◌, false, length, replicate, slice_index_or, sym, ap, subst, ◌∙◌, arith}
+use Rattle.std.proofs.Common.{◌≡◌, ℕ, ◌+◌, ◌-◌, ◌*◌, ◌<◌, ◌≤◌, false, List, drop, length, take, replicate, slice_index_or, sym, ap, subst, ◌∙◌, arith}
 use Rattle.std.proofs.lemmas.List.{get_or_default, length-set, length-replicate}
 use Rattle.std.proofs.lemmas.Nat.{mul-add-lt}
 use Rattle.std.specs.Vec.{with_item}
-use Rattle.dr_rows.specs.Words.{Words, IsWords, begun, last_pushed, looked, own, pushed, seen, with_word}
+use Rattle.dr_rows.specs.Words.{Words, IsWords, begun, last_pushed, looked, own, pushed, row_of, seen, with_word}
 use Rattle.dr_rows.specs.Growth.{IsFresh}
 use Rattle.dr_rows.specs.Inside.{IsInside, rows_of, view_of}
 use Rattle.dr_rows.specs.declared.rows.Rows.TheInside.{Inside}
-use Rattle.dr_rows.proofs.FlatRows.{rows_of-set, rows_of-zeros, word_at-rows_of}
+use Rattle.dr_rows.proofs.FlatRows.{rows_of-set, rows_of-zeros, run_is_row, word_at-rows_of}
 use Rattle.dr_rows.proofs.WordsLemmas.{IsFresh-begun, IsWords-begun, IsWords-looked, IsWords-pushed}
+
+-- the own row is one of the rows
+pub present : (a : Inside) (now : Words) → view_of a ≡ now → IsInside a → now.me < now.members
+present a now same inside = subst (λ (w : Words). w.me < w.members) same inside.form.present
 
 -- the word that was read at a place is the seen one
 pub seen_read : (a : Inside) (now : Words) (i c p x : ℕ) → view_of a ≡ now → IsInside a
@@ -21,6 +25,18 @@ seen_read a now i c p x same inside = subst (λ (w : Words). i < w.members → c
     read ∙ get_or_default a.words.items p x 0 (omega (arith, inside.words))
     ∙ ap (λ q. slice_index_or a.words.items q 0) at
     ∙ sym (word_at-rows_of a.members a.columns a.words.items i c h g))
+
+-- the run from where the own row begins is the own row
+pub own_run : (a : Inside) (now : Words) (flat : List ℕ) → view_of a ≡ now → IsInside a
+    → flat ≡ a.words.items
+    → take (a.own_row + a.columns - a.own_row) (drop a.own_row flat) ≡ row_of now.words now.me
+own_run a now flat same inside is =
+    let long : a.own_row + a.columns - a.own_row ≡ a.columns = omega arith in
+    let begins = inside.own_row in
+    subst (λ (w : Words). take (a.own_row + a.columns - a.own_row) (drop a.own_row flat)
+    ≡ row_of w.words w.me) same
+    (rw (long, begins, is) (run_is_row a.members a.columns a.words.items a.me inside.words
+    inside.form.present))
 
 -- the word that was read at a place is the one last pushed
 pub last_pushed_read : (a : Inside) (now : Words) (i c p x : ℕ) → view_of a ≡ now → IsInside a
@@ -53,6 +69,7 @@ pub IsInside-looked : (a : Inside) (now : Words) (i c p v : ℕ) → view_of a �
 IsInside-looked a now i c p v same inside h g at = record {
   form = subst IsWords (sym (looked_written a now i c p v same inside h g at))
       (IsWords-looked now i c v (subst IsWords same inside.form) h);
+  own_row = inside.own_row;
   words = length-set a.words.items p v ∙ inside.words;
   sent = inside.sent;
 }
@@ -78,6 +95,7 @@ pub IsInside-pushed : (a : Inside) (now : Words) (j c p v : ℕ) → view_of a �
 IsInside-pushed a now j c p v same inside h g at word = record {
   form = subst IsWords (sym (pushed_written a now j c p v same inside h g at word))
       (IsWords-pushed now j c (subst IsWords same inside.form) h);
+  own_row = inside.own_row;
   words = inside.words;
   sent = length-set a.sent.items p v ∙ inside.sent;
 }
@@ -99,10 +117,11 @@ begun_blank a blank =
 
 -- blank vectors have their form, where members and columns are within their limits
 pub IsInside-begun : (a : Inside) → IsBlank a → a.members ≤ 16 → a.columns ≤ 1024
-    → a.me < a.members → IsInside a
-IsInside-begun a blank few narrow present = record {
+    → a.me < a.members → a.own_row ≡ a.me * a.columns → IsInside a
+IsInside-begun a blank few narrow present begins = record {
   form = subst IsWords (sym (begun_blank a blank))
       (IsWords-begun a.members a.columns a.me few narrow present);
+  own_row = begins;
   words = ap length blank.words ∙ length-replicate (a.members * a.columns) 0;
   sent = ap length blank.sent ∙ length-replicate (a.members * a.columns) 0;
 }

@@ -20,8 +20,9 @@ view_of a = record {
   frozen = a.frozen.items;
 }
 
--- the words have their form, and the vectors one place for each
+-- the words have their form, the vectors one place for each, and where the own row begins is kept beside them
 pub record IsInside (a : Inside) : Type 0 where
   pub form : IsWords (view_of a)
+  pub own_row : a.own_row ≡ a.me * a.columns
   pub words : length a.words.items ≡ a.members * a.columns
   pub sent : length a.sent.items ≡ a.members * a.columns

@@ -1,5 +1,6 @@
 -- What `Rows` is to its callers: the words that one member has, and sees of the others.
-use Rattle.std.specs.Prelude.{◌≡◌, ℕ, ◌<◌, ◌≤◌, ◌==◌, Bool, true, false, not, List, [], All, length, replicate, slice_index, slice_index_or, slice_set}
+use Rattle.std.specs.Prelude.{◌≡◌, ℕ, ◌<◌, ◌≤◌, ◌==◌, Bool, true, false, not, List, [], All, length, map, replicate, slice_index, slice_index_or, slice_set}
+use Rattle.std.specs.List.{range_with_len}
 use Rattle.dr_entry.specs.declared.limits.TheConstants.{MAX_MEMBERS}
 
 -- the numbers of members and of columns, the own member, and by member the row of words (the own row has
@@ -52,6 +53,11 @@ looked w i c v = record w { words = with_word w.words i c v }
 -- the words with this own word
 abbrev pub with_own : Words → ℕ → ℕ → Words
 with_own w c v = looked w w.me c v
+
+-- the words of which each own one is made of the one before, by its column
+abbrev pub rewritten : Words → (ℕ → ℕ → ℕ) → Words
+rewritten w make =
+    record w { words = slice_set w.words w.me (map (λ c. make c (own w c)) (range_with_len 0 w.columns)) }
 
 -- the words after a push of an own word to a member
 abbrev pub pushed : Words → ℕ → ℕ → Words

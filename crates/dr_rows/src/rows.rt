@@ -13,6 +13,8 @@ pub struct Rows {
     members: u8,
     columns: usize,
     me: u8,
+    /// Where the own row begins in the vectors.
+    own_row: usize,
     words: Vec<u64>,
     sent: Vec<u64>,
     frozen: Vec<bool>,
@@ -32,7 +34,7 @@ impl Model for Rows {
 
 impl Rows {
     ghost use Rattle.dr_rows.specs.Growth.{HasGrown, IsFresh};
-    ghost use Rattle.dr_rows.specs.Words.{IsWords, begun, changed, is_frozen, last_pushed, looked, own, pushed, renewed, seen, with_frozen, with_own};
+    ghost use Rattle.dr_rows.specs.Words.{IsWords, begun, changed, is_frozen, last_pushed, looked, own, pushed, renewed, row_of, seen, with_frozen, with_own};
 
     /// The rows of member `me` in a group of 1 to [`MAX_MEMBERS`] members, with at most 1,024 columns.
     /// All words are 0, and no row is frozen. No later call takes memory.
@@ -49,6 +51,7 @@ impl Rows {
             members,
             columns,
             me,
+            own_row: usize::from(me) * columns,
             words: vec![in alloc; 0; places]?,
             sent: vec![in alloc; 0; places]?,
             frozen: vec![in alloc; false; usize::from(members)]?,
@@ -70,7 +73,14 @@ impl Rows {
         requires { column < self.now.columns }
         ensures { result ≡ own self.now column }
     {
-        self.seen(self.me, column)
+        self.words[self.own_place(column)]
+    }
+
+    /// The own words, by column.
+    pub fn own_words(&self) -> &[u64]
+        ensures { result.now ≡ row_of self.now.words self.now.me }
+    {
+        &self.words[self.own_row..self.own_row + self.columns]
     }
 
     /// Sets the own word of a column to `word`, which is not smaller.
@@ -82,8 +92,8 @@ impl Rows {
         ensures grown { HasGrown self.old self.new }
         ensures form { IsWords self.new }
     {
-        let me = self.me;
-        self.write(me, column, word);
+        let place = self.own_place(column);
+        self.words[place] = word;
     }
 
     /// The word of a column that was last seen of a member, or the own word in the own row.
@@ -109,7 +119,8 @@ impl Rows {
         ensures grown { HasGrown self.old self.new }
         ensures form { IsWords self.new }
     {
-        self.write(row, column, word);
+        let place = self.place(row, column);
+        self.words[place] = word;
     }
 
     /// Freezes the row of another member: no look changes it any more.
@@ -167,18 +178,6 @@ impl Rows {
         self.frozen.fill(false);
     }
 
-    /// Writes a word to a row.
-    #[inline]
-    fn write(&mut self, row: u8, column: usize, word: u64)
-        requires row { row < self.old.members }
-        requires column { column < self.old.columns }
-        ensures after { self.new ≡ looked self.old row column word }
-        ensures form { IsWords self.new }
-    {
-        let place = self.place(row, column);
-        self.words[place] = word;
-    }
-
     /// The own word of a column that was last pushed to the member `to`.
     #[inline]
     fn last_pushed(&self, to: u8, column: usize) -> u64
@@ -198,5 +197,15 @@ impl Rows {
         ensures within { result < self.now.members * self.now.columns }
     {
         usize::from(row) * self.columns + column
+    }
+
+    /// The place of a column of the own row.
+    #[inline]
+    fn own_place(&self, column: usize) -> usize
+        requires { column < self.now.columns }
+        ensures place { result ≡ self.now.me * self.now.columns + column }
+        ensures within { result < self.now.members * self.now.columns }
+    {
+        self.own_row + column
     }
 }

@@ -9,8 +9,8 @@ use Rattle.dr_entry.specs.declared.entry.Item.{Item}
 use Rattle.dr_entry.specs.declared.end.SentItem.{SentItem}
 use Rattle.dr_entry.specs.declared.record.Value.{Value}
 use Rattle.dr_entry.specs.declared.record.Vote.{Vote}
-use Rattle.dr_machine.specs.Effects.{is_accept_of}
 use Rattle.dr_machine.specs.World.{no_vote}
+use Rattle.dr_words.proofs.Accepts.{leavers_accept}
 use Rattle.dr_words.specs.Columns.{leavers_column}
 use Rattle.std.specs.Prelude.{None, Option, Some, is_some, unwrap_or}
 use Rattle.dr_machine.specs.declared.event.Act.TheVariants as acts
@@ -18,6 +18,7 @@ use Rattle.dr_machine.specs.declared.step.Step.{Step}
 use Rattle.dr_machine.specs.declared.step.Step.TheVariants.{Do, Append}
 use Rattle.dr_rows.specs.Words.{own, seen, with_own}
 use Rattle.dr_rows.proofs.Grids.{with_word-same, with_word-column}
+use Rattle.dr_words.specs.Rewrites.{is_accept_of}
 use Rattle.dr_words.specs.declared.column.TheConstants.{BEAT_COLUMN, RECEIVED_COLUMN, LOGGED_COLUMN, DONE_COLUMN}
 use Rattle.dr_words.proofs.Masks.{in_roster_small, with_member_greater, with_member_small}
 use Rattle.dr_words.specs.Masks.{with_member}
@@ -221,9 +222,6 @@ trust_keeps word r (Do a) stays form is = le_refl _
 trust_keeps word r s stays form is = le_refl _
 
 -- ---- votes
-
-leavers_accept : (n members : ℕ) → is_accept_of n members (leavers_column n) ≡ true
-leavers_accept n members = grind arith
 
 -- the member that a replica has promised is of its roster
 promise_small : (r : Replica) → HasForm r → promise r < 16

@@ -5,14 +5,14 @@ use Rattle.std.proofs.lemmas.Bool.{and_parts, cases_eq, eqb-true}
 use Rattle.dr_entry.specs.declared.record.Value.{Value}
 use Rattle.dr_entry.specs.declared.record.Vote.{Vote}
 use Rattle.dr_history.specs.Members.{has}
-use Rattle.dr_machine.specs.Effects.{accepts, commits, is_accept_of}
+use Rattle.dr_machine.specs.Effects.{accepts, commits}
 use Rattle.dr_machine.specs.Group.{Group, IsGroup, roster}
 use Rattle.dr_machine.specs.Guards.{CanCommit}
 use Rattle.dr_machine.specs.Votes.{HasLogged, HasVoted, MajorityHas, vote_in}
 use Rattle.dr_machine.specs.World.{World, no_vote, shown}
 use Rattle.dr_machine.specs.Writes.{at}
 use Rattle.dr_faithful.proofs.Shown.{shown_own, shown_seen}
-use Rattle.dr_faithful.proofs.Votes.{accept_grew, accepted_row, is_waiting, leavers_accept, own_tag, row_promise, row_tag, row_value, vote_waiting}
+use Rattle.dr_faithful.proofs.Votes.{accept_grew, accepted_row, is_waiting, own_tag, row_promise, row_tag, row_value, vote_waiting}
 use Rattle.dr_faithful.proofs.Writes.{at_case, at_other, at_same, at₂_case, at₂_read}
 use Rattle.dr_faithful.specs.Faithful.{Faithful, IsWaiting}
 use Rattle.dr_faithful.specs.Tells.{Views}
@@ -21,11 +21,13 @@ use Rattle.dr_vote_laws.proofs.Logs.{votes_same}
 use Rattle.dr_vote_laws.specs.Tells.{TellsVote, promise_in, tag_in}
 use Rattle.dr_vote_laws.specs.Voting.{Voting}
 use Rattle.dr_words.proofs.Masks.{has_mask_of}
+use Rattle.dr_words.proofs.Accepts.{leavers_accept}
 use Rattle.dr_words.specs.Accepts.{tag_of}
 use Rattle.dr_words.specs.Changes.{tagged_members}
 use Rattle.dr_words.specs.Columns.{leavers_column}
 use Rattle.dr_words.specs.Masks.{IsMajorityOf}
 use Rattle.dr_words.specs.Packing.{accept_promise, accept_tag}
+use Rattle.dr_words.specs.Rewrites.{is_accept_of}
 
 -- ---- what is shown
 

@@ -5,13 +5,13 @@ use Rattle.dr_entry.specs.declared.record.Vote.{Vote}
 use Rattle.dr_history.specs.Members.{has}
 use Rattle.dr_machine.specs.Group.{Group, roster}
 use Rattle.dr_machine.specs.Votes.{Votes, vote_in}
-use Rattle.dr_faithful.proofs.OwnWords.{accept_columns}
 use Rattle.dr_faithful.specs.Faithful.{Numbers, Table}
 use Rattle.dr_faithful.specs.Tells.{Views}
 use Rattle.dr_vote_laws.proofs.Later.{OwnGrew, original_on, tells_on}
 use Rattle.dr_vote_laws.proofs.Logs.{votes_same}
 use Rattle.dr_vote_laws.specs.Tells.{TellsVote}
 use Rattle.dr_vote_laws.specs.Voting.{AreVoting}
+use Rattle.dr_words.proofs.Accepts.{accept_within}
 use Rattle.dr_words.specs.Columns.{head_column, leavers_column, recv_column}
 use Rattle.dr_words.specs.Packing.{accept_tag}
 
@@ -45,10 +45,10 @@ same_accepts g V view tag value committed pending own new table copies seen vote
           (votes_same g own votes) (f.original v b x h);
       words = record {
         in_own = λ i v c a. subst (λ z. TellsVote g new votes i v c z)
-            (sym (same i v c (accept_columns (roster g) (V v) c a)))
+            (sym (same i v c (accept_within (roster g) (V v) c a)))
             (on i v c (own i v c) (f.words.in_own i v c a));
         in_table = λ v j i c a. subst (λ z. TellsVote g new votes i v c z)
-            (sym (copied v j i c (accept_columns (roster g) (V v) c a)))
+            (sym (copied v j i c (accept_within (roster g) (V v) c a)))
             (on i v c (table v j i c) (f.words.in_table v j i c a));
         in_seen = λ m i c a. on i (view m) c (seen m i c) (f.words.in_seen m i c a);
       };

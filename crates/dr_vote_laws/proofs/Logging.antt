@@ -9,17 +9,18 @@ use Rattle.dr_machine.specs.Group.{Group, IsGroup, roster}
 use Rattle.dr_machine.specs.Guards.{CanLogVote, IsToAccept, IsToPropose}
 use Rattle.dr_machine.specs.Votes.{HasLogged, HasVoted, vote_in}
 use Rattle.dr_machine.specs.World.{World, shown}
-use Rattle.dr_faithful.proofs.Votes.{leavers_accept, own_promise}
+use Rattle.dr_faithful.proofs.Votes.{own_promise}
 use Rattle.dr_faithful.proofs.Writes.{at_case, at_other, at_same}
 use Rattle.dr_faithful.specs.Faithful.{Faithful}
 use Rattle.dr_faithful.specs.Tells.{Views}
 use Rattle.dr_vote_laws.proofs.Later.{OwnGrew, majority_on, original_on, tells_on}
 use Rattle.dr_vote_laws.proofs.Logs.{VotesGrew, logged_before, logged_new, logged_stays}
 use Rattle.dr_vote_laws.proofs.Proposals.{proposed}
-use Rattle.dr_vote_laws.proofs.Rows.{all_tagged, no_vote_yet, shows_voted}
+use Rattle.dr_vote_laws.proofs.Rows.{no_vote_yet, shows_voted}
 use Rattle.dr_vote_laws.specs.Tells.{TellsVote, promise_in, tag_in}
 use Rattle.dr_vote_laws.specs.Voting.{AreVotes, IsOriginal, IsValueOf, Voting}
 use Rattle.dr_words.proofs.Order.{HasGrown_refl}
+use Rattle.dr_words.proofs.Accepts.{leavers_accept, all_tagged}
 use Rattle.dr_words.specs.Columns.{leavers_column}
 
 -- the own words are as before

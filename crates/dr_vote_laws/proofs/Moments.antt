@@ -1,5 +1,7 @@
 -- Each accept word of the table, and each that was seen, was an own word of its owner at some moment.
 use Rattle.std.proofs.Common.{◌≡◌, ◌⊎◌, refl, inl, inr, ℕ, ◌+◌, ◌∷◌, [], ◌++◌, true, arith}
+use Rattle.dr_words.proofs.Accepts.{accept_within}
+use Rattle.dr_words.specs.Rewrites.{is_accept_of}
 use Rattle.dr_words.specs.declared.column.TheConstants.{BEAT_COLUMN}
 use Rattle.dr_machine.proofs.Runs.{run_on}
 use Rattle.dr_machine.specs.Acts.{Guard, does, effect, effect_of}
@@ -8,12 +10,11 @@ use Rattle.dr_machine.specs.declared.event.Act.TheVariants as acts
 use Rattle.dr_machine.specs.declared.event.Event.{Event}
 use Rattle.dr_machine.specs.declared.step.Step.{Step}
 use Rattle.dr_machine.specs.declared.step.Step.TheVariants.{Append, Do, LogVote, Look, Push}
-use Rattle.dr_machine.specs.Effects.{is_accept_of, one_more}
+use Rattle.dr_machine.specs.Effects.{one_more}
 use Rattle.dr_machine.specs.Events.{member_of, step_of}
 use Rattle.dr_machine.specs.Group.{Group, roster}
 use Rattle.dr_machine.specs.Run.{Happens, IsReached}
 use Rattle.dr_machine.specs.World.{World, opening_world, own_word}
-use Rattle.dr_faithful.proofs.OwnWords.{accept_columns}
 use Rattle.dr_faithful.proofs.Writes.{at_both, at₃_case, at₄_case}
 use Rattle.dr_faithful.specs.Faithful.{Faithful, Numbers, Table}
 use Rattle.dr_faithful.specs.Tells.{Views}
@@ -97,7 +98,7 @@ does_same g V w after m a so = so
 
 -- the beat word is no accept word
 beat_so : (g : Group) (V : Views) (w : World) (v i word : ℕ) → IsOfMoment g V w v i BEAT_COLUMN word
-beat_so g V w v i word column = absurd (omega (arith, accept_columns (roster g) (V v) BEAT_COLUMN column))
+beat_so g V w v i word column = absurd (omega (arith, accept_within (roster g) (V v) BEAT_COLUMN column))
 
 step_so : (g : Group) (V : Views) (w : World) (m : ℕ) (s : Step) → IsReached g w → Faithful g V w
     → ((i v c word : ℕ) → HadAccepted g w i v c word → HadAccepted g (effect_of g w m s) i v c word)

@@ -3,7 +3,7 @@ use Rattle.std.proofs.Common.{None, Option, Some, arith, inl, inr, length, refl,
 use Rattle.std.proofs.lemmas.Bool.{cases_eq}
 use Rattle.dr_entry.specs.declared.record.Value.{Value}
 use Rattle.dr_entry.specs.declared.record.Vote.{Vote}
-use Rattle.dr_machine.specs.Effects.{finishes_by, is_accept_of}
+use Rattle.dr_machine.specs.Effects.{finishes_by}
 use Rattle.dr_machine.specs.Group.{Group, roster}
 use Rattle.dr_machine.specs.Votes.{HasLogged, HasVoted, MajorityHas, Votes, vote_in}
 use Rattle.dr_machine.specs.World.{World, no_value}
@@ -15,6 +15,7 @@ use Rattle.dr_faithful.specs.Tells.{Views}
 use Rattle.dr_vote_laws.proofs.Frames.{same_accepts}
 use Rattle.dr_vote_laws.specs.Tells.{TellsVote}
 use Rattle.dr_vote_laws.specs.Voting.{AreVoting, Voting}
+use Rattle.dr_words.specs.Rewrites.{is_accept_of}
 use Rattle.dr_words.specs.declared.column.TheConstants.{LOGGED_COLUMN}
 
 -- a word 0 tells nothing

@@ -4,11 +4,11 @@ use Rattle.dr_entry.specs.declared.record.Vote.{Vote}
 use Rattle.dr_machine.specs.Group.{Group, roster}
 use Rattle.dr_machine.specs.Votes.{HasLogged, Votes}
 use Rattle.dr_machine.specs.World.{opening_world}
-use Rattle.dr_faithful.proofs.OwnWords.{accept_columns}
 use Rattle.dr_faithful.specs.Faithful.{Numbers}
 use Rattle.dr_faithful.specs.Tells.{Views}
 use Rattle.dr_vote_laws.specs.Tells.{TellsVote}
 use Rattle.dr_vote_laws.specs.Voting.{Voting}
+use Rattle.dr_words.proofs.Accepts.{accept_within}
 use Rattle.dr_words.specs.Columns.{head_column, recv_column}
 
 nobody : (i : ℕ) (x : Vote) → HasLogged (λ i. []) i x → ⊥
@@ -44,7 +44,7 @@ begun g V = record {
   original = λ v b x h. absurd (nobody b _ h);
   words = record {
     in_own = λ i v c a. subst (λ z. TellsVote g (opening_world g).past.own (λ i. []) i v c z)
-        (sym (none g i v c (accept_columns (roster g) (V v) c a)))
+        (sym (none g i v c (accept_within (roster g) (V v) c a)))
         (tells_nothing g (opening_world g).past.own (λ i. []) i v c);
     in_table = λ v j i c a. tells_nothing g (opening_world g).past.own (λ i. []) i v c;
     in_seen = λ m i c a. tells_nothing g (opening_world g).past.own (λ i. []) i 0 c;

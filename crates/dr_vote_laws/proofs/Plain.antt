@@ -1,6 +1,6 @@
 -- Steps that log no votes, and accept, promise and commit nothing.
 use Rattle.std.proofs.Common.{arith, refl, true, ℕ, ◌<◌, ◌≡◌, ◌≢◌}
-use Rattle.dr_machine.specs.Effects.{is_accept_of, looks, one_more, pushes, stamped_in, with_own}
+use Rattle.dr_machine.specs.Effects.{looks, one_more, pushes, stamped_in, with_own}
 use Rattle.dr_machine.specs.Group.{Group, roster}
 use Rattle.dr_machine.specs.World.{World, own_word}
 use Rattle.dr_machine.specs.Writes.{at₄}
@@ -13,6 +13,7 @@ use Rattle.dr_vote_laws.proofs.Later.{OwnGrew}
 use Rattle.dr_vote_laws.specs.Tells.{TellsVote}
 use Rattle.dr_vote_laws.specs.Voting.{Voting}
 use Rattle.dr_words.specs.Columns.{recv_column}
+use Rattle.dr_words.specs.Rewrites.{is_accept_of}
 use Rattle.dr_words.specs.declared.column.TheConstants.{BEAT_COLUMN}
 
 -- another column of the table is as before

@@ -4,27 +4,29 @@ use Rattle.std.specs.Int.{trailing_zeros}
 use Rattle.std.proofs.lemmas.Bool.{and_parts, cases_eq, cases_lt}
 use Rattle.dr_entry.specs.declared.record.Value.{Value}
 use Rattle.dr_history.specs.Members.{has}
-use Rattle.dr_machine.specs.Effects.{is_accept_of, logs_vote, vote_for}
+use Rattle.dr_machine.specs.Effects.{logs_vote, vote_for}
 use Rattle.dr_machine.specs.Group.{Group, IsGroup, roster}
 use Rattle.dr_machine.specs.Guards.{CanLogVote, IsToPropose, unsuspected_of}
 use Rattle.dr_machine.specs.Votes.{HasLogged, HasVoted, vote_in}
 use Rattle.dr_machine.specs.World.{World, shown}
 use Rattle.dr_faithful.proofs.Suspicions.{mask_small, members_small}
-use Rattle.dr_faithful.proofs.Votes.{leavers_accept, own_promise}
+use Rattle.dr_faithful.proofs.Votes.{own_promise}
 use Rattle.dr_faithful.specs.Faithful.{Faithful}
 use Rattle.dr_faithful.specs.Tells.{Views}
 use Rattle.dr_vote_laws.proofs.Accepting.{shown_tells}
 use Rattle.dr_vote_laws.proofs.Logs.{logged_before, logged_stays}
-use Rattle.dr_vote_laws.proofs.Rows.{all_promised, no_vote_yet, not_torn, shown_grown, shows_voted}
+use Rattle.dr_vote_laws.proofs.Rows.{no_vote_yet, not_torn, shown_grown, shows_voted}
 use Rattle.dr_vote_laws.specs.Tells.{TellsVote}
 use Rattle.dr_vote_laws.specs.Voting.{IsFirst, IsLater, IsOriginal, Voting}
 use Rattle.dr_words.proofs.Masks.{has_without_mask}
 use Rattle.dr_words.proofs.Ranks.{least_member}
+use Rattle.dr_words.proofs.Accepts.{leavers_accept, all_promised}
 use Rattle.dr_words.specs.Accepts.{Shows, tag_of}
 use Rattle.dr_words.specs.Changes.{IsFirstValue, IsHighest, IsLeastReceived, IsProposal, IsUntagged, MayPropose, received}
 use Rattle.dr_words.specs.Columns.{leavers_column, recv_column}
 use Rattle.dr_words.specs.Masks.{IsMajorityOf}
 use Rattle.dr_words.specs.Packing.{accept_promise, accept_tag, is_final, recv_count}
+use Rattle.dr_words.specs.Rewrites.{is_accept_of}
 
 -- who is not suspected
 unsuspected_is : (g : Group) (V : Views) (w : World) (m i : ℕ) → IsGroup g → Faithful g V w

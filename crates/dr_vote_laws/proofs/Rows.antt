@@ -1,16 +1,15 @@
 -- What the accept words of one row tell together: words that were seen one by one are not torn.
-use Rattle.std.proofs.Common.{Bool, Some, ap, arith, false, inl, inr, length, refl, slice_index, subst, suc, sym, true, zero, ℕ, ◌+◌, ◌-◌, ◌<◌, ◌∙◌, ◌≡◌, ◌≢◌, ◌≤◌, ◌⊎◌}
+use Rattle.std.proofs.Common.{Bool, Some, ap, arith, false, inl, inr, length, refl, slice_index, subst, suc, sym, true, zero, ℕ, ◌+◌, ◌<◌, ◌∙◌, ◌≡◌, ◌≢◌, ◌≤◌, ◌⊎◌}
 use Rattle.std.proofs.lemmas.Bool.{cases_eq}
 use Rattle.dr_entry.specs.declared.limits.TheConstants.{MAX_MEMBERS}
 use Rattle.dr_entry.specs.declared.record.Value.{Value}
 use Rattle.dr_history.specs.Members.{has}
-use Rattle.dr_machine.specs.Effects.{is_accept_of}
 use Rattle.dr_machine.specs.Group.{Group, roster}
 use Rattle.dr_machine.specs.Guards.{CanLogVote}
 use Rattle.dr_machine.specs.Votes.{HasVoted, Votes, vote_in}
 use Rattle.dr_machine.specs.World.{World, shown}
 use Rattle.dr_faithful.proofs.Shown.{shown_own, shown_seen}
-use Rattle.dr_faithful.proofs.Votes.{leavers_accept, not_yet, part_leavers, part_trim}
+use Rattle.dr_faithful.proofs.Votes.{not_yet}
 use Rattle.dr_faithful.specs.Faithful.{Faithful, Numbers}
 use Rattle.dr_faithful.specs.Tells.{Views}
 use Rattle.dr_vote_laws.proofs.Accepting.{shown_tells}
@@ -18,46 +17,12 @@ use Rattle.dr_vote_laws.specs.Tells.{TellsVote, tag_in}
 use Rattle.dr_vote_laws.specs.Voting.{IsValueOf, Voting}
 use Rattle.dr_words.proofs.Order.{HasGrown_refl, HasGrown_trans}
 use Rattle.dr_words.proofs.Values.{same_value}
-use Rattle.dr_words.specs.Accepts.{AllPromise, AllTag, Shown, Shows, part_of}
+use Rattle.dr_words.proofs.Accepts.{leavers_accept, part_leavers, part_trim, trim_accept}
+use Rattle.dr_words.specs.Accepts.{Shows, part_of}
 use Rattle.dr_words.specs.Columns.{leavers_column, trim_column}
 use Rattle.dr_words.specs.Grown.{HasGrown}
 use Rattle.dr_words.specs.Packing.{accept_promise, accept_tag, accept_value}
-
--- ---- the accept columns of a view
-
-accept_cases : (n members c : ℕ) → is_accept_of n members c ≡ true → (c ≡ leavers_column n)
-    ⊎ ((s : ℕ) × (has members s ≡ true) × (c ≡ trim_column n s))
-accept_cases n members c a = by (cases_eq c (leavers_column n))
-  where
-    by : (c ≡ leavers_column n) ⊎ (c ≢ leavers_column n) → (c ≡ leavers_column n)
-        ⊎ ((s : ℕ) × (has members s ≡ true) × (c ≡ trim_column n s))
-    by (inl e) = inl e
-    by (inr d) = inr (c - trim_column n 0, grind (arith, a, d), grind (arith, a, d))
-
-pub trim_accept : (n members s : ℕ) → s < n → has members s ≡ true
-    → is_accept_of n members (trim_column n s) ≡ true
-trim_accept n members s l h =
-    let there : trim_column n s - trim_column n 0 ≡ s = omega arith in
-    grind (arith, l, h, there)
-
--- one promise, and one tag, in all accept words
-pub all_promised : (n : ℕ) (rows : Shown) (members i p : ℕ) → AllPromise n rows members i p → (c : ℕ)
-    → is_accept_of n members c ≡ true → accept_promise (rows i c) ≡ p
-all_promised n rows members i p all c a = by (accept_cases n members c a)
-  where
-    by : (c ≡ leavers_column n) ⊎ ((s : ℕ) × (has members s ≡ true) × (c ≡ trim_column n s))
-        → accept_promise (rows i c) ≡ p
-    by (inl e) = rw e all.leavers
-    by (inr t) = rw t.2 (all.trims t.0 t.1)
-
-pub all_tagged : (n : ℕ) (rows : Shown) (members i p : ℕ) → AllTag n rows members i p → (c : ℕ)
-    → is_accept_of n members c ≡ true → accept_tag (rows i c) ≡ p
-all_tagged n rows members i p all c a = by (accept_cases n members c a)
-  where
-    by : (c ≡ leavers_column n) ⊎ ((s : ℕ) × (has members s ≡ true) × (c ≡ trim_column n s))
-        → accept_tag (rows i c) ≡ p
-    by (inl e) = rw e all.leavers
-    by (inr t) = rw t.2 (all.trims t.0 t.1)
+use Rattle.dr_words.specs.Rewrites.{is_accept_of}
 
 -- ---- torn rows
 

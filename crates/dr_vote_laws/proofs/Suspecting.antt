@@ -1,13 +1,12 @@
 -- A member suspects another one: its promise rises, and its tag and its value stay.
 use Rattle.std.proofs.Common.{Some, ap, arith, inl, inr, le_of_eq, refl, subst, sym, true, ℕ, ◌<◌, ◌∙◌, ◌≡◌, ◌⊎◌}
 use Rattle.dr_entry.specs.declared.record.Value.{Value}
-use Rattle.dr_machine.specs.Effects.{is_accept_of, suspects}
+use Rattle.dr_machine.specs.Effects.{suspects}
 use Rattle.dr_machine.specs.Group.{Group, IsGroup, roster}
 use Rattle.dr_machine.specs.Guards.{CanSuspect}
 use Rattle.dr_machine.specs.Votes.{vote_in}
 use Rattle.dr_machine.specs.World.{World, own_word}
-use Rattle.dr_faithful.proofs.Suspicions.{accept_promised, accept_tagged, accept_valued, mask_after, promise_after, promise_rises, row_after, suspect_grew}
-use Rattle.dr_faithful.proofs.Votes.{leavers_accept}
+use Rattle.dr_faithful.proofs.Suspicions.{mask_after, promise_after, promise_rises, row_after, suspect_grew}
 use Rattle.dr_faithful.proofs.Writes.{at₂_case, at₂_read}
 use Rattle.dr_faithful.specs.Faithful.{Faithful}
 use Rattle.dr_faithful.specs.Tells.{Views}
@@ -15,8 +14,11 @@ use Rattle.dr_vote_laws.proofs.Later.{OwnGrew, original_on, tells_on}
 use Rattle.dr_vote_laws.proofs.Logs.{votes_same}
 use Rattle.dr_vote_laws.specs.Tells.{TellsVote, promise_in, tag_in}
 use Rattle.dr_vote_laws.specs.Voting.{Voting}
+use Rattle.dr_words.proofs.Rewrites.{wedged_promise, wedged_tag, wedged_value}
+use Rattle.dr_words.proofs.Accepts.{leavers_accept}
 use Rattle.dr_words.specs.Columns.{leavers_column}
 use Rattle.dr_words.specs.Packing.{accept_promise, accept_tag, accept_value}
+use Rattle.dr_words.specs.Rewrites.{is_accept_of}
 
 -- no tag changes
 tags_stay : (g : Group) (w : World) (m j i v : ℕ)
@@ -25,7 +27,7 @@ tags_stay g w m j i v =
     let c : ℕ = leavers_column (roster g) in
     at₂_case (λ i v r. accept_tag (r c) ≡ accept_tag (w.past.own i v c)) w.past.own m (w.past.view m)
     (row_after g w m j) (λ i v. refl)
-    (accept_tagged (roster g) (w.members m) (mask_after w m j) (promise_after w m j) c (own_word w m c)
+    (wedged_tag (roster g) (w.members m) (mask_after w m j) (promise_after w m j) c (own_word w m c)
     (leavers_accept (roster g) (w.members m))) i v
 
 -- the own promise
@@ -34,7 +36,7 @@ promise_now : (g : Group) (w : World) (m j : ℕ)
 promise_now g w m j =
     let c : ℕ = leavers_column (roster g) in
     ap (λ r. accept_promise (r c)) (at₂_read w.past.own m (w.past.view m) (row_after g w m j))
-    ∙ accept_promised (roster g) (w.members m) (mask_after w m j) (promise_after w m j) c (own_word w m c)
+    ∙ wedged_promise (roster g) (w.members m) (mask_after w m j) (promise_after w m j) c (own_word w m c)
     (leavers_accept (roster g) (w.members m))
 
 -- each accept word of the row tells
@@ -52,15 +54,15 @@ row_votes g V w m j c is can f old a = record {
     mine = rw (f.views.own m) a
 
     promise : accept_promise (row_after g w m j c) ≡ promise_after w m j
-    promise = accept_promised (roster g) (w.members m) (mask_after w m j) (promise_after w m j) c
+    promise = wedged_promise (roster g) (w.members m) (mask_after w m j) (promise_after w m j) c
         (own_word w m c) mine
 
     tag : accept_tag (row_after g w m j c) ≡ accept_tag (own_word w m c)
-    tag = accept_tagged (roster g) (w.members m) (mask_after w m j) (promise_after w m j) c
+    tag = wedged_tag (roster g) (w.members m) (mask_after w m j) (promise_after w m j) c
         (own_word w m c) mine
 
     value : accept_value (row_after g w m j c) ≡ accept_value (own_word w m c)
-    value = accept_valued (roster g) (w.members m) (mask_after w m j) (promise_after w m j) c
+    value = wedged_value (roster g) (w.members m) (mask_after w m j) (promise_after w m j) c
         (own_word w m c) mine
 
     before : TellsVote g w.past.own w.past.votes m (w.past.view m) c (own_word w m c)

@@ -2,8 +2,8 @@
 use Rattle.std.specs.Prelude.{◌≡◌, ◌⊎◌, ℕ, List, true}
 use Rattle.dr_words.specs.Accepts.{part_of}
 use Rattle.dr_words.specs.Packing.{accept_promise, accept_tag, accept_value}
+use Rattle.dr_words.specs.Rewrites.{is_accept_of}
 use Rattle.dr_machine.specs.declared.event.Event.{Event}
-use Rattle.dr_machine.specs.Effects.{is_accept_of}
 use Rattle.dr_machine.specs.Group.{Group, roster}
 use Rattle.dr_machine.specs.Run.{IsReached, Run}
 use Rattle.dr_machine.specs.World.{World}

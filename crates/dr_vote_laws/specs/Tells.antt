@@ -5,7 +5,7 @@ use Rattle.dr_entry.specs.declared.record.Value.{Value}
 use Rattle.dr_words.specs.Accepts.{part_of}
 use Rattle.dr_words.specs.Columns.{leavers_column}
 use Rattle.dr_words.specs.Packing.{accept_promise, accept_tag, accept_value}
-use Rattle.dr_machine.specs.Effects.{is_accept_of}
+use Rattle.dr_words.specs.Rewrites.{is_accept_of}
 use Rattle.dr_machine.specs.Group.{Group, roster}
 use Rattle.dr_machine.specs.Votes.{HasVoted, Votes}
 use Rattle.dr_machine.specs.World.{World}

@@ -1,7 +1,14 @@
--- Words in form.
-use Rattle.std.proofs.Common.{arith, ℕ, ◌≤◌}
+-- Words that are in form, and words that have grown.
+use Rattle.std.proofs.Common.{◌≡◌, ◌≢◌, ℕ, ◌^◌, ◌<◌, ◌≤◌, ◌⊎◌, inl, inr, false, arith}
 use Rattle.std.proofs.lemmas.Nat.{pow_pos}
-use Rattle.dr_words.specs.Form.{IsInForm}
+use Rattle.dr_words.proofs.Bits.{has_zero}
+use Rattle.dr_words.specs.declared.column.TheConstants.{DONE_COLUMN, SUSPECTED_COLUMN}
+use Rattle.dr_words.specs.Columns.{head_column, recv_column}
+use Rattle.dr_words.specs.Form.{IsAcceptColumn, IsInForm}
+use Rattle.dr_words.specs.Grown.{HasGrown}
+use Rattle.dr_words.specs.Packing.{is_final}
+
+-- ---- form
 
 -- a word 0 is in form
 pub form_zero : (members column : ℕ) → 1 ≤ members → IsInForm members column 0
@@ -14,3 +21,100 @@ form_zero members column some = record {
   leavers = λ e. pow_pos members;
   trim = λ s l e. omega arith;
 }
+
+-- columns whose words have no form: neither masks nor counts nor accept words
+abbrev pub IsFreeColumn : ℕ → ℕ → Type 0
+IsFreeColumn n c = ((c ≢ SUSPECTED_COLUMN) × (c < DONE_COLUMN)) ⊎ (head_column n 0 ≤ c)
+
+-- the accept words stand between the recv words and the ring
+pub accept_between : (n c : ℕ) → IsAcceptColumn n c → (recv_column n ≤ c) × (c < head_column n 0)
+accept_between n c (inl e) = (omega arith, omega arith)
+accept_between n c (inr t) = (omega (arith, t.2), omega (arith, t.1, t.2))
+
+no_accept : (n c : ℕ) → IsFreeColumn n c → IsAcceptColumn n c → ⊥
+no_accept n c (inl f) a = absurd (omega (arith, f.1, accept_between n c a))
+no_accept n c (inr f) a = absurd (omega (arith, accept_between n c a))
+
+no_recv : (n c s : ℕ) → IsFreeColumn n c → s < n → c ≡ recv_column s → ⊥
+no_recv n c s (inl f) l e = absurd (omega (arith, f.1))
+no_recv n c s (inr f) l e = absurd (omega arith)
+
+no_mask : (n c : ℕ) → IsFreeColumn n c → c ≡ 1 → ⊥
+no_mask n c (inl f) e = f.0 e
+no_mask n c (inr f) e = absurd (omega arith)
+
+no_done : (n c : ℕ) → IsFreeColumn n c → c ≡ 4 → ⊥
+no_done n c (inl f) e = absurd (omega (arith, f.1))
+no_done n c (inr f) e = absurd (omega arith)
+
+-- any word of a free column is in form
+pub form_free : (n c word : ℕ) → IsFreeColumn n c → IsInForm n c word
+form_free n c word free = record {
+  suspected = λ e. absurd (no_mask n c free e);
+  done = λ e. absurd (no_done n c free e);
+  recv = λ s l e. absurd (no_recv n c s free l e);
+  promise = λ a. absurd (no_accept n c free a);
+  tag = λ a. absurd (no_accept n c free a);
+  leavers = λ e. absurd (no_accept n c free (inl e));
+  trim = λ s l e. absurd (no_accept n c free (inr (s, l, e)));
+}
+
+-- 0 and 1 are in the form of the done word
+pub form_done : (n word : ℕ) → word ≤ 1 → IsInForm n DONE_COLUMN word
+form_done n word small = record {
+  suspected = λ e. absurd (omega arith);
+  done = λ e. small;
+  recv = λ s l e. absurd (omega arith);
+  promise = λ a. absurd (omega (arith, accept_between n DONE_COLUMN a));
+  tag = λ a. absurd (omega (arith, accept_between n DONE_COLUMN a));
+  leavers = λ e. absurd (omega arith);
+  trim = λ s l e. absurd (omega arith);
+}
+
+-- a number below 2 ^ 33 is in the form of a recv word
+pub form_recv : (n s word : ℕ) → s < n → word < 2 ^ 33 → IsInForm n (recv_column s) word
+form_recv n s word l small = record {
+  suspected = λ e. absurd (omega arith);
+  done = λ e. absurd (omega arith);
+  recv = λ i j e. small;
+  promise = λ a. absurd (omega (arith, l, accept_between n (recv_column s) a));
+  tag = λ a. absurd (omega (arith, l, accept_between n (recv_column s) a));
+  leavers = λ e. absurd (omega arith);
+  trim = λ i j e. absurd (omega arith);
+}
+
+-- ---- growth
+
+-- every word has grown from 0
+pub grown_zero : (n c word : ℕ) → HasGrown n c 0 word
+grown_zero n c word = record {
+  number = omega arith;
+  suspected = λ e i h. absurd (cc (h, has_zero i));
+  final = λ s l e f. absurd (cc f);
+}
+
+-- a word of a free column grows where it rises
+pub grown_free : (n c old new : ℕ) → IsFreeColumn n c → old ≤ new → HasGrown n c old new
+grown_free n c old new free rises = record {
+  number = rises;
+  suspected = λ e. absurd (no_mask n c free e);
+  final = λ s l e f. absurd (no_recv n c s free l e);
+}
+
+-- a done word 1 has grown from any other
+pub grown_done : (n old : ℕ) → old ≤ 1 → HasGrown n DONE_COLUMN old 1
+grown_done n old l = record {
+  number = l;
+  suspected = λ e. absurd (omega arith);
+  final = λ s m e f. absurd (omega arith);
+}
+
+-- a count that was not final grows where it rises
+pub grown_recv : (n s old new : ℕ) → is_final old ≡ false → old ≤ new
+    → HasGrown n (recv_column s) old new
+grown_recv n s old new free rises =
+    record {
+      number = rises;
+      suspected = λ e. absurd (omega arith);
+      final = λ i l e f. absurd (cc (f, free));
+    }

@@ -7,5 +7,7 @@ pub mod Tests
 pub mod Forms
 pub mod Order
 pub mod Lasting
+pub mod Accepts
+pub mod Rewrites
 pub mod Values
 pub mod Choices

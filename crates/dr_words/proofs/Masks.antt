@@ -185,3 +185,92 @@ least_of_part part whole n small within there =
     let one = least_of_is part n (omega arith) there in
     let two = least_of_is whole n small (within n there) in
     two.least (least_of part) (within (least_of part) one.member)
+
+-- ---- one more is suspected
+
+-- a member of a view that suspects some of it, and now also this one
+pub record IsSuspecting (n members suspects me other : ℕ) : Type 0 where
+  pub few : n ≤ 16
+  pub roster : IsInRoster n members
+  pub part : IsPartOf suspects members
+  pub present : has members me ≡ true
+  pub trusted : has suspects me ≡ false
+  pub member : has members other ≡ true
+  pub apart : other ≢ me
+
+-- its masks have 16 bits
+view_small : {n members suspects me other : ℕ} → IsSuspecting n members suspects me other → members < 2 ^ 16
+view_small {members = members} s =
+    in_roster_small 16 members (λ i there. omega (arith, s.few, s.roster i there))
+
+suspects_small : {n members suspects me other : ℕ} → IsSuspecting n members suspects me other
+    → suspects < 2 ^ 16
+suspects_small {members = members} {suspects = suspects} s =
+    omega (arith, view_small s, IsPartOf-le suspects members s.part)
+
+-- whom it suspects then: this one too
+pub more_has : {n members suspects me other : ℕ} → IsSuspecting n members suspects me other
+    → (i : ℕ) → has (with_member suspects other) i ≡ (i == other || has suspects i)
+more_has {suspects = suspects} {other = other} s i =
+    has_with_member suspects other i (suspects_small s) (omega (arith, s.few, s.roster other s.member))
+
+-- all whom it suspected
+pub more_grows : {n members suspects me other : ℕ} → IsSuspecting n members suspects me other
+    → IsPartOf suspects (with_member suspects other)
+more_grows s i there = more_has s i ∙ grind (arith, there)
+
+-- members of the view alone
+pub more_part : {n members suspects me other : ℕ} → IsSuspecting n members suspects me other
+    → IsPartOf (with_member suspects other) members
+more_part {members = members} {other = other} s i there = by (cases_eq i other)
+  where
+    by : (i ≡ other) ⊎ (i ≢ other) → has members i ≡ true
+    by (inl same) = rw same s.member
+    by (inr apart) = s.part i (grind (arith, more_has s i, there, apart))
+
+-- not itself
+pub more_trusted : {n members suspects me other : ℕ} → IsSuspecting n members suspects me other
+    → has (with_member suspects other) me ≡ false
+more_trusted {me = me} s = more_has s me ∙ grind (arith, s.trusted, s.apart)
+
+-- and somebody
+pub more_some : {n members suspects me other : ℕ} → IsSuspecting n members suspects me other
+    → with_member suspects other ≢ 0
+more_some {suspects = suspects} {other = other} s none =
+    let there : has (with_member suspects other) other ≡ true = more_has s other ∙ grind arith in
+    absurd (cc (there, ap (λ (k : ℕ). has k other) none, has_zero other))
+
+-- it is one of those that it doesn't suspect
+pub left_me : {n members suspects me other : ℕ} → IsSuspecting n members suspects me other
+    → has (without members (with_member suspects other)) me ≡ true
+left_me {members = members} {suspects = suspects} {me = me} {other = other} s =
+    has_without_mask members (with_member suspects other) me (view_small s)
+    ∙ grind (arith, s.present, more_trusted s)
+
+-- the least of them is of the roster
+pub left_within : {n members suspects me other : ℕ} → IsSuspecting n members suspects me other
+    → least_of (without members (with_member suspects other)) < n
+left_within {members = members} {suspects = suspects} {me = me} {other = other} s =
+    let mask : ℕ = with_member suspects other in
+    let least = least_of_is (without members mask) me (without_small members mask) (left_me s) in
+    s.roster (least_of (without members mask)) (grind (
+      arith,
+      has_without_mask members mask (least_of (without members mask)) (view_small s),
+      least.member,
+    ))
+
+-- and is no lower than before
+pub left_rises : {n members suspects me other : ℕ} → IsSuspecting n members suspects me other
+    → least_of (without members suspects) ≤ least_of (without members (with_member suspects other))
+left_rises {members = members} {suspects = suspects} {me = me} {other = other} s =
+    least_of_part (without members (with_member suspects other)) (without members suspects) me
+    (without_small members suspects) fewer (left_me s)
+  where
+    fewer : IsPartOf (without members (with_member suspects other)) (without members suspects)
+    fewer i there = has_without_mask members suspects i (view_small s)
+        ∙ grind (
+          arith,
+          has_without_mask members (with_member suspects other) i (view_small s),
+          there,
+          more_has s i,
+        )

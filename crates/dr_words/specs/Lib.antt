@@ -8,5 +8,6 @@ pub mod Grown
 pub mod Accepts
 pub mod Changes
 pub mod Choices
+pub mod Rewrites
 pub mod Counts
 pub mod Shapes

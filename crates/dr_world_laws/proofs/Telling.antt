@@ -8,7 +8,7 @@ use Rattle.dr_history.specs.Places.{front_of}
 use Rattle.dr_words.specs.Columns.{leavers_column}
 use Rattle.dr_words.specs.Masks.{without}
 use Rattle.dr_words.specs.Packing.{accept_tag}
-use Rattle.dr_machine.specs.Effects.{is_accept_of}
+use Rattle.dr_words.specs.Rewrites.{is_accept_of}
 use Rattle.dr_machine.specs.Group.{Group, IsGroup, roster}
 use Rattle.dr_machine.specs.Votes.{HasLogged, HasVoted, IsOf, MajorityHas, vote_in}
 use Rattle.dr_machine.specs.World.{Past, World}

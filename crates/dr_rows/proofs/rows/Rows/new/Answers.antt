@@ -8,6 +8,7 @@ inside c = record {
   members = c.args.members;
   columns = c.args.columns;
   me = c.args.me;
+  own_row = c.from-2.result * c.args.columns;
   words = c.in_ok-vec.field-0;
   sent = c.in_ok-vec-2.field-0;
   frozen = c.in_ok-vec-3.field-0;
@@ -21,13 +22,14 @@ blank c = record {
   sent = c.in_ok-vec-2.ensures.items_if_clones_equal (λ y h. h)
       ∙ ap (λ n. replicate (n * c.args.columns) 0) c.from.ensures;
   frozen = c.in_ok-vec-3.ensures.items_if_clones_equal (λ y h. h)
-      ∙ ap (λ n. replicate n false) c.from-2.ensures;
+      ∙ ap (λ n. replicate n false) c.from-3.ensures;
 }
 
 pub invariant_of-result : goal.invariant_of-result
 unfolding inside
 invariant_of-result c = IsInside-begun (inside c)
     (blank c) c.requires.members c.requires.columns c.requires.me
+    (ap (λ n. n * c.args.columns) c.from-2.ensures)
 
 pub returns-clause-begun : goal.returns-clause-begun
 unfolding inside

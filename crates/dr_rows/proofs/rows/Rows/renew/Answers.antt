@@ -20,7 +20,7 @@ pub invariant_of-self : goal.invariant_of-self
 unfolding inside
 invariant_of-self c =
     let form = c.self.invariant.form in
-    IsInside-begun (inside c) (blank c) form.few form.narrow form.present
+    IsInside-begun (inside c) (blank c) form.few form.narrow form.present c.self.invariant.own_row
 
 pub returns-clause-after : goal.returns-clause-after
 unfolding inside

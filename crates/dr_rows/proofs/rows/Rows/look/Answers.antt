@@ -1,5 +1,7 @@
+use Rattle.std.proofs.Common.{rules, sym, subst}
+use Rattle.dr_rows.specs.Growth.{HasGrown}
 use Rattle.dr_rows.proofs.Vectors.{looked_written, IsInside-looked}
-use Rattle.dr_rows.proofs.rows.Rows.write.Goals as goal
+use Rattle.dr_rows.proofs.rows.Rows.look.Goals as goal
 
 pub invariant_of-self : goal.invariant_of-self
 invariant_of-self c = IsInside-looked c.self.inside c.args.self.now c.args.row c.args.column
@@ -13,3 +15,6 @@ returns-clause-after c = looked_written c.self.inside c.args.self.now c.args.row
 
 pub returns-clause-form : goal.returns-clause-form
 returns-clause-form c = (invariant_of-self c).form
+
+pub returns-clause-grown : goal.returns-clause-grown
+returns-clause-grown c = subst (HasGrown c.args.self.now) (sym (returns-clause-after c)) (search rules)
