@@ -10,12 +10,11 @@ use Rattle.dr_lead.specs.Changes as lead
 use Rattle.dr_lead.specs.Standings.{IsStanding}
 use Rattle.dr_lead.specs.declared.standing.Standing.{Standing}
 use Rattle.dr_rows.specs.Words.{seen}
-use Rattle.dr_words.proofs.Choices.{accept_test, commit_test, proposal_is, proposal_long, propose_test, shows_value, trims_long}
+use Rattle.dr_words.proofs.Choices.{accept_test, proposal_is, proposal_long, propose_test, shows_value, trims_long}
 use Rattle.dr_words.proofs.Values.{proposal_once, shows_once}
 use Rattle.dr_words.specs.Accepts.{Shows, promise_of, trim_word}
 use Rattle.dr_words.specs.Changes.{IsProposal, MayAccept, MayCommit, MayPropose}
 use Rattle.dr_words.specs.Packing.{accept_value}
-use Rattle.dr_words.specs.Choices as choices
 use Rattle.dr_words.specs.Choices.{proposal, shown_value}
 use Rattle.dr_program.proofs.Voting.{self_left, value_long, value_test, view_small, votes_for}
 use Rattle.dr_program.specs.Form.{HasForm}
@@ -100,19 +99,6 @@ accept_told r s None f is told =
 accept_told r s (Some v) f is told =
     sym ((accept_test r.roster (seen r.rows) r.members r.suspects (me r) (view_small r f)).1
     (to_replica r s (ToAccept r) f is told.0.0))
-
--- whether it may commit
-pub commit_told : (r : Replica) (s : Standing) (o : Option Value) → HasForm r → StandsAs r s
-    → MatchOption o (¬ lead.MayCommit r.rows s)
-    (λ v. lead.MayCommit r.rows s × lead_accepts.Shows r.rows s.members s.me v)
-    → is_some o ≡ choices.may_commit r.roster (seen r.rows) r.members (me r)
-commit_told r s None f is told =
-    sym (untrue (choices.may_commit r.roster (seen r.rows) r.members (me r)) (λ e.
-    told (to_standing r s (ToCommit r) f is
-    ((commit_test r.roster (seen r.rows) r.members (me r)).0 e))))
-commit_told r s (Some v) f is told =
-    sym ((commit_test r.roster (seen r.rows) r.members (me r)).1
-    (to_replica r s (ToCommit r) f is told.0))
 
 -- the value that it proposes
 pub proposes : (r : Replica) (s : Standing) (o : Option Value) (v : Value) → HasForm r → StandsAs r s

@@ -1,9 +1,9 @@
 -- The rest of a view, delivered place by place.
-use Rattle.std.proofs.Common.{◌≡◌, ℕ, ◌+◌, ◌*◌, ◌/◌, ◌%◌, ◌<◌, ◌≤◌, Bool, true, false, nat_lt, List, [], ◌∷◌, ◌++◌, fold, length, map, slice_index, slice_index_or, Some, None, refl, sym, ap, subst, ◌∙◌, arith, le_trans, length-append}
+use Rattle.std.proofs.Common.{◌≡◌, ℕ, ◌+◌, ◌*◌, ◌/◌, ◌%◌, ◌<◌, ◌≤◌, Bool, true, false, nat_lt, List, [], ◌∷◌, ◌++◌, fold, length, map, slice_index, slice_index_or, Some, None, inl, inr, refl, sym, ap, subst, ◌∙◌, arith, le_trans, length-append}
 use Rattle.std.specs.List.{list_all}
-use Rattle.std.specs.Prelude.{◌&&◌, ◌^◌, nat_le}
-use Rattle.std.proofs.lemmas.Bool.{ltb-true}
-use Rattle.std.proofs.lemmas.List.{length-map}
+use Rattle.std.specs.Prelude.{◌&&◌, nat_le}
+use Rattle.std.proofs.lemmas.Bool.{cases_lt, ltb-true}
+use Rattle.std.proofs.lemmas.List.{get_or-map, get_or_past, length-map}
 use Rattle.std.proofs.lemmas.List.Folds.{list_all_at}
 use Rattle.dr_entry.specs.declared.entry.Item.TheVariants.{Null}
 use Rattle.dr_history.proofs.NumberedLemmas.{messages_from-append}
@@ -13,24 +13,21 @@ use Rattle.dr_replica.specs.Inside.{IsInside}
 use Rattle.dr_replica.specs.Inside.{view_of as replica_of}
 use Rattle.dr_replica.specs.declared.replica.Replica.TheInside.{Inside}
 use Rattle.dr_replica.proofs.Histories.{few_messages}
-use Rattle.dr_replica.proofs.Places.{held_small, trims_held}
 use Rattle.dr_entry.specs.declared.entry.Entry.{Entry}
 use Rattle.dr_history.specs.Members.{members_of}
 use Rattle.dr_history.specs.Order.{messages_from}
-use Rattle.dr_history.specs.Places.{is_held, rest_places}
+use Rattle.dr_history.specs.Places.{rest_places}
 use Rattle.dr_machine.specs.Effects.{entries_of}
 use Rattle.dr_order.specs.Merge.{IsNextHeld}
 use Rattle.dr_order.proofs.Merges.{rest_places-next, rest_places-none}
 use Rattle.dr_replica.specs.History.{Kept}
-use Rattle.dr_replica.specs.Items.{Held, IsHeld, counts_of, item_at, sender_at}
+use Rattle.dr_replica.specs.Items.{Held, IsHeld, item_at, sender_at}
 use Rattle.dr_replica.specs.Rests.{AreWithin, fits, has_taken, merged, merged_from, with_item}
 use Rattle.dr_trim.specs.Trims.{trims_by_rank}
 
--- there is a trim for each member of the view
-pub some_trims : (h : Held) (members : ℕ) (trim : List ℕ) → IsHeld h → h.members ≡ members_of members
-    → 0 < length (trims_by_rank members trim)
-some_trims h members trim is same =
-    omega (arith, length-map (members_of members) (slice_index trim), ap length same, is.some)
+-- there is a trim for each member of the view, so there are some
+pub some_trims : (h : Held) (trims : List ℕ) → IsHeld h → AreWithin h trims → 0 < length trims
+some_trims h trims is within = omega (arith, within.ranks, is.some)
 
 -- the item of the next place goes first, and the rest follows it
 pub next_merged : (h : Held) (es : List Entry) (trims : List ℕ) (from p : ℕ) → 0 < length trims
@@ -126,25 +123,43 @@ counted_all h es trims start from me entries own some none are =
 
 -- ---- the same of a replica's fields
 
--- a member that has what a trim takes has the item of each place that it holds
+-- a member that has what a trim takes has the items that it takes by rank
 pub taken_within : (a : Inside) (trim : List ℕ) → a.items.members ≡ members_of a.members
-    → has_taken (replica_of a) trim ≡ true → AreWithin a.items trim
-taken_within a trim members taken i l = by (nat_lt (slice_index trim s)
-    (slice_index a.items.counts s + 1)) refl
+    → has_taken (replica_of a) trim ≡ true → AreWithin a.items (trims_by_rank a.members trim)
+taken_within a trim members taken =
+    subst (λ (ms : List ℕ). AreWithin a.items (map (slice_index trim) ms)) members record {
+      ranks = length-map a.items.members (slice_index trim);
+      taken = λ i. elim (cases_lt i (length a.items.members)) [
+        | inl within ↦ omega (
+          arith,
+          each i within,
+          get_or-map (slice_index trim) a.items.members i 0 0 within,
+          get_or-map (slice_index a.items.counts) a.items.members i 0 0 within,
+        )
+        | inr past ↦ omega (
+          arith,
+          get_or_past (map (slice_index trim) a.items.members) i 0
+              (omega (arith, past, length-map a.items.members (slice_index trim))),
+        )
+      ];
+    }
   where
-    s : ℕ
-    s = slice_index a.items.members i
-
     test : ℕ → Bool
     test k = nat_lt (slice_index trim k) (slice_index a.items.counts k + 1)
 
     all : list_all test a.items.members ≡ true
     all = ap (list_all test) members ∙ taken
 
-    by : (b : Bool) → nat_lt (slice_index trim s) (slice_index a.items.counts s + 1) ≡ b
-        → slice_index trim s ≤ slice_index a.items.counts s
-    by true e = omega (arith, ltb-true (slice_index trim s) (slice_index a.items.counts s + 1) e)
-    by false e = let none = list_all_at test a.items.members i 0 l e in absurd (cc (none, all))
+    each : (i : ℕ) → i < length a.items.members
+        → slice_index trim (slice_index a.items.members i)
+        ≤ slice_index a.items.counts (slice_index a.items.members i)
+    each i l = by (slice_index a.items.members i) refl (test (slice_index a.items.members i)) refl
+      where
+        by : (s : ℕ) → slice_index a.items.members i ≡ s → (b : Bool) → test s ≡ b
+            → slice_index trim s ≤ slice_index a.items.counts s
+        by s at true e = omega (arith, ltb-true (slice_index trim s) (slice_index a.items.counts s + 1) e)
+        by s at false e =
+            let none = list_all_at test a.items.members i 0 l (ap test at ∙ e) in absurd (cc (none, all))
 
 -- what a trim has left is the same to a replica
 place_same : (a : Inside) → IsInside a → (es : List Entry) (p : ℕ)
@@ -178,20 +193,6 @@ pub fits_is : (a : Inside) (now : Replica) (trim : List ℕ) → replica_of a �
     (length a.messages.items + 1)) ≡ fits now (merged now trim)
 fits_is a now trim same inside = ap (λ (es : List Entry). fits (replica_of a) es) (merged_same a trim inside)
     ∙ ap (λ (r : Replica). fits r (merged r trim)) same
-
--- a place that a trim takes has its item, and isn't beyond all numbers
-pub taken_held : (a : Inside) (now : Replica) (trim : List ℕ) (from p : ℕ) → replica_of a ≡ now → IsInside a
-    → IsHeld a.items → has_taken now trim ≡ true → ((i : ℕ) → slice_index trim i < 2 ^ 32)
-    → IsNextHeld (trims_by_rank a.members trim) from (Some p)
-    → (is_held (counts_of a.items) p ≡ true) × (p < 2 ^ 36)
-taken_held a now trim from p same inside form taken small next =
-    let there = subst (λ (ms : List ℕ). is_held (map (slice_index trim) ms) p ≡ true) (sym inside.members)
-    next.1 in
-    let within = taken_within a trim inside.members (ap (λ (r : Replica). has_taken r trim) same ∙ taken) in
-    let low = held_small trim a.items.members p form.some small there in (
-      trims_held a.items trim p form.some within there,
-      omega (arith, low, form.few),
-    )
 
 -- where there is room for the entries, it turns on the messages
 fits_by_own : (a b m n : ℕ) → a < m → nat_le b n ≡ (nat_lt a m && nat_lt b (n + 1))

@@ -18,7 +18,7 @@ use Rattle.dr_program.proofs.Opening.{copy_at, first_own}
 use Rattle.dr_program.proofs.OpeningForm.{first_in_form, front_of_none, no_part}
 use Rattle.dr_program.proofs.OwnWords.{other_number}
 use Rattle.dr_program.proofs.Voting.{promise_within}
-use Rattle.dr_replica.proofs.Wedging.{accept_within}
+use Rattle.dr_words.proofs.Accepts.{accept_within}
 use Rattle.dr_ring.specs.Slots.{slot_column}
 use Rattle.dr_rows.specs.Words.{begun, own}
 use Rattle.dr_rows.proofs.WordsLemmas.{IsFresh-begun, IsWords-begun, IsWords-looked}

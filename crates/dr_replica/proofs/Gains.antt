@@ -1,6 +1,7 @@
 -- One item more of a member: its count, the front, and the own words that follow.
 use Rattle.std.proofs.Common.{◌≡◌, ◌≢◌, ℕ, ◌<◌, ◌≤◌, inl, inr, false, List, length, map, get_or, set, slice_index, sym, subst, ◌∙◌, arith}
 use Rattle.std.proofs.lemmas.Bool.{cases_eq}
+use Rattle.std.proofs.lemmas.Bool.Decides.{nat_tests}
 use Rattle.std.proofs.lemmas.List.{get_or-set_same, get_or-set_other, get_or-map, length-map}
 use Rattle.dr_history.specs.Places.{front_of}
 use Rattle.dr_history.proofs.Fronts.{front_more}
@@ -10,7 +11,8 @@ use Rattle.dr_words.specs.Columns.{recv_column}
 use Rattle.dr_words.specs.Grown.{HasGrown, Grown}
 use Rattle.dr_words.specs.Packing.{recv_word}
 use Rattle.dr_words.proofs.Order.{Grown_trans}
-use Rattle.dr_replica.proofs.Tables.{IsTable, free_in_form, recv_in_form, free_grown, recv_grown, table_set, own_written, own_left, set_grown}
+use Rattle.dr_words.proofs.Forms.{form_free, form_recv, grown_free, grown_recv}
+use Rattle.dr_replica.proofs.Tables.{IsTable, table_set, own_written, own_left, set_grown}
 
 -- no count falls
 pub counts_rise : (counts : List ℕ) (s c j : ℕ) → s < length counts → get_or counts s 0 ≤ c
@@ -53,8 +55,8 @@ pub table_shown : (n window : ℕ) (w : Words) (s count front : ℕ) → IsTable
 table_shown n window w s count front t within small =
     table_set n window (with_own w (recv_column s) (recv_word count false)) RECEIVED_COLUMN front
     (table_set n window w (recv_column s) (recv_word count false) t (omega arith)
-    (recv_in_form n s (recv_word count false) within (omega arith)))
-    (omega arith) (free_in_form n RECEIVED_COLUMN front (omega arith) (λ e. omega arith) (λ e. omega arith))
+    (form_recv n s (recv_word count false) within (omega arith)))
+    (omega arith) (form_free n RECEIVED_COLUMN front (inl (omega arith, omega arith)))
 
 -- showing a count and a front leaves the other own words
 pub shown_left : (w : Words) (s count front d : ℕ) → d ≢ RECEIVED_COLUMN → d ≢ recv_column s
@@ -77,7 +79,7 @@ pub shown_received : (n window : ℕ) (w : Words) (s count front : ℕ) → IsTa
 shown_received n window w s count front t within small =
     own_written n window (with_own w (recv_column s) (recv_word count false)) RECEIVED_COLUMN front
     (table_set n window w (recv_column s) (recv_word count false) t (omega arith)
-    (recv_in_form n s (recv_word count false) within (omega arith))) (omega arith)
+    (form_recv n s (recv_word count false) within (omega arith))) (omega arith)
 
 -- where neither the count nor the front falls, showing them grows the words
 pub shown_grown : (n window : ℕ) (w : Words) (s old count front : ℕ) → IsTable n window w → s < n
@@ -90,9 +92,9 @@ shown_grown n window w s old count front t within small is more rises =
     Grown_trans n w.words mid.words (shown w s count front).words w.frozen w.frozen w.frozen
     (set_grown n window w (recv_column s) (recv_word count false) t (omega arith)
     (subst (λ (x : ℕ). HasGrown n (recv_column s) x (recv_word count false)) (sym is)
-    (recv_grown n s old count more)))
+    (grown_recv n s (recv_word old false) (recv_word count false) (grind (arith, nat_tests)) (omega arith))))
     (set_grown n window mid RECEIVED_COLUMN front
     (table_set n window w (recv_column s) (recv_word count false) t (omega arith)
-    (recv_in_form n s (recv_word count false) within (omega arith)))
-    (omega arith) (free_grown n RECEIVED_COLUMN (own mid RECEIVED_COLUMN) front (omega arith)
-    (λ e. omega arith) (omega (arith, left, rises))))
+    (form_recv n s (recv_word count false) within (omega arith)))
+    (omega arith) (grown_free n RECEIVED_COLUMN (own mid RECEIVED_COLUMN) front
+    (inl (omega arith, omega arith)) (omega (arith, left, rises))))

@@ -5,12 +5,13 @@ use Rattle.dr_entry.specs.declared.end.End.{End}
 use Rattle.dr_entry.specs.declared.entry.Item.{Item}
 use Rattle.dr_entry.specs.declared.entry.Item.TheVariants.{Null}
 use Rattle.dr_history.specs.Places.{front_of}
-use Rattle.dr_rows.specs.Words.{Words}
+use Rattle.dr_rows.specs.Words.{Words, rewritten}
+use Rattle.dr_words.specs.Rewrites.{accepted_word, wedged_word}
 use Rattle.dr_words.specs.declared.column.TheConstants.{RECEIVED_COLUMN}
 use Rattle.dr_words.specs.Grown.{Grown}
 use Rattle.dr_machine.specs.Effects.{entries_of}
 use Rattle.dr_program.specs.Replica as replica
-use Rattle.dr_program.specs.Replica.{Replica, delivered, least_seen, may_deliver, may_suspect, rewritten, suspected, suspicion_of, accepted, vote_of, voted}
+use Rattle.dr_program.specs.Replica.{Replica, delivered, least_seen, may_deliver, may_suspect, suspected, suspicion_of, accepted, vote_of, voted}
 use Rattle.dr_program.specs.Form.{HasForm}
 use Rattle.std.proofs.lemmas.Option.{get_or_from_slice_get}
 use Rattle.std.specs.Prelude.{Some, slice_get, vec_capacity}
@@ -19,7 +20,6 @@ use Rattle.dr_entry.specs.declared.record.Vote.{Vote}
 use Rattle.dr_machine.specs.World.{no_vote}
 use Rattle.dr_replica.proofs.Accepting.{accepted_form}
 use Rattle.dr_history.specs.Members.{members_of}
-use Rattle.dr_machine.specs.Effects.{accepted_word, wedged_word}
 use Rattle.dr_rows.specs.Words.{with_frozen}
 use Rattle.dr_words.specs.Masks as masks
 use Rattle.dr_words.specs.Masks.{with_member, without}

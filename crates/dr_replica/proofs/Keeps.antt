@@ -23,6 +23,7 @@ use Rattle.dr_words.specs.Masks.{IsInRoster}
 use Rattle.dr_rows.specs.Words as rows
 use Rattle.dr_rows.specs.Words.{Words, IsWords, own, seen, with_own, is_frozen}
 use Rattle.dr_rows.proofs.WordsLemmas.{IsWords-pushed}
+use Rattle.dr_words.specs.Rewrites.{is_accept_of}
 use Rattle.dr_words.specs.declared.column.TheConstants.{BEAT_COLUMN, SUSPECTED_COLUMN, RECEIVED_COLUMN, LOGGED_COLUMN, DONE_COLUMN}
 use Rattle.dr_words.specs.Columns.{columns_of, recv_column}
 use Rattle.dr_words.specs.Form.{IsInForm}
@@ -34,18 +35,20 @@ use Rattle.dr_program.specs.Acts.{done, may, taken}
 use Rattle.dr_program.specs.Steps as steps
 use Rattle.dr_machine.proofs.Sending.{messages_within, next_message, next_null, only_messages}
 use Rattle.dr_machine.specs.Sending.{IsPut}
-use Rattle.dr_machine.specs.Effects.{is_accept_of, one_more, entries_of}
+use Rattle.dr_machine.specs.Effects.{one_more, entries_of}
 use Rattle.dr_machine.specs.declared.event.Act.{Act}
 use Rattle.dr_machine.specs.declared.event.Act.TheVariants as acts
 use Rattle.dr_program.specs.Replica.{Replica, me, count, greatest, view_of, is_other, is_wedged, least_seen, sender_at, item_at, may_append, may_deliver, is_behind, may_receive, may_send, may_null, ready_item, next_index, gained, acted, beaten, ended, reported, appended, delivered, published, marked, looked, pushed, put, received, suspected, accepted, decided}
 use Rattle.dr_program.specs.Form.{HasForm}
 use Rattle.dr_replica.proofs.Members.{some_member}
-use Rattle.dr_replica.proofs.Tables.{IsTable, free_in_form, done_in_form, free_grown, table_looked, table_set, own_written, own_left, own_seen, looked_grown, set_grown}
+use Rattle.dr_words.proofs.Accepts.{accept_within}
+use Rattle.dr_words.proofs.Forms.{form_done, form_free, grown_done, grown_free}
+use Rattle.dr_replica.proofs.Tables.{IsTable, table_looked, table_set, own_written, own_left, own_seen, looked_grown, set_grown}
 use Rattle.dr_replica.specs.Puts.{MayPut}
 use Rattle.dr_replica.proofs.Puts.{table_put, put_left, put_tags, put_grown}
 use Rattle.dr_replica.proofs.Accepting.{accepted_form, accepted_grown, decided_form, others_wait, own_waits}
 use Rattle.dr_replica.proofs.Finishing.{finished_form, none_waits}
-use Rattle.dr_replica.proofs.Wedging.{accept_within, suspected_form, suspected_grown}
+use Rattle.dr_replica.proofs.Wedging.{suspected_form, suspected_grown}
 use Rattle.dr_replica.proofs.Gains.{counts_bounded, front_rises, shown, table_shown, shown_left, shown_recv, shown_received, shown_grown}
 
 -- the rows of a replica in form
@@ -218,7 +221,7 @@ acted_keeps r f =
     let counted = rest_keeps r r.next r.logged r.durable r.turns acts r.history r.end f
     (omega arith) f.logged f.room (omega (arith, f.acts)) (omega arith) in
     own_keeps (record r { acts = acts }) BEAT_COLUMN acts counted (inl refl)
-    (free_in_form r.roster BEAT_COLUMN acts (omega arith) (λ e. omega arith) (λ e. omega arith))
+    (form_free r.roster BEAT_COLUMN acts (inl (omega arith, omega arith)))
     (λ e. omega arith) (λ e. absurd (omega arith))
 
 acted_grown : (r : Replica) → HasForm r
@@ -226,7 +229,7 @@ acted_grown : (r : Replica) → HasForm r
 acted_grown r f =
     let acts : ℕ = one_more 64 r.acts in
     set_grown r.roster r.window r.rows BEAT_COLUMN acts (table_of r f) (omega arith)
-    (free_grown r.roster BEAT_COLUMN (own r.rows BEAT_COLUMN) acts (omega arith) (λ e. omega arith)
+    (grown_free r.roster BEAT_COLUMN (own r.rows BEAT_COLUMN) acts (inl (omega arith, omega arith))
     (omega (arith, f.beat, f.acts)))
 
 beaten_keeps : (r : Replica) → HasForm r → HasForm (acted (beaten r))
@@ -273,7 +276,7 @@ delivered_keeps r f may =
 -- publishing keeps a replica in form
 pub published_form : (r : Replica) → HasForm r → HasForm (published r)
 published_form r f = own_keeps r LOGGED_COLUMN r.logged f (inr (inl refl))
-    (free_in_form r.roster LOGGED_COLUMN r.logged (omega arith) (λ e. omega arith) (λ e. omega arith))
+    (form_free r.roster LOGGED_COLUMN r.logged (inl (omega arith, omega arith)))
     (λ e. absurd (omega arith)) (λ e. omega arith)
 
 -- the act of publishing keeps a replica in form
@@ -288,13 +291,13 @@ published_grown r f =
     Grown_trans r.roster r.rows.words (published r).rows.words
     (acted (published r)).rows.words r.rows.frozen r.rows.frozen r.rows.frozen
     (set_grown r.roster r.window r.rows LOGGED_COLUMN r.logged (table_of r f) (omega arith)
-    (free_grown r.roster LOGGED_COLUMN (own r.rows LOGGED_COLUMN) r.logged (omega arith)
-    (λ e. omega arith) f.published))
+    (grown_free r.roster LOGGED_COLUMN (own r.rows LOGGED_COLUMN) r.logged
+    (inl (omega arith, omega arith)) f.published))
     (acted_grown (published r) (published_form r f))
 
 -- marking keeps a replica in form
 pub marked_form : (r : Replica) → HasForm r → HasForm (marked r)
-marked_form r f = own_keeps r DONE_COLUMN 1 f (inr (inr refl)) (done_in_form r.roster 1 (omega arith))
+marked_form r f = own_keeps r DONE_COLUMN 1 f (inr (inr refl)) (form_done r.roster 1 (omega arith))
     (λ e. absurd (omega arith)) (λ e. absurd (omega arith))
 
 -- the act of marking keeps a replica in form
@@ -308,8 +311,7 @@ marked_grown r f =
     Grown_trans r.roster r.rows.words (marked r).rows.words
     (acted (marked r)).rows.words r.rows.frozen r.rows.frozen r.rows.frozen
     (set_grown r.roster r.window r.rows DONE_COLUMN 1 (table_of r f) (omega arith)
-    (free_grown r.roster DONE_COLUMN (own r.rows DONE_COLUMN) 1 (omega arith) (λ e. omega arith)
-    ((f.words (me r) DONE_COLUMN).done refl)))
+    (grown_done r.roster (own r.rows DONE_COLUMN) ((f.words (me r) DONE_COLUMN).done refl)))
     (acted_grown (marked r) (marked_form r f))
 
 -- ---- looks and pushes
@@ -396,7 +398,7 @@ gained_keeps r s item words puts f p =
     λ c l a b. shown_left w s k front c a b ∙ p.kept c l in
     let same : (c : ℕ) → is_accept_of r.roster r.members c ≡ true → own (shown w s k front) c ≡ own r.rows c =
     λ c is. let high = accept_within r.roster r.members c is in
-    low c high.1 (λ e. omega (arith, high)) (λ e. omega (arith, high, p.sender)) in
+    low c (omega (arith, high)) (λ e. omega (arith, high)) (λ e. omega (arith, high, p.sender)) in
     record {
       rows = t.rows;
       members = t.members;

@@ -1,9 +1,7 @@
--- What is copied word by word, and what is emptied.
-use Rattle.std.proofs.Common.{◌≡◌, ℕ, zero, suc, ◌+◌, ◌<◌, inl, inr, List, [], ◌∷◌, ◌++◌, length, length-append, append-nil, map, replicate, get_or, set, refl, sym, ap, ◌∙◌, arith}
+-- What is emptied as a view is left, and how its end tells of all views.
+use Rattle.std.proofs.Common.{◌≡◌, ℕ, zero, suc, ◌+◌, ◌<◌, List, [], ◌∷◌, ◌++◌, length, length-append, append-nil, map, replicate, get_or, refl, sym, ap, ◌∙◌, arith}
 use Rattle.std.specs.Prelude.{unwrap_or}
-use Rattle.std.proofs.lemmas.Bool.{cases_eq}
-use Rattle.std.proofs.lemmas.Grind.{same_number_lists}
-use Rattle.std.proofs.lemmas.List.{get_or-set_same, get_or-set_other, length-map, map-append}
+use Rattle.std.proofs.lemmas.List.{length-map, map-append}
 use Rattle.dr_replica.specs.Lefts.{left_of}
 use Rattle.dr_replica.specs.declared.left.Left.{Left}
 use Rattle.dr_entry.specs.declared.end.End.{End}
@@ -16,17 +14,6 @@ use Rattle.dr_entry.specs.declared.end.ViewSent.{ViewSent}
 use Rattle.dr_program.specs.Program.{member_end, sent_before}
 use Rattle.dr_program.specs.Form.{HasForm}
 use Rattle.dr_program.specs.Replica.{LeftView, Replica}
-use Rattle.dr_rows.specs.Words.{IsWords, Words, own, row_of}
-
--- one number more is copied
-pub copied_more : (xs : List ℕ) (from : ℕ → ℕ) (c : ℕ) → c < length xs
-    → ((k : ℕ) → k < c → get_or xs k 0 ≡ from k)
-    → (k : ℕ) → k < c + 1 → get_or (set xs c (from c)) k 0 ≡ from k
-copied_more xs from c within all k lt =
-    elim (cases_eq k c) [
-      | inl same ↦ let there = get_or-set_same xs c (from c) 0 within in rw (same, there) refl
-      | inr other ↦ get_or-set_other xs c k (from c) 0 other ∙ all k (omega (arith, lt, other))
-    ]
 
 -- items that are each a null are as many nulls
 pub all_null : (items : List Item) (n : ℕ) → length items ≡ n
@@ -38,13 +25,6 @@ all_null (x ∷ items) (suc n) e all =
     let first : x ≡ Null = all 0 (omega arith) in
     let rest = all_null items n (omega (arith, e)) (λ k l. all (suc k) (omega (arith, l))) in
     cc (first, rest)
-
--- the own words, copied one by one, are the own row
-pub own_copied : (w : Words) (xs : List ℕ) → IsWords w → length xs ≡ w.columns
-    → ((c : ℕ) → c < w.columns → get_or xs c 0 ≡ own w c) → xs ≡ row_of w.words w.me
-own_copied w xs is long all =
-    let wide = is.rows.width w.me [] (omega (arith, is.rows.height, is.present)) in
-    same_number_lists xs (row_of w.words w.me) (long ∙ sym wide) (λ c l. all c (omega (arith, l, long)))
 
 -- there is a list of what was put for each view that was left, and for one view more there is one more
 pub sent_before_long : (v : ℕ) (ls : List LeftView) → length (sent_before v ls) ≡ length ls

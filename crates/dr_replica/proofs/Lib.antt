@@ -1,17 +1,16 @@
 pub mod Members
 pub mod Tables
-pub mod Rewrites
 pub mod Wedging
 pub mod Accepting
 pub mod Gains
 pub mod Spots
 pub mod Places
+pub mod Rests
 pub mod Histories
 pub mod Puts
 pub mod Keeps
 pub mod Received
 pub mod Insides
-pub mod Judging
 pub mod Delivering
 mod Exchanges
 pub mod Openings

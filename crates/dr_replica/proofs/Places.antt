@@ -1,25 +1,27 @@
 -- The items by place, and their front.
-use Rattle.std.proofs.Common.{◌≡◌, ℕ, ◌+◌, ◌*◌, ◌/◌, ◌%◌, ◌^◌, ◌<◌, ◌≤◌, inl, inr, true, false, nat_lt, List, length, replicate, map, get_or, set, slice_index, slice_index_or, sym, ap, subst, ◌∙◌, arith, le_refl}
+use Rattle.std.proofs.Common.{◌≡◌, ℕ, ◌+◌, ◌*◌, ◌/◌, ◌%◌, ◌^◌, ◌<◌, ◌≤◌, inl, inr, true, false, nat_lt, List, length, replicate, map, get_or, set, slice_index, slice_index_or, sym, ap, subst, ◌∙◌, arith, le_refl, le_trans}
 use Rattle.std.proofs.lemmas.Bool.{cases_lt, ltb-true}
-use Rattle.std.proofs.lemmas.List.{get_or-map, get_or-replicate, get_or_past, get_or_read, length-map, length-replicate, length-set}
+use Rattle.std.proofs.lemmas.List.{get_or-map, get_or-replicate, get_or-set_other, get_or-set_same, get_or_past, get_or_read, length-map, length-replicate}
+use Rattle.std.proofs.Math.Nat.{suc-mul}
 use Rattle.std.proofs.lemmas.Nat.{div-add-mod', mod_below, mul-le, mul-add-lt}
 use Rattle.dr_entry.specs.declared.entry.Item.{Item}
 use Rattle.dr_entry.specs.declared.entry.Item.TheVariants.{Null}
 use Rattle.dr_history.specs.Members.{members_of}
 use Rattle.dr_words.specs.Masks.{IsInRoster}
-use Rattle.dr_program.proofs.OpeningForm.{front_of_none}
+use Rattle.dr_program.proofs.OpeningForm.{front_of_none, greatest_within}
+use Rattle.dr_program.specs.Replica.{greatest}
 use Rattle.dr_replica.proofs.Members.{few_members, roster_members}
 use Rattle.dr_history.specs.Places.{place_of, is_held, AllHeldBelow, front_of}
-use Rattle.dr_history.proofs.Fronts.{front_is, front_only}
+use Rattle.dr_history.proofs.Fronts.{count_max, front_is, front_only}
 use Rattle.dr_history.proofs.FrontLemmas.{IsFront-least, is_held-below}
-use Rattle.dr_replica.specs.Items.{Held, IsHeld, counts_of, front, none_held, sender_at, item_at, taken}
+use Rattle.dr_replica.specs.Items.{Held, IsHeld, counts_of, front, none_held, sender_at, item_at}
 use Rattle.dr_replica.specs.Inside.{AreItems, held_of}
 use Rattle.dr_replica.specs.Rests.{AreWithin}
 use Rattle.dr_replica.specs.declared.items.Items.TheInside.{Inside}
 use Rattle.dr_replica.specs.Spots.{IsSpot, first_spot}
 use Rattle.dr_replica.specs.declared.spot.Spot.{Spot}
 use Rattle.dr_replica.proofs.Spots.{first_is_spot, spot_number, spot_rank}
-use Rattle.dr_replica.proofs.Gains.{counts_rise, counts_bounded}
+use Rattle.dr_replica.proofs.Gains.{counts_rise}
 use Rattle.dr_replica.proofs.Lefts.{all_null}
 
 below_product : (p n q : ℕ) → 0 < n → p / n < q → p < n * q
@@ -44,25 +46,16 @@ held_item counts members p some held =
     (mod_below p (length members) some) in
     omega (arith, at, which)
 
--- and a place of an item that its member has is held
-held_by : (counts members : List ℕ) (p : ℕ) → 0 < length members
-    → p / length members < get_or counts (get_or members (p % length members) 0) 0
-    → is_held (map (slice_index counts) members) p ≡ true
-held_by counts members p some there =
-    let which = get_or-map (slice_index counts) members (p % length members) 0 0
-    (mod_below p (length members) some) in
-    let at : nat_lt (p / length members) (get_or (map (slice_index counts) members) (p % length members) 0)
-    ≡ true = grind (arith, which, there) in
-    subst (λ (n : ℕ). nat_lt (p / n) (get_or (map (slice_index counts) members) (p % n) 0) ≡ true)
-    (sym (length-map members (slice_index counts))) at
-
--- a place that the trims of the members take has its item
-pub trims_held : (h : Held) (trim : List ℕ) (p : ℕ) → 0 < length h.members → AreWithin h trim
-    → is_held (map (slice_index trim) h.members) p ≡ true → is_held (counts_of h) p ≡ true
-trims_held h trim p some within held =
-    let there = held_item trim h.members p some held in
-    let which = within (p % length h.members) (mod_below p (length h.members) some) in
-    held_by h.counts h.members p some (omega (arith, there, which))
+-- a place that trims take has its item
+pub trims_held : (h : Held) (trims : List ℕ) (p : ℕ) → AreWithin h trims → is_held trims p ≡ true
+    → is_held (counts_of h) p ≡ true
+trims_held h trims p within held =
+    let long : length trims ≡ length (counts_of h) =
+    within.ranks ∙ sym (length-map h.members (slice_index h.counts)) in
+    let there : p / length trims < get_or trims (p % length trims) 0 = ltb-true _ _ held in
+    let here : p / length (counts_of h) < get_or trims (p % length (counts_of h)) 0 =
+    subst (λ (n : ℕ). p / n < get_or trims (p % n) 0) long there in
+    grind (arith, here, within.taken (p % length (counts_of h)))
 
 -- the item at a spot is held exactly where its number is below its member's count
 pub held_read : (counts members : List ℕ) (s : Spot) (m c : ℕ) → IsSpot (length members) s → m
@@ -141,21 +134,45 @@ item_read a now p k r s x same are before number roster sender read =
     (sender ∙ ap (λ (h : Held). sender_at h p) (sym same)))
     ∙ ap (λ (h : Held). item_at h p) same
 
--- the counts stay above the old front, and an item more has its place
-taken_held : (h : Held) (s : ℕ) (item : Item) → IsHeld h → s < h.roster → get_or h.counts s 0
-    < h.most → IsHeld (taken h s item)
-taken_held h s item is sender room = record {
-  roster = is.roster;
-  some = is.some;
-  few = is.few;
-  members = is.members;
-  most = is.most;
-  counts = length-set h.counts s (get_or h.counts s 0 + 1) ∙ is.counts;
-  bounded = counts_bounded h.counts s (get_or h.counts s 0 + 1) h.most (omega (arith, is.counts))
-      (omega (arith, room)) is.bounded;
-  items = length-set h.items (get_or h.counts s 0 * h.roster + s) item ∙ is.items;
-}
+-- no number is above the greatest
+pub greatest_most : (xs : List ℕ) (i : ℕ) → get_or xs i 0 ≤ greatest xs
+greatest_most xs i = elim (cases_lt i (length xs)) [
+  | inl within ↦ count_max xs 0 i within
+  | inr past ↦ omega (arith, get_or_past xs i 0 past)
+]
 
+-- the places up to that of the greatest count are there, and from it on there are nulls
+pub used_within : (a : Inside) → AreItems a → greatest a.counts.items * a.roster ≤ length a.items.items
+used_within a are =
+    let few = greatest_within a.counts.items 0 a.most (omega arith) are.form.bounded in
+    omega (
+      arith,
+      are.form.items,
+      mul-le (greatest a.counts.items) a.roster a.most a.roster few (le_refl a.roster),
+    )
+
+pub nulls_past : (a : Inside) (k : ℕ) → AreItems a → greatest a.counts.items * a.roster ≤ k
+    → slice_index_or a.items.items k Null ≡ Null
+nulls_past a k are past = are.nulls k (λ s. le_trans
+    (mul-le (get_or a.counts.items s 0) a.roster (greatest a.counts.items) a.roster
+    (greatest_most a.counts.items s) (le_refl a.roster)) past)
+
+-- behind the items of all members there are nulls with an item more too
+pub nulls_after : (counts : List ℕ) (items : List Item) (roster s c : ℕ) (item : Item) → s < length counts
+    → s < roster → get_or counts s 0 ≤ c
+    → ((k : ℕ) → ((j : ℕ) → get_or counts j 0 * roster ≤ k) → get_or items k Null ≡ Null)
+    → (k : ℕ) → ((j : ℕ) → get_or (set counts s (c + 1)) j 0 * roster ≤ k)
+    → get_or (set items (c * roster + s) item) k Null ≡ Null
+nulls_after counts items roster s c item there within le nulls k behind =
+    let mine = behind s in
+    let new = get_or-set_same counts s (c + 1) 0 there in
+    let past : (c + 1) * roster ≤ k = rw new at mine in
+    get_or-set_other items (c * roster + s) k item Null
+    (λ e. absurd (omega (arith, past, e, suc-mul c roster)))
+    ∙ nulls k (λ j. le_trans (mul-le (get_or counts j 0) roster (get_or (set counts s (c + 1)) j 0) roster
+    (counts_rise counts s (c + 1) j there (omega (arith, le))) (le_refl roster)) (behind j))
+
+-- the counts stay above the old front
 still_held : (h : Held) (s : ℕ) → IsHeld h → s < h.roster
     → AllHeldBelow (map (slice_index (set h.counts s (get_or h.counts s 0 + 1))) h.members) (front h)
 still_held h s is sender =
@@ -224,9 +241,18 @@ begun_items a view n most e zero few members some small = record {
     items = length-replicate (most * n) _;
   };
   front = rw (zero, e.counts) (sym (front_of_none n a.members.items));
+  nulls = λ k l. rw e.items (all_nulls (most * n) k);
   spot = rw (zero, e.members) (first_is_spot (length (members_of view)) some);
 }
   where
+    all_nulls : (long k : ℕ) → get_or (replicate long Null) k Null ≡ Null
+    all_nulls long k = elim (cases_lt k long) [
+      | inl within ↦ get_or-replicate {A = Item} long k Null Null within
+      | inr past ↦
+          get_or_past (replicate {A = Item} long Null) k Null
+          (omega (arith, length-replicate {A = Item} long Null))
+    ]
+
     none : (n i : ℕ) → get_or (replicate n 0) i 0 ≤ 0
     none n i = elim (cases_lt i n) [
       | inl within ↦ omega (arith, get_or-replicate {A = ℕ} n i 0 0 within)

@@ -1,5 +1,5 @@
 -- A spot is a place, split.
-use Rattle.std.proofs.Common.{◌≡◌, ℕ, ◌+◌, ◌/◌, ◌%◌, ◌<◌, sym, ap, ◌∙◌, arith}
+use Rattle.std.proofs.Common.{◌≡◌, ℕ, ◌/◌, ◌%◌, ◌<◌, sym, ap, ◌∙◌, arith}
 use Rattle.dr_history.proofs.PlaceLemmas.{place_of-div, place_of-mod}
 use Rattle.dr_replica.specs.declared.spot.Spot.{Spot}
 use Rattle.dr_replica.specs.Spots.{IsSpot, first_spot}
@@ -7,11 +7,6 @@ use Rattle.dr_replica.specs.Spots.{IsSpot, first_spot}
 -- the first spot is a spot of any members
 pub first_is_spot : (ranks : ℕ) → 0 < ranks → IsSpot ranks first_spot
 first_is_spot ranks some = record { rank = some; place = omega arith }
-
--- the next place
-next_is_spot : (ranks : ℕ) (s : Spot) → IsSpot ranks s → s.rank + 1 < ranks
-    → IsSpot ranks (record { place = s.place + 1; rank = s.rank + 1; number = s.number })
-next_is_spot ranks s is more = record { rank = more; place = omega (arith, is.place) }
 
 -- the rank and the number of the place
 pub spot_rank : (ranks : ℕ) (s : Spot) → IsSpot ranks s → s.rank ≡ s.place % ranks

@@ -1,86 +1,13 @@
 -- The words of a member as it writes its own: what a write changes, and what it leaves.
-use Rattle.std.proofs.Common.{◌≡◌, ◌≢◌, ℕ, ◌<◌, ◌≤◌, ◌^◌, ◌⊎◌, inl, inr, Bool, false, List, get_or, sym, ap, subst, arith}
+use Rattle.std.proofs.Common.{◌≡◌, ◌≢◌, ℕ, ◌<◌, ◌⊎◌, inl, inr, Bool, false, List, get_or, sym, ap, subst, arith}
 use Rattle.std.proofs.lemmas.Bool.{cases_eq}
-use Rattle.std.proofs.lemmas.Bool.Decides.{nat_tests}
 use Rattle.dr_rows.specs.Words.{Words, IsWords, IsGrid, looked, own, seen, with_own, with_word, word_at, is_frozen}
 use Rattle.dr_rows.proofs.Grids.{with_word-same, with_word-row, with_word-column}
 use Rattle.dr_rows.proofs.WordsLemmas.{IsWords-looked}
-use Rattle.dr_words.specs.declared.column.TheConstants.{SUSPECTED_COLUMN, DONE_COLUMN}
-use Rattle.dr_words.specs.Columns.{columns_of, recv_column}
-use Rattle.dr_words.specs.Form.{IsInForm, IsAcceptColumn, AllInForm}
+use Rattle.dr_words.specs.Columns.{columns_of}
+use Rattle.dr_words.specs.Form.{IsInForm, AllInForm}
 use Rattle.dr_words.specs.Grown.{HasGrown, Grown}
-use Rattle.dr_words.specs.Packing.{recv_word}
 use Rattle.dr_words.proofs.Order.{HasGrown_refl}
-
--- ---- words in form, and words that have grown
-
--- a word of the beat, the received and the logged column is in form whatever it is
-pub free_in_form : (members column word : ℕ) → column < 5 → column ≢ SUSPECTED_COLUMN
-    → column ≢ DONE_COLUMN → IsInForm members column word
-free_in_form members column word low other another = record {
-  suspected = λ e. absurd (other e);
-  done = λ e. absurd (another e);
-  recv = λ s lt e. absurd (omega arith);
-  promise = λ a. absurd (apart a);
-  tag = λ a. absurd (apart a);
-  leavers = λ e. absurd (omega arith);
-  trim = λ s lt e. absurd (omega arith);
-}
-  where
-    apart : IsAcceptColumn members column → ⊥
-    apart (inl e) = absurd (omega arith)
-    apart (inr t) = absurd (omega (arith, t.2))
-
--- 0 and 1 are in the form of the done word
-pub done_in_form : (members word : ℕ) → word ≤ 1 → IsInForm members DONE_COLUMN word
-done_in_form members word small = record {
-  suspected = λ e. absurd (omega arith);
-  done = λ e. small;
-  recv = λ s lt e. absurd (omega arith);
-  promise = λ a. absurd (apart a);
-  tag = λ a. absurd (apart a);
-  leavers = λ e. absurd (omega arith);
-  trim = λ s lt e. absurd (omega arith);
-}
-  where
-    apart : IsAcceptColumn members DONE_COLUMN → ⊥
-    apart (inl e) = absurd (omega arith)
-    apart (inr t) = absurd (omega (arith, t.2))
-
--- a number below 2 ^ 33 is in the form of a receive word
-pub recv_in_form : (members sender word : ℕ) → sender < members → word < 2 ^ 33
-    → IsInForm members (recv_column sender) word
-recv_in_form members sender word within small = record {
-  suspected = λ e. absurd (omega arith);
-  done = λ e. absurd (omega arith);
-  recv = λ s lt e. small;
-  promise = λ a. absurd (apart a);
-  tag = λ a. absurd (apart a);
-  leavers = λ e. absurd (omega arith);
-  trim = λ s lt e. absurd (omega arith);
-}
-  where
-    apart : IsAcceptColumn members (recv_column sender) → ⊥
-    apart (inl e) = absurd (omega arith)
-    apart (inr t) = absurd (omega (arith, t.2))
-
--- of the five first columns, a number that doesn't fall has grown save the suspects
-pub free_grown : (members column old new : ℕ) → column < 5 → column ≢ SUSPECTED_COLUMN → old
-    ≤ new → HasGrown members column old new
-free_grown members column old new low other le = record {
-  number = le;
-  suspected = λ e. absurd (other e);
-  final = λ s lt e f. absurd (omega arith);
-}
-
--- a receive word has grown where its count doesn't fall
-pub recv_grown : (members sender old new : ℕ) → old ≤ new
-    → HasGrown members (recv_column sender) (recv_word old false) (recv_word new false)
-recv_grown members sender old new le = record {
-  number = omega arith;
-  suspected = λ e. absurd (omega arith);
-  final = λ s lt e f. absurd (grind (arith, nat_tests, f));
-}
 
 -- ---- a write
 

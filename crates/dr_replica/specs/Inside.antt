@@ -1,5 +1,6 @@
 -- How the fields hold what contracts see of them.
-use Rattle.std.specs.Prelude.{◌≡◌, ℕ, ◌+◌, ◌*◌, ◌<◌, ◌≤◌, All, [], length, map, slice_index, vec_capacity}
+use Rattle.std.specs.Prelude.{◌≡◌, ℕ, ◌+◌, ◌*◌, ◌<◌, ◌≤◌, All, [], length, map, slice_index, slice_index_or, vec_capacity}
+use Rattle.dr_entry.specs.declared.entry.Item.TheVariants.{Null}
 use Rattle.dr_history.specs.Order.{messages_from}
 use Rattle.dr_history.specs.Members.{members_of}
 use Rattle.dr_program.specs.Replica.{Replica, greatest, least_seen, suspicion_of}
@@ -23,10 +24,12 @@ held_of a = record {
   items = a.items.items;
 }
 
--- the front is kept beside the counts
+-- the front is kept beside the counts, and behind the items of all members there are nulls
 pub record AreItems (a : items.Inside) : Type 0 where
   pub form : IsHeld (held_of a)
   pub front : a.front.place ≡ front (held_of a)
+  pub nulls : (k : ℕ) → ((s : ℕ) → slice_index a.counts.items s * a.roster ≤ k)
+      → slice_index_or a.items.items k Null ≡ Null
   pub spot : IsSpot (length a.members.items) a.front
 
 abbrev pub kept_of : history.Inside → Kept

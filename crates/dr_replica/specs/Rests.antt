@@ -1,12 +1,12 @@
 -- What is delivered as a view ends.
-use Rattle.std.specs.Prelude.{ℕ, ◌+◌, ◌<◌, ◌≤◌, ◌++◌, ◌&&◌, Bool, List, fold, length, nat_lt, slice_index}
+use Rattle.std.specs.Prelude.{◌≡◌, ℕ, ◌+◌, ◌≤◌, ◌++◌, ◌&&◌, Bool, List, fold, length, nat_lt, slice_index}
 use Rattle.std.specs.List.{list_all}
 use Rattle.dr_entry.specs.declared.entry.Entry.{Entry}
 use Rattle.dr_history.specs.Order.{messages_from}
 use Rattle.dr_history.specs.Places.{rest_places}
 use Rattle.dr_machine.specs.Effects.{entries_of}
 use Rattle.dr_program.specs.Replica.{Replica, count, me, view_of, with_place}
-use Rattle.dr_replica.specs.Items.{Held, item_at, sender_at}
+use Rattle.dr_replica.specs.Items.{Held, counts_of, item_at, sender_at}
 use Rattle.dr_trim.specs.Trims.{trims_by_rank}
 
 -- these entries with the item of a place
@@ -21,11 +21,10 @@ merged_from h es trims p = fold (with_item h) es (rest_places trims p)
 abbrev pub merged : Replica → List ℕ → List Entry
 merged r trim = fold (with_place r) r.history (rest_places (trims_by_rank r.members trim) r.next)
 
--- a trim takes no item that is not there
-abbrev pub AreWithin : Held → List ℕ → Type 0
-AreWithin h trim =
-    (i : ℕ) → i < length h.members
-    → slice_index trim (slice_index h.members i) ≤ slice_index h.counts (slice_index h.members i)
+-- there is a trim for each rank, and none takes an item that is not there
+pub record AreWithin (h : Held) (trims : List ℕ) : Type 0 where
+  pub ranks : length trims ≡ length h.members
+  pub taken : (i : ℕ) → slice_index trims i ≤ slice_index (counts_of h) i
 
 abbrev pub has_taken : Replica → List ℕ → Bool
 has_taken r trim = list_all (λ s. nat_lt (slice_index trim s) (count r s + 1)) (view_of r)

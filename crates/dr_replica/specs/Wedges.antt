@@ -1,6 +1,6 @@
 -- What the own words of a wedged member say, and those of one that has accepted a value.
 use Rattle.std.specs.Prelude.{ℕ}
-use Rattle.dr_machine.specs.Effects.{accepted_word, wedged_word}
+use Rattle.dr_words.specs.Rewrites.{accepted_word, wedged_word}
 use Rattle.dr_replica.specs.declared.acceptance.Acceptance.{Acceptance}
 use Rattle.dr_replica.specs.declared.wedge.Wedge.{Wedge}
 

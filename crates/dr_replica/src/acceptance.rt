@@ -1,10 +1,9 @@
 ghost use Rattle.std.specs.Prelude.{◌≡◌, ℕ, ◌^◌, ◌<◌, ◌≤◌, true};
-ghost use Rattle.dr_machine.specs.Effects.{is_accept_of};
-ghost use Rattle.dr_program.specs.Replica.{rewritten};
 ghost use Rattle.dr_replica.specs.Wedges.{accepted};
 ghost use Rattle.dr_ring.specs.Slots.{HasShape};
-ghost use Rattle.dr_rows.specs.Words.{IsWords, own};
+ghost use Rattle.dr_rows.specs.Words.{IsWords, own, rewritten};
 ghost use Rattle.dr_words.specs.Accepts.{part_of};
+ghost use Rattle.dr_words.specs.Rewrites.{is_accept_of};
 
 use crate::wedge::is_accept;
 use dr_entry::Value;
@@ -25,7 +24,7 @@ pub(crate) struct Acceptance {
 }
 
 impl Acceptance {
-    /// Makes its own words say so.
+    /// Makes its own words say so. All but its accept words stay.
     pub(crate) fn rewrite(&self, rows: &mut Rows)
         requires form { IsWords rows.old }
         requires shape { HasShape self.now.shape rows.old }
@@ -33,7 +32,7 @@ impl Acceptance {
             ≤ accepted self.now column (own rows.old column) }
         ensures { rows.new ≡ rewritten rows.old (accepted self.now) }
     {
-        for column in 0..self.shape.columns() {
+        for column in self.shape.leavers_column()..self.shape.head_column(0) {
             rows.set_own(column, self.word(column, rows.own(column)));
         }
     }

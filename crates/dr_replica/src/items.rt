@@ -1,9 +1,11 @@
-ghost use Rattle.std.specs.Prelude.{◌≡◌, ℕ, ◌<◌, ◌≤◌, IfOk, length, map, nat_lt, replicate, slice_index, true};
+ghost use Rattle.std.specs.Prelude.{◌≡◌, ℕ, ◌<◌, ◌≤◌, IfOk, length, map, nat_lt, replicate, slice_index, slice_index_or, true};
 ghost use Rattle.std.specs.List.{list_any};
 ghost use Rattle.dr_history.specs.Members.{has, members_of};
 ghost use Rattle.dr_history.specs.Places.{AllHeldBelow, front_of, is_held};
+ghost use Rattle.dr_program.specs.Replica.{greatest};
 ghost use Rattle.dr_replica.specs.Spots.{IsSpot};
 ghost use Rattle.dr_words.specs.Masks.{IsInRoster};
+ghost use Rattle.dr_entry.specs.declared.entry.Item.TheVariants.{Null};
 
 use crate::spot::Spot;
 use arrayvec::ArrayVec;
@@ -71,12 +73,21 @@ impl Items {
         requires some { 0 < length (members_of view) }
         ensures { self.new ≡ none_held view self.old.roster self.old.most }
     {
+        let used = self.used();
         self.members = members_of(view.bits());
         self.counts.fill(0);
-        for place in 0..self.items.len() {
+        for place in 0..used {
             self.items[place] = Item::Null;
         }
         self.front = Spot::first();
+    }
+
+    /// How many places there are up to the last that may hold an item: all others hold a null.
+    fn used(&self) -> usize
+        ensures within { result ≤ length self.now.items }
+        ensures nulls { (k : ℕ) → result ≤ k → slice_index_or self.now.items k Null ≡ Null }
+    {
+        greatest(self.counts.as_slice()) as usize * usize::from(self.roster)
     }
 
     /// The members of the view, ascending.
@@ -163,6 +174,13 @@ impl Items {
         let sender = self.sender_at(spot);
         &self.items[spot.number as usize * usize::from(self.roster) + usize::from(sender)]
     }
+}
+
+/// The greatest of these numbers of messages or of items.
+pub(crate) fn greatest(numbers: &[u32]) -> u32
+    ensures { result ≡ greatest numbers.now }
+{
+    numbers.iter().fold(0, |most, number| most.max(*number))
 }
 
 /// So many nulls.

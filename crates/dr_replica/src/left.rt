@@ -48,9 +48,7 @@ impl Left {
         } }
         ensures swapped { sent.new ≡ self.old.sent }
     {
-        for column in 0..self.own.len() {
-            self.own[column] = rows.own(column);
-        }
+        self.own.copy_from_slice(rows.own_words());
         self.counts.copy_from_slice(items.counts());
         mem::swap(&mut self.sent, sent);
     }

@@ -10,6 +10,7 @@ mod history;
 mod items;
 mod left;
 mod replica;
+mod rest;
 mod spot;
 mod wedge;
 

@@ -23,19 +23,6 @@ impl Spot {
         }
     }
 
-    /// A place, in a view of so many members.
-    pub(crate) fn at(place: u64, ranks: usize) -> Spot
-        requires { 0 < ranks }
-        ensures place { result.place ≡ place }
-        ensures spot { IsSpot ranks result }
-    {
-        Spot {
-            place,
-            rank: (place % ranks as u64) as usize,
-            number: place / ranks as u64,
-        }
-    }
-
     /// Goes on to the next place, in a view of so many members.
     #[inline]
     pub(crate) fn step(&mut self, ranks: usize)

@@ -1,9 +1,8 @@
 ghost use Rattle.std.specs.Prelude.{◌≡◌, ℕ, ◌^◌, ◌<◌, ◌≤◌, true};
-ghost use Rattle.dr_machine.specs.Effects.{is_accept_of, is_recv_of};
-ghost use Rattle.dr_program.specs.Replica.{rewritten};
 ghost use Rattle.dr_replica.specs.Wedges.{wedged};
 ghost use Rattle.dr_ring.specs.Slots.{HasShape};
-ghost use Rattle.dr_rows.specs.Words.{IsWords, own};
+ghost use Rattle.dr_rows.specs.Words.{IsWords, own, rewritten};
+ghost use Rattle.dr_words.specs.Rewrites.{is_accept_of, is_recv_of};
 
 use dr_rows::Rows;
 use dr_words::{Mask, SUSPECTED_COLUMN, Shape, pack_accept, pack_recv, unpack_accept, unpack_recv};
@@ -23,7 +22,7 @@ pub(crate) struct Wedge {
 }
 
 impl Wedge {
-    /// Makes its own words say so.
+    /// Makes its own words say so. Those before the suspected word and those of the ring stay.
     pub(crate) fn rewrite(&self, rows: &mut Rows)
         requires form { IsWords rows.old }
         requires shape { HasShape self.now.shape rows.old }
@@ -33,7 +32,7 @@ impl Wedge {
             ≤ wedged self.now column (own rows.old column) }
         ensures { rows.new ≡ rewritten rows.old (wedged self.now) }
     {
-        for column in 0..self.shape.columns() {
+        for column in SUSPECTED_COLUMN..self.shape.head_column(0) {
             rows.set_own(column, self.word(column, rows.own(column)));
         }
     }

@@ -6,5 +6,5 @@
 mod rest;
 mod trim;
 
-pub use rest::next_rest;
+pub use rest::{next_rest, trims_by_rank};
 pub use trim::trim_of;

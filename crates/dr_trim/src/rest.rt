@@ -18,9 +18,9 @@ pub fn next_rest(members: Mask, trim: &[u32; MAX_MEMBERS], from: u64) -> Option<
     merge_next(trims.as_slice(), from)
 }
 
-// The trims of the members, by rank.
+/// The trims of the members of a view, by rank.
 #[tactic(auto, using(dr_history::proofs::MemberLemmas::members_below_more, dr_history::proofs::MemberLemmas::length_members_below), unfolding(dr_history::specs::Members::members_of, dr_history::specs::Members::members_below))]
-fn trims_by_rank(members: Mask, trim: &[u32; MAX_MEMBERS]) -> ArrayVec<u32, MAX_MEMBERS>
+pub fn trims_by_rank(members: Mask, trim: &[u32; MAX_MEMBERS]) -> ArrayVec<u32, MAX_MEMBERS>
     ensures { result.items ≡ trims_by_rank members trim.now }
 {
     let mut trims = ArrayVec::new();

@@ -15,11 +15,11 @@ use super::Replica;
 use super::opening::no_value;
 use crate::history::History;
 use crate::items::Items;
+use crate::rest::Rest;
 use crate::spot::Spot;
 use dr_entry::{Item, MAX_MEMBERS, Value};
 use dr_install::{first_unsent, next_view};
 use dr_suspect::Suspects;
-use dr_trim::next_rest;
 use dr_words::{LOGGED_COLUMN, Mask};
 
 impl Replica {
@@ -64,18 +64,16 @@ impl Replica {
     {
         let me = self.rows.me();
         let room = self.history.room();
-        let ranks = self.items.members().len();
         let mut entries = self.history.entries().len();
         let mut own = self.history.messages_from(me) as usize;
-        let mut from = self.next.place;
-        while let Some(place) = next_rest(self.members, trim, from) {
+        let mut rest = Rest::from(self.members, trim, self.next);
+        while let Some(spot) = rest.take() {
             if entries >= room {
                 return false;
             }
-            let (more, more_own) = added_at(&self.items, Spot::at(place, ranks), me);
+            let (more, more_own) = added_at(&self.items, spot, me);
             entries += more;
             own += more_own;
-            from = place + 1;
         }
         entries < room && own <= self.messages.len()
     }
@@ -90,13 +88,8 @@ impl Replica {
         let value = self.committed.unwrap();
         let me = self.rows.me();
         let remaining = self.members.without(Mask::of(value.leavers));
-        deliver_rest(
-            &mut self.history,
-            &self.items,
-            self.members,
-            &value.trim,
-            self.next.place,
-        );
+        let rest = Rest::from(self.members, &value.trim, self.next);
+        deliver_rest(&mut self.history, &self.items, rest);
         self.history
             .install(next_view(self.age, self.view, self.members, &value));
         let mut left = self.spares.pop().unwrap();
@@ -117,29 +110,18 @@ impl Replica {
     }
 }
 
-/// Delivers the places from `from` on that a trim takes.
-fn deliver_rest(
-    history: &mut History,
-    items: &Items,
-    members: Mask,
-    trim: &[u32; MAX_MEMBERS],
-    from: u64,
-)
-    requires members { items.now.members ≡ members_of members }
+/// Delivers the rest of a view.
+fn deliver_rest(history: &mut History, items: &Items, mut rest: Rest)
     requires roster { items.now.roster ≡ history.old.roster }
-    requires taken { AreWithin items.now trim.now }
-    requires room { length (merged_from items.now history.old.entries (trims_by_rank members trim.now) from)
+    requires taken { AreWithin items.now rest.trims.items }
+    requires room { length (merged_from items.now history.old.entries rest.trims.items rest.next.place)
         < history.old.room }
     ensures { history.new ≡ record history.old {
-      entries = merged_from items.now history.old.entries (trims_by_rank members trim.now) from;
+      entries = merged_from items.now history.old.entries rest.trims.items rest.next.place;
     } }
 {
-    let ranks = items.members().len();
-    let mut next = from;
-    while let Some(place) = next_rest(members, trim, next) {
-        let spot = Spot::at(place, ranks);
+    while let Some(spot) = rest.take() {
         history.deliver(items.sender_at(spot), items.item_at(spot));
-        next = place + 1;
     }
 }
 

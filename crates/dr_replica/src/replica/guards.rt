@@ -56,7 +56,7 @@ impl Replica {
 
     /// Whether it suspects somebody. It then takes, puts and delivers no more items in its view.
     #[inline(always)]
-    pub(super) fn is_wedged(&self) -> bool
+    pub fn is_wedged(&self) -> bool
         ensures { result ≡ is_wedged self.now }
     {
         self.suspects.mask().bits() != 0

@@ -3,11 +3,11 @@ ghost use Rattle.std.specs.Prelude.{◌≡◌, IfOk};
 ghost use Rattle.dr_machine.specs.World.{no_value};
 ghost use Rattle.dr_program.specs.Form.{CanBegin, HasForm};
 ghost use Rattle.dr_program.specs.Program.{member_end};
-ghost use Rattle.dr_program.specs.Replica.{begun_replica, greatest};
+ghost use Rattle.dr_program.specs.Replica.{begun_replica};
 
 use super::Replica;
 use crate::history::History;
-use crate::items::Items;
+use crate::items::{Items, greatest};
 use crate::left::spares;
 use crate::spot::Spot;
 use dr_entry::{End, Entry, MAX_MEMBERS, MemberEnd, Seq, Value, ViewSent};
@@ -114,11 +114,4 @@ pub(super) fn no_value() -> Value
         leavers: 0,
         trim: [0; MAX_MEMBERS],
     }
-}
-
-/// The greatest of these numbers of messages.
-fn greatest(totals: &[u32]) -> u32
-    ensures { result ≡ greatest totals.now }
-{
-    totals.iter().fold(0, |most, total| most.max(*total))
 }

@@ -1,4 +1,4 @@
-use Rattle.dr_replica.proofs.Rewrites.{IsRewrittenTo}
+use Rattle.dr_rows.proofs.Rewrites.{IsRewrittenTo}
 use Rattle.dr_replica.specs.Wedges.{accepted}
 use Rattle.dr_replica.proofs.acceptance.Acceptance.rewrite.Given as goal
 

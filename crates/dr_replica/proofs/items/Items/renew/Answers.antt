@@ -1,9 +1,17 @@
-use Rattle.std.proofs.Common.{ℕ, replicate, sym, ap, subst, ◌∙◌, arith}
+use Rattle.std.proofs.Common.{ℕ, ◌<◌, ◌≤◌, ◌⊎◌, inl, inr, replicate, sym, ap, subst, ◌∙◌, arith}
+use Rattle.std.proofs.lemmas.Bool.{cases_lt}
 use Rattle.dr_history.specs.Members.{members_of}
 use Rattle.dr_words.specs.Masks.{IsInRoster}
 use Rattle.dr_replica.specs.Items.{Held, none_held}
 use Rattle.dr_replica.proofs.Places.{begun_items, none_is, renewed_none}
 use Rattle.dr_replica.proofs.items.Items.renew.Goals as goal
+
+-- each place is one of the first so many, or one behind fewer
+first_or_behind : (k first fewer : ℕ) → fewer ≤ first → (k < first) ⊎ (fewer ≤ k)
+first_or_behind k first fewer le = elim (cases_lt k first) [
+  | inl below ↦ inl below
+  | inr past ↦ inr (omega (arith, past, le))
+]
 
 pub invariant_of-self : goal.invariant_of-self
 invariant_of-self c =
@@ -15,8 +23,8 @@ invariant_of-self c =
     (ap (λ (x : _). x.items) c.loop-place.invariant.counts ∙ c.fill.ensures.items (λ y h. h)
     ∙ ap (λ (n : ℕ). replicate n 0) (omega arith))
     c.loop-place.invariant.long
-    (λ k l. c.loop-place.invariant.nulls k
-    (omega (arith, l, c.loop-place-test.false, c.len-place-end.ensures))) in
+    (λ k l. c.loop-place.invariant.nulls k (first_or_behind k c.loop-place.place
+    c.used-used.result c.loop-place-test.false)) in
     begun_items _ c.args.view c.self.inside.roster c.self.inside.most e c.first-self-inside.ensures
     c.self.invariant.form.roster
     (subst (λ (h : Held). IsInRoster h.roster c.args.view) (sym c.self.view_is) c.requires.members)
@@ -32,7 +40,7 @@ returns c =
     (ap (λ (x : _). x.items) c.loop-place.invariant.counts ∙ c.fill.ensures.items (λ y h. h)
     ∙ ap (λ (n : ℕ). replicate n 0) (omega arith))
     c.loop-place.invariant.long
-    (λ k l. c.loop-place.invariant.nulls k
-    (omega (arith, l, c.loop-place-test.false, c.len-place-end.ensures))) in
+    (λ k l. c.loop-place.invariant.nulls k (first_or_behind k c.loop-place.place
+    c.used-used.result c.loop-place-test.false)) in
     none_is _ c.args.view c.self.inside.roster c.self.inside.most e
     ∙ ap (λ (h : Held). none_held c.args.view h.roster h.most) c.self.view_is

@@ -1,6 +1,6 @@
 use Rattle.std.proofs.Common.{◌+◌, ◌≤◌, unwrap_or, ap, subst, ◌∙◌, arith}
 use Rattle.dr_entry.specs.declared.record.Vote.{Vote}
-use Rattle.dr_machine.specs.Effects.{accepted_word}
+use Rattle.dr_words.specs.Rewrites.{accepted_word}
 use Rattle.dr_machine.specs.World.{no_vote}
 use Rattle.dr_program.proofs.Voting.{promise_within}
 use Rattle.dr_program.specs.Replica.{accepted}

@@ -14,19 +14,30 @@ use Rattle.dr_program.specs.Replica.{LeftView}
 use Rattle.dr_replica.specs.Lefts.{left_of}
 use Rattle.std.specs.Prelude.{vec_capacity}
 use Rattle.std.proofs.lemmas.List.{map-append}
+use Rattle.dr_replica.proofs.Delivering.{taken_within}
 use Rattle.dr_replica.proofs.Leaving.{AreLeft, AreTaken, left_after, left_inside, may_leave, remaining_some, spare_taken}
 use Rattle.dr_replica.proofs.replica.Replica.finish.Goals as goal
 
 pub deliver_rest-requires-clause-room : goal.deliver_rest-requires-clause-room
 deliver_rest-requires-clause-room c =
+    let trims = c.from-rest.ensures.trims in let next = c.from-rest.ensures.next in
+    rw (trims, next)
     (may_leave c.self.inside c.args.self.now c.unwrap-value.result c.self.view_is c.self.invariant
     c.unwrap-value.ensures c.requires.may).room
+
+pub deliver_rest-requires-clause-taken : goal.deliver_rest-requires-clause-taken
+deliver_rest-requires-clause-taken c =
+    let may = may_leave c.self.inside c.args.self.now c.unwrap-value.result c.self.view_is c.self.invariant
+    c.unwrap-value.ensures c.requires.may in
+    let trims = c.from-rest.ensures.trims in
+    rw trims (taken_within c.self.inside c.unwrap-value.result.trim c.self.invariant.members may.taken)
 
 pub install-requires-clause-room : goal.install-requires-clause-room
 install-requires-clause-room c =
     let may = may_leave c.self.inside c.args.self.now c.unwrap-value.result c.self.view_is c.self.invariant
     c.unwrap-value.ensures c.requires.may in
-    subst (λ (h : Kept). length h.entries < h.room) (sym c.deliver_rest.ensures) may.room
+    let trims = c.from-rest.ensures.trims in let next = c.from-rest.ensures.next in
+    subst (λ (h : Kept). length h.entries < h.room) (sym c.deliver_rest.ensures) (rw (trims, next) may.room)
 
 pub keep-requires-clause-room : goal.keep-requires-clause-room
 keep-requires-clause-room c =
@@ -104,6 +115,8 @@ made c = record {
   received = refl;
   history = c.install.ensures
       ∙ ap (λ (h : Kept). record h { entries = h.entries ++ c.next_view.result ∷ [] }) c.deliver_rest.ensures
+      ∙ ap (λ (es : List Entry). record c.self.inside.history
+      { entries = es ++ c.next_view.result ∷ [] }) rest
       ∙ ap (λ (e : Entry). record c.self.inside.history {
         entries = merged_from c.self.inside.items c.self.inside.history.entries
             (trims_by_rank c.self.inside.members c.unwrap-value.result.trim)
@@ -122,6 +135,13 @@ made c = record {
   votes = refl;
 }
   where
+    rest : merged_from c.self.inside.items c.self.inside.history.entries c.from-rest.result.trims.items
+        c.from-rest.result.next.place
+        ≡ merged_from c.self.inside.items c.self.inside.history.entries
+        (trims_by_rank c.self.inside.members c.unwrap-value.result.trim) c.self.inside.next.place
+    rest = let trims = c.from-rest.ensures.trims in let next = c.from-rest.ensures.next in
+        rw (trims, next) refl
+
     remaining : c.without-remaining.result ≡ without c.self.inside.members c.unwrap-value.result.leavers
     remaining = c.without-remaining.ensures.value ∙ ap (without c.self.inside.members) c.of.ensures
 

@@ -1,20 +1,16 @@
-use Rattle.std.proofs.Common.{rules, ◌≡◌, ℕ, List, true, length, sym, subst, arith}
-use Rattle.std.specs.Prelude.{Option}
-use Rattle.dr_entry.specs.declared.entry.Entry.{Entry}
-use Rattle.dr_history.specs.Order.{messages_from}
-use Rattle.dr_history.specs.Places.{is_held}
-use Rattle.dr_machine.specs.Effects.{entries_of}
-use Rattle.dr_order.specs.Merge.{IsNextHeld}
+use Rattle.std.proofs.Common.{◌<◌, ℕ, List, length, ap, ◌∙◌, arith}
+use Rattle.dr_program.specs.Replica.{Replica}
 use Rattle.dr_trim.specs.Trims.{trims_by_rank}
-use Rattle.dr_replica.specs.Items.{counts_of, item_at, sender_at}
-use Rattle.dr_replica.proofs.Delivering.{counted_all, counted_few, counted_more, fewer_left, fits_is, fits_told, some_trims, taken_held}
+use Rattle.dr_replica.specs.Rests.{has_taken}
+use Rattle.dr_replica.proofs.Delivering.{counted_all, counted_few, counted_more, fewer_left, fits_is, fits_told, taken_within}
+use Rattle.dr_replica.proofs.Places.{trims_held}
 use Rattle.dr_replica.proofs.replica.Replica.has_room_for.Goals as goal
 
 pub returns-then-entries-room : goal.returns-then-entries-room
 returns-then-entries-room c =
     let few = counted_few c.self.inside.items c.self.inside.history.entries
-    (trims_by_rank c.self.inside.members c.args.trim.now) c.self.inside.next.place c.loop-place.from
-    c.me-me.result c.loop-place.entries c.loop-place.own c.loop-place.invariant in
+    (trims_by_rank c.self.inside.members c.args.trim.now) c.self.inside.next.place c.loop-spot.rest.next.place
+    c.me-me.result c.loop-spot.entries c.loop-spot.own c.loop-spot.invariant.counted in
     let full = few.0 in
     grind (
       arith,
@@ -26,15 +22,17 @@ returns-then-entries-room c =
 
 pub added_at-more-requires-clause-held : goal.added_at-more-requires-clause-held
 added_at-more-requires-clause-held c =
-    subst (λ (p : ℕ). is_held (counts_of c.self.inside.items) p ≡ true) (sym c.at.ensures.place)
-    (taken_held c.self.inside c.args.self.now c.args.trim.now c.loop-place.from c.in-Some.place c.self.view_is
-    c.self.invariant c.members-ranks.ensures.form c.requires (search rules) c.in-Some.ensures).0
+    let within = taken_within c.self.inside c.args.trim.now c.self.invariant.members
+    (ap (λ (r : Replica). has_taken r c.args.trim.now) c.self.view_is ∙ c.requires) in
+    let next = rw c.loop-spot.invariant.trims at c.in-Some.ensures.next in
+    trims_held c.self.inside.items (trims_by_rank c.self.inside.members c.args.trim.now) c.in-Some.spot.place
+    within next.1
 
 pub overflow_add-own : goal.overflow_add-own
 overflow_add-own c =
     let few = counted_few c.self.inside.items c.self.inside.history.entries
-    (trims_by_rank c.self.inside.members c.args.trim.now) c.self.inside.next.place c.loop-place.from
-    c.me-me.result c.loop-place.entries c.loop-place.own c.loop-place.invariant in
+    (trims_by_rank c.self.inside.members c.args.trim.now) c.self.inside.next.place c.loop-spot.rest.next.place
+    c.me-me.result c.loop-spot.entries c.loop-spot.own c.loop-spot.invariant.counted in
     omega (
       arith,
       few.1,
@@ -45,59 +43,51 @@ overflow_add-own c =
       c.added_at-more.ensures.one,
     )
 
-pub overflow_add-from : goal.overflow_add-from
-overflow_add-from c =
-    let low = (taken_held c.self.inside c.args.self.now c.args.trim.now c.loop-place.from c.in-Some.place
-    c.self.view_is c.self.invariant c.members-ranks.ensures.form c.requires
-    (search rules) c.in-Some.ensures).1 in
-    omega (arith, low)
+pub loop-spot-smaller : goal.loop-spot-smaller
+loop-spot-smaller c =
+    let some : 0 < length c.loop-spot.rest.trims.items = omega (arith, c.loop-spot.rest.spot.rank) in
+    let trims = ap (λ (v : _). v.items) c.in-Some.ensures.trims in
+    let behind = c.in-Some.ensures.behind in
+    rw (trims, behind) (fewer_left c.loop-spot.rest.trims.items c.loop-spot.rest.next.place
+    c.in-Some.spot.place some c.in-Some.ensures.next)
 
-pub loop-place-smaller : goal.loop-place-smaller
-loop-place-smaller c =
-    fewer_left (trims_by_rank c.self.inside.members c.args.trim.now) c.loop-place.from c.in-Some.place
-    (some_trims c.self.inside.items c.self.inside.members c.args.trim.now c.members-ranks.ensures.form
-    c.self.invariant.members) c.in-Some.ensures
-
-pub loop-place-preserved : goal.loop-place-preserved
-loop-place-preserved c =
-    counted_more c.self.inside.items c.self.inside.history.entries
-    (trims_by_rank c.self.inside.members c.args.trim.now) c.self.inside.next.place c.loop-place.from
-    c.in-Some.place c.me-me.result c.loop-place.entries c.loop-place.own c.added_at-more.result.0
-    c.added_at-more.result.1
-    (some_trims c.self.inside.items c.self.inside.members c.args.trim.now c.members-ranks.ensures.form
-    c.self.invariant.members) c.in-Some.ensures c.loop-place.invariant
-    (subst (λ (p : ℕ). (es : List Entry) → c.added_at-more.result.0
-    ≡ length (entries_of es (sender_at c.self.inside.items p) (item_at c.self.inside.items p)))
-    c.at.ensures.place c.added_at-more.ensures.entries)
-    (subst (λ (p : ℕ). (es : List Entry) → c.added_at-more.result.1
-    ≡ length (messages_from c.me-me.result
-    (entries_of es (sender_at c.self.inside.items p) (item_at c.self.inside.items p))))
-    c.at.ensures.place c.added_at-more.ensures.own)
+pub loop-spot-preserved : goal.loop-spot-preserved
+loop-spot-preserved c =
+    let trims : List ℕ = trims_by_rank c.self.inside.members c.args.trim.now in
+    let some : 0 < length trims =
+    omega (arith, c.loop-spot.rest.spot.rank, ap length c.loop-spot.invariant.trims) in
+    let next = rw c.loop-spot.invariant.trims at c.in-Some.ensures.next in
+    let behind = c.in-Some.ensures.behind in
+    record {
+      trims = ap (λ (v : _). v.items) c.in-Some.ensures.trims ∙ c.loop-spot.invariant.trims;
+      counted = rw behind (counted_more c.self.inside.items c.self.inside.history.entries trims
+          c.self.inside.next.place c.loop-spot.rest.next.place c.in-Some.spot.place c.me-me.result
+          c.loop-spot.entries c.loop-spot.own c.added_at-more.result.0 c.added_at-more.result.1 some next
+          c.loop-spot.invariant.counted c.added_at-more.ensures.entries c.added_at-more.ensures.own);
+    }
 
 pub returns-then-entries-room-2 : goal.returns-then-entries-room-2
 returns-then-entries-room-2 c =
-    let all = counted_all c.self.inside.items c.self.inside.history.entries
-    (trims_by_rank c.self.inside.members c.args.trim.now) c.self.inside.next.place c.loop-place.from
-    c.me-me.result c.loop-place.entries c.loop-place.own
-    (some_trims c.self.inside.items c.self.inside.members c.args.trim.now c.members-ranks.ensures.form
-    c.self.invariant.members)
-    (subst (λ (o : Option ℕ). IsNextHeld (trims_by_rank c.self.inside.members c.args.trim.now)
-    c.loop-place.from o)
-    c.in_default.is c.next_rest.ensures) c.loop-place.invariant in
-    fits_told c.self.inside c.args.self.now c.args.trim.now c.loop-place.entries c.loop-place.own c.len.result
+    let trims : List ℕ = trims_by_rank c.self.inside.members c.args.trim.now in
+    let some : 0 < length trims =
+    omega (arith, c.loop-spot.rest.spot.rank, ap length c.loop-spot.invariant.trims) in
+    let none = rw c.loop-spot.invariant.trims at c.in_default.ensures.next in
+    let all = counted_all c.self.inside.items c.self.inside.history.entries trims c.self.inside.next.place
+    c.loop-spot.rest.next.place c.me-me.result c.loop-spot.entries c.loop-spot.own some none
+    c.loop-spot.invariant.counted in
+    fits_told c.self.inside c.args.self.now c.args.trim.now c.loop-spot.entries c.loop-spot.own c.len.result
     c.me-me.result c.self.view_is c.self.invariant c.me-me.ensures.me (omega arith)
     (omega (arith, c.if-entries-room-2.true, c.room-room.ensures)) all.0 all.1
 
 pub returns-else-entries-room-2 : goal.returns-else-entries-room-2
 returns-else-entries-room-2 c =
-    let all = counted_all c.self.inside.items c.self.inside.history.entries
-    (trims_by_rank c.self.inside.members c.args.trim.now) c.self.inside.next.place c.loop-place.from
-    c.me-me.result c.loop-place.entries c.loop-place.own
-    (some_trims c.self.inside.items c.self.inside.members c.args.trim.now c.members-ranks.ensures.form
-    c.self.invariant.members)
-    (subst (λ (o : Option ℕ). IsNextHeld (trims_by_rank c.self.inside.members c.args.trim.now)
-    c.loop-place.from o)
-    c.in_default.is c.next_rest.ensures) c.loop-place.invariant in
+    let trims : List ℕ = trims_by_rank c.self.inside.members c.args.trim.now in
+    let some : 0 < length trims =
+    omega (arith, c.loop-spot.rest.spot.rank, ap length c.loop-spot.invariant.trims) in
+    let none = rw c.loop-spot.invariant.trims at c.in_default.ensures.next in
+    let all = counted_all c.self.inside.items c.self.inside.history.entries trims c.self.inside.next.place
+    c.loop-spot.rest.next.place c.me-me.result c.loop-spot.entries c.loop-spot.own some none
+    c.loop-spot.invariant.counted in
     let entries = all.0 in
     grind (
       arith,

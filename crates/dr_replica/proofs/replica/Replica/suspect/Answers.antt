@@ -1,8 +1,8 @@
 use Rattle.std.proofs.Common.{◌≡◌, ℕ, ◌≤◌, sym, ap, subst, ◌∙◌}
-use Rattle.dr_machine.specs.Effects.{wedged_word}
 use Rattle.dr_rows.specs.Words.{own}
 use Rattle.dr_program.specs.Replica.{Replica, may_suspect, suspected}
 use Rattle.dr_words.specs.Masks.{least_of, without}
+use Rattle.dr_words.specs.Rewrites.{wedged_word}
 use Rattle.dr_replica.specs.Inside.{view_of}
 use Rattle.dr_replica.proofs.Insides.{may_of, suspected_after, suspected_kept, voter_read}
 use Rattle.dr_replica.proofs.Wedging.{recv_small, suspected_rises}

@@ -1,4 +1,4 @@
-use Rattle.dr_replica.proofs.Rewrites.{IsRewrittenTo}
+use Rattle.dr_rows.proofs.Rewrites.{IsRewrittenTo}
 use Rattle.dr_replica.specs.Wedges.{wedged}
 use Rattle.dr_replica.proofs.wedge.Wedge.rewrite.Given as goal
 
