@@ -265,6 +265,15 @@ entry_due r e other =
       | inr t ↦ absurd (other t.0)
     ]
 
+-- an entry is appended at its part
+pub entry_part : (r : Running) → is_append (next_deed r) ≡ true → next_step r ≡ steps.Append
+    → part_of r.place ≡ parts.Append
+entry_part r e step = elim (append_part r (part_of r.place) r.place.row r.place.column
+    (deed_due is_append (λ end. refl) r e).1) [
+      | inl t ↦ t.0
+      | inr t ↦ absurd (cc (t.1, step))
+    ]
+
 -- the next deed is to append this entry, or this vote
 pub entry_deed : (r : Running) (entry : Entry) → r.replica.end ≡ None → steps.Append ≡ next_step r
     → slice_get r.replica.history r.replica.logged ≡ Some entry
@@ -279,12 +288,6 @@ pub vote_deed : (r : Running) (vote : Vote) → r.replica.end ≡ None
     → deeds.Append (records.Vote vote) ≡ next_deed r
 vote_deed r vote none step is =
     ap (λ v. deeds.Append (records.Vote v)) is ∙ ap (deed_of r) step ∙ ap (deed r) (sym none)
-
--- a running member whose next step is a vote is wedged
-pub vote_wedged : (r : Running) → IsRunningMember r → r.replica.end ≡ None
-    → next_step r ≡ steps.LogVote (value_due r.replica) → is_wedged r.replica ≡ true
-vote_wedged r m none step =
-    (and_parts (is_wedged r.replica) _ (allowed r m none (steps.LogVote (value_due r.replica)) step)).0
 
 -- ---- what is due at a place
 
@@ -317,12 +320,6 @@ act_kind r s e = absurd (cc)
 
 pub act_step : (r : Running) → is_act (next_deed r) ≡ true → (a : Act) × (next_step r ≡ steps.Do a)
 act_step r e = act_kind r (next_step r) (deed_due is_act (λ end. refl) r e).1
-
--- the next deed is an act
-pub record IsActDue (r : Running) : Type 0 where
-  pub none : r.replica.end ≡ None
-  pub act : Act
-  pub step : next_step r ≡ steps.Do act
 
 -- ---- a look may see what has grown
 

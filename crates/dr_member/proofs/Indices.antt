@@ -54,7 +54,7 @@ pub record IsIndex (r : Running) (sum copy row column : ℕ) : Type 0 where
   pub within : index_in r.replica copy row column < table_size r
   pub small : sum < 2 ^ 64
 
-is_index : (r : Running) (sum copy row column : ℕ) → HasForm r.replica → r.replica.view < 2 ^ 8
+pub is_index : (r : Running) (sum copy row column : ℕ) → HasForm r.replica → r.replica.view < 2 ^ 8
     → copy < members r → row < members r → column < columns r
     → sum ≡ index_in r.replica copy row column → IsIndex r sum copy row column
 is_index r sum copy row column form small p q s e = record {

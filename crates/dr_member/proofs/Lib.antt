@@ -1,7 +1,9 @@
 mod Passing
+mod Votes
 mod Crashes
 mod Dues
 mod Judging
 mod Answers
 mod Indices
 mod Moves
+mod Sweeps

@@ -1,14 +1,16 @@
 -- What a running member is after each kind of deed, in the terms of the code's fields.
-use Rattle.std.proofs.Common.{◌≡◌, refl, sym, ap, ◌∙◌, subst, ℕ, ◌+◌, ◌^◌, ◌<◌, ◌≤◌, ◌==◌, ◌&&◌, if◌then◌else◌, Bool, true, false, nat_lt, arith}
+use Rattle.std.proofs.Common.{◌≡◌, ◌≢◌, refl, sym, ap, ◌∙◌, subst, ℕ, ◌+◌, ◌^◌, ◌<◌, ◌≤◌, ◌==◌, ◌&&◌, if◌then◌else◌, Bool, true, false, nat_lt, arith}
 use Rattle.std.proofs.lemmas.Bool.Decides.{nat_tests}
 use Rattle.dr_entry.specs.declared.record.Value.{Value}
-use Rattle.dr_rows.specs.Words.{changed}
+use Rattle.dr_rows.specs.Words.{changed, own}
 use Rattle.dr_rows.specs.Words as rows
 use Rattle.dr_suspect.specs.Waits.{Waits, compared}
 use Rattle.std.proofs.lemmas.Bool.{and_parts}
 use Rattle.dr_words.specs.Columns.{columns_of}
+use Rattle.dr_words.specs.declared.column.TheConstants.{LOGGED_COLUMN}
 use Rattle.dr_machine.specs.Effects.{one_more}
 use Rattle.dr_machine.specs.declared.event.Act.{Act}
+use Rattle.dr_machine.specs.declared.event.Act.TheVariants as acts
 use Rattle.dr_machine.specs.declared.step.Step.{Step}
 use Rattle.dr_machine.specs.declared.step.Step.TheVariants as steps
 use Rattle.dr_program.specs.declared.place.Part.{Part}
@@ -16,15 +18,16 @@ use Rattle.dr_program.specs.declared.place.Part.TheVariants as parts
 use Rattle.dr_program.specs.declared.place.Place.{Place}
 use Rattle.std.specs.Prelude.{None}
 use Rattle.dr_program.specs.Acts.{may, taken}
-use Rattle.dr_program.specs.Replica.{Replica, is_other, looked, me, pushed, value_due}
+use Rattle.dr_program.specs.Replica.{Replica, appended, is_other, looked, me, pushed, value_due}
 use Rattle.dr_program.specs.Steps.{IsAppend, NoWordFell, allows, has_cell, is_free, stepped}
-use Rattle.dr_program.specs.Turn.{columns_in, part_of}
-use Rattle.dr_program.specs.Running.{Running, columns, goes, next_deed, next_step, settled, waits_after}
+use Rattle.dr_program.specs.Turn.{IsIn, after, columns_in, part_of, rows_in}
+use Rattle.dr_program.specs.Running.{Running, applies, columns, goes, next_deed, next_step, settled, waits_after}
 use Rattle.dr_program.specs.Reading.{step_of_member}
 use Rattle.dr_program.specs.Sight.{MaySee}
 use Rattle.dr_program.specs.Form.{HasForm, IsRunningMember}
 use Rattle.dr_program.proofs.Waiting.{free_step}
 use Rattle.dr_turn.specs.Search.{IsUnderway}
+use Rattle.dr_turn.proofs.Order.{all_below}
 use Rattle.dr_turn.proofs.Tasks.{ends_view}
 use Rattle.dr_member.specs.declared.fate.Fate.{Fate}
 use Rattle.dr_member.specs.declared.member.Member.TheInside.{Inside}
@@ -34,9 +37,9 @@ use Rattle.dr_member.specs.Inside.{IsInside, view_of}
 use Rattle.dr_member.specs.Search.{next_row, standing}
 use Rattle.dr_member.proofs.Answers.{IsAnswer, IsFateAfter, IsTaken, answer_at, fate_of_act, fate_stays, is_answer, is_done, look_applies, push_applies, pushes_searched, stays}
 use Rattle.dr_member.proofs.Crashes.{some_at_push, timely_act, timely_push}
-use Rattle.dr_member.proofs.Dues.{IsLookDue, IsPushDue, IsVoteDue, allowed, append_due, deed_due, look_due, push_due, vote_due}
+use Rattle.dr_member.proofs.Dues.{IsLookDue, IsPushDue, IsVoteDue, allowed, append_due, deed_due, entry_part, look_due, push_due, vote_due}
 use Rattle.dr_member.proofs.Indices.{columns_kept, deeds_keep_bases}
-use Rattle.dr_member.proofs.Passing.{from_behind, from_column, from_here}
+use Rattle.dr_member.proofs.Passing.{begin, from_behind, from_column, from_here, only_place, part_number}
 
 -- ---- rows
 
@@ -431,6 +434,13 @@ act_taken word now a q fate from act turn view is acts due after form grown plac
       (fate_of_act word a.replica a.fate a.place act turn);
 }
 
+-- an act that begins neither a turn nor a view leaves the fate as it is
+pub fate_kept : (fate : Fate) (act : Act) (turn : ℕ) → act ≢ acts.Beat → act ≢ acts.Finish
+    → fate_after fate act turn ≡ fate
+fate_kept fate acts.Beat turn no_turn no_view = absurd (no_turn refl)
+fate_kept fate acts.Finish turn no_turn no_view = absurd (no_view refl)
+fate_kept fate act turn no_turn no_view = refl
+
 -- an act leaves the fate timely
 pub acted_timely : (a : Inside) (q : Replica) (fate : Fate) (act : Act) (turn : ℕ) → IsInside a
     → q ≡ taken a.replica act → fate ≡ fate_after a.fate act turn → turn ≡ q.turns
@@ -475,6 +485,42 @@ append_taken word now a s q from view is append step kind after form grown place
       place = place;
       told = append_fate word a.replica a.fate a.place s kind;
     }
+
+-- a part is that of appends
+abbrev is_append_part : Part → Bool
+is_append_part parts.Append = true
+is_append_part part = false
+
+-- behind the place of an append is that where the log is published
+append_next : (n k : ℕ) (p : Place) → IsIn n k p → part_of p ≡ parts.Append → after n k p ≡ begin 7
+unfolding all_below
+append_next n k p is at = ap (after n k) (only_place n k 6 p is (ap (rows_in n) at) (ap (columns_in k) at)
+    (part_number is_append_part 6 p refl is.part (ap is_append_part at)))
+
+-- with one entry more on its log, it has that to publish
+publishes : (r q : Replica) (fate : Fate) → HasForm r → q ≡ appended r
+    → applies (standing q fate (begin 7)) (begin 7) ≡ true
+publishes r q fate f after =
+    subst (λ (x : Replica). nat_lt (own x.rows LOGGED_COLUMN) x.logged ≡ true) (sym after)
+    (grind (arith, nat_tests, f.published))
+
+-- so behind the append of an entry the search stays
+pub entry_answer : (word : ℕ) (now : Running) (a : Inside) (q : Replica) (from : Place) → view_of a ≡ now
+    → IsInside a → is_append (next_deed now) ≡ true → next_step now ≡ steps.Append
+    → q ≡ appended a.replica → HasForm q → NoWordFell a.replica q
+    → from ≡ goes a.replica.roster (columns_of a.replica.roster a.replica.window)
+    (part_of a.place) a.place
+    → IsAnswer word now (standing q a.fate from)
+entry_answer word now a q from view is append step after form grown place =
+    let at = entry_part (view_of a) (subst (λ (x : Running). is_append (next_deed x) ≡ true) (sym view) append)
+    (ap next_step view ∙ step) in
+    let next : from ≡ begin 7 = place
+    ∙ ap (λ x. goes a.replica.roster (columns_of a.replica.roster a.replica.window) x a.place) at
+    ∙ append_next a.replica.roster (columns_of a.replica.roster a.replica.window) a.place is.form.place at in
+    answer_at word _ now _ view (is_answer word _ _ _ _ _ from
+    (append_taken word now a steps.Append q from view is append step tt after form grown place)
+    (stays (standing q a.fate from) (subst (λ (x : Place). applies (standing q a.fate x) x ≡ true) (sym next)
+    (publishes a.replica q a.fate is.form.replica after))))
 
 -- of a vote
 pub vote_due_at : (now : Running) (a : Inside) → view_of a ≡ now → IsInside a

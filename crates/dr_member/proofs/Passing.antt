@@ -1,17 +1,18 @@
 -- What the search may pass over at once.
-use Rattle.std.proofs.Common.{◌≡◌, refl, subst, ap, ◌∙◌, ℕ, zero, suc, ◌+◌, ◌-◌, ◌<◌, ◌≤◌, ◌==◌, ◌&&◌, Bool, true, false, if◌then◌else◌, nat_lt, le_refl, sym, arith}
-use Rattle.std.specs.Prelude.{None, is_some}
+use Rattle.std.proofs.Common.{◌≡◌, refl, subst, ap, ◌∙◌, ℕ, zero, suc, ◌+◌, ◌-◌, ◌<◌, ◌≤◌, ◌==◌, ◌&&◌, ◌||◌, not, Bool, true, false, if◌then◌else◌, nat_lt, length, le_refl, sym, arith}
+use Rattle.std.specs.Prelude.{None, is_some, slice_index_or}
 use Rattle.std.proofs.lemmas.Bool.Decides.{nat_tests}
 use Rattle.dr_rows.specs.Words.{changed}
+use Rattle.dr_program.specs.declared.place.Part.{Part}
 use Rattle.dr_program.specs.declared.place.Part.TheVariants as parts
 use Rattle.dr_program.specs.declared.place.Place.{Place}
 use Rattle.dr_program.specs.declared.place.TheConstants.{TURN}
-use Rattle.dr_program.specs.Turn.{columns_in, part_of, places_in}
+use Rattle.dr_program.specs.Turn.{IsIn, columns_in, part_of, places_in, rows_in, turn_begins}
 use Rattle.dr_program.specs.Replica.{Replica, is_other}
 use Rattle.dr_program.specs.Running.{Running, members, columns, applies, moved, settled, step_at}
 use Rattle.dr_program.specs.Steps.{allows}
 use Rattle.dr_turn.specs.Search.{IsUnderway, left}
-use Rattle.dr_turn.proofs.Order.{left_falls, left_small}
+use Rattle.dr_turn.proofs.Order.{all_below, each_below, left_falls, left_small}
 use Rattle.dr_turn.proofs.Search.{applies_at, applies_from, idle_part, part_before, underway_idle}
 use Rattle.dr_turn.proofs.Staying.{settle_enough, settle_on, settled_here, stops_due, stops_not}
 use Rattle.dr_member.specs.declared.fate.Fate.{Fate}
@@ -36,7 +37,8 @@ goes_on r u none e =
           (part_before (members r) (columns r) r.place u.place (idle_part r r.place e));
     }
 
-goes_far : (r x y : Running) → GoesBy r x → GoesBy x y → GoesBy r y
+-- what the search goes by on its way from y it goes by from r
+pub goes_far : (r x y : Running) → GoesBy r x → GoesBy x y → GoesBy r y
 goes_far r x y a b = record {
   same = b.same ∙ a.same;
   underway = b.underway;
@@ -158,3 +160,32 @@ none_more test from n below at x above within = by (x == n) refl
     by : (b : Bool) → (x == n) ≡ b → test x ≡ false
     by true e = ap test (grind (arith, nat_tests)) ∙ at
     by false e = below x above (grind (arith, nat_tests, within))
+
+-- ---- parts with one place
+
+-- the first place of a part
+abbrev pub begin : ℕ → Place
+begin i = record { part = i; row = 0; column = 0 }
+
+-- a part with one place has none but its first
+pub only_place : (n k i : ℕ) (p : Place) → IsIn n k p → rows_in n (part_of p) ≡ 1
+    → columns_in k (part_of p) ≡ 1 → p.part ≡ i → p ≡ begin i
+only_place n k i p is rows columns number =
+    let row : p.row ≡ 0 = omega (arith, is.row, rows) in
+    let column : p.column ≡ 0 = omega (arith, is.column, columns) in
+    λ z. record { part = number z; row = row z; column = column z }
+
+-- where one test implies another, and passes, the other does
+implied : (a b : Bool) → (not a || b) ≡ true → a ≡ true → b ≡ true
+implied true b t e = t
+implied false b t e = absurd (cc e)
+
+-- a part that the turn has at one number alone has this number
+pub part_number : (test : Part → Bool) (i : ℕ) (p : Place)
+    → all_below (length TURN) (λ j. not (test (slice_index_or TURN j turn_begins)) || (j == i)) ≡ true
+    → p.part < length TURN → test (part_of p) ≡ true → p.part ≡ i
+part_number test i p alone within e =
+    let same = implied _ _
+    (each_below (length TURN) p.part (λ j. not (test (slice_index_or TURN j turn_begins)) || (j == i))
+    alone within) e in
+    grind (arith, nat_tests, same)

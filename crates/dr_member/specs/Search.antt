@@ -1,12 +1,12 @@
 -- The search for the next place of the turn at which there is something to do.
-use Rattle.std.specs.Prelude.{◌≡◌, ℕ, ◌+◌, ◌<◌, ◌≤◌, nat_lt, if◌then◌else◌, length, false, true}
+use Rattle.std.specs.Prelude.{◌≡◌, ℕ, ◌+◌, ◌<◌, ◌≤◌, nat_lt, ◌&&◌, not, if◌then◌else◌, Bool, is_some, length, false, true}
 use Rattle.dr_entry.specs.declared.record.Value.{Value}
 use Rattle.dr_machine.specs.declared.step.Step.{Step}
 use Rattle.dr_machine.specs.declared.step.Step.TheVariants as steps
 use Rattle.dr_program.specs.declared.place.Place.{Place}
 use Rattle.dr_program.specs.declared.place.TheConstants.{TURN}
 use Rattle.dr_program.specs.Turn.{part_of, rows_in, columns_in}
-use Rattle.dr_program.specs.Replica.{Replica}
+use Rattle.dr_program.specs.Replica.{Replica, is_named, is_wedged, me}
 use Rattle.dr_program.specs.Running.{Running, applies, columns}
 use Rattle.dr_member.specs.declared.fate.Fate.{Fate}
 use Rattle.dr_member.specs.declared.search.Due.{Due}
@@ -37,6 +37,11 @@ step_by (dues.Act a) p v = steps.Do a
 abbrev pub next_row : ℕ → Place → Place
 next_row n p = if nat_lt (p.row + 1) (rows_in n (part_of p)) then record p { row = p.row + 1; column = 0 }
     else record { part = if nat_lt (p.part + 1) (length TURN) then p.part + 1 else 0; row = 0; column = 0 }
+
+-- nothing of a vote is due: no append has failed, it suspects nobody, and it has committed no value that
+-- names it
+abbrev pub is_calm : Replica → Fate → Bool
+is_calm q fate = not (is_some fate.failed) && (not (is_wedged q) && not (is_named (me q) q.committed))
 
 -- there is nothing to do in the row from this place up to column t
 abbrev pub IsIdleTo : Running → Place → ℕ → Type 0

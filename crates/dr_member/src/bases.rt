@@ -1,9 +1,6 @@
 //! The numbers by which a member finds words of the table.
-ghost use Rattle.std.specs.Prelude.{◌≡◌};
-ghost use Rattle.dr_program.specs.Acts.{taken};
 ghost use Rattle.dr_member.specs.Bases.{AreBases};
 
-use dr_machine::Act;
 use dr_replica::Replica;
 
 /// Where a member finds words of the table. While it is in its view, these numbers stay as they are.
@@ -32,16 +29,6 @@ impl Bases {
             copy_words: usize::from(shape.members) * shape.columns(),
             own_copy: shape.word_index(view, me, 0, 0),
             own_row: shape.word_index(view, 0, me, 0),
-        }
-    }
-
-    /// Takes note of an act, after which the replica is this one. In a new view words stand elsewhere.
-    pub(crate) fn note(&mut self, act: Act, replica: &Replica)
-        ensures { (before : Replica) → AreBases self.old before → replica.now ≡ taken before act
-            → AreBases self.new replica.now }
-    {
-        if let Act::Finish = act {
-            *self = Bases::of(replica);
         }
     }
 }

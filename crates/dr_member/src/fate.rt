@@ -2,11 +2,11 @@
 ghost use Rattle.std.specs.Prelude.{◌≡◌, ◌^◌, ◌<◌, None};
 ghost use Rattle.dr_program.specs.declared.place.Place.{Place};
 ghost use Rattle.dr_program.specs.Running.{crashes_in_turn, crashes_now, end_by};
-ghost use Rattle.dr_member.specs.Fate.{IsTimely, fate_after, first_push, is_push_now, with_point};
+ghost use Rattle.dr_suspect.specs.Waits.{begun};
+ghost use Rattle.dr_member.specs.Fate.{IsTimely, first_push, is_push_now, with_point};
 ghost use Rattle.dr_member.specs.Search.{standing};
 
 use dr_entry::{End, Seq};
-use dr_machine::Act;
 use dr_program::{CrashPoint, LogWhy, Suspicion};
 use dr_replica::Replica;
 use dr_suspect::Patience;
@@ -79,19 +79,19 @@ impl Fate {
         self.crash.is_some()
     }
 
-    /// Takes note of an act, after which the member is in this turn. With a new turn the script's
-    /// points of that turn are sought among all of them; in a new view it waits anew.
-    pub(crate) fn note(&mut self, act: Act, turn: u32)
-        ensures { self.new ≡ fate_after self.old act turn }
+    /// A turn begins. The script's points of that turn are sought among all of them.
+    pub(crate) fn begin_turn(&mut self, turn: u32)
+        ensures { self.new ≡ record self.old { pushes = 0; crash = first_push turn self.old.crashes } }
     {
-        match act {
-            Act::Beat => {
-                self.pushes = 0;
-                self.crash = first_push(self.crashes.as_slice(), turn);
-            }
-            Act::Finish => self.waits.reset(),
-            _ => {}
-        }
+        self.pushes = 0;
+        self.crash = first_push(self.crashes.as_slice(), turn);
+    }
+
+    /// A view begins, in which it waits anew.
+    pub(crate) fn begin_view(&mut self)
+        ensures { self.new ≡ record self.old { waits = begun self.old.waits.limit } }
+    {
+        self.waits.reset();
     }
 }
 

@@ -5,6 +5,7 @@
 //! the definitions.
 #![tactic(auto)]
 
+mod acts;
 mod bases;
 mod fate;
 mod judge;
@@ -14,4 +15,4 @@ mod search;
 
 pub use dr_program::{Deed, LogWhy, Setup};
 pub use laws::a_look_may_see_what_has_grown;
-pub use member::Member;
+pub use member::{Access, Member, Standing};

@@ -1,3 +1,5 @@
+mod sweep;
+
 ghost use Rattle.std.specs.Prelude.{◌≡◌, ◌*◌, ◌-◌, ◌<◌, ◌≤◌, ℕ, true, IfOk, Some, is_some, length};
 ghost use Rattle.dr_machine.specs.declared.event.Act.TheVariants.{Crash};
 ghost use Rattle.dr_machine.specs.declared.step.Step.TheVariants.{Append, Do};
@@ -14,31 +16,29 @@ ghost use Rattle.dr_program.specs.Turn.{part_of};
 ghost use Rattle.dr_member.specs.Deeds.{IsWithin, is_act, is_append, is_before_turn, is_push, table_size};
 ghost use Rattle.dr_turn.specs.Work.{HasGrownTo, IsStill, deeds_left};
 
+use crate::acts::take_act;
 use crate::bases::Bases;
 use crate::fate::Fate;
-use crate::search::{Due, due_at, go, leave_row, next_changed, part_of, settle};
+use crate::search::{
+    BEAT, Due, LOOKS, PUSHES, due_at, go, leave_row, next_changed, part_of, settle,
+};
 use dr_entry::{End, Entry, MemberEnd, Record, Seq, Vote};
-use dr_program::{Deed, LogWhy, PARTS, Part, Place, Setup};
+use dr_program::{Deed, LogWhy, Part, Place, Setup};
 use dr_replica::Replica;
 use dr_suspect::Patience;
 use dr_words::BEAT_COLUMN;
 use std::alloc::{AllocError, Global};
 use std::marker::Model;
-
-/// The numbers of the parts of a turn that have the looks and the pushes, and of the part before a turn.
-const LOOKS: u8 = 0;
-
-const PUSHES: u8 = 15;
-
-const BEAT: u8 = PARTS as u8 - 1;
+pub use sweep::{Access, Standing};
 
 /// One running member of a group, in one age.
 ///
 /// It goes through its turn place by place, and stands at a place at which there is something to do:
 /// [`Member::next`] says what. Whoever runs the member does that, and then calls the method that
 /// takes note of it: [`Member::looked`], [`Member::pushed`], [`Member::acted`], and
-/// [`Member::appended`] or [`Member::append_failed`]. Each of these leaves the member with fewer
-/// deeds to do, so it comes to its end.
+/// [`Member::appended`] or [`Member::append_failed`]; or it has the member take the looks or the pushes
+/// of a row at once, by [`Member::look_row`] and [`Member::push_row`]. Each of these leaves the member with
+/// fewer deeds to do, so it comes to its end.
 #[derive(Drop)]
 pub struct Member {
     replica: Replica,
@@ -99,11 +99,12 @@ impl Member {
             return Deed::Rest(end);
         }
         let Place { part, row, column } = self.place;
-        if part == LOOKS {
-            return Deed::Look(self.look_index(row, column));
-        }
+        // Written behind the pushes, looks, which are most of the deeds, are what the built program tests first.
         if part == PUSHES {
             return self.push_deed(row, column);
+        }
+        if part == LOOKS {
+            return Deed::Look(self.look_index(row, column));
         }
         match due_at(&self.replica, &self.fate, self.place) {
             Due::Look => Deed::Look(self.look_index(row, column)),
@@ -177,9 +178,7 @@ impl Member {
     {
         if let Due::Act(act) = due_at(&self.replica, &self.fate, self.place) {
             go(&self.replica.shape(), &mut self.place);
-            self.replica.take(act);
-            self.fate.note(act, self.replica.turns());
-            self.bases.note(act, &self.replica);
+            take_act(act, &mut self.replica, &mut self.fate, &mut self.bases);
             settle(&self.replica, &self.fate, &mut self.place);
         }
     }
@@ -194,7 +193,7 @@ impl Member {
         ensures falls { deeds_left self.new < deeds_left self.old }
         ensures keeps { IsStill self.old self.new }
     {
-        match part_of(self.place) {
+        match *part_of(self.place) {
             Part::Vote => self.vote_appended(),
             _ => self.entry_appended(),
         }
@@ -301,7 +300,8 @@ impl Member {
         self.replica.into_end()
     }
 
-    /// Takes note that its log has the next entry of its history.
+    /// Takes note that its log has the next entry of its history. It then stands where it publishes that, so
+    /// there is nothing to seek.
     #[inline(always)]
     fn entry_appended(&mut self)
         requires due { is_append (next_deed self.old) ≡ true }
@@ -314,7 +314,6 @@ impl Member {
     {
         go(&self.replica.shape(), &mut self.place);
         self.replica.append();
-        settle(&self.replica, &self.fate, &mut self.place);
     }
 
     /// The vote that is due. Out of line, as few members vote.

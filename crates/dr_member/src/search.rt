@@ -11,19 +11,26 @@ ghost use Rattle.dr_rows.specs.Words.{changed};
 ghost use Rattle.dr_turn.specs.Search.{IsUnderway};
 ghost use Rattle.dr_member.specs.Fate.{IsTimely};
 ghost use Rattle.dr_member.specs.declared.search.Due.TheVariants as dues;
-ghost use Rattle.dr_member.specs.Search.{IsFirstDue, IsIdleTo, next_row, standing, step_by};
+ghost use Rattle.dr_member.specs.Search.{IsFirstDue, IsIdleTo, is_calm, next_row, standing, step_by};
 
 use crate::fate::{Fate, end_by};
 use crate::judge::{judged, may_judge};
 use dr_entry::End;
 use dr_machine::Act;
-use dr_program::{LogWhy, Part, Place, TURN};
+use dr_program::{LogWhy, PARTS, Part, Place, TURN};
 use dr_replica::Replica;
 use dr_words::Shape;
 
+/// The numbers of the parts of a turn that have the looks and the pushes, and of the part before a turn.
+pub(crate) const LOOKS: u8 = 0;
+
+pub(crate) const PUSHES: u8 = 15;
+
+pub(crate) const BEAT: u8 = PARTS as u8 - 1;
+
 /// Goes on to the first place of the turn, from this one on, at which there is something to do. Stays,
-/// where the member has ended. Out of line, it leaves those that call it small.
-#[inline(never)]
+/// where the member has ended. Where nothing of a vote is due, it goes past the parts of votes at once.
+#[inline(always)]
 pub(crate) fn settle(replica: &Replica, fate: &Fate, place: &mut Place)
     requires underway { IsUnderway (standing replica.now fate.now place.old) }
     requires fate { IsTimely fate.now replica.now.turns }
@@ -33,12 +40,26 @@ pub(crate) fn settle(replica: &Replica, fate: &Fate, place: &mut Place)
         return;
     }
     loop {
-        if let Some(column) = first_due(replica, fate, *place) {
-            place.column = column;
-            return;
+        match *part_of(*place) {
+            Part::Vote if is_calm(replica, fate) => place.part = PUSHES,
+            _ => {
+                if let Some(column) = first_due(replica, fate, *place) {
+                    place.column = column;
+                    return;
+                }
+                next_row(&replica.shape(), place);
+            }
         }
-        next_row(&replica.shape(), place);
     }
+}
+
+/// Whether nothing of a vote is due: no append has failed, the member suspects nobody, and no value that it
+/// has committed names it.
+#[inline(always)]
+fn is_calm(replica: &Replica, fate: &Fate) -> bool
+    ensures { result ≡ is_calm replica.now fate.now }
+{
+    fate.failed.is_none() && !replica.is_wedged() && !replica.is_named()
 }
 
 /// Goes on from what comes after the row to the first place at which there is something to do. Out of
@@ -65,7 +86,7 @@ fn first_due(replica: &Replica, fate: &Fate, place: Place) -> Option<usize>
         (columns_in (columns_of replica.now.roster replica.now.window) (part_of place)))
         (IsFirstDue (standing replica.now fate.now place) place) }
 {
-    match part_of(place) {
+    match *part_of(place) {
         Part::Push if replica.is_other(place.row) => {
             let columns = replica.shape().columns();
             let next = next_changed(replica, columns, place.row, place.column);
@@ -83,7 +104,7 @@ fn applies(replica: &Replica, fate: &Fate, place: Place) -> bool
     ensures { result ≡ applies (standing replica.now fate.now place) place }
 {
     let Place { row, column, .. } = place;
-    match part_of(place) {
+    match *part_of(place) {
         Part::Look => replica.is_other(row) && !replica.is_suspected(row),
         Part::Judge => may_judge(replica, fate),
         Part::Receive => replica.may_receive(row),
@@ -100,11 +121,11 @@ fn applies(replica: &Replica, fate: &Fate, place: Place) -> bool
 
 /// The part of a place.
 #[inline(always)]
-pub(crate) fn part_of(place: Place) -> Part
+pub(crate) fn part_of(place: Place) -> &'static Part
     requires { place.part < length TURN }
-    ensures { result ≡ part_of place }
+    ensures { result.now ≡ part_of place }
 {
-    TURN[usize::from(place.part)]
+    &TURN[usize::from(place.part)]
 }
 
 /// What is due at a place: the kind of its step, and the act that it does. The step itself would have the
@@ -131,7 +152,7 @@ pub(crate) fn due_at(replica: &Replica, fate: &Fate, place: Place) -> Due
     ensures { step_by result place (value_due replica.now)
         ≡ step_of (standing replica.now fate.now place) place }
 {
-    match part_of(place) {
+    match *part_of(place) {
         Part::Look => Due::Look,
         Part::Judge => Due::Act(judged(replica, fate)),
         Part::Receive => Due::Act(Act::Receive { sender: place.row }),
@@ -194,7 +215,7 @@ fn next_row(shape: &Shape, place: &mut Place)
     ensures { place.new ≡ next_row shape.now.members place.old }
 {
     place.column = 0;
-    if place.row + 1 < rows_in(shape, part_of(*place)) {
+    if place.row + 1 < rows_in(shape, *part_of(*place)) {
         place.row += 1;
         return;
     }
@@ -213,7 +234,7 @@ fn step_on(shape: &Shape, place: &mut Place)
     ensures { place.new ≡ after shape.now.members (columns_of shape.now.members shape.now.window) place.old }
 {
     let next = place.column + 1;
-    if next < columns_in(shape, part_of(*place)) {
+    if next < columns_in(shape, *part_of(*place)) {
         place.column = next;
     } else {
         next_row(shape, place);
@@ -249,7 +270,7 @@ pub(crate) fn go(shape: &Shape, place: &mut Place)
     ensures { place.new ≡ goes shape.now.members (columns_of shape.now.members shape.now.window)
         (part_of place.old) place.old }
 {
-    match part_of(*place) {
+    match *part_of(*place) {
         Part::Look | Part::Push => step_on(shape, place),
         Part::Append | Part::Vote | Part::Do(Act::Beat) => next_row(shape, place),
         Part::Do(Act::Publish) => place.part = place.part.saturating_sub(1),

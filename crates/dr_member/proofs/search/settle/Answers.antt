@@ -3,18 +3,20 @@ use Rattle.std.specs.Prelude.{is_some}
 use Rattle.dr_program.specs.declared.place.Place.{Place}
 use Rattle.dr_program.specs.Running.{applies}
 use Rattle.dr_turn.proofs.Staying.{settled_here, stops_end}
+use Rattle.dr_member.specs.declared.search.TheConstants.{PUSHES}
 use Rattle.dr_member.specs.Search.{next_row, standing}
 use Rattle.dr_member.proofs.Passing.{GoesBy, first_found, row_passed}
+use Rattle.dr_member.proofs.Votes.{votes_passed}
 use Rattle.dr_member.proofs.search.settle.Goals as goal
 
 goes : (c : goal.After-next_row)
-    → GoesBy (standing c.args.replica.now c.args.fate.now c.loop-column.place)
+    → GoesBy (standing c.args.replica.now c.args.fate.now c.loop-place.place)
     (standing c.args.replica.now c.args.fate.now c.next_row.new.place)
 goes c =
-    let r = standing c.args.replica.now c.args.fate.now c.loop-column.place in
+    let r = standing c.args.replica.now c.args.fate.now c.loop-place.place in
     subst (λ (x : Place). GoesBy r (standing c.args.replica.now c.args.fate.now x))
-    (sym (c.next_row.ensures ∙ ap (λ n. next_row n c.loop-column.place) c.shape.ensures.members))
-    (row_passed r c.loop-column.invariant.underway c.loop-column.invariant.none c.in_default.ensures)
+    (sym (c.next_row.ensures ∙ ap (λ n. next_row n c.loop-place.place) c.shape.ensures.members))
+    (row_passed r c.loop-place.invariant.underway c.loop-place.invariant.none c.in_default-first_due.ensures)
 
 pub returns-then-is_some : goal.returns-then-is_some
 returns-then-is_some c =
@@ -25,16 +27,33 @@ returns-then-is_some c =
 
 pub returns-in-Some : goal.returns-in-Some
 returns-in-Some c =
-    first_found (standing c.args.replica.now c.args.fate.now c.loop-column.place) c.in-Some.column
-    c.loop-column.invariant.underway c.loop-column.invariant.none c.in-Some.ensures
-    ∙ c.loop-column.invariant.same
+    first_found (standing c.args.replica.now c.args.fate.now c.loop-place.place) c.in-Some.column
+    c.loop-place.invariant.underway c.loop-place.invariant.none c.in-Some.ensures
+    ∙ c.loop-place.invariant.same
 
-pub loop-column-smaller : goal.loop-column-smaller
-loop-column-smaller c = (goes c).later
+pub loop-place-smaller : goal.loop-place-smaller
+loop-place-smaller c = (goes c).later
 
-pub loop-column-preserved : goal.loop-column-preserved
-loop-column-preserved c = record {
-  same = (goes c).same ∙ c.loop-column.invariant.same;
+pub loop-place-preserved : goal.loop-place-preserved
+loop-place-preserved c = record {
+  same = (goes c).same ∙ c.loop-place.invariant.same;
   underway = (goes c).underway;
-  none = c.loop-column.invariant.none;
+  none = c.loop-place.invariant.none;
+}
+
+past : (c : goal.After-place-1)
+    → GoesBy (standing c.args.replica.now c.args.fate.now c.loop-place.place)
+    (standing c.args.replica.now c.args.fate.now (record c.loop-place.place { part = PUSHES }))
+past c = votes_passed c.args.replica.now c.args.fate.now c.loop-place.place
+    c.loop-place.invariant.underway c.loop-place.invariant.none (sym c.part_of.ensures ∙ c.in-Vote.is)
+    (sym c.is_calm.ensures ∙ c.if-is_calm.true)
+
+pub loop-place-smaller-then-is_calm : goal.loop-place-smaller-then-is_calm
+loop-place-smaller-then-is_calm c = (past c).later
+
+pub loop-place-preserved-then-is_calm : goal.loop-place-preserved-then-is_calm
+loop-place-preserved-then-is_calm c = record {
+  same = (past c).same ∙ c.loop-place.invariant.same;
+  underway = (past c).underway;
+  none = c.loop-place.invariant.none;
 }

@@ -4,12 +4,12 @@ use Rattle.dr_turn.specs.Search.{IsUnderway, left}
 use Rattle.dr_member.specs.Search.{standing}
 use Rattle.dr_member.proofs.search.settle.Given as goal
 
-abbrev pub decreases-loop-column : goal.decreases-loop-column
-decreases-loop-column l = left (members (standing l.replica l.fate l.place))
+abbrev pub decreases-loop-place : goal.decreases-loop-place
+decreases-loop-place l = left (members (standing l.replica l.fate l.place))
     (columns (standing l.replica l.fate l.place)) l.place
 
-abbrev pub invariant-loop-column : goal.invariant-loop-column
-invariant-loop-column l = record {
+abbrev pub invariant-loop-place : goal.invariant-loop-place
+invariant-loop-place l = record {
   same : settled (standing l.replica l.fate l.place) ≡ settled (standing l.replica l.fate l.fn.place);
   underway : IsUnderway (standing l.replica l.fate l.place);
   none : l.replica.end ≡ None;

@@ -1,4 +1,4 @@
-use Rattle.std.proofs.Common.{ℕ, ap, ◌∙◌, arith}
+use Rattle.std.proofs.Common.{refl, ℕ, ap, ◌∙◌, arith}
 use Rattle.dr_words.specs.Columns.{columns_of}
 use Rattle.dr_machine.specs.declared.step.Step.TheVariants.{Do}
 use Rattle.dr_program.specs.Turn.{part_of}
@@ -13,32 +13,32 @@ use Rattle.dr_member.proofs.member.Member.acted.Goals as goal
 
 known : (c : goal.After-settle-arg-in-Act-2-1) (word : ℕ)
     → IsTaken word (view_of c.self.inside)
-    (Do c.in-Act.act) c.take.new.self c.note.new.self c.go.new.place
+    (Do c.in-Act.act) c.take_act.new.replica c.take_act.new.fate c.go.new.place
 known c word =
-    act_taken word c.args.self.now c.self.inside c.take.new.self c.note.new.self c.go.new.place
-    c.in-Act.act c.turns.result c.self.view_is c.self.invariant c.requires
+    act_taken word c.args.self.now c.self.inside c.take_act.new.replica c.take_act.new.fate c.go.new.place
+    c.in-Act.act c.take_act.new.replica.turns c.self.view_is c.self.invariant c.requires
     (step_is _ c.due_at.result c.self.inside.place (value_due c.self.inside.replica) c.in-Act.act
-    c.due_at.ensures c.in-Act.is) c.take.ensures.after c.take.ensures.form c.take.ensures.grown
+    c.due_at.ensures c.in-Act.is) c.take_act.ensures.after c.take_act.ensures.form c.take_act.ensures.grown
     (c.go.ensures
     ∙ (λ z. goes (c.shape.ensures.members z)
     (columns_of (c.shape.ensures.members z) (c.shape.ensures.window z))
     (part_of c.self.inside.place) c.self.inside.place))
-    c.note.ensures
+    c.take_act.ensures.fate
 
 answer : (c : goal.After-settle) (word : ℕ)
-    → IsAnswer word c.args.self.now (standing c.take.new.self c.note.new.self c.settle.new.place)
+    → IsAnswer word c.args.self.now (standing c.take_act.new.replica c.take_act.new.fate c.settle.new.place)
 answer c word = answer_at word _ c.args.self.now _ c.self.view_is
     (is_answer word _ _ _ _ _ c.settle.new.place
     (known c.before word) c.settle.ensures)
 
-pub take-requires-clause-may : goal.take-requires-clause-may
-take-requires-clause-may c =
+pub take_act-requires-clause-may : goal.take_act-requires-clause-may
+take_act-requires-clause-may c =
     act_allowed c.args.self.now c.self.inside c.in-Act.act c.self.view_is c.self.invariant c.requires
     (step_is _ c.due_at.result c.self.inside.place (value_due c.self.inside.replica) c.in-Act.act
     c.due_at.ensures c.in-Act.is)
 
-pub take-requires-clause-free : goal.take-requires-clause-free
-take-requires-clause-free c = act_free c.self.inside c.in-Act.act c.self.invariant
+pub take_act-requires-clause-free : goal.take_act-requires-clause-free
+take_act-requires-clause-free c = act_free c.self.inside c.in-Act.act c.self.invariant
     (step_is _ c.due_at.result c.self.inside.place (value_due c.self.inside.replica) c.in-Act.act
     c.due_at.ensures c.in-Act.is)
 
@@ -47,20 +47,20 @@ settle-requires-clause-underway c = (is_done 0 _ _ _ _ _ (known c 0)).underway
 
 pub settle-requires-clause-fate : goal.settle-requires-clause-fate
 settle-requires-clause-fate c =
-    acted_timely c.self.inside c.take.new.self c.note.new.self c.in-Act.act c.turns.result c.self.invariant
-    c.take.ensures.after c.note.ensures c.turns.ensures
+    acted_timely c.self.inside c.take_act.new.replica c.take_act.new.fate c.in-Act.act c.take_act.new.replica.turns c.self.invariant
+    c.take_act.ensures.after c.take_act.ensures.fate refl
 
 pub invariant_of-self : goal.invariant_of-self
 invariant_of-self c = record {
   form = (answer c 0).form;
-  fate = acted_timely c.self.inside c.take.new.self c.note.new.self c.in-Act.act c.turns.result
-      c.self.invariant c.take.ensures.after c.note.ensures c.turns.ensures;
+  fate = acted_timely c.self.inside c.take_act.new.replica c.take_act.new.fate c.in-Act.act c.take_act.new.replica.turns
+      c.self.invariant c.take_act.ensures.after c.take_act.ensures.fate refl;
   limit = omega (
     arith,
-    acted_limit c.self.inside c.note.new.self c.in-Act.act c.turns.result c.note.ensures,
+    acted_limit c.self.inside c.take_act.new.fate c.in-Act.act c.take_act.new.replica.turns c.take_act.ensures.fate,
     c.self.invariant.limit,
   );
-  bases = c.note-in-Act.ensures c.self.inside.replica c.self.invariant.bases c.take.ensures.after;
+  bases = c.take_act.ensures.bases c.self.invariant.bases;
 }
 
 pub returns-in-Act-clause-after : goal.returns-in-Act-clause-after

@@ -4,37 +4,24 @@ use Rattle.dr_machine.specs.declared.step.Step.TheVariants.{Append}
 use Rattle.dr_program.specs.Turn.{part_of}
 use Rattle.dr_program.specs.Running.{goes}
 use Rattle.dr_member.specs.Search.{standing}
-use Rattle.dr_member.proofs.Answers.{IsAnswer, answer_at, is_answer, is_done}
-use Rattle.dr_member.proofs.Moves.{append_taken, appended_timely, inside_after}
+use Rattle.dr_member.proofs.Answers.{IsAnswer}
+use Rattle.dr_member.proofs.Moves.{appended_timely, entry_answer, inside_after}
 use Rattle.dr_member.proofs.member.Member.entry_appended.Goals as goal
 
-answer : (c : goal.After-settle) (word : ℕ)
+answer : (c : goal.After-append) (word : ℕ)
     → IsAnswer word c.args.self.now
-    (standing c.append.new.self c.self.inside.fate c.settle.new.place)
-answer c word = answer_at word _ c.args.self.now _ c.self.view_is
-    (is_answer word _ _ _ _ _ c.settle.new.place
-    (append_taken word c.args.self.now c.self.inside Append c.append.new.self c.go.new.place
-    c.self.view_is c.self.invariant c.requires.due c.requires.step tt
+    (standing c.append.new.self c.self.inside.fate c.go.new.place)
+answer c word = entry_answer word c.args.self.now c.self.inside c.append.new.self c.go.new.place
+    c.self.view_is c.self.invariant c.requires.due c.requires.step
     c.append.ensures.after c.append.ensures.form c.append.ensures.grown
     (c.go.ensures
     ∙ (λ z. goes (c.shape.ensures.members z)
     (columns_of (c.shape.ensures.members z) (c.shape.ensures.window z))
-    (part_of c.self.inside.place) c.self.inside.place)))
-    c.settle.ensures)
-
-pub settle-requires-clause-underway : goal.settle-requires-clause-underway
-settle-requires-clause-underway c = (is_done 0 _ _ _ _ _
-    (append_taken 0 c.args.self.now c.self.inside Append c.append.new.self c.go.new.place
-    c.self.view_is c.self.invariant c.requires.due c.requires.step tt
-    c.append.ensures.after c.append.ensures.form c.append.ensures.grown
-    (c.go.ensures
-    ∙ (λ z. goes (c.shape.ensures.members z)
-    (columns_of (c.shape.ensures.members z) (c.shape.ensures.window z))
-    (part_of c.self.inside.place) c.self.inside.place)))).underway
+    (part_of c.self.inside.place) c.self.inside.place))
 
 pub invariant_of-self : goal.invariant_of-self
 invariant_of-self c =
-    inside_after c.self.inside c.append.new.self c.self.inside.fate c.settle.new.place 0 Append
+    inside_after c.self.inside c.append.new.self c.self.inside.fate c.go.new.place 0 Append
     refl c.self.invariant c.append.ensures.after (answer c 0).form
     (appended_timely c.self.inside Append c.append.new.self c.self.invariant tt c.append.ensures.after) refl
 

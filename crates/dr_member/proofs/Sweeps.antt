@@ -1,0 +1,421 @@
+-- A member along a row of its looks or of its pushes, in the terms of the code's fields.
+use Rattle.std.proofs.Common.{◌≡◌, refl, sym, ap, ◌∙◌, subst, ℕ, ◌+◌, ◌<◌, ◌≤◌, ◌&&◌, Bool, true, false, not, arith}
+use Rattle.std.specs.Prelude.{None, Option, Some}
+use Rattle.std.proofs.lemmas.Bool.{and_parts}
+use Rattle.dr_rows.specs.Words.{changed, own, seen}
+use Rattle.dr_suspect.specs.Waits.{Waits, compared}
+use Rattle.dr_words.specs.Columns.{columns_of}
+use Rattle.dr_words.specs.Form.{IsInForm}
+use Rattle.dr_words.specs.Grown.{Grown, HasGrown}
+use Rattle.dr_words.proofs.Order.{Grown_refl, Grown_trans}
+use Rattle.dr_machine.specs.Effects.{one_more}
+use Rattle.dr_machine.specs.declared.step.Step.TheVariants as steps
+use Rattle.dr_program.specs.declared.deed.Deed.{Deed}
+use Rattle.dr_program.specs.declared.deed.Deed.TheVariants as deeds
+use Rattle.dr_program.specs.declared.outcome.LogWhy.{LogWhy}
+use Rattle.dr_program.specs.declared.place.Part.{Part}
+use Rattle.dr_program.specs.declared.place.Part.TheVariants as parts
+use Rattle.dr_program.specs.declared.place.Place.{Place}
+use Rattle.dr_program.specs.Form.{HasForm, IsRunningMember}
+use Rattle.dr_program.specs.Reading.{step_of_member}
+use Rattle.dr_program.specs.Replica.{Replica, is_other, looked, me, pushed, value_due}
+use Rattle.dr_program.specs.Running.{Running, append_or_end, crashes_now, deed, deed_of, next_deed, push_or_crash, settled, step_at, vote_or_end}
+use Rattle.dr_program.specs.Sight.{MaySee}
+use Rattle.dr_program.specs.Steps.{NoWordFell, allows, has_cell, index_in}
+use Rattle.dr_program.specs.Turn.{IsIn, columns_in, part_of, rows_in}
+use Rattle.dr_turn.specs.Work.{IsStill, deeds_left}
+use Rattle.dr_member.specs.Deeds.{is_look, is_push}
+use Rattle.dr_member.specs.declared.member.Member.TheInside.{Inside}
+use Rattle.dr_member.specs.Inside.{IsInside, view_of}
+use Rattle.dr_member.specs.Search.{next_row, standing}
+use Rattle.dr_member.proofs.Answers.{IsAnswer}
+use Rattle.dr_member.proofs.Dues.{IsCellOf, allowed, deed_due, is_cell, look_due, push_due}
+use Rattle.dr_member.proofs.Indices.{IsIndex, is_index}
+use Rattle.dr_member.proofs.Moves.{IsLooked, IsPushed, IsWaited, columns_after, counted, inside_after, is_looked, is_pushed, looked_past, looked_row_timely, looked_timely, looked_within, pushed_timely, pushed_within, waited}
+
+-- the member inside has come from another one, and this deed is due to it
+pub record IsOnRow (d : Deed) (from : Running) (a : Inside) : Type 0 where
+  pub inside : IsInside a
+  pub due : next_deed (view_of a) ≡ d
+  pub roster : a.replica.roster ≡ from.replica.roster
+  pub grown : NoWordFell from.replica a.replica
+  pub still : IsStill from (view_of a)
+  pub left : deeds_left (view_of a) ≤ deeds_left from
+
+-- the member inside, at this column of its row
+abbrev pub at_column : Inside → ℕ → Inside
+at_column a column = record a { place = record a.place { column = column } }
+
+-- so it is where it sets out
+row_begins : (d : Deed) (from : Running) (a : Inside) → view_of a ≡ from → IsInside a
+    → next_deed (view_of a) ≡ d → IsOnRow d from a
+row_begins d from a view is due = subst (λ r. IsOnRow d r a) view (record {
+  inside = is;
+  due = due;
+  roster = refl;
+  grown = Grown_refl a.replica.roster a.replica.rows.words a.replica.rows.frozen;
+  still = λ g m of. of;
+  left = omega arith;
+})
+
+module _ (d : Deed) (from : Running) (a : Inside) (is : IsOnRow d from a) where
+  -- what is so behind one more deed
+  row_grown : (q : Replica) → NoWordFell a.replica q → NoWordFell from.replica q
+  row_grown q grown =
+      Grown_trans from.replica.roster from.replica.rows.words a.replica.rows.words q.rows.words
+      from.replica.rows.frozen a.replica.rows.frozen q.rows.frozen is.grown
+      (subst (λ n. Grown n a.replica.rows.words q.rows.words a.replica.rows.frozen q.rows.frozen) is.roster
+      grown)
+
+  row_falls : (word : ℕ) (x : Running) → IsAnswer word (view_of a) x → deeds_left x < deeds_left from
+  row_falls word x done = let fewer = done.done.fewer in let left = is.left in omega (arith, fewer, left)
+
+  row_still : (word : ℕ) (x : Running) → IsAnswer word (view_of a) x → IsStill from x
+  row_still word x done g m of = done.done.still g m (is.still g m of)
+
+  -- where that one left another due to it
+  row_on : (word : ℕ) (e : Deed) (b : Inside) → IsInside b → IsAnswer word (view_of a) (view_of b)
+      → b.replica.roster ≡ a.replica.roster → NoWordFell a.replica b.replica → next_deed (view_of b) ≡ e
+      → IsOnRow e from b
+  row_on word e b inside done roster grown due = record {
+    inside = inside;
+    due = due;
+    roster = roster ∙ is.roster;
+    grown = row_grown b.replica grown;
+    still = row_still word (view_of b) done;
+    left = let less = row_falls word (view_of b) done in omega (arith, less);
+  }
+
+-- ---- the deed that is due
+
+-- at a look, and at a push before which the member doesn't crash
+look_deed : (r : Running) → r.replica.end ≡ None → part_of r.place ≡ parts.Look
+    → next_deed r ≡ deeds.Look (index_in r.replica (me r.replica) r.place.row r.place.column)
+look_deed r none at =
+    ap (deed r) none ∙ ap (λ part. deed_of r (step_at r part r.place.row r.place.column)) at
+
+push_deed : (r : Running) → r.replica.end ≡ None → part_of r.place ≡ parts.Push → crashes_now r ≡ false
+    → next_deed r ≡ deeds.Push (index_in r.replica r.place.row (me r.replica) r.place.column)
+    (own r.replica.rows r.place.column)
+push_deed r none at later =
+    ap (deed r) none ∙ ap (λ part. deed_of r (step_at r part r.place.row r.place.column)) at
+    ∙ ap (λ b. deed_of r (push_or_crash b r.place.row r.place.column)) later
+
+-- deeds that are one name one index
+same_look : (x y : ℕ) → deeds.Look x ≡ deeds.Look y → x ≡ y
+same_look x y e = cc
+
+same_push : (x y v w : ℕ) → deeds.Push x v ≡ deeds.Push y w → x ≡ y
+same_push x y v w e = cc
+
+-- the member is at a look, whatever it sees
+record IsAtLook (r : Running) : Type 0 where
+  none : r.replica.end ≡ None
+  at : part_of r.place ≡ parts.Look
+  cell : IsCellOf r r.place.row r.place.column
+
+-- only the part of looks has one
+look_part : (r : Running) (part : Part) (i c : ℕ) → is_look (deed_of r (step_at r part i c)) ≡ true
+    → part ≡ parts.Look
+look_part r parts.Look i c e = refl
+look_part r parts.Push i c e = absurd (by (crashes_now r) e)
+  where
+    by : (b : Bool) → is_look (deed_of r (push_or_crash b i c)) ≡ true → ⊥
+    by true e = cc
+    by false e = cc
+look_part r parts.Append i c e = absurd (by r.failed e)
+  where
+    by : (o : Option LogWhy) → is_look (deed_of r (append_or_end o)) ≡ true → ⊥
+    by None e = cc
+    by (Some why) e = cc
+look_part r parts.Vote i c e = absurd (by r.failed e)
+  where
+    by : (o : Option LogWhy) → is_look (deed_of r (vote_or_end o (value_due r.replica))) ≡ true → ⊥
+    by None e = cc
+    by (Some why) e = cc
+look_part r part i c e = absurd (cc)
+
+-- a running member whose next deed is a look is at one
+at_look : (r : Running) → IsRunningMember r → is_look (next_deed r) ≡ true → IsAtLook r
+at_look r m e =
+    let due = deed_due is_look (λ end. refl) r e in
+    let at = look_part r (part_of r.place) r.place.row r.place.column due.1 in
+    let may = allowed r m due.0 (steps.Look r.place.row r.place.column)
+    (ap (λ x. step_at r x r.place.row r.place.column) at) in
+    record {
+      none = due.0;
+      at = at;
+      cell = is_cell r r.place.row r.place.column
+          (and_parts _ (has_cell r.replica r.place.row r.place.column) may).1;
+    }
+
+-- its own row is one of its roster
+me_within : (a : Inside) → IsInside a → me a.replica < a.replica.roster
+me_within a is = omega (arith, is.form.replica.rows.present, is.form.replica.members)
+
+-- ---- as a row begins
+
+-- the deed that is due names the index of the row's first word, and so many words more
+pub looks_begin : (from : Running) (a : Inside) (first : ℕ) → view_of a ≡ from → IsInside a
+    → is_look (next_deed from) ≡ true → first ≡ index_in from.replica (me from.replica) a.place.row 0
+    → IsOnRow (deeds.Look (first + a.place.column)) from a
+looks_begin from a first view is due index =
+    let at = at_look (view_of a) is.form (subst (λ r. is_look (next_deed r) ≡ true) (sym view) due) in
+    let start : first ≡ index_in a.replica (me a.replica) a.place.row 0 =
+    index ∙ ap (λ (r : Running). index_in r.replica (me r.replica) a.place.row 0) (sym view) in
+    row_begins (deeds.Look (first + a.place.column)) from a view is
+    (look_deed (view_of a) at.none at.at ∙ ap deeds.Look (omega (arith, start)))
+
+pub pushes_begin : (from : Running) (a : Inside) (first : ℕ) → view_of a ≡ from → IsInside a
+    → is_push (next_deed from) ≡ true → first ≡ index_in from.replica a.place.row (me from.replica) 0
+    → IsOnRow (deeds.Push (first + a.place.column) (own a.replica.rows a.place.column)) from a
+pushes_begin from a first view is due index =
+    let at = push_due (view_of a) is.form (subst (λ r. is_push (next_deed r) ≡ true) (sym view) due) in
+    let start : first ≡ index_in a.replica a.place.row (me a.replica) 0 =
+    index ∙ ap (λ (r : Running). index_in r.replica a.place.row (me r.replica) 0) (sym view) in
+    row_begins (deeds.Push (first + a.place.column) (own a.replica.rows a.place.column)) from a view is
+    (push_deed (view_of a) at.none at.at at.later
+    ∙ ap (λ i. deeds.Push i (own a.replica.rows a.place.column)) (omega (arith, start)))
+
+-- ---- at a deed of a row
+
+-- the index that the deed names is one of the table
+pub look_index : (from : Running) (a : Inside) (sum : ℕ) → IsOnRow (deeds.Look sum) from a
+    → IsIndex (view_of a) sum (me a.replica) a.place.row a.place.column
+look_index from a sum is =
+    let at = at_look (view_of a) is.inside.form (ap is_look is.due) in
+    is_index (view_of a) sum (me a.replica) a.place.row a.place.column is.inside.form.replica
+    is.inside.bases.small (me_within a is.inside) at.cell.row at.cell.column
+    (same_look _ _ (sym is.due ∙ look_deed (view_of a) at.none at.at))
+
+pub push_index : (from : Running) (a : Inside) (sum word : ℕ) → IsOnRow (deeds.Push sum word) from a
+    → IsIndex (view_of a) sum a.place.row (me a.replica) a.place.column
+push_index from a sum word is =
+    let at = push_due (view_of a) is.inside.form (ap is_push is.due) in
+    is_index (view_of a) sum a.place.row (me a.replica) a.place.column is.inside.form.replica
+    is.inside.bases.small at.cell.row (me_within a is.inside) at.cell.column
+    (same_push _ _ _ _ (sym is.due ∙ push_deed (view_of a) at.none at.at at.later))
+
+-- what its replica asks of a look at a word in a row and a column
+pub record IsLookOf (r : Replica) (i c word : ℕ) : Type 0 where
+  pub row : i < r.roster
+  pub other : is_other r i ≡ true
+  pub may : allows r (steps.Look i c) ≡ true
+  pub in_form : IsInForm r.roster c word
+  pub grown : HasGrown r.roster c (seen r.rows i c) word
+
+-- a word that the member may see is such a one
+pub look_takes : (a : Inside) (row word : ℕ) → IsInside a
+    → MaySee (view_of a) (step_of_member (view_of a)) word → a.place.row ≡ row
+    → IsLookOf a.replica row a.place.column word
+look_takes a row word is may same =
+    let due = look_due (view_of a) word is.form may in
+    subst (λ i. IsLookOf a.replica i a.place.column word) same (record {
+      row = due.cell.row;
+      other = due.cell.other;
+      may = due.may;
+      in_form = due.seen.form;
+      grown = due.seen.grown;
+    })
+
+-- so the row isn't suspected
+pub untrue : (a b : Bool) → (not a && b) ≡ true → a ≡ false
+untrue true b e = absurd (cc)
+untrue false b e = refl
+
+-- the row of a look, or of a push, is one of its roster, behind it as well
+pub look_row_stays : (r q : Replica) (i c word : ℕ) → IsLookOf r i c word → q ≡ looked r i c word
+    → i < q.roster
+look_row_stays r q i c word is after = subst (λ (x : Replica). i < x.roster) (sym after) is.row
+
+pub push_row_stays : (from : Running) (a : Inside) (q : Replica) (row sum word : ℕ)
+    → IsOnRow (deeds.Push sum word) from a → a.place.row ≡ row → q ≡ pushed a.replica row a.place.column
+    → row < q.roster
+push_row_stays from a q row sum word is same after =
+    let within = (push_due (view_of a) is.inside.form (ap is_push is.due)).cell.row in
+    subst (λ (x : Replica). row < x.roster) (sym after) (omega (arith, within, same))
+
+-- what is known once the look, or the push, was done
+pub saw : (a : Inside) (q : Replica) (row word : ℕ) → IsInside a
+    → MaySee (view_of a) (step_of_member (view_of a)) word → a.place.row ≡ row
+    → q ≡ looked a.replica row a.place.column word → HasForm q → NoWordFell a.replica q
+    → IsLooked a.replica q a.fate a.place word
+saw a q row word is may same after form grown = is_looked (view_of a) a q word refl is may
+    (after ∙ ap (λ i. looked a.replica i a.place.column word) (sym same)) form grown
+
+pub wrote : (from : Running) (a : Inside) (q : Replica) (row sum word n t : ℕ)
+    → IsOnRow (deeds.Push sum word) from a → a.place.row ≡ row → q ≡ pushed a.replica row a.place.column
+    → HasForm q → NoWordFell a.replica q → n ≡ one_more 32 a.fate.pushes
+    → ((x : ℕ) → a.place.column + 1 ≤ x → x < t → changed q.rows row x ≡ false)
+    → a.place.column + 1 ≤ t → t ≤ columns_of q.roster q.window → IsPushed a.replica q a.fate a.place n t
+wrote from a q row sum word n t is same after form grown pushes unchanged above within =
+    is_pushed (view_of a) a q n t refl is.inside (ap is_push is.due)
+    (after ∙ ap (λ i. pushed a.replica i a.place.column) (sym same)) form grown pushes
+    (λ x l h. ap (λ i. changed q.rows i x) same ∙ unchanged x l h) above within
+
+-- the columns of the row, behind a push
+pub pushed_columns : (a : Inside) (q : Replica) (row : ℕ) → IsInside a → a.place.row ≡ row
+    → q ≡ pushed a.replica row a.place.column → a.bases.columns ≡ columns_of q.roster q.window
+pushed_columns a q row is same after =
+    columns_after a q 0 (steps.Push a.place.row a.place.column) refl is
+    (after ∙ ap (λ i. pushed a.replica i a.place.column) (sym same))
+
+-- and the next column is one of them, or behind the last
+pub pushed_from : (from : Running) (a : Inside) (q : Replica) (row sum word : ℕ)
+    → IsOnRow (deeds.Push sum word) from a → q ≡ pushed a.replica row a.place.column
+    → a.place.column + 1 ≤ columns_of q.roster q.window
+pushed_from from a q row sum word is after =
+    let within = (push_due (view_of a) is.inside.form (ap is_push is.due)).cell.column in
+    subst (λ (x : Replica). a.place.column + 1 ≤ columns_of x.roster x.window) (sym after)
+    (omega (arith, within))
+
+-- the place as it was written down, at a column that the member has left behind
+pub stale_in : (a : Inside) (q : Replica) (column : ℕ) → IsInside a → q.roster ≡ a.replica.roster
+    → q.window ≡ a.replica.window → column ≤ a.place.column
+    → IsIn q.roster (columns_of q.roster q.window) (record a.place { column = column })
+stale_in a q column is roster window behind =
+    let in_turn = is.form.place in record {
+      part = in_turn.part;
+      row = subst (λ n. a.place.row < rows_in n (part_of a.place)) (sym roster) in_turn.row;
+      column =
+          let within : column < columns_in (columns_of a.replica.roster a.replica.window) (part_of a.place) =
+          let inner = in_turn.column in omega (arith, inner, behind) in
+          subst (λ n. column < columns_in n (part_of a.place)) (λ z. columns_of (sym roster z) (sym window z))
+          within;
+    }
+
+-- ---- the next column
+
+-- a look leaves a member on the row, where there is a next column
+pub look_on : (from : Running) (a : Inside) (q : Replica) (first word : ℕ)
+    → IsOnRow (deeds.Look (first + a.place.column)) from a
+    → IsLooked a.replica q a.fate a.place word → a.place.column + 1 < a.bases.columns
+    → IsOnRow (deeds.Look (first + (a.place.column + 1))) from
+    (record a { replica = q; place = record a.place { column = a.place.column + 1 } })
+    × IsAnswer word (view_of a) (standing q a.fate (record a.place { column = a.place.column + 1 }))
+look_on from a q first word is l within = (
+  row_on (deeds.Look (first + a.place.column)) from a is word _ b
+      (inside_after a q a.fate b.place word (steps.Look a.place.row a.place.column) refl is.inside l.after
+      answer.form (looked_timely a q a.place.row a.place.column word is.inside l.after) refl)
+      answer (ap (λ (r : Replica). r.roster) l.after) l.grown due,
+  answer,
+)
+  where
+    b : Inside
+    b = record a { replica = q; place = record a.place { column = a.place.column + 1 } }
+
+    inner : a.place.column + 1 < columns_of q.roster q.window
+    inner = omega (
+      arith,
+      within,
+      columns_after a q word (steps.Look a.place.row a.place.column) refl is.inside l.after,
+    )
+
+    answer : IsAnswer word (view_of a) (view_of b)
+    answer = looked_within (view_of a) a.replica q a.fate a.place word refl l inner
+
+    was : first + a.place.column ≡ index_in a.replica (me a.replica) a.place.row a.place.column
+    was = same_look _ _ (sym is.due ∙ look_deed (view_of a) l.due.none l.due.at)
+
+    now : index_in q (me q) a.place.row (a.place.column + 1) ≡ first + (a.place.column + 1)
+    now = ap (λ (r : Replica). index_in r (me r) a.place.row (a.place.column + 1)) l.after
+        ∙ omega (arith, was)
+
+    due : next_deed (view_of b) ≡ deeds.Look (first + (a.place.column + 1))
+    due = look_deed (view_of b) (ap (λ (r : Replica). r.end) l.after ∙ l.due.none) l.due.at
+        ∙ ap deeds.Look now
+
+-- a push leaves it there, where there is a next changed column t and it doesn't crash before that one's push
+pub push_on : (from : Running) (a : Inside) (q : Replica) (first n t : ℕ)
+    → IsOnRow (deeds.Push (first + a.place.column) (own a.replica.rows a.place.column)) from a
+    → IsPushed a.replica q a.fate a.place n t → t < a.bases.columns
+    → (t < columns_of q.roster q.window → changed q.rows a.place.row t ≡ true)
+    → crashes_now (standing q (counted a.fate n) (record a.place { column = t })) ≡ false
+    → IsOnRow (deeds.Push (first + t) (own q.rows t)) from
+    (record a { replica = q; fate = counted a.fate n; place = record a.place { column = t } })
+    × IsAnswer 0 (view_of a) (standing q (counted a.fate n) (record a.place { column = t }))
+push_on from a q first n t is l within changes later = (
+  row_on (deeds.Push (first + a.place.column) (own a.replica.rows a.place.column)) from a is 0 _ b
+      (inside_after a q b.fate b.place 0 (steps.Push a.place.row a.place.column) refl is.inside l.after
+      answer.form (pushed_timely a.replica q a.fate a.place n t l) refl)
+      answer (ap (λ (r : Replica). r.roster) l.after) l.grown due,
+  answer,
+)
+  where
+    b : Inside
+    b = record a { replica = q; fate = counted a.fate n; place = record a.place { column = t } }
+
+    inner : t < columns_of q.roster q.window
+    inner = omega (
+      arith,
+      within,
+      columns_after a q 0 (steps.Push a.place.row a.place.column) refl is.inside l.after,
+    )
+
+    answer : IsAnswer 0 (view_of a) (view_of b)
+    answer = pushed_within (view_of a) a.replica q a.fate a.place n t 0 refl l inner (changes inner)
+
+    was : first + a.place.column ≡ index_in a.replica a.place.row (me a.replica) a.place.column
+    was = same_push _ _ _ _ (sym is.due ∙ push_deed (view_of a) l.due.none l.due.at l.due.later)
+
+    now : index_in q a.place.row (me q) t ≡ first + t
+    now = ap (λ (r : Replica). index_in r a.place.row (me r) t) l.after ∙ omega (arith, was)
+
+    due : next_deed (view_of b) ≡ deeds.Push (first + t) (own q.rows t)
+    due = push_deed (view_of b) (ap (λ (r : Replica). r.end) l.after ∙ l.due.none) l.due.at later
+        ∙ ap (λ i. deeds.Push i (own q.rows t)) now
+
+-- ---- the end of a row
+
+-- the member inside took one more deed of the row, and left it
+pub record HasLeft (word : ℕ) (from r : Running) (b : Inside) : Type 0 where
+  pub inside : IsInside b
+  pub answer : IsAnswer word r (view_of b)
+  pub grown : NoWordFell from.replica b.replica
+  pub falls : deeds_left (view_of b) < deeds_left from
+  pub still : IsStill from (view_of b)
+
+-- the row was waited for behind its last column
+pub was_waited : (a : Inside) (q : Replica) (row word : ℕ) (w : Waits) → IsInside a
+    → IsLooked a.replica q a.fate a.place word → a.bases.columns ≤ a.place.column + 1 → a.place.row ≡ row
+    → w ≡ compared a.fate.waits q.rows row → IsWaited q a.fate a.place w
+was_waited a q row word w is l past same waits = record {
+  past = omega (
+    arith,
+    past,
+    columns_after a q word (steps.Look a.place.row a.place.column) refl is l.after,
+  );
+  waits = waits ∙ ap (compared a.fate.waits q.rows) (sym same);
+}
+
+-- after a look at the last column
+pub looks_end : (from : Running) (a : Inside) (q : Replica) (s : Place) (sum word : ℕ) (w : Waits)
+    → IsOnRow (deeds.Look sum) from a → IsLooked a.replica q a.fate a.place word
+    → IsWaited q a.fate a.place w
+    → standing q (waited a.fate w) s ≡ settled (standing q (waited a.fate w) (next_row q.roster a.place))
+    → HasLeft word from (view_of a) (record a { replica = q; place = s; fate = waited a.fate w })
+looks_end from a q s sum word w is l past e =
+    let answer : IsAnswer word (view_of a) (standing q (waited a.fate w) s) =
+    looked_past (view_of a) a.replica q a.fate a.place s word w refl l past e in record {
+      inside = inside_after a q (waited a.fate w) s word (steps.Look a.place.row a.place.column) refl
+          is.inside l.after answer.form
+          (looked_row_timely a q a.place.row a.place.column word w is.inside l.after) refl;
+      answer = answer;
+      grown = row_grown (deeds.Look sum) from a is q l.grown;
+      falls = row_falls (deeds.Look sum) from a is word _ answer;
+      still = row_still (deeds.Look sum) from a is word _ answer;
+    }
+
+-- after a push behind which no column has changed, or the member crashes at the next one
+pub pushes_end : (from : Running) (a : Inside) (q : Replica) (s : Place) (sum word n t : ℕ)
+    → IsOnRow (deeds.Push sum word) from a → IsPushed a.replica q a.fate a.place n t
+    → IsAnswer 0 (view_of a) (standing q (counted a.fate n) s)
+    → HasLeft 0 from (view_of a) (record a { replica = q; place = s; fate = counted a.fate n })
+pushes_end from a q s sum word n t is l answer = record {
+  inside = inside_after a q (counted a.fate n) s 0 (steps.Push a.place.row a.place.column) refl is.inside
+      l.after answer.form (pushed_timely a.replica q a.fate a.place n t l) refl;
+  answer = answer;
+  grown = row_grown (deeds.Push sum word) from a is q l.grown;
+  falls = row_falls (deeds.Push sum word) from a is 0 _ answer;
+  still = row_still (deeds.Push sum word) from a is 0 _ answer;
+}

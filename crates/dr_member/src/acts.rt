@@ -1,0 +1,39 @@
+//! What an act makes of a member.
+ghost use Rattle.std.specs.Prelude.{◌≡◌, true};
+ghost use Rattle.dr_machine.specs.declared.step.Step.TheVariants.{Do};
+ghost use Rattle.dr_program.specs.Acts.{may, taken};
+ghost use Rattle.dr_program.specs.Form.{HasForm};
+ghost use Rattle.dr_program.specs.Steps.{NoWordFell, is_free};
+ghost use Rattle.dr_member.specs.Bases.{AreBases};
+ghost use Rattle.dr_member.specs.Fate.{fate_after};
+
+use crate::bases::Bases;
+use crate::fate::Fate;
+use dr_machine::Act;
+use dr_replica::Replica;
+
+/// Does an act of a member, which may begin a turn, or a view, whose words stand elsewhere. One test of the
+/// act serves all of it.
+#[inline(always)]
+pub(crate) fn take_act(act: Act, replica: &mut Replica, fate: &mut Fate, bases: &mut Bases)
+    requires may { may replica.old act ≡ true }
+    requires free { is_free replica.old (Do act) ≡ true }
+    ensures after { replica.new ≡ taken replica.old act }
+    ensures grown { replica.new.view ≡ replica.old.view → NoWordFell replica.old replica.new }
+    ensures form { HasForm replica.new }
+    ensures fate { fate.new ≡ fate_after fate.old act replica.new.turns }
+    ensures bases { AreBases bases.old replica.old → AreBases bases.new replica.new }
+{
+    match act {
+        Act::Beat => {
+            replica.take(act);
+            fate.begin_turn(replica.turns());
+        }
+        Act::Finish => {
+            replica.take(act);
+            fate.begin_view();
+            *bases = Bases::of(replica);
+        }
+        _ => replica.take(act),
+    }
+}
