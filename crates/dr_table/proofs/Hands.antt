@@ -26,11 +26,11 @@ use Rattle.dr_words.specs.Layout.{words_of}
 use Rattle.dr_words.specs.Columns.{columns_of}
 use Rattle.dr_words.proofs.Places.{word_index_within}
 use Rattle.dr_turn.specs.Work.{deeds_left}
-use Rattle.dr_table.specs.Cards.{AreFew, AreOf, AreReached, Cards, HasEnded, HasFewerLeft, HasGoneOn, HasLooked, HaveRoom, opened}
+use Rattle.dr_table.specs.Cards.{AreFew, AreOf, AreReached, Cards, HasEnded, HasFewerLeft, HasGoneOn, HaveRoom, opened}
 use Rattle.dr_table.specs.declared.hand.Hand.TheInside.{Inside}
 use Rattle.dr_table.specs.Inside.{IsInside}
 use Rattle.dr_table.specs.Rule.{Found, IsDealt, IsKept, number}
-use Rattle.dr_table.specs.Steps.{AreAhead, HasAppended, IsAhead, IsReachedMember, MayFind}
+use Rattle.dr_table.specs.Steps.{AreAhead, HasAppended, IsAhead, IsReachedMember}
 use Rattle.dr_table.proofs.Deeds.{append_due, appends_told}
 use Rattle.dr_table.proofs.Lists.{at_append, at_drop, at_set, at_take, same_elements}
 
@@ -60,16 +60,16 @@ each_append P rs qs each too k r there = elim (at_append rs qs k r there) [
 
 -- ---- what the seat knows of them
 
-pub ahead_set : (v rs : List Running) (at : ℕ) (x : Running) → AreAhead v rs
-    → AreAhead (slice_set v at x) (slice_set rs at x)
-ahead_set v rs at x are = record {
-  all = length-set v at x ∙ are.all ∙ sym (length-set rs at x);
+pub ahead_set : (v rs : List Running) (at : ℕ) (x y : Running) → IsAhead x y → AreAhead v rs
+    → AreAhead (slice_set v at x) (slice_set rs at y)
+ahead_set v rs at x y (os, so) are = record {
+  all = length-set v at x ∙ are.all ∙ sym (length-set rs at y);
   each = λ k r q there here. elim (at_set v at k x r there) [
-    | inl now ↦ elim (at_set rs at k x q here) [
-      | inl too ↦ ([], sym now.1 ∙ too.1)
+    | inl now ↦ elim (at_set rs at k y q here) [
+      | inl too ↦ (os, subst (λ z. HasAppended os z q) now.1 (subst (HasAppended os x) too.1 so))
       | inr other ↦ absurd (other.0 now.0)
     ]
-    | inr apart ↦ elim (at_set rs at k x q here) [
+    | inr apart ↦ elim (at_set rs at k y q here) [
       | inl now ↦ absurd (apart.0 now.0)
       | inr too ↦ are.each k r q apart.1 too.1
     ]
@@ -285,10 +285,9 @@ pub read : (w : Cards) (items : List Running) (i : ℕ) (m : Running) → items 
 read w items i m is within at = slice_get_read items (length w.members) i m (ap length (sym is)) within at
 
 pub ahead_step : (v w rs : List Running) (at : ℕ) (x y : Running) → AreAhead v rs → w ≡ slice_set v at x
-    → y ≡ x → AreAhead w (slice_set rs at y)
-ahead_step v w rs at x y are to same =
-    subst (λ l. AreAhead l (slice_set rs at y)) (sym to)
-    (subst (λ z. AreAhead (slice_set v at x) (slice_set rs at z)) (sym same) (ahead_set v rs at x are))
+    → IsAhead x y → AreAhead w (slice_set rs at y)
+ahead_step v w rs at x y are to ahead =
+    subst (λ l. AreAhead l (slice_set rs at y)) (sym to) (ahead_set v rs at x y ahead are)
 
 pub of_step : (n k : ℕ) (rs : List Running) (at : ℕ) (r x : Running) → n ≡ k → AreOf n rs
     → slice_get rs at ≡ Some r → told x.replica ≡ told r.replica → AreOf k (slice_set rs at x)
@@ -327,17 +326,6 @@ pub went_on : (old items : List Running) (at : ℕ) (m x : Running) → items �
 went_on old items at m x is here to r there =
     let same = same_Some m r (sym here ∙ ap (λ l. slice_get l at) is ∙ there) in
     λ k. slice_set (is k) at ((to ∙ ap (after_step 0) same) k)
-
-pub went_looking : (old items : List Running) (at : ℕ) (m x : Running) (word : ℕ) → items ≡ old
-    → slice_get items at ≡ Some m → x ≡ after_step word m → MayFind m word
-    → HasLooked old at (slice_set items at x)
-went_looking old items at m x word is here to may r there =
-    let same = same_Some m r (sym here ∙ ap (λ l. slice_get l at) is ∙ there) in (
-      word,
-      subst (λ q. MayFind q word) same may,
-      λ k. slice_set (is k) at
-          ((to ∙ ap (after_step word) same) k),
-    )
 
 pub went_so : (f : Running → Running) (old items : List Running) (at : ℕ) (m x : Running) → items ≡ old
     → slice_get items at ≡ Some m → x ≡ f m

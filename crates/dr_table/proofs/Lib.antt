@@ -5,3 +5,4 @@ pub mod Keeping
 pub mod Cuts
 pub mod Room
 pub mod Hands
+pub mod Sweeps

@@ -6,7 +6,7 @@ use Rattle.dr_program.specs.Program.{Program}
 use Rattle.dr_program.specs.Running.{Running, after_step}
 use Rattle.dr_turn.specs.Work.{deeds_left}
 use Rattle.dr_table.specs.Rule.{number}
-use Rattle.dr_table.specs.Steps.{IsReachedMember, MayFind}
+use Rattle.dr_table.specs.Steps.{IsReachedMember}
 
 -- a table, and members over its words: those that were dealt, or those that a hand holds
 pub record Cards : Type 0 where
@@ -47,12 +47,7 @@ HasEnded r = IsTrue (is_some r.replica.end)
 abbrev pub AreSame : List Running → List Running → Type 0
 AreSame before after = map number after ≡ map number before
 
--- the member at this place of a hand has looked, at a word that it may find
-abbrev pub HasLooked : List Running → ℕ → List Running → Type 0
-HasLooked old at new = (r : Running) → slice_get old at ≡ Some r
-    → (word : ℕ) × MayFind r word × (new ≡ slice_set old at (after_step word r))
-
--- it has done what it was due to do, and saw nothing
+-- the member at this place of a hand has done what it was due to do, and saw nothing
 abbrev pub HasGoneOn : List Running → ℕ → List Running → Type 0
 HasGoneOn old at new = (r : Running) → slice_get old at ≡ Some r → new ≡ slice_set old at (after_step 0 r)
 

@@ -2,11 +2,12 @@
 ghost use Rattle.std.specs.Prelude.{◌≡◌, ◌≤◌, ◌<◌, ◌+◌, ◌-◌, ◌++◌, true, IfErr, IfOk, drop, length, slice_get, slice_set, Some, take, vec_capacity, vec_len};
 ghost use Rattle.dr_member.specs.Deeds.{is_act, is_append, is_look, is_push};
 ghost use Rattle.dr_program.specs.Running.{Running, broken_off, next_deed};
-ghost use Rattle.dr_table.specs.Cards.{AtPlace, HasFewerLeft, HasGoneOn, HasLooked};
+ghost use Rattle.dr_table.specs.Cards.{AtPlace, HasFewerLeft, HasGoneOn};
 ghost use Rattle.dr_table.specs.Steps.{IsReachedMember};
+ghost use Rattle.dr_table.specs.Sweeps.{HasSwept};
 
 use crate::board::Board;
-use crate::moves::{cut_at, look_at, store_at};
+use crate::moves::{cut_at, store_at};
 use crate::rule::{Counts, Gathers, View};
 use atomic_table::Seat;
 use dr_member::{Deed, LogWhy, Member};
@@ -50,42 +51,32 @@ impl Hand {
         &self.members[i]
     }
 
-    /// The member at a place takes its next deed, a look.
+    /// The member at a place takes its looks from the next deed, which is one, to the last of the row.
     #[inline(always)]
-    pub fn look(&mut self, board: &Board, i: usize)
+    pub fn look_row(&mut self, board: &Board, i: usize)
         requires board { self.old.table ≡ board.now.table }
         requires within { i < length self.old.members }
         requires deed { AtPlace self.old.members i (λ r. is_look (next_deed r) ≡ true) }
         ensures table { self.new.table ≡ self.old.table }
-        ensures members { HasLooked self.old.members i self.new.members }
+        ensures members { HasSwept self.old.members i self.new.members }
         ensures falls { HasFewerLeft self.old.members i self.new.members }
     {
-        let member = &self.members[i];
-        let Deed::Look(word) = member.next() else {
-            unreachable!()
-        };
-        let found = look_at::<Brand>(board, &mut self.seat, i, member, word);
         let member = &mut self.members[i];
-        member.looked(found);
+        member.look_row(&mut self.seat, board, i);
     }
 
-    /// The member at a place takes its next deed, a push.
+    /// The same for its pushes. It may crash before one of them.
     #[inline(always)]
-    pub fn push(&mut self, board: &Board, i: usize)
+    pub fn push_row(&mut self, board: &Board, i: usize)
         requires board { self.old.table ≡ board.now.table }
         requires within { i < length self.old.members }
         requires deed { AtPlace self.old.members i (λ r. is_push (next_deed r) ≡ true) }
         ensures table { self.new.table ≡ self.old.table }
-        ensures members { HasGoneOn self.old.members i self.new.members }
+        ensures members { HasSwept self.old.members i self.new.members }
         ensures falls { HasFewerLeft self.old.members i self.new.members }
     {
-        let member = &self.members[i];
-        let Deed::Push(word, new) = member.next() else {
-            unreachable!()
-        };
-        store_at::<Brand>(board, &mut self.seat, i, member, word, new);
         let member = &mut self.members[i];
-        member.pushed();
+        member.push_row(&mut self.seat, board, i);
     }
 
     /// The member at a place takes its next deed, an act. An append that it made before is counted with
@@ -103,7 +94,7 @@ impl Hand {
         let Deed::Act(word, new) = member.next() else {
             unreachable!()
         };
-        store_at::<Brand>(board, &mut self.seat, i, member, word, new);
+        store_at::<Brand>(board, &mut self.seat, i, &member.standing(), word, new);
         let member = &mut self.members[i];
         member.acted();
     }

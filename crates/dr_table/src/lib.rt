@@ -6,6 +6,7 @@
 //! order the threads made, it is one of the orders of which the laws of programs speak.
 #![tactic(auto)]
 
+mod access;
 mod board;
 mod hand;
 mod moves;

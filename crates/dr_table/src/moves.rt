@@ -8,7 +8,7 @@ ghost use Rattle.dr_table.specs.Steps.{IsAhead, Looked, Stored};
 use crate::board::Board;
 use crate::rule::{Cuts, Looks, Place, Stores, View};
 use atomic_table::Seat;
-use dr_member::Member;
+use dr_member::Standing;
 
 /// The member at a place of the seat's hand, which may have made appends since the seat's last step,
 /// looks at a word.
@@ -17,7 +17,7 @@ pub(crate) fn look_at<J: Place>(
     board: &Board,
     seat: &mut Seat<u64, View>,
     i: usize,
-    member: &Member,
+    member: &Standing<'_>,
     word: usize,
 ) -> u64
     requires at { i ≡ J.at }
@@ -40,7 +40,7 @@ pub(crate) fn store_at<J: Place>(
     board: &Board,
     seat: &mut Seat<u64, View>,
     i: usize,
-    member: &Member,
+    member: &Standing<'_>,
     word: usize,
     new: u64,
 )

@@ -1,4 +1,4 @@
--- The run of one member, deed by deed.
+-- The run of one member, sweep by sweep and deed by deed.
 use Rattle.std.proofs.Common.{◌≡◌, refl, sym, ap, ◌∙◌, subst, ℕ, zero, suc, ◌<◌, true, false, List, [], ◌∷◌, length, map, true≢false, arith}
 use Rattle.std.specs.Prelude.{All, IsTrue, Option, None, Some, is_some, slice_get, slice_set, sum_by}
 use Rattle.std.proofs.lemmas.List.{length-map}
@@ -8,14 +8,19 @@ use Rattle.dr_entry.specs.declared.end.End.{End}
 use Rattle.dr_log.specs.State.{LogState}
 use Rattle.dr_logged.specs.Served.{AppendsWell, HasServed, IsReady, is_append}
 use Rattle.dr_logged.proofs.Serving.{other_ready, other_served}
+use Rattle.dr_program.specs.declared.deed.Deed.{Deed}
+use Rattle.dr_program.specs.declared.deed.Deed.TheVariants as deeds
 use Rattle.dr_program.specs.Form.{IsRunningMember}
-use Rattle.dr_program.specs.Running.{Running, after_step, next_step}
+use Rattle.dr_program.specs.Running.{Running, after_step, next_deed, next_step}
+use Rattle.dr_age.proofs.Deeds.{at_look, at_push}
 use Rattle.dr_age.proofs.Sound.{appends_well}
 use Rattle.dr_turn.specs.Work.{deeds_left}
 use Rattle.dr_table.specs.Cards.{AreSame, HasEnded, HasFewerLeft}
 use Rattle.dr_table.specs.Rule.{number}
 use Rattle.dr_table.specs.Steps.{IsReachedMember}
+use Rattle.dr_table.specs.Sweeps.{HasTaken, IsSwept}
 use Rattle.dr_table.proofs.Deeds.{after_told, same_number}
+use Rattle.dr_table.proofs.Sweeps.{taken_told}
 use Rattle.dr_threads.specs.Course.{HasGone}
 
 -- ---- a member that is reached
@@ -27,7 +32,23 @@ reached_well r (g, p, is) = appends_well g p (number r) r is.sound is.there
 pub reached_form : (r : Running) → IsReachedMember r → IsRunningMember r
 reached_form r (g, p, is) = is.sound.form.form (number r) r is.there
 
+-- a look or a push is no append
+swept_other : (r : Running) → IsSwept (next_deed r) → is_append (next_step r) ≡ false
+swept_other r swept = by (next_deed r) refl swept
+  where
+    by : (d : Deed) → next_deed r ≡ d → IsSwept d → is_append (next_step r) ≡ false
+    by (deeds.Look index) next swept = at_look r index next
+    by (deeds.Push index word) next swept = at_push r index word next
+    by d next swept = absurd swept
+
 -- ---- going on
+
+-- a log stays ready for its member while that takes looks and pushes
+swept_ready : {D : Type 0} (log : LogState D) (words : List ℕ) (r q : Running) → HasTaken words r q
+    → IsReady log r → IsReady log q
+swept_ready log [] r q same ready = subst (IsReady log) same ready
+swept_ready log (word ∷ words) r q (swept, found, rest) ready =
+    swept_ready log words (after_step word r) q rest (other_ready log word r (swept_other r swept) ready)
 
 module _ {D : Type 0} (told : D → Option Told) (faults : D → ℕ) where
   pub gone_none : (rs : List Running) (log : LogState D) → HasGone told faults rs log rs log
@@ -67,6 +88,23 @@ module _ {D : Type 0} (told : D → Option Told) (faults : D → ℕ) where
       (same_number r (after_step word r) (after_told word r))
       (other_ready log word r other)
       (λ base. other_served told faults base log word r other (reached_form r reached).replica.logged)
+
+  -- and goes on to have served it
+  swept_served : (base log : LogState D) (words : List ℕ) (r q : Running) → HasTaken words r q
+      → HasServed told faults base log r → HasServed told faults base log q
+  swept_served base log [] r q same served = subst (HasServed told faults base log) same served
+  swept_served base log (word ∷ words) r q (swept, (g, p, is, sees), rest) served =
+      swept_served base log words (after_step word r) q rest
+      (other_served told faults base log word r (swept_other r swept)
+      (reached_form r (g, p, is)).replica.logged served)
+
+  -- by looks and pushes
+  pub gone_sweeping : (rs qs : List Running) (r q : Running) (words : List ℕ) (log : LogState D)
+      → length rs ≡ 1 → slice_get rs 0 ≡ Some r → HasTaken words r q → qs ≡ slice_set rs 0 q
+      → HasGone told faults rs log qs log
+  gone_sweeping rs qs r q words log one there taken to =
+      gone_by rs qs r q log log one there to (same_number r q (taken_told words r q taken))
+      (swept_ready log words r q taken) (λ base. swept_served base log words r q taken)
 
 -- ---- fewer deeds left
 

@@ -50,8 +50,8 @@ fn take<D: Disk>(board: &Board, hand: &mut Hand, log: &mut Log<D>)
     ensures falls { sum_by deeds_left hand.new.members < sum_by deeds_left hand.old.members }
 {
     match hand.member(0).next() {
-        Deed::Look(_) => hand.look(board, 0),
-        Deed::Push(_, _) => hand.push(board, 0),
+        Deed::Look(_) => hand.look_row(board, 0),
+        Deed::Push(_, _) => hand.push_row(board, 0),
         Deed::Act(_, _) => hand.act(board, 0),
         Deed::Append(_) => append(hand, log),
         Deed::Rest(_) => {}

@@ -1,0 +1,29 @@
+//! What a seat does for a member in a sweep of its looks or pushes.
+
+use crate::board::Board;
+use crate::moves::{look_at, store_at};
+use crate::rule::View;
+use atomic_table::Seat;
+use dr_member::{Access, Standing};
+use std::marker::Brand;
+
+impl Access<Board> for Seat<u64, View> {
+    ghost use Rattle.std.specs.Prelude.{◌≡◌, []};
+    ghost use Rattle.dr_table.specs.Sweeps.{HasCome};
+
+    ghost home = { λ seat board. seat.table_id ≡ board.table };
+
+    ghost came = { λ first from seat at now.
+        (seat.table_id ≡ first.table_id) × (seat.me.1 ≡ []) × HasCome seat.table_id.words first.me.0 from
+        seat.me.0 at now };
+
+    #[inline(always)]
+    fn look(&mut self, board: &Board, at: usize, now: &Standing<'_>, word: usize) -> u64 {
+        look_at::<Brand>(board, self, at, now, word)
+    }
+
+    #[inline(always)]
+    fn push(&mut self, board: &Board, at: usize, now: &Standing<'_>, word: usize, new: u64) {
+        store_at::<Brand>(board, self, at, now, word, new);
+    }
+}
