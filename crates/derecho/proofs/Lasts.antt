@@ -12,7 +12,7 @@ use Rattle.dr_entry.specs.declared.end.MemberEnd.{MemberEnd}
 use Rattle.dr_text.specs.declared.last.Last.{Last}
 use Rattle.derecho.specs.declared.last.Kind.{Kind}
 use Rattle.derecho.specs.Last.{first_end, first_told, is_of, refusal_of, some_end, some_so, stopped_by}
-use Rattle.derecho.specs.Outcome.{status_of}
+use Rattle.dr_intake.specs.Status.{status_of}
 
 -- of two answers there is one where there is either
 some_or : (a b : Option ℕ) → is_some (option_or a b) ≡ (is_some a || is_some b)

@@ -1,4 +1,4 @@
-pub mod Steps
 pub mod Lasts
+pub mod Refused
 pub mod Runs
 pub mod Course

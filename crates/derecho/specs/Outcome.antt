@@ -4,20 +4,20 @@ use Rattle.std.specs.declared.alloc.Global.{Global}
 use Rattle.dr_ages.specs.declared.mode.Mode.{Mode}
 use Rattle.dr_ages.specs.declared.stop.Stop.{Stop}
 use Rattle.dr_ages.specs.Runs.{IsRunOf}
+use Rattle.dr_intake.specs.Reading.{WasRead, refusal_in}
+use Rattle.dr_intake.specs.Status.{WroteText, status_of}
 use Rattle.dr_entry.specs.declared.end.AgeEnd.{AgeEnd}
 use Rattle.dr_io.specs.Faults.{Rose}
 use Rattle.dr_io.specs.Source.{Loses}
 use Rattle.dr_io.specs.Sink.{Gains}
 use Rattle.dr_script.specs.declared.script.Script.{Script}
-use Rattle.dr_script.specs.Reading.{Reading, TooLong, NotJson, Wrong, Reads, reading_of}
+use Rattle.dr_script.specs.Reading.{Reading, Reads, reading_of}
 use Rattle.dr_text.specs.declared.last.Last.{Last}
 use Rattle.dr_text.specs.declared.last.Last.TheVariants as lasts
 use Rattle.dr_text.specs.Report.{report_text}
 use Rattle.dr_yard.specs.Yards.{YardState, empty_yard}
 use Rattle.derecho.specs.Words.{IsCommand, asked_by}
 use Rattle.derecho.specs.Last.{last_of}
-use Rattle.derecho.specs.Reading.{WasRead}
-use Rattle.dr_text.specs.Writing.{WroteFront}
 
 -- no age was run, and the yard is as it was
 pub record RanNothing (before after : YardState) (ages : List AgeEnd) (stop : Option Stop) : Type 0 where
@@ -42,14 +42,10 @@ HasRun mode None script before after ages stop = (after ≡ before) × IsRunInMe
 -- script in this mode
 abbrev pub IsRunOver : Mode → Option (List ℕ) → Reading → YardState → YardState → List AgeEnd → Option Stop
     → Option Last → Type 0
-IsRunOver mode folder TooLong before after ages stop last =
-    RanNothing before after ages stop × (last ≡ Some lasts.TooLong)
-IsRunOver mode folder NotJson before after ages stop last =
-    RanNothing before after ages stop × (last ≡ Some lasts.NotJson)
-IsRunOver mode folder (Wrong rule path) before after ages stop last =
-    RanNothing before after ages stop × (last ≡ Some (lasts.Rule rule path))
 IsRunOver mode folder (Reads script) before after ages stop last =
     HasRun mode folder script before after ages stop × (last ≡ last_of ages stop)
+IsRunOver mode folder refused before after ages stop last =
+    RanNothing before after ages stop × (last ≡ refusal_in refused)
 
 -- What a call with these words comes to before it is written, by what its source had left and then has, how
 -- many of its calls had failed and then have, and how the yard was and then is: which ages ran, what ended
@@ -71,29 +67,11 @@ pub data Course (words : List (String Global)) (old new : Option (List ℕ)) (fa
       → IsRunOver mode folder (reading_of bytes) before after ages stop last
       → Course words old new failed fails before after ages stop last
 
--- the status of a last line
-abbrev pub status_of : Last → ℕ
-status_of lasts.Done = 0
-status_of lasts.Usage = 2
-status_of lasts.TooLong = 3
-status_of lasts.NotJson = 3
-status_of (lasts.Rule rule path) = 3
-status_of lasts.SourceFault = 4
-status_of (lasts.DiskFault member) = 6
-status_of (lasts.Damaged member at) = 7
-status_of (lasts.Foreign member place) = 7
-status_of (lasts.Disagree a b place) = 7
-status_of lasts.AgesUsedUp = 7
-status_of lasts.Unfinished = 8
-status_of lasts.NoMajority = 9
-status_of (lasts.LogFull member) = 11
-
 -- the whole report of these ages was written, with the status of its last line, or a front part of it, where
 -- the sink failed
 abbrev pub Wrote : Option (List ℕ) → Option (List ℕ) → ℕ → ℕ → ℕ → List AgeEnd → Last → Type 0
 Wrote old new failed fails status ages last =
-    ((status ≡ status_of last) × Gains old new (report_text ages last))
-    ⊎ ((status ≡ 5) × Rose failed fails × WroteFront old new (report_text ages last))
+    WroteText old new failed fails status (status_of last) (report_text ages last)
 
 -- nothing was written, as memory was wanting, or the report was
 abbrev pub WroteOrNot : Option (List ℕ) → Option (List ℕ) → ℕ → ℕ → ℕ → List AgeEnd → Option Last → Type 0

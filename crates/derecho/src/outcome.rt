@@ -9,13 +9,13 @@ ghost use Rattle.derecho.specs.Last.{last_of};
 ghost use Rattle.derecho.specs.Outcome.{Course, HasRun, IsRunInMemory, IsRunOver, RanNothing};
 
 use crate::last::last_of;
-use crate::reading::{ReadFault, read_all};
 use crate::words::{Command, command_of};
 use dr_ages::{AgesEnd, Mode, Stop, run_ages};
 use dr_entry::{AgeEnd, Seq};
+use dr_intake::{READ_LIMIT, ReadFault, read_all, script_or_refusal};
 use dr_io::Source;
 use dr_pace::Pace;
-use dr_script::{Script, ScriptFault, read_script};
+use dr_script::Script;
 use dr_text::Last;
 use dr_yard::{CalmYard, Yard};
 use std::alloc::Global;
@@ -49,7 +49,7 @@ pub(crate) fn outcome_of<R: Threads + Sync, S: Source, Y: Yard, P: Pace + Sync>(
     let Some(command) = command_of(words) else {
         return without_ages(alloc, Some(Last::Usage));
     };
-    match read_all(alloc, source) {
+    match read_all(alloc, source, READ_LIMIT) {
         Ok(bytes) => judge(rt, alloc, &bytes, &command, yard, pace),
         Err(ReadFault::Failed) => without_ages(alloc, Some(Last::SourceFault)),
         Err(ReadFault::OutOfMemory) => without_ages(alloc, None),
@@ -73,14 +73,10 @@ fn judge<R: Threads + Sync, Y: Yard, P: Pace + Sync>(
         (reading_of bytes.now) (state_by Y.told Y.faults yard.old)
         (state_by Y.told Y.faults yard.new) result.ages result.stop result.last }
 {
-    match read_script(alloc, bytes) {
+    match script_or_refusal(alloc, bytes) {
         Ok(script) => run(rt, alloc, &script, command, yard, pace),
-        Err(ScriptFault::TooLong) => without_ages(alloc, Some(Last::TooLong)),
-        Err(ScriptFault::NotJson) => without_ages(alloc, Some(Last::NotJson)),
-        Err(ScriptFault::Wrong { rule, path }) => {
-            without_ages(alloc, Some(Last::Rule { rule, path }))
-        }
-        Err(ScriptFault::OutOfMemory) => without_ages(alloc, None),
+        Err(Some(line)) => without_ages(alloc, Some(line)),
+        Err(None) => without_ages(alloc, None),
     }
 }
 

@@ -7,6 +7,7 @@ use dr_entry::End;
 use dr_io::{MemorySink, MemorySource};
 use dr_pace::{HoldPace, MeetPace, Pace};
 use dr_yard::{CalmYard, MemoryYard, Yard};
+use std::alloc::Global;
 use std::fs;
 use std::process::Abort;
 use std::test::Fail;

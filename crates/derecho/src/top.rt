@@ -1,6 +1,7 @@
 ghost use Rattle.std.specs.Prelude.{◌≡◌, ◌≢◌, ◌<◌, ◌⊎◌, ℕ, List, [], ◌∷◌, Option, Some, None, Contains, IsTrue, false, is_some};
 ghost use Rattle.dr_ages.specs.declared.mode.Mode.{Mode};
 ghost use Rattle.dr_ages.specs.declared.mode.Mode.TheVariants.{Sim};
+ghost use Rattle.dr_intake.specs.Reading.{IsNoScript, IsScript};
 ghost use Rattle.dr_complete.specs.Time.{HasTime};
 ghost use Rattle.dr_entry.specs.declared.limits.TheConstants.{MAX_MEMBERS};
 ghost use Rattle.dr_io.specs.Faults.{Rose};
@@ -11,17 +12,13 @@ ghost use Rattle.dr_text.specs.declared.last.Last.{Last};
 ghost use Rattle.dr_yard.specs.Yards.{state_by};
 ghost use Rattle.derecho.specs.declared.last.Kind.TheVariants.{DiskFault, LogFull, NoMajority, Spent};
 ghost use Rattle.derecho.specs.Last.{refusal_of, some_end, some_so};
-ghost use Rattle.derecho.specs.Outcome.{Course, Exactly, WroteOrNot, status_of};
-ghost use Rattle.derecho.specs.Reading.{IsNoScript, IsScript};
+ghost use Rattle.derecho.specs.Outcome.{Course, Exactly, WroteOrNot};
 ghost use Rattle.derecho.specs.Words.{IsCommand, asked_by};
 
 use crate::outcome::{Outcome, outcome_of};
-use crate::status::{
-    DISK_FAULT, DONE, LOG_FULL, LOGS_REFUSED, NO_MAJORITY, OUT_OF_MEMORY, READ_FAULT,
-    SCRIPT_REFUSED, UNFINISHED, USAGE, WRITE_FAULT,
-};
 use dr_ages::Stop;
 use dr_entry::{AgeEnd, Seq};
+use dr_intake::{OUT_OF_MEMORY, WRITE_FAULT, status_of};
 use dr_io::{Sink, Source};
 use dr_pace::Pace;
 use dr_text::{Last, Report};
@@ -45,7 +42,7 @@ pub struct Ended {
 /// with `run` all at once, each in a thread of its own, which calls the pace after each of its turns. With
 /// `--logs F` or `--logs=F` each member keeps its log on a disk of the yard, in the folder `F`, and the first
 /// age begins with what is there. Without it each keeps its log on a disk in memory, which is gone when the
-/// run has ended. The status says how that went: see the constants of this crate.
+/// run has ended. The status says how that went: see the constants of `dr_intake`.
 pub fn derecho<R: Threads + Sync, S: Source, K: Sink, Y: Yard, P: Pace + Sync>(
     rt: &R,
     alloc: Global,
@@ -126,24 +123,5 @@ fn tell<K: Sink>(alloc: Global, outcome: &Outcome, sink: &mut K) -> u8
     match text.write_to(sink) {
         Ok(()) => status_of(last),
         Err(_) => WRITE_FAULT,
-    }
-}
-
-/// The status of a last line.
-fn status_of(last: &Last) -> u8
-    ensures { result ≡ status_of last.now }
-{
-    match last {
-        Last::Done => DONE,
-        Last::Usage => USAGE,
-        Last::TooLong | Last::NotJson | Last::Rule { .. } => SCRIPT_REFUSED,
-        Last::SourceFault => READ_FAULT,
-        Last::DiskFault { .. } => DISK_FAULT,
-        Last::Damaged { .. } | Last::Foreign { .. } | Last::Disagree { .. } | Last::AgesUsedUp => {
-            LOGS_REFUSED
-        }
-        Last::Unfinished => UNFINISHED,
-        Last::NoMajority => NO_MAJORITY,
-        Last::LogFull { .. } => LOG_FULL,
     }
 }

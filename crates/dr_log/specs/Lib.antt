@@ -3,4 +3,5 @@ pub mod Standing
 pub mod State
 pub mod Appending
 pub mod Kept
+pub mod Blocks
 pub mod Parsed

@@ -14,12 +14,16 @@ pub record IsLogFound (bytes : List ℕ) (es : List Entry) (vs : List Vote) (len
   pub votes : votes_in records ≡ vs
   pub long : len ≡ log_length es vs
 
--- the blocks of these entries and votes end at this place
-pub record IsParsed (bytes : List ℕ) (es : List Entry) (vs : List Vote) (at : ℕ) : Type 0 where
-  pub records : List Record
+-- the blocks of these records end at this place
+pub record IsReadTo (bytes : List ℕ) (records : List Record) (at : ℕ) : Type 0 where
   pub spelled : AreSpelled records
-  pub entries : entries_in records ≡ es
-  pub votes : votes_in records ≡ vs
   pub parts : bytes ≡ magic ++ (blocks records ++ drop at bytes)
   pub place : at ≡ 8 + length (blocks records)
   pub inside : at ≤ length bytes
+
+-- the blocks of these entries and votes do
+pub record IsParsed (bytes : List ℕ) (es : List Entry) (vs : List Vote) (at : ℕ) : Type 0 where
+  pub records : List Record
+  pub read : IsReadTo bytes records at
+  pub entries : entries_in records ≡ es
+  pub votes : votes_in records ≡ vs

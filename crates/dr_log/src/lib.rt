@@ -7,6 +7,7 @@
 #![tactic(auto)]
 
 mod appending;
+mod block;
 mod fault;
 mod laws;
 mod log;
@@ -15,6 +16,7 @@ mod opening;
 mod parsing;
 mod records;
 
+pub use block::{Block, FIRST_GATE, begins_as_log, block_at};
 pub use fault::{LogFault, MountFault, MountWhy};
 pub use laws::{blocks_are_short, bytes_have_one_meaning};
 pub use log::Log;

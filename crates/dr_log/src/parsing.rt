@@ -5,10 +5,10 @@ ghost use Rattle.dr_log.specs.declared.fault.MountWhy.TheVariants.{DiskFault, Da
 ghost use Rattle.dr_log.specs.Grammar.{IsNoLog};
 ghost use Rattle.dr_log.specs.Parsed.{IsLogFound};
 
+use crate::block::{Block, FIRST_GATE, begins_as_log, block_at};
 use crate::fault::MountWhy;
-use crate::making::{MAGIC, OPEN};
 use crate::records::sort_in;
-use dr_entry::{Entry, Vote, decode};
+use dr_entry::{Entry, Vote};
 use std::alloc::Global;
 
 /// What is on a log, and its length.
@@ -26,27 +26,26 @@ pub(crate) fn parse(alloc: Global, bytes: &[u8]) -> Result<Found, MountWhy>
     ensures damaged { (at : ℕ) → result ≡ Err (Damaged at) → IsNoLog bytes.now at }
     ensures fault { IsErrOf result DiskFault → ⊥ }
 {
-    if bytes.len() < MAGIC.len() || bytes[..8] != MAGIC[..8] {
+    if !begins_as_log(bytes) {
         return Err(MountWhy::Damaged { at: 0 });
     }
     let mut entries = Vec::new(alloc);
     let mut votes = Vec::new(alloc);
-    let mut at = MAGIC.len();
-    while at < bytes.len() && bytes[at] == OPEN {
-        match decode(&bytes[at + 1..]) {
-            Ok((record, count)) => {
+    let mut at = FIRST_GATE;
+    loop {
+        match block_at(bytes, at) {
+            Block::Record(record, len) => {
                 sort_in(record, &mut entries, &mut votes)?;
-                at += 1 + count;
+                at += 1 + len;
             }
-            Err(_) => return Err(MountWhy::Damaged { at: at as u64 }),
+            Block::Closed => {
+                return Ok(Found {
+                    entries,
+                    votes,
+                    len: at as u64 + 1,
+                });
+            }
+            Block::Broken => return Err(MountWhy::Damaged { at: at as u64 }),
         }
     }
-    if at >= bytes.len() {
-        return Err(MountWhy::Damaged { at: at as u64 });
-    }
-    Ok(Found {
-        entries,
-        votes,
-        len: at as u64 + 1,
-    })
 }

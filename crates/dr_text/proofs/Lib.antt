@@ -2,5 +2,5 @@ mod Hex
 mod Bounds
 pub mod Numbers
 mod Lines
-mod Texts
+pub mod Texts
 pub mod Sinks

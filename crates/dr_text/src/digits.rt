@@ -16,7 +16,11 @@ pub(crate) fn push_decimal(out: &mut String, number: u64) -> Result<(), AllocErr
 }
 
 /// Appends the bytes of a message in hexadecimal.
-pub(crate) fn push_hex_bytes(out: &mut String, bytes: &[u8]) -> Result<(), AllocError>
+///
+/// # Errors
+///
+/// Want of memory alone.
+pub fn push_hex_bytes(out: &mut String, bytes: &[u8]) -> Result<(), AllocError>
     requires { length bytes.now ≤ MAX_MESSAGE_LENGTH }
     ensures { OnOk result
         (string_bytes out.new ≡ string_bytes out.old ++ flat_map hex_text bytes.now) }

@@ -8,7 +8,11 @@ use std::alloc::AllocError;
 use std::fmt::Write;
 
 /// Appends how a member ended.
-pub(crate) fn push_end(out: &mut String, end: End) -> Result<(), AllocError>
+///
+/// # Errors
+///
+/// Want of memory alone.
+pub fn push_end(out: &mut String, end: End) -> Result<(), AllocError>
     ensures { OnOk result (string_bytes out.new ≡ string_bytes out.old ++ end_text end) }
 {
     match end {

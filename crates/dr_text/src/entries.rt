@@ -21,7 +21,12 @@ pub(crate) fn push_entries(out: &mut String, entries: &[Entry]) -> Result<(), Al
     Ok(())
 }
 
-pub(crate) fn push_entry(out: &mut String, entry: &Entry) -> Result<(), AllocError>
+/// Appends the line of an entry.
+///
+/// # Errors
+///
+/// Want of memory alone.
+pub fn push_entry(out: &mut String, entry: &Entry) -> Result<(), AllocError>
     ensures { OnOk result (string_bytes out.new ≡ string_bytes out.old ++ entry_text entry.now) }
 {
     match entry {
@@ -68,6 +73,7 @@ fn push_place(out: &mut String, sender: u8, index: u32) -> Result<(), AllocError
     out.push_str(" ")
 }
 
+/// Appends the bytes of a message in hexadecimal, or a dash where there are none.
 fn push_message(out: &mut String, bytes: &[u8]) -> Result<(), AllocError>
     requires { length bytes.now ≤ MAX_MESSAGE_LENGTH }
     ensures { OnOk result (string_bytes out.new ≡ string_bytes out.old ++ message_text bytes.now) }
@@ -80,8 +86,12 @@ fn push_message(out: &mut String, bytes: &[u8]) -> Result<(), AllocError>
 }
 
 /// Appends the members of a mask, ascending, with commas between them.
+///
+/// # Errors
+///
+/// Want of memory alone.
 #[tactic(auto, unfolding(dr_history::specs::Members::members_of, dr_history::specs::Members::members_below))]
-pub(crate) fn push_mask(out: &mut String, mask: u16) -> Result<(), AllocError>
+pub fn push_mask(out: &mut String, mask: u16) -> Result<(), AllocError>
     ensures { OnOk result (string_bytes out.new ≡ string_bytes out.old ++ mask_text mask) }
 {
     let mut first = true;

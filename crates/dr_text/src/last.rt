@@ -40,7 +40,11 @@ pub enum Last {
 }
 
 /// Appends the last line.
-pub(crate) fn push_last(out: &mut String, last: &Last) -> Result<(), AllocError>
+///
+/// # Errors
+///
+/// Want of memory alone.
+pub fn push_last(out: &mut String, last: &Last) -> Result<(), AllocError>
     ensures { OnOk result (string_bytes out.new ≡ string_bytes out.old ++ last_text last.now) }
 {
     match last {

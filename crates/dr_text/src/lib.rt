@@ -14,5 +14,9 @@ mod printed;
 mod report;
 mod writing;
 
-pub use last::Last;
+pub use digits::push_hex_bytes;
+pub use ends::push_end;
+pub use entries::{push_entry, push_mask};
+pub use last::{Last, push_last};
 pub use report::Report;
+pub use writing::write_all;

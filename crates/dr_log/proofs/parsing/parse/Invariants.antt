@@ -3,8 +3,8 @@ use Rattle.dr_log.specs.Parsed.{IsParsed}
 use Rattle.dr_log.proofs.parsing.parse.Given as goal
 
 -- the blocks before the place are those of the records so far
-abbrev pub invariant-loop-at : goal.invariant-loop-at
-invariant-loop-at l = IsParsed l.bytes l.entries.items l.votes.items l.at
+abbrev pub invariant-loop-record : goal.invariant-loop-record
+invariant-loop-record l = IsParsed l.bytes l.entries.items l.votes.items l.at
 
-abbrev pub decreases-loop-at : goal.decreases-loop-at
-decreases-loop-at l = length l.bytes - l.at
+abbrev pub decreases-loop-record : goal.decreases-loop-record
+decreases-loop-record l = length l.bytes - l.at

@@ -1,20 +1,16 @@
 ghost use Rattle.std.specs.Prelude.{◌≡◌, IfOk, IsErrOf};
 ghost use Rattle.dr_io.specs.Faults.{Rose};
-ghost use Rattle.derecho.specs.Reading.{WasRead};
+ghost use Rattle.dr_intake.specs.Reading.{WasReadTo};
 
 use dr_io::{Failed, Source};
-use dr_script::MAX_SCRIPT;
 use std::alloc::{AllocError, Global};
-
-/// The most bytes that are read: one more than a script may have.
-pub(crate) const READ_LIMIT: usize = MAX_SCRIPT + 1;
 
 /// The most bytes that one call of a source is asked for.
 const PIECE: usize = 4096;
 
 /// Why a source was not read.
 #[derive(Clone, Copy, Debug, PartialEq, Eq)]
-pub(crate) enum ReadFault {
+pub enum ReadFault {
     /// Memory was wanting.
     OutOfMemory,
     /// The source failed.
@@ -23,7 +19,7 @@ pub(crate) enum ReadFault {
 
 impl From<AllocError> for ReadFault {
     ghost use Rattle.std.specs.Prelude.{◌≡◌};
-    ghost use Rattle.derecho.specs.declared.reading.ReadFault.TheVariants.{OutOfMemory};
+    ghost use Rattle.dr_intake.specs.declared.reading.ReadFault.TheVariants.{OutOfMemory};
 
     ghost from_gives = { λ _ fault. fault ≡ OutOfMemory };
 
@@ -34,7 +30,7 @@ impl From<AllocError> for ReadFault {
 
 impl From<Failed> for ReadFault {
     ghost use Rattle.std.specs.Prelude.{◌≡◌};
-    ghost use Rattle.derecho.specs.declared.reading.ReadFault.TheVariants.{Failed as ReadFailed};
+    ghost use Rattle.dr_intake.specs.declared.reading.ReadFault.TheVariants.{Failed as ReadFailed};
 
     ghost from_gives = { λ _ fault. fault ≡ ReadFailed };
 
@@ -43,9 +39,18 @@ impl From<Failed> for ReadFault {
     }
 }
 
-/// Reads a source until it ends, or until [`READ_LIMIT`] bytes were read.
-pub(crate) fn read_all<S: Source>(alloc: Global, source: &mut S) -> Result<Vec<u8>, ReadFault>
-    ensures bytes { IfOk result (λ v. WasRead (S.left source.old) (S.left source.new) v.items) }
+/// Reads a source until it ends, or until `limit` bytes were read.
+///
+/// # Errors
+///
+/// Want of memory, or a fault of the source.
+pub fn read_all<S: Source>(
+    alloc: Global,
+    source: &mut S,
+    limit: usize,
+) -> Result<Vec<u8>, ReadFault>
+    ensures bytes { IfOk result
+        (λ v. WasReadTo limit (S.left source.old) (S.left source.new) v.items) }
     ensures cause { IsErrOf result ReadFault.Failed → Rose (S.faults source.old) (S.faults source.new) }
     ensures calm { IfOk result (λ _. S.faults source.new ≡ S.faults source.old) }
     ensures wanting { IsErrOf result ReadFault.OutOfMemory
@@ -53,8 +58,8 @@ pub(crate) fn read_all<S: Source>(alloc: Global, source: &mut S) -> Result<Vec<u
 {
     let mut bytes = Vec::new(alloc);
     let mut buffer = [0u8; PIECE];
-    while bytes.len() < READ_LIMIT {
-        let room = (READ_LIMIT - bytes.len()).min(PIECE);
+    while bytes.len() < limit {
+        let room = (limit - bytes.len()).min(PIECE);
         let count = source.read(&mut buffer[..room])?;
         if count == 0 {
             return Ok(bytes);

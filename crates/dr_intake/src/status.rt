@@ -1,3 +1,8 @@
+ghost use Rattle.std.specs.Prelude.{◌≡◌};
+ghost use Rattle.dr_intake.specs.Status.{status_of};
+
+use dr_text::Last;
+
 /// The run ended, and no other status applies.
 pub const DONE: u8 = 0;
 
@@ -30,3 +35,22 @@ pub const OUT_OF_MEMORY: u8 = 10;
 
 /// A log would have grown beyond its limit.
 pub const LOG_FULL: u8 = 11;
+
+/// The status of a last line.
+pub fn status_of(last: &Last) -> u8
+    ensures { result ≡ status_of last.now }
+{
+    match last {
+        Last::Done => DONE,
+        Last::Usage => USAGE,
+        Last::TooLong | Last::NotJson | Last::Rule { .. } => SCRIPT_REFUSED,
+        Last::SourceFault => READ_FAULT,
+        Last::DiskFault { .. } => DISK_FAULT,
+        Last::Damaged { .. } | Last::Foreign { .. } | Last::Disagree { .. } | Last::AgesUsedUp => {
+            LOGS_REFUSED
+        }
+        Last::Unfinished => UNFINISHED,
+        Last::NoMajority => NO_MAJORITY,
+        Last::LogFull { .. } => LOG_FULL,
+    }
+}

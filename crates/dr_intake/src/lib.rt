@@ -1,0 +1,16 @@
+//! What the programs share that read a script: their words, how a script is read from a source or refused,
+//! and the statuses that they end with.
+#![tactic(auto)]
+
+mod reading;
+mod script;
+mod status;
+mod words;
+
+pub use reading::{ReadFault, read_all};
+pub use script::{READ_LIMIT, script_or_refusal};
+pub use status::{
+    DISK_FAULT, DONE, LOG_FULL, LOGS_REFUSED, NO_MAJORITY, OUT_OF_MEMORY, READ_FAULT,
+    SCRIPT_REFUSED, UNFINISHED, USAGE, WRITE_FAULT, status_of,
+};
+pub use words::words_of;
