@@ -1,0 +1,70 @@
+-- What is said of a text, by what is read of it.
+use Rattle.std.proofs.Common.{◌≡◌, ◌==◌, ◌∙◌, sym, ap, subst, Bool, true, ℕ, List, length, Option, Some, [], String, Result, Ok, Err, IfOk, string_bytes, arith}
+use Rattle.std.proofs.lemmas.List.{nil_from_length}
+use Rattle.std.proofs.lemmas.Option.{none-some, same_Some}
+use Rattle.std.specs.declared.alloc.Global.{Global}
+use Rattle.dr_intake.specs.Reading.{WasRead, refusal_in}
+use Rattle.dr_intake.specs.Status.{status_of}
+use Rattle.dr_script.specs.declared.script.Script.{Script}
+use Rattle.dr_script.specs.Reading.{Reading, TooLong, NotJson, Wrong, Reads, reading_of}
+use Rattle.dr_text.specs.declared.last.Last.{Last}
+use Rattle.dr_text.specs.declared.last.Last.TheVariants as lasts
+use Rattle.dr_text.specs.Report.{last_text}
+use Rattle.derecho_explain.specs.declared.top.Answer.{Answer}
+use Rattle.derecho_explain.specs.Answer.{BeginsWith, IsAnswer, IsAnswerFor, read, turns_line}
+
+-- the answer to a script
+pub script_answer : (r : Reading) (s : Script) (text : List ℕ) (status : ℕ) → r ≡ Reads s
+    → BeginsWith (turns_line s) text → status ≡ 0 → IsAnswerFor r text status
+script_answer r s text status is begins due =
+    subst (λ (x : Reading). IsAnswerFor x text status) (sym is) (record { begins = begins; due = due })
+
+-- the answer to a text that is refused
+pub refused_answer : (r : Reading) (line : Last) (text : List ℕ) (status : ℕ) → refusal_in r ≡ Some line
+    → BeginsWith (last_text line) text → status ≡ status_of line → IsAnswerFor r text status
+refused_answer TooLong line text status is begins due =
+    let same = sym (same_Some lasts.TooLong line is) in
+    record {
+      begins = subst (λ (l : Last). BeginsWith (last_text l) text) same begins;
+      due = due ∙ ap status_of same;
+    }
+refused_answer NotJson line text status is begins due =
+    let same = sym (same_Some lasts.NotJson line is) in
+    record {
+      begins = subst (λ (l : Last). BeginsWith (last_text l) text) same begins;
+      due = due ∙ ap status_of same;
+    }
+refused_answer (Wrong rule path) line text status is begins due =
+    let same = sym (same_Some (lasts.Rule rule path) line is) in
+    record {
+      begins = subst (λ (l : Last). BeginsWith (last_text l) text) same begins;
+      due = due ∙ ap status_of same;
+    }
+refused_answer (Reads script) line text status is begins due = absurd (none-some line is)
+
+-- the same, where there was memory for the answer
+pub script_if : {E : Type 0} (answer : Result Answer E) (r : Reading) (s : Script) → r ≡ Reads s
+    → IfOk answer (λ a. BeginsWith (turns_line s) (string_bytes a.text)) → IfOk answer (λ a. a.status ≡ 0)
+    → IfOk answer (λ a. IsAnswerFor r (string_bytes a.text) a.status)
+script_if (Ok a) r s is begins due = script_answer r s (string_bytes a.text) a.status is begins due
+script_if (Err e) r s is begins due = tt
+
+pub refused_if : {E : Type 0} (answer : Result Answer E) (r : Reading) (line : Last)
+    → refusal_in r ≡ Some line → IfOk answer (λ a. BeginsWith (last_text line) (string_bytes a.text))
+    → IfOk answer (λ a. a.status ≡ status_of line)
+    → IfOk answer (λ a. IsAnswerFor r (string_bytes a.text) a.status)
+refused_if (Ok a) r line is begins due = refused_answer r line (string_bytes a.text) a.status is begins due
+refused_if (Err e) r line is begins due = tt
+
+-- no words are an empty list
+pub none_if : (words : List (String Global)) (empty : Bool) → empty ≡ (length words == 0) → empty ≡ true
+    → words ≡ []
+none_if words empty is said = nil_from_length words (grind (arith, is, said))
+
+-- what was read decides the answer of a call without words
+pub read_if : {E : Type 0} (answer : Result Answer E) (words : List (String Global))
+    (old new : Option (List ℕ)) (failed fails : ℕ) (bytes : List ℕ) → words ≡ [] → WasRead old new bytes
+    → IfOk answer (λ a. IsAnswerFor (reading_of bytes) (string_bytes a.text) a.status)
+    → IfOk answer (λ a. IsAnswer words old new failed fails (string_bytes a.text) a.status)
+read_if (Ok a) words old new failed fails bytes none was is = read none bytes was is
+read_if (Err e) words old new failed fails bytes none was is = tt

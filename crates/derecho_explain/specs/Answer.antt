@@ -1,0 +1,81 @@
+-- What is said of a text, and what a call comes to.
+use Rattle.std.specs.Prelude.{◌≡◌, ◌≢◌, ◌⊎◌, ℕ, ◌+◌, ◌*◌, List, [], ◌∷◌, ◌++◌, length, map, fold, max, codes, Option, String}
+use Rattle.std.specs.Fmt.{decimal}
+use Rattle.std.specs.List.{concat}
+use Rattle.std.specs.Option.{option_map_or}
+use Rattle.std.specs.declared.alloc.Global.{Global}
+use Rattle.dr_intake.specs.Reading.{WasRead, refusal_in}
+use Rattle.dr_intake.specs.Status.{WroteText, status_of}
+use Rattle.dr_io.specs.Faults.{Rose}
+use Rattle.dr_io.specs.Sink.{Gains}
+use Rattle.dr_io.specs.Source.{Loses}
+use Rattle.dr_script.specs.declared.script.Script.{Script}
+use Rattle.dr_script.specs.Reading.{Reading, Reads, reading_of}
+use Rattle.dr_text.specs.declared.last.Last.TheVariants as lasts
+use Rattle.dr_text.specs.Report.{last_text}
+
+-- how many messages the member has that has most
+abbrev pub most_messages : Script → ℕ
+most_messages s = fold max 0 (map length s.messages)
+
+-- how many turns are enough for the group of a script in lockstep: four for each message of the member that
+-- has most, and eight more
+abbrev pub turns_enough : Script → ℕ
+turns_enough s = 4 * most_messages s + 8
+
+-- the first line of what is said of a script
+abbrev pub turns_line : Script → List ℕ
+turns_line s = concat
+    (decimal (turns_enough s) ∷ codes " turns are enough in lockstep without faults; the script has "
+    ∷ decimal s.turns ∷ codes "\n" ∷ [])
+
+-- the first line of what is said of a text: the last line by which it is refused, or that of a script
+abbrev pub first_line : Reading → List ℕ
+first_line (Reads script) = turns_line script
+first_line refused = option_map_or last_text (refusal_in refused) []
+
+-- the status: that of the last line by which the text is refused, or 0
+abbrev pub status_in : Reading → ℕ
+status_in reading = option_map_or status_of (refusal_in reading) 0
+
+-- a text begins with this front
+abbrev pub BeginsWith : List ℕ → List ℕ → Type 0
+BeginsWith front text = (more : List ℕ) × (text ≡ front ++ more)
+
+-- the text begins with the first line of what is said of this reading, and the status is its own
+pub record IsAnswerFor (reading : Reading) (text : List ℕ) (status : ℕ) : Type 0 where
+  pub begins : BeginsWith (first_line reading) text
+  pub due : status ≡ status_in reading
+
+-- how the program is called
+abbrev pub usage_text : List ℕ
+usage_text = codes "usage: derecho_explain < SCRIPT\n"
+
+-- What a call has to say, and the status that is due, by its words and by what its source had left and then
+-- has.
+pub data IsAnswer (words : List (String Global)) (old new : Option (List ℕ)) (failed fails : ℕ)
+    (text : List ℕ) (status : ℕ) : Type 0 where
+  -- there are words, and it takes none
+  usage : words ≢ [] → Loses old new [] → text ≡ usage_text → status ≡ 2
+      → IsAnswer words old new failed fails text status
+  -- the source failed
+  no_source : words ≡ [] → Rose failed fails → text ≡ last_text lasts.SourceFault → status ≡ 4
+      → IsAnswer words old new failed fails text status
+  -- it was read, and what was read decides
+  read : words ≡ [] → (bytes : List ℕ) → WasRead old new bytes → IsAnswerFor (reading_of bytes) text status
+      → IsAnswer words old new failed fails text status
+
+-- an answer was written
+pub record ToldAnswer (words : List (String Global)) (old new : Option (List ℕ)) (failed fails : ℕ)
+    (held holds : Option (List ℕ)) (fell falls status : ℕ) : Type 0 where
+  pub text : List ℕ
+  pub due : ℕ
+  pub answer : IsAnswer words old new failed fails text due
+  pub wrote : WroteText held holds fell falls status due text
+
+-- memory was wanting and nothing was written, or an answer was
+abbrev pub Told : List (String Global) → Option (List ℕ) → Option (List ℕ) → ℕ → ℕ → Option (List ℕ)
+    → Option (List ℕ) → ℕ → ℕ → ℕ → Type 0
+Told words old new failed fails held holds fell falls status =
+    ((status ≡ 10) × Gains held holds [])
+    ⊎ ToldAnswer words old new failed fails held holds fell falls status

@@ -1,0 +1,129 @@
+ghost use Rattle.std.specs.Prelude.{◌≡◌, ◌⊎◌, ◌∷◌, [], IfOk, Contains, string_bytes};
+ghost use Rattle.dr_intake.specs.Status.{status_of};
+ghost use Rattle.dr_script.specs.Ranges.{HasRanges};
+ghost use Rattle.dr_script.specs.Reading.{reading_of};
+ghost use Rattle.dr_text.specs.Report.{last_text};
+ghost use Rattle.derecho_explain.specs.Answer.{BeginsWith, IsAnswer, IsAnswerFor, Told, turns_line};
+
+use crate::reasons::{reasons_for, words_for};
+use crate::turns::push_turns;
+use dr_intake::{
+    DONE, OUT_OF_MEMORY, READ_FAULT, READ_LIMIT, ReadFault, USAGE, WRITE_FAULT, read_all,
+    script_or_refusal, status_of,
+};
+use dr_io::{Sink, Source};
+use dr_script::Script;
+use dr_text::{Last, push_last, write_all};
+use std::alloc::{AllocError, Global};
+
+/// What a call has to say, and the status that is due.
+#[derive(Drop)]
+struct Answer {
+    text: String,
+    status: u8,
+}
+
+/// Reads a text from the source, writes to the sink what is to be said of it, and answers the status.
+///
+/// Of a text that is no script the first line is the last one that `derecho` writes, and the status that of
+/// `derecho`; the lines behind it give the reason. Of a script the first line tells how many turns are enough
+/// for its group in lockstep, and the others which faults never come. It takes no words: with any it writes
+/// how it is called.
+pub fn explain<S: Source, K: Sink>(
+    alloc: Global,
+    words: &[String],
+    source: &mut S,
+    sink: &mut K,
+) -> u8
+    ensures told { Told words.now (S.left source.old) (S.left source.new)
+        (S.faults source.old) (S.faults source.new) (K.held sink.old) (K.held sink.new)
+        (K.faults sink.old) (K.faults sink.new) result }
+    // No fault is hidden.
+    ensures read_fault_told { (S.faults source.new ≡ S.faults source.old)
+        ⊎ Contains (4 ∷ 10 ∷ 5 ∷ []) result }
+    ensures write_fault_told { (K.faults sink.new ≡ K.faults sink.old) ⊎ (result ≡ 5) }
+{
+    let Ok(answer) = answer_to(alloc, words, source) else {
+        return OUT_OF_MEMORY;
+    };
+    match write_all(sink, answer.text.as_str().as_bytes()) {
+        Ok(()) => answer.status,
+        Err(_) => WRITE_FAULT,
+    }
+}
+
+/// What is to be said of what the source has.
+fn answer_to<S: Source>(
+    alloc: Global,
+    words: &[String],
+    source: &mut S,
+) -> Result<Answer, AllocError>
+    ensures answer { IfOk result (λ a. IsAnswer words.now (S.left source.old) (S.left source.new)
+        (S.faults source.old) (S.faults source.new) (string_bytes a.text) a.status) }
+    ensures told { IfOk result
+        (λ a. (S.faults source.new ≡ S.faults source.old) ⊎ (a.status ≡ 4)) }
+{
+    if !words.is_empty() {
+        return Ok(Answer {
+            text: String::from_str(alloc, "usage: derecho_explain < SCRIPT\n")?,
+            status: USAGE,
+        });
+    }
+    match read_all(alloc, source, READ_LIMIT) {
+        Ok(bytes) => answer_for(alloc, &bytes),
+        Err(ReadFault::Failed) => source_fault(alloc),
+        Err(ReadFault::OutOfMemory) => Err(AllocError),
+    }
+}
+
+fn source_fault(alloc: Global) -> Result<Answer, AllocError>
+    ensures text { IfOk result (λ a. string_bytes a.text ≡ last_text Last.SourceFault) }
+    ensures status { IfOk result (λ a. a.status ≡ 4) }
+{
+    let mut text = String::new(alloc);
+    push_last(&mut text, &Last::SourceFault)?;
+    Ok(Answer {
+        text,
+        status: READ_FAULT,
+    })
+}
+
+/// What is to be said of these bytes.
+fn answer_for(alloc: Global, bytes: &[u8]) -> Result<Answer, AllocError>
+    ensures { IfOk result (λ a. IsAnswerFor (reading_of bytes.now) (string_bytes a.text) a.status) }
+{
+    match script_or_refusal(alloc, bytes) {
+        Ok(script) => answer_to_script(alloc, bytes, &script),
+        Err(Some(line)) => answer_to_refusal(alloc, bytes, &line),
+        Err(None) => Err(AllocError),
+    }
+}
+
+/// How many turns are enough for a script, and what more is to be said of it.
+fn answer_to_script(alloc: Global, bytes: &[u8], script: &Script) -> Result<Answer, AllocError>
+    requires { HasRanges script.now }
+    ensures begins { IfOk result
+        (λ a. BeginsWith (turns_line script.now) (string_bytes a.text)) }
+    ensures due { IfOk result (λ a. a.status ≡ 0) }
+{
+    let mut text = String::new(alloc);
+    push_turns(&mut text, script)?;
+    let more = words_for(alloc, bytes, script)?;
+    text.push_str(more.as_str())?;
+    Ok(Answer { text, status: DONE })
+}
+
+/// The last line by which a text is refused, and the reasons.
+fn answer_to_refusal(alloc: Global, bytes: &[u8], line: &Last) -> Result<Answer, AllocError>
+    ensures begins { IfOk result (λ a. BeginsWith (last_text line.now) (string_bytes a.text)) }
+    ensures due { IfOk result (λ a. a.status ≡ status_of line.now) }
+{
+    let mut text = String::new(alloc);
+    push_last(&mut text, line)?;
+    let reasons = reasons_for(alloc, bytes, line)?;
+    text.push_str(reasons.as_str())?;
+    Ok(Answer {
+        text,
+        status: status_of(line),
+    })
+}
