@@ -2,6 +2,7 @@ mod Staying
 mod Backs
 mod Caught
 mod Chain
+mod Completing
 mod Fresh
 mod Good
 mod Keeping
@@ -10,3 +11,4 @@ mod Played
 mod Runs
 mod Stopping
 mod Votes
+mod Watching

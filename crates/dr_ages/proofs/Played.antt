@@ -229,18 +229,18 @@ pub record WasPlayed {D : Type 0} (tells : D → Option Told) (faults : D → �
 told_by : (mode : Mode) (script : Script) (start : Start) (nth : ℕ) (age : AgeEnd)
     → (is : IsPlayed mode script start nth age)
     → age ≡ age_of (group_of script start).opening (over_of mode script start nth age is)
-told_by Sim script start nth age is = is.4
+told_by Sim script start nth age is = is.told
 told_by Run script start nth age is = is.told
 
 -- its start is the one that its end tells
-same_start : {D : Type 0} (tells : D → Option Told) (faults : D → ℕ) (script : Script) (mode : Mode) (nth : ℕ)
-    (before : YardState) (start : Start) (olds mids news : List (LogState D)) (age : AgeEnd)
-    → WasPlayed tells faults script mode nth before start olds mids news age → start ≡ start_of script age
-same_start tells faults script mode nth before start olds mids news age w = λ i. record {
-  age = sym (ap (λ (a : AgeEnd). a.age) (told_by mode script start nth age w.run)) i;
-  members = w.starts.members i;
-  present = w.starts.present i;
-  entries = sym (ap (λ (a : AgeEnd). a.start) (told_by mode script start nth age w.run)) i;
+pub same_start : (mode : Mode) (script : Script) (lists : List (List Entry)) (start : Start) (nth : ℕ)
+    (age : AgeEnd) → IsStartOf script lists start → IsPlayed mode script start nth age
+    → start ≡ start_of script age
+same_start mode script lists start nth age starts run = λ i. record {
+  age = sym (ap (λ (a : AgeEnd). a.age) (told_by mode script start nth age run)) i;
+  members = starts.members i;
+  present = starts.present i;
+  entries = sym (ap (λ (a : AgeEnd). a.start) (told_by mode script start nth age run)) i;
 }
 
 -- a member of it, with its log
@@ -339,7 +339,7 @@ is_age {D} tells faults script mode nth before start olds mids news age w = reco
 }
   where
     same : start ≡ start_of script age
-    same = same_start tells faults script mode nth before start olds mids news age w
+    same = same_start mode script (entries_on olds) start nth age w.starts w.run
 
     whole : List Entry
     whole = opened_with start start.members

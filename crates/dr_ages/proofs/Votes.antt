@@ -71,9 +71,9 @@ ran_over : (mode : Mode) (script : Script) (start : Start) (nth : ℕ) (age : Ag
     → (is : IsPlayed mode script start nth age)
     → HasRanOver script start nth (over_of mode script start nth age is)
 ran_over Sim script start nth age is = record {
-  begun = is.0;
-  begins = is.2;
-  ran = schedule_ran script.schedule is.0 is.1 is.3;
+  begun = is.begun;
+  begins = is.begins;
+  ran = schedule_ran script.schedule is.begun is.over is.run;
 }
 ran_over Run script start nth age is = record { begun = is.begun; begins = is.begins; ran = is.ran }
 

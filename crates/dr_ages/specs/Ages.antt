@@ -53,7 +53,7 @@ IsPlayed Run script start nth age = IsRun script start nth age
 -- the program as such an age ended
 abbrev pub over_of : (mode : Mode) (script : Script) (start : Start) (nth : ℕ) (age : AgeEnd)
     → IsPlayed mode script start nth age → Program
-over_of Sim script start nth age is = is.1
+over_of Sim script start nth age is = is.over
 over_of Run script start nth age is = is.over
 
 -- the votes of a program's member of this number

@@ -6,3 +6,4 @@ pub mod Left
 pub mod Ages
 pub mod Stops
 pub mod Runs
+pub mod Watched

@@ -1,5 +1,5 @@
 //! Runs ages one after the other.
-ghost use Rattle.std.specs.Prelude.{◌≡◌, ◌<◌, ℕ, All, IfErr, IfOk, false, length};
+ghost use Rattle.std.specs.Prelude.{◌≡◌, ◌<◌, ℕ, All, IfErr, IfOk, OnErr, false, length};
 ghost use Rattle.dr_age.specs.Logged.{AreOpened, HaveCome, HaveVoted, IsAmple, NoneFull, NoneStopped};
 ghost use Rattle.dr_complete.specs.Time.{HasTime};
 ghost use Rattle.dr_entry.specs.declared.limits.TheConstants.{MAX_MEMBERS};
@@ -12,12 +12,13 @@ ghost use Rattle.dr_restart.specs.Groups.{group_of};
 ghost use Rattle.dr_restart.specs.Setups.{crashes_of};
 ghost use Rattle.dr_script.specs.Ranges.{HasRanges};
 ghost use Rattle.dr_yard.specs.Yards.{YardState, state_by};
-ghost use Rattle.dr_ages.specs.Ages.{IsAgeOf, IsPlayed, over_of};
+ghost use Rattle.dr_ages.specs.Ages.{IsAgeOf, IsPlayed, over_of, start_of};
 ghost use Rattle.dr_ages.specs.Lent.{AreMounted, with_logs};
 ghost use Rattle.dr_ages.specs.Opened.{AreLater};
 ghost use Rattle.dr_ages.specs.Passing.{PassOn};
 ghost use Rattle.dr_ages.specs.Runs.{IsRunOf};
 ghost use Rattle.dr_ages.specs.Stops.{HasStopped};
+ghost use Rattle.dr_ages.specs.Watched.{AreWatched, HasSeen};
 ghost use Rattle.dr_ages.specs.declared.mode.Mode.TheVariants.{Sim};
 
 use crate::lending::{give_all_back, mount_all};
@@ -31,7 +32,7 @@ use dr_pace::Pace;
 use dr_restart::Start;
 use dr_run::run_script_age;
 use dr_script::Script;
-use dr_sim::sim_age;
+use dr_sim::{Unwatched, Watcher, watch_age};
 use dr_yard::Yard;
 use std::alloc::{AllocError, Global};
 use std::thread::Threads;
@@ -66,6 +67,29 @@ pub fn run_ages<R: Threads + Sync, Y: Yard, P: Pace + Sync>(
     ensures run { IsRunOf script.now mode (state_by Y.told Y.faults yard.old)
         (state_by Y.told Y.faults yard.new) result.ages result.stop }
 {
+    watch_ages(rt, alloc, script, mode, folder, yard, pace, &mut Unwatched)
+}
+
+/// Runs the ages of a script, as [`run_ages`] does, before a watcher. It is told of each simulated age, in turn,
+/// and of nothing that threads do. Of an age that is not opened it is told nothing.
+pub fn watch_ages<R: Threads + Sync, Y: Yard, P: Pace + Sync, W: Watcher>(
+    rt: &R,
+    alloc: Global,
+    script: &Script,
+    mode: Mode,
+    folder: &str,
+    yard: &mut Y,
+    pace: &P,
+    watcher: &mut W,
+) -> AgesEnd
+    requires ranges { HasRanges script.now }
+    requires here { (m : ℕ) → m < MAX_MEMBERS → Y.is_lent yard.old m ≡ false }
+    ensures here { (m : ℕ) → m < MAX_MEMBERS → Y.is_lent yard.new m ≡ false }
+    ensures run { IsRunOf script.now mode (state_by Y.told Y.faults yard.old)
+        (state_by Y.told Y.faults yard.new) result.ages result.stop }
+    ensures watched { AreWatched W.opens W.sees W.closes mode script.now 0 result.ages
+        watcher.old watcher.new }
+{
     let Ok(mut ages) = Vec::with_capacity(alloc, usize::from(script.ages)) else {
         return AgesEnd {
             ages: Seq::of(Vec::new(alloc)),
@@ -73,7 +97,7 @@ pub fn run_ages<R: Threads + Sync, Y: Yard, P: Pace + Sync>(
         };
     };
     for nth in 0..script.ages {
-        match run_age(rt, alloc, script, mode, folder, nth, yard, pace) {
+        match run_age(rt, alloc, script, mode, folder, nth, yard, pace, watcher) {
             Ok(age) => ages.push(age).unwrap(),
             Err(stop) => {
                 return AgesEnd {
@@ -89,8 +113,9 @@ pub fn run_ages<R: Threads + Sync, Y: Yard, P: Pace + Sync>(
     }
 }
 
-/// Runs one age. `nth` is its number in the run, from 0.
-fn run_age<R: Threads + Sync, Y: Yard, P: Pace + Sync>(
+/// Runs one age. `nth` is its number in the run, from 0. Where it doesn't run to its end the watcher is told
+/// nothing.
+fn run_age<R: Threads + Sync, Y: Yard, P: Pace + Sync, W: Watcher>(
     rt: &R,
     alloc: Global,
     script: &Script,
@@ -99,6 +124,7 @@ fn run_age<R: Threads + Sync, Y: Yard, P: Pace + Sync>(
     nth: u8,
     yard: &mut Y,
     pace: &P,
+    watcher: &mut W,
 ) -> Result<AgeEnd, Stop>
     requires ranges { HasRanges script.now }
     requires here { (m : ℕ) → m < MAX_MEMBERS → Y.is_lent yard.old m ≡ false }
@@ -108,12 +134,15 @@ fn run_age<R: Threads + Sync, Y: Yard, P: Pace + Sync>(
     ensures stopped { IfErr result (HasStopped script.now (state_by Y.told Y.faults yard.old)
         (state_by Y.told Y.faults yard.new)) }
     ensures passes { PassOn (state_by Y.told Y.faults yard.old) (state_by Y.told Y.faults yard.new) }
+    ensures watched { IfOk result (λ age. HasSeen W.opens W.sees W.closes mode script.now
+        (start_of script.now age) nth watcher.old watcher.new age) }
+    ensures untold { OnErr result (watcher.new ≡ watcher.old) }
 {
     let Ok(mut logs) = Vec::with_capacity(alloc, usize::from(script.members)) else {
         return Err(Stop::OutOfMemory);
     };
     let (ended, logs) = match mount_all(alloc, folder, yard, script.members, &mut logs) {
-        Ok(()) => run_over(rt, alloc, script, mode, nth, logs, pace),
+        Ok(()) => run_over(rt, alloc, script, mode, nth, logs, pace, watcher),
         Err(stop) => (Err(stop), logs),
     };
     give_all_back(yard, logs);
@@ -121,7 +150,7 @@ fn run_age<R: Threads + Sync, Y: Yard, P: Pace + Sync>(
 }
 
 /// Opens an age over these logs, and runs it. The logs come back.
-fn run_over<R: Threads + Sync, D: Disk, P: Pace + Sync>(
+fn run_over<R: Threads + Sync, D: Disk, P: Pace + Sync, W: Watcher>(
     rt: &R,
     alloc: Global,
     script: &Script,
@@ -129,6 +158,7 @@ fn run_over<R: Threads + Sync, D: Disk, P: Pace + Sync>(
     nth: u8,
     mut logs: Vec<Log<D>>,
     pace: &P,
+    watcher: &mut W,
 ) -> (Result<AgeEnd, Stop>, Vec<Log<D>>)
     requires ranges { HasRanges script.now }
     requires all { length logs.items ≡ script.now.members }
@@ -141,12 +171,15 @@ fn run_over<R: Threads + Sync, D: Disk, P: Pace + Sync>(
         → HasStopped script.now before (with_logs D.told D.faults before result.1.items) stop) }
     ensures later { AreLater D.told D.faults logs.items result.1.items }
     ensures count { length result.1.items ≡ length logs.items }
+    ensures watched { IfOk result.0 (λ age. HasSeen W.opens W.sees W.closes mode script.now
+        (start_of script.now age) nth watcher.old watcher.new age) }
+    ensures untold { OnErr result.0 (watcher.new ≡ watcher.old) }
 {
     let start = match open_age(alloc, script, logs.as_mut_slice()) {
         Ok(start) => start,
         Err(stop) => return (Err(stop), logs),
     };
-    let (ended, logs) = play_age(rt, alloc, script, mode, &start, nth, logs, pace);
+    let (ended, logs) = play_age(rt, alloc, script, mode, &start, nth, logs, pace, watcher);
     match ended {
         Ok(age) => (Ok(age), logs),
         Err(_) => (Err(Stop::OutOfMemory), logs),
@@ -154,7 +187,7 @@ fn run_over<R: Threads + Sync, D: Disk, P: Pace + Sync>(
 }
 
 /// Runs one age from its start, as the mode says. The logs come back.
-fn play_age<R: Threads + Sync, D: Disk, P: Pace + Sync>(
+fn play_age<R: Threads + Sync, D: Disk, P: Pace + Sync, W: Watcher>(
     rt: &R,
     alloc: Global,
     script: &Script,
@@ -163,6 +196,7 @@ fn play_age<R: Threads + Sync, D: Disk, P: Pace + Sync>(
     nth: u8,
     mut logs: Vec<Log<D>>,
     pace: &P,
+    watcher: &mut W,
 ) -> (Result<AgeEnd, AllocError>, Vec<Log<D>>)
     requires ranges { HasRanges script.now }
     requires group { IsGroup (group_of script.now start.now) }
@@ -184,10 +218,13 @@ fn play_age<R: Threads + Sync, D: Disk, P: Pace + Sync>(
     ensures members { IfOk result.0 (λ age. length age.members ≡ length logs.items) }
     ensures later { AreLater D.told D.faults logs.items result.1.items }
     ensures count { length result.1.items ≡ length logs.items }
+    ensures watched { IfOk result.0 (HasSeen W.opens W.sees W.closes mode script.now start.now nth
+        watcher.old watcher.new) }
+    ensures untold { OnErr result.0 (watcher.new ≡ watcher.old) }
 {
     match mode {
         Mode::Sim => (
-            sim_age(alloc, script, start, nth, logs.as_mut_slice()),
+            watch_age(alloc, script, start, nth, logs.as_mut_slice(), watcher),
             logs,
         ),
         Mode::Run => match run_script_age(rt, alloc, script, start, nth, logs, pace) {

@@ -2,12 +2,14 @@
 #![tactic(auto)]
 
 mod ages;
+mod laws;
 mod lending;
 mod mode;
 mod opening;
 mod stop;
 
-pub use ages::{AgesEnd, run_ages};
+pub use ages::{AgesEnd, run_ages, watch_ages};
+pub use laws::timely_ages_complete;
 pub use lending::LOG_LIMIT;
 pub use mode::Mode;
 pub use stop::Stop;

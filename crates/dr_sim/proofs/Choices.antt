@@ -13,9 +13,12 @@ use Rattle.dr_program.specs.Schedule.{has_ended, next_state, choice_of, going, A
 use Rattle.dr_program.proofs.Holdings.{replica_kept}
 use Rattle.dr_program.specs.declared.outcome.Outcome.{Outcome}
 use Rattle.dr_sim.specs.Simulated.{HasRun, SomeFailed, WentWell}
+use Rattle.dr_logged.specs.Served.{AtMember}
 use Rattle.dr_sim.specs.Sound.{move}
+use Rattle.dr_sim.specs.Watched.{WasTold}
 use Rattle.dr_sim.proofs.Outcomes.{none_well, well_both, well_one}
 use Rattle.dr_sim.proofs.Ranges.{count_more, passes, none_pass, one_fails}
+use Rattle.dr_sim.proofs.Tellings.{told_more}
 use Rattle.dr_sim.proofs.Turns.{each_ended, ran_more, ran_one}
 
 -- ---- the choices
@@ -43,30 +46,36 @@ chosen_more x p [] e are next = (next.some, next.choice, tt)
 chosen_more x p (k ∷ ks) e are next =
     (are.0, are.1, chosen_more (next_state x) (step_of p k) ks e are.2 next)
 
--- these have been chosen, and have taken their deeds
-pub record HasChosen (seed : ℕ) (begun : Program) (x : ℕ) (p : Program) : Type 0 where
+-- these have been chosen, and have taken their deeds, of which the watcher was told
+pub record HasChosen {W : Type 0} (sees : W → Running → List ℕ → W → Type 0) (old new : W) (seed : ℕ)
+    (begun : Program) (x : ℕ) (p : Program) : Type 0 where
   pub chosen : List Move
   pub are : AreChosen seed begun chosen
   pub well : WentWell chosen p
   pub state : x ≡ state_after seed chosen
   pub taken : p ≡ ran begun chosen
+  pub told : WasTold sees begun chosen old new
 
 -- before the first choice the state is the seed
-pub nothing_chosen : (seed x : ℕ) (p : Program) → x ≡ seed → HasChosen seed p x p
+pub nothing_chosen : {W : Type 0} (sees : W → Running → List ℕ → W → Type 0) (w : W) (seed x : ℕ) (p : Program)
+    → x ≡ seed → HasChosen sees w w seed p x p
 unfolding state_after ran
-nothing_chosen seed x p e = record {
+nothing_chosen sees w seed x p e = record {
   chosen = [];
   are = tt;
   well = none_well p;
   state = e;
   taken = refl;
+  told = refl;
 }
 
 -- one more choice goes on from what was chosen so far
-pub chosen_again : (seed : ℕ) (begun : Program) (x y : ℕ) (p q : Program) (m : ℕ) (o : Outcome)
-    → HasChosen seed begun x p → IsChoice x p m → y ≡ next_state x → q ≡ step_of p (move m o)
-    → (o ≡ outcomes.Ok) ⊎ SomeFailed q → HasChosen seed begun y q
-chosen_again seed begun x y p q m o has next advanced step well = record {
+pub chosen_again : {W : Type 0} {sees : W → Running → List ℕ → W → Type 0} {old mid : W} (new : W) (seed : ℕ)
+    (begun : Program) (x y : ℕ) (p q : Program) (m : ℕ) (o : Outcome)
+    → HasChosen sees old mid seed begun x p → IsChoice x p m → y ≡ next_state x → q ≡ step_of p (move m o)
+    → (o ≡ outcomes.Ok) ⊎ SomeFailed q → has_ended (slice_get p.members m) ≡ false
+    → AtMember p m (λ r. sees mid r p.table new) → HasChosen sees old new seed begun y q
+chosen_again {W} {sees} {old} {mid} new seed begun x y p q m o has next advanced step well going seen = record {
   chosen = has.chosen ++ move m o ∷ [];
   are = chosen_more seed begun has.chosen (move m o) has.are
       (subst (λ (v : Program). IsChoice (state_after seed has.chosen) v m) has.taken
@@ -76,7 +85,14 @@ chosen_again seed begun x y p q m o has next advanced step well = record {
   state = advanced ∙ ap next_state has.state ∙ sym (state_more seed has.chosen (move m o));
   taken = step ∙ ap (λ (v : Program). step_of v (move m o)) has.taken
       ∙ sym (ran_more begun has.chosen (move m o));
+  told = by (slice_get p.members m) refl going;
 }
+  where
+    by : (r : Option Running) → slice_get p.members m ≡ r → has_ended r ≡ false
+        → WasTold sees begun (has.chosen ++ move m o ∷ []) old new
+    by None is goes = absurd (cc)
+    by (Some r) is goes =
+        told_more sees begun has.chosen p m o r old mid new has.taken has.told is (seen r is)
 
 -- ---- who goes on
 
@@ -202,17 +218,21 @@ picked x p xs ys n j listed same counted left chosen = record {
     place = chosen ∙ ap (choice_of (next_state x)) (counted ∙ ap length listed)
 
 -- once nobody is left, the run is one of the seed
-pub seeded : (seed : ℕ) (begun : Program) (x : ℕ) (p : Program) (xs : List ℕ)
-    → HasChosen seed begun x p → xs ≡ going p → (length xs == 0) ≡ true
-    → HasRun (Seed seed) begun p
+pub seeded : {W : Type 0} {sees : W → Running → List ℕ → W → Type 0} {old new : W} (seed : ℕ) (begun : Program)
+    (x : ℕ) (p : Program) (xs : List ℕ)
+    → HasChosen sees old new seed begun x p → xs ≡ going p → (length xs == 0) ≡ true
+    → (run : HasRun (Seed seed) begun p) × WasTold sees begun run.moves old new
 seeded seed begun x p xs has listed none = (
-  has.chosen,
   record {
-    chosen = has.are;
-    ran = has.taken;
-    ended = nobody_goes p (ap length (sym listed) ∙ zero_is (length xs) none);
+    moves = has.chosen;
+    by = record {
+      chosen = has.are;
+      ran = has.taken;
+      ended = nobody_goes p (ap length (sym listed) ∙ zero_is (length xs) none);
+    };
+    well = has.well;
   },
-  has.well,
+  has.told,
 )
   where
     zero_is : (n : ℕ) → (n == 0) ≡ true → n ≡ 0

@@ -7,10 +7,10 @@ use Rattle.dr_sim.specs.Simulated.{HasRun}
 
 -- a program that a schedule leads to was run
 pub schedule_ran : (schedule : Schedule) (p q : Program) → HasRun schedule p q → IsRanFrom p q
-schedule_ran Lockstep p q (es, run, well) = (es, lockstep_taken p es q run)
-schedule_ran (Seed seed) p q (es, run, well) = (es, run.ran)
+schedule_ran Lockstep p q run = (run.moves, lockstep_taken p run.moves q run.by)
+schedule_ran (Seed seed) p q run = (run.moves, run.by.ran)
 
 -- a schedule ends where all members have ended
 pub schedule_ends : (schedule : Schedule) (p q : Program) → HasRun schedule p q → AllEnded q
-schedule_ends Lockstep p q (es, run, well) = run.ended
-schedule_ends (Seed seed) p q (es, run, well) = run.ended
+schedule_ends Lockstep p q run = run.by.ended
+schedule_ends (Seed seed) p q run = run.by.ended

@@ -1,7 +1,6 @@
 -- What the next deed of a member makes of it and of the table.
 use Rattle.std.proofs.Common.{◌≡◌, sym, ap, ◌∙◌, subst, ℕ, false, List, slice_index}
 use Rattle.std.specs.Prelude.{None, Some, slice_set}
-use Rattle.dr_entry.specs.declared.end.End.{End}
 use Rattle.dr_entry.specs.declared.record.Record.{Record}
 use Rattle.dr_program.specs.declared.deed.Deed.TheVariants as deeds
 use Rattle.dr_program.specs.declared.outcome.LogWhy.{LogWhy}
@@ -100,13 +99,3 @@ failure_taken table r due why x is broken =
     let t = deed_tells table r (deeds.Append due) is in
     subst (IsTaken table r table) (sym broken) (is_taken table r table (broken_off why r) t.none
     (sym (after_append (next_sight table r) (Failed why) r (next_step r) t.says.0)) (table_at table r t.says.0))
-
--- a member at rest stays
-pub rest_taken : (table : List ℕ) (r : Running) (end : End) → next_deed r ≡ deeds.Rest end
-    → IsTaken table r table r
-rest_taken table r end is =
-    let t = deed_tells table r (deeds.Rest end) is in
-    record {
-      member = sym (ap (went_so table (outcome_by r.failed) r) t);
-      table = sym (ap (stores table r) t);
-    }

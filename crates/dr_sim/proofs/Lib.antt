@@ -4,6 +4,7 @@ mod Steps
 mod Outcomes
 mod Logs
 mod Rooms
+mod Tellings
 mod Turns
 mod Choices
 pub mod Courses

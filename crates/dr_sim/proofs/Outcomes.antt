@@ -1,25 +1,19 @@
 -- Whether appends went well over moves: they did, or some member's has failed, and that stays.
-use Rattle.std.proofs.Common.{◌≡◌, refl, sym, ap, ◌∙◌, subst, inl, inr, ◌⊎◌, ℕ, zero, suc, arith, List, [], ◌∷◌, ◌++◌, map}
-use Rattle.std.specs.Prelude.{Option, None, Some, option_map, slice_get}
+use Rattle.std.proofs.Common.{◌≡◌, refl, sym, ap, ◌∙◌, subst, inl, inr, ◌⊎◌, ℕ, zero, suc, arith, List, [], ◌∷◌, ◌++◌}
+use Rattle.std.specs.Prelude.{Option, None, Some, slice_get}
 use Rattle.std.proofs.lemmas.Bool.{cases_eq}
 use Rattle.std.proofs.lemmas.List.Elements.{All-append, All-nil}
-use Rattle.std.proofs.lemmas.Option.{same_Some, slice_get-map, slice_get_within}
-use Rattle.dr_disk.specs.Disk.{Told}
+use Rattle.std.proofs.lemmas.Option.{same_Some, slice_get_within}
 use Rattle.dr_entry.specs.declared.end.End.{End}
-use Rattle.dr_entry.specs.declared.end.MemberEnd.{MemberEnd}
-use Rattle.dr_log.specs.State.{LogState}
-use Rattle.dr_machine.specs.Group.{Group}
 use Rattle.dr_machine.specs.declared.step.Step.{Step}
 use Rattle.dr_machine.specs.declared.step.Step.TheVariants.{Do, Look, Push, Append, LogVote}
 use Rattle.dr_program.specs.declared.outcome.LogWhy.{LogWhy}
 use Rattle.dr_program.specs.declared.outcome.Outcome.{Outcome}
 use Rattle.dr_program.specs.declared.outcome.Outcome.TheVariants.{Ok, Failed}
-use Rattle.dr_program.specs.Program.{AllOk, Move, Program, after_deed, end_of, moved_by, next_sight, ran, step_of, went}
+use Rattle.dr_program.specs.Program.{AllOk, Move, Program, after_deed, moved_by, next_sight, ran, step_of, went}
 use Rattle.dr_program.specs.Running.{Running, next_step}
 use Rattle.dr_program.proofs.Holdings.{replica_kept, replica_set}
 use Rattle.dr_logged.proofs.Serving.{settled_same}
-use Rattle.dr_age.specs.Logged.{NoneStopped, why_ended}
-use Rattle.dr_age.proofs.Ends.{IsOver, each_at, over_tells}
 use Rattle.dr_sim.specs.Simulated.{SomeFailed, WentWell}
 use Rattle.dr_sim.specs.Sound.{move}
 
@@ -91,12 +85,3 @@ well_both es fs p q (inr failed) next is = inr (subst SomeFailed (sym is) (faile
 pub well_one : (m : ℕ) (o : Outcome) (q : Program) → (o ≡ Ok) ⊎ SomeFailed q → WentWell (move m o ∷ []) q
 well_one m o q (inl ok) = inl (one_ok (move m o) ok)
 well_one m o q (inr failed) = inr failed
-
--- where no member was ended by its log, no append has failed
-pub none_failed : {D : Type 0} (told : D → Option Told) (count : D → ℕ) (g : Group)
-    (bases logs : List (LogState D)) (p : Program) → IsOver told count g bases logs p
-    → NoneStopped (map end_of p.members) → SomeFailed p → ⊥
-none_failed told count g bases logs p over stopped (m, r, why, there, at) =
-    let none = each_at (λ (e : MemberEnd). why_ended e.end ≡ None) (map end_of p.members) m (end_of r) stopped
-    (slice_get-map end_of p.members m ∙ ap (option_map end_of) there) in
-    absurd (cc (none, at, over_tells told count g bases logs p m r over there))

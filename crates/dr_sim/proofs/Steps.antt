@@ -1,10 +1,11 @@
 -- A member of a sound program takes its next deed.
-use Rattle.std.proofs.Common.{◌≡◌, refl, sym, ap, ◌∙◌, subst, inl, inr, ◌⊎◌, ℕ, ◌<◌, false, List, length, get_or, arith}
-use Rattle.std.specs.Prelude.{Option, Some, None, slice_get, slice_set}
+use Rattle.std.proofs.Common.{◌≡◌, refl, sym, ap, ◌∙◌, subst, inl, inr, ◌⊎◌, ℕ, ◌<◌, ◌≤◌, false, List, length, get_or, arith}
+use Rattle.std.specs.Prelude.{All, Option, Some, None, slice_get, slice_set}
 use Rattle.std.proofs.lemmas.List.Sums.{sum_by-set}
-use Rattle.std.proofs.lemmas.Option.{same_Some, slice_get_within, get_or_from_slice_get, slice_get_read}
+use Rattle.std.proofs.lemmas.Option.{same_Some, slice_get-get_or, slice_get_within, get_or_from_slice_get, slice_get_read}
 use Rattle.dr_words.specs.Layout.{words_of}
 use Rattle.dr_machine.specs.Group.{Group}
+use Rattle.dr_program.specs.Form.{IsRunningMember}
 use Rattle.dr_program.specs.Running.{Running}
 use Rattle.dr_program.specs.declared.outcome.LogWhy.{LogWhy}
 use Rattle.dr_program.specs.declared.outcome.Outcome.TheVariants.{Ok}
@@ -120,3 +121,18 @@ among_read g rs cells words now m r is sound going read same = record {
 pub at_set : (P : Running → Type 0) (rs : List Running) (m : ℕ) (x r : Running) → m < length rs → P x
     → slice_get (slice_set rs m x) m ≡ Some r → P r
 at_set P rs m x r within is there = subst P (same_Some x r (sym (replica_set rs m x within) ∙ there)) is
+
+-- all members of a sound program are in form
+pub all_in_form : (g : Group) (p : Program) (rs : List Running) → IsSound g p → rs ≡ p.members
+    → All IsRunningMember rs
+all_in_form g p rs is same = λ k d l. is.form.form k (get_or rs k d)
+    (ap (λ xs. slice_get xs k) (sym same) ∙ slice_get-get_or rs k d l)
+
+-- and the table has all words that they may name
+pub all_within : (g : Group) (p : Program) (rs : List Running) (cells : List ℕ) → IsSound g p → rs ≡ p.members
+    → cells ≡ p.table → All (λ (r : Running). table_size r ≤ length cells) rs
+all_within g p rs cells is same words = λ k d l. omega (
+  arith,
+  whole_table g p k (get_or rs k d) is (ap (λ xs. slice_get xs k) (sym same) ∙ slice_get-get_or rs k d l),
+  ap length words,
+)

@@ -18,12 +18,15 @@ use Rattle.dr_turn.specs.Work.{deeds_left}
 use Rattle.dr_program_laws.proofs.Schedules.{turns_taken}
 use Rattle.dr_program.specs.declared.outcome.Outcome.{Outcome}
 use Rattle.dr_sim.specs.Deeds.{member_after, outcome_by, table_after}
-use Rattle.dr_sim.specs.Simulated.{SomeFailed, WentWell}
+use Rattle.dr_script.specs.declared.script.Schedule.TheVariants.{Lockstep}
+use Rattle.dr_sim.specs.Simulated.{HasRun, SomeFailed, WentWell}
 use Rattle.dr_age.specs.Sound.{IsSound}
 use Rattle.dr_sim.specs.Sound.{IsAmong, TookDeed, TookTurn, TookTurns, all_left, move, with_member}
 use Rattle.dr_sim.proofs.Outcomes.{none_well, well_both, well_one}
 use Rattle.dr_sim.proofs.Ranges.{count_more}
+use Rattle.dr_sim.specs.Watched.{WasTold}
 use Rattle.dr_sim.proofs.Steps.{took}
+use Rattle.dr_sim.proofs.Tellings.{told_both, told_more}
 
 -- ---- a turn
 
@@ -40,27 +43,32 @@ pub ran_none : (p : Program) → p ≡ ran p []
 unfolding ran
 ran_none p = refl
 
--- member m is amid a turn, or has begun none: these moves of it
-pub record IsInTurn (m : ℕ) (begun p : Program) : Type 0 where
+-- member m is amid a turn, or has begun none: these moves of it, of which the watcher was told
+pub record IsInTurn {W : Type 0} (sees : W → Running → List ℕ → W → Type 0) (old new : W) (m : ℕ)
+    (begun p : Program) : Type 0 where
   pub moves : List Move
   pub own : All (λ (e : Move). e.member ≡ m) moves
   pub well : WentWell moves p
   pub taken : p ≡ ran begun moves
   pub amid : (k : ℕ) → 0 < k → k ≤ length moves
       → is_between_turns (slice_get (ran begun (take k moves)).members m) ≡ false
+  pub told : WasTold sees begun moves old new
 
 -- a turn begins with no move
-pub turn_begins : (m : ℕ) (p : Program) → IsInTurn m p p
-turn_begins m p = record {
+pub turn_begins : {W : Type 0} (sees : W → Running → List ℕ → W → Type 0) (w : W) (m : ℕ) (p : Program)
+    → IsInTurn sees w w m p p
+turn_begins sees w m p = record {
   moves = [];
   own = All-nil (λ (e : Move). e.member ≡ m);
   well = none_well p;
   taken = ran_none p;
   amid = λ k some few. absurd (omega arith);
+  told = refl;
 }
 
 -- the moves with one more
-abbrev pub more_moves : (m : ℕ) (o : Outcome) (begun p : Program) → IsInTurn m begun p → List Move
+abbrev pub more_moves : {W : Type 0} {sees : W → Running → List ℕ → W → Type 0} {old new : W} (m : ℕ)
+    (o : Outcome) (begun p : Program) → IsInTurn sees old new m begun p → List Move
 more_moves m o begun p is = is.moves ++ move m o ∷ []
 
 one : (P : Move → Type 0) (e : Move) → P e → All P (e ∷ [])
@@ -70,39 +78,48 @@ one P e h = by
     by zero d within = h
     by (suc k) d within = absurd (omega arith)
 
-more_own : (m : ℕ) (o : Outcome) (begun p : Program) (is : IsInTurn m begun p)
+more_own : {W : Type 0} {sees : W → Running → List ℕ → W → Type 0} {old new : W} (m : ℕ) (o : Outcome) (begun p : Program) (is : IsInTurn sees old new m begun p)
     → All (λ (e : Move). e.member ≡ m) (more_moves m o begun p is)
 more_own m o begun p is = All-append (λ (e : Move). e.member ≡ m) is.moves (move m o ∷ []) is.own
     (one (λ (e : Move). e.member ≡ m) (move m o) refl)
 
-more_well : (m : ℕ) (o : Outcome) (begun p q : Program) (is : IsInTurn m begun p)
+more_well : {W : Type 0} {sees : W → Running → List ℕ → W → Type 0} {old new : W} (m : ℕ) (o : Outcome) (begun p q : Program) (is : IsInTurn sees old new m begun p)
     → q ≡ step_of p (move m o) → (o ≡ outcomes.Ok) ⊎ SomeFailed q → WentWell (more_moves m o begun p is) q
 more_well m o begun p q is step well = well_both is.moves (move m o ∷ []) p q is.well (well_one m o q well)
     (step ∙ sym (ran_one p (move m o)))
 
-more_taken : (m : ℕ) (o : Outcome) (begun p q : Program) (is : IsInTurn m begun p)
+more_taken : {W : Type 0} {sees : W → Running → List ℕ → W → Type 0} {old new : W} (m : ℕ) (o : Outcome) (begun p q : Program) (is : IsInTurn sees old new m begun p)
     → q ≡ step_of p (move m o) → q ≡ ran begun (more_moves m o begun p is)
 more_taken m o begun p q is step = step ∙ ap (λ x. step_of x (move m o)) is.taken
     ∙ sym (ran_more begun is.moves (move m o))
 
-more_length : (m : ℕ) (o : Outcome) (begun p : Program) (is : IsInTurn m begun p)
+more_length : {W : Type 0} {sees : W → Running → List ℕ → W → Type 0} {old new : W} (m : ℕ) (o : Outcome) (begun p : Program) (is : IsInTurn sees old new m begun p)
     → length (more_moves m o begun p is) ≡ length is.moves + 1
 more_length m o begun p is = length_push is.moves (move m o)
 
 -- before the last move the member is amid its turn
-more_amid : (m : ℕ) (o : Outcome) (begun p : Program) (is : IsInTurn m begun p) (k : ℕ) → 0 < k → k
+more_amid : {W : Type 0} {sees : W → Running → List ℕ → W → Type 0} {old new : W} (m : ℕ) (o : Outcome) (begun p : Program) (is : IsInTurn sees old new m begun p) (k : ℕ) → 0 < k → k
     ≤ length is.moves
     → is_between_turns (slice_get (ran begun (take k (more_moves m o begun p is))).members m) ≡ false
 more_amid m o begun p is k some few =
     subst (λ es. is_between_turns (slice_get (ran begun es).members m) ≡ false)
     (sym (take-append-le k is.moves (move m o ∷ []) few)) (is.amid k some few)
 
+more_told : {W : Type 0} {sees : W → Running → List ℕ → W → Type 0} {old mid : W} (new : W) (m : ℕ) (o : Outcome)
+    (begun p : Program) (is : IsInTurn sees old mid m begun p) (r : Running) → slice_get p.members m ≡ Some r
+    → sees mid r p.table new → WasTold sees begun (more_moves m o begun p is) old new
+more_told {W} {sees} {old} {mid} new m o begun p is r there seen =
+    told_more sees begun is.moves p m o r old mid new is.taken is.told there seen
+
 -- a move between turns ends the turn
-pub turn_ends : (m : ℕ) (o : Outcome) (begun p q : Program) (is : IsInTurn m begun p)
+pub turn_ends : {W : Type 0} {sees : W → Running → List ℕ → W → Type 0} {old mid : W} (new : W) (m : ℕ)
+    (o : Outcome) (begun p q : Program) (r : Running) (is : IsInTurn sees old mid m begun p)
     → q ≡ step_of p (move m o) → (o ≡ outcomes.Ok) ⊎ SomeFailed q
-    → is_between_turns (slice_get q.members m) ≡ true
+    → is_between_turns (slice_get q.members m) ≡ true → slice_get p.members m ≡ Some r
+    → sees mid r p.table new
     → IsTurn m begun (more_moves m o begun p is) q × WentWell (more_moves m o begun p is) q
-turn_ends m o begun p q is step well whole = (
+    × WasTold sees begun (more_moves m o begun p is) old new
+turn_ends new m o begun p q r is step well whole there seen = (
   record {
     some = omega (arith, more_length m o begun p is);
     own = more_own m o begun p is;
@@ -111,18 +128,22 @@ turn_ends m o begun p q is step well whole = (
     first = λ k some few. more_amid m o begun p is k some (omega (arith, few, more_length m o begun p is));
   },
   more_well m o begun p q is step well,
+  more_told new m o begun p is r there seen,
 )
 
 -- a move within the turn goes on with it
-pub turn_goes_on : (m : ℕ) (o : Outcome) (begun p q : Program) → IsInTurn m begun p
+pub turn_goes_on : {W : Type 0} {sees : W → Running → List ℕ → W → Type 0} {old mid : W} (new : W) (m : ℕ)
+    (o : Outcome) (begun p q : Program) (r : Running) → IsInTurn sees old mid m begun p
     → q ≡ step_of p (move m o) → (o ≡ outcomes.Ok) ⊎ SomeFailed q
-    → is_between_turns (slice_get q.members m) ≡ false → IsInTurn m begun q
-turn_goes_on m o begun p q is step well amid = record {
+    → is_between_turns (slice_get q.members m) ≡ false → slice_get p.members m ≡ Some r
+    → sees mid r p.table new → IsInTurn sees old new m begun q
+turn_goes_on new m o begun p q r is step well amid there seen = record {
   moves = more_moves m o begun p is;
   own = more_own m o begun p is;
   well = more_well m o begun p q is step well;
   taken = more_taken m o begun p q is step;
   amid = each;
+  told = more_told new m o begun p is r there seen;
 }
   where
     last_or_before : (k n : ℕ) → k ≤ n + 1 → (n + 1 ≤ k) ⊎ (k ≤ n)
@@ -153,25 +174,28 @@ set_itself xs i a there = ap (λ x. slice_set xs i x) (sym (get_or_from_slice_ge
     ∙ set-get_or xs i a
 
 -- the program in which the member has gone so far
-pub record IsUnderWay (g : Group) (p : Program) (m : ℕ) (q : Program) : Type 0 where
+pub record IsUnderWay {W : Type 0} (sees : W → Running → List ℕ → W → Type 0) (old new : W) (g : Group)
+    (p : Program) (m : ℕ) (q : Program) : Type 0 where
   pub sound : IsSound g q
-  pub turn : IsInTurn m p q
+  pub turn : IsInTurn sees old new m p q
   pub falls : all_left q ≤ all_left p
 
 -- a member among a program's is under way
-pub way_begins : (g : Group) (p : Program) (m : ℕ) (r : Running) (table : List ℕ)
-    → IsAmong g p m r table → IsUnderWay g p m (with_member p m r table)
-way_begins g p m r table is =
-    subst (IsUnderWay g p m) (sym same)
-    (record { sound = is.sound; turn = turn_begins m p; falls = le_refl _ })
+pub way_begins : {W : Type 0} (sees : W → Running → List ℕ → W → Type 0) (w : W) (g : Group) (p : Program)
+    (m : ℕ) (r : Running) (table : List ℕ) → IsAmong g p m r table
+    → IsUnderWay sees w w g p m (with_member p m r table)
+way_begins sees w g p m r table is =
+    subst (IsUnderWay sees w w g p m) (sym same)
+    (record { sound = is.sound; turn = turn_begins sees w m p; falls = le_refl _ })
   where
     same : with_member p m r table ≡ p
     same = ap (λ rs. record { members = rs; table = table }) (set_itself p.members m r is.there)
         ∙ ap (λ t. record { members = p.members; table = t }) (sym is.table)
 
 -- the member is one of the program that has gone so far
-pub way_among : (g : Group) (p : Program) (m : ℕ) (r x : Running) (table cells : List ℕ)
-    → IsAmong g p m r table → IsUnderWay g p m (with_member p m x cells)
+pub way_among : {W : Type 0} {sees : W → Running → List ℕ → W → Type 0} {old new : W} (g : Group) (p : Program)
+    (m : ℕ) (r x : Running) (table cells : List ℕ) → IsAmong g p m r table
+    → IsUnderWay sees old new g p m (with_member p m x cells)
     → IsAmong g (with_member p m x cells) m x cells
 way_among g p m r x table cells is way =
     record {
@@ -197,43 +221,53 @@ stands : (p : Program) (m : ℕ) (y : Running) (next : List ℕ) (b : Bool) → 
     ≡ b
 stands p m y next b within at = ap is_between_turns (replica_set p.members m y within) ∙ at
 
+-- member m took one whole turn, and the watcher was told of it
+abbrev pub HasTurn : {W : Type 0} → (W → Running → List ℕ → W → Type 0) → W → W → Group → Program → ℕ → Program
+    → Type 0
+HasTurn sees old new g p m q = (took : TookTurn g p m q) × WasTold sees p took.moves old new
+
 -- a deed within the turn leaves the member under way
-pub way_goes_on : (g : Group) (p : Program) (m : ℕ) (r x y : Running) (table cells next : List ℕ)
-    → IsAmong g p m r table → IsUnderWay g p m (with_member p m x cells)
+pub way_goes_on : {W : Type 0} {sees : W → Running → List ℕ → W → Type 0} {old mid : W} (new : W) (g : Group)
+    (p : Program) (m : ℕ) (r x y : Running) (table cells next : List ℕ)
+    → IsAmong g p m r table → IsUnderWay sees old mid g p m (with_member p m x cells)
     → x.replica.end ≡ None → y ≡ member_after cells (outcome_by y.failed) x
     → next ≡ table_after cells x
-    → deeds_left y < deeds_left x → is_between_turns (Some y) ≡ false
-    → IsUnderWay g p m (with_member p m y next)
-way_goes_on g p m r x y table cells next is way none member stores falls amid =
-    let took = way_takes g p m x y cells next
-    (way_among g p m r x table cells is way) none member stores falls in
+    → deeds_left y < deeds_left x → is_between_turns (Some y) ≡ false → sees mid x cells new
+    → IsUnderWay sees old new g p m (with_member p m y next)
+way_goes_on new g p m r x y table cells next is way none member stores falls amid seen =
+    let here = way_among g p m r x table cells is way in
+    let took = way_takes g p m x y cells next here none member stores falls in
     record {
       sound = took.sound;
-      turn = turn_goes_on m took.outcome p (with_member p m x cells) (with_member p m y next) way.turn
+      turn = turn_goes_on new m took.outcome p (with_member p m x cells) (with_member p m y next) x way.turn
           took.step took.well
-          (stands p m y next false (slice_get_within p.members m r is.there) amid);
+          (stands p m y next false (slice_get_within p.members m r is.there) amid) here.there seen;
       falls = omega (arith, took.falls, way.falls);
     }
 
 -- a deed between turns ends the member's turn
-pub way_ends : (g : Group) (p : Program) (m : ℕ) (r x y : Running) (table cells next : List ℕ)
-    → IsAmong g p m r table → IsUnderWay g p m (with_member p m x cells)
+pub way_ends : {W : Type 0} {sees : W → Running → List ℕ → W → Type 0} {old mid : W} (new : W) (g : Group)
+    (p : Program) (m : ℕ) (r x y : Running) (table cells next : List ℕ)
+    → IsAmong g p m r table → IsUnderWay sees old mid g p m (with_member p m x cells)
     → x.replica.end ≡ None → y ≡ member_after cells (outcome_by y.failed) x
     → next ≡ table_after cells x
-    → deeds_left y < deeds_left x → is_between_turns (Some y) ≡ true
-    → TookTurn g p m (with_member p m y next)
-way_ends g p m r x y table cells next is way none member stores falls whole =
-    let took = way_takes g p m x y cells next
-    (way_among g p m r x table cells is way) none member stores falls in
-    let turn = turn_ends m took.outcome p (with_member p m x cells) (with_member p m y next) way.turn
+    → deeds_left y < deeds_left x → is_between_turns (Some y) ≡ true → sees mid x cells new
+    → HasTurn sees old new g p m (with_member p m y next)
+way_ends new g p m r x y table cells next is way none member stores falls whole seen =
+    let here = way_among g p m r x table cells is way in
+    let took = way_takes g p m x y cells next here none member stores falls in
+    let turn = turn_ends new m took.outcome p (with_member p m x cells) (with_member p m y next) x way.turn
     took.step took.well
-    (stands p m y next true (slice_get_within p.members m r is.there) whole) in record {
-      moves = more_moves m took.outcome p (with_member p m x cells) way.turn;
-      turn = turn.0;
-      well = turn.1;
-      sound = took.sound;
-      falls = omega (arith, took.falls, way.falls);
-    }
+    (stands p m y next true (slice_get_within p.members m r is.there) whole) here.there seen in (
+      record {
+        moves = more_moves m took.outcome p (with_member p m x cells) way.turn;
+        turn = turn.0;
+        well = turn.1;
+        sound = took.sound;
+        falls = omega (arith, took.falls, way.falls);
+      },
+      turn.2,
+    )
 
 -- a member amid its turn has not ended
 pub amid_goes : (r : Running) → is_between_turns (Some r) ≡ false → is_some r.replica.end ≡ false
@@ -280,35 +314,49 @@ took_turn : (m : ℕ) (p q : Program) (turn : List Move) → TakesTurn m p turn 
 took_turn m p q turn (inl (ended, none, same)) = same ∙ ran_none p ∙ ap (ran p) (sym none)
 took_turn m p q turn (inr (going, is)) = is.taken
 
-turns_by : (m : ℕ) (p q r : Program) (turn : List Move) → TookTurns (range_with_len 0 m) p q
-    → TakesTurn m q turn r → WentWell turn r → TookTurns (range_with_len 0 (m + 1)) p r
-turns_by m p q r turn (es, turns, well) last fine = (
-  es ++ turn,
-  subst (λ ms. TakeTurns ms p (es ++ turn) r) (sym (count_more m))
-      (turns_more (range_with_len 0 m) m p es q turn r turns last),
-  well_both es turn q r well fine (took_turn m q r turn last),
+-- these members each took their turn, in this order, and the watcher was told of it
+abbrev pub HasTurns : {W : Type 0} → (W → Running → List ℕ → W → Type 0) → W → W → List ℕ → Program → Program
+    → Type 0
+HasTurns sees old new ms p q = (turns : TookTurns ms p q) × WasTold sees p turns.moves old new
+
+turns_by : {W : Type 0} (sees : W → Running → List ℕ → W → Type 0) (old mid new : W) (m : ℕ) (p q r : Program)
+    (turn : List Move) → HasTurns sees old mid (range_with_len 0 m) p q
+    → TakesTurn m q turn r → WentWell turn r → WasTold sees q turn mid new
+    → HasTurns sees old new (range_with_len 0 (m + 1)) p r
+turns_by sees old mid new m p q r turn (took, told) last fine next = (
+  record {
+    moves = took.moves ++ turn;
+    turns = subst (λ ms. TakeTurns ms p (took.moves ++ turn) r) (sym (count_more m))
+        (turns_more (range_with_len 0 m) m p took.moves q turn r took.turns last);
+    well = well_both took.moves turn q r took.well fine (took_turn m q r turn last);
+  },
+  told_both sees p took.moves turn q old mid new
+      (turns_taken (range_with_len 0 m) p took.moves q took.turns) told next,
 )
 
 -- the first members have had their turns in a round, where anyone that had not ended has taken one
-pub record IsInRound (g : Group) (m : ℕ) (begun p : Program) : Type 0 where
-  pub turns : TookTurns (range_with_len 0 m) begun p
+pub record IsInRound {W : Type 0} (sees : W → Running → List ℕ → W → Type 0) (old new : W) (g : Group) (m : ℕ)
+    (begun p : Program) : Type 0 where
+  pub turns : HasTurns sees old new (range_with_len 0 m) begun p
   pub sound : IsSound g p
   pub falls : ((p ≡ begun) × ((k : ℕ) → k < m → has_ended (slice_get begun.members k) ≡ true))
       ⊎ (all_left p < all_left begun)
 
 -- a round begins with a sound program
-pub round_begins : (g : Group) (p : Program) → IsSound g p → IsInRound g 0 p p
-round_begins g p sound = record {
-  turns = ([], (refl, refl), none_well p);
+pub round_begins : {W : Type 0} (sees : W → Running → List ℕ → W → Type 0) (w : W) (g : Group) (p : Program)
+    → IsSound g p → IsInRound sees w w g 0 p p
+round_begins sees w g p sound = record {
+  turns = (record { moves = []; turns = (refl, refl); well = none_well p }, refl);
   sound = sound;
   falls = inl (refl, λ k within. absurd (omega arith));
 }
 
 -- a round passes a member that has ended
-pub round_passes : (g : Group) (m : ℕ) (begun p : Program) → IsInRound g m begun p
-    → has_ended (slice_get p.members m) ≡ true → IsInRound g (m + 1) begun p
-round_passes g m begun p is ended = record {
-  turns = turns_by m begun p p [] is.turns (inl (ended, refl, refl)) (none_well p);
+pub round_passes : {W : Type 0} {sees : W → Running → List ℕ → W → Type 0} {old new : W} (g : Group) (m : ℕ)
+    (begun p : Program) → IsInRound sees old new g m begun p
+    → has_ended (slice_get p.members m) ≡ true → IsInRound sees old new g (m + 1) begun p
+round_passes {W} {sees} {old} {new} g m begun p is ended = record {
+  turns = turns_by sees old new new m begun p p [] is.turns (inl (ended, refl, refl)) (none_well p) refl;
   sound = is.sound;
   falls = by is.falls;
 }
@@ -331,10 +379,13 @@ round_passes g m begun p is ended = record {
     )
 
 -- a round goes on with the turn of a member that has not ended
-pub round_goes_on : (g : Group) (m : ℕ) (begun p q : Program) → IsInRound g m begun p
-    → has_ended (slice_get p.members m) ≡ false → TookTurn g p m q → IsInRound g (m + 1) begun q
-round_goes_on g m begun p q is going took = record {
-  turns = turns_by m begun p q took.moves is.turns (inr (going, took.turn)) took.well;
+pub round_goes_on : {W : Type 0} {sees : W → Running → List ℕ → W → Type 0} {old mid : W} (new : W) (g : Group)
+    (m : ℕ) (begun p q : Program) → IsInRound sees old mid g m begun p
+    → has_ended (slice_get p.members m) ≡ false
+    → HasTurn sees mid new g p m q
+    → IsInRound sees old new g (m + 1) begun q
+round_goes_on {W} {sees} {old} {mid} new g m begun p q is going (took, told) = record {
+  turns = turns_by sees old mid new m begun p q took.moves is.turns (inr (going, took.turn)) took.well told;
   sound = took.sound;
   falls = inr (by is.falls);
 }
@@ -360,8 +411,9 @@ each_ended p each = λ k d within. ended k (slice_index_or p.members k d)
     ended k r at within = sym (ap has_ended at) ∙ each k within
 
 -- a round in which not all had ended leaves less to do
-pub round_ends : (g : Group) (m : ℕ) (begun p : Program) → IsInRound g m begun p → m
-    ≡ length begun.members → ¬ AllEnded begun → all_left p < all_left begun
+pub round_ends : {W : Type 0} {sees : W → Running → List ℕ → W → Type 0} {old new : W} (g : Group) (m : ℕ)
+    (begun p : Program) → IsInRound sees old new g m begun p → m ≡ length begun.members → ¬ AllEnded begun
+    → all_left p < all_left begun
 round_ends g m begun p is all someone = by is.falls
   where
     by : ((p ≡ begun) × ((k : ℕ) → k < m → has_ended (slice_get begun.members k) ≡ true))
@@ -394,29 +446,52 @@ rounds_more (suc k) p es q round r (first, rest, mid, both, taken, more) last = 
   rounds_more k mid rest q round r more last,
 )
 
--- so many rounds have been run, by these moves
-pub record HasRounds (begun p : Program) : Type 0 where
+-- so many rounds have been run, by these moves, of which the watcher was told
+pub record HasRounds {W : Type 0} (sees : W → Running → List ℕ → W → Type 0) (old new : W)
+    (begun p : Program) : Type 0 where
   pub rounds : ℕ
   pub moves : List Move
-  pub ran : Rounds rounds begun moves p
+  pub run : Rounds rounds begun moves p
+  pub taken : p ≡ ran begun moves
   pub well : WentWell moves p
+  pub told : WasTold sees begun moves old new
 
 -- no rounds leave a program as it is
-pub no_rounds : (p : Program) → HasRounds p p
-no_rounds p = record {
+pub no_rounds : {W : Type 0} (sees : W → Running → List ℕ → W → Type 0) (w : W) (p : Program)
+    → HasRounds sees w w p p
+no_rounds sees w p = record {
   rounds = 0;
   moves = [];
-  ran = (refl, refl);
+  run = (refl, refl);
+  taken = ran_none p;
   well = none_well p;
+  told = refl;
 }
 
 -- a round behind rounds makes more of them
-pub rounds_go_on : (begun p q : Program) → HasRounds begun p
-    → TookTurns (range_with_len 0 (length p.members)) p q → HasRounds begun q
-rounds_go_on begun p q has (round, turns, well) = record {
-  rounds = suc has.rounds;
-  moves = has.moves ++ round;
-  ran = rounds_more has.rounds begun has.moves p round q has.ran turns;
-  well = well_both has.moves round p q has.well well
-      (turns_taken (range_with_len 0 (length p.members)) p round q turns);
-}
+pub rounds_go_on : {W : Type 0} {sees : W → Running → List ℕ → W → Type 0} {old mid : W} (new : W)
+    (begun p q : Program) → HasRounds sees old mid begun p
+    → HasTurns sees mid new (range_with_len 0 (length p.members)) p q → HasRounds sees old new begun q
+rounds_go_on {W} {sees} {old} {mid} new begun p q has (round, told) =
+    let taken = turns_taken (range_with_len 0 (length p.members)) p round.moves q round.turns in
+    record {
+      rounds = suc has.rounds;
+      moves = has.moves ++ round.moves;
+      run = rounds_more has.rounds begun has.moves p round.moves q has.run round.turns;
+      taken = taken ∙ ap (λ x. ran x round.moves) has.taken ∙ sym (ran_on begun has.moves round.moves);
+      well = well_both has.moves round.moves p q has.well round.well taken;
+      told = told_both sees begun has.moves round.moves p old mid new has.taken has.told told;
+    }
+
+-- once all have ended, they are the run
+pub rounds_end : {W : Type 0} {sees : W → Running → List ℕ → W → Type 0} {old new : W} (begun p : Program)
+    → HasRounds sees old new begun p → AllEnded p
+    → (run : HasRun Lockstep begun p) × WasTold sees begun run.moves old new
+rounds_end begun p has ended = (
+  record {
+    moves = has.moves;
+    by = record { rounds = has.rounds; ran = has.run; ended = ended };
+    well = has.well;
+  },
+  has.told,
+)

@@ -2,3 +2,4 @@ pub mod Deeds
 pub mod Sound
 pub mod Inside
 pub mod Simulated
+pub mod Watched

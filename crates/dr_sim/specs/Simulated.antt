@@ -26,15 +26,17 @@ SomeFailed p = (m : ℕ) × (r : Running) × (why : LogWhy) × (slice_get p.memb
 abbrev pub WentWell : List Move → Program → Type 0
 WentWell es p = AllOk es ⊎ SomeFailed p
 
--- it has, by some moves
-abbrev pub HasRun : Schedule → Program → Program → Type 0
-HasRun schedule begun p = (es : List Move) × IsRunBy schedule begun es p × WentWell es p
+-- the program has run by the schedule
+pub record HasRun (schedule : Schedule) (begun p : Program) : Type 0 where
+  pub moves : List Move
+  pub by : IsRunBy schedule begun moves p
+  pub well : WentWell moves p
 
 -- the age is that of the script's program, which begins from the start, with the faults of the age that is
 -- number nth of the run, and runs by the script's schedule
-abbrev pub IsSimulated : Script → Start → ℕ → AgeEnd → Type 0
-IsSimulated script start nth age =
-    (begun p : Program)
-    × IsBegun script start nth begun
-    × HasRun script.schedule begun p
-    × (age ≡ age_of (group_of script start).opening p)
+pub record IsSimulated (script : Script) (start : Start) (nth : ℕ) (age : AgeEnd) : Type 0 where
+  pub begun : Program
+  pub over : Program
+  pub begins : IsBegun script start nth begun
+  pub run : HasRun script.schedule begun over
+  pub told : age ≡ age_of (group_of script start).opening over

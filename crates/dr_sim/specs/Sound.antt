@@ -53,5 +53,7 @@ pub record TookTurn (g : Group) (p : Program) (m : ℕ) (q : Program) : Type 0 w
   pub falls : all_left q < all_left p
 
 -- these members each took their turn, in this order
-abbrev pub TookTurns : List ℕ → Program → Program → Type 0
-TookTurns ms p q = (es : List Move) × TakeTurns ms p es q × WentWell es q
+pub record TookTurns (ms : List ℕ) (p q : Program) : Type 0 where
+  pub moves : List Move
+  pub turns : TakeTurns ms p moves q
+  pub well : WentWell moves q

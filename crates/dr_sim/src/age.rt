@@ -1,7 +1,6 @@
 //! An age, from its opening to the ends of all members.
 ghost use Rattle.std.specs.Prelude.{◌≡◌, ◌≤◌, IfOk, OnErr, All, List, [], length, vec_capacity};
-ghost use Rattle.dr_complete.specs.Time.{HasTime};
-ghost use Rattle.dr_program_laws.specs.Ended.{AreComplete, HaveEnded};
+ghost use Rattle.dr_program_laws.specs.Ended.{HaveEnded};
 ghost use Rattle.dr_program_laws.specs.Trusting.{NoneLeft, SuspectsNobody};
 ghost use Rattle.dr_history.specs.Agreement.{EndsAgreed};
 ghost use Rattle.dr_machine.specs.Group.{Group, IsGroup};
@@ -11,11 +10,13 @@ ghost use Rattle.dr_restart.specs.Setups.{crashes_of};
 ghost use Rattle.dr_script.specs.Ranges.{HasRanges};
 ghost use Rattle.dr_log.specs.State.{LogState};
 ghost use Rattle.dr_logged.specs.Served.{AreReady, HaveServed};
-ghost use Rattle.dr_age.specs.Logged.{AreAsBefore, AreCalm, AreOpened, HaveCome, HaveVoted, IsAmple, NoneFull, NoneStopped};
+ghost use Rattle.dr_age.specs.Logged.{AreAsBefore, AreCalm, AreOpened, HaveCome, HaveVoted, IsAmple, NoneFull};
 ghost use Rattle.dr_sim.specs.Simulated.{HasRun, IsSimulated};
 ghost use Rattle.dr_age.specs.Sound.{IsSound};
+ghost use Rattle.dr_sim.specs.Watched.{IsWatched, WasTold};
 
 use crate::simulation::Simulation;
+use crate::watcher::{Unwatched, Watcher};
 use dr_age::ends_of;
 use dr_disk::Disk;
 use dr_entry::{AgeEnd, Entry, MemberEnd, Seq};
@@ -26,8 +27,7 @@ use std::alloc::{AllocError, Global};
 
 /// Runs the group of a script through one age, by the script's schedule, and answers how it ended.
 /// `nth` is the number of the age in the run, from 0: it says which of the faults are those of this
-/// age. Each member appends to the log of its number; one whose append fails ends with that. Where the
-/// script gives its members time enough and no log fails, all are done, with everything.
+/// age. Each member appends to the log of its number; one whose append fails ends with that.
 ///
 /// # Errors
 ///
@@ -48,13 +48,52 @@ pub fn sim_age<D: Disk>(
     ensures ended { IfOk result (λ age. HaveEnded (group_of script.now start.now).opening
         script.now.turns (crashes_of script.now.faults nth) age.members) }
     ensures trusting { IfOk result (λ age. SuspectsNobody script.now → NoneLeft age.members) }
-    ensures complete { IfOk result (λ age. HasTime script.now → NoneStopped age.members
-        → AreComplete (group_of script.now start.now).opening age.members) }
     // What stands on the logs, and what a crash may have left of them at any moment; the votes there are those
     // of the members.
     ensures logged { IfOk result (λ age. HaveCome D.told D.faults logs.old logs.new age.members) }
     ensures voted { IfOk result (λ age. (is : IsSimulated script.now start.now nth age)
-        × HaveVoted logs.old logs.new is.1.members) }
+        × HaveVoted logs.old logs.new is.over.members) }
+    ensures ample { IfOk result (λ age. All (IsAmple (group_of script.now start.now)) logs.old
+        → NoneFull age.members) }
+    ensures kept { OnErr result (AreAsBefore logs.old logs.new) }
+    ensures calm { OnErr result (AreCalm D.told D.faults logs.old logs.new) }
+    ensures count { length logs.new ≡ length logs.old }
+    ensures members { IfOk result (λ age. length age.members ≡ length logs.old) }
+{
+    watch_age(alloc, script, start, nth, logs, &mut Unwatched)
+}
+
+/// Runs the group of a script through one age, as [`sim_age`] does, before a watcher. It is told that the age
+/// opens, of each deed right before it is done, and how all stand at the end.
+///
+/// # Errors
+///
+/// Want of memory alone, before the watcher is told anything.
+pub fn watch_age<D: Disk, W: Watcher>(
+    alloc: Global,
+    script: &Script,
+    start: &Start,
+    nth: u8,
+    logs: &mut [Log<D>],
+    watcher: &mut W,
+) -> Result<AgeEnd, AllocError>
+    requires ranges { HasRanges script.now }
+    requires group { IsGroup (group_of script.now start.now) }
+    requires logs { AreOpened (group_of script.now start.now) logs.old }
+    ensures run { IfOk result (λ age. IsSimulated script.now start.now nth age) }
+    ensures watched { IfOk result (IsWatched W.opens W.sees W.closes script.now start.now nth
+        watcher.old watcher.new) }
+    ensures untold { OnErr result (watcher.new ≡ watcher.old) }
+    ensures agreed { IfOk result (λ age.
+        EndsAgreed (group_of script.now start.now).opening age.members) }
+    ensures ended { IfOk result (λ age. HaveEnded (group_of script.now start.now).opening
+        script.now.turns (crashes_of script.now.faults nth) age.members) }
+    ensures trusting { IfOk result (λ age. SuspectsNobody script.now → NoneLeft age.members) }
+    // What stands on the logs, and what a crash may have left of them at any moment; the votes there are those
+    // of the members.
+    ensures logged { IfOk result (λ age. HaveCome D.told D.faults logs.old logs.new age.members) }
+    ensures voted { IfOk result (λ age. (is : IsSimulated script.now start.now nth age)
+        × HaveVoted logs.old logs.new is.over.members) }
     ensures ample { IfOk result (λ age. All (IsAmple (group_of script.now start.now)) logs.old
         → NoneFull age.members) }
     ensures kept { OnErr result (AreAsBefore logs.old logs.new) }
@@ -66,18 +105,19 @@ pub fn sim_age<D: Disk>(
     let ends = Vec::with_capacity(alloc, usize::from(script.members))?;
     let simulation = Simulation::begin(alloc, script, start, nth)?;
     simulation.make_room(logs)?;
-    Ok(run(simulation, script, start, entries, ends, logs))
+    Ok(run(simulation, script, start, entries, ends, logs, watcher))
 }
 
 /// Runs the members by the script's schedule, and tells how their age ended, by its entries and with
 /// room for its ends.
-fn run<D: Disk>(
+fn run<D: Disk, W: Watcher>(
     mut simulation: Simulation,
     script: &Script,
     start: &Start,
     entries: Seq<Entry>,
     ends: Vec<MemberEnd>,
     logs: &mut [Log<D>],
+    watcher: &mut W,
 ) -> AgeEnd
     ghost group: { Group }
     requires sound { IsSound group simulation }
@@ -85,16 +125,21 @@ fn run<D: Disk>(
     requires none { ends.items ≡ [] }
     requires room { length simulation.members ≤ vec_capacity ends }
     requires ready { AreReady logs.old simulation.members }
-    ensures { (p : Program) × HasRun script.now.schedule simulation p × IsSound group p
+    ensures { (p : Program) × (run : HasRun script.now.schedule simulation p) × IsSound group p
         × (result ≡ age_of (group_of script.now start.now).opening p)
         × ((bases : List (LogState D)) → HaveServed D.told D.faults bases logs.old simulation.members
         → HaveServed D.told D.faults bases logs.new p.members)
-        × (length logs.new ≡ length logs.old) }
+        × (length logs.new ≡ length logs.old)
+        × (opened ended : W) × W.opens watcher.old start.now opened
+        × WasTold W.sees simulation run.moves opened ended
+        × W.closes ended p.members p.table watcher.new }
 {
+    watcher.open(start);
     match script.schedule {
-        Schedule::Lockstep => simulation.run_lockstep(logs),
-        Schedule::Seed(seed) => simulation.run_seeded(seed, logs),
+        Schedule::Lockstep => simulation.run_lockstep(logs, watcher),
+        Schedule::Seed(seed) => simulation.run_seeded(seed, logs, watcher),
     }
+    simulation.tell_end(watcher);
     AgeEnd {
         age: start.age,
         start: entries,

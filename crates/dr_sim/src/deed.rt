@@ -9,16 +9,24 @@ ghost use Rattle.dr_turn.specs.Work.{deeds_left};
 ghost use Rattle.dr_sim.specs.Deeds.{SeesWell, member_after, outcome_by, table_after};
 ghost use Rattle.dr_logged.specs.Served.{AppendsWell, HasServed, IsReady};
 ghost use Rattle.dr_sim.specs.Sound.{IsAmong, IsSomewhere, TookTurn, with_member};
+ghost use Rattle.dr_sim.specs.Watched.{WasTold};
 
+use crate::watcher::Watcher;
 use dr_disk::Disk;
 use dr_log::Log;
 use dr_logged::why_of;
 use dr_member::{Deed, Member};
 
-/// The member takes its next deed, over the words of the table and its log. Where it has ended nothing
-/// happens.
+/// The member, which has not ended, takes its next deed, over the words of the table and its log. The watcher
+/// is told of it first.
 #[inline(always)]
-pub fn take<D: Disk>(member: &mut Member, table: &mut [u64], log: &mut Log<D>)
+pub fn take<D: Disk, W: Watcher>(
+    member: &mut Member,
+    table: &mut [u64],
+    log: &mut Log<D>,
+    watcher: &mut W,
+)
+    requires going { member.old.replica.end ≡ None }
     requires size { table_size member.old ≤ length table.old }
     requires form { IsRunningMember member.old }
     requires sight { SeesWell table.old member.old }
@@ -26,11 +34,13 @@ pub fn take<D: Disk>(member: &mut Member, table: &mut [u64], log: &mut Log<D>)
     requires ready { IsReady log.old member.old }
     ensures member { member.new ≡ member_after table.old (outcome_by member.new.failed) member.old }
     ensures table { table.new ≡ table_after table.old member.old }
-    ensures falls { member.old.replica.end ≡ None → deeds_left member.new < deeds_left member.old }
+    ensures falls { deeds_left member.new < deeds_left member.old }
     ensures ready { IsReady log.new member.new }
     ensures served { (base : LogState D) → HasServed D.told D.faults base log.old member.old
         → HasServed D.told D.faults base log.new member.new }
+    ensures told { W.sees watcher.old member.old table.old watcher.new }
 {
+    watcher.see(member, table);
     match member.next() {
         Deed::Look(index) => member.looked(table[index]),
         Deed::Push(index, word) => {
@@ -72,18 +82,24 @@ fn append<D: Disk>(member: &mut Member, log: &mut Log<D>)
 
 /// The member, which has not ended, takes a whole turn: its deeds up to the first after which it has
 /// ended or stands before a turn.
-pub fn take_turn<D: Disk>(member: &mut Member, table: &mut [u64], log: &mut Log<D>)
+pub fn take_turn<D: Disk, W: Watcher>(
+    member: &mut Member,
+    table: &mut [u64],
+    log: &mut Log<D>,
+    watcher: &mut W,
+)
     requires somewhere { IsSomewhere member.old table.old }
     requires going { is_some member.old.replica.end ≡ false }
     requires ready { IsReady log.old member.old }
     ensures turn { (g : Group) → (p : Program) → (m : ℕ) → IsAmong g p m member.old table.old
-        → TookTurn g p m (with_member p m member.new table.new) }
+        → (took : TookTurn g p m (with_member p m member.new table.new))
+        × WasTold W.sees p took.moves watcher.old watcher.new }
     ensures ready { IsReady log.new member.new }
     ensures served { (base : LogState D) → HasServed D.told D.faults base log.old member.old
         → HasServed D.told D.faults base log.new member.new }
 {
     loop {
-        take(member, table, log);
+        take(member, table, log, watcher);
         if member.is_between_turns() {
             return;
         }

@@ -8,7 +8,9 @@ mod lcg;
 mod lockstep;
 mod seeded;
 mod simulation;
+mod watcher;
 
-pub use age::sim_age;
+pub use age::{sim_age, watch_age};
 pub use lcg::Lcg;
 pub use simulation::Simulation;
+pub use watcher::{Unwatched, Watcher};

@@ -8,20 +8,23 @@ ghost use Rattle.dr_logged.specs.Served.{AreReady, HaveServed};
 ghost use Rattle.dr_sim.specs.Simulated.{HasRun};
 ghost use Rattle.dr_age.specs.Sound.{IsSound};
 ghost use Rattle.dr_sim.specs.Sound.{TookTurns, all_left};
+ghost use Rattle.dr_sim.specs.Watched.{WasTold};
 
 use crate::simulation::Simulation;
+use crate::watcher::Watcher;
 use dr_disk::Disk;
 use dr_log::Log;
 
 impl Simulation {
     /// Runs the members in lockstep to their ends: round after round, in each of which every member
-    /// that has not ended takes a whole turn, by their numbers.
+    /// that has not ended takes a whole turn, by their numbers. The watcher is told of each deed first.
     #[inline(never)]
-    pub fn run_lockstep<D: Disk>(&mut self, logs: &mut [Log<D>])
+    pub fn run_lockstep<D: Disk, W: Watcher>(&mut self, logs: &mut [Log<D>], watcher: &mut W)
         ghost group: { Group }
         requires sound { IsSound group self.old }
         requires ready { AreReady logs.old self.old.members }
-        ensures run { HasRun Lockstep self.old self.new }
+        ensures run { (run : HasRun Lockstep self.old self.new)
+            × WasTold W.sees self.old run.moves watcher.old watcher.new }
         ensures sound { IsSound group self.new }
         ensures ready { AreReady logs.new self.new.members }
         ensures served { (bases : List (LogState D))
@@ -29,16 +32,17 @@ impl Simulation {
             → HaveServed D.told D.faults bases logs.new self.new.members }
     {
         while !self.all_ended() {
-            self.take_round(logs);
+            self.take_round(logs, watcher);
         }
     }
 
     /// Each member that has not ended takes a whole turn, by their numbers.
-    fn take_round<D: Disk>(&mut self, logs: &mut [Log<D>])
+    fn take_round<D: Disk, W: Watcher>(&mut self, logs: &mut [Log<D>], watcher: &mut W)
         ghost group: { Group }
         requires sound { IsSound group self.old }
         requires ready { AreReady logs.old self.old.members }
-        ensures turns { TookTurns (range_with_len 0 (length self.old.members)) self.old self.new }
+        ensures turns { (turns : TookTurns (range_with_len 0 (length self.old.members)) self.old self.new)
+            × WasTold W.sees self.old turns.moves watcher.old watcher.new }
         ensures sound { IsSound group self.new }
         ensures falls { ¬ AllEnded self.old → all_left self.new < all_left self.old }
         ensures ready { AreReady logs.new self.new.members }
@@ -48,7 +52,7 @@ impl Simulation {
     {
         for m in 0..self.len() {
             if !self.has_ended(m) {
-                self.take_turn(m, &mut logs[m]);
+                self.take_turn(m, &mut logs[m], watcher);
             }
         }
     }

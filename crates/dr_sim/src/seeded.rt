@@ -3,13 +3,15 @@ ghost use Rattle.dr_machine.specs.Group.{Group};
 ghost use Rattle.dr_program.specs.Schedule.{going, has_ended};
 ghost use Rattle.dr_script.specs.declared.script.Schedule.TheVariants.{Seed};
 ghost use Rattle.dr_log.specs.State.{LogState};
-ghost use Rattle.dr_logged.specs.Served.{AreReady, HaveServed};
+ghost use Rattle.dr_logged.specs.Served.{AreReady, AtMember, HaveServed};
 ghost use Rattle.dr_sim.specs.Simulated.{HasRun};
 ghost use Rattle.dr_age.specs.Sound.{IsSound};
 ghost use Rattle.dr_sim.specs.Sound.{TookDeed};
+ghost use Rattle.dr_sim.specs.Watched.{WasTold};
 
 use crate::lcg::Lcg;
 use crate::simulation::Simulation;
+use crate::watcher::Watcher;
 use arrayvec::ArrayVec;
 use dr_disk::Disk;
 use dr_entry::MAX_MEMBERS;
@@ -17,13 +19,19 @@ use dr_log::Log;
 
 impl Simulation {
     /// Runs the members to their ends, one deed at a time: each is of the member that the generator of
-    /// this seed chooses among those that have not ended.
+    /// this seed chooses among those that have not ended. The watcher is told of it first.
     #[inline(never)]
-    pub fn run_seeded<D: Disk>(&mut self, seed: u64, logs: &mut [Log<D>])
+    pub fn run_seeded<D: Disk, W: Watcher>(
+        &mut self,
+        seed: u64,
+        logs: &mut [Log<D>],
+        watcher: &mut W,
+    )
         ghost group: { Group }
         requires sound { IsSound group self.old }
         requires ready { AreReady logs.old self.old.members }
-        ensures run { HasRun (Seed seed) self.old self.new }
+        ensures run { (run : HasRun (Seed seed) self.old self.new)
+            × WasTold W.sees self.old run.moves watcher.old watcher.new }
         ensures sound { IsSound group self.new }
         ensures ready { AreReady logs.new self.new.members }
         ensures served { (bases : List (LogState D))
@@ -35,7 +43,7 @@ impl Simulation {
         while !going.is_empty() {
             let at = lcg.choose_few(going.len() as u32) as usize;
             let m = going[at];
-            self.take_deed_of(m, logs);
+            self.take_deed_of(m, logs, watcher);
             if self.has_ended(m) {
                 going.remove(at);
             }
@@ -44,7 +52,7 @@ impl Simulation {
 
     /// Member `m`, which has not ended, takes its next deed, with the log of its number.
     #[inline(always)]
-    fn take_deed_of<D: Disk>(&mut self, m: usize, logs: &mut [Log<D>])
+    fn take_deed_of<D: Disk, W: Watcher>(&mut self, m: usize, logs: &mut [Log<D>], watcher: &mut W)
         ghost group: { Group }
         requires sound { IsSound group self.old }
         requires going { has_ended (slice_get self.old.members m) ≡ false }
@@ -55,8 +63,9 @@ impl Simulation {
         ensures served { (bases : List (LogState D))
             → HaveServed D.told D.faults bases logs.old self.old.members
             → HaveServed D.told D.faults bases logs.new self.new.members }
+        ensures told { AtMember self.old m (λ r. W.sees watcher.old r self.old.table watcher.new) }
     {
-        self.take_deed(m, &mut logs[m]);
+        self.take_deed(m, &mut logs[m], watcher);
     }
 
     /// The numbers of the members that have not ended, ascending.

@@ -10,8 +10,10 @@ ghost use Rattle.dr_age.specs.Logged.{AreAsBefore, AreCalm};
 ghost use Rattle.dr_logged.specs.Served.{AreRoomy, AtMember, HasServed, IsReady};
 ghost use Rattle.dr_age.specs.Sound.{IsSound};
 ghost use Rattle.dr_sim.specs.Sound.{AreOthers, TookDeed, TookTurn};
+ghost use Rattle.dr_sim.specs.Watched.{WasTold};
 
 use crate::deed::{all_ended, take, take_turn};
+use crate::watcher::Watcher;
 use dr_age::begun_members;
 use dr_disk::Disk;
 use dr_log::Log;
@@ -82,6 +84,15 @@ impl Simulation {
         Ok(())
     }
 
+    /// Tells a watcher how the members and the table stand.
+    pub fn tell_end<W: Watcher>(&self, watcher: &mut W)
+        ghost group: { Group }
+        requires sound { IsSound group self.now }
+        ensures { W.closes watcher.old self.now.members self.now.table watcher.new }
+    {
+        watcher.close(&self.members, &self.table);
+    }
+
     /// The members.
     pub fn into_members(self) -> Vec<Member>
         ensures { result.items ≡ self.members }
@@ -111,9 +122,9 @@ impl Simulation {
         all_ended(&self.members)
     }
 
-    /// Member `m`, which has not ended, takes its next deed, with its log.
+    /// Member `m`, which has not ended, takes its next deed, with its log. The watcher is told of it first.
     #[inline(always)]
-    pub fn take_deed<D: Disk>(&mut self, m: usize, log: &mut Log<D>)
+    pub fn take_deed<D: Disk, W: Watcher>(&mut self, m: usize, log: &mut Log<D>, watcher: &mut W)
         ghost group: { Group }
         requires sound { IsSound group self.old }
         requires going { has_ended (slice_get self.old.members m) ≡ false }
@@ -123,23 +134,35 @@ impl Simulation {
         ensures ready { AtMember self.new m (IsReady log.new) }
         ensures served { (base : LogState D) → AtMember self.old m (HasServed D.told D.faults base log.old)
             → AtMember self.new m (HasServed D.told D.faults base log.new) }
+        ensures told { AtMember self.old m (λ r. W.sees watcher.old r self.old.table watcher.new) }
     {
-        take(&mut self.members[m], self.table.as_mut_slice(), log);
+        take(
+            &mut self.members[m],
+            self.table.as_mut_slice(),
+            log,
+            watcher,
+        );
     }
 
     /// Member `m`, which has not ended, takes a whole turn, with its log: its deeds up to the first after
-    /// which it has ended or stands before a turn.
-    pub fn take_turn<D: Disk>(&mut self, m: usize, log: &mut Log<D>)
+    /// which it has ended or stands before a turn. The watcher is told of each first.
+    pub fn take_turn<D: Disk, W: Watcher>(&mut self, m: usize, log: &mut Log<D>, watcher: &mut W)
         ghost group: { Group }
         requires sound { IsSound group self.old }
         requires going { has_ended (slice_get self.old.members m) ≡ false }
         requires ready { AtMember self.old m (IsReady log.old) }
-        ensures took { TookTurn group self.old m self.new }
+        ensures took { (took : TookTurn group self.old m self.new)
+            × WasTold W.sees self.old took.moves watcher.old watcher.new }
         ensures others { AreOthers self.old m self.new }
         ensures ready { AtMember self.new m (IsReady log.new) }
         ensures served { (base : LogState D) → AtMember self.old m (HasServed D.told D.faults base log.old)
             → AtMember self.new m (HasServed D.told D.faults base log.new) }
     {
-        take_turn(&mut self.members[m], self.table.as_mut_slice(), log);
+        take_turn(
+            &mut self.members[m],
+            self.table.as_mut_slice(),
+            log,
+            watcher,
+        );
     }
 }

@@ -109,3 +109,15 @@ returns-clause-passes g c =
 
 pub returns-in_default-clause-passes : goal.returns-in_default-clause-passes
 returns-in_default-clause-passes g c = passes_none (state_by g.Y.Yard.told g.Y.Yard.faults c.args.yard.now)
+
+pub returns-clause-watched : goal.returns-clause-watched
+returns-clause-watched g c = elim c.match-mount_all.branch [
+  | in-Ok-mount_all w ↦ rw (w.ended-is, w.watcher-is) w.run_over.ensures.watched
+  | in-Err w ↦ rw w.ended-is tt
+]
+
+pub returns-clause-untold : goal.returns-clause-untold
+returns-clause-untold g c = elim c.match-mount_all.branch [
+  | in-Ok-mount_all w ↦ rw (w.ended-is, w.watcher-is) w.run_over.ensures.untold
+  | in-Err w ↦ rw (w.ended-is, w.watcher-is) refl
+]

@@ -5,12 +5,14 @@ use Rattle.dr_age.specs.Logged.{AreOpened, HaveCome, HaveVoted, IsAmple}
 use Rattle.dr_gather.specs.CatchingUp.{opened_with}
 use Rattle.dr_gather.specs.Gathering.{IsStartOf, entries_on}
 use Rattle.dr_log.specs.State.{LogState}
+use Rattle.dr_restart.specs.declared.start.Start.{Start}
 use Rattle.dr_restart.specs.Groups.{group_of}
 use Rattle.dr_ages.specs.Ages.{over_of}
 use Rattle.dr_ages.specs.Lent.{AreMounted, with_logs}
 use Rattle.dr_ages.specs.Opened.{AreCaughtUp, AreLater}
 use Rattle.dr_ages.specs.Stops.{HasStopped}
-use Rattle.dr_ages.proofs.Played.{are_opened, is_age, later_on, ok_at}
+use Rattle.dr_ages.specs.Watched.{HasSeen}
+use Rattle.dr_ages.proofs.Played.{are_opened, is_age, later_on, ok_at, same_start}
 use Rattle.dr_ages.proofs.ages.run_over.Goals as goal
 
 pub play_age-ended-requires-clause-logs : goal.play_age-ended-requires-clause-logs
@@ -78,6 +80,18 @@ returns-in-Ok-ended-clause-age g c before mounted =
       count = c.play_age-ended.ensures.count ∙ ap length same;
       members = ok_at _ ended age is c.play_age-ended.ensures.members ∙ ap length same;
     })
+
+pub returns-in-Ok-ended-clause-watched : goal.returns-in-Ok-ended-clause-watched
+returns-in-Ok-ended-clause-watched g c =
+    let script = c.args.script.now in
+    let ended = c.play_age-ended.result.0 in
+    let age = c.in-Ok-ended.age in
+    let run = ok_at _ ended age c.in-Ok-ended.is c.play_age-ended.ensures.run in
+    subst (λ (start : Start). HasSeen g.W.Watcher.opens g.W.Watcher.sees g.W.Watcher.closes c.args.mode script start
+    c.args.nth c.args.watcher.now c.play_age-ended.new.watcher age)
+    (same_start c.args.mode script (entries_on c.as_mut_slice.result.now) c.in-Ok.start c.args.nth age
+    c.in-Ok.ensures.start run.0)
+    (ok_at _ ended age c.in-Ok-ended.is c.play_age-ended.ensures.watched)
 
 pub returns-in-Ok-ended-clause-later : goal.returns-in-Ok-ended-clause-later
 returns-in-Ok-ended-clause-later g c =

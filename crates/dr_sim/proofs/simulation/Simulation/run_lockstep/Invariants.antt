@@ -12,7 +12,7 @@ ghost-take_round g a = g.group
 abbrev pub invariant-loop-self : goal.invariant-loop-self
 invariant-loop-self g l = record {
   sound : IsSound g.group l.self;
-  rounds : HasRounds l.fn.self l.self;
+  rounds : HasRounds g.W.Watcher.sees l.fn.watcher l.watcher l.fn.self l.self;
   ready : AreReady l.logs l.self.members;
   served : (bases : List (LogState g.row.D.Denot))
       → HaveServed g.D.Disk.told g.D.Disk.faults bases l.fn.logs l.fn.self.members

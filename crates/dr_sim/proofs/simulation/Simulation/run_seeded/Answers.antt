@@ -6,10 +6,10 @@ use Rattle.dr_sim.proofs.simulation.Simulation.run_seeded.Goals as goal
 
 pub loop-lcg-init : goal.loop-lcg-init
 loop-lcg-init g c = record {
-  sound = c.requires.1.1.0;
+  sound = c.requires.1.1.1.0;
   going = c.going-going.ensures;
-  chosen = nothing_chosen c.args.seed c.new-lcg.result c.args.self.now c.new-lcg.ensures;
-  ready = c.requires.1.1.1;
+  chosen = nothing_chosen g.W.Watcher.sees c.args.watcher.now c.args.seed c.new-lcg.result c.args.self.now c.new-lcg.ensures;
+  ready = c.requires.1.1.1.1;
   served = λ bases served. served;
 }
 
@@ -19,16 +19,19 @@ take_deed_of-requires-send-D g c = λ ks within.
     c.choose_few-at.result c.loop-lcg.invariant.going c.deref.ensures.0
     c.len.ensures.value (ap (λ n. n == 0) c.len.ensures.value ∙ sym c.is_empty.ensures
     ∙ c.loop-lcg-test.true) c.choose_few-at.ensures.choice in (
-      within,
+      within.0,
       (
-        search rules,
+        within.1,
         (
-          c.loop-lcg.invariant.sound,
+          search rules,
           (
-            pick.goes,
+            c.loop-lcg.invariant.sound,
             (
-              omega (arith, c.loop-lcg.invariant.ready.all, going_within c.loop-lcg.self.members _ pick.goes),
-              c.loop-lcg.invariant.ready,
+              pick.goes,
+              (
+                omega (arith, c.loop-lcg.invariant.ready.all, going_within c.loop-lcg.self.members _ pick.goes),
+                c.loop-lcg.invariant.ready,
+              ),
             ),
           ),
         ),
@@ -48,9 +51,9 @@ loop-lcg-preserved-then-has_ended g c =
           ∙ sym (one_has_ended c.loop-lcg.self c.take_deed_of.new.self _ c.choose_few-at.result took.outcome
           took.step all pick.within pick.place
           (sym c.has_ended.ensures ∙ c.if-has_ended.true));
-      chosen = chosen_again c.args.seed c.args.self.now c.loop-lcg.lcg c.choose_few-at.new.self c.loop-lcg.self
+      chosen = chosen_again c.take_deed_of.new.watcher c.args.seed c.args.self.now c.loop-lcg.lcg c.choose_few-at.new.self c.loop-lcg.self
           c.take_deed_of.new.self _ took.outcome c.loop-lcg.invariant.chosen pick.choice
-          c.choose_few-at.ensures.state took.step took.well;
+          c.choose_few-at.ensures.state took.step took.well pick.goes c.take_deed_of.ensures.told;
       ready = c.take_deed_of.ensures.ready;
       served = λ bases served. c.take_deed_of.ensures.served bases (c.loop-lcg.invariant.served bases served);
     }
@@ -67,9 +70,9 @@ loop-lcg-preserved g c =
       going = c.loop-lcg.invariant.going
           ∙ sym (going_on c.loop-lcg.self c.take_deed_of.new.self _ took.outcome took.step all pick.goes
           (sym c.has_ended.ensures ∙ c.if-has_ended.false));
-      chosen = chosen_again c.args.seed c.args.self.now c.loop-lcg.lcg c.choose_few-at.new.self c.loop-lcg.self
+      chosen = chosen_again c.take_deed_of.new.watcher c.args.seed c.args.self.now c.loop-lcg.lcg c.choose_few-at.new.self c.loop-lcg.self
           c.take_deed_of.new.self _ took.outcome c.loop-lcg.invariant.chosen pick.choice
-          c.choose_few-at.ensures.state took.step took.well;
+          c.choose_few-at.ensures.state took.step took.well pick.goes c.take_deed_of.ensures.told;
       ready = c.take_deed_of.ensures.ready;
       served = λ bases served. c.take_deed_of.ensures.served bases (c.loop-lcg.invariant.served bases served);
     }

@@ -14,7 +14,7 @@ abbrev pub invariant-loop-lcg : goal.invariant-loop-lcg
 invariant-loop-lcg g l = record {
   sound : IsSound g.group l.self;
   going : l.going.items ≡ going l.self;
-  chosen : HasChosen l.seed l.fn.self l.lcg l.self;
+  chosen : HasChosen g.W.Watcher.sees l.fn.watcher l.watcher l.seed l.fn.self l.lcg l.self;
   ready : AreReady l.logs l.self.members;
   served : (bases : List (LogState g.row.D.Denot))
       → HaveServed g.D.Disk.told g.D.Disk.faults bases l.fn.logs l.fn.self.members

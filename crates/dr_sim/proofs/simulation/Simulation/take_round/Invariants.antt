@@ -9,7 +9,7 @@ ghost-take_turn g a = g.group
 
 abbrev pub invariant-loop-m : goal.invariant-loop-m
 invariant-loop-m g l = record {
-  round : IsInRound g.group l.m l.fn.self l.self;
+  round : IsInRound g.W.Watcher.sees l.fn.watcher l.watcher g.group l.m l.fn.self l.self;
   ready : AreReady l.logs l.self.members;
   served : (bases : List (LogState g.row.D.Denot))
       → HaveServed g.D.Disk.told g.D.Disk.faults bases l.fn.logs l.fn.self.members

@@ -7,7 +7,7 @@ use Rattle.dr_program.specs.Program.{Program}
 use Rattle.dr_program.proofs.Holdings.{replica_kept}
 use Rattle.dr_program.specs.Running.{Running}
 use Rattle.dr_program.specs.Schedule.{has_ended}
-use Rattle.dr_sim.specs.Sound.{TookTurn}
+use Rattle.dr_sim.proofs.Turns.{HasTurn}
 use Rattle.dr_sim.proofs.Steps.{among_read, at_set, going_there}
 use Rattle.dr_sim.proofs.simulation.Simulation.take_turn.Goals as goal
 
@@ -15,37 +15,39 @@ pub take_turn-requires-clause-somewhere : goal.take_turn-requires-clause-somewhe
 take_turn-requires-clause-somewhere g c = λ ks within.
     let among = among_read g.group c.self.inside.members.items c.self.inside.table.items
     c.as_mut_slice.result.now c.args.self.now c.args.m c.index_mut.result.now c.self.view_is
-    c.requires.1.1.0 c.requires.1.1.1.0 c.index_mut.ensures.value c.as_mut_slice.ensures.value in
+    c.requires.1.1.1.0 c.requires.1.1.1.1.0 c.index_mut.ensures.value c.as_mut_slice.ensures.value in
     (g.group, c.args.self.now, c.args.m, among)
 
 pub take_turn-requires-clause-going : goal.take_turn-requires-clause-going
 take_turn-requires-clause-going g c = λ ks within.
     let among = among_read g.group c.self.inside.members.items c.self.inside.table.items
     c.as_mut_slice.result.now c.args.self.now c.args.m c.index_mut.result.now c.self.view_is
-    c.requires.1.1.0 c.requires.1.1.1.0 c.index_mut.ensures.value c.as_mut_slice.ensures.value in
-    sym (ap has_ended among.there) ∙ c.requires.1.1.1.0
+    c.requires.1.1.1.0 c.requires.1.1.1.1.0 c.index_mut.ensures.value c.as_mut_slice.ensures.value in
+    sym (ap has_ended among.there) ∙ c.requires.1.1.1.1.0
 
 pub take_turn-requires-clause-ready : goal.take_turn-requires-clause-ready
 take_turn-requires-clause-ready g c = λ ks within.
     let among = among_read g.group c.self.inside.members.items c.self.inside.table.items
     c.as_mut_slice.result.now c.args.self.now c.args.m c.index_mut.result.now c.self.view_is
-    c.requires.1.1.0 c.requires.1.1.1.0 c.index_mut.ensures.value c.as_mut_slice.ensures.value in
-    c.requires.1.1.1.1 c.index_mut.result.now among.there
+    c.requires.1.1.1.0 c.requires.1.1.1.1.0 c.index_mut.ensures.value c.as_mut_slice.ensures.value in
+    c.requires.1.1.1.1.1 c.index_mut.result.now among.there
 
 pub returns-clause-took : goal.returns-clause-took
 returns-clause-took g c =
     let among = among_read g.group c.self.inside.members.items c.self.inside.table.items
     c.as_mut_slice.result.now c.args.self.now c.args.m c.index_mut.result.now c.self.view_is
-    c.requires.1.1.0 c.requires.1.1.1.0 c.index_mut.ensures.value c.as_mut_slice.ensures.value in
+    c.requires.1.1.1.0 c.requires.1.1.1.1.0 c.index_mut.ensures.value c.as_mut_slice.ensures.value in
     let written = with_items_is c.self.inside.table c.take_turn.new.table
     (c.take_turn.auto.table ∙ c.as_mut_slice.ensures.len) in
-    subst (λ (rs : List Running). TookTurn g.group c.args.self.now c.args.m
+    subst (λ (rs : List Running). HasTurn g.W.Watcher.sees c.args.watcher.now c.take_turn.new.watcher g.group
+    c.args.self.now c.args.m
     (record {
       members = slice_set rs c.args.m c.take_turn.new.member;
       table = (with_items c.self.inside.table c.take_turn.new.table).items;
     }))
     (sym (ap (λ (v : Program). v.members) c.self.view_is))
-    (subst (λ (t : List ℕ). TookTurn g.group c.args.self.now c.args.m
+    (subst (λ (t : List ℕ). HasTurn g.W.Watcher.sees c.args.watcher.now c.take_turn.new.watcher g.group
+    c.args.self.now c.args.m
     (record { members = slice_set c.args.self.now.members c.args.m c.take_turn.new.member; table = t }))
     (sym written)
     (c.take_turn.ensures.turn g.group c.args.self.now c.args.m among))
@@ -54,17 +56,17 @@ pub returns-clause-ready : goal.returns-clause-ready
 returns-clause-ready g c = λ r there.
     at_set (IsReady c.take_turn.new.log) c.self.inside.members.items c.args.m c.take_turn.new.member r
     (going_there c.self.inside.members.items c.self.inside.table.items c.args.self.now c.args.m c.self.view_is
-    c.requires.1.1.1.0) c.take_turn.ensures.ready there
+    c.requires.1.1.1.1.0) c.take_turn.ensures.ready there
 
 pub returns-clause-served : goal.returns-clause-served
 returns-clause-served g c = λ base served r there.
     let among = among_read g.group c.self.inside.members.items c.self.inside.table.items
     c.as_mut_slice.result.now c.args.self.now c.args.m c.index_mut.result.now c.self.view_is
-    c.requires.1.1.0 c.requires.1.1.1.0 c.index_mut.ensures.value c.as_mut_slice.ensures.value in
+    c.requires.1.1.1.0 c.requires.1.1.1.1.0 c.index_mut.ensures.value c.as_mut_slice.ensures.value in
     at_set (HasServed g.D.Disk.told g.D.Disk.faults base c.take_turn.new.log) c.self.inside.members.items
     c.args.m c.take_turn.new.member r
     (going_there c.self.inside.members.items c.self.inside.table.items c.args.self.now c.args.m c.self.view_is
-    c.requires.1.1.1.0)
+    c.requires.1.1.1.1.0)
     (c.take_turn.ensures.served base (served c.index_mut.result.now among.there)) there
 
 pub returns-clause-others : goal.returns-clause-others

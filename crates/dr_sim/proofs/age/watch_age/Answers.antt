@@ -1,7 +1,6 @@
-use Rattle.std.proofs.Common.{rules, sym, ◌∙◌, subst, inl, inr, arith}
+use Rattle.std.proofs.Common.{rules, sym, ◌∙◌, subst, arith}
 use Rattle.dr_entry.specs.declared.end.AgeEnd.{AgeEnd}
-use Rattle.dr_complete.proofs.Scripts.{completes_by_script}
-use Rattle.dr_program_laws.specs.Ended.{AreComplete, HaveEnded}
+use Rattle.dr_program_laws.specs.Ended.{HaveEnded}
 use Rattle.dr_program_laws.specs.Trusting.{NoneLeft}
 use Rattle.dr_program_laws.proofs.Ending.{ended_by_script}
 use Rattle.dr_program_laws.proofs.Trusting.{none_by_script}
@@ -9,21 +8,19 @@ use Rattle.dr_program_laws.proofs.Worlds.{ends_agreed}
 use Rattle.dr_history.specs.Agreement.{EndsAgreed}
 use Rattle.dr_restart.specs.Groups.{group_of}
 use Rattle.dr_restart.specs.Setups.{crashes_of}
-use Rattle.dr_script.specs.declared.script.Schedule.{Schedule}
-use Rattle.dr_age.specs.Logged.{HaveCome, NoneFull, NoneStopped}
-use Rattle.dr_sim.specs.Simulated.{IsRunBy}
+use Rattle.dr_age.specs.Logged.{HaveCome, NoneFull}
+use Rattle.dr_sim.specs.Simulated.{IsSimulated}
 use Rattle.dr_sim.proofs.Courses.{schedule_ran, schedule_ends}
 use Rattle.dr_age.proofs.Ends.{IsOver, all_failing, have_come, none_full, ready_with}
-use Rattle.dr_sim.proofs.Outcomes.{none_failed}
-use Rattle.dr_sim.proofs.age.sim_age.Given.{Over}
-use Rattle.dr_sim.proofs.age.sim_age.Goals as goal
+use Rattle.dr_sim.proofs.age.watch_age.Given.{Over}
+use Rattle.dr_sim.proofs.age.watch_age.Goals as goal
 
 -- the program of the age is over
 over : (g : Over) (c : goal.After-logs-2-1 g)
     → IsOver g.D.Disk.told g.D.Disk.faults (group_of c.args.script.now c.args.start.now) c.args.logs.now
     c.run.new.logs c.run.ensures.0
 over g c =
-    let (p, has_run, sound, same, served, count) = c.run.ensures in record {
+    let (p, has_run, sound, same, served, count, opened, ended, opening, moves, closing) = c.run.ensures in record {
       sound = sound;
       ended = schedule_ends c.args.script.now.schedule _ p has_run;
       failing =
@@ -39,28 +36,43 @@ over g c =
           c.make_room.ensures.count c.in_ok-make_room.ensures.room).1;
     }
 
+-- its age is that of the script
+abbrev simulated : (g : Over) (c : goal.After-logs-2-1 g)
+    → IsSimulated c.args.script.now c.args.start.now c.args.nth c.run.result
+simulated g c =
+    let (p, has_run, sound, same, served, count, opened, ended, opening, moves, closing) = c.run.ensures in record {
+      begun = c.in_ok-simulation.simulation;
+      over = p;
+      begins = c.in_ok-simulation.ensures.begun;
+      run = has_run;
+      told = same;
+    }
+
 pub run-requires-send-D : goal.run-requires-send-D
 run-requires-send-D g c = λ ks within. (
-  within,
+  within.0,
   (
-    search rules,
+    within.1,
     (
-      c.in_ok-simulation.ensures.sound,
+      search rules,
       (
-        c.in_ok-entries.ensures,
+        c.in_ok-simulation.ensures.sound,
         (
-          c.in_ok-ends.ensures.items,
+          c.in_ok-entries.ensures,
           (
-            omega (
-              arith,
-              c.in_ok-simulation.ensures.sound.form.all,
-              c.requires.ranges.group.lists,
-              c.in_ok-ends.ensures.capacity,
+            c.in_ok-ends.ensures.items,
+            (
+              omega (
+                arith,
+                c.in_ok-simulation.ensures.sound.form.all,
+                c.requires.ranges.group.lists,
+                c.in_ok-ends.ensures.capacity,
+              ),
+              (ready_with g.D.Disk.told g.D.Disk.faults c.args.script.now c.args.start.now c.args.nth
+                  c.in_ok-simulation.simulation c.args.logs.now c.make_room.new.logs
+                  c.requires.ranges.group.lists c.in_ok-simulation.ensures.begun c.requires.logs
+                  c.make_room.ensures.count c.in_ok-make_room.ensures.room).0,
             ),
-            (ready_with g.D.Disk.told g.D.Disk.faults c.args.script.now c.args.start.now c.args.nth
-                c.in_ok-simulation.simulation c.args.logs.now c.make_room.new.logs
-                c.requires.ranges.group.lists c.in_ok-simulation.ensures.begun c.requires.logs
-                c.make_room.ensures.count c.in_ok-make_room.ensures.room).0,
           ),
         ),
       ),
@@ -70,14 +82,14 @@ run-requires-send-D g c = λ ks within. (
 
 pub returns-clause-agreed : goal.returns-clause-agreed
 returns-clause-agreed g c =
-    let (p, has_run, sound, same, served, count) = c.run.ensures in
+    let (p, has_run, sound, same, served, count, opened, ended, opening, moves, closing) = c.run.ensures in
     subst (λ (age : AgeEnd). EndsAgreed (group_of c.args.script.now c.args.start.now).opening age.members)
     (sym same)
     (ends_agreed (group_of c.args.script.now c.args.start.now) p sound.group sound.form sound.reached)
 
 pub returns-clause-ended : goal.returns-clause-ended
 returns-clause-ended g c =
-    let (p, has_run, sound, same, served, count) = c.run.ensures in
+    let (p, has_run, sound, same, served, count, opened, ended, opening, moves, closing) = c.run.ensures in
     subst (λ (age : AgeEnd). HaveEnded
     (group_of c.args.script.now c.args.start.now).opening c.args.script.now.turns
     (crashes_of c.args.script.now.faults c.args.nth) age.members) (sym same)
@@ -88,40 +100,40 @@ returns-clause-ended g c =
 
 pub returns-clause-trusting : goal.returns-clause-trusting
 returns-clause-trusting g c = λ nobody.
-    let (p, has_run, sound, same, served, count) = c.run.ensures in
+    let (p, has_run, sound, same, served, count, opened, ended, opening, moves, closing) = c.run.ensures in
     subst (λ (age : AgeEnd). NoneLeft age.members) (sym same)
     (none_by_script c.args.script.now c.args.start.now c.args.nth _ p sound.group
     c.requires.ranges.group.lists c.requires.ranges.some_turn nobody c.in_ok-simulation.ensures.begun
     (schedule_ran c.args.script.now.schedule _ p has_run))
 
-pub returns-clause-complete : goal.returns-clause-complete
-returns-clause-complete g c = λ time.
-    let (p, has_run, sound, same, served, count) = c.run.ensures in
-    subst (λ (age : AgeEnd). NoneStopped age.members
-    → AreComplete (group_of c.args.script.now c.args.start.now).opening age.members) (sym same)
-    (λ stopped. elim has_run.2 [
-      | inl well ↦ completes_by_script c.args.script.now c.args.start.now c.args.nth _ p has_run.0 sound.group
-          c.requires.ranges time c.in_ok-simulation.ensures.begun well
-          (subst (λ (schedule : Schedule). IsRunBy schedule c.in_ok-simulation.simulation has_run.0 p)
-          time.lockstep has_run.1)
-      | inr failed ↦ absurd (none_failed _ _ _ _ _ p (over g c) stopped failed)
-    ])
-
 pub returns-clause-logged : goal.returns-clause-logged
 returns-clause-logged g c =
-    let (p, has_run, sound, same, served, count) = c.run.ensures in
+    let (p, has_run, sound, same, served, count, opened, ended, opening, moves, closing) = c.run.ensures in
     subst (λ (age : AgeEnd).
     HaveCome g.D.Disk.told g.D.Disk.faults c.args.logs.now c.run.new.logs age.members) (sym same)
     (have_come _ _ _ _ _ p (over g c))
 
 pub returns-clause-voted : goal.returns-clause-voted
-returns-clause-voted g c =
-    let (p, has_run, sound, same, served, count) = c.run.ensures in (
-      (c.in_ok-simulation.simulation, p, c.in_ok-simulation.ensures.begun, has_run, same),
-      λ m base log r from there at. ((over g c).served m base log r from there at).voted,
-    )
+returns-clause-voted g c = (
+  simulated g c,
+  λ m base log r from there at. ((over g c).served m base log r from there at).voted,
+)
+
+pub returns-clause-run : goal.returns-clause-run
+returns-clause-run g c = simulated g c
+
+pub returns-clause-watched : goal.returns-clause-watched
+returns-clause-watched g c =
+    let (p, has_run, sound, same, served, count, opened, ended, opening, moves, closing) = c.run.ensures in record {
+      is = simulated g c;
+      opened = opened;
+      ended = ended;
+      opening = opening;
+      moves = moves;
+      closing = closing;
+    }
 
 pub returns-clause-ample : goal.returns-clause-ample
 returns-clause-ample g c = λ ample.
-    let (p, has_run, sound, same, served, count) = c.run.ensures in
+    let (p, has_run, sound, same, served, count, opened, ended, opening, moves, closing) = c.run.ensures in
     subst (λ (age : AgeEnd). NoneFull age.members) (sym same) (none_full _ _ _ _ _ p (over g c) ample)

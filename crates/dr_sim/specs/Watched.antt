@@ -1,0 +1,28 @@
+-- What the watcher of a simulated age is told.
+use Rattle.std.specs.Prelude.{◌≡◌, ℕ, List, [], ◌∷◌, slice_get, Some}
+use Rattle.dr_entry.specs.declared.end.AgeEnd.{AgeEnd}
+use Rattle.dr_program.specs.Program.{Move, Program, step_of}
+use Rattle.dr_program.specs.Running.{Running}
+use Rattle.dr_restart.specs.declared.start.Start.{Start}
+use Rattle.dr_script.specs.declared.script.Script.{Script}
+use Rattle.dr_sim.specs.Simulated.{IsSimulated}
+
+-- the watcher was told of each of these moves from p on, one after the other and right before it was made: of
+-- the member that makes it, and of the words of the table
+abbrev pub WasTold : {W : Type 0} → (W → Running → List ℕ → W → Type 0) → Program → List Move → W → W → Type 0
+WasTold sees p [] old new = old ≡ new
+WasTold {W} sees p (e ∷ es) old new =
+    (r : Running) × (next : W) × (slice_get p.members e.member ≡ Some r) × sees old r p.table next
+    × WasTold sees (step_of p e) es next new
+
+-- the watcher was told of a simulated age: that it opens from its start, of each move of its run, and of how
+-- the members and the table stood at its end
+pub record IsWatched {W : Type 0} (opens : W → Start → W → Type 0) (sees : W → Running → List ℕ → W → Type 0)
+    (closes : W → List Running → List ℕ → W → Type 0) (script : Script) (start : Start) (nth : ℕ) (old new : W)
+    (age : AgeEnd) : Type 0 where
+  pub is : IsSimulated script start nth age
+  pub opened : W
+  pub ended : W
+  pub opening : opens old start opened
+  pub moves : WasTold sees is.begun is.run.moves opened ended
+  pub closing : closes ended is.over.members is.over.table new

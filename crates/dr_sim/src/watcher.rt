@@ -1,0 +1,60 @@
+//! Watchers of simulated ages.
+ghost use Rattle.std.specs.Prelude.{◌≡◌, ◌≤◌, ℕ, All, List, None, length};
+ghost use Rattle.dr_member.specs.Deeds.{table_size};
+ghost use Rattle.dr_program.specs.Form.{IsRunningMember};
+ghost use Rattle.dr_program.specs.Running.{Running};
+ghost use Rattle.dr_restart.specs.declared.start.Start.{Start};
+
+use dr_member::Member;
+use dr_restart::Start;
+
+/// Who is told of a simulated age: of its opening, of each deed of its members right before it is done, and of
+/// how all stand once they have ended. It changes nothing of the run.
+pub trait Watcher {
+    // What becomes of it as it is told that an age opens.
+    ghost opens: { Self → Start → Self → Type 0 };
+
+    // What becomes of it as it is told of a deed, by the member and the words of the table before it.
+    ghost sees: { Self → Running → List ℕ → Self → Type 0 };
+
+    // What becomes of it as it is told how the members and the table stand at the end.
+    ghost closes: { Self → List Running → List ℕ → Self → Type 0 };
+
+    /// An age opens from this start.
+    fn open(&mut self, start: &Start)
+        ensures { opens self.old start.now self.new };
+
+    /// The member, which has not ended, is about to do its next deed, over these words of the table.
+    fn see(&mut self, member: &Member, table: &[u64])
+        requires going { member.now.replica.end ≡ None }
+        requires form { IsRunningMember member.now }
+        requires size { table_size member.now ≤ length table.now }
+        ensures { sees self.old member.now table.now self.new };
+
+    /// All members have ended, and this is the table.
+    fn close(&mut self, members: &[Member], table: &[u64])
+        requires form { All IsRunningMember members.now }
+        requires size { All (λ member. table_size member ≤ length table.now) members.now }
+        ensures { closes self.old members.now table.now self.new };
+}
+
+/// A watcher that takes note of nothing.
+#[derive(Drop)]
+pub struct Unwatched;
+
+impl Watcher for Unwatched {
+    ghost opens = { λ old start new. old ≡ new };
+
+    ghost sees = { λ old member table new. old ≡ new };
+
+    ghost closes = { λ old members table new. old ≡ new };
+
+    #[inline(always)]
+    fn open(&mut self, _start: &Start) {}
+
+    #[inline(always)]
+    fn see(&mut self, _member: &Member, _table: &[u64]) {}
+
+    #[inline(always)]
+    fn close(&mut self, _members: &[Member], _table: &[u64]) {}
+}
