@@ -26,12 +26,14 @@ use Rattle.dr_sim.specs.Simulated.{IsRunBy, IsSimulated, SomeFailed}
 use Rattle.dr_sim.proofs.Courses.{schedule_ends, schedule_ran}
 
 -- an end by a failed append is none of a member whose log did not end it
-by_log : (why : LogWhy) (o : Option End) → o ≡ Some (end_by why) → why_ended (unwrap_or o ends.Done) ≡ None → ⊥
+by_log : (why : LogWhy) (o : Option End) → o ≡ Some (end_by why)
+    → why_ended (unwrap_or o ends.Done) ≡ None → ⊥
 by_log whys.DiskFault o is none = absurd (cc)
 by_log (whys.LogFull len) o is none = absurd (cc)
 
 -- where no member was ended by its log, no append has failed
-none_failed : (p : Program) → AllEnded p → AreFailing p → NoneStopped (map end_of p.members) → SomeFailed p → ⊥
+none_failed : (p : Program) → AllEnded p → AreFailing p → NoneStopped (map end_of p.members)
+    → SomeFailed p → ⊥
 none_failed p ended failing stopped (m, r, why, there, at) =
     elim ((failing m r there).broken why at) [
       | inl still ↦ going r.replica.end still.0
@@ -46,15 +48,16 @@ none_failed p ended failing stopped (m, r, why, there, at) =
     going (Some end) is some = absurd (cc)
 
 -- a script that gives its members time enough makes them complete in an age of which no log failed
-pub complete_by_time : (script : Script) (start : Start) (nth : ℕ) (age : AgeEnd) → IsGroup (group_of script start)
-    → HasRanges script → IsSimulated script start nth age → HasTime script → NoneStopped age.members
+pub complete_by_time : (script : Script) (start : Start) (nth : ℕ) (age : AgeEnd)
+    → IsGroup (group_of script start) → HasRanges script → IsSimulated script start nth age → HasTime script
+    → NoneStopped age.members
     → AreComplete (group_of script start).opening age.members
 complete_by_time script start nth age is ranges sim time stopped =
     subst (λ (a : AgeEnd). AreComplete (group_of script start).opening a.members) (sym sim.told)
     (elim sim.run.well [
-      | inl well ↦ completes_by_script script start nth sim.begun sim.over sim.run.moves is ranges time sim.begins
-          well (subst (λ (schedule : Schedule). IsRunBy schedule sim.begun sim.run.moves sim.over) time.lockstep
-          sim.run.by)
+      | inl well ↦ completes_by_script script start nth sim.begun sim.over sim.run.moves is ranges time
+          sim.begins well (subst (λ (schedule : Schedule). IsRunBy schedule sim.begun sim.run.moves sim.over)
+          time.lockstep sim.run.by)
       | inr failed ↦ absurd (none_failed sim.over (schedule_ends script.schedule sim.begun sim.over sim.run)
           (all_failing script start nth sim.begun sim.over is ranges.group.lists ranges.some_turn sim.begins
           (schedule_ran script.schedule sim.begun sim.over sim.run))

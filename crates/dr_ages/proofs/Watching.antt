@@ -18,7 +18,8 @@ pub watched_more : {W : Type 0} (opens : W → Start → W → Type 0) (sees : W
 watched_more opens sees closes mode script nth n [] age old mid new at are is = (
   new,
   subst (λ w. HasSeen opens sees closes mode script (start_of script age) nth w new age) are
-      (subst (λ k. HasSeen opens sees closes mode script (start_of script age) k mid new age) (omega (arith, at)) is),
+      (subst (λ k. HasSeen opens sees closes mode script (start_of script age) k mid new age)
+      (omega (arith, at)) is),
   refl,
 )
 watched_more opens sees closes mode script nth n (one ∷ ages) age old mid new at are is = (

@@ -70,8 +70,8 @@ pub fn run_ages<R: Threads + Sync, Y: Yard, P: Pace + Sync>(
     watch_ages(rt, alloc, script, mode, folder, yard, pace, &mut Unwatched)
 }
 
-/// Runs the ages of a script, as [`run_ages`] does, before a watcher. It is told of each simulated age, in turn,
-/// and of nothing that threads do. Of an age that is not opened it is told nothing.
+/// Runs the ages of a script, as [`run_ages`] does, before a watcher. It is told of each simulated age, in
+/// turn, and of nothing that threads do. Of an age that is not opened it is told nothing.
 pub fn watch_ages<R: Threads + Sync, Y: Yard, P: Pace + Sync, W: Watcher>(
     rt: &R,
     alloc: Global,

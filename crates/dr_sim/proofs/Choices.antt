@@ -57,8 +57,8 @@ pub record HasChosen {W : Type 0} (sees : W → Running → List ℕ → W → T
   pub told : WasTold sees begun chosen old new
 
 -- before the first choice the state is the seed
-pub nothing_chosen : {W : Type 0} (sees : W → Running → List ℕ → W → Type 0) (w : W) (seed x : ℕ) (p : Program)
-    → x ≡ seed → HasChosen sees w w seed p x p
+pub nothing_chosen : {W : Type 0} (sees : W → Running → List ℕ → W → Type 0) (w : W) (seed x : ℕ)
+    (p : Program) → x ≡ seed → HasChosen sees w w seed p x p
 unfolding state_after ran
 nothing_chosen sees w seed x p e = record {
   chosen = [];
@@ -75,14 +75,14 @@ pub chosen_again : {W : Type 0} {sees : W → Running → List ℕ → W → Typ
     → HasChosen sees old mid seed begun x p → IsChoice x p m → y ≡ next_state x → q ≡ step_of p (move m o)
     → (o ≡ outcomes.Ok) ⊎ SomeFailed q → has_ended (slice_get p.members m) ≡ false
     → AtMember p m (λ r. sees mid r p.table new) → HasChosen sees old new seed begun y q
-chosen_again {W} {sees} {old} {mid} new seed begun x y p q m o has next advanced step well going seen = record {
+chosen_again {W} {sees} {old} {mid} new seed begun x y p q m o has next to step well going seen = record {
   chosen = has.chosen ++ move m o ∷ [];
   are = chosen_more seed begun has.chosen (move m o) has.are
       (subst (λ (v : Program). IsChoice (state_after seed has.chosen) v m) has.taken
       (subst (λ s. IsChoice s p m) has.state next));
   well = well_both has.chosen (move m o ∷ []) p q has.well (well_one m o q well)
       (step ∙ sym (ran_one p (move m o)));
-  state = advanced ∙ ap next_state has.state ∙ sym (state_more seed has.chosen (move m o));
+  state = to ∙ ap next_state has.state ∙ sym (state_more seed has.chosen (move m o));
   taken = step ∙ ap (λ (v : Program). step_of v (move m o)) has.taken
       ∙ sym (ran_more begun has.chosen (move m o));
   told = by (slice_get p.members m) refl going;
@@ -218,8 +218,8 @@ picked x p xs ys n j listed same counted left chosen = record {
     place = chosen ∙ ap (choice_of (next_state x)) (counted ∙ ap length listed)
 
 -- once nobody is left, the run is one of the seed
-pub seeded : {W : Type 0} {sees : W → Running → List ℕ → W → Type 0} {old new : W} (seed : ℕ) (begun : Program)
-    (x : ℕ) (p : Program) (xs : List ℕ)
+pub seeded : {W : Type 0} {sees : W → Running → List ℕ → W → Type 0} {old new : W} (seed : ℕ)
+    (begun : Program) (x : ℕ) (p : Program) (xs : List ℕ)
     → HasChosen sees old new seed begun x p → xs ≡ going p → (length xs == 0) ≡ true
     → (run : HasRun (Seed seed) begun p) × WasTold sees begun run.moves old new
 seeded seed begun x p xs has listed none = (

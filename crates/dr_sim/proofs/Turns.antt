@@ -78,36 +78,42 @@ one P e h = by
     by zero d within = h
     by (suc k) d within = absurd (omega arith)
 
-more_own : {W : Type 0} {sees : W → Running → List ℕ → W → Type 0} {old new : W} (m : ℕ) (o : Outcome) (begun p : Program) (is : IsInTurn sees old new m begun p)
+more_own : {W : Type 0} {sees : W → Running → List ℕ → W → Type 0} {old new : W} (m : ℕ)
+    (o : Outcome) (begun p : Program) (is : IsInTurn sees old new m begun p)
     → All (λ (e : Move). e.member ≡ m) (more_moves m o begun p is)
 more_own m o begun p is = All-append (λ (e : Move). e.member ≡ m) is.moves (move m o ∷ []) is.own
     (one (λ (e : Move). e.member ≡ m) (move m o) refl)
 
-more_well : {W : Type 0} {sees : W → Running → List ℕ → W → Type 0} {old new : W} (m : ℕ) (o : Outcome) (begun p q : Program) (is : IsInTurn sees old new m begun p)
+more_well : {W : Type 0} {sees : W → Running → List ℕ → W → Type 0} {old new : W} (m : ℕ)
+    (o : Outcome) (begun p q : Program) (is : IsInTurn sees old new m begun p)
     → q ≡ step_of p (move m o) → (o ≡ outcomes.Ok) ⊎ SomeFailed q → WentWell (more_moves m o begun p is) q
 more_well m o begun p q is step well = well_both is.moves (move m o ∷ []) p q is.well (well_one m o q well)
     (step ∙ sym (ran_one p (move m o)))
 
-more_taken : {W : Type 0} {sees : W → Running → List ℕ → W → Type 0} {old new : W} (m : ℕ) (o : Outcome) (begun p q : Program) (is : IsInTurn sees old new m begun p)
+more_taken : {W : Type 0} {sees : W → Running → List ℕ → W → Type 0} {old new : W} (m : ℕ)
+    (o : Outcome) (begun p q : Program) (is : IsInTurn sees old new m begun p)
     → q ≡ step_of p (move m o) → q ≡ ran begun (more_moves m o begun p is)
 more_taken m o begun p q is step = step ∙ ap (λ x. step_of x (move m o)) is.taken
     ∙ sym (ran_more begun is.moves (move m o))
 
-more_length : {W : Type 0} {sees : W → Running → List ℕ → W → Type 0} {old new : W} (m : ℕ) (o : Outcome) (begun p : Program) (is : IsInTurn sees old new m begun p)
+more_length : {W : Type 0} {sees : W → Running → List ℕ → W → Type 0} {old new : W} (m : ℕ)
+    (o : Outcome) (begun p : Program) (is : IsInTurn sees old new m begun p)
     → length (more_moves m o begun p is) ≡ length is.moves + 1
 more_length m o begun p is = length_push is.moves (move m o)
 
 -- before the last move the member is amid its turn
-more_amid : {W : Type 0} {sees : W → Running → List ℕ → W → Type 0} {old new : W} (m : ℕ) (o : Outcome) (begun p : Program) (is : IsInTurn sees old new m begun p) (k : ℕ) → 0 < k → k
-    ≤ length is.moves
+more_amid : {W : Type 0} {sees : W → Running → List ℕ → W → Type 0} {old new : W} (m : ℕ)
+    (o : Outcome) (begun p : Program) (is : IsInTurn sees old new m begun p) (k : ℕ) → 0 < k
+    → k ≤ length is.moves
     → is_between_turns (slice_get (ran begun (take k (more_moves m o begun p is))).members m) ≡ false
 more_amid m o begun p is k some few =
     subst (λ es. is_between_turns (slice_get (ran begun es).members m) ≡ false)
     (sym (take-append-le k is.moves (move m o ∷ []) few)) (is.amid k some few)
 
-more_told : {W : Type 0} {sees : W → Running → List ℕ → W → Type 0} {old mid : W} (new : W) (m : ℕ) (o : Outcome)
-    (begun p : Program) (is : IsInTurn sees old mid m begun p) (r : Running) → slice_get p.members m ≡ Some r
-    → sees mid r p.table new → WasTold sees begun (more_moves m o begun p is) old new
+more_told : {W : Type 0} {sees : W → Running → List ℕ → W → Type 0} {old mid : W} (new : W) (m : ℕ)
+    (o : Outcome) (begun p : Program) (is : IsInTurn sees old mid m begun p) (r : Running)
+    → slice_get p.members m ≡ Some r → sees mid r p.table new
+    → WasTold sees begun (more_moves m o begun p is) old new
 more_told {W} {sees} {old} {mid} new m o begun p is r there seen =
     told_more sees begun is.moves p m o r old mid new is.taken is.told there seen
 
@@ -193,8 +199,8 @@ way_begins sees w g p m r table is =
         ∙ ap (λ t. record { members = p.members; table = t }) (sym is.table)
 
 -- the member is one of the program that has gone so far
-pub way_among : {W : Type 0} {sees : W → Running → List ℕ → W → Type 0} {old new : W} (g : Group) (p : Program)
-    (m : ℕ) (r x : Running) (table cells : List ℕ) → IsAmong g p m r table
+pub way_among : {W : Type 0} {sees : W → Running → List ℕ → W → Type 0} {old new : W} (g : Group)
+    (p : Program) (m : ℕ) (r x : Running) (table cells : List ℕ) → IsAmong g p m r table
     → IsUnderWay sees old new g p m (with_member p m x cells)
     → IsAmong g (with_member p m x cells) m x cells
 way_among g p m r x table cells is way =
@@ -222,8 +228,8 @@ stands : (p : Program) (m : ℕ) (y : Running) (next : List ℕ) (b : Bool) → 
 stands p m y next b within at = ap is_between_turns (replica_set p.members m y within) ∙ at
 
 -- member m took one whole turn, and the watcher was told of it
-abbrev pub HasTurn : {W : Type 0} → (W → Running → List ℕ → W → Type 0) → W → W → Group → Program → ℕ → Program
-    → Type 0
+abbrev pub HasTurn : {W : Type 0} → (W → Running → List ℕ → W → Type 0) → W → W → Group → Program → ℕ
+    → Program → Type 0
 HasTurn sees old new g p m q = (took : TookTurn g p m q) × WasTold sees p took.moves old new
 
 -- a deed within the turn leaves the member under way
@@ -379,8 +385,8 @@ round_passes {W} {sees} {old} {new} g m begun p is ended = record {
     )
 
 -- a round goes on with the turn of a member that has not ended
-pub round_goes_on : {W : Type 0} {sees : W → Running → List ℕ → W → Type 0} {old mid : W} (new : W) (g : Group)
-    (m : ℕ) (begun p q : Program) → IsInRound sees old mid g m begun p
+pub round_goes_on : {W : Type 0} {sees : W → Running → List ℕ → W → Type 0} {old mid : W} (new : W)
+    (g : Group) (m : ℕ) (begun p q : Program) → IsInRound sees old mid g m begun p
     → has_ended (slice_get p.members m) ≡ false
     → HasTurn sees mid new g p m q
     → IsInRound sees old new g (m + 1) begun q

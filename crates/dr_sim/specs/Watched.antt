@@ -18,8 +18,8 @@ WasTold {W} sees p (e ∷ es) old new =
 -- the watcher was told of a simulated age: that it opens from its start, of each move of its run, and of how
 -- the members and the table stood at its end
 pub record IsWatched {W : Type 0} (opens : W → Start → W → Type 0) (sees : W → Running → List ℕ → W → Type 0)
-    (closes : W → List Running → List ℕ → W → Type 0) (script : Script) (start : Start) (nth : ℕ) (old new : W)
-    (age : AgeEnd) : Type 0 where
+    (closes : W → List Running → List ℕ → W → Type 0) (script : Script) (start : Start) (nth : ℕ)
+    (old new : W) (age : AgeEnd) : Type 0 where
   pub is : IsSimulated script start nth age
   pub opened : W
   pub ended : W

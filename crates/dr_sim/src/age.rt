@@ -63,8 +63,8 @@ pub fn sim_age<D: Disk>(
     watch_age(alloc, script, start, nth, logs, &mut Unwatched)
 }
 
-/// Runs the group of a script through one age, as [`sim_age`] does, before a watcher. It is told that the age
-/// opens, of each deed right before it is done, and how all stand at the end.
+/// Runs the group of a script through one age, as [`sim_age`] does, before a watcher. It is told that the
+/// age opens, of each deed right before it is done, and how all stand at the end.
 ///
 /// # Errors
 ///

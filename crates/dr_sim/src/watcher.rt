@@ -8,8 +8,8 @@ ghost use Rattle.dr_restart.specs.declared.start.Start.{Start};
 use dr_member::Member;
 use dr_restart::Start;
 
-/// Who is told of a simulated age: of its opening, of each deed of its members right before it is done, and of
-/// how all stand once they have ended. It changes nothing of the run.
+/// Who is told of a simulated age: of its opening, of each deed of its members right before it is done, and
+/// of how all stand once they have ended. It changes nothing of the run.
 pub trait Watcher {
     // What becomes of it as it is told that an age opens.
     ghost opens: { Self → Start → Self → Type 0 };

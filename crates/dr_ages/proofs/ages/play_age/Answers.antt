@@ -24,7 +24,8 @@ returns-in-Sim-clause-run g c =
     RanWith c.args.script.now c.args.start.now c.args.nth age c.args.mode l c.watch_age.new.logs)
     c.as_mut_slice.ensures.value
     (subst (λ (mode : Mode).
-    RanWith c.args.script.now c.args.start.now c.args.nth age mode c.as_mut_slice.result.now c.watch_age.new.logs)
+    RanWith c.args.script.now c.args.start.now c.args.nth age mode c.as_mut_slice.result.now
+    c.watch_age.new.logs)
     (sym c.in-Sim.is) so)))
     c.watch_age.ensures.voted
 

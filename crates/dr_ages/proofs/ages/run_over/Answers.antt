@@ -87,8 +87,8 @@ returns-in-Ok-ended-clause-watched g c =
     let ended = c.play_age-ended.result.0 in
     let age = c.in-Ok-ended.age in
     let run = ok_at _ ended age c.in-Ok-ended.is c.play_age-ended.ensures.run in
-    subst (λ (start : Start). HasSeen g.W.Watcher.opens g.W.Watcher.sees g.W.Watcher.closes c.args.mode script start
-    c.args.nth c.args.watcher.now c.play_age-ended.new.watcher age)
+    subst (λ (start : Start). HasSeen g.W.Watcher.opens g.W.Watcher.sees g.W.Watcher.closes c.args.mode script
+    start c.args.nth c.args.watcher.now c.play_age-ended.new.watcher age)
     (same_start c.args.mode script (entries_on c.as_mut_slice.result.now) c.in-Ok.start c.args.nth age
     c.in-Ok.ensures.start run.0)
     (ok_at _ ended age c.in-Ok-ended.is c.play_age-ended.ensures.watched)

@@ -25,8 +25,8 @@ loop-nth-preserved g c =
           (ages_more c.args.script.now c.args.mode 0 c.loop-nth.nth before c.loop-nth.ages.items mid after
           c.in-Ok-run_age.age (omega (arith, c.loop-nth.invariant.0)) c.loop-nth.invariant.3
           c.in-Ok-run_age.ensures.age),
-      subst (λ (ages : List AgeEnd). AreWatched g.W.Watcher.opens g.W.Watcher.sees g.W.Watcher.closes c.args.mode
-          c.args.script.now 0 ages c.args.watcher.now c.run_age.new.watcher) (sym items)
+      subst (λ (ages : List AgeEnd). AreWatched g.W.Watcher.opens g.W.Watcher.sees g.W.Watcher.closes
+          c.args.mode c.args.script.now 0 ages c.args.watcher.now c.run_age.new.watcher) (sym items)
           (watched_more g.W.Watcher.opens g.W.Watcher.sees g.W.Watcher.closes c.args.mode c.args.script.now 0
           c.loop-nth.nth c.loop-nth.ages.items c.in-Ok-run_age.age c.args.watcher.now c.loop-nth.watcher
           c.run_age.new.watcher (omega (arith, c.loop-nth.invariant.0)) c.loop-nth.invariant.4
@@ -67,18 +67,20 @@ returns-clause-run g c =
 
 pub returns-in_default-clause-watched : goal.returns-in_default-clause-watched
 returns-in_default-clause-watched g c =
-    subst (λ (ages : List AgeEnd). AreWatched g.W.Watcher.opens g.W.Watcher.sees g.W.Watcher.closes c.args.mode
-    c.args.script.now 0 ages c.args.watcher.now c.args.watcher.now) (sym (c.of.ensures ∙ c.new.ensures.items)) refl
+    subst (λ (ages : List AgeEnd). AreWatched g.W.Watcher.opens g.W.Watcher.sees g.W.Watcher.closes
+    c.args.mode c.args.script.now 0 ages c.args.watcher.now c.args.watcher.now)
+    (sym (c.of.ensures ∙ c.new.ensures.items)) refl
 
 pub returns-in-Err-clause-watched : goal.returns-in-Err-clause-watched
 returns-in-Err-clause-watched g c =
-    subst (λ (ages : List AgeEnd). AreWatched g.W.Watcher.opens g.W.Watcher.sees g.W.Watcher.closes c.args.mode
-    c.args.script.now 0 ages c.args.watcher.now c.run_age.new.watcher) (sym c.of-in-Err.ensures)
-    (subst (λ (w : g.row.W.Denot). AreWatched g.W.Watcher.opens g.W.Watcher.sees g.W.Watcher.closes c.args.mode
-    c.args.script.now 0 c.loop-nth.ages.items c.args.watcher.now w) (sym c.in-Err.ensures.untold)
+    subst (λ (ages : List AgeEnd). AreWatched g.W.Watcher.opens g.W.Watcher.sees g.W.Watcher.closes
+    c.args.mode c.args.script.now 0 ages c.args.watcher.now c.run_age.new.watcher) (sym c.of-in-Err.ensures)
+    (subst (λ (w : g.row.W.Denot). AreWatched g.W.Watcher.opens g.W.Watcher.sees g.W.Watcher.closes
+    c.args.mode c.args.script.now 0 c.loop-nth.ages.items c.args.watcher.now w) (sym c.in-Err.ensures.untold)
     c.loop-nth.invariant.4)
 
 pub returns-clause-watched : goal.returns-clause-watched
 returns-clause-watched g c =
-    subst (λ (ages : List AgeEnd). AreWatched g.W.Watcher.opens g.W.Watcher.sees g.W.Watcher.closes c.args.mode
-    c.args.script.now 0 ages c.args.watcher.now c.loop-nth.watcher) (sym c.of-2.ensures) c.loop-nth.invariant.4
+    subst (λ (ages : List AgeEnd). AreWatched g.W.Watcher.opens g.W.Watcher.sees g.W.Watcher.closes
+    c.args.mode c.args.script.now 0 ages c.args.watcher.now c.loop-nth.watcher) (sym c.of-2.ensures)
+    c.loop-nth.invariant.4

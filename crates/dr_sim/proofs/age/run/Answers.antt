@@ -34,11 +34,10 @@ returns g c =
             w.run_lockstep.new.watcher,
             c.open.ensures,
             ran.1,
-            subst (λ (x : g.row.W.Denot).
-                g.W.Watcher.closes x w.run_lockstep.new.self.members w.run_lockstep.new.self.table c.tell_end.new.watcher) w.watcher-is
-                (subst (λ (v : Program).
-                g.W.Watcher.closes c.match-script.watcher v.members v.table c.tell_end.new.watcher) w.simulation-is
-                c.tell_end.ensures),
+            subst (λ (x : g.row.W.Denot). g.W.Watcher.closes x w.run_lockstep.new.self.members
+                w.run_lockstep.new.self.table c.tell_end.new.watcher) w.watcher-is
+                (subst (λ (v : Program). g.W.Watcher.closes c.match-script.watcher v.members v.table
+                c.tell_end.new.watcher) w.simulation-is c.tell_end.ensures),
           )
       | in-Seed w ↦
           let ran = subst (λ (s : Schedule). (run : HasRun s c.args.simulation w.run_seeded.new.self)
@@ -59,10 +58,9 @@ returns g c =
             w.run_seeded.new.watcher,
             c.open.ensures,
             ran.1,
-            subst (λ (x : g.row.W.Denot).
-                g.W.Watcher.closes x w.run_seeded.new.self.members w.run_seeded.new.self.table c.tell_end.new.watcher) w.watcher-is
-                (subst (λ (v : Program).
-                g.W.Watcher.closes c.match-script.watcher v.members v.table c.tell_end.new.watcher) w.simulation-is
-                c.tell_end.ensures),
+            subst (λ (x : g.row.W.Denot). g.W.Watcher.closes x w.run_seeded.new.self.members
+                w.run_seeded.new.self.table c.tell_end.new.watcher) w.watcher-is
+                (subst (λ (v : Program). g.W.Watcher.closes c.match-script.watcher v.members v.table
+                c.tell_end.new.watcher) w.simulation-is c.tell_end.ensures),
           )
     ]

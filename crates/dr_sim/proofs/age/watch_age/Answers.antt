@@ -20,7 +20,8 @@ over : (g : Over) (c : goal.After-logs-2-1 g)
     → IsOver g.D.Disk.told g.D.Disk.faults (group_of c.args.script.now c.args.start.now) c.args.logs.now
     c.run.new.logs c.run.ensures.0
 over g c =
-    let (p, has_run, sound, same, served, count, opened, ended, opening, moves, closing) = c.run.ensures in record {
+    let (p, has_run, sound, same, served, count, opened, ended, opening, moves, closing) = c.run.ensures in
+    record {
       sound = sound;
       ended = schedule_ends c.args.script.now.schedule _ p has_run;
       failing =
@@ -40,7 +41,8 @@ over g c =
 abbrev simulated : (g : Over) (c : goal.After-logs-2-1 g)
     → IsSimulated c.args.script.now c.args.start.now c.args.nth c.run.result
 simulated g c =
-    let (p, has_run, sound, same, served, count, opened, ended, opening, moves, closing) = c.run.ensures in record {
+    let (p, has_run, sound, same, served, count, opened, ended, opening, moves, closing) = c.run.ensures in
+    record {
       begun = c.in_ok-simulation.simulation;
       over = p;
       begins = c.in_ok-simulation.ensures.begun;
@@ -124,7 +126,8 @@ returns-clause-run g c = simulated g c
 
 pub returns-clause-watched : goal.returns-clause-watched
 returns-clause-watched g c =
-    let (p, has_run, sound, same, served, count, opened, ended, opening, moves, closing) = c.run.ensures in record {
+    let (p, has_run, sound, same, served, count, opened, ended, opening, moves, closing) = c.run.ensures in
+    record {
       is = simulated g c;
       opened = opened;
       ended = ended;

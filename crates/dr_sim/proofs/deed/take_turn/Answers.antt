@@ -47,8 +47,8 @@ take-requires-clause-appends g c = λ ks within.
 pub returns-then-is_between_turns-clause-turn : goal.returns-then-is_between_turns-clause-turn
 returns-then-is_between_turns-clause-turn g c =
     λ h p m is. let none = going_none c.loop.member c.loop.invariant.going in
-    way_ends c.take.new.watcher h p m c.args.member.now c.loop.member c.take.new.member c.args.table.now c.loop.table
-    c.take.new.table is (c.loop.invariant.way h p m is)
+    way_ends c.take.new.watcher h p m c.args.member.now c.loop.member c.take.new.member c.args.table.now
+    c.loop.table c.take.new.table is (c.loop.invariant.way h p m is)
     none c.take.ensures.member c.take.ensures.table c.take.ensures.falls
     (sym c.is_between_turns.ensures ∙ c.if-is_between_turns.true) c.take.ensures.told
 
@@ -64,8 +64,8 @@ loop-preserved g c =
     let none = going_none c.loop.member c.loop.invariant.going in
     let amid = sym c.is_between_turns.ensures ∙ c.if-is_between_turns.false in record {
       way = λ h p m is.
-          way_goes_on c.take.new.watcher h p m c.args.member.now c.loop.member c.take.new.member c.args.table.now c.loop.table
-          c.take.new.table is (c.loop.invariant.way h p m is)
+          way_goes_on c.take.new.watcher h p m c.args.member.now c.loop.member c.take.new.member
+          c.args.table.now c.loop.table c.take.new.table is (c.loop.invariant.way h p m is)
           none c.take.ensures.member c.take.ensures.table c.take.ensures.falls amid c.take.ensures.told;
       going = amid_goes c.take.new.member amid;
       ready = c.take.ensures.ready;

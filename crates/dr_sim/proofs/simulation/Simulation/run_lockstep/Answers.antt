@@ -13,8 +13,8 @@ loop-self-init g c = record {
 pub loop-self-preserved : goal.loop-self-preserved
 loop-self-preserved g c = record {
   sound = c.take_round.ensures.sound;
-  rounds = rounds_go_on c.take_round.new.watcher c.args.self.now c.loop-self.self c.take_round.new.self c.loop-self.invariant.rounds
-      c.take_round.ensures.turns;
+  rounds = rounds_go_on c.take_round.new.watcher c.args.self.now c.loop-self.self c.take_round.new.self
+      c.loop-self.invariant.rounds c.take_round.ensures.turns;
   ready = c.take_round.ensures.ready;
   served = λ bases served. c.take_round.ensures.served bases (c.loop-self.invariant.served bases served);
 }

@@ -8,7 +8,8 @@ pub loop-lcg-init : goal.loop-lcg-init
 loop-lcg-init g c = record {
   sound = c.requires.1.1.1.0;
   going = c.going-going.ensures;
-  chosen = nothing_chosen g.W.Watcher.sees c.args.watcher.now c.args.seed c.new-lcg.result c.args.self.now c.new-lcg.ensures;
+  chosen = nothing_chosen g.W.Watcher.sees c.args.watcher.now c.args.seed c.new-lcg.result c.args.self.now
+      c.new-lcg.ensures;
   ready = c.requires.1.1.1.1;
   served = λ bases served. served;
 }
@@ -29,7 +30,11 @@ take_deed_of-requires-send-D g c = λ ks within.
             (
               pick.goes,
               (
-                omega (arith, c.loop-lcg.invariant.ready.all, going_within c.loop-lcg.self.members _ pick.goes),
+                omega (
+                  arith,
+                  c.loop-lcg.invariant.ready.all,
+                  going_within c.loop-lcg.self.members _ pick.goes,
+                ),
                 c.loop-lcg.invariant.ready,
               ),
             ),
@@ -51,8 +56,9 @@ loop-lcg-preserved-then-has_ended g c =
           ∙ sym (one_has_ended c.loop-lcg.self c.take_deed_of.new.self _ c.choose_few-at.result took.outcome
           took.step all pick.within pick.place
           (sym c.has_ended.ensures ∙ c.if-has_ended.true));
-      chosen = chosen_again c.take_deed_of.new.watcher c.args.seed c.args.self.now c.loop-lcg.lcg c.choose_few-at.new.self c.loop-lcg.self
-          c.take_deed_of.new.self _ took.outcome c.loop-lcg.invariant.chosen pick.choice
+      chosen = chosen_again c.take_deed_of.new.watcher c.args.seed c.args.self.now c.loop-lcg.lcg
+          c.choose_few-at.new.self c.loop-lcg.self c.take_deed_of.new.self _ took.outcome
+          c.loop-lcg.invariant.chosen pick.choice
           c.choose_few-at.ensures.state took.step took.well pick.goes c.take_deed_of.ensures.told;
       ready = c.take_deed_of.ensures.ready;
       served = λ bases served. c.take_deed_of.ensures.served bases (c.loop-lcg.invariant.served bases served);
@@ -70,8 +76,9 @@ loop-lcg-preserved g c =
       going = c.loop-lcg.invariant.going
           ∙ sym (going_on c.loop-lcg.self c.take_deed_of.new.self _ took.outcome took.step all pick.goes
           (sym c.has_ended.ensures ∙ c.if-has_ended.false));
-      chosen = chosen_again c.take_deed_of.new.watcher c.args.seed c.args.self.now c.loop-lcg.lcg c.choose_few-at.new.self c.loop-lcg.self
-          c.take_deed_of.new.self _ took.outcome c.loop-lcg.invariant.chosen pick.choice
+      chosen = chosen_again c.take_deed_of.new.watcher c.args.seed c.args.self.now c.loop-lcg.lcg
+          c.choose_few-at.new.self c.loop-lcg.self c.take_deed_of.new.self _ took.outcome
+          c.loop-lcg.invariant.chosen pick.choice
           c.choose_few-at.ensures.state took.step took.well pick.goes c.take_deed_of.ensures.told;
       ready = c.take_deed_of.ensures.ready;
       served = λ bases served. c.take_deed_of.ensures.served bases (c.loop-lcg.invariant.served bases served);

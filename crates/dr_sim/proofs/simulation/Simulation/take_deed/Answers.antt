@@ -108,5 +108,5 @@ returns-clause-told g c = λ r there.
     let cells = c.as_mut_slice.ensures.value ∙ ap (λ (v : Program). v.table) c.self.view_is in
     subst (λ (x : Running). g.W.Watcher.sees c.args.watcher.now x c.args.self.now.table c.take.new.watcher)
     (same_Some c.index_mut.result.now r (sym at ∙ there))
-    (subst (λ (t : List ℕ). g.W.Watcher.sees c.args.watcher.now c.index_mut.result.now t c.take.new.watcher) cells
-    c.take.ensures.told)
+    (subst (λ (t : List ℕ). g.W.Watcher.sees c.args.watcher.now c.index_mut.result.now t c.take.new.watcher)
+    cells c.take.ensures.told)

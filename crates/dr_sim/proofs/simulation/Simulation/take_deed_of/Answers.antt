@@ -14,7 +14,8 @@ take_deed-requires-send-D g c = λ ks within. (
         (
           c.requires.1.1.1.1.0,
           λ r there.
-              log_at c.args.logs.now c.index-logs-m.result c.args.self.now c.args.m r c.requires.1.1.1.1.1.1 there,
+              log_at c.args.logs.now c.index-logs-m.result c.args.self.now c.args.m r c.requires.1.1.1.1.1.1
+              there,
         ),
       ),
     ),

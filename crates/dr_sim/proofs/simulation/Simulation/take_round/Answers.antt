@@ -24,7 +24,8 @@ take_turn-requires-send-D g c = λ ks within. (
         (
           sym c.has_ended.ensures ∙ c.if-not-has_ended.true,
           λ r there.
-              log_at c.loop-m.logs c.index-logs-m.result c.loop-m.self c.loop-m.m r c.loop-m.invariant.ready there,
+              log_at c.loop-m.logs c.index-logs-m.result c.loop-m.self c.loop-m.m r c.loop-m.invariant.ready
+              there,
         ),
       ),
     ),
@@ -35,8 +36,8 @@ pub loop-m-preserved : goal.loop-m-preserved
 loop-m-preserved g c =
     elim c.if-not-has_ended.branch [
       | then-not-has_ended w ↦
-          let round = round_goes_on w.take_turn.new.watcher g.group c.loop-m.m c.args.self.now c.loop-m.self w.take_turn.new.self
-          c.loop-m.invariant.round (sym c.has_ended.ensures ∙ w.if-not-has_ended.true)
+          let round = round_goes_on w.take_turn.new.watcher g.group c.loop-m.m c.args.self.now c.loop-m.self
+          w.take_turn.new.self c.loop-m.invariant.round (sym c.has_ended.ensures ∙ w.if-not-has_ended.true)
           w.take_turn.ensures.took in
           let ready = c.loop-m.invariant.ready in
           let within : c.loop-m.m < length c.loop-m.logs = omega (
@@ -75,5 +76,5 @@ returns-clause-falls g c = λ someone. round_ends g.group c.loop-m.m c.args.self
 pub returns-clause-turns : goal.returns-clause-turns
 returns-clause-turns g c =
     let all : c.loop-m.m ≡ length c.args.self.now.members = omega arith in
-    subst (λ n. HasTurns g.W.Watcher.sees c.args.watcher.now c.loop-m.watcher (range_with_len 0 n) c.args.self.now
-    c.loop-m.self) all c.loop-m.invariant.round.turns
+    subst (λ n. HasTurns g.W.Watcher.sees c.args.watcher.now c.loop-m.watcher (range_with_len 0 n)
+    c.args.self.now c.loop-m.self) all c.loop-m.invariant.round.turns
