@@ -1,62 +1,43 @@
 -- What a crash may leave of a disk by each range that was written since its last sync.
-use Rattle.std.specs.Prelude.{◌≡◌, ℕ, ◌+◌, ◌<◌, ◌≤◌, min, max, List, [], ◌∷◌, length, take, slice_index, ⊤, ◌⊎◌}
-use Rattle.dr_disk.specs.Calls.{Call, Write, FailedWrite, Cut, FailedCut, Sync, written}
+use Rattle.std.specs.Prelude.{◌≡◌, ℕ, ◌+◌, ◌<◌, ◌≤◌, min, List, [], ◌∷◌, length, slice_index, ⊤, ◌⊎◌}
+use Rattle.dr_disk.specs.Calls.{Call, Write, FailedWrite, Cut, FailedCut, State, Sync, at_rest, step}
 
 -- so many bytes, from this place on
 pub record Range : Type 0 where
   pub at : ℕ
   pub count : ℕ
 
--- A disk: what a read gives, what the last sync left, and of the time since then the ranges that were
--- written, and the least and the greatest length.
+-- A disk, with what the last sync left, and the ranges that were written since then.
 pub record Pending : Type 0 where
-  pub content : List ℕ
+  pub disk : State
   pub synced : List ℕ
   pub ranges : List Range
-  pub least : ℕ
-  pub greatest : ℕ
 
 -- these bytes, and nothing pending
 abbrev pub settled : List ℕ → Pending
-settled bytes = record {
-  content = bytes;
-  synced = bytes;
-  ranges = [];
-  least = length bytes;
-  greatest = length bytes;
-}
+settled bytes = record { disk = at_rest bytes; synced = bytes; ranges = [] }
 
--- the disk after one call more; a write that begins past the end counts as one at the end
+-- what the last sync left, after one call more
+abbrev pub synced_after : Pending → Call → List ℕ
+synced_after p Sync = p.disk.content
+synced_after p call = p.synced
+
+-- the ranges then; a write that begins past the end counts as one at the end
+abbrev pub ranges_after : Pending → Call → List Range
+ranges_after p (Write at bytes) =
+    record { at = min at (length p.disk.content); count = length bytes } ∷ p.ranges
+ranges_after p (FailedWrite at count) = record { at = at; count = count } ∷ p.ranges
+ranges_after p (Cut to) = p.ranges
+ranges_after p (FailedCut to) = p.ranges
+ranges_after p Sync = []
+
+-- the disk after one call more
 abbrev pub pend : Pending → Call → Pending
-pend p (Write at bytes) = record {
-  content = written p.content at bytes;
-  synced = p.synced;
-  ranges = record { at = min at (length p.content); count = length bytes } ∷ p.ranges;
-  least = p.least;
-  greatest = max p.greatest (at + length bytes);
+pend p call = record {
+  disk = step p.disk call;
+  synced = synced_after p call;
+  ranges = ranges_after p call;
 }
-pend p (FailedWrite at count) = record {
-  content = p.content;
-  synced = p.synced;
-  ranges = record { at = at; count = count } ∷ p.ranges;
-  least = p.least;
-  greatest = max p.greatest (at + count);
-}
-pend p (Cut to) = record {
-  content = take to p.content;
-  synced = p.synced;
-  ranges = p.ranges;
-  least = min p.least to;
-  greatest = p.greatest;
-}
-pend p (FailedCut to) = record {
-  content = p.content;
-  synced = p.synced;
-  ranges = p.ranges;
-  least = min p.least to;
-  greatest = p.greatest;
-}
-pend p Sync = settled p.content
 
 abbrev pub pend_all : Pending → List Call → Pending
 pend_all p [] = p
@@ -69,8 +50,8 @@ IsUntouched (range ∷ ranges) i = ((i < range.at) ⊎ (range.at + range.count �
 
 -- Any bytes may stand in a range that was written, and past the end that was synced. All else stays.
 pub record IsLeftBy (p : Pending) (image : List ℕ) : Type 0 where
-  pub no_shorter : p.least ≤ length image
-  pub no_longer : length image ≤ p.greatest
+  pub no_shorter : p.disk.least ≤ length image
+  pub no_longer : length image ≤ p.disk.greatest
   pub stays : (i : ℕ) → i < length image → i < length p.synced → IsUntouched p.ranges i
       → slice_index image i ≡ slice_index p.synced i
 
