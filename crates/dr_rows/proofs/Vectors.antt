@@ -3,7 +3,7 @@ use Rattle.std.proofs.Common.{◌≡◌, ℕ, ◌+◌, ◌-◌, ◌*◌, ◌<◌
 use Rattle.std.proofs.lemmas.List.{get_or_default, length-set, length-replicate}
 use Rattle.std.proofs.lemmas.Nat.{mul-add-lt}
 use Rattle.std.specs.Vec.{with_item}
-use Rattle.dr_rows.specs.Words.{Words, IsWords, begun, last_pushed, looked, own, pushed, row_of, seen, with_word}
+use Rattle.dr_rows.specs.Words.{Words, IsWords, begun, last_pushed, looked, own, pushed, row_of, seen, with_word, word_at}
 use Rattle.dr_rows.specs.Growth.{IsFresh}
 use Rattle.dr_rows.specs.Inside.{IsInside, rows_of, view_of}
 use Rattle.dr_rows.specs.declared.rows.Rows.TheInside.{Inside}
@@ -14,17 +14,22 @@ use Rattle.dr_rows.proofs.WordsLemmas.{IsFresh-begun, IsWords-begun, IsWords-loo
 pub present : (a : Inside) (now : Words) → view_of a ≡ now → IsInside a → now.me < now.members
 present a now same inside = subst (λ (w : Words). w.me < w.members) same inside.form.present
 
--- the word that was read at a place is the seen one
+-- the word that was read at a place is that of its row and its column
+word_read : (members columns : ℕ) (flat : List ℕ) (i c p x : ℕ) → length flat ≡ members * columns
+    → i < members → c < columns → p ≡ i * columns + c → x ≡ slice_index_or flat p x
+    → x ≡ word_at (rows_of members columns flat) i c
+word_read members columns flat i c p x long h g at read =
+    let near = mul-add-lt i columns c members h g in
+    read ∙ get_or_default flat p x 0 (omega (arith, long)) ∙ ap (λ q. slice_index_or flat q 0) at
+    ∙ sym (word_at-rows_of members columns flat i c h g)
+
+-- so it is the seen one
 pub seen_read : (a : Inside) (now : Words) (i c p x : ℕ) → view_of a ≡ now → IsInside a
     → i < now.members → c < now.columns
     → p ≡ i * now.columns + c → x ≡ slice_index_or a.words.items p x → x ≡ seen now i c
 seen_read a now i c p x same inside = subst (λ (w : Words). i < w.members → c < w.columns
     → p ≡ i * w.columns + c → x ≡ slice_index_or a.words.items p x → x ≡ seen w i c) same
-    (λ h g at read.
-    let near = mul-add-lt i a.columns c a.members h g in
-    read ∙ get_or_default a.words.items p x 0 (omega (arith, inside.words))
-    ∙ ap (λ q. slice_index_or a.words.items q 0) at
-    ∙ sym (word_at-rows_of a.members a.columns a.words.items i c h g))
+    (word_read a.members a.columns a.words.items i c p x inside.words)
 
 -- the run from where the own row begins is the own row
 pub own_run : (a : Inside) (now : Words) (flat : List ℕ) → view_of a ≡ now → IsInside a
@@ -38,17 +43,13 @@ own_run a now flat same inside is =
     (rw (long, begins, is) (run_is_row a.members a.columns a.words.items a.me inside.words
     inside.form.present))
 
--- the word that was read at a place is the one last pushed
+-- or the one last pushed
 pub last_pushed_read : (a : Inside) (now : Words) (i c p x : ℕ) → view_of a ≡ now → IsInside a
     → i < now.members → c < now.columns
     → p ≡ i * now.columns + c → x ≡ slice_index_or a.sent.items p x → x ≡ last_pushed now i c
 last_pushed_read a now i c p x same inside = subst (λ (w : Words). i < w.members → c < w.columns
     → p ≡ i * w.columns + c → x ≡ slice_index_or a.sent.items p x → x ≡ last_pushed w i c) same
-    (λ h g at read.
-    let near = mul-add-lt i a.columns c a.members h g in
-    read ∙ get_or_default a.sent.items p x 0 (omega (arith, inside.sent))
-    ∙ ap (λ q. slice_index_or a.sent.items q 0) at
-    ∙ sym (word_at-rows_of a.members a.columns a.sent.items i c h g))
+    (word_read a.members a.columns a.sent.items i c p x inside.sent)
 
 -- a word that was written at its place is a look
 pub looked_written : (a : Inside) (now : Words) (i c p v : ℕ) → view_of a ≡ now → IsInside a
