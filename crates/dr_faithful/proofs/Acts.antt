@@ -4,6 +4,8 @@ use Rattle.std.proofs.Common.{List, ap, arith, drop, inl, le_of_eq, le_refl, le_
 use Rattle.std.proofs.lemmas.List.{take_all}
 use Rattle.dr_entry.specs.declared.end.End.{End}
 use Rattle.dr_entry.specs.declared.entry.Entry.{Entry}
+use Rattle.dr_entry.specs.declared.record.Value.{Value}
+use Rattle.std.specs.Prelude.{Option}
 use Rattle.dr_history.specs.History.{IsPrefixOf, messages_of}
 use Rattle.dr_history.specs.Members.{has}
 use Rattle.dr_machine.specs.Effects.{appends, beats, delivers, ends, entries_of, least_shown, marks, publishes, reports, sender_at, with_own}
@@ -27,9 +29,11 @@ use Rattle.dr_words.specs.Grown.{HasGrown}
 
 -- ---- turns and ends
 
--- a turn begins
-pub beat_keeps : (g : Group) (V : Views) (w : World) (m : ℕ) → Faithful g V w → Faithful g V (beats w m)
-beat_keeps g V w m f = record {
+-- nothing is told of turns, ends and what was committed
+pub beside_keeps : (g : Group) (V : Views) (w : World) (turns : ℕ → ℕ) (end : ℕ → Option End)
+    (committed : ℕ → Option Value) → Faithful g V w
+    → Faithful g V (record w { turns = turns; end = end; committed = committed })
+beside_keeps g V w turns end committed f = record {
   beginning = f.beginning;
   views = f.views;
   items = f.items;
@@ -37,7 +41,8 @@ beat_keeps g V w m f = record {
   counts = f.counts;
   suspicions = f.suspicions;
   accepts = f.accepts;
-  words = words_later g V w (beats w m) (past_same w.past) refl refl refl refl f.words;
+  words = words_later g V w (record w { turns = turns; end = end; committed = committed })
+      (past_same w.past) refl refl refl refl f.words;
   logs = f.logs;
   delivered = f.delivered;
   fresh = f.fresh;
@@ -46,25 +51,14 @@ beat_keeps g V w m f = record {
   form = f.form;
 }
 
+-- a turn begins
+pub beat_keeps : (g : Group) (V : Views) (w : World) (m : ℕ) → Faithful g V w → Faithful g V (beats w m)
+beat_keeps g V w m f = beside_keeps g V w (beats w m).turns w.end w.committed f
+
 -- a member ends
 pub end_keeps : (g : Group) (V : Views) (w : World) (m : ℕ) (end : End) → Faithful g V w
     → Faithful g V (ends w m end)
-end_keeps g V w m end f = record {
-  beginning = f.beginning;
-  views = f.views;
-  items = f.items;
-  sent = f.sent;
-  counts = f.counts;
-  suspicions = f.suspicions;
-  accepts = f.accepts;
-  words = words_later g V w (ends w m end) (past_same w.past) refl refl refl refl f.words;
-  logs = f.logs;
-  delivered = f.delivered;
-  fresh = f.fresh;
-  closed = f.closed;
-  old = f.old;
-  form = f.form;
-}
+end_keeps g V w m end f = beside_keeps g V w w.turns (ends w m end).end w.committed f
 
 -- ---- one own word
 

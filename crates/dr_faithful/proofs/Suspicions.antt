@@ -137,6 +137,16 @@ counts_suspected g V w m j is can f = record {
   few = f.counts.few;
 }
 
+-- the own words of the member, and of the others, in their views
+own_here : (g : Group) (w : World) (m j c : ℕ)
+    → (suspects g w m j).past.own m (w.past.view m) c ≡ row_after g w m j c
+own_here g w m j c = ap (λ r. r c) (at₂_read w.past.own m (w.past.view m) (row_after g w m j))
+
+own_there : (g : Group) (w : World) (m j i c : ℕ) → i ≢ m
+    → (suspects g w m j).past.own i (w.past.view i) c ≡ own_word w i c
+own_there g w m j i c d = ap (λ r. r (w.past.view i) c)
+    (at_other w.past.own m (at (w.past.own m) (w.past.view m) (row_after g w m j)) i d)
+
 -- whom the members suspect, and what they promise
 suspicions_suspected : (g : Group) (V : Views) (w : World) (m j : ℕ) → IsGroup g
     → CanSuspect g w m j → Faithful g V w
@@ -161,27 +171,20 @@ suspicions_suspected g V w m j is can f = record {
     promise : ℕ
     promise = promise_after w m j
 
-    -- the own words, suspicions and promises of this member, and of the others
-    mine : (c : ℕ) → (suspects g w m j).past.own m (w.past.view m) c ≡ row_after g w m j c
-    mine c = ap (λ r. r c) (at₂_read w.past.own m (w.past.view m) (row_after g w m j))
-
-    others : (i c : ℕ) → i ≢ m → (suspects g w m j).past.own i (w.past.view i) c ≡ own_word w i c
-    others i c d = ap (λ r. r (w.past.view i) c)
-        (at_other w.past.own m (at (w.past.own m) (w.past.view m) (row_after g w m j)) i d)
-
     told : (i : ℕ) → (i ≡ m) ⊎ (i ≢ m)
         → (suspects g w m j).past.own i (w.past.view i) SUSPECTED_COLUMN ≡ (suspects g w m j).suspects i
-    told i (inl e) = rw e (mine SUSPECTED_COLUMN ∙ sym (at_same w.suspects m mask))
-    told i (inr d) = others i SUSPECTED_COLUMN d ∙ f.suspicions.told i ∙ sym (at_other w.suspects m mask i d)
+    told i (inl e) = rw e (own_here g w m j SUSPECTED_COLUMN ∙ sym (at_same w.suspects m mask))
+    told i (inr d) = own_there g w m j i SUSPECTED_COLUMN d ∙ f.suspicions.told i
+        ∙ sym (at_other w.suspects m mask i d)
 
     final : (i s : ℕ) → (i ≡ m) ⊎ (i ≢ m) → (suspects g w m j).suspects i ≢ 0
         → has (V (w.past.view i)) s ≡ true
         → is_final ((suspects g w m j).past.own i (w.past.view i) (recv_column s)) ≡ true
     final i s (inl e) some h =
         let view : has (V (w.past.view m)) s ≡ true = rw (← e) h in
-        rw (e, mine (recv_column s)) (wedged_final (roster g) (w.members m) mask promise s _
+        rw (e, own_here g w m j (recv_column s)) (wedged_final (roster g) (w.members m) mask promise s _
         (f.views.within (w.past.view m) s view) (ap (λ k. has k s) (f.views.own m) ∙ view))
-    final i s (inr d) some h = rw (others i (recv_column s) d)
+    final i s (inr d) some h = rw (own_there g w m j i (recv_column s) d)
         (f.suspicions.final i s (λ e. some (at_other w.suspects m mask i d ∙ e)) h)
 
     none : (i : ℕ) → (i ≡ m) ⊎ (i ≢ m) → (suspects g w m j).suspects i ≡ 0
@@ -200,10 +203,10 @@ suspicions_suspected g V w m j is can f = record {
 
     accept : (i c : ℕ) → (i ≡ m) ⊎ (i ≢ m) → is_accept_of (roster g) (V (w.past.view i)) c ≡ true
         → accept_promise ((suspects g w m j).past.own i (w.past.view i) c) ≡ (suspects g w m j).promise i
-    accept i c (inl e) a = rw (e, mine c)
+    accept i c (inl e) a = rw (e, own_here g w m j c)
         (wedged_promise (roster g) (w.members m) mask promise c _ (rw (f.views.own m, ← e) a)
         ∙ sym (at_same w.promise m promise))
-    accept i c (inr d) a = ap accept_promise (others i c d) ∙ f.suspicions.accept i c a
+    accept i c (inr d) a = ap accept_promise (own_there g w m j i c d) ∙ f.suspicions.accept i c a
         ∙ sym (at_other w.promise m promise i d)
 
 -- what the members have accepted stays, as the promise rises
@@ -226,24 +229,17 @@ accepts_suspected g V w m j is can f = record {
     promise : ℕ
     promise = promise_after w m j
 
-    mine : (c : ℕ) → (suspects g w m j).past.own m (w.past.view m) c ≡ row_after g w m j c
-    mine c = ap (λ r. r c) (at₂_read w.past.own m (w.past.view m) (row_after g w m j))
-
-    others : (i c : ℕ) → i ≢ m → (suspects g w m j).past.own i (w.past.view i) c ≡ own_word w i c
-    others i c d = ap (λ r. r (w.past.view i) c)
-        (at_other w.past.own m (at (w.past.own m) (w.past.view m) (row_after g w m j)) i d)
-
     tagged : (i c : ℕ) → (i ≡ m) ⊎ (i ≢ m) → is_accept_of (roster g) (V (w.past.view i)) c ≡ true
         → accept_tag ((suspects g w m j).past.own i (w.past.view i) c) ≡ accept_tag (own_word w i c)
-    tagged i c (inl e) a = rw (e, mine c)
+    tagged i c (inl e) a = rw (e, own_here g w m j c)
         (wedged_tag (roster g) (w.members m) mask promise c _ (rw (f.views.own m, ← e) a))
-    tagged i c (inr d) a = ap accept_tag (others i c d)
+    tagged i c (inr d) a = ap accept_tag (own_there g w m j i c d)
 
     valued : (i c : ℕ) → (i ≡ m) ⊎ (i ≢ m) → is_accept_of (roster g) (V (w.past.view i)) c ≡ true
         → accept_value ((suspects g w m j).past.own i (w.past.view i) c) ≡ accept_value (own_word w i c)
-    valued i c (inl e) a = rw (e, mine c)
+    valued i c (inl e) a = rw (e, own_here g w m j c)
         (wedged_value (roster g) (w.members m) mask promise c _ (rw (f.views.own m, ← e) a))
-    valued i c (inr d) a = ap accept_value (others i c d)
+    valued i c (inr d) a = ap accept_value (own_there g w m j i c d)
 
 -- the words tell as before
 words_suspected : (g : Group) (V : Views) (w : World) (m j : ℕ) → Faithful g V w

@@ -12,6 +12,7 @@ use Rattle.dr_machine.specs.Guards.{CanLogVote, IsToAccept, IsToPropose}
 use Rattle.dr_machine.specs.Run.{PastGrew, WordsGrew}
 use Rattle.dr_machine.specs.World.{Past, World, no_vote, own_word, shown}
 use Rattle.dr_machine.specs.Writes.{at}
+use Rattle.dr_faithful.proofs.Acts.{beside_keeps}
 use Rattle.dr_faithful.proofs.OwnWords.{closed_written, fresh_written, old_later}
 use Rattle.dr_faithful.proofs.Pasts.{past_same, prefix_refl, same_past, tells_accept, tells_later, words_later}
 use Rattle.dr_faithful.proofs.Shown.{shown_own, shown_seen}
@@ -410,19 +411,4 @@ accept_keeps g V w m x is e f = record {
 -- and nothing of this changes where a value is committed
 pub commit_keeps : (g : Group) (V : Views) (w : World) (m : ℕ) → Faithful g V w
     → Faithful g V (commits w m)
-commit_keeps g V w m f = record {
-  beginning = f.beginning;
-  views = f.views;
-  items = f.items;
-  sent = f.sent;
-  counts = f.counts;
-  suspicions = f.suspicions;
-  accepts = f.accepts;
-  words = words_later g V w (commits w m) (past_same w.past) refl refl refl refl f.words;
-  logs = f.logs;
-  delivered = f.delivered;
-  fresh = f.fresh;
-  closed = f.closed;
-  old = f.old;
-  form = f.form;
-}
+commit_keeps g V w m f = beside_keeps g V w w.turns w.end (commits w m).committed f
