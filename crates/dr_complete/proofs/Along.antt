@@ -19,9 +19,9 @@ use Rattle.dr_faithful.specs.Chosen.{views_by}
 use Rattle.dr_faithful.specs.Faithful.{Faithful}
 use Rattle.dr_world_laws.proofs.ChosenViews.{views-first}
 use Rattle.dr_world_laws.proofs.Worlds.{holds-remaining, put_first}
-use Rattle.dr_program_laws.proofs.Acts.{nothing_left}
-use Rattle.dr_program_laws.specs.Rested.{IsRested}
-use Rattle.dr_program_laws.specs.Wants.{IsLeft}
+use Rattle.dr_turn_laws.proofs.Acts.{nothing_left}
+use Rattle.dr_turn_laws.specs.Rested.{IsRested}
+use Rattle.dr_turn_laws.specs.Wants.{IsLeft}
 use Rattle.dr_complete.proofs.Come.{HasCome, Rests, Room, come_less, come_more, come_none}
 use Rattle.dr_complete.proofs.DoneWords.{done_is_one}
 use Rattle.dr_complete.proofs.Firsts.{IsFirst, count_first, members_are, of_members, of_roster, own_first, start_first, told}

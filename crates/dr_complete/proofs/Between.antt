@@ -19,7 +19,7 @@ use Rattle.dr_suspect.specs.Waits.{beat_of, count_of}
 use Rattle.dr_program_laws.proofs.Programs.{AllStand}
 use Rattle.dr_program_laws.proofs.Trusting.{stay_first}
 use Rattle.dr_world_laws.proofs.Worlds.{known}
-use Rattle.dr_program_laws.specs.Steady.{IsSteady}
+use Rattle.dr_turn_laws.specs.Steady.{IsSteady}
 use Rattle.dr_program_laws.specs.Trusting.{AreAtEase}
 use Rattle.dr_complete.proofs.Along.{IsAlong}
 use Rattle.dr_complete.proofs.Firsts.{IsFirst}

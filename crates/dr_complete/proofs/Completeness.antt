@@ -27,7 +27,7 @@ use Rattle.dr_program_laws.specs.Ended.{IsComplete}
 use Rattle.dr_program_laws.specs.Trusting.{IsAtEase}
 use Rattle.dr_complete.specs.Time.{IsLenient}
 use Rattle.dr_suspect.specs.Waits.{beat_of, count_of}
-use Rattle.dr_program_laws.proofs.Steadying.{steady_begins}
+use Rattle.dr_turn_laws.proofs.Steadying.{steady_begins}
 use Rattle.dr_complete.proofs.Along.{along_none}
 use Rattle.dr_complete.proofs.Rounds.{rounds_keep}
 use Rattle.dr_complete.proofs.Between.{ArePushed, HasWaited, IsBetween, IsUpright}

@@ -18,10 +18,10 @@ use Rattle.dr_program.specs.declared.setup.Setup.{Setup}
 use Rattle.dr_turn.proofs.Search.{beat_test}
 use Rattle.dr_program_laws.proofs.Programs.{AllStand, ran_stands}
 use Rattle.dr_program_laws.proofs.Worlds.{of_there}
-use Rattle.dr_program_laws.proofs.Turning.{takes_turn}
+use Rattle.dr_turn_laws.proofs.Turning.{takes_turn}
 use Rattle.dr_complete.proofs.Between.{AreFresh, HasWaited, IsAfter, IsBetween, IsFit, IsGoing, ShowDone, first_of, member_at}
 use Rattle.dr_program.specs.Form.{IsOf}
-use Rattle.dr_program_laws.specs.Steady.{IsSteady}
+use Rattle.dr_turn_laws.specs.Steady.{IsSteady}
 use Rattle.dr_program_laws.specs.Trusting.{MayWait}
 use Rattle.std.proofs.lemmas.Option.{slice_get_within}
 use Rattle.dr_complete.proofs.Firsts.{of_roster}

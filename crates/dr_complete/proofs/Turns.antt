@@ -22,7 +22,7 @@ use Rattle.dr_program_laws.proofs.Programs.{AllStand}
 use Rattle.dr_program_laws.proofs.Standing.{IsProper}
 use Rattle.dr_program_laws.proofs.Worlds.{of_there}
 use Rattle.dr_program_laws.specs.Failing.{has_log_end}
-use Rattle.dr_program_laws.specs.Rested.{HasCompared, HasTurned, IsRested}
+use Rattle.dr_turn_laws.specs.Rested.{HasCompared, HasTurned, IsRested}
 use Rattle.dr_suspect.specs.Waits.{beat_of, count_of, next_count}
 use Rattle.dr_program_laws.specs.Trusting.{has_been_left}
 use Rattle.dr_complete.proofs.Between.{AreFresh, ArePushed, HasGone, HasWaited, IsAfter, IsBetween, IsFit, IsGoing, IsUpright, ShowDone, first_of, member_at, same_held}

@@ -1,7 +1,7 @@
 //! What is certain of a group that has time enough: in lockstep, without crashes and failed appends, every
 //! member delivers everything.
 //!
-//! That a member has nothing left to do at the end of its turn comes from `dr_program_laws`, and that one that
+//! That a member has nothing left to do at the end of its turn comes from `dr_turn_laws`, and that one that
 //! is done holds everything from `dr_world_laws`; this crate shows how far each round brings the members on.
 //! `docs/PROOFS.md` shows how.
 #![tactic(auto)]

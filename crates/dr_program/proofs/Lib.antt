@@ -10,3 +10,4 @@ pub mod Suspecting
 pub mod Sent
 pub mod Finishing
 pub mod Waiting
+pub mod StepsAt

@@ -1,10 +1,11 @@
 -- A deed leads a member from where it stands so to where it does again.
 use Rattle.std.proofs.Common.{◌≡◌, inl, inr, refl, sym, ap, ◌∙◌, subst, ℕ, ◌-◌, Bool, true, false, ◌==◌, ◌||◌, not, List, length, arith}
-use Rattle.std.specs.Prelude.{Any, Option, None, Some, slice_index_or}
+use Rattle.std.specs.Prelude.{Any, None, Some, slice_index_or}
 use Rattle.std.specs.List.{list_any}
 use Rattle.std.proofs.lemmas.Bool.{and_parts}
 use Rattle.std.proofs.lemmas.Bool.Decides.{nat_tests}
 use Rattle.std.proofs.lemmas.List.Folds.{Any-from_list_any}
+use Rattle.dr_entry.specs.declared.end.End.{End}
 use Rattle.dr_entry.specs.declared.end.End.TheVariants as ends
 use Rattle.dr_machine.specs.declared.event.Act.{Act}
 use Rattle.dr_machine.specs.declared.event.Act.TheVariants as acts
@@ -20,18 +21,18 @@ use Rattle.dr_program.specs.declared.place.Part.TheVariants as parts
 use Rattle.dr_program.specs.declared.place.TheConstants.{TURN}
 use Rattle.dr_program.specs.Form.{IsRunningMember}
 use Rattle.dr_program.specs.Program.{after_deed, next_sight}
-use Rattle.dr_program.specs.Replica.{value_due}
-use Rattle.dr_program.specs.Running.{Running, append_or_end, asks, begun_running, columns, crashes_now, end_by, is_at_push, is_in_turn, judged, members, next_step, push_or_crash, pushes_after, step_at, goes, waits_after, vote_or_end}
+use Rattle.dr_program.specs.Running.{Running, asks, begun_running, columns, crashes_now, end_by, is_at_push, is_in_turn, judged, members, next_step, push_or_crash, pushes_after, step_at, goes, waits_after}
 use Rattle.dr_program.specs.Steps.{allows, stepped}
 use Rattle.dr_program.specs.Turn.{after, is_beat, part_of, turn_begins}
 use Rattle.dr_program.proofs.Runs.{after_either}
+use Rattle.dr_program.proofs.StepsAt.{append_either, vote_either}
 use Rattle.dr_turn.specs.Search.{IsUnderway}
 use Rattle.dr_turn.proofs.Deeds.{first_part, is_publish, is_verdict, verdict_of}
 use Rattle.dr_program.specs.Acts.{taken}
 use Rattle.dr_turn.proofs.Search.{beat_test}
 use Rattle.dr_turn.proofs.Order.{all_below, each_below}
 use Rattle.dr_program_laws.specs.Ended.{IsBeforeCrash}
-use Rattle.dr_program_laws.proofs.Acts.{goes_back_or_stays, is_end, no_end, taken_end, taken_turns}
+use Rattle.dr_turn.proofs.Parts.{goes_back_or_stays, is_end, no_end, taken_end, taken_turns}
 use Rattle.dr_program_laws.proofs.Standing.{IsNotPast, IsProper, Stands, goes_on, is_crash, is_late, next_turn, settled_stands}
 
 -- ---- crash points
@@ -103,78 +104,58 @@ done_by word r part s = record r {
 abbrev done_at : ℕ → Running → Part → Running
 done_at word r part = done_by word r part (step_at r part r.place.row r.place.column)
 
--- a push, or the crash in its place, leaves a member standing as it should
+-- an end by the log is proper at any time
+log_proper : (limit : ℕ) (points : List CrashPoint) (turns : ℕ) (why : LogWhy)
+    → IsProper limit points turns (Some (end_by why))
+log_proper limit points turns whys.DiskFault = tt
+log_proper limit points turns (whys.LogFull len) = tt
+
+-- an end that comes by itself leaves a member standing as it should, where it is a proper one
+crash_keeps : (limit : ℕ) (points : List CrashPoint) (word : ℕ) (r : Running) (part : Part) (end : End)
+    → Stands limit points r
+    → (is_late (part_of (goes (members r) (columns r) part r.place)) ≡ true
+    → IsBeforeCrash points r.replica.turns)
+    → IsProper limit points r.replica.turns (Some end)
+    → Stands limit points (done_by word r part (steps.Do (acts.Crash end)))
+crash_keeps limit points word r part end v ahead proper =
+    record { limited = v.limited; planned = v.planned; later = v.later; ahead = ahead; proper = proper }
+
+-- so does a push, or the crash in its place
 push_keeps : (limit : ℕ) (points : List CrashPoint) (word : ℕ) (r : Running) → IsDue r parts.Push
     → Stands limit points r → Stands limit points (done_at word r parts.Push)
 push_keeps limit points word r d v = by (crashes_now r) refl
   where
+    ahead : is_late (part_of (after (members r) (columns r) r.place)) ≡ true
+        → IsBeforeCrash points r.replica.turns
+    ahead = onward limit points r parts.Push d refl v
+
     by : (b : Bool) → crashes_now r ≡ b
         → Stands limit points (done_by word r parts.Push (push_or_crash b r.place.row r.place.column))
-    by true e = record {
-      limited = v.limited;
-      planned = v.planned;
-      later = v.later;
-      ahead = onward limit points r parts.Push d refl v;
-      proper = named_at_push points r.replica.turns r.pushes
-          (ap (list_any (is_at_push r.replica.turns r.pushes)) (sym v.planned) ∙ e);
-    }
-    by false e = record {
-      limited = v.limited;
-      planned = v.planned;
-      later = v.later;
-      ahead = onward limit points r parts.Push d refl v;
-      proper = v.proper;
-    }
+    by true e = crash_keeps limit points word r parts.Push ends.Crashed v ahead
+        (named_at_push points r.replica.turns r.pushes
+        (ap (list_any (is_at_push r.replica.turns r.pushes)) (sym v.planned) ∙ e))
+    by false e =
+        record { limited = v.limited; planned = v.planned; later = v.later; ahead = ahead; proper = v.proper }
 
 -- an append, or the end in its place
 append_keeps : (limit : ℕ) (points : List CrashPoint) (word : ℕ) (r : Running) → IsDue r parts.Append
     → Stands limit points r → Stands limit points (done_at word r parts.Append)
-append_keeps limit points word r d v = by r.failed
-  where
-    ends : (why : LogWhy) → IsProper limit points r.replica.turns (Some (end_by why))
-    ends whys.DiskFault = tt
-    ends (whys.LogFull len) = tt
-
-    by : (o : Option LogWhy) → Stands limit points (done_by word r parts.Append (append_or_end o))
-    by None = record {
-      limited = v.limited;
-      planned = v.planned;
-      later = v.later;
-      ahead = onward limit points r parts.Append d refl v;
-      proper = v.proper;
-    }
-    by (Some why) = record {
-      limited = v.limited;
-      planned = v.planned;
-      later = v.later;
-      ahead = onward limit points r parts.Append d refl v;
-      proper = ends why;
-    }
+append_keeps limit points word r d v =
+    let ahead = onward limit points r parts.Append d refl v in
+    append_either (λ s. Stands limit points (done_by word r parts.Append s)) r.failed
+    (record { limited = v.limited; planned = v.planned; later = v.later; ahead = ahead; proper = v.proper })
+    (λ why. crash_keeps limit points word r parts.Append (end_by why) v ahead
+    (log_proper limit points r.replica.turns why))
 
 -- a vote, or the end in its place
 vote_keeps : (limit : ℕ) (points : List CrashPoint) (word : ℕ) (r : Running) → IsDue r parts.Vote
     → Stands limit points r → Stands limit points (done_at word r parts.Vote)
-vote_keeps limit points word r d v = by r.failed
-  where
-    ends : (why : LogWhy) → IsProper limit points r.replica.turns (Some (end_by why))
-    ends whys.DiskFault = tt
-    ends (whys.LogFull len) = tt
-
-    by : (o : Option LogWhy) → Stands limit points (done_by word r parts.Vote (vote_or_end o (value_due r.replica)))
-    by None = record {
-      limited = v.limited;
-      planned = v.planned;
-      later = v.later;
-      ahead = onward limit points r parts.Vote d refl v;
-      proper = v.proper;
-    }
-    by (Some why) = record {
-      limited = v.limited;
-      planned = v.planned;
-      later = v.later;
-      ahead = onward limit points r parts.Vote d refl v;
-      proper = ends why;
-    }
+vote_keeps limit points word r d v =
+    let ahead = onward limit points r parts.Vote d refl v in
+    vote_either (λ s. Stands limit points (done_by word r parts.Vote s)) r.failed _
+    (record { limited = v.limited; planned = v.planned; later = v.later; ahead = ahead; proper = v.proper })
+    (λ why. crash_keeps limit points word r parts.Vote (end_by why) v ahead
+    (log_proper limit points r.replica.turns why))
 
 -- a verdict, to suspect another member or to end by suspicion
 verdict_keeps : (limit : ℕ) (points : List CrashPoint) (word : ℕ) (r : Running) (a : Act)

@@ -21,13 +21,14 @@ use Rattle.dr_program.specs.Running.{Running, after_step, append_or_end, begun_r
 use Rattle.dr_program.specs.Steps.{IsAppend, stepped}
 use Rattle.dr_program.specs.Turn.{part_of}
 use Rattle.dr_program.proofs.Runs.{after_either}
+use Rattle.dr_program.proofs.StepsAt.{push_either}
 use Rattle.dr_refine.specs.Programs.{IsProgram}
 use Rattle.dr_refine.proofs.Deeds.{rest_changes_nothing, step_is}
 use Rattle.dr_refine.proofs.Steps.{begun_is_program}
 use Rattle.dr_turn.proofs.Deeds.{is_verdict, verdict_of}
 use Rattle.dr_turn.proofs.Search.{settle_only}
 use Rattle.dr_program_laws.specs.Failing.{AreFailing, EndsBy, IsFailing, has_log_end}
-use Rattle.dr_program_laws.proofs.Acts.{is_end, no_end, taken_end}
+use Rattle.dr_turn.proofs.Parts.{is_end, no_end, taken_end}
 use Rattle.dr_program_laws.proofs.Keeping.{begun_reached}
 use Rattle.dr_program_laws.proofs.Programs.{ran_keeps, replaced_either}
 
@@ -50,11 +51,9 @@ no_log_end word r parts.Append i c well none plain =
 no_log_end word r parts.Vote i c well none plain =
     ap (λ o. has_log_end (stepped word r.replica (vote_or_end o (value_due r.replica))).end) well
     ∙ ap has_log_end none
-no_log_end word r parts.Push i c well none plain = by (crashes_now r)
-  where
-    by : (b : Bool) → has_log_end (stepped word r.replica (push_or_crash b i c)).end ≡ false
-    by true = refl
-    by false = ap has_log_end none
+no_log_end word r parts.Push i c well none plain =
+    push_either (λ s. has_log_end (stepped word r.replica s).end ≡ false) (crashes_now r) i c
+    (ap has_log_end none) refl
 no_log_end word r parts.Crash i c well none plain = refl
 no_log_end word r parts.Excluded i c well none plain = refl
 no_log_end word r parts.Done i c well none plain = refl

@@ -1,16 +1,10 @@
 -- Moves keep a program of its group, in a world that is reached.
-use Rattle.std.proofs.Common.{◌≡◌, refl, sym, subst, ℕ, ◌<◌, ◌≤◌, ◌&&◌, not, true, nat_lt, List, [], ◌∷◌}
+use Rattle.std.proofs.Common.{◌≡◌, refl, sym, subst, ℕ, ◌≤◌, true, List, [], ◌∷◌}
 use Rattle.std.specs.Prelude.{Option, None, Some, slice_get}
-use Rattle.std.proofs.lemmas.Bool.{and_parts, ltb-true}
 use Rattle.std.proofs.lemmas.Option.{same_Some}
 use Rattle.dr_entry.specs.declared.end.End.{End}
-use Rattle.dr_history.specs.Members.{has}
-use Rattle.dr_words.specs.Columns.{columns_of}
 use Rattle.dr_words.specs.Form.{IsInForm}
-use Rattle.dr_machine.specs.declared.step.Step.{Step}
-use Rattle.dr_machine.specs.declared.step.Step.TheVariants.{Append, Do, LogVote, Look, Push}
-use Rattle.dr_replica.proofs.Accepting.{voted_form}
-use Rattle.dr_replica.proofs.Finishing.{none_waits}
+use Rattle.dr_machine.specs.declared.step.Step.TheVariants.{Look}
 use Rattle.dr_machine.specs.Group.{Group, IsGroup}
 use Rattle.dr_machine.specs.Run.{IsReached}
 use Rattle.dr_program.specs.declared.outcome.Outcome.{Outcome}
@@ -18,60 +12,31 @@ use Rattle.dr_program.specs.declared.setup.Setup.{Setup}
 use Rattle.dr_program.specs.Form.{HasForm, IsRunningMember}
 use Rattle.dr_program.specs.Program.{AreSetups, IsRanFrom, Move, Program, after_deed, begun_program, next_sight, ran, step_of}
 use Rattle.dr_program.specs.Reading.{step_due, step_of_member, world}
-use Rattle.dr_program.specs.Replica.{Replica, is_other}
 use Rattle.dr_program.specs.Running.{Running, after_step, next_step}
 use Rattle.dr_program.specs.Sight.{IsSeenNext, MaySee}
-use Rattle.dr_program.specs.Steps.{allows, has_cell, is_free, sight, stepped}
+use Rattle.dr_program.specs.Steps.{allows, sight, stepped}
 use Rattle.dr_program.proofs.Opening.{begins_at_the_opening}
 use Rattle.dr_program.proofs.Runs.{after_either}
 use Rattle.dr_program.proofs.Waiting.{free_step}
 use Rattle.dr_refine.specs.Programs.{IsProgram}
 use Rattle.dr_refine.proofs.Deeds.{due_allowed, step_reached}
 use Rattle.dr_refine.proofs.Steps.{begun_is_program, step_kept}
-use Rattle.dr_replica.proofs.Keeps.{appended_keeps, looked_keeps, pushed_keeps, taken_keeps}
+use Rattle.dr_form.proofs.Steps.{stepped_form}
 use Rattle.dr_turn.proofs.Deeds.{deeds_keep_form}
 use Rattle.dr_turn.proofs.Failing.{failed_form}
 use Rattle.dr_program_laws.proofs.Sight.{found_seen}
 
 -- ---- one move
 
--- a cell that a step names: another member's row, and a column
-pub record IsCell (r : Replica) (i c : ℕ) : Type 0 where
-  pub row : i < r.roster
-  pub other : is_other r i ≡ true
-  pub column : c < columns_of r.roster r.window
-
-pub cell : (r : Replica) (i c : ℕ) → has_cell r i c ≡ true → IsCell r i c
-cell r i c e =
-    let two = and_parts (nat_lt i r.roster) (is_other r i && nat_lt c (columns_of r.roster r.window)) e in
-    let three = and_parts (is_other r i) (nat_lt c (columns_of r.roster r.window)) two.1 in
-    record {
-      row = ltb-true i r.roster two.0;
-      other = three.0;
-      column = ltb-true c (columns_of r.roster r.window) three.1;
-    }
-
--- a replica keeps its form over a step that it allows, where a word that it sees is in form
-stepped_form : (word : ℕ) (r : Replica) (s : Step) → HasForm r → allows r s ≡ true
-    → ((i c : ℕ) → s ≡ Look i c → IsInForm r.roster c word)
-    → is_free r s ≡ true → HasForm (stepped word r s)
-stepped_form word r (Do a) form may seen free = taken_keeps r a form may free
-stepped_form word r (Look i c) form may seen free =
-    let at = cell r i c (and_parts (not (has r.suspects i)) (has_cell r i c) may).1 in
-    looked_keeps r i c word form at.other at.column (seen i c refl)
-stepped_form word r (Push j c) form may seen free = pushed_keeps r j c form (cell r j c may).row
-stepped_form word r Append form may seen free = appended_keeps r form may
-stepped_form word r (LogVote v) form may seen free = voted_form r v form (none_waits r.pending free) may
-
 -- the replica of a member of a program in a reached world keeps its form over its next step
 pub next_form : (g : Group) (p : Program) (m : ℕ) (r : Running) → IsGroup g → IsProgram g p
     → IsReached g (world g p) → slice_get p.members m ≡ Some r → r.replica.end ≡ None
     → HasForm (stepped (next_sight p.table r) r.replica (next_step r))
 next_form g p m r group is run there unended =
-    stepped_form (next_sight p.table r) r.replica (next_step r) (is.form m r there).replica may (λ i c at.
+    stepped_form (next_sight p.table r) r.replica (next_step r) (is.form m r there).replica may
+    (free_step r (is.form m r there).free) (λ i c at.
     subst (λ s. IsInForm r.replica.roster c (sight p.table r.replica s)) (sym at)
     (found_seen g p m r i c group is run there (subst (λ s. allows r.replica s ≡ true) at may)).form)
-    (free_step r (is.form m r there).free)
   where
     may : allows r.replica (next_step r) ≡ true
     may = due_allowed r ((is.form m r there).due unended)

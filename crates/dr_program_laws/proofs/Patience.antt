@@ -1,22 +1,20 @@
 -- How long a member waits for news of others, over its deeds.
 use Rattle.std.proofs.Common.{◌≡◌, ◌≢◌, ◌⊎◌, refl, sym, ap, ◌∙◌, subst, inl, inr, ℕ, suc, ◌+◌, ◌-◌, ◌^◌, ◌<◌, ◌≤◌, ◌==◌, ◌||◌, Bool, true, false, not, nat_lt, min, if◌then◌else◌, length, le_trans, arith}
-use Rattle.std.specs.Prelude.{Option, None, Some}
-use Rattle.std.proofs.lemmas.Bool.{cases_eq, cases_lt}
+use Rattle.std.proofs.lemmas.Bool.{cases_eq, cases_lt, not-true}
 use Rattle.std.proofs.lemmas.Bool.Decides.{nat_tests}
 use Rattle.std.proofs.lemmas.List.{get_or_past, get_or-set_same, get_or-set_other}
 use Rattle.dr_machine.specs.declared.event.Act.TheVariants as acts
 use Rattle.dr_machine.specs.declared.step.Step.{Step}
 use Rattle.dr_machine.specs.declared.step.Step.TheVariants.{Do, Look}
-use Rattle.dr_program.specs.declared.outcome.LogWhy.{LogWhy}
 use Rattle.dr_program.specs.declared.place.Part.{Part}
 use Rattle.dr_program.specs.declared.place.Part.TheVariants as parts
 use Rattle.dr_program.specs.declared.place.Place.{Place}
 use Rattle.dr_program.specs.declared.place.TheConstants.{TURN}
 use Rattle.dr_program.specs.Form.{IsRunningMember}
-use Rattle.dr_program.specs.Replica.{value_due}
-use Rattle.dr_program.specs.Running.{Running, after_step, append_or_end, applies, columns, crashes_now, goes, members, next_step, push_or_crash, settled, step_at, took, vote_or_end, waits_after}
+use Rattle.dr_program.specs.Running.{Running, after_step, applies, columns, crashes_now, goes, members, next_step, settled, step_at, took, waits_after}
 use Rattle.dr_program.specs.Turn.{after, columns_in, is_beat, part_of, rows_in, turn_begins}
 use Rattle.dr_program.proofs.Fixed.{Told, step_told}
+use Rattle.dr_program.proofs.StepsAt.{append_either, push_either, vote_either}
 use Rattle.dr_rows.specs.Words.{Words, looked, seen}
 use Rattle.dr_suspect.specs.Waits.{Waits, beat_of, compared, count_of, next_count}
 use Rattle.dr_turn.specs.Search.{Passed, here, on}
@@ -26,7 +24,7 @@ use Rattle.dr_turn.proofs.Search.{applies_at, beat_test, passed_at, settle_only,
 use Rattle.dr_turn.proofs.Tasks.{ends_view}
 use Rattle.dr_words.specs.declared.column.TheConstants.{BEAT_COLUMN}
 use Rattle.dr_program_laws.specs.Trusting.{IsOthers, IsPatient, MayWait, to_come}
-use Rattle.dr_program_laws.proofs.Acts.{goes_back_or_stays, numbered}
+use Rattle.dr_turn.proofs.Parts.{goes_back_or_stays, numbered}
 
 -- ---- the rows that are still to be compared in the turn of a place
 
@@ -61,13 +59,9 @@ row_less parts.Look row i = by (cases_lt i row)
 row_less part row i = omega arith
 
 -- the looks are the first part of the turn, and the last one begins the next
-negated : (b : Bool) → not b ≡ true → b ≡ false
-negated true e = absurd (cc)
-negated false e = refl
-
 pub looks_first : (a : ℕ) → a + 1 < length TURN → is_looks (numbered (a + 1)) ≡ false
 unfolding all_below
-looks_first a l = negated _
+looks_first a l = not-true _
     (each_below (length TURN - 1) a (λ b. not (is_looks (numbered (b + 1)))) refl (omega (arith, l)))
 
 looks_before : (a : ℕ) → a < length TURN → is_publish (numbered a) ≡ true
@@ -79,7 +73,7 @@ looks_before a l back = implied _ _
     back
   where
     implied : (x y : Bool) → (not x || not y) ≡ true → x ≡ true → y ≡ false
-    implied true y t e = negated y t
+    implied true y t e = not-true y t
     implied false y t e = absurd (cc e)
 
 pub last_begins : (a : ℕ) → length TURN ≤ a + 1 → is_beat (numbered a) ≡ true
@@ -157,21 +151,9 @@ is_look s = false
 pub plain_looks : (r : Running) (part : Part) (i c : ℕ) → is_looks part ≡ false
     → is_look (step_at r part i c) ≡ false
 plain_looks r parts.Look i c other = absurd (cc other)
-plain_looks r parts.Append i c other = by r.failed
-  where
-    by : (o : Option LogWhy) → is_look (append_or_end o) ≡ false
-    by None = refl
-    by (Some why) = refl
-plain_looks r parts.Vote i c other = by r.failed
-  where
-    by : (o : Option LogWhy) → is_look (vote_or_end o (value_due r.replica)) ≡ false
-    by None = refl
-    by (Some why) = refl
-plain_looks r parts.Push i c other = by (crashes_now r)
-  where
-    by : (b : Bool) → is_look (push_or_crash b i c) ≡ false
-    by true = refl
-    by false = refl
+plain_looks r parts.Append i c other = append_either (λ s. is_look s ≡ false) r.failed refl (λ why. refl)
+plain_looks r parts.Vote i c other = vote_either (λ s. is_look s ≡ false) r.failed _ refl (λ why. refl)
+plain_looks r parts.Push i c other = push_either (λ s. is_look s ≡ false) (crashes_now r) i c refl refl
 plain_looks r part i c other = refl
 
 -- no other step changes how long the member has waited, unless it ends its view
@@ -179,7 +161,6 @@ pub waits_stay : (word : ℕ) (r : Running) (s : Step) → is_look s ≡ false �
     → waits_after word r s ≡ r.waits
 waits_stay word r (Look i c) other stays = absurd (cc other)
 waits_stay word r (Do acts.Finish) other stays = absurd (cc stays)
-waits_stay word r (Do acts.Beat) other stays = refl
 waits_stay word r (Do a) other stays = refl
 waits_stay word r s other stays = refl
 

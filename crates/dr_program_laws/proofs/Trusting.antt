@@ -18,7 +18,6 @@ use Rattle.dr_machine.specs.declared.step.Step.TheVariants.{Do, Look}
 use Rattle.dr_machine.specs.Group.{Group, IsGroup}
 use Rattle.dr_machine.specs.Run.{IsReached}
 use Rattle.dr_machine.specs.World.{World, opening_world}
-use Rattle.dr_program.specs.declared.outcome.LogWhy.{LogWhy}
 use Rattle.dr_program.specs.declared.place.Part.{Part}
 use Rattle.dr_program.specs.declared.place.Part.TheVariants as parts
 use Rattle.dr_program.specs.declared.setup.Setup.{Setup}
@@ -27,12 +26,13 @@ use Rattle.dr_program.specs.Program.{AreSetups, IsRanFrom, Move, Program, after_
 use Rattle.dr_program.specs.Reading.{world}
 use Rattle.dr_program.specs.Replica.{Replica, has_majority, is_due, is_fault, is_named, is_others, is_own, is_wedged, may_commit, may_finish, may_suspect, may_vote, me, value_due}
 use Rattle.dr_program.specs.Replica as replica
-use Rattle.dr_program.specs.Running.{Running, after_step, append_or_end, begun_running, columns, crashes_now, is_scripted, judged, judgement, minority, named_by, next_step, overdue, push_or_crash, scripted, step_at, told, took, vote_or_end, waits_after}
+use Rattle.dr_program.specs.Running.{Running, after_step, begun_running, columns, crashes_now, is_scripted, judged, judgement, minority, named_by, next_step, overdue, scripted, step_at, told, took, vote_or_end, waits_after}
 use Rattle.dr_program.specs.Steps.{allows, stepped}
 use Rattle.dr_program.specs.Turn.{is_beat, part_of}
 use Rattle.dr_program.specs.Form.{HasForm, IsRunningMember}
 use Rattle.dr_program.proofs.Runs.{after_either}
 use Rattle.dr_program.proofs.Voting.{view_small}
+use Rattle.dr_program.proofs.StepsAt.{append_either, push_either, vote_either}
 use Rattle.dr_refine.specs.Programs.{IsProgram}
 use Rattle.dr_refine.proofs.Deeds.{due_allowed, program_member, replicas, rest_changes_nothing, step_is, step_reached}
 use Rattle.dr_refine.proofs.Guards.{seen_is}
@@ -48,6 +48,7 @@ use Rattle.dr_suspect.specs.Answers.{least_where}
 use Rattle.dr_suspect.specs.Suspicion.{is_unsuspected, names, names_me, spreads}
 use Rattle.dr_suspect.specs.Waits.{Waits, compared, count_of, is_late, is_overdue}
 use Rattle.dr_turn.proofs.Deeds.{is_verdict}
+use Rattle.dr_turn.proofs.Parts.{has_verdict, is_judge, no_verdict}
 use Rattle.dr_turn.proofs.Search.{settle_only}
 use Rattle.dr_turn.proofs.Tasks.{ends_view, view_stays}
 use Rattle.dr_words.proofs.Bits.{has_zero}
@@ -57,7 +58,6 @@ use Rattle.dr_world_laws.proofs.Worlds.{Known, faithful, known}
 use Rattle.dr_history.specs.Members.{has}
 use Rattle.dr_program_laws.specs.Trusting.{AreAtEase, AreTrusting, IsAtEase, IsCalm, IsPatient, IsTrusting, MayWait, NoneLeft, SuspectsNobody, has_been_left, is_left_out, to_come}
 use Rattle.dr_program_laws.proofs.Patience.{patient_on}
-use Rattle.dr_program_laws.proofs.Acts.{has_verdict, is_judge, is_passed, no_verdict}
 use Rattle.dr_program_laws.proofs.Keeping.{begun_reached}
 use Rattle.dr_program_laws.proofs.Programs.{ran_keeps, replaced_either}
 use Rattle.dr_program_laws.proofs.Quiet.{quiet}
@@ -233,6 +233,18 @@ votes_nothing g p m r is =
       sym (of_there p (λ q. q.committed) (opening_world g).committed m r is.there) ∙ none.1,
     )
 
+-- the part is one that a member which suspects nobody passes: it judges nothing, has no vote, and doesn't end
+-- its view
+abbrev pub is_passed : Part → Bool
+is_passed parts.Judge = true
+is_passed parts.Vote = true
+is_passed (parts.Do acts.Propose) = true
+is_passed (parts.Do acts.Accept) = true
+is_passed (parts.Do acts.Commit) = true
+is_passed (parts.Do acts.Finish) = true
+is_passed parts.Excluded = true
+is_passed part = false
+
 -- so until an append of it fails it stands at no part that it passes
 pub never_passed : (g : Group) (p : Program) (m : ℕ) (r : Running) → IsAmong g p m r
     → r.replica.end ≡ None → r.failed ≡ None → is_passed (part_of r.place) ≡ false
@@ -284,21 +296,9 @@ judges s = false
 plain_step : (r : Running) (part : Part) (i c : ℕ) → is_judge part ≡ false → has_verdict part ≡ false
     → judges (step_at r part i c) ≡ false
 plain_step r parts.Judge i c other none = absurd (cc)
-plain_step r parts.Append i c other none = by r.failed
-  where
-    by : (o : Option LogWhy) → judges (append_or_end o) ≡ false
-    by None = refl
-    by (Some why) = refl
-plain_step r parts.Vote i c other none = by r.failed
-  where
-    by : (o : Option LogWhy) → judges (vote_or_end o (value_due r.replica)) ≡ false
-    by None = refl
-    by (Some why) = refl
-plain_step r parts.Push i c other none = by (crashes_now r)
-  where
-    by : (b : Bool) → judges (push_or_crash b i c) ≡ false
-    by true = refl
-    by false = refl
+plain_step r parts.Append i c other none = append_either (λ s. judges s ≡ false) r.failed refl (λ why. refl)
+plain_step r parts.Vote i c other none = vote_either (λ s. judges s ≡ false) r.failed _ refl (λ why. refl)
+plain_step r parts.Push i c other none = push_either (λ s. judges s ≡ false) (crashes_now r) i c refl refl
 plain_step r (parts.Do a) i c other none = none
 plain_step r part i c other none = refl
 

@@ -1,12 +1,9 @@
 //! What is certain of a program of a group, in whatever order its members take their deeds: it stays in
-//! worlds that are reached, the histories of its members agree, each member ends as it should, and after a
-//! whole turn it has nothing left to do.
+//! worlds that are reached, the histories of its members agree, and each member ends as it should.
 //!
 //! That histories agree comes from `dr_world_laws`, for every world that is reached; this crate says it of
 //! the ends of a program's members. `docs/PROOFS.md` shows how.
 #![tactic(auto)]
-
-mod turns;
 
 ghost use Rattle.std.specs.Prelude.{◌≡◌, ℕ, ◌≤◌, All, List, length, map, slice_get, Some};
 ghost use Rattle.dr_entry.specs.declared.end.End.{End};
@@ -30,8 +27,6 @@ ghost use Rattle.dr_program_laws.specs.Causes.{HasCause};
 ghost use Rattle.dr_program_laws.specs.Ended.{HaveEnded};
 ghost use Rattle.dr_program_laws.specs.Failing.{AreFailing, IsFailing};
 ghost use Rattle.dr_program_laws.specs.Trusting.{AreAtEase, AreTrusting, IsCalm, NoneLeft, SuspectsNobody};
-
-pub use turns::{a_turn_leaves_nothing_to_do, programs_are_steady, what_is_asked_is_the_guard};
 
 /// Deeds keep a program: whatever deeds its members have taken, and in whatever order, it is one of its
 /// group still, in a world that is reached. A look then finds a word that its member may see.

@@ -17,11 +17,11 @@ use Rattle.dr_program.specs.Form.{HasForm}
 use Rattle.dr_replica.specs.Items.{Held, front, taken}
 use Rattle.dr_replica.specs.Inside.{IsInside, view_of}
 use Rattle.dr_replica.specs.declared.replica.Replica.TheInside.{Inside}
-use Rattle.dr_replica.proofs.Members.{some_member}
+use Rattle.dr_words.proofs.Ranks.{some_member}
 use Rattle.dr_replica.proofs.Insides.{same_suspicion}
-use Rattle.dr_replica.proofs.Gains.{front_rises, shown}
-use Rattle.dr_replica.specs.Puts.{MayPut}
-use Rattle.dr_replica.proofs.Keeps.{message_to_send, open_recv, putting}
+use Rattle.dr_form.proofs.Gains.{front_rises, shown}
+use Rattle.dr_form.specs.Puts.{MayPut}
+use Rattle.dr_form.proofs.Keeps.{message_to_send, open_recv, putting}
 
 -- the words that follow an item more
 abbrev pub Shown : Words → Words → Held → ℕ → Type 0

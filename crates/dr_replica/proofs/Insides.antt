@@ -18,14 +18,14 @@ use Rattle.std.specs.Prelude.{Some, slice_get, vec_capacity}
 use Rattle.dr_entry.specs.declared.record.Value.{Value}
 use Rattle.dr_entry.specs.declared.record.Vote.{Vote}
 use Rattle.dr_machine.specs.World.{no_vote}
-use Rattle.dr_replica.proofs.Accepting.{accepted_form}
+use Rattle.dr_form.proofs.Accepting.{accepted_form}
 use Rattle.dr_history.specs.Members.{members_of}
 use Rattle.dr_rows.specs.Words.{with_frozen}
 use Rattle.dr_words.specs.Masks as masks
 use Rattle.dr_words.specs.Masks.{with_member, without}
 use Rattle.dr_suspect.specs.Suspicion.{Suspicion}
 use Rattle.dr_replica.proofs.Received.{accepted_received, suspected_received}
-use Rattle.dr_replica.proofs.Wedging.{suspected_form}
+use Rattle.dr_form.proofs.Wedging.{suspected_form}
 use Rattle.dr_replica.specs.Items as items
 use Rattle.dr_replica.specs.Items.{Held}
 use Rattle.dr_replica.specs.History as histories
@@ -42,7 +42,43 @@ pub same_suspicion : (a : Inside) (rows : Words) → IsInside a → rows.me ≡ 
 same_suspicion a rows inside me = inside.suspicion
     ∙ ap (λ (m : ℕ). record a.suspects { me = m; members = a.members }) (sym me)
 
--- where items, history and what was put stay as they are, only the form is left
+-- where items, history and what was put stay as they are, only the form is left, and what is kept beside it
+fields_kept : (a : Inside) (rows : Words) (suspects : Suspicion) (tag : ℕ) (value : Value)
+    (pending : Option Vote) (votes : _) (logged durable turns acts : ℕ) (end : Option End)
+    → let q : Inside = record a {
+      rows = rows;
+      suspects = suspects;
+      tag = tag;
+      value = value;
+      pending = pending;
+      votes = votes;
+      logged = logged;
+      durable = durable;
+      turns = turns;
+      acts = acts;
+      end = end;
+    } in IsInside a → HasForm (view_of q) → q.suspects ≡ suspicion_of (view_of q)
+    → least_seen (view_of a) RECEIVED_COLUMN ≤ least_seen (view_of q) RECEIVED_COLUMN
+    → a.shape.banks * a.shape.members ≤ vec_capacity q.votes → IsInside q
+fields_kept a rows suspects tag value pending votes logged durable turns acts end inside form suspicion rise
+    room = record {
+      form = form;
+      suspicion = suspicion;
+      members = inside.members;
+      roster = inside.roster;
+      most = inside.most;
+      messages = inside.messages;
+      next = inside.next;
+      received = le_trans inside.received rise;
+      sent = inside.sent;
+      left = inside.left;
+      spares = inside.spares;
+      enough = inside.enough;
+      past = inside.past;
+      end = inside.end;
+      votes = room;
+    }
+
 pub state_kept : (a : Inside) (rows : Words) (logged durable turns acts : ℕ) (end : Option End)
     → IsInside a → rows.me ≡ a.rows.me
     → HasForm (view_of
@@ -50,23 +86,9 @@ pub state_kept : (a : Inside) (rows : Words) (logged durable turns acts : ℕ) (
     → least_seen (view_of a) RECEIVED_COLUMN ≤ least_seen (record (view_of a) { rows = rows }) RECEIVED_COLUMN
     → IsInside (record a
     { rows = rows; logged = logged; durable = durable; turns = turns; acts = acts; end = end })
-state_kept a rows logged durable turns acts end inside me form rise = record {
-  form = form;
-  suspicion = same_suspicion a rows inside me;
-  members = inside.members;
-  roster = inside.roster;
-  most = inside.most;
-  messages = inside.messages;
-  next = inside.next;
-  received = le_trans inside.received rise;
-  sent = inside.sent;
-  left = inside.left;
-  spares = inside.spares;
-  enough = inside.enough;
-  past = inside.past;
-  end = inside.end;
-  votes = inside.votes;
-}
+state_kept a rows logged durable turns acts end inside me form rise =
+    fields_kept a rows a.suspects a.tag a.value a.pending a.votes logged durable turns acts end inside form
+    (same_suspicion a rows inside me) rise inside.votes
 
 -- what holds of the value that the fields mean
 pub form_to : (new q : Replica) → new ≡ q → HasForm q → HasForm new
@@ -180,27 +202,15 @@ pub suspected_kept : (a : Inside) (s : Suspicion) (rows : Words) (j : ℕ) → I
     → may_suspect (view_of a) j ≡ true → s ≡ record a.suspects { suspects = s.suspects }
     → view_of (record a { rows = rows; suspects = s }) ≡ suspected (view_of a) j
     → IsInside (record a { rows = rows; suspects = s })
-suspected_kept a s rows j inside may rest there = record {
-  form = subst HasForm (sym there) (suspected_form (view_of a) j inside.form may);
-  suspicion = rest ∙ ap (λ (x : Suspicion). record x { suspects = s.suspects }) inside.suspicion
-      ∙ ap (λ (m : ℕ). record { me = m; members = a.members; suspects = s.suspects })
-      (sym (ap (λ (r : Replica). r.rows.me) there));
-  members = inside.members;
-  roster = inside.roster;
-  most = inside.most;
-  messages = inside.messages;
-  next = inside.next;
-  received = le_trans inside.received (subst
-      (λ (r : Replica). least_seen (view_of a) RECEIVED_COLUMN ≤ least_seen r RECEIVED_COLUMN) (sym there)
-      (suspected_received (view_of a) j inside.form may));
-  sent = inside.sent;
-  left = inside.left;
-  spares = inside.spares;
-  enough = inside.enough;
-  past = inside.past;
-  end = inside.end;
-  votes = inside.votes;
-}
+suspected_kept a s rows j inside may rest there =
+    fields_kept a rows s a.tag a.value a.pending a.votes a.logged a.durable a.turns a.acts a.end inside
+    (subst HasForm (sym there) (suspected_form (view_of a) j inside.form may))
+    (rest ∙ ap (λ (x : Suspicion). record x { suspects = s.suspects }) inside.suspicion
+    ∙ ap (λ (m : ℕ). record { me = m; members = a.members; suspects = s.suspects })
+    (sym (ap (λ (r : Replica). r.rows.me) there)))
+    (subst (λ (q : Replica). least_seen (view_of a) RECEIVED_COLUMN ≤ least_seen q RECEIVED_COLUMN)
+    (sym there)
+    (suspected_received (view_of a) j inside.form may)) inside.votes
 
 -- ---- votes
 
@@ -236,23 +246,9 @@ pub votes_kept : (a : Inside) (pending : Option Vote) (votes : _) → IsInside a
     → a.shape.banks * a.shape.members ≤ vec_capacity votes
     → HasForm (view_of (record a { pending = pending; votes = votes }))
     → IsInside (record a { pending = pending; votes = votes })
-votes_kept a pending votes inside room form = record {
-  form = form;
-  suspicion = inside.suspicion;
-  members = inside.members;
-  roster = inside.roster;
-  most = inside.most;
-  messages = inside.messages;
-  next = inside.next;
-  received = inside.received;
-  sent = inside.sent;
-  left = inside.left;
-  spares = inside.spares;
-  enough = inside.enough;
-  past = inside.past;
-  end = inside.end;
-  votes = room;
-}
+votes_kept a pending votes inside room form =
+    fields_kept a a.rows a.suspects a.tag a.value pending votes a.logged a.durable a.turns a.acts a.end inside
+    form inside.suspicion (omega arith) room
 
 -- the fields are those of the replica that has accepted the value of the vote that waits
 pub accepted_after : (a : Inside) (x : Vote) (rows : Words) → a.pending ≡ Some x
@@ -273,22 +269,10 @@ pub accepted_kept : (a : Inside) (x : Vote) (rows : Words) → IsInside a → a.
     → record (view_of a) { rows = rows; tag = x.ballot + 1; value = x.value; pending = None }
     ≡ accepted (view_of a)
     → IsInside (record a { rows = rows; tag = x.ballot + 1; value = x.value; pending = None })
-accepted_kept a x rows inside waits there = record {
-  form = subst HasForm (sym there) (accepted_form (view_of a) x inside.form waits);
-  suspicion = same_suspicion a rows inside (ap (λ (r : Replica). r.rows.me) there);
-  members = inside.members;
-  roster = inside.roster;
-  most = inside.most;
-  messages = inside.messages;
-  next = inside.next;
-  received = le_trans inside.received (subst
-      (λ (r : Replica). least_seen (view_of a) RECEIVED_COLUMN ≤ least_seen r RECEIVED_COLUMN) (sym there)
-      (accepted_received (view_of a) x inside.form waits));
-  sent = inside.sent;
-  left = inside.left;
-  spares = inside.spares;
-  enough = inside.enough;
-  past = inside.past;
-  end = inside.end;
-  votes = inside.votes;
-}
+accepted_kept a x rows inside waits there =
+    fields_kept a rows a.suspects (x.ballot + 1) x.value None a.votes a.logged a.durable a.turns a.acts a.end
+    inside (subst HasForm (sym there) (accepted_form (view_of a) x inside.form waits))
+    (same_suspicion a rows inside (ap (λ (r : Replica). r.rows.me) there))
+    (subst (λ (q : Replica). least_seen (view_of a) RECEIVED_COLUMN ≤ least_seen q RECEIVED_COLUMN)
+    (sym there)
+    (accepted_received (view_of a) x inside.form waits)) inside.votes

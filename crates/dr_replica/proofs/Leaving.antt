@@ -28,8 +28,8 @@ use Rattle.dr_replica.specs.declared.spot.Spot.{Spot}
 use Rattle.dr_replica.specs.Rests.{has_taken, merged, merged_from}
 use Rattle.dr_replica.specs.declared.replica.Replica.TheInside.{Inside}
 use Rattle.dr_replica.proofs.Delivering.{merged_same}
-use Rattle.dr_replica.proofs.Finishing.{finished_form}
-use Rattle.dr_replica.proofs.Members.{some_member}
+use Rattle.dr_form.proofs.Finishing.{finished_form}
+use Rattle.dr_words.proofs.Ranks.{some_member}
 use Rattle.dr_replica.proofs.Openings.{AreReserved}
 use Rattle.dr_replica.proofs.Spots.{first_is_spot}
 use Rattle.dr_words.proofs.Masks.{has_without_mask, in_roster_small}

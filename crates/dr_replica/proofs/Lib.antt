@@ -1,20 +1,12 @@
-pub mod Members
-pub mod Tables
-pub mod Wedging
-pub mod Accepting
-pub mod Gains
 pub mod Spots
 pub mod Places
 pub mod Rests
 pub mod Histories
-pub mod Puts
-pub mod Keeps
 pub mod Received
 pub mod Insides
 pub mod Delivering
 mod Exchanges
 pub mod Openings
 pub mod Choosing
-pub mod Finishing
 pub mod Lefts
 pub mod Leaving

@@ -22,7 +22,7 @@ use Rattle.dr_replica.specs.declared.replica.Replica.TheInside.{Inside}
 use Rattle.dr_replica.specs.Spots.{first_spot}
 use Rattle.dr_replica.specs.declared.spot.Spot.{Spot}
 use Rattle.dr_replica.proofs.Spots.{first_is_spot}
-use Rattle.dr_replica.proofs.Members.{some_member}
+use Rattle.dr_words.proofs.Ranks.{some_member}
 
 -- the ranges of what is taken
 pub few_messages_each : (s : Setup) → CanBegin s → greatest s.totals ≤ 4096

@@ -10,7 +10,7 @@ use Rattle.dr_history.specs.Members.{members_of}
 use Rattle.dr_words.specs.Masks.{IsInRoster}
 use Rattle.dr_program.proofs.OpeningForm.{front_of_none, greatest_within}
 use Rattle.dr_program.specs.Replica.{greatest}
-use Rattle.dr_replica.proofs.Members.{few_members, roster_members}
+use Rattle.dr_words.proofs.Ranks.{few_members, roster_members}
 use Rattle.dr_history.specs.Places.{place_of, is_held, AllHeldBelow, front_of}
 use Rattle.dr_history.proofs.Fronts.{count_max, front_is, front_only}
 use Rattle.dr_history.proofs.FrontLemmas.{IsFront-least, is_held-below}
@@ -21,7 +21,7 @@ use Rattle.dr_replica.specs.declared.items.Items.TheInside.{Inside}
 use Rattle.dr_replica.specs.Spots.{IsSpot, first_spot}
 use Rattle.dr_replica.specs.declared.spot.Spot.{Spot}
 use Rattle.dr_replica.proofs.Spots.{first_is_spot, spot_number, spot_rank}
-use Rattle.dr_replica.proofs.Gains.{counts_rise}
+use Rattle.dr_form.proofs.Gains.{counts_rise}
 use Rattle.dr_replica.proofs.Lefts.{all_null}
 
 below_product : (p n q : ℕ) → 0 < n → p / n < q → p < n * q

@@ -12,10 +12,10 @@ use Rattle.dr_pred.specs.Watches.{AllLogged, AllReceivedAbove}
 use Rattle.dr_program.proofs.Least.{below_least_seen, least_of, least_rises, received_small}
 use Rattle.dr_program.specs.Form.{HasForm}
 use Rattle.dr_program.specs.Replica.{Replica, accepted, acted, least_seen, may_receive, may_suspect, me, put, received, suspected}
-use Rattle.dr_replica.proofs.Accepting.{accepted_grown}
-use Rattle.dr_replica.proofs.Keeps.{put_rises, received_grown}
-use Rattle.dr_replica.proofs.Wedging.{suspected_grown}
-use Rattle.dr_replica.specs.Puts.{MayPut}
+use Rattle.dr_form.proofs.Accepting.{accepted_grown}
+use Rattle.dr_form.proofs.Keeps.{put_rises, received_grown}
+use Rattle.dr_form.proofs.Wedging.{suspected_grown}
+use Rattle.dr_form.specs.Puts.{MayPut}
 use Rattle.dr_rows.proofs.Grids.{with_word-column}
 use Rattle.dr_rows.specs.Words.{with_own}
 use Rattle.dr_words.specs.declared.column.TheConstants.{BEAT_COLUMN, LOGGED_COLUMN, RECEIVED_COLUMN}

@@ -3,6 +3,5 @@ pub mod Spots
 pub mod History
 pub mod Lefts
 pub mod Inside
-pub mod Puts
 pub mod Rests
 pub mod Wedges

@@ -7,3 +7,4 @@ pub mod Items
 pub mod Arrivals
 pub mod Looks
 pub mod Puts
+pub mod OwnPuts

@@ -26,10 +26,11 @@ use Rattle.dr_rows.specs.Words.{Words, is_frozen}
 use Rattle.dr_suspect.specs.Waits.{IsWaits, Waits, compared}
 use Rattle.std.proofs.lemmas.List.{length-set}
 use Rattle.dr_program.specs.Steps.{NoWordFell, allows, has_cell, stepped}
-use Rattle.dr_program.specs.Running.{Running, members, columns, asks, judged, named_by, overdue, scripted, told, waits_after, step_at, settled, goes, pushes_after, took, next_step, crashes_now, push_or_crash, append_or_end, vote_or_end, end_by, after_step, WaitsAt}
+use Rattle.dr_program.specs.Running.{Running, members, columns, asks, judged, named_by, overdue, scripted, told, waits_after, step_at, settled, goes, pushes_after, took, next_step, crashes_now, vote_or_end, end_by, after_step, WaitsAt}
 use Rattle.dr_program.specs.Form.{HasForm, IsOf, IsRunningMember}
 use Rattle.dr_program.proofs.Fixed.{Told, step_told, of_told}
 use Rattle.dr_program.proofs.Fixed as fixed
+use Rattle.dr_program.proofs.StepsAt.{append_either, push_either, vote_either}
 use Rattle.dr_turn.specs.Search.{left, IsUnderway}
 use Rattle.dr_turn.specs.Work.{tasks, work, deeds_of, left_to, may_fail, deeds_left, HasGrownTo, IsDone}
 use Rattle.dr_turn.proofs.Fewer.{NoneRises, fewer_here, fewer_turns, sum_falls, sum_keeps}
@@ -376,23 +377,12 @@ turns_keep word r (parts.Do acts.Beat) d =
     let l = d.underway.left d.none d.at in omega (arith, one_more_at_most r.replica.turns, l)
 turns_keep word r parts.Judge d =
     omega (arith, judged_turns word r (judged r) (verdict_of r), d.underway.turns)
-turns_keep word r parts.Push d = by (crashes_now r)
-  where
-    by : (b : Bool) → (stepped word r.replica
-        (push_or_crash b r.place.row r.place.column)).turns
-        ≤ r.limit
-    by true = d.underway.turns
-    by false = d.underway.turns
-turns_keep word r parts.Append d = by r.failed
-  where
-    by : (o : Option LogWhy) → (stepped word r.replica (append_or_end o)).turns ≤ r.limit
-    by None = d.underway.turns
-    by (Some why) = d.underway.turns
-turns_keep word r parts.Vote d = by r.failed
-  where
-    by : (o : Option LogWhy) → (stepped word r.replica (vote_or_end o (value_due r.replica))).turns ≤ r.limit
-    by None = d.underway.turns
-    by (Some why) = d.underway.turns
+turns_keep word r parts.Push d = push_either (λ s. (stepped word r.replica s).turns ≤ r.limit)
+    (crashes_now r) r.place.row r.place.column d.underway.turns d.underway.turns
+turns_keep word r parts.Append d = append_either (λ s. (stepped word r.replica s).turns ≤ r.limit)
+    r.failed d.underway.turns (λ why. d.underway.turns)
+turns_keep word r parts.Vote d = vote_either (λ s. (stepped word r.replica s).turns ≤ r.limit)
+    r.failed _ d.underway.turns (λ why. d.underway.turns)
 turns_keep word r part d = d.underway.turns
 
 -- before a turn one more is left
@@ -452,116 +442,76 @@ unturned word r parts.Done d none begins = absurd (cc)
 unturned word r parts.Spent d none begins = absurd (cc)
 unturned word r part d none begins = absurd (cc (sym d.at ∙ begins))
 
+-- the member after a step with which it goes on to the next place
+abbrev steps_on : ℕ → Running → Step → Running
+steps_on word r s = record r {
+  replica = stepped word r.replica s;
+  place = after (members r) (columns r) r.place;
+  pushes = pushes_after r.pushes s;
+  waits = waits_after word r s;
+}
+
+-- the step is an act
+abbrev is_act : Step → Bool
+is_act (steps.Do a) = true
+is_act s = false
+
+-- a step that is none leaves fewer deeds, where it goes on from it within the turn
+on_fewer : (word : ℕ) (r : Running) (s : Step) → is_act s ≡ false → IsUnderway r → r.replica.end ≡ None
+    → is_beat (part_of r.place) ≡ false → work (stepped word r.replica s) ≤ work r.replica
+    → deeds_left (steps_on word r s) < deeds_left r
+on_fewer word r (steps.Do a) plain u none amid less = absurd (cc plain)
+on_fewer word r s plain u none amid less =
+    lower r (steps_on word r s) none refl
+    (fewer_here (r.limit - r.replica.turns) _ _ _ _ _ _
+    (omega (
+      arith,
+      less,
+      left_falls (members r) (columns r) r.place u.place
+          (part_before (members r) (columns r) r.place u.place amid),
+    )))
+
+-- the step leaves fewer deeds, where it lowers the work
+abbrev FewerBy : ℕ → Running → Step → Type 0
+FewerBy word r s = Lowers s (work r.replica) (work (stepped word r.replica s))
+    → deeds_left (steps_on word r s) < deeds_left r
+
 -- a push, or the crash in its place, leaves fewer deeds
 fewer_push : (word : ℕ) (r : Running) → IsDue word r parts.Push
     → Lowers (step_at r parts.Push r.place.row r.place.column) (work r.replica)
     (work (does_at word r parts.Push).replica)
     → deeds_left (does_at word r parts.Push) < deeds_left r
-fewer_push word r d less = by (crashes_now r) less
-  where
-    by : (b : Bool) → Lowers (push_or_crash b r.place.row r.place.column) (work r.replica)
-        (work (stepped word r.replica
-        (push_or_crash b r.place.row r.place.column)))
-        → deeds_left (record r {
-          replica = stepped word r.replica
-              (push_or_crash b r.place.row r.place.column);
-          place = after (members r) (columns r) r.place;
-          pushes = pushes_after r.pushes
-              (push_or_crash b r.place.row r.place.column);
-        }) < deeds_left r
-    by true l = over r
-        (record r {
-          replica = stepped word r.replica (steps.Do (acts.Crash ends.Crashed));
-          place =
-              after (members r) (columns r) r.place;
-          pushes = r.pushes;
-        }) d.none d.underway
-        (Some ends.Crashed) refl refl
-    by false l = lower r
-        (record r {
-          replica = stepped word r.replica (steps.Push r.place.row r.place.column);
-          place =
-              after (members r) (columns r) r.place;
-          pushes = one_more 32 r.pushes;
-        }) d.none refl
-        (fewer_here (r.limit - r.replica.turns) _ _ _ _ _ _
-        (omega (
-          arith,
-          l,
-          left_falls (members r) (columns r) r.place d.underway.place
-              (part_before (members r) (columns r) r.place d.underway.place (ap is_beat d.at)),
-        )))
+fewer_push word r d less = push_either (FewerBy word r) (crashes_now r) r.place.row r.place.column
+    (on_fewer word r (steps.Push r.place.row r.place.column) refl d.underway d.none (ap is_beat d.at))
+    (λ l. over r (steps_on word r (steps.Do (acts.Crash ends.Crashed))) d.none d.underway
+    (Some ends.Crashed) refl refl) less
 
 -- an append, or the end in its place, leaves fewer deeds
 fewer_append : (word : ℕ) (r : Running) → IsDue word r parts.Append
     → Lowers (step_at r parts.Append r.place.row r.place.column) (work r.replica)
     (work (does_at word r parts.Append).replica)
     → deeds_left (does_at word r parts.Append) < deeds_left r
-fewer_append word r d less = by r.failed less
-  where
-    after_append : Step → Running
-    after_append s = record r {
-      replica = stepped word r.replica s;
-      place = after (members r) (columns r) r.place;
-      pushes = pushes_after r.pushes s;
-    }
-
-    by : (o : Option LogWhy)
-        → Lowers (append_or_end o) (work r.replica) (work (stepped word r.replica (append_or_end o)))
-        → deeds_left (after_append (append_or_end o)) < deeds_left r
-    by (Some why) l = over r (after_append (append_or_end (Some why))) d.none d.underway
-        (Some (end_by why)) refl refl
-    by None l = lower r (after_append steps.Append) d.none refl
-        (fewer_here (r.limit - r.replica.turns) _ _ _ _ _ _
-        (omega (
-          arith,
-          l,
-          left_falls (members r) (columns r) r.place d.underway.place
-              (part_before (members r) (columns r) r.place d.underway.place (ap is_beat d.at)),
-        )))
+fewer_append word r d less = append_either (FewerBy word r) r.failed
+    (on_fewer word r steps.Append refl d.underway d.none (ap is_beat d.at))
+    (λ why l. over r (steps_on word r (steps.Do (acts.Crash (end_by why)))) d.none d.underway
+    (Some (end_by why)) refl refl) less
 
 -- a vote, or the end in its place, leaves fewer deeds
 fewer_vote : (word : ℕ) (r : Running) → IsDue word r parts.Vote
     → Lowers (step_at r parts.Vote r.place.row r.place.column) (work r.replica)
     (work (does_at word r parts.Vote).replica)
     → deeds_left (does_at word r parts.Vote) < deeds_left r
-fewer_vote word r d less = by r.failed less
-  where
-    after_append : Step → Running
-    after_append s = record r {
-      replica = stepped word r.replica s;
-      place = after (members r) (columns r) r.place;
-      pushes = pushes_after r.pushes s;
-    }
-
-    by : (o : Option LogWhy)
-        → Lowers (vote_or_end o (value_due r.replica)) (work r.replica)
-        (work (stepped word r.replica (vote_or_end o (value_due r.replica))))
-        → deeds_left (after_append (vote_or_end o (value_due r.replica))) < deeds_left r
-    by (Some why) l = over r (after_append (vote_or_end (Some why) (value_due r.replica))) d.none d.underway
-        (Some (end_by why)) refl refl
-    by None l = lower r (after_append (steps.LogVote (value_due r.replica))) d.none refl
-        (fewer_here (r.limit - r.replica.turns) _ _ _ _ _ _
-        (omega (
-          arith,
-          l,
-          left_falls (members r) (columns r) r.place d.underway.place
-              (part_before (members r) (columns r) r.place d.underway.place (ap is_beat d.at)),
-        )))
+fewer_vote word r d less = vote_either (FewerBy word r) r.failed (value_due r.replica)
+    (on_fewer word r (steps.LogVote (value_due r.replica)) refl d.underway d.none (ap is_beat d.at))
+    (λ why l. over r (steps_on word r (steps.Do (acts.Crash (end_by why)))) d.none d.underway
+    (Some (end_by why)) refl refl) less
 
 fewer : (word : ℕ) (r : Running) (part : Part) → r.limit < 2 ^ 32 → IsDue word r part
     → Lowers (step_at r part r.place.row r.place.column) (work r.replica)
     (work (does_at word r part).replica)
     → deeds_left (does_at word r part) < deeds_left r
-fewer word r parts.Look fits d less =
-    lower r (does_at word r parts.Look) d.none refl
-    (fewer_here (r.limit - r.replica.turns) _ _ _ _ _ _
-    (omega (
-      arith,
-      less,
-      left_falls (members r) (columns r) r.place d.underway.place
-          (part_before (members r) (columns r) r.place d.underway.place (ap is_beat d.at)),
-    )))
+fewer word r parts.Look fits d less = on_fewer word r (steps.Look r.place.row r.place.column) refl d.underway
+    d.none (ap is_beat d.at) less
 fewer word r parts.Judge fits d less = judged_fewer word r (judged r) (verdict_of r) d.none d.underway less
 fewer word r parts.Append fits d less = fewer_append word r d less
 fewer word r parts.Vote fits d less = fewer_vote word r d less
@@ -640,16 +590,11 @@ free_after word r (parts.Do acts.Propose) d = inl refl
 free_after word r (parts.Do acts.Accept) d = inl refl
 free_after word r parts.Judge d =
     inl (judged_pending word r (judged r) (verdict_of r) ∙ none_waits r parts.Judge d.at refl d.underway.free)
-free_after word r parts.Push d = inl (by (crashes_now r))
-  where
-    by : (b : Bool) → (stepped word r.replica (push_or_crash b r.place.row r.place.column)).pending ≡ None
-    by true = none_waits r parts.Push d.at refl d.underway.free
-    by false = none_waits r parts.Push d.at refl d.underway.free
-free_after word r parts.Append d = inl (by r.failed)
-  where
-    by : (o : Option LogWhy) → (stepped word r.replica (append_or_end o)).pending ≡ None
-    by None = none_waits r parts.Append d.at refl d.underway.free
-    by (Some why) = none_waits r parts.Append d.at refl d.underway.free
+free_after word r parts.Push d = let free = none_waits r parts.Push d.at refl d.underway.free in
+    inl (push_either (λ s. (stepped word r.replica s).pending ≡ None) (crashes_now r) r.place.row
+    r.place.column free free)
+free_after word r parts.Append d = let free = none_waits r parts.Append d.at refl d.underway.free in
+    inl (append_either (λ s. (stepped word r.replica s).pending ≡ None) r.failed free (λ why. free))
 free_after word r part d = inl (none_waits r part d.at refl d.underway.free)
 
 -- it is underway behind the deed

@@ -9,8 +9,9 @@ use Rattle.dr_program.specs.declared.place.Part.TheVariants as parts
 use Rattle.dr_program.specs.Replica.{is_fault, value_due}
 use Rattle.dr_program.specs.Steps.{IsAppend}
 use Rattle.dr_program.specs.Turn.{part_of}
-use Rattle.dr_program.specs.Running.{Running, append_or_end, broken_off, crashes_now, end_by, next_step, push_or_crash, step_at, vote_or_end}
+use Rattle.dr_program.specs.Running.{Running, append_or_end, broken_off, crashes_now, end_by, next_step, step_at, vote_or_end}
 use Rattle.dr_program.specs.Form.{IsRunningMember}
+use Rattle.dr_program.proofs.StepsAt.{push_either}
 use Rattle.dr_turn.specs.Work.{IsDone, left_to, may_fail}
 use Rattle.dr_turn.proofs.Deeds.{lower}
 use Rattle.dr_turn.proofs.Search.{applies_at}
@@ -34,11 +35,8 @@ append_at r parts.Vote i c e = (refl, by r.failed refl e)
     by : (o : Option LogWhy) → r.failed ≡ o → IsAppend (vote_or_end o (value_due r.replica)) → r.failed ≡ None
     by None same e = same
     by (Some why) same e = absurd e
-append_at r parts.Push i c e = absurd (by (crashes_now r) e)
-  where
-    by : (b : Bool) → IsAppend (push_or_crash b i c) → ⊥
-    by true e = e
-    by false e = e
+append_at r parts.Push i c e =
+    absurd (push_either (λ s. IsAppend s → ⊥) (crashes_now r) i c (λ x. x) (λ x. x) e)
 append_at r part i c e = absurd e
 
 -- a member may end by a fault of its log at any time

@@ -5,3 +5,4 @@ pub mod Search
 pub mod Staying
 pub mod Deeds
 pub mod Failing
+pub mod Parts

@@ -224,28 +224,28 @@ next_part : (n k : ℕ) (p : Place) → rows_in n (part_of p) ≡ 1 → columns_
 next_part n k p rows columns more =
     ap (λ i. slice_index_or TURN i turn_begins) (nexts n k p _ _ _ refl refl refl rows columns more)
 
+-- where behind each part of one kind there is one of another kind, so it is behind this one
+follows : (here next : Part → Bool)
+    → all_below (length TURN) (λ j. not (here (slice_index_or TURN j turn_begins))
+    || (nat_lt (j + 1) (length TURN) && next (slice_index_or TURN (j + 1) turn_begins))) ≡ true
+    → (i : ℕ) → i < length TURN → here (slice_index_or TURN i turn_begins) ≡ true
+    → (i + 1 < length TURN) × (next (slice_index_or TURN (i + 1) turn_begins) ≡ true)
+follows here next all i l e =
+    let both = and_parts (nat_lt (i + 1) (length TURN)) (next (slice_index_or TURN (i + 1) turn_begins))
+    (implied _ _ (each_below (length TURN) i (λ j. not (here (slice_index_or TURN j turn_begins))
+    || (nat_lt (j + 1) (length TURN) && next (slice_index_or TURN (j + 1) turn_begins))) all l) e) in
+    (grind (arith, nat_tests, both.0), both.1)
+
 -- behind a vote comes the proposal, and behind that the acceptance
 vote_number : (i : ℕ) → i < length TURN → is_vote (slice_index_or TURN i turn_begins) ≡ true
     → (i + 1 < length TURN) × (slice_index_or TURN (i + 1) turn_begins ≡ parts.Do acts.Propose)
 unfolding all_below
-vote_number i l e =
-    let test = each_below (length TURN) i
-    (λ j. not (is_vote (slice_index_or TURN j turn_begins))
-    || (nat_lt (j + 1) (length TURN) && is_propose (slice_index_or TURN (j + 1) turn_begins))) refl l in
-    let both = and_parts (nat_lt (i + 1) (length TURN)) (is_propose (slice_index_or TURN (i + 1) turn_begins))
-    (implied _ _ test e) in
-    (grind (arith, nat_tests, both.0), propose_test _ both.1)
+vote_number i l e = let both = follows is_vote is_propose refl i l e in (both.0, propose_test _ both.1)
 
 propose_number : (i : ℕ) → i < length TURN → is_propose (slice_index_or TURN i turn_begins) ≡ true
     → (i + 1 < length TURN) × (slice_index_or TURN (i + 1) turn_begins ≡ parts.Do acts.Accept)
 unfolding all_below
-propose_number i l e =
-    let test = each_below (length TURN) i
-    (λ j. not (is_propose (slice_index_or TURN j turn_begins))
-    || (nat_lt (j + 1) (length TURN) && is_accept (slice_index_or TURN (j + 1) turn_begins))) refl l in
-    let both = and_parts (nat_lt (i + 1) (length TURN)) (is_accept (slice_index_or TURN (i + 1) turn_begins))
-    (implied _ _ test e) in
-    (grind (arith, nat_tests, both.0), accept_test _ both.1)
+propose_number i l e = let both = follows is_propose is_accept refl i l e in (both.0, accept_test _ both.1)
 
 pub after_vote : (n k : ℕ) (p : Place) → IsIn n k p → part_of p ≡ parts.Vote
     → part_of (after n k p) ≡ parts.Do acts.Propose

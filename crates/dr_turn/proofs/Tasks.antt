@@ -322,7 +322,6 @@ none_rises word r s stays f is form rise = (
 pub view_stays : (word : ℕ) (r : Replica) (s : Step) → ends_view s ≡ false
     → (stepped word r s).view ≡ r.view
 view_stays word r (Do acts.Finish) stays = absurd (cc stays)
-view_stays word r (Do acts.Beat) stays = refl
 view_stays word r (Do a) stays = refl
 view_stays word r s stays = refl
 
@@ -330,7 +329,6 @@ pub views_keep : (word : ℕ) (r : Replica) (s : Step) → ends_view s ≡ false
     → views_left (stepped word r s) ≡ views_left r
 unfolding views_left refill
 views_keep word r (Do acts.Finish) stays = absurd (cc stays)
-views_keep word r (Do acts.Beat) stays = refl
 views_keep word r (Do a) stays = refl
 views_keep word r s stays = refl
 

@@ -9,5 +9,6 @@ pub mod Order
 pub mod Lasting
 pub mod Accepts
 pub mod Rewrites
+pub mod Tables
 pub mod Values
 pub mod Choices

@@ -1,14 +1,16 @@
 -- Ranks: how many members of a mask stand before one of them.
-use Rattle.std.proofs.Common.{◌≡◌, ℕ, zero, suc, ◌+◌, ◌-◌, ◌*◌, ◌/◌, ◌%◌, ◌^◌, ◌<◌, ◌≤◌, true, false, Bool, refl, sym, ap, ◌∙◌, ◌⊎◌, inl, inr, subst, arith, List, [], ◌∷◌, ◌++◌, length, slice_get, Some, None, count_ones, if◌then◌else◌, length-append, w16, add_comm, bit_and, lit<}
+use Rattle.std.proofs.Common.{◌≡◌, ℕ, zero, suc, ◌+◌, ◌-◌, ◌*◌, ◌/◌, ◌%◌, ◌^◌, ◌<◌, ◌≤◌, true, false, Bool, refl, sym, ap, ◌∙◌, ◌⊎◌, inl, inr, subst, arith, List, [], ◌∷◌, ◌++◌, length, get_or, slice_get, Some, None, cond, count_ones, if◌then◌else◌, length-append, w16, add_comm, bit_and, lit<}
 use Rattle.std.specs.Int.{bit_at, trailing_zeros}
 use Rattle.std.proofs.lemmas.Bool.{cases_lt}
+use Rattle.std.proofs.lemmas.List.{get_or_append_left, get_or-append_right}
 use Rattle.std.proofs.lemmas.Nat.{mod-pow-add, ones_cat, mod_below, pow_pos, and_mask, shr-shr, one_shl}
 use Rattle.std.proofs.lemmas.Nat.Bits.{bit_at-trailing_zeros}
 use Rattle.std.proofs.lemmas.Option.{slice_get_within}
 use lib.Count.{ones}
+use Rattle.dr_history.proofs.MemberLemmas.{length_members_below}
 use Rattle.dr_history.specs.Members.{has, members_below, members_of}
 use Rattle.dr_words.proofs.Bits.{has_zero}
-use Rattle.dr_words.specs.Masks.{IsLeastOf}
+use Rattle.dr_words.specs.Masks.{IsInRoster, IsLeastOf}
 
 -- ---- counts of bits
 
@@ -111,6 +113,47 @@ pub some_member : (m k : ℕ) → k < 16 → has m k ≡ true → 0 < length (me
 some_member m k l h =
     let within = slice_get_within (members_of m) (length (members_below m k)) k (at_rank_of m k l h) in
     omega (arith, within)
+
+-- each number of the list is one of a member
+each_below : (mask n j : ℕ) → j < length (members_below mask n)
+    → has mask (get_or (members_below mask n) j 0) ≡ true
+unfolding members_below
+each_below mask zero j l = absurd (omega arith)
+each_below mask (suc n) j l =
+    elim (cases_lt j (length (members_below mask n))) [
+      | inl within ↦ ap (has mask) (get_or_append_left (members_below mask n)
+          (cond (has mask n) (n ∷ []) []) 0 j within) ∙ each_below mask n j within
+      | inr past ↦ last (has mask n) refl
+          (omega (arith, l, length-append (members_below mask n) (cond (has mask n) (n ∷ []) []))) past
+    ]
+  where
+    last : (b : Bool) → has mask n ≡ b → j
+        < length (members_below mask n) + length (cond (has mask n) (n ∷ []) [])
+        → length (members_below mask n) ≤ j
+        → has mask (get_or (members_below mask n ++ cond (has mask n) (n ∷ []) []) j 0) ≡ true
+    last true e short past =
+        let one : length (cond (has mask n) (n ∷ []) []) ≡ 1 = rw e refl in
+        let first : j - length (members_below mask n) ≡ 0 = omega (arith, short, one, past) in
+        ap (has mask) (get_or-append_right (members_below mask n) (cond (has mask n) (n ∷ []) [])
+        (length (members_below mask n)) j 0 refl past
+        ∙ ap (λ (i : ℕ). get_or (cond (has mask n) (n ∷ []) []) i 0) first ∙ rw e refl) ∙ e
+    last false e short past = let none : length (cond (has mask n) (n ∷ []) []) ≡ 0 = rw e refl in
+        absurd (omega (arith, short, none, past))
+
+each_member : (mask j : ℕ) → j < length (members_of mask)
+    → has mask (get_or (members_of mask) j 0) ≡ true
+unfolding members_of
+each_member mask j l = each_below mask 16 j l
+
+-- members of a roster are of its numbers
+pub roster_members : (mask n : ℕ) → IsInRoster n mask → (j : ℕ) → j < length (members_of mask)
+    → get_or (members_of mask) j 0 < n
+roster_members mask n roster j l = roster _ (each_member mask j l)
+
+-- there are at most 16 members
+pub few_members : (mask : ℕ) → length (members_of mask) ≤ 16
+unfolding members_of
+few_members mask = length_members_below mask 16
 
 -- nobody is below the first number whose bit is set
 none_below : (m k : ℕ) → ((i : ℕ) → i < k → bit_at m i ≡ 0) → members_below m k ≡ []

@@ -7,7 +7,7 @@ ghost use Rattle.dr_program.specs.Acts.{done, may, taken};
 ghost use Rattle.dr_program.specs.Replica.{acted, appended, delivered, is_other, looked, marked, may_append, may_deliver, may_receive, may_send, may_suspect, published, put, pushed, received, reported, sent, suspected};
 ghost use Rattle.dr_program.specs.Steps.{NoWordFell, is_free};
 ghost use Rattle.dr_replica.specs.Items.{front};
-ghost use Rattle.dr_replica.specs.Puts.{MayPut};
+ghost use Rattle.dr_form.specs.Puts.{MayPut};
 ghost use Rattle.dr_ring.specs.Slots.{HasShape};
 ghost use Rattle.dr_rows.specs.Words.{own, seen, with_own};
 ghost use Rattle.dr_words.specs.Columns.{recv_column};

@@ -5,7 +5,7 @@ use Rattle.dr_machine.specs.World.{no_vote}
 use Rattle.dr_program.proofs.Voting.{promise_within}
 use Rattle.dr_program.specs.Replica.{accepted}
 use Rattle.dr_rows.specs.Words.{own}
-use Rattle.dr_replica.proofs.Accepting.{accepted_rises}
+use Rattle.dr_form.proofs.Accepting.{accepted_rises}
 use Rattle.dr_replica.proofs.Insides.{accepted_after, accepted_kept}
 use Rattle.dr_replica.specs.Inside.{view_of}
 use Rattle.dr_replica.proofs.replica.Replica.accept.Goals as goal

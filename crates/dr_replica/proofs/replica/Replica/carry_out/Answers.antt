@@ -3,8 +3,8 @@ use Rattle.dr_machine.specs.declared.event.Act.{Act}
 use Rattle.dr_machine.specs.declared.event.Act.TheVariants.{Accept, Propose}
 use Rattle.dr_program.specs.Acts.{may}
 use Rattle.dr_program.specs.Replica.{me}
-use Rattle.dr_replica.proofs.Accepting.{others_wait, own_waits}
-use Rattle.dr_replica.proofs.Keeps.{filling}
+use Rattle.dr_form.proofs.Accepting.{others_wait, own_waits}
+use Rattle.dr_form.proofs.Keeps.{filling}
 use Rattle.dr_replica.proofs.replica.Replica.carry_out.Goals as goal
 
 pub put-requires : goal.put-requires

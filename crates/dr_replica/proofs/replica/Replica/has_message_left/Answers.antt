@@ -1,7 +1,7 @@
 use Rattle.std.proofs.Common.{◌≡◌, ◌+◌, ◌∙◌, ap₂, subst, length, nat_lt}
 use Rattle.dr_program.specs.Replica.{Replica, next_index}
 use Rattle.dr_replica.specs.Inside.{view_of}
-use Rattle.dr_replica.proofs.Keeps.{message_left}
+use Rattle.dr_form.proofs.Keeps.{message_left}
 use Rattle.dr_replica.proofs.replica.Replica.has_message_left.Goals as goal
 
 pub returns : goal.returns

@@ -9,7 +9,7 @@ use Rattle.dr_replica.proofs.Received.{grown_received}
 use Rattle.dr_program.specs.Replica.{Replica, is_other, least_seen, looked}
 use Rattle.dr_program.specs.Form.{HasForm}
 use Rattle.dr_replica.specs.Inside.{view_of}
-use Rattle.dr_replica.proofs.Keeps.{looked_keeps, looked_rises}
+use Rattle.dr_form.proofs.Keeps.{looked_keeps, looked_rises}
 use Rattle.dr_replica.proofs.Insides.{state_kept, grown_to}
 use Rattle.dr_replica.proofs.replica.Replica.look.Goals as goal
 

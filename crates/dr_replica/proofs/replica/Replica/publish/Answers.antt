@@ -3,7 +3,7 @@ use Rattle.dr_rows.specs.Words.{Words}
 use Rattle.dr_program.specs.Replica.{least_seen, published}
 use Rattle.dr_program.specs.Form.{HasForm}
 use Rattle.dr_replica.specs.Inside.{view_of}
-use Rattle.dr_replica.proofs.Keeps.{published_form}
+use Rattle.dr_form.proofs.Keeps.{published_form}
 use Rattle.dr_replica.proofs.Insides.{state_kept}
 use Rattle.dr_replica.proofs.Received.{other_received}
 use Rattle.dr_words.specs.declared.column.TheConstants.{LOGGED_COLUMN, RECEIVED_COLUMN}

@@ -4,7 +4,7 @@ use Rattle.dr_words.specs.declared.column.TheConstants.{RECEIVED_COLUMN}
 use Rattle.dr_program.specs.Form.{HasForm}
 use Rattle.dr_program.specs.Replica.{Replica, least_seen, pushed}
 use Rattle.dr_replica.specs.Inside.{view_of}
-use Rattle.dr_replica.proofs.Keeps.{pushed_keeps}
+use Rattle.dr_form.proofs.Keeps.{pushed_keeps}
 use Rattle.dr_replica.proofs.Insides.{state_kept}
 use Rattle.dr_replica.proofs.replica.Replica.push.Goals as goal
 

@@ -3,8 +3,8 @@ use Rattle.dr_program.specs.Form.{HasForm}
 use Rattle.dr_program.specs.Replica.{Replica, least_seen, put}
 use Rattle.dr_ring.specs.Slots.{IsFree}
 use Rattle.dr_replica.specs.Inside.{view_of}
-use Rattle.dr_replica.specs.Puts.{MayPut}
-use Rattle.dr_replica.proofs.Keeps.{put_form}
+use Rattle.dr_form.specs.Puts.{MayPut}
+use Rattle.dr_form.proofs.Keeps.{put_form}
 use Rattle.dr_replica.proofs.Received.{put_received}
 use Rattle.dr_words.specs.declared.column.TheConstants.{RECEIVED_COLUMN}
 use Rattle.dr_replica.proofs.Exchanges.{WasPut, items_kept, put_after, put_shows, room_left}

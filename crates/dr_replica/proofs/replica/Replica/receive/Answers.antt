@@ -5,7 +5,7 @@ use Rattle.dr_replica.specs.Items.{Held}
 use Rattle.dr_program.specs.Replica.{Replica, count, is_wedged, least_seen, may_receive, received}
 use Rattle.dr_program.specs.Form.{HasForm}
 use Rattle.dr_replica.specs.Inside.{view_of}
-use Rattle.dr_replica.proofs.Keeps.{open_recv, received_form}
+use Rattle.dr_form.proofs.Keeps.{open_recv, received_form}
 use Rattle.dr_replica.proofs.Received.{received_received}
 use Rattle.dr_words.specs.declared.column.TheConstants.{RECEIVED_COLUMN}
 use Rattle.dr_replica.proofs.Insides.{may_of}

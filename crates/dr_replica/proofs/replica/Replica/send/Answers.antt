@@ -5,9 +5,9 @@ use Rattle.dr_entry.specs.declared.entry.Item.TheVariants.{Text}
 use Rattle.dr_entry.specs.declared.end.SentItem.TheVariants.{Index}
 use Rattle.dr_program.specs.Form.{HasForm}
 use Rattle.dr_program.specs.Replica.{is_wedged, next_index, put}
-use Rattle.dr_replica.specs.Puts.{MayPut}
+use Rattle.dr_form.specs.Puts.{MayPut}
 use Rattle.dr_replica.proofs.Exchanges.{message_read}
-use Rattle.dr_replica.proofs.Keeps.{index_small, message_to_send, sending}
+use Rattle.dr_form.proofs.Keeps.{index_small, message_to_send, sending}
 use Rattle.dr_replica.proofs.replica.Replica.send.Goals as goal
 
 pub overflow_cast-index : goal.overflow_cast-index

@@ -5,7 +5,7 @@ use Rattle.dr_words.specs.Masks.{least_of, without}
 use Rattle.dr_words.specs.Rewrites.{wedged_word}
 use Rattle.dr_replica.specs.Inside.{view_of}
 use Rattle.dr_replica.proofs.Insides.{may_of, suspected_after, suspected_kept, voter_read}
-use Rattle.dr_replica.proofs.Wedging.{recv_small, suspected_rises}
+use Rattle.dr_form.proofs.Wedging.{recv_small, suspected_rises}
 use Rattle.dr_replica.proofs.replica.Replica.suspect.Goals as goal
 
 pub rewrite-requires-clause-recv : goal.rewrite-requires-clause-recv

@@ -2,7 +2,7 @@ use Rattle.std.proofs.Common.{◌≡◌, true, refl, sym, ap, subst, ◌∙◌}
 use Rattle.dr_machine.specs.declared.event.Act.{Act}
 use Rattle.dr_program.specs.Acts.{may, taken}
 use Rattle.dr_program.specs.Replica.{Replica, acted, finished, may_finish}
-use Rattle.dr_replica.proofs.Keeps.{taken_grown, taken_keeps, taken_other}
+use Rattle.dr_form.proofs.Keeps.{taken_grown, taken_keeps, taken_other}
 use Rattle.dr_replica.proofs.Insides.{form_to, grown_to}
 use Rattle.dr_replica.proofs.replica.Replica.take.Goals as goal
 use Rattle.dr_replica.proofs.replica.Replica.take.Goals.{After-finish, After-stamp-in_default}

@@ -3,7 +3,7 @@ use Rattle.std.specs.Prelude.{vec_capacity}
 use Rattle.dr_program.proofs.Voting.{vote_room}
 use Rattle.dr_program.specs.Form.{HasForm}
 use Rattle.dr_program.specs.Replica.{Replica, may_vote, voted}
-use Rattle.dr_replica.proofs.Accepting.{voted_form}
+use Rattle.dr_form.proofs.Accepting.{voted_form}
 use Rattle.dr_replica.proofs.Insides.{may_of, voted_after, votes_kept}
 use Rattle.dr_replica.specs.Inside.{view_of}
 use Rattle.dr_replica.proofs.replica.Replica.vote.Goals as goal

@@ -1,0 +1,671 @@
+-- Each act of a replica keeps its form, and its words grow.
+use Rattle.std.proofs.Common.{◌≡◌, ◌≢◌, ℕ, ◌+◌, ◌*◌, ◌^◌, ◌<◌, ◌≤◌, ◌⊎◌, inl, inr, true, suc, List, [], ◌∷◌, ◌++◌, length, map, get_or, set, slice_index, Option, Some, is_some, unwrap_or, not, nat_lt, ◌&&◌, ◌==◌, length-append, refl, sym, ap, subst, ◌∙◌, arith, false}
+use Rattle.std.specs.List.{list_any}
+use Rattle.std.proofs.lemmas.Bool.{cases_eq, cases_lt, and_parts, ltb-true, eqb-false, not-true, or_cases}
+use Rattle.std.proofs.lemmas.Bool.Decides.{nat_tests}
+use Rattle.std.proofs.lemmas.List.{length-set, length_push, get_or-set_same, get_or-set_other, get_or_past}
+use Rattle.std.proofs.lemmas.Option.{slice_get-get_or}
+use Rattle.dr_entry.specs.declared.record.Vote.{Vote}
+use Rattle.dr_entry.specs.declared.entry.Entry.{Entry}
+use Rattle.dr_entry.specs.declared.entry.Item.{Item}
+use Rattle.dr_entry.specs.declared.entry.Item.TheVariants.{Null, Text}
+use Rattle.dr_entry.specs.declared.end.End.{End}
+use Rattle.dr_entry.specs.declared.end.SentItem.{SentItem}
+use Rattle.dr_entry.specs.declared.end.SentItem.TheVariants as sent_items
+use Rattle.dr_entry.specs.declared.end.SentItem.TheVariants.{Index}
+use Rattle.dr_history.specs.Members.{has}
+use Rattle.dr_history.specs.History.{messages_in}
+use Rattle.dr_history.specs.Places.{front_of}
+use Rattle.dr_history.proofs.Fronts.{count_max}
+use Rattle.dr_ring.specs.Slots.{slot_column, IsFree, is_free, with_item}
+use Rattle.dr_ring.proofs.Freedom.{IsFree-from_test}
+use Rattle.dr_words.specs.Masks.{IsInRoster}
+use Rattle.dr_rows.specs.Words as rows
+use Rattle.dr_rows.specs.Words.{Words, IsWords, own, seen, with_own, is_frozen}
+use Rattle.dr_rows.proofs.WordsLemmas.{IsWords-pushed}
+use Rattle.dr_words.specs.Rewrites.{is_accept_of}
+use Rattle.dr_words.specs.declared.column.TheConstants.{BEAT_COLUMN, SUSPECTED_COLUMN, RECEIVED_COLUMN, LOGGED_COLUMN, DONE_COLUMN}
+use Rattle.dr_words.specs.Columns.{columns_of, recv_column}
+use Rattle.dr_words.specs.Form.{IsInForm}
+use Rattle.dr_words.specs.Grown.{HasGrown, Grown}
+use Rattle.dr_words.specs.Packing.{accept_promise, accept_tag, accept_value, recv_word, ring_tag}
+use Rattle.dr_words.proofs.Order.{Grown_trans}
+use Rattle.dr_machine.specs.declared.step.Step.TheVariants.{Do}
+use Rattle.dr_program.specs.Acts.{done, may, taken}
+use Rattle.dr_program.specs.Steps as steps
+use Rattle.dr_machine.proofs.Sending.{messages_within, next_message, next_null, only_messages}
+use Rattle.dr_machine.specs.Sending.{IsPut}
+use Rattle.dr_machine.specs.Effects.{one_more, entries_of}
+use Rattle.dr_machine.specs.declared.event.Act.{Act}
+use Rattle.dr_machine.specs.declared.event.Act.TheVariants as acts
+use Rattle.dr_program.specs.Replica.{Replica, me, count, greatest, view_of, is_other, is_wedged, least_seen, sender_at, item_at, may_append, may_deliver, is_behind, may_receive, may_send, may_null, ready_item, next_index, gained, acted, beaten, ended, reported, appended, delivered, published, marked, looked, pushed, put, received, suspected, accepted, decided}
+use Rattle.dr_program.specs.Form.{HasForm}
+use Rattle.dr_words.proofs.Ranks.{some_member}
+use Rattle.dr_words.proofs.Accepts.{accept_within}
+use Rattle.dr_words.proofs.Forms.{form_done, form_free, grown_done, grown_free}
+use Rattle.dr_words.proofs.Tables.{IsTable, table_looked, table_set, own_written, own_left, own_seen, looked_grown, set_grown}
+use Rattle.dr_form.specs.Puts.{MayPut}
+use Rattle.dr_ring.proofs.OwnPuts.{table_put, put_left, put_tags, put_grown}
+use Rattle.dr_form.proofs.Accepting.{accepted_form, accepted_grown, decided_form, others_wait, own_waits}
+use Rattle.dr_form.proofs.Beside.{beside_form}
+use Rattle.dr_form.proofs.Finishing.{finished_form, none_waits}
+use Rattle.dr_form.proofs.Wedging.{suspected_form, suspected_grown}
+use Rattle.dr_form.proofs.Gains.{counts_bounded, front_rises, shown, table_shown, shown_left, shown_recv, shown_received, shown_grown}
+
+-- the rows of a replica in form
+pub table_of : (r : Replica) → HasForm r → IsTable r.roster r.window r.rows
+table_of r f = record {
+  rows = f.rows;
+  members = f.members;
+  columns = f.columns;
+  words = f.words;
+}
+
+-- its own number is one of the roster, and so is that of each member of its view
+me_within : (r : Replica) → HasForm r → me r < r.roster
+me_within r f = omega (arith, f.rows.present, f.members)
+
+-- ---- what only counts on
+
+rest_keeps : (r : Replica) (next logged durable turns acts : ℕ) (history : List Entry)
+    (end : Option End) → HasForm r
+    → r.logged ≤ logged → logged ≤ length history → length history ≤ r.room → r.acts ≤ acts
+    → acts < 2 ^ 64
+    → HasForm (record r {
+      next = next;
+      history = history;
+      logged = logged;
+      durable = durable;
+      turns = turns;
+      acts = acts;
+      end = end;
+    })
+rest_keeps r next logged durable turns acts history end f more within room rises small =
+    beside_form r next logged durable turns acts history end r.committed r.pending r.votes f more within room
+    rises small f.waits f.votes
+
+-- ---- words
+
+-- words that leave what the form says of the own ones
+pub record KeepsWords (r : Replica) (words sent : List (List ℕ)) : Type 0 where
+  pub table : IsTable r.roster r.window (record r.rows { words = words; sent = sent })
+  pub kept : (c : ℕ) → c ≢ BEAT_COLUMN → c ≢ LOGGED_COLUMN → c ≢ DONE_COLUMN
+      → own (record r.rows { words = words; sent = sent }) c ≡ own r.rows c
+  pub beat : own (record r.rows { words = words; sent = sent }) BEAT_COLUMN ≤ r.acts
+  pub published : own (record r.rows { words = words; sent = sent }) LOGGED_COLUMN ≤ r.logged
+
+words_keep : (r : Replica) (words sent : List (List ℕ)) → HasForm r → KeepsWords r words sent
+    → HasForm (record r { rows = record r.rows { words = words; sent = sent } })
+words_keep r words sent f w = record {
+  rows = w.table.rows;
+  members = w.table.members;
+  columns = w.table.columns;
+  words = w.table.words;
+  some_slot = f.some_slot;
+  most_slots = f.most_slots;
+  suspicion = f.suspicion;
+  frozen = f.frozen;
+  bank = f.bank;
+  left = f.left;
+  roster = f.roster;
+  present = f.present;
+  counts = f.counts;
+  bounded = f.bounded;
+  few = f.few;
+  items = f.items;
+  suspected = w.kept SUSPECTED_COLUMN (λ e. omega arith) (λ e. omega arith) (λ e. omega arith)
+      ∙ f.suspected;
+  recv = λ s lt. w.kept (recv_column s) (λ e. omega arith) (λ e. omega arith) (λ e. omega arith)
+      ∙ f.recv s lt;
+  accept = λ c is. ap accept_promise (same c is) ∙ f.accept c is;
+  tagged = λ c is. ap accept_tag (same c is) ∙ f.tagged c is;
+  valued = λ c is. ap accept_value (same c is) ∙ f.valued c is;
+  low = f.low;
+  waits = f.waits;
+  votes = f.votes;
+  received = w.kept RECEIVED_COLUMN (λ e. omega arith) (λ e. omega arith) (λ e. omega arith)
+      ∙ f.received;
+  beat = w.beat;
+  acts = f.acts;
+  published = w.published;
+  ring = λ k part lt. subst (λ (x : ℕ). ring_tag x ≤ count r (me r))
+      (sym (w.kept (slot_column r.roster r.window k + part) (λ e. omega arith) (λ e. omega arith)
+      (λ e. omega arith))) (f.ring k part lt);
+  messages = f.messages;
+  short = f.short;
+  bytes = f.bytes;
+  put = f.put;
+  order = f.order;
+  logged = f.logged;
+  room = f.room;
+  small = f.small;
+}
+  where
+    same : (c : ℕ) → is_accept_of r.roster r.members c ≡ true
+        → own (record r.rows { words = words; sent = sent }) c ≡ own r.rows c
+    same c is = let high = accept_within r.roster r.members c is in
+        w.kept c (λ e. omega (arith, high)) (λ e. omega (arith, high)) (λ e. omega (arith, high))
+
+-- an own word of the beat, the logged and the done column
+own_keeps : (r : Replica) (c v : ℕ) → HasForm r → (c ≡ BEAT_COLUMN)
+    ⊎ ((c ≡ LOGGED_COLUMN) ⊎ (c ≡ DONE_COLUMN)) → IsInForm r.roster c v
+    → (c ≡ BEAT_COLUMN → v ≤ r.acts) → (c ≡ LOGGED_COLUMN → v ≤ r.logged)
+    → HasForm (record r { rows = with_own r.rows c v })
+own_keeps r c v f which is beat logged =
+    words_keep r (with_own r.rows c v).words r.rows.sent f record {
+      table = table_set r.roster r.window r.rows c v (table_of r f) low is;
+      kept = λ d p q s. own_left r.rows c v d (λ e. other d p q s e which);
+      beat = elim (cases_eq c BEAT_COLUMN) [
+        | inl same ↦ let new = own_written r.roster r.window r.rows c v (table_of r f) low in
+            subst (λ (x : ℕ). own (with_own r.rows c v) x ≤ r.acts) same (omega (arith, new, beat same))
+        | inr apart ↦ omega (arith, own_left r.rows c v BEAT_COLUMN (λ e. apart (sym e)), f.beat)
+      ];
+      published = elim (cases_eq c LOGGED_COLUMN) [
+        | inl same ↦ let new = own_written r.roster r.window r.rows c v (table_of r f) low in
+            subst (λ (x : ℕ). own (with_own r.rows c v) x ≤ r.logged) same
+            (omega (arith, new, logged same))
+        | inr apart ↦ omega (arith, own_left r.rows c v LOGGED_COLUMN (λ e. apart (sym e)), f.published)
+      ];
+    }
+  where
+    low : c < columns_of r.roster r.window
+    low = elim which [ inl e ↦ omega arith | inr (inl e) ↦ omega arith | inr (inr e) ↦ omega arith ]
+
+    other : (d : ℕ) → d ≢ BEAT_COLUMN → d ≢ LOGGED_COLUMN → d ≢ DONE_COLUMN → d ≡ c
+        → (c ≡ BEAT_COLUMN) ⊎ ((c ≡ LOGGED_COLUMN) ⊎ (c ≡ DONE_COLUMN)) → ⊥
+    other d p q s e (inl b) = p (e ∙ b)
+    other d p q s e (inr (inl l)) = q (e ∙ l)
+    other d p q s e (inr (inr m)) = s (e ∙ m)
+
+-- ---- the acts
+
+-- it counts, and its own beat word says so
+pub acted_keeps : (r : Replica) → HasForm r → HasForm (acted r)
+acted_keeps r f =
+    let acts : ℕ = one_more 64 r.acts in
+    let counted = rest_keeps r r.next r.logged r.durable r.turns acts r.history r.end f
+    (omega arith) f.logged f.room (omega (arith, f.acts)) (omega arith) in
+    own_keeps (record r { acts = acts }) BEAT_COLUMN acts counted (inl refl)
+    (form_free r.roster BEAT_COLUMN acts (inl (omega arith, omega arith)))
+    (λ e. omega arith) (λ e. absurd (omega arith))
+
+acted_grown : (r : Replica) → HasForm r
+    → Grown r.roster r.rows.words (acted r).rows.words r.rows.frozen (acted r).rows.frozen
+acted_grown r f =
+    let acts : ℕ = one_more 64 r.acts in
+    set_grown r.roster r.window r.rows BEAT_COLUMN acts (table_of r f) (omega arith)
+    (grown_free r.roster BEAT_COLUMN (own r.rows BEAT_COLUMN) acts (inl (omega arith, omega arith))
+    (omega (arith, f.beat, f.acts)))
+
+beaten_keeps : (r : Replica) → HasForm r → HasForm (acted (beaten r))
+beaten_keeps r f = acted_keeps (beaten r)
+    (rest_keeps r r.next r.logged r.durable (one_more 32 r.turns) r.acts r.history r.end f
+    (omega arith) f.logged f.room (omega arith) f.acts)
+
+ended_keeps : (r : Replica) (end : End) → HasForm r → HasForm (acted (ended r end))
+ended_keeps r end f = acted_keeps (ended r end)
+    (rest_keeps r r.next r.logged r.durable r.turns r.acts r.history (Some end) f
+    (omega arith) f.logged f.room (omega arith) f.acts)
+
+reported_keeps : (r : Replica) → HasForm r → HasForm (acted (reported r))
+reported_keeps r f = acted_keeps (reported r)
+    (rest_keeps r r.next r.logged (least_seen r LOGGED_COLUMN) r.turns r.acts r.history r.end f
+    (omega arith) f.logged f.room (omega arith) f.acts)
+
+-- an append keeps a replica in form
+pub appended_keeps : (r : Replica) → HasForm r → may_append r ≡ true → HasForm (appended r)
+appended_keeps r f may = rest_keeps r r.next (r.logged + 1) r.durable r.turns r.acts r.history r.end f
+    (omega arith) (grind (arith, nat_tests, may)) f.room (omega arith) f.acts
+
+-- an item gives one entry at most
+one_entry : (history : List Entry) (s : ℕ) (item : Item) → length (entries_of history s item) ≤ 1
+one_entry history s Null = omega arith
+one_entry history s (Text bytes) = omega arith
+
+-- a delivery keeps a replica in form
+pub delivered_keeps : (r : Replica) → HasForm r → may_deliver r ≡ true → HasForm (acted (delivered r))
+delivered_keeps r f may =
+    let new : List Entry = entries_of r.history (sender_at r r.next) (item_at r r.next) in
+    let one = one_entry r.history (sender_at r r.next) (item_at r r.next) in
+    let more = length-append r.history new in
+    let room : length r.history < r.room =
+    ltb-true (length r.history) r.room
+    (and_parts (nat_lt r.next (least_seen r RECEIVED_COLUMN)) (nat_lt (length r.history) r.room)
+    (and_parts (not (is_wedged r)) _ may).1).1 in
+    acted_keeps (delivered r) (rest_keeps r (r.next + 1) r.logged r.durable r.turns r.acts
+    (r.history ++ new) r.end f (omega arith) (omega (arith, more, f.logged))
+    (omega (arith, more, one, room)) (omega arith) f.acts)
+
+-- ---- own words of their own
+
+-- publishing keeps a replica in form
+pub published_form : (r : Replica) → HasForm r → HasForm (published r)
+published_form r f = own_keeps r LOGGED_COLUMN r.logged f (inr (inl refl))
+    (form_free r.roster LOGGED_COLUMN r.logged (inl (omega arith, omega arith)))
+    (λ e. absurd (omega arith)) (λ e. omega arith)
+
+-- the act of publishing keeps a replica in form
+pub published_keeps : (r : Replica) → HasForm r → HasForm (acted (published r))
+published_keeps r f = acted_keeps (published r) (published_form r f)
+
+-- no word falls by the act of publishing
+pub published_grown : (r : Replica) → HasForm r
+    → Grown r.roster r.rows.words (acted (published r)).rows.words r.rows.frozen
+    (acted (published r)).rows.frozen
+published_grown r f =
+    Grown_trans r.roster r.rows.words (published r).rows.words
+    (acted (published r)).rows.words r.rows.frozen r.rows.frozen r.rows.frozen
+    (set_grown r.roster r.window r.rows LOGGED_COLUMN r.logged (table_of r f) (omega arith)
+    (grown_free r.roster LOGGED_COLUMN (own r.rows LOGGED_COLUMN) r.logged
+    (inl (omega arith, omega arith)) f.published))
+    (acted_grown (published r) (published_form r f))
+
+-- marking keeps a replica in form
+pub marked_form : (r : Replica) → HasForm r → HasForm (marked r)
+marked_form r f = own_keeps r DONE_COLUMN 1 f (inr (inr refl)) (form_done r.roster 1 (omega arith))
+    (λ e. absurd (omega arith)) (λ e. absurd (omega arith))
+
+-- the act of marking keeps a replica in form
+pub marked_keeps : (r : Replica) → HasForm r → HasForm (acted (marked r))
+marked_keeps r f = acted_keeps (marked r) (marked_form r f)
+
+-- no word falls by the act of marking
+pub marked_grown : (r : Replica) → HasForm r
+    → Grown r.roster r.rows.words (acted (marked r)).rows.words r.rows.frozen (acted (marked r)).rows.frozen
+marked_grown r f =
+    Grown_trans r.roster r.rows.words (marked r).rows.words
+    (acted (marked r)).rows.words r.rows.frozen r.rows.frozen r.rows.frozen
+    (set_grown r.roster r.window r.rows DONE_COLUMN 1 (table_of r f) (omega arith)
+    (grown_done r.roster (own r.rows DONE_COLUMN) ((f.words (me r) DONE_COLUMN).done refl)))
+    (acted_grown (marked r) (marked_form r f))
+
+-- ---- looks and pushes
+
+-- another member of the view is one of the roster, and not itself
+other_apart : (r : Replica) (i : ℕ) → HasForm r → is_other r i ≡ true
+    → (has r.members i ≡ true) × (i < r.roster) × (i ≢ me r)
+other_apart r i f other =
+    let both = and_parts (has r.members i) (not (i == me r)) other in
+    (both.0, f.roster i both.0, λ e. eqb-false i (me r) (not-true (i == me r) both.1) e)
+
+-- a look at another row's word that is in form keeps a replica in form
+pub looked_keeps : (r : Replica) (i c v : ℕ) → HasForm r → is_other r i ≡ true → c
+    < columns_of r.roster r.window → IsInForm r.roster c v → HasForm (looked r i c v)
+looked_keeps r i c v f other column is =
+    let apart = other_apart r i f other in
+    words_keep r (rows.looked r.rows i c v).words r.rows.sent f record {
+      table = table_looked r.roster r.window r.rows i c v (table_of r f) apart.1 column is;
+      kept = λ d p q s. own_seen r.rows i c v d apart.2;
+      beat = omega (arith, own_seen r.rows i c v BEAT_COLUMN apart.2, f.beat);
+      published = omega (arith, own_seen r.rows i c v LOGGED_COLUMN apart.2, f.published);
+    }
+
+-- no word falls by a look at a word that has grown since it was seen
+pub looked_rises : (r : Replica) (i c v : ℕ) → HasForm r → is_other r i ≡ true
+    → has r.suspects i ≡ false → c < columns_of r.roster r.window
+    → HasGrown r.roster c (seen r.rows i c) v
+    → Grown r.roster r.rows.words (looked r i c v).rows.words r.rows.frozen (looked r i c v).rows.frozen
+looked_rises r i c v f other trusted column grown =
+    looked_grown r.roster r.window r.rows i c v (table_of r f) (other_apart r i f other).1 column
+    (f.frozen i ∙ trusted) grown
+
+-- a push to a member of the roster keeps a replica in form
+pub pushed_keeps : (r : Replica) (j c : ℕ) → HasForm r → j < r.roster → HasForm (pushed r j c)
+pushed_keeps r j c f within =
+    words_keep r r.rows.words (rows.pushed r.rows j c).sent f record {
+      table = record {
+        rows = IsWords-pushed r.rows j c f.rows (omega (arith, f.members));
+        members = f.members;
+        columns = f.columns;
+        words = f.words;
+      };
+      kept = λ d p q s. refl;
+      beat = f.beat;
+      published = f.published;
+    }
+
+-- ---- an item more
+
+-- what is put stands in words of its own
+pub record IsPutting (r : Replica) (s : ℕ) (words : List (List ℕ)) (puts : List SentItem) : Type 0 where
+  -- the replica isn't wedged, s is of the roster, and there is room for its item
+  pub unwedged : is_wedged r ≡ false
+  pub sender : s < r.roster
+  pub room : count r s < greatest r.totals
+  -- the words are those from before, up to the ring
+  pub table : IsTable r.roster r.window (record r.rows { words = words })
+  pub kept : (c : ℕ) → c < 6 + 2 * r.roster → own (record r.rows { words = words }) c ≡ own r.rows c
+  -- the ring and what is put are up to the new count
+  pub ring : (k part : ℕ) → part < 17
+      → ring_tag (own (record r.rows { words = words }) (slot_column r.roster r.window k + part))
+      ≤ get_or (set r.counts s (count r s + 1)) (me r) 0
+  pub put : length puts ≡ get_or (set r.counts s (count r s + 1)) (me r) 0
+  pub order : IsPut r.base (length r.messages) puts
+
+-- of one that isn't wedged no count is final
+pub open_recv : (r : Replica) (s : ℕ) → HasForm r → is_wedged r ≡ false → s < r.roster
+    → own r.rows (recv_column s) ≡ recv_word (count r s) false
+open_recv r s f unwedged within = rw unwedged at (f.recv s within)
+
+gained_keeps : (r : Replica) (s : ℕ) (item : Item) (words : List (List ℕ)) (puts : List SentItem)
+    → HasForm r → IsPutting r s words puts
+    → HasForm (gained (record r { rows = record r.rows { words = words }; sent = puts }) s item)
+gained_keeps r s item words puts f p =
+    let w : Words = record r.rows { words = words } in
+    let k : ℕ = count r s + 1 in
+    let counts : List ℕ = set r.counts s k in
+    let front : ℕ = front_of (map (slice_index counts) (view_of r)) in
+    let within : s < length r.counts = omega (arith, p.sender, f.counts) in
+    let few : k ≤ 4096 = omega (arith, p.room, f.few) in
+    let t = table_shown r.roster r.window w s k front p.table p.sender few in
+    let low : (c : ℕ) → c < 6 + 2 * r.roster → c ≢ RECEIVED_COLUMN → c ≢ recv_column s
+    → own (shown w s k front) c ≡ own r.rows c =
+    λ c l a b. shown_left w s k front c a b ∙ p.kept c l in
+    let same : (c : ℕ) → is_accept_of r.roster r.members c ≡ true → own (shown w s k front) c ≡ own r.rows c =
+    λ c is. let high = accept_within r.roster r.members c is in
+    low c (omega (arith, high)) (λ e. omega (arith, high)) (λ e. omega (arith, high, p.sender)) in
+    record {
+      rows = t.rows;
+      members = t.members;
+      columns = t.columns;
+      words = t.words;
+      some_slot = f.some_slot;
+      most_slots = f.most_slots;
+      suspicion = f.suspicion;
+      frozen = f.frozen;
+      bank = f.bank;
+      left = f.left;
+      roster = f.roster;
+      present = f.present;
+      counts = length-set r.counts s k ∙ f.counts;
+      bounded = counts_bounded r.counts s k (greatest r.totals) within (omega (arith, p.room)) f.bounded;
+      few = f.few;
+      items = length-set r.items (count r s * r.roster + s) item ∙ f.items;
+      suspected = low SUSPECTED_COLUMN (omega arith) (λ e. omega arith) (λ e. omega arith) ∙ f.suspected;
+      recv = λ j l. elim (cases_eq j s) [
+        | inl same ↦ let set = get_or-set_same r.counts s k 0 within in
+            rw (same, set, p.unwedged) (shown_recv r.roster r.window w s k front p.table p.sender)
+        | inr other ↦ let kept = get_or-set_other r.counts s j k 0 other in
+            rw kept (low (recv_column j) (omega arith) (λ e. omega arith) (λ e. other (omega arith))
+            ∙ f.recv j l)
+      ];
+      accept = λ c is. ap accept_promise (same c is) ∙ f.accept c is;
+      tagged = λ c is. ap accept_tag (same c is) ∙ f.tagged c is;
+      valued = λ c is. ap accept_value (same c is) ∙ f.valued c is;
+      low = f.low;
+      waits = f.waits;
+      votes = f.votes;
+      received = shown_received r.roster r.window w s k front p.table p.sender few;
+      beat = omega (arith, low BEAT_COLUMN (omega arith) (λ e. omega arith) (λ e. omega arith), f.beat);
+      acts = f.acts;
+      published = omega (
+        arith,
+        low LOGGED_COLUMN (omega arith) (λ e. omega arith) (λ e. omega arith),
+        f.published,
+      );
+      ring = λ i part l. let kept =
+          shown_left w s k front (slot_column r.roster r.window i + part) (λ e. omega arith)
+          (λ e. omega (arith, p.sender)) in rw kept (p.ring i part l);
+      messages = f.messages;
+      short = f.short;
+      bytes = f.bytes;
+      put = p.put;
+      order = p.order;
+      logged = f.logged;
+      room = f.room;
+      small = f.small;
+    }
+
+gained_grown : (r : Replica) (s : ℕ) (item : Item) (words : List (List ℕ)) (puts : List SentItem)
+    → HasForm r → IsPutting r s words puts
+    → Grown r.roster words (gained
+    (record r { rows = record r.rows { words = words }; sent = puts }) s item).rows.words r.rows.frozen
+    r.rows.frozen
+gained_grown r s item words puts f p =
+    let w : Words = record r.rows { words = words } in
+    let k : ℕ = count r s + 1 in
+    let within : s < length r.counts = omega (arith, p.sender, f.counts) in
+    let some = some_member r.members (me r) (omega (arith, f.rows.present, f.rows.few)) f.present in
+    let rises = front_rises (view_of r) r.counts s k some within (omega arith) in
+    shown_grown r.roster r.window w s (count r s) k
+    (front_of (map (slice_index (set r.counts s k)) (view_of r))) p.table p.sender
+    (omega (arith, p.room, f.few))
+    (p.kept (recv_column s) (omega (arith, p.sender)) ∙ open_recv r s f p.unwedged p.sender) (omega arith)
+    (omega (arith, p.kept RECEIVED_COLUMN (omega arith), f.received, rises))
+
+-- ---- receiving
+
+receiving : (r : Replica) (s : ℕ) → HasForm r → may_receive r s ≡ true
+    → IsPutting r s r.rows.words r.sent
+receiving r s f may =
+    let all = and_parts (not (is_wedged r)) _ may in
+    let parts = and_parts (is_other r s)
+    (is_some (ready_item r s) && nat_lt (count r s) (greatest r.totals)) all.1 in
+    let apart = other_apart r s f parts.0 in
+    let room = ltb-true (count r s) (greatest r.totals)
+    (and_parts (is_some (ready_item r s)) (nat_lt (count r s) (greatest r.totals)) parts.1).1 in
+    let mine : get_or (set r.counts s (count r s + 1)) (me r) 0
+    ≡ count r (me r) = get_or-set_other r.counts s (me r) (count r s + 1) 0 (λ e. apart.2 (sym e)) in
+    record {
+      unwedged = not-true (is_wedged r) all.0;
+      sender = apart.1;
+      room = room;
+      table = table_of r f;
+      kept = λ c l. refl;
+      ring = λ k part l. rw mine (f.ring k part l);
+      put = f.put ∙ sym mine;
+      order = f.order;
+    }
+
+-- receiving an item that may be received keeps a replica in form
+pub received_form : (r : Replica) (s : ℕ) → HasForm r → may_receive r s ≡ true
+    → HasForm (received r s)
+received_form r s f may = gained_keeps r s (unwrap_or (ready_item r s) Null) r.rows.words r.sent f
+    (receiving r s f may)
+
+-- the act of receiving keeps a replica in form
+pub received_keeps : (r : Replica) (s : ℕ) → HasForm r → may_receive r s ≡ true
+    → HasForm (acted (received r s))
+received_keeps r s f may = acted_keeps (received r s) (received_form r s f may)
+
+-- no word falls by the act of receiving
+pub received_grown : (r : Replica) (s : ℕ) → HasForm r → may_receive r s ≡ true
+    → Grown r.roster r.rows.words (acted (received r s)).rows.words r.rows.frozen
+    (acted (received r s)).rows.frozen
+received_grown r s f may =
+    Grown_trans r.roster r.rows.words (received r s).rows.words
+    (acted (received r s)).rows.words r.rows.frozen r.rows.frozen r.rows.frozen
+    (gained_grown r s (unwrap_or (ready_item r s) Null) r.rows.words r.sent f (receiving r s f may))
+    (acted_grown (received r s) (received_form r s f may))
+
+-- ---- putting
+
+-- nobody has more than the greatest number
+totals_most : (totals : List ℕ) (i : ℕ) → get_or totals i 0 ≤ greatest totals
+totals_most totals i =
+    elim (cases_lt i (length totals)) [
+      | inl within ↦ count_max totals 0 i within
+      | inr past ↦ omega (arith, get_or_past totals i 0 past)
+    ]
+
+-- the message that it sends next
+abbrev pub message_to_send : Replica → Item
+message_to_send r = Text (get_or r.messages (next_index r) [])
+
+-- a message is left exactly where it has put fewer items than there are messages from its first one on
+pub message_left : (r : Replica) → HasForm r
+    → nat_lt (r.base + length r.sent) (length r.messages) ≡ nat_lt (next_index r) (length r.messages)
+message_left r f = elim (cases_lt (messages_in r.sent) (length r.sent)) [
+  | inl null ↦ grind (arith, nat_tests, null, f.order.nulls null)
+  | inr all ↦ ap (λ (n : ℕ). nat_lt (r.base + n) (length r.messages))
+      (omega (arith, all, messages_within r.sent))
+]
+
+-- the slot of its next item is free, where the test says so
+slot_free : (r : Replica) → HasForm r → is_free r.window r.rows r.members (count r (me r)) ≡ true
+    → IsFree r.window r.rows r.members (count r (me r))
+slot_free r f free =
+    IsFree-from_test r.window r.rows r.members (count r (me r)) f.rows.few
+    (subst (λ (n : ℕ). IsInRoster n r.members) (sym f.members) f.roster) free
+
+-- a member that may send may put its next message
+pub sending : (r : Replica) → HasForm r → may_send r ≡ true
+    → MayPut r (Index (next_index r)) (message_to_send r)
+sending r f may =
+    let i : ℕ = next_index r in
+    let both = and_parts (not (is_wedged r)) _ may in
+    let two = and_parts (nat_lt i (length r.messages))
+    (is_free r.window r.rows r.members (count r (me r))) both.1 in
+    let left : i < length r.messages = ltb-true i (length r.messages) two.0 in
+    let there = slice_get-get_or r.messages i [] left in
+    let all = only_messages r.base (length r.messages) r.sent f.order left in
+    record {
+      unwedged = not-true (is_wedged r) both.0;
+      ranges = (f.short i (get_or r.messages i []) there, f.bytes i (get_or r.messages i []) there);
+      room = omega (arith, left, f.messages, totals_most r.totals (me r), f.put, all);
+      free = slot_free r f two.1;
+      order = next_message r.base (length r.messages) r.sent f.order left;
+    }
+
+-- the index of that message is small
+pub index_small : (r : Replica) → HasForm r → may_send r ≡ true → next_index r < 2 ^ 32
+index_small r f may =
+    let both = and_parts (not (is_wedged r)) _ may in
+    let two = and_parts (nat_lt (next_index r) (length r.messages)) _ both.1 in
+    omega (
+      arith,
+      ltb-true (next_index r) (length r.messages) two.0,
+      f.messages,
+      totals_most r.totals (me r),
+      f.few,
+    )
+
+-- a number above one of the counts is none of the greatest
+behind_some : (k most : ℕ) (counts : List ℕ) → ((s : ℕ) → slice_index counts s ≤ most)
+    → list_any (nat_lt k) counts ≡ true → k < most
+behind_some k most [] bounded e = absurd (cc)
+behind_some k most (x ∷ xs) bounded e = elim (or_cases (nat_lt k x) (list_any (nat_lt k) xs) e) [
+  | inl here ↦ omega (arith, ltb-true k x here, bounded 0)
+  | inr there ↦ behind_some k most xs (λ s. bounded (suc s)) there
+]
+
+-- one that may put a null may put it
+pub filling : (r : Replica) → HasForm r → may_null r ≡ true → MayPut r sent_items.Null Null
+filling r f may =
+    let all = and_parts (not (is_wedged r)) _ may in
+    let two = and_parts (not (nat_lt (next_index r) (length r.messages))) _ all.1 in
+    let three = and_parts (is_behind r) _ two.1 in
+    record {
+      unwedged = not-true (is_wedged r) all.0;
+      ranges = tt;
+      room = behind_some (count r (me r)) (greatest r.totals) r.counts f.bounded three.0;
+      free = slot_free r f three.1;
+      order = next_null r.base (length r.messages) r.sent f.order (grind (arith, nat_tests, two.0));
+    }
+
+-- what a member may put stands in words of its own
+pub putting : (r : Replica) (name : SentItem) (item : Item) → HasForm r → MayPut r name item
+    → IsPutting r (me r) (with_item r.window r.rows (count r (me r)) item).words (r.sent ++ name ∷ [])
+putting r name item f may =
+    let k : ℕ = count r (me r) in
+    let mine : get_or (set r.counts (me r) (k + 1)) (me r) 0
+    ≡ k + 1 = get_or-set_same r.counts (me r) (k + 1) 0 (omega (arith, me_within r f, f.counts)) in
+    record {
+      unwedged = may.unwedged;
+      sender = me_within r f;
+      room = may.room;
+      table = table_put r.roster r.window r.rows k item (table_of r f) f.some_slot may.ranges;
+      kept = λ c l. put_left r.roster r.window r.rows k item c (table_of r f) f.some_slot may.ranges l;
+      ring = λ i part l. rw mine (put_tags r.roster r.window r.rows k item
+          (slot_column r.roster r.window i + part) (table_of r f) f.some_slot may.ranges (f.ring i part l));
+      put = length_push r.sent name ∙ ap (λ (n : ℕ). n + 1) f.put ∙ sym mine;
+      order = may.order;
+    }
+
+-- putting it keeps a replica in form
+pub put_form : (r : Replica) (name : SentItem) (item : Item) → HasForm r → MayPut r name item
+    → HasForm (put r name item)
+put_form r name item f may =
+    gained_keeps r (me r) item (with_item r.window r.rows (count r (me r)) item).words
+    (r.sent ++ name ∷ []) f (putting r name item f may)
+
+-- and so does the act of putting it
+pub put_keeps : (r : Replica) (name : SentItem) (item : Item) → HasForm r → MayPut r name item
+    → HasForm (acted (put r name item))
+put_keeps r name item f may = acted_keeps (put r name item) (put_form r name item f may)
+
+-- no word falls by it
+pub put_rises : (r : Replica) (name : SentItem) (item : Item) → HasForm r → MayPut r name item
+    → Grown r.roster r.rows.words (acted (put r name item)).rows.words r.rows.frozen
+    (acted (put r name item)).rows.frozen
+put_rises r name item f may =
+    let words : List (List ℕ) = (with_item r.window r.rows (count r (me r)) item).words in
+    Grown_trans r.roster r.rows.words (put r name item).rows.words
+    (acted (put r name item)).rows.words r.rows.frozen r.rows.frozen r.rows.frozen
+    (Grown_trans r.roster r.rows.words words (put r name item).rows.words r.rows.frozen r.rows.frozen
+    r.rows.frozen
+    (put_grown r.roster r.window r.rows (count r (me r)) item (table_of r f) f.some_slot may.ranges
+    (λ part lt. f.ring (count r (me r)) part lt))
+    (gained_grown r (me r) item words (r.sent ++ name ∷ []) f (putting r name item f may)))
+    (acted_grown (put r name item) (put_form r name item f may))
+
+-- ---- votes
+
+-- the act of accepting a value
+accepting_grown : (r : Replica) (x : Vote) → HasForm r → r.pending ≡ Some x
+    → Grown r.roster r.rows.words (acted (accepted r)).rows.words r.rows.frozen
+    (acted (accepted r)).rows.frozen
+accepting_grown r x f e =
+    Grown_trans r.roster r.rows.words (accepted r).rows.words (acted (accepted r)).rows.words
+    r.rows.frozen r.rows.frozen r.rows.frozen (accepted_grown r x f e)
+    (acted_grown (accepted r) (accepted_form r x f e))
+
+-- ---- every act
+
+-- each act that a replica may take keeps it in form
+pub taken_keeps : (r : Replica) (a : Act) → HasForm r → may r a ≡ true → steps.is_free r (Do a) ≡ true
+    → HasForm (taken r a)
+taken_keeps r acts.Beat f m free = beaten_keeps r f
+taken_keeps r (acts.Receive s) f m free =
+    received_keeps r s f (and_parts (nat_lt s r.roster) (may_receive r s) m).1
+taken_keeps r acts.Send f m free = put_keeps r _ _ f (sending r f m)
+taken_keeps r acts.Null f m free = put_keeps r _ _ f (filling r f m)
+taken_keeps r acts.Deliver f m free = delivered_keeps r f m
+taken_keeps r acts.Publish f m free = published_keeps r f
+taken_keeps r acts.Report f m free = reported_keeps r f
+taken_keeps r acts.Mark f m free = marked_keeps r f
+taken_keeps r (acts.Suspect j) f m free = acted_keeps (suspected r j) (suspected_form r j f m)
+taken_keeps r acts.Propose f m free =
+    let x = own_waits (me r) r.pending m in acted_keeps (accepted r) (accepted_form r x.0 f x.1)
+taken_keeps r acts.Accept f m free =
+    let x = others_wait (me r) r.pending m in acted_keeps (accepted r) (accepted_form r x.0 f x.1)
+taken_keeps r acts.Commit f m free = acted_keeps (decided r) (decided_form r f)
+taken_keeps r (acts.Halt end) f m free = ended_keeps r end f
+taken_keeps r (acts.Crash end) f m free = ended_keeps r end f
+taken_keeps r acts.Finish f m free =
+    finished_form (acted r) (acted_keeps r f) m (none_waits r.pending free)
+
+-- no word falls by an act that a replica may take, by which it stays in its view
+pub taken_grown : (r : Replica) (a : Act) → HasForm r → may r a ≡ true → (taken r a).view ≡ r.view
+    → Grown r.roster r.rows.words (taken r a).rows.words r.rows.frozen (taken r a).rows.frozen
+taken_grown r (acts.Receive s) f m same =
+    received_grown r s f (and_parts (nat_lt s r.roster) (may_receive r s) m).1
+taken_grown r acts.Send f m same = put_rises r _ _ f (sending r f m)
+taken_grown r acts.Null f m same = put_rises r _ _ f (filling r f m)
+taken_grown r acts.Publish f m same = published_grown r f
+taken_grown r acts.Mark f m same = marked_grown r f
+taken_grown r (acts.Suspect j) f m same =
+    Grown_trans r.roster r.rows.words (suspected r j).rows.words (acted (suspected r j)).rows.words
+    r.rows.frozen (suspected r j).rows.frozen (suspected r j).rows.frozen (suspected_grown r j f m)
+    (acted_grown (suspected r j) (suspected_form r j f m))
+taken_grown r acts.Propose f m same =
+    let x = own_waits (me r) r.pending m in accepting_grown r x.0 f x.1
+taken_grown r acts.Accept f m same =
+    let x = others_wait (me r) r.pending m in accepting_grown r x.0 f x.1
+taken_grown r acts.Finish f m same = absurd (omega (arith, same))
+taken_grown r a f m same = acted_grown r f
+
+-- an act that doesn't end the view is done and then stamped
+pub taken_other : (r : Replica) (a : Act) → (a ≡ acts.Finish → ⊥) → taken r a ≡ acted (done r a)
+taken_other r acts.Finish other = absurd (other refl)
+taken_other r a other = refl

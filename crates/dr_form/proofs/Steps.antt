@@ -1,0 +1,57 @@
+-- Each step that a replica allows keeps its form, and lets no word fall.
+use Rattle.std.proofs.Common.{◌≡◌, ℕ, ◌<◌, ◌&&◌, not, true, nat_lt, refl}
+use Rattle.std.proofs.lemmas.Bool.{and_parts, ltb-true, not-true}
+use Rattle.dr_history.specs.Members.{has}
+use Rattle.dr_rows.specs.Words.{seen}
+use Rattle.dr_words.specs.Columns.{columns_of}
+use Rattle.dr_words.specs.Form.{IsInForm}
+use Rattle.dr_words.specs.Grown.{HasGrown}
+use Rattle.dr_words.proofs.Order.{Grown_refl}
+use Rattle.dr_machine.specs.declared.step.Step.{Step}
+use Rattle.dr_machine.specs.declared.step.Step.TheVariants.{Append, Do, LogVote, Look, Push}
+use Rattle.dr_program.specs.Form.{HasForm}
+use Rattle.dr_program.specs.Replica.{Replica, is_other}
+use Rattle.dr_program.specs.Steps.{NoWordFell, allows, has_cell, is_free, stepped}
+use Rattle.dr_form.proofs.Accepting.{voted_form}
+use Rattle.dr_form.proofs.Finishing.{none_waits}
+use Rattle.dr_form.proofs.Keeps.{appended_keeps, looked_keeps, looked_rises, pushed_keeps, taken_grown, taken_keeps}
+
+-- a cell that a step names: another member's row, and a column
+pub record IsCell (r : Replica) (i c : ℕ) : Type 0 where
+  pub row : i < r.roster
+  pub other : is_other r i ≡ true
+  pub column : c < columns_of r.roster r.window
+
+pub cell : (r : Replica) (i c : ℕ) → has_cell r i c ≡ true → IsCell r i c
+cell r i c e =
+    let two = and_parts (nat_lt i r.roster) (is_other r i && nat_lt c (columns_of r.roster r.window)) e in
+    let three = and_parts (is_other r i) (nat_lt c (columns_of r.roster r.window)) two.1 in
+    record {
+      row = ltb-true i r.roster two.0;
+      other = three.0;
+      column = ltb-true c (columns_of r.roster r.window) three.1;
+    }
+
+-- a replica keeps its form over a step that it allows, where a word that it sees is in form
+pub stepped_form : (word : ℕ) (r : Replica) (s : Step) → HasForm r → allows r s ≡ true
+    → is_free r s ≡ true → ((i c : ℕ) → s ≡ Look i c → IsInForm r.roster c word) → HasForm (stepped word r s)
+stepped_form word r (Do a) form may free sees = taken_keeps r a form may free
+stepped_form word r (Look i c) form may free sees =
+    let at = cell r i c (and_parts (not (has r.suspects i)) (has_cell r i c) may).1 in
+    looked_keeps r i c word form at.other at.column (sees i c refl)
+stepped_form word r (Push j c) form may free sees = pushed_keeps r j c form (cell r j c may).row
+stepped_form word r Append form may free sees = appended_keeps r form may
+stepped_form word r (LogVote v) form may free sees = voted_form r v form (none_waits r.pending free) may
+
+-- no word falls by one by which it stays in its view, where a word that it sees has grown
+pub stepped_grown : (word : ℕ) (r : Replica) (s : Step) → HasForm r → allows r s ≡ true
+    → ((i c : ℕ) → s ≡ Look i c → HasGrown r.roster c (seen r.rows i c) word)
+    → (stepped word r s).view ≡ r.view → NoWordFell r (stepped word r s)
+stepped_grown word r (Do a) form may sees same = taken_grown r a form may same
+stepped_grown word r (Look i c) form may sees same =
+    let both = and_parts (not (has r.suspects i)) (has_cell r i c) may in
+    let at = cell r i c both.1 in
+    looked_rises r i c word form at.other (not-true (has r.suspects i) both.0) at.column (sees i c refl)
+stepped_grown word r (Push j c) form may sees same = Grown_refl r.roster r.rows.words r.rows.frozen
+stepped_grown word r Append form may sees same = Grown_refl r.roster r.rows.words r.rows.frozen
+stepped_grown word r (LogVote v) form may sees same = Grown_refl r.roster r.rows.words r.rows.frozen

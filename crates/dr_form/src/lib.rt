@@ -1,0 +1,25 @@
+//! What keeps a replica's form: each step that a member may take keeps it, and lets no word fall.
+//!
+//! The form stands in `dr_program`, with the steps. The laws are of these definitions alone, so they serve
+//! the code of a replica and the laws of programs alike.
+#![tactic(auto)]
+
+ghost use Rattle.std.specs.Prelude.{◌≡◌, ℕ, true};
+ghost use Rattle.dr_machine.specs.declared.step.Step.{Step};
+ghost use Rattle.dr_machine.specs.declared.step.Step.TheVariants.{Look};
+ghost use Rattle.dr_program.specs.Form.{HasForm};
+ghost use Rattle.dr_program.specs.Replica.{Replica};
+ghost use Rattle.dr_program.specs.Steps.{NoWordFell, may_take, stepped};
+ghost use Rattle.dr_rows.specs.Words.{seen};
+ghost use Rattle.dr_words.specs.Form.{IsInForm};
+ghost use Rattle.dr_words.specs.Grown.{HasGrown};
+
+/// A step that a member may take keeps the form of its replica, where a look finds a word in form. No word
+/// falls by a step with which the member stays in its view, where a look finds a word that has grown.
+pub fn steps_keep_the_form()
+    ensures form { (word : ℕ) (r : Replica) (s : Step) → HasForm r → may_take r s ≡ true
+        → ((i c : ℕ) → s ≡ Look i c → IsInForm r.roster c word) → HasForm (stepped word r s) }
+    ensures grown { (word : ℕ) (r : Replica) (s : Step) → HasForm r → may_take r s ≡ true
+        → ((i c : ℕ) → s ≡ Look i c → HasGrown r.roster c (seen r.rows i c) word)
+        → (stepped word r s).view ≡ r.view → NoWordFell r (stepped word r s) }
+{}

@@ -1,0 +1,12 @@
+pub mod Leaving
+pub mod Acts
+pub mod Before
+pub mod Sweeping
+pub mod Working
+pub mod Steadying
+pub mod Passing
+pub mod Resting
+pub mod Stepping
+pub mod Beats
+pub mod Looking
+pub mod Turning

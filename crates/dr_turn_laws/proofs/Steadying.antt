@@ -1,0 +1,480 @@
+-- Programs begin steady, and moves keep them so.
+use Rattle.std.proofs.Common.{◌≡◌, ◌≢◌, refl, sym, ap, ◌∙◌, subst, inl, inr, ◌⊎◌, ℕ, ◌+◌, ◌*◌, ◌^◌, ◌<◌, ◌≤◌, ◌==◌, not, Bool, true, false, List, length, slice_index, arith}
+use Rattle.std.specs.Prelude.{Option, None, Some, is_some, option_map, slice_get, slice_set}
+use Rattle.std.proofs.lemmas.Bool.{cases_eq}
+use Rattle.std.proofs.lemmas.Bool.Decides.{nat_tests}
+use Rattle.std.proofs.lemmas.Option.{same_Some, slice_get-map, slice_get_within}
+use Rattle.dr_entry.specs.declared.end.End.{End}
+use Rattle.dr_machine.specs.declared.event.Act.{Act}
+use Rattle.dr_machine.specs.declared.event.Act.TheVariants as acts
+use Rattle.dr_machine.specs.declared.step.Step.{Step}
+use Rattle.dr_machine.specs.declared.step.Step.TheVariants.{Do, Look, Push, Append, LogVote}
+use Rattle.dr_machine.specs.Acts.{CanTake, does, effect_of}
+use Rattle.dr_machine.specs.Effects.{one_more}
+use Rattle.dr_machine.specs.Group.{Group, IsGroup, banks, columns, roster}
+use Rattle.dr_machine.specs.World.{World, own_word}
+use Rattle.dr_machine.specs.Writes.{at₄}
+use Rattle.dr_program.specs.declared.outcome.LogWhy.{LogWhy}
+use Rattle.dr_program.specs.declared.outcome.Outcome.TheVariants as outcomes
+use Rattle.dr_program.specs.declared.setup.Setup.{Setup}
+use Rattle.dr_program.specs.Acts.{taken}
+use Rattle.dr_program.specs.Program.{AreSetups, IsSetup, Move, Program, after_deed, begun_program, moved_by, next_sight, ok, step_of}
+use Rattle.dr_program.specs.Reading.{comes_to, step_by, step_due, world}
+use Rattle.dr_program.specs.Replica.{Replica, first_entries_of, greatest}
+use Rattle.dr_program.specs.Running.{Running, after_step, begun_running, broken_off, crashes_now, judged, next_step, step_at, took}
+use Rattle.dr_program.specs.Turn.{is_beat, part_of}
+use Rattle.dr_program.specs.declared.place.Part.{Part}
+use Rattle.dr_program.specs.declared.place.Part.TheVariants as parts
+use Rattle.dr_program.specs.Steps.{IsAppend, stepped, stored}
+use Rattle.dr_program.proofs.Fixed.{Told, step_told}
+use Rattle.dr_program.proofs.Holdings.{held_of, replica_kept, replica_set}
+use Rattle.dr_program.proofs.Opening.{begins_at_the_opening, first_rows}
+use Rattle.dr_program.proofs.Runs.{after_either, after_ok}
+use Rattle.dr_program.proofs.StepsAt.{append_either, push_either, vote_either}
+use Rattle.dr_program_laws.proofs.Keeping.{begun_reached, move_kept}
+use Rattle.dr_refine.proofs.Deeds.{deed_step, no_step_no_change, program_member, replicas, rest_changes_nothing, settle_replica, step_is}
+use Rattle.dr_machine.specs.Run.{IsReached}
+use Rattle.dr_refine.specs.Programs.{IsProgram}
+use Rattle.dr_refine.proofs.Members.{own_shown}
+use Rattle.dr_refine.proofs.Steps.{begun_is_program}
+use Rattle.dr_rows.specs.Words.{IsWords, begun, last_pushed, own, with_word, word_at}
+use Rattle.dr_rows.proofs.Grids.{with_word-same, with_word-row, with_word-column}
+use Rattle.dr_rows.proofs.WordsLemmas.{IsFresh-begun}
+use Rattle.dr_turn.specs.Work.{work}
+use Rattle.dr_turn.proofs.Deeds.{verdict_of}
+use Rattle.dr_turn.proofs.Search.{beat_test, settle_only}
+use Rattle.dr_turn.proofs.Tasks.{ends_view, view_stays}
+use Rattle.dr_words.specs.declared.column.TheConstants.{BEAT_COLUMN}
+use Rattle.dr_words.specs.Columns.{columns_of}
+use Rattle.dr_world_laws.proofs.Worlds.{faithful, known}
+use Rattle.dr_turn_laws.specs.Steady.{HasRooms, HasWorked, IsSteady, all_work}
+use Rattle.dr_turn.proofs.Parts.{taken_pushed, verdict_no_beat}
+use Rattle.dr_turn_laws.proofs.Acts.{table_stays}
+use Rattle.dr_turn_laws.proofs.Working.{works_begin, works_on}
+use Rattle.dr_program_laws.proofs.Programs.{replaced_either}
+
+-- ---- a move
+
+-- a member after its next step
+abbrev pub stepped_on : Program → Running → Running
+stepped_on p r = after_step (next_sight p.table r) r
+
+-- a move of a member without an end
+move_made : (p : Program) (m : ℕ) (r : Running) → slice_get p.members m ≡ Some r
+    → r.replica.end ≡ None
+    → step_of p (ok m) ≡ record {
+      members = slice_set p.members m (stepped_on p r);
+      table = stored p.table r.replica (next_step r);
+    }
+move_made p m r there unended =
+    step_is p (ok m) r there unended
+    ∙ ap (λ x. record
+    { members = slice_set p.members m x; table = stored p.table r.replica (next_step r) })
+    (after_ok p.table r (next_step r))
+
+-- leads it on
+pub moved_member : (p : Program) (m : ℕ) (r : Running) → slice_get p.members m ≡ Some r
+    → r.replica.end ≡ None → slice_get (step_of p (ok m)).members m ≡ Some (stepped_on p r)
+moved_member p m r there unended =
+    ap (λ (x : Program). slice_get x.members m) (move_made p m r there unended)
+    ∙ replica_set p.members m (stepped_on p r) (slice_get_within p.members m r there)
+
+-- and leaves the others
+pub other_member : (p : Program) (m : ℕ) (r : Running) (i : ℕ) → slice_get p.members m ≡ Some r
+    → r.replica.end ≡ None → i ≢ m
+    → slice_get (step_of p (ok m)).members i ≡ slice_get p.members i
+other_member p m r i there unended other =
+    ap (λ (x : Program). slice_get x.members i) (move_made p m r there unended)
+    ∙ replica_kept p.members m i (stepped_on p r) other
+
+-- the search leaves the replica of the one that moved
+pub stepped_replica : (p : Program) (r : Running)
+    → (stepped_on p r).replica ≡ stepped (next_sight p.table r) r.replica (next_step r)
+stepped_replica p r = settle_replica _ (took (next_sight p.table r) r (next_step r))
+
+-- ---- what no step changes
+
+-- the limit
+stepped_limit : (p : Program) (r : Running) → (stepped_on p r).limit ≡ r.limit
+stepped_limit p r =
+    ap (λ (x : Running). x.limit) (settle_only _ (took (next_sight p.table r) r (next_step r)))
+
+-- whether an append has failed
+pub stepped_failed : (p : Program) (r : Running) → (stepped_on p r).failed ≡ r.failed
+stepped_failed p r =
+    ap (λ (x : Running). x.failed) (settle_only _ (took (next_sight p.table r) r (next_step r)))
+
+-- the room
+rooms_told : (g : Group) (word : ℕ) (r : Replica) (s : Step) → HasRooms g r
+    → HasRooms g (stepped word r s)
+rooms_told g word r s rooms = subst
+    (λ (t : Told). length g.opening.start + banks g + greatest t.totals * roster g < t.room)
+    (sym (step_told word r s)) rooms
+
+-- ---- the table
+
+cell_apart : (table : ℕ → ℕ → ℕ → ℕ → ℕ) (b m d x v j i c : ℕ) → (j ≢ m) ⊎ (i ≢ m)
+    → at₄ table b m m d x v j i c ≡ table v j i c
+cell_apart table b m d x v j i c (inl other) = grind (arith, other)
+cell_apart table b m d x v j i c (inr other) = grind (arith, other)
+
+-- an act stores its stamp in the own copy alone
+act_cells : (g : Group) (w : World) (m : ℕ) (a : Act) (v j i c : ℕ) → (j ≢ m) ⊎ (i ≢ m)
+    → (effect_of g w m (Do a)).table v j i c ≡ w.table v j i c
+act_cells g w m a v j i c apart =
+    cell_apart (does g w m a).table (w.past.view m) m BEAT_COLUMN
+    (one_more 64 ((does g w m a).past.acts m)) v j i c apart
+    ∙ ap (λ t. t v j i c) (table_stays g w m a)
+
+-- the rows of the other members stay
+rows_stay : (g : Group) (w : World) (m : ℕ) (s : Step) (v j i c : ℕ) → i ≢ m
+    → (effect_of g w m s).table v j i c ≡ w.table v j i c
+rows_stay g w m (Do a) v j i c other = act_cells g w m a v j i c (inr other)
+rows_stay g w m (Push k d) v j i c other = grind (arith, other)
+rows_stay g w m (Look k d) v j i c other = refl
+rows_stay g w m Append v j i c other = refl
+rows_stay g w m (LogVote value) v j i c other = refl
+
+-- the own words that stand in the table as they were pushed
+abbrev ArePushed : Group → World → ℕ → Replica → Type 0
+ArePushed g w m r = (j c : ℕ) → j < roster g → j ≢ m → c < columns g
+    → last_pushed r.rows j c ≡ w.table r.view j m c
+
+push_stands : (g : Group) (w : World) (m : ℕ) (r : Replica) (k d : ℕ) → IsWords r.rows
+    → r.rows.members ≡ roster g → r.rows.columns ≡ columns g → w.past.view m ≡ r.view
+    → own_word w m d ≡ own r.rows d
+    → ArePushed g w m r → ArePushed g (effect_of g w m (Push k d)) m (stepped 0 r (Push k d))
+push_stands g w m r k d form rows wide view word old j c l other low =
+    by (cases_eq j k) (cases_eq c d)
+  where
+    here : (t : ℕ → ℕ → ℕ → ℕ → ℕ) (x b v : ℕ) → b ≡ v → at₄ t b k m d x v k m d ≡ x
+    here t x b v same = rw same (grind arith)
+
+    copy_apart : (t : ℕ → ℕ → ℕ → ℕ → ℕ) (x b v : ℕ) → j ≢ k → at₄ t b k m d x v j m c ≡ t v j m c
+    copy_apart t x b v apart = grind (arith, apart)
+
+    column_apart : (t : ℕ → ℕ → ℕ → ℕ → ℕ) (x b v : ℕ) → c ≢ d → at₄ t b k m d x v j m c ≡ t v j m c
+    column_apart t x b v apart = grind (arith, apart)
+
+    by : (j ≡ k) ⊎ (j ≢ k) → (c ≡ d) ⊎ (c ≢ d)
+        → word_at (with_word r.rows.sent k d (own r.rows d)) j c
+        ≡ at₄ w.table (w.past.view m) k m d (own_word w m d) r.view j m c
+    by (inr apart) column =
+        ap (λ row. slice_index row c) (with_word-row r.rows.sent k d (own r.rows d) j apart)
+        ∙ old j c l other low
+        ∙ sym (copy_apart w.table (own_word w m d) (w.past.view m) r.view apart)
+    by (inl row) (inr apart) =
+        with_word-column r.rows.sent k d (own r.rows d) j c apart
+        ∙ old j c l other low
+        ∙ sym (column_apart w.table (own_word w m d) (w.past.view m) r.view apart)
+    by (inl row) (inl column) = rw (row, column)
+        (with_word-same r.rows.members r.rows.columns r.rows.sent k d (own r.rows d) form.pushes
+        (omega (arith, l, row, rows)) (omega (arith, low, column, wide))
+        ∙ sym word ∙ sym (here w.table (own_word w m d) (w.past.view m) r.view view))
+
+-- what a world has of a member, and the shape of its rows
+record HasShown (g : Group) (w : World) (m : ℕ) (r : Replica) : Type 0 where
+  form : IsWords r.rows
+  rows : r.rows.members ≡ roster g
+  wide : r.rows.columns ≡ columns g
+  view : w.past.view m ≡ r.view
+  own : (c : ℕ) → own_word w m c ≡ own r.rows c
+  unwritten : (j c : ℕ) → w.table (r.view + 1) j m c ≡ 0
+
+-- rows that begin have pushed nothing
+begun_unpushed : (n k m logged j c : ℕ) → last_pushed (first_rows n k m logged) j c ≡ 0
+begun_unpushed n k m logged j c =
+    zero (own (begun n k m) c) (last_pushed (begun n k m) j c) ((IsFresh-begun n k m).zero m c)
+    ((IsFresh-begun n k m).unchanged j c)
+  where
+    zero : (a b : ℕ) → a ≡ 0 → not (a == b) ≡ false → b ≡ 0
+    zero a b none same = grind (arith, nat_tests, none, same)
+
+-- an act by which the member stays in its view doesn't change that
+act_stands : (g : Group) (w : World) (m word : ℕ) (r : Replica) (a : Act) → ends_view (Do a) ≡ false
+    → ArePushed g w m r → ArePushed g (effect_of g w m (Do a)) m (stepped word r (Do a))
+act_stands g w m word r a stays old = λ j c l other low.
+    ap (λ rows. word_at rows j c) (taken_pushed r a stays)
+    ∙ old j c l other low
+    ∙ ap (λ v. w.table v j m c) (sym (view_stays word r (Do a) stays))
+    ∙ sym (act_cells g w m a (taken r a).view j m c (inl other))
+
+-- nor does any step. In a view that it has not come to, it has written nothing
+step_stands : (g : Group) (w : World) (m word : ℕ) (r : Replica) (s : Step) → HasShown g w m r
+    → ArePushed g w m r → ArePushed g (effect_of g w m s) m (stepped word r s)
+step_stands g w m word r (Do acts.Finish) shown old = λ j c l other low.
+    begun_unpushed r.rows.members r.rows.columns r.rows.me r.logged j c
+    ∙ sym (shown.unwritten j c)
+    ∙ sym (act_cells g w m acts.Finish (r.view + 1) j m c (inl other))
+step_stands g w m word r (Do a) shown old = act_stands g w m word r a refl old
+step_stands g w m word r (Push k d) shown old =
+    push_stands g w m r k d shown.form shown.rows shown.wide shown.view (shown.own d) old
+step_stands g w m word r (Look k d) shown old = old
+step_stands g w m word r Append shown old = old
+step_stands g w m word r (LogVote value) shown old = old
+
+-- ---- the program
+
+-- no word stands in the bank of a view that its member has not come to
+none_ahead : (g : Group) (w : World) (m v j c : ℕ) → IsGroup g → IsReached g w → w.past.view m < v
+    → w.table v j m c ≡ 0
+none_ahead g w m v j c is run ahead =
+    let f = faithful g w (known g w is run) in
+    omega (arith, (f.old.in_table v j m c).number, f.fresh.unwritten m v c ahead)
+
+shown_in : (g : Group) (p : Program) (m : ℕ) (r : Running) → IsSteady g p
+    → slice_get p.members m ≡ Some r → HasShown g (world g p) m r.replica
+shown_in g p m r is there =
+    let member = program_member g p m r is.group is.program there in record {
+      form = member.form.rows;
+      rows = member.form.members ∙ member.of.members;
+      wide = member.form.columns ∙ λ z. columns_of (member.of.members z) (member.of.window z);
+      view = ap (λ h. h.view) (held_of g (replicas p.members) p.table m r.replica member.there);
+      own = λ c. own_shown g (replicas p.members) p.table m r.replica c member.there;
+      unwritten = λ j c. none_ahead g (world g p) m (r.replica.view + 1) j c is.group is.reached
+          (omega (arith, ap (λ h. h.view) (held_of g (replicas p.members) p.table m r.replica member.there)));
+    }
+
+-- the world after the next step of a member
+pub world_on : (g : Group) (p : Program) (m : ℕ) (r : Running) → IsSteady g p
+    → slice_get p.members m ≡ Some r → r.replica.end ≡ None
+    → CanTake g (world g p) m (next_step r)
+    × (world g (step_of p (ok m)) ≡ effect_of g (world g p) m (next_step r))
+world_on g p m r is there unended =
+    deed_step g p m outcomes.Ok r is.group is.program there unended (after_ok p.table r (next_step r))
+
+-- a member of the program after a move is the one that moved, or as it was
+moved_either : (p : Program) (m : ℕ) (r : Running) → slice_get p.members m ≡ Some r
+    → r.replica.end ≡ None → (i : ℕ) (y : Running) → slice_get (step_of p (ok m)).members i ≡ Some y
+    → ((i ≡ m) × (stepped_on p r ≡ y)) ⊎ ((i ≢ m) × (slice_get p.members i ≡ Some y))
+moved_either p m r there unended i y at = replaced_either p.members m r (stepped_on p r) there i y
+    (sym (ap (λ (x : Program). slice_get x.members i) (move_made p m r there unended)) ∙ at)
+
+-- the step begins a turn; only one part of a turn does so
+abbrev is_beat_step : Step → Bool
+is_beat_step (Do a) = is_beat (parts.Do a)
+is_beat_step s = false
+
+plain_begins : (r : Running) (part : Part) (i c : ℕ) → is_beat part ≡ false
+    → is_beat_step (step_at r part i c) ≡ false
+plain_begins r parts.Judge i c other = verdict_no_beat (judged r) (verdict_of r)
+plain_begins r parts.Append i c other =
+    append_either (λ s. is_beat_step s ≡ false) r.failed refl (λ why. refl)
+plain_begins r parts.Vote i c other = vote_either (λ s. is_beat_step s ≡ false) r.failed _ refl (λ why. refl)
+plain_begins r parts.Push i c other = push_either (λ s. is_beat_step s ≡ false) (crashes_now r) i c refl refl
+plain_begins r (parts.Do a) i c other = other
+plain_begins r part i c other = refl
+
+steady_on : (g : Group) (p : Program) (m : ℕ) (r : Running) → IsSteady g p
+    → slice_get p.members m ≡ Some r → r.replica.end ≡ None → IsSteady g (step_of p (ok m))
+steady_on g p m r is there unended = record {
+  group = is.group;
+  program = (move_kept g p (ok m) is.group is.program is.reached).0;
+  reached = (move_kept g p (ok m) is.group is.program is.reached).1;
+  limits = λ i y at. elim (moved_either p m r there unended i y at) [
+    | inl here ↦ subst (λ (x : Running). x.limit < 2 ^ 32) here.1
+        (omega (arith, stepped_limit p r, is.limits m r there))
+    | inr there ↦ is.limits i y there.1
+  ];
+  rooms = λ i y at. elim (moved_either p m r there unended i y at) [
+    | inl here ↦ subst (λ (x : Running). HasRooms g x.replica) here.1
+        (subst (HasRooms g) (sym (stepped_replica p r))
+        (rooms_told g (next_sight p.table r) r.replica (next_step r) (is.rooms m r there)))
+    | inr there ↦ is.rooms i y there.1
+  ];
+  works = λ i y at. elim (moved_either p m r there unended i y at) [
+    | inl here ↦ subst HasWorked here.1 (subst (λ (q : Replica). q.end ≡ None
+        → q.acts + work q ≤ all_work q + q.turns) (sym (stepped_replica p r))
+        (works_on g p m r is.group is.program is.reached there unended begins_early (is.works m r there)))
+    | inr there ↦ is.works i y there.1
+  ];
+  pushes = λ i y at. elim (moved_either p m r there unended i y at) [
+    | inl here ↦ rw here.0 (subst (λ (x : Running). ArePushed g after m x.replica) here.1
+        (subst (ArePushed g after m) (sym (stepped_replica p r))
+        (subst (λ v. ArePushed g v m
+        (stepped (next_sight p.table r) r.replica (next_step r))) (sym moved.1)
+        (step_stands g (world g p) m (next_sight p.table r) r.replica (next_step r)
+        (shown_in g p m r is there) (is.pushes m r there)))))
+    | inr there ↦ λ j c l other low. is.pushes i y there.1 j c l other low
+        ∙ sym (ap (λ (v : World). v.table y.replica.view j i c) moved.1
+        ∙ rows_stay g (world g p) m (next_step r) y.replica.view j i c there.0)
+  ];
+}
+  where
+    after : World
+    after = world g (step_of p (ok m))
+
+    begins_early : next_step r ≡ Do acts.Beat → r.replica.turns + 1 < 2 ^ 32
+    begins_early at = by (is_beat (part_of r.place)) refl
+      where
+        by : (b : Bool) → is_beat (part_of r.place) ≡ b → r.replica.turns + 1 < 2 ^ 32
+        by true beat = omega (
+          arith,
+          (is.program.form m r there).left unended (beat_test (part_of r.place) beat),
+          is.limits m r there,
+        )
+        by false other = absurd (cc (
+          ap is_beat_step at,
+          plain_begins r (part_of r.place) r.place.row r.place.column other,
+        ))
+
+    moved : CanTake g (world g p) m (next_step r)
+        × (world g (step_of p (ok m)) ≡ effect_of g (world g p) m (next_step r))
+    moved = world_on g p m r is there unended
+
+-- a member after an append that fails
+deed_failed : (word : ℕ) (why : LogWhy) (r : Running) (s : Step) → IsAppend s
+    → after_deed word (outcomes.Failed why) r s ≡ broken_off why r
+deed_failed word why r Append is = refl
+deed_failed word why r (LogVote value) is = refl
+deed_failed word why r s is = absurd is
+
+-- the program after a move whose append fails
+failed_made : (p : Program) (m : ℕ) (why : LogWhy) (r : Running) → slice_get p.members m ≡ Some r
+    → r.replica.end ≡ None → IsAppend (next_step r)
+    → step_of p (record { member = m; outcome = outcomes.Failed why }) ≡ record {
+      members = slice_set p.members m (broken_off why r);
+      table = stored p.table r.replica (next_step r);
+    }
+failed_made p m why r there unended due =
+    step_is p (record { member = m; outcome = outcomes.Failed why }) r there unended
+    ∙ ap (λ x. record {
+      members = slice_set p.members m x;
+      table = stored p.table r.replica (next_step r);
+    }) (deed_failed (next_sight p.table r) why r (next_step r) due)
+
+-- it leaves each member its replica and its limit
+failed_leaves : (p : Program) (m : ℕ) (why : LogWhy) (r : Running) → slice_get p.members m ≡ Some r
+    → (i : ℕ) (y : Running) → slice_get (slice_set p.members m (broken_off why r)) i ≡ Some y
+    → (x : Running) × (slice_get p.members i ≡ Some x) × (x.replica ≡ y.replica) × (x.limit ≡ y.limit)
+failed_leaves p m why r there i y at =
+    elim (replaced_either p.members m r (broken_off why r) there i y at) [
+      | inl here ↦ (
+        r,
+        rw here.0 there,
+        ap (λ (x : Running). x.replica) here.1,
+        ap (λ (x : Running). x.limit) here.1,
+      )
+      | inr other ↦ (y, other.1, refl, refl)
+    ]
+
+-- so it keeps the program steady
+steady_failed : (g : Group) (p : Program) (m : ℕ) (why : LogWhy) (r : Running) → IsSteady g p
+    → slice_get p.members m ≡ Some r → r.replica.end ≡ None → IsAppend (next_step r)
+    → IsSteady g (record {
+      members = slice_set p.members m (broken_off why r);
+      table = stored p.table r.replica (next_step r);
+    })
+steady_failed g p m why r is there unended due = record {
+  group = is.group;
+  program = subst (IsProgram g) made kept.0;
+  reached = subst (λ q. IsReached g (world g q)) made kept.1;
+  limits = λ i y at. let old = failed_leaves p m why r there i y at in
+      subst (λ n. n < 2 ^ 32) old.3 (is.limits i old.0 old.1);
+  rooms = λ i y at. let old = failed_leaves p m why r there i y at in
+      subst (HasRooms g) old.2 (is.rooms i old.0 old.1);
+  works = λ i y at none. let old = failed_leaves p m why r there i y at in
+      subst (λ (q : Replica). q.acts + work q ≤ all_work q + q.turns) old.2
+      (is.works i old.0 old.1 (ap (λ (q : Replica). q.end) old.2 ∙ none));
+  pushes = λ i y at. let old = failed_leaves p m why r there i y at in
+      subst (λ v. ArePushed g v i y.replica) (sym same)
+      (subst (ArePushed g (world g p) i) old.2 (is.pushes i old.0 old.1));
+}
+  where
+    move : Move
+    move = record { member = m; outcome = outcomes.Failed why }
+
+    made : step_of p move ≡ record {
+      members = slice_set p.members m (broken_off why r);
+      table = stored p.table r.replica (next_step r);
+    }
+    made = failed_made p m why r there unended due
+
+    kept : IsProgram g (step_of p move) × IsReached g (world g (step_of p move))
+    kept = move_kept g p move is.group is.program is.reached
+
+    comes_to_none : (s : Step) → IsAppend s → comes_to (Some s) (outcomes.Failed why) ≡ None
+    comes_to_none Append is = refl
+    comes_to_none (LogVote value) is = refl
+    comes_to_none s is = absurd is
+
+    none : step_by r (outcomes.Failed why) ≡ None
+    none = ap (λ o. comes_to (step_due r o) (outcomes.Failed why)) unended
+        ∙ comes_to_none (next_step r) due
+
+    same : world g (record {
+      members = slice_set p.members m (broken_off why r);
+      table = stored p.table r.replica (next_step r);
+    }) ≡ world g p
+    same = sym (ap (world g) made) ∙ no_step_no_change g p move r there none
+
+-- a move keeps a program steady, however its append goes
+pub steady_moves : (g : Group) (p : Program) (e : Move) → IsSteady g p → IsSteady g (step_of p e)
+steady_moves g p e is = by (slice_get p.members e.member) refl
+  where
+    at : (r : Running) → slice_get p.members e.member ≡ Some r → (o : Option End) → r.replica.end ≡ o
+        → IsSteady g (step_of p e)
+    at r there None unended = subst (IsSteady g) (sym (step_is p e r there unended))
+        (after_either (λ x. IsSteady g (record {
+          members = slice_set p.members e.member x;
+          table = stored p.table r.replica (next_step r);
+        })) p.table e.outcome r (next_step r)
+        (subst (IsSteady g) (move_made p e.member r there unended)
+        (steady_on g p e.member r is there unended))
+        (λ why due. steady_failed g p e.member why r is there unended due))
+    at r there (Some x) ended = subst (IsSteady g)
+        (sym (rest_changes_nothing p e r there (ap is_some ended))) is
+
+    by : (o : Option Running) → slice_get p.members e.member ≡ o → IsSteady g (step_of p e)
+    by None none = subst (IsSteady g) (sym (ap (λ o. moved_by p o e) none)) is
+    by (Some r) there = at r there r.replica.end refl
+
+-- ---- the beginning
+
+-- a member that begins, where its setup is of the group
+record BeginsSteady (g : Group) (turns m : ℕ) (r : Running) : Type 0 where
+  limit : r.limit ≡ turns
+  rooms : HasRooms g r.replica
+  works : HasWorked r
+  unpushed : (j c : ℕ) → last_pushed r.replica.rows j c ≡ 0
+
+begun_member : (g : Group) (turns m : ℕ) (s : Setup) → IsSetup g turns m s
+    → BeginsSteady g turns m (begun_running s)
+begun_member g turns m s of = record {
+  limit = of.turns;
+  rooms = omega (
+    arith,
+    ap length of.start,
+    of.banks,
+    ap (λ n. greatest s.totals * n) of.members,
+  );
+  works = works_begin s;
+  unpushed = λ j c. begun_unpushed s.shape.members (columns_of s.shape.members s.shape.window) s.me
+      (length (first_entries_of s)) j c;
+}
+
+-- a program begins steady
+pub steady_begins : (g : Group) (turns : ℕ) (setups : List Setup) → IsGroup g → 1 ≤ turns
+    → turns < 2 ^ 32 → AreSetups g turns setups → IsSteady g (begun_program g setups)
+steady_begins g turns setups group some small are = record {
+  group = group;
+  program = begun_is_program g turns setups group some are;
+  reached = begun_reached g turns setups group are;
+  limits = λ m r there. omega (arith, small, (begins m r there).limit);
+  rooms = λ m r there. (begins m r there).rooms;
+  works = λ m r there. (begins m r there).works;
+  pushes = λ m r there j c l other low. (begins m r there).unpushed j c
+      ∙ sym (ap (λ (w : World). w.table r.replica.view j m c)
+      (begins_at_the_opening g turns setups group are));
+}
+  where
+    named : (m : ℕ) (r : Running) (o : Option Setup) → slice_get setups m ≡ o
+        → option_map begun_running o ≡ Some r → BeginsSteady g turns m r
+    named m r None e there = absurd (cc)
+    named m r (Some s) e there = subst (BeginsSteady g turns m) (same_Some (begun_running s) r there)
+        (begun_member g turns m s (are.each m s e))
+
+    begins : (m : ℕ) (r : Running) → slice_get (begun_program g setups).members m ≡ Some r
+        → BeginsSteady g turns m r
+    begins m r there = named m r (slice_get setups m) refl
+        (sym (slice_get-map begun_running setups m) ∙ there)

@@ -1,0 +1,192 @@
+-- After a deed of a turn nothing is left to do at the places before the one where the member goes on.
+use Rattle.std.proofs.Common.{◌≡◌, ◌≢◌, refl, sym, ap, ◌∙◌, subst, inl, inr, ℕ, ◌+◌, ◌-◌, ◌<◌, ◌≤◌, ◌==◌, ◌&&◌, Bool, true, false, List, length, take, drop, ◌++◌, length-append, arith}
+use Rattle.std.proofs.lemmas.Bool.Decides.{nat_tests}
+use Rattle.std.proofs.lemmas.List.{length-take, length-drop}
+use Rattle.dr_entry.specs.declared.entry.Entry.{Entry}
+use Rattle.dr_machine.specs.declared.event.Act.{Act}
+use Rattle.dr_machine.specs.Acts.{CanTake, effect_of}
+use Rattle.dr_machine.specs.Group.{Group, columns, roster}
+use Rattle.dr_machine.specs.World.{World, own_word}
+use Rattle.dr_machine.specs.Writes.{at, at₃, at₄}
+use Rattle.dr_program.specs.declared.place.Part.{Part}
+use Rattle.dr_program.specs.declared.place.Part.TheVariants as parts
+use Rattle.dr_program.specs.declared.place.Place.{Place}
+use Rattle.dr_program.specs.Running.{Running, goes}
+use Rattle.dr_program.specs.Turn.{IsIn, after, columns_in, is_beat, part_of, rows_in}
+use Rattle.dr_turn.proofs.Deeds.{is_publish}
+use Rattle.dr_turn.proofs.Search.{part_before}
+use Rattle.dr_words.specs.declared.column.TheConstants.{LOGGED_COLUMN}
+use Rattle.dr_turn_laws.specs.Swept.{IsBefore, IsIdle, Swept}
+use Rattle.dr_turn_laws.proofs.Before.{IsLess, before_after}
+use Rattle.dr_turn.proofs.Parts.{goes_back_or_stays}
+use Rattle.dr_program_laws.proofs.Trusting.{is_passed}
+use Rattle.dr_turn_laws.proofs.Acts.{earlier_kept, uncrashed}
+use Rattle.dr_turn_laws.proofs.Leaving.{Stays, gained_other}
+
+-- ---- what a deed leaves of its own part
+
+seen_less : (seen : ℕ → ℕ → ℕ → ℕ) (m i c x j d : ℕ) → IsLess j d i c
+    → at₃ seen m i c x m j d ≡ seen m j d
+seen_less seen m i c x j d (inl earlier) = grind (arith, earlier)
+seen_less seen m i c x j d (inr here) = grind (arith, here)
+
+pushed_less : (table : ℕ → ℕ → ℕ → ℕ → ℕ) (v m i c x j d : ℕ) → IsLess j d i c
+    → at₄ table v i m c x v j m d ≡ table v j m d
+pushed_less table v m i c x j d (inl earlier) = grind (arith, earlier)
+pushed_less table v m i c x j d (inr here) = grind (arith, here)
+
+-- a part with one place has none before it
+one_place : (j d i c : ℕ) → i < 1 → c < 1 → IsLess j d i c → ⊥
+one_place j d i c row column less = grind (arith, row, column, less)
+
+one_column : (j d i c : ℕ) → c < 1 → IsLess j d i c → j < i
+one_column j d i c column less = grind (arith, column, less)
+
+-- in earlier rows and columns it leaves what is known
+less_kept : (g : Group) (w : World) (m : ℕ) (r : Running) (part : Part) (i c j d : ℕ)
+    → i < rows_in (roster g) part → c < columns_in (columns g) part → IsLess j d i c
+    → Stays g w (effect_of g w m (uncrashed r part i c)) m part j d
+less_kept g w m r parts.Look i c j d row column less = λ old other.
+    seen_less w.seen m i c (w.table (w.past.view m) m i c) j d less ∙ old other
+less_kept g w m r parts.Receive i c j d row column less = λ old wants.
+    old (gained_other g w (effect_of g w m (uncrashed r parts.Receive i c)) m i j
+    (apart (one_column j d i c column less)) refl wants.0 wants.1)
+  where
+    apart : j < i → j ≢ i
+    apart l same = absurd (omega (arith, l, same))
+less_kept g w m r parts.Push i c j d row column less = λ old other unended.
+    pushed_less w.table (w.past.view m) m i c (own_word w m c) j d less ∙ old other unended
+less_kept g w m r part i c j d row column less = absurd (one_place j d i c row column less)
+
+-- ---- what it does at its own place
+
+-- the parts whose deeds are done once
+abbrev is_once : Part → Bool
+is_once parts.Look = true
+is_once parts.Append = true
+is_once parts.Push = true
+is_once part = false
+
+longer : (log history : List Entry) → length log < length history
+    → length log < length (log ++ take 1 (drop (length log) history))
+longer log history l = omega (
+  arith,
+  l,
+  length-append log (take 1 (drop (length log) history)),
+  length-take 1 (drop (length log) history),
+  length-drop (length log) history,
+)
+
+log_here : (log : ℕ → List Entry) (m : ℕ) (x : List Entry) → at log m x m ≡ x
+log_here log m x = grind arith
+
+done_there : (g : Group) (w : World) (m : ℕ) (r : Running) (part : Part) (i c : ℕ)
+    → is_once part ≡ true → own_word w m LOGGED_COLUMN ≤ length (w.past.log m)
+    → CanTake g w m (uncrashed r part i c)
+    → IsIdle g (effect_of g w m (uncrashed r part i c)) m part i c
+done_there g w m r parts.Look i c once published can = λ other. grind arith
+done_there g w m r parts.Push i c once published can = λ other unended. grind arith
+done_there g w m r parts.Append i c once published can = λ wants.
+    omega (
+      arith,
+      published,
+      ap length (log_here w.past.log m
+          (w.past.log m ++ take 1 (drop (length (w.past.log m)) (w.past.history m)))),
+      longer (w.past.log m) (w.past.history m) can.behind,
+    )
+done_there g w m r part i c once published can = absurd (cc)
+
+-- ---- a deed
+
+not_back : (a b : ℕ) (t : Bool) → (t ≡ true → a < b - 1) → (t && (a + 1 == b)) ≡ false
+not_back a b true before = grind (arith, nat_tests, before refl)
+not_back a b false before = refl
+
+-- what is known before a deed in a turn
+pub record IsAmid (g : Group) (w : World) (m : ℕ) (r : Running) : Type 0 where
+  pub place : IsIn (roster g) (columns g) r.place
+  pub begun : is_beat (part_of r.place) ≡ false
+  pub unpassed : is_passed (part_of r.place) ≡ false
+  pub published : own_word w m LOGGED_COLUMN ≤ length (w.past.log m)
+  pub can : CanTake g w m (uncrashed r (part_of r.place) r.place.row r.place.column)
+  pub swept : Swept g w m r.place
+
+-- and behind it
+abbrev pub world_behind : Group → World → ℕ → Running → World
+world_behind g w m r = effect_of g w m (uncrashed r (part_of r.place) r.place.row r.place.column)
+
+-- at an earlier place, but for the one to which publishing goes back
+earlier_idle : (g : Group) (w : World) (m : ℕ) (r : Running) (q : Place) → IsAmid g w m r
+    → IsIn (roster g) (columns g) q → IsBefore q r.place
+    → (is_publish (part_of r.place) ≡ true → q.part < r.place.part - 1)
+    → IsIdle g (world_behind g w m r) m (part_of q) q.row q.column
+earlier_idle g w m r q amid is (inl earlier) forth =
+    earlier_kept g w m r r.place q (part_before (roster g) (columns g) r.place amid.place amid.begun) earlier
+    amid.unpassed (not_back q.part r.place.part (is_publish (part_of r.place)) forth)
+    (amid.swept q is (inl earlier))
+earlier_idle g w m r q amid is (inr here) forth =
+    subst (λ part. IsIdle g w m part q.row q.column
+    → IsIdle g (world_behind g w m r) m part q.row q.column) (sym same)
+    (less_kept g w m r (part_of r.place) r.place.row r.place.column q.row q.column amid.place.row
+    amid.place.column here.1) (amid.swept q is (inr here))
+  where
+    same : part_of q ≡ part_of r.place
+    same = ap (λ a. part_of (record q { part = a })) here.0
+
+-- what is done once doesn't go back
+once_not : (part : Part) → is_once part ≡ true → is_publish part ≡ true → ⊥
+once_not parts.Append once back = absurd (cc)
+once_not part once back = absurd (cc)
+
+-- nothing is left to do before the place where the member goes on
+pub swept_behind : (g : Group) (w : World) (m : ℕ) (r : Running) → IsAmid g w m r
+    → Swept g (world_behind g w m r) m (goes (roster g) (columns g) (part_of r.place) r.place)
+swept_behind g w m r amid q is = by (part_of r.place) refl
+  where
+    there : q ≡ r.place → is_once (part_of r.place) ≡ true
+        → IsIdle g (world_behind g w m r) m (part_of q) q.row q.column
+    there same once = subst (λ (x : Place). IsIdle g (world_behind g w m r) m (part_of x) x.row x.column)
+        (sym same)
+        (done_there g w m r (part_of r.place) r.place.row r.place.column once amid.published amid.can)
+
+    onward : is_once (part_of r.place) ≡ true → IsBefore q (after (roster g) (columns g) r.place)
+        → IsIdle g (world_behind g w m r) m (part_of q) q.row q.column
+    onward once before = elim (before_after (roster g) (columns g) q r.place is before) [
+      | inl earlier ↦ earlier_idle g w m r q amid is earlier
+          (λ back. absurd (once_not (part_of r.place) once back))
+      | inr same ↦ there same once
+    ]
+
+    back : (a : Act) → part_of r.place ≡ parts.Do a
+        → IsBefore q (record r.place { part = r.place.part - 1 })
+        → IsIdle g (world_behind g w m r) m (part_of q) q.row q.column
+    back a e (inl earlier) =
+        earlier_idle g w m r q amid is (inl (omega (arith, earlier))) (λ back. earlier)
+    back a e (inr here) =
+        absurd (one_place q.row q.column r.place.row r.place.column
+        (subst (λ part. r.place.row < rows_in (roster g) part) e amid.place.row)
+        (subst (λ part. r.place.column < columns_in (columns g) part) e amid.place.column) here.1)
+
+    stays : (part : Part) → part_of r.place ≡ part → is_publish part ≡ false → IsBefore q r.place
+        → IsIdle g (world_behind g w m r) m (part_of q) q.row q.column
+    stays part e other before =
+        earlier_idle g w m r q amid is before (λ back. absurd (cc (ap is_publish e, back, other)))
+
+    act : (a : Act) → part_of r.place ≡ parts.Do a
+        → IsBefore q (goes (roster g) (columns g) (parts.Do a) r.place)
+        → IsIdle g (world_behind g w m r) m (part_of q) q.row q.column
+    act a e before = elim (goes_back_or_stays (roster g) (columns g) a r.place
+        (sym (ap is_beat e) ∙ amid.begun)) [
+          | inl goes ↦ back a e (subst (IsBefore q) goes.1 before)
+          | inr goes ↦ stays (parts.Do a) e goes.0 (subst (IsBefore q) goes.1 before)
+        ]
+
+    by : (part : Part) → part_of r.place ≡ part
+        → IsBefore q (goes (roster g) (columns g) part r.place)
+        → IsIdle g (world_behind g w m r) m (part_of q) q.row q.column
+    by parts.Look e before = onward (ap is_once e) before
+    by parts.Append e before = onward (ap is_once e) before
+    by parts.Push e before = onward (ap is_once e) before
+    by parts.Vote e before = absurd (cc (ap is_passed e, amid.unpassed))
+    by (parts.Do a) e before = act a e before
+    by part e before = stays part e refl before

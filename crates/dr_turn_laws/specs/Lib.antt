@@ -1,0 +1,4 @@
+pub mod Wants
+pub mod Steady
+pub mod Rested
+pub mod Swept
