@@ -1,3 +1,4 @@
+mod asking;
 mod sweep;
 
 ghost use Rattle.std.specs.Prelude.{◌≡◌, ◌*◌, ◌-◌, ◌<◌, ◌≤◌, ℕ, true, IfOk, Some, is_some, length};

@@ -1,4 +1,5 @@
 mod acts;
+mod asking;
 mod finish;
 mod guards;
 mod judging;

@@ -1,0 +1,7 @@
+use Rattle.dr_seeing.proofs.Dues.{act_may}
+use Rattle.dr_seeing.proofs.lines.push_line.Goals as goal
+
+pub push_done-requires : goal.push_done-requires
+push_done-requires c =
+    act_may c.args.member.now c.replica-replica.result.now c.step.result c.in-Do.act c.requires.form
+    c.requires.going c.replica-replica.ensures c.step.ensures c.in-Do.is

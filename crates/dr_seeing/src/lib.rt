@@ -1,0 +1,10 @@
+//! What can be told of a run as it goes on: the line of each deed, and a text that is written piece by piece.
+#![tactic(auto)]
+
+mod acts;
+mod lines;
+mod output;
+mod values;
+
+pub use lines::push_line;
+pub use output::{Output, Trouble};
