@@ -2,9 +2,13 @@
 #![tactic(auto)]
 
 mod acts;
+mod chart;
 mod lines;
+mod news;
 mod output;
 mod values;
+mod waits;
 
+pub use chart::Chart;
 pub use lines::push_line;
 pub use output::{Output, Trouble};
