@@ -16,14 +16,15 @@ use Rattle.dr_script.specs.Reading.{Reading, reading_of, TooLong as TooLongText,
 use Rattle.dr_text.specs.declared.last.Last.{Last}
 use Rattle.dr_text.specs.declared.last.Last.TheVariants as lasts
 use Rattle.dr_yard.specs.Yards.{YardState, empty_yard}
-use Rattle.derecho.specs.declared.last.Kind.TheVariants.{DiskFault, LogFull, NoMajority, Spent}
-use Rattle.derecho.specs.Last.{first_end, first_told, is_memory, last_by, refusal_of, some_end, some_so, stopped_by}
-use Rattle.derecho.specs.Outcome.{Course, no_memory, no_command, no_source, read, Exactly, HasRun, IsRunInMemory, IsRunOver, RanNothing, Wrote, WroteOrNot}
+use Rattle.dr_outcome.specs.declared.last.Kind.TheVariants.{DiskFault, LogFull, NoMajority, Spent}
+use Rattle.dr_outcome.specs.Last.{first_end, first_told, is_memory, last_by, refusal_of, some_end, some_so, stopped_by}
+use Rattle.dr_outcome.specs.Outcome.{HasRun, IsRunInMemory, RanNothing}
+use Rattle.derecho.specs.Outcome.{Course, no_memory, no_command, no_source, read, Exactly, IsRunOver, Wrote, WroteOrNot}
 use Rattle.dr_intake.specs.Status.{status_of}
 use Rattle.dr_intake.specs.Reading.{IsNoScript, IsScript, WasRead}
 use Rattle.derecho.specs.Words.{IsCommand, asked_by}
-use Rattle.derecho.proofs.Lasts.{end_so, refusal_status, told_so}
-use Rattle.derecho.proofs.Runs.{memory_accepts, memory_has_room, memory_holds, none_spent, none_split}
+use Rattle.dr_outcome.proofs.Lasts.{end_so, refusal_status, told_so}
+use Rattle.dr_outcome.proofs.Runs.{memory_accepts, memory_has_room, memory_holds, none_spent, none_split}
 
 -- a call: its words, its source and its yard before and after, and what it ran
 pub record Call : Type 0 where

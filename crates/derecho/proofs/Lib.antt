@@ -1,4 +1,2 @@
-pub mod Lasts
 pub mod Refused
-pub mod Runs
 pub mod Course

@@ -8,7 +8,8 @@ use Rattle.dr_entry.specs.declared.end.AgeEnd.{AgeEnd}
 use Rattle.dr_script.specs.Reading.{Reading, TooLong, NotJson, Wrong, Reads}
 use Rattle.dr_text.specs.declared.last.Last.{Last}
 use Rattle.dr_yard.specs.Yards.{YardState}
-use Rattle.derecho.specs.Outcome.{IsRunOver, RanNothing}
+use Rattle.dr_outcome.specs.Outcome.{RanNothing}
+use Rattle.derecho.specs.Outcome.{IsRunOver}
 
 -- nothing was run, with the last line by which the text is refused
 pub over_refused : (mode : Mode) (folder : Option (List ℕ)) (before after : YardState) (ages : List AgeEnd)

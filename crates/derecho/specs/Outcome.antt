@@ -3,7 +3,6 @@ use Rattle.std.specs.Prelude.{◌≡◌, ◌⊎◌, ℕ, List, [], Option, Some,
 use Rattle.std.specs.declared.alloc.Global.{Global}
 use Rattle.dr_ages.specs.declared.mode.Mode.{Mode}
 use Rattle.dr_ages.specs.declared.stop.Stop.{Stop}
-use Rattle.dr_ages.specs.Runs.{IsRunOf}
 use Rattle.dr_intake.specs.Reading.{WasRead, refusal_in}
 use Rattle.dr_intake.specs.Status.{WroteText, status_of}
 use Rattle.dr_entry.specs.declared.end.AgeEnd.{AgeEnd}
@@ -15,28 +14,10 @@ use Rattle.dr_script.specs.Reading.{Reading, Reads, reading_of}
 use Rattle.dr_text.specs.declared.last.Last.{Last}
 use Rattle.dr_text.specs.declared.last.Last.TheVariants as lasts
 use Rattle.dr_text.specs.Report.{report_text}
-use Rattle.dr_yard.specs.Yards.{YardState, empty_yard}
+use Rattle.dr_yard.specs.Yards.{YardState}
 use Rattle.derecho.specs.Words.{IsCommand, asked_by}
-use Rattle.derecho.specs.Last.{last_of}
-
--- no age was run, and the yard is as it was
-pub record RanNothing (before after : YardState) (ages : List AgeEnd) (stop : Option Stop) : Type 0 where
-  pub none : ages ≡ []
-  pub unstopped : stop ≡ None
-  pub untouched : after ≡ before
-
--- the ages of a run over empty disks, none of which counts a fault
-pub record IsRunInMemory (script : Script) (mode : Mode) (ages : List AgeEnd) (stop : Option Stop) : Type 0 where
-  pub after : YardState
-  pub calm : (m : ℕ) → after.faults m ≡ 0
-  pub run : IsRunOf script mode empty_yard after ages stop
-
--- the ages of a run over the disks of the yard, where the words name a folder, and else over disks in memory,
--- and then the yard is as it was
-abbrev pub HasRun : Mode → Option (List ℕ) → Script → YardState → YardState → List AgeEnd → Option Stop
-    → Type 0
-HasRun mode (Some folder) script before after ages stop = IsRunOf script mode before after ages stop
-HasRun mode None script before after ages stop = (after ≡ before) × IsRunInMemory script mode ages stop
+use Rattle.dr_outcome.specs.Last.{last_of}
+use Rattle.dr_outcome.specs.Outcome.{HasRun, RanNothing}
 
 -- what comes of a text, by what is read of it: a refusal, where it is no script, and else the run of that
 -- script in this mode

@@ -1,7 +1,6 @@
 //! Runs the ages of a group by a script, and prints what each of its members delivered.
 #![tactic(auto)]
 
-mod last;
 mod outcome;
 mod top;
 mod words;

@@ -1,34 +1,20 @@
-ghost use Rattle.std.specs.Prelude.{◌≡◌, ◌<◌, ◌⊎◌, ℕ, Some, None, [], false, true, option_map};
+ghost use Rattle.std.specs.Prelude.{◌≡◌, ◌<◌, ◌⊎◌, ℕ, Some, None, false, option_map};
 ghost use Rattle.dr_entry.specs.declared.limits.TheConstants.{MAX_MEMBERS};
-ghost use Rattle.dr_script.specs.Ranges.{HasRanges};
 ghost use Rattle.dr_script.specs.Reading.{reading_of};
 ghost use Rattle.dr_text.specs.declared.last.Last.TheVariants.{SourceFault};
 ghost use Rattle.dr_yard.specs.Yards.{state_by};
-ghost use Rattle.dr_ages.specs.Runs.{IsRunOf};
-ghost use Rattle.derecho.specs.Last.{last_of};
-ghost use Rattle.derecho.specs.Outcome.{Course, HasRun, IsRunInMemory, IsRunOver, RanNothing};
+ghost use Rattle.dr_outcome.specs.Outcome.{RanNothing};
+ghost use Rattle.derecho.specs.Outcome.{Course, IsRunOver};
 
-use crate::last::last_of;
 use crate::words::{Command, command_of};
-use dr_ages::{AgesEnd, Mode, Stop, run_ages};
-use dr_entry::{AgeEnd, Seq};
 use dr_intake::{READ_LIMIT, ReadFault, read_all, script_or_refusal};
 use dr_io::Source;
+use dr_outcome::{Outcome, run_script, without_ages};
 use dr_pace::Pace;
-use dr_script::Script;
 use dr_text::Last;
-use dr_yard::{CalmYard, Yard};
+use dr_yard::Yard;
 use std::alloc::Global;
 use std::thread::Threads;
-
-/// What a call comes to before it is written: its ages, what ended the run before its last age, and what the
-/// last line says. Where memory was wanting there is no last line.
-#[derive(Debug, Drop)]
-pub(crate) struct Outcome {
-    pub ages: Seq<AgeEnd>,
-    pub stop: Option<Stop>,
-    pub last: Option<Last>,
-}
 
 /// Does all that the words ask for, but for the writing.
 pub(crate) fn outcome_of<R: Threads + Sync, S: Source, Y: Yard, P: Pace + Sync>(
@@ -74,87 +60,8 @@ fn judge<R: Threads + Sync, Y: Yard, P: Pace + Sync>(
         (state_by Y.told Y.faults yard.new) result.ages result.stop result.last }
 {
     match script_or_refusal(alloc, bytes) {
-        Ok(script) => run(rt, alloc, &script, command, yard, pace),
+        Ok(script) => run_script(rt, alloc, &script, command.mode, command.folder, yard, pace),
         Err(Some(line)) => without_ages(alloc, Some(line)),
         Err(None) => without_ages(alloc, None),
-    }
-}
-
-/// Runs a script over the logs in a folder of the yard, or over empty ones in memory.
-fn run<R: Threads + Sync, Y: Yard, P: Pace + Sync>(
-    rt: &R,
-    alloc: Global,
-    script: &Script,
-    command: &Command<'_>,
-    yard: &mut Y,
-    pace: &P,
-) -> Outcome
-    requires ranges { HasRanges script.now }
-    requires here { (m : ℕ) → m < MAX_MEMBERS → Y.is_lent yard.old m ≡ false }
-    ensures here { (m : ℕ) → m < MAX_MEMBERS → Y.is_lent yard.new m ≡ false }
-    ensures ran { (RanNothing (state_by Y.told Y.faults yard.old) (state_by Y.told Y.faults yard.new)
-        result.ages result.stop × (result.last ≡ None))
-        ⊎ (HasRun command.now.mode (option_map (λ f. f.now) command.now.folder) script.now
-        (state_by Y.told Y.faults yard.old)
-        (state_by Y.told Y.faults yard.new) result.ages result.stop
-        × (result.last ≡ last_of result.ages result.stop)) }
-{
-    match command.folder {
-        Some(folder) => run_over(rt, alloc, script, command.mode, folder, yard, pace),
-        None => run_in_memory(rt, alloc, script, command.mode, pace),
-    }
-}
-
-/// Runs a script over empty logs in memory, which are gone with the run.
-fn run_in_memory<R: Threads + Sync, P: Pace + Sync>(
-    rt: &R,
-    alloc: Global,
-    script: &Script,
-    mode: Mode,
-    pace: &P,
-) -> Outcome
-    requires { HasRanges script.now }
-    ensures { ((result.ages ≡ []) × (result.stop ≡ None) × (result.last ≡ None))
-        ⊎ (IsRunInMemory script.now mode result.ages result.stop
-        × (result.last ≡ last_of result.ages result.stop)) }
-{
-    match CalmYard::new(alloc) {
-        Ok(mut yard) => run_over(rt, alloc, script, mode, "", &mut yard, pace),
-        Err(_) => without_ages(alloc, None),
-    }
-}
-
-/// Runs a script over the logs in a folder of a yard.
-fn run_over<R: Threads + Sync, Y: Yard, P: Pace + Sync>(
-    rt: &R,
-    alloc: Global,
-    script: &Script,
-    mode: Mode,
-    folder: &str,
-    yard: &mut Y,
-    pace: &P,
-) -> Outcome
-    requires ranges { HasRanges script.now }
-    requires here { (m : ℕ) → m < MAX_MEMBERS → Y.is_lent yard.old m ≡ false }
-    ensures here { (m : ℕ) → m < MAX_MEMBERS → Y.is_lent yard.new m ≡ false }
-    ensures run { IsRunOf script.now mode (state_by Y.told Y.faults yard.old)
-        (state_by Y.told Y.faults yard.new) result.ages result.stop }
-    ensures last { result.last ≡ last_of result.ages result.stop }
-{
-    let AgesEnd { ages, stop } = run_ages(rt, alloc, script, mode, folder, yard, pace);
-    let last = last_of(ages.as_slice(), stop);
-    Outcome { ages, stop, last }
-}
-
-/// What a call comes to in which nothing is run.
-fn without_ages(alloc: Global, last: Option<Last>) -> Outcome
-    ensures ages { result.ages ≡ [] }
-    ensures stop { result.stop ≡ None }
-    ensures last { result.last ≡ last }
-{
-    Outcome {
-        ages: Seq::of(Vec::new(alloc)),
-        stop: None,
-        last,
     }
 }

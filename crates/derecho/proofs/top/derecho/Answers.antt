@@ -3,7 +3,7 @@ use Rattle.std.proofs.Common.{List, ℕ, String, inl, inr, refl}
 use Rattle.std.specs.declared.alloc.Global.{Global}
 use Rattle.dr_text.specs.declared.last.Last.TheVariants.{SourceFault}
 use Rattle.dr_yard.specs.Yards.{state_by}
-use Rattle.derecho.specs.declared.outcome.Outcome.{Outcome}
+use Rattle.dr_outcome.specs.declared.running.Outcome.{Outcome}
 use Rattle.derecho.specs.Outcome.{WroteOrNot}
 use Rattle.derecho.proofs.Course.{Call, IsCourse, Standing, disk_fault_of, fault_told, log_full_of, logs_refused_of, memory_status, no_majority_of, refused_of, standing_of, status_known, unfinished_of, untimely_of, untrusting_of, usage_of}
 use Rattle.derecho.proofs.top.derecho.Given as given

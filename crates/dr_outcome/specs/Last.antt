@@ -10,8 +10,8 @@ use Rattle.dr_entry.specs.declared.end.End.TheVariants as ends
 use Rattle.dr_entry.specs.declared.end.MemberEnd.{MemberEnd}
 use Rattle.dr_text.specs.declared.last.Last.{Last}
 use Rattle.dr_text.specs.declared.last.Last.TheVariants as lasts
-use Rattle.derecho.specs.declared.last.Kind.{Kind}
-use Rattle.derecho.specs.declared.last.Kind.TheVariants.{DiskFault, LogFull, NoMajority, Spent}
+use Rattle.dr_outcome.specs.declared.last.Kind.{Kind}
+use Rattle.dr_outcome.specs.declared.last.Kind.TheVariants.{DiskFault, LogFull, NoMajority, Spent}
 
 -- whether an end is of a kind
 abbrev pub is_of : Kind → End → Bool

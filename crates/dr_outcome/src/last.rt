@@ -2,7 +2,7 @@
 ghost use Rattle.std.specs.Prelude.{◌≡◌, ◌≤◌, All, length, position};
 ghost use Rattle.dr_entry.specs.declared.limits.TheConstants.{MAX_MEMBERS};
 ghost use Rattle.dr_entry.specs.declared.end.AgeEnd.{AgeEnd as AgeEndOf};
-ghost use Rattle.derecho.specs.Last.{first_end, first_told, is_of, last_of, refusal_of, stopped_by};
+ghost use Rattle.dr_outcome.specs.Last.{first_end, first_told, is_of, last_of, refusal_of, stopped_by};
 
 use dr_ages::Stop;
 use dr_entry::{AgeEnd, End, MemberEnd};
@@ -10,7 +10,7 @@ use dr_text::Last;
 
 /// An end of a member that the last line tells.
 #[derive(Clone, Copy)]
-pub(crate) enum Kind {
+pub enum Kind {
     DiskFault,
     LogFull,
     Spent,
@@ -19,7 +19,7 @@ pub(crate) enum Kind {
 
 /// What the last line says behind these ages, and behind what ended the run before its last age. Nothing
 /// where that was want of memory.
-pub(crate) fn last_of(ages: &[AgeEnd], stop: Option<Stop>) -> Option<Last>
+pub fn last_of(ages: &[AgeEnd], stop: Option<Stop>) -> Option<Last>
     requires { All (λ (age : AgeEndOf). length age.members ≤ MAX_MEMBERS) ages.now }
     ensures { result ≡ last_of ages.now stop }
 {

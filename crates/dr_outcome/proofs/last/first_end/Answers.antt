@@ -1,6 +1,6 @@
 use Rattle.std.proofs.Common.{◌∙◌, rules}
-use Rattle.derecho.proofs.Lasts.{first_behind}
-use Rattle.derecho.proofs.last.first_end.Goals as goal
+use Rattle.dr_outcome.proofs.Lasts.{first_behind}
+use Rattle.dr_outcome.proofs.last.first_end.Goals as goal
 
 pub loop-age-preserved : goal.loop-age-preserved
 loop-age-preserved c = c.loop-age.invariant

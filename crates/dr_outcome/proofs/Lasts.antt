@@ -10,8 +10,8 @@ use Rattle.dr_ages.specs.declared.stop.Stop.TheVariants as stops
 use Rattle.dr_entry.specs.declared.end.AgeEnd.{AgeEnd}
 use Rattle.dr_entry.specs.declared.end.MemberEnd.{MemberEnd}
 use Rattle.dr_text.specs.declared.last.Last.{Last}
-use Rattle.derecho.specs.declared.last.Kind.{Kind}
-use Rattle.derecho.specs.Last.{first_end, first_told, is_of, refusal_of, some_end, some_so, stopped_by}
+use Rattle.dr_outcome.specs.declared.last.Kind.{Kind}
+use Rattle.dr_outcome.specs.Last.{first_end, first_told, is_of, refusal_of, some_end, some_so, stopped_by}
 use Rattle.dr_intake.specs.Status.{status_of}
 
 -- of two answers there is one where there is either

@@ -1,11 +1,11 @@
 -- What is certain of the ends and of the stop of a run.
-use Rattle.std.proofs.Common.{◌≡◌, refl, sym, ap, subst, ◌∙◌, inl, inr, ℕ, ◌+◌, ◌<◌, ◌≤◌, Bool, true, false, true≢false, arith, List, [], ◌∷◌, length, get_or, All, Option, None, Some, is_some}
+use Rattle.std.proofs.Common.{◌≡◌, refl, sym, ap, subst, ◌∙◌, inl, inr, ℕ, ◌+◌, ◌<◌, ◌≤◌, Bool, true, false, true≢false, arith, List, [], ◌∷◌, length, get_or, All, Contains, Option, None, Some, is_some, if◌then◌else◌}
 use Rattle.std.specs.List.{list_any}
 use Rattle.std.proofs.Math.Path.{fun_ext}
 use Rattle.std.proofs.lemmas.Bool.{cases_Bool, or_from, or_parts}
 use Rattle.std.proofs.lemmas.List.Elements.{All-cons, All-nil}
 use Rattle.std.proofs.lemmas.List.Folds.{list_any_at, list_any_none}
-use Rattle.std.proofs.lemmas.Option.{slice_get-get_or}
+use Rattle.std.proofs.lemmas.Option.{none-some, same_Some, slice_get-get_or}
 use Rattle.dr_ages.specs.declared.mode.Mode.{Mode}
 use Rattle.dr_ages.specs.declared.mode.Mode.TheVariants.{Sim}
 use Rattle.dr_ages.specs.declared.stop.Stop.{Stop}
@@ -26,10 +26,13 @@ use Rattle.dr_program_laws.specs.Trusting.{NoneLeft, SuspectsNobody, is_left_out
 use Rattle.dr_script.specs.declared.script.Script.{Script}
 use Rattle.dr_age.specs.Logged.{IsNotFull, why_ended}
 use Rattle.dr_yard.specs.Yards.{YardState, empty_yard}
-use Rattle.derecho.specs.declared.last.Kind.{Kind}
-use Rattle.derecho.specs.declared.last.Kind.TheVariants.{DiskFault, LogFull, NoMajority, Spent}
-use Rattle.derecho.specs.Last.{is_memory, is_of, refusal_of, some_end, some_so, stopped_by}
-use Rattle.derecho.specs.Outcome.{IsRunInMemory}
+use Rattle.dr_outcome.specs.declared.last.Kind.{Kind}
+use Rattle.dr_outcome.specs.declared.last.Kind.TheVariants.{DiskFault, LogFull, NoMajority, Spent}
+use Rattle.dr_intake.specs.Status.{status_of}
+use Rattle.dr_text.specs.declared.last.Last.{Last}
+use Rattle.dr_outcome.specs.Last.{first_end, first_told, is_memory, is_of, last_by, last_of, refusal_of, some_end, some_so, stopped_by}
+use Rattle.dr_outcome.specs.Outcome.{IsRunInMemory}
+use Rattle.dr_outcome.proofs.Lasts.{told_so}
 
 -- whether some of these members ended so
 abbrev some_of : Kind → List MemberEnd → Bool
@@ -229,3 +232,33 @@ memory_has_room script mode ages stop in_memory =
     (λ k d within. list_any_none (λ (m : MemberEnd). is_of LogFull m.end) (get_or ages k d).members
     (λ j e below. unfull (get_or (get_or ages k d).members j e).end (run.roomy k d within j e below))))
     (unstopped_by_full stop ages run)
+
+-- a last line that tells of nothing but turns and majorities
+by_parts : (disk : Option ℕ) (logs : Option Last) (full turns split : Option ℕ) (line : Last)
+    → is_some disk ≡ false → is_some logs ≡ false → is_some full ≡ false
+    → last_by disk logs full turns split ≡ line → Contains (0 ∷ 8 ∷ 9 ∷ []) (status_of line)
+by_parts (Some m) logs full turns split line d l f said = absurd (true≢false d)
+by_parts None (Some refusal) full turns split line d l f said = absurd (true≢false l)
+by_parts None None (Some m) turns split line d l f said = absurd (true≢false f)
+by_parts None None None (Some m) split line d l f said = (1, omega arith, ap status_of said)
+by_parts None None None None (Some m) line d l f said = (2, omega arith, ap status_of said)
+by_parts None None None None None line d l f said = (0, omega arith, ap status_of said)
+
+-- the last line behind a run over empty disks that count no fault is one of these
+pub memory_lasts : (script : Script) (mode : Mode) (ages : List AgeEnd) (stop : Option Stop) (line : Last)
+    → IsRunInMemory script mode ages stop → last_of ages stop ≡ Some line
+    → Contains (0 ∷ 8 ∷ 9 ∷ []) (status_of line)
+memory_lasts script mode ages stop line run is = elim (cases_Bool (is_memory stop)) [
+  | inl wanting ↦ absurd (none-some line (sym (ap (λ b. if b then None else Some told) wanting) ∙ is))
+  | inr ample ↦
+      by_parts (first_told DiskFault ages stop) (refusal_of stop) (first_told LogFull ages stop)
+      (first_end Spent ages) (first_end NoMajority ages) line
+      (told_so DiskFault ages stop ∙ memory_holds script mode ages stop run ample)
+      (memory_accepts script mode ages stop run)
+      (told_so LogFull ages stop ∙ memory_has_room script mode ages stop run)
+      (same_Some told line (sym (ap (λ b. if b then None else Some told) ample) ∙ is))
+]
+  where
+    told : Last
+    told = last_by (first_told DiskFault ages stop) (refusal_of stop) (first_told LogFull ages stop)
+        (first_end Spent ages) (first_end NoMajority ages)

@@ -1,7 +1,7 @@
 use Rattle.std.proofs.Common.{inr, refl}
 use Rattle.dr_yard.specs.Places.{place_told}
-use Rattle.derecho.proofs.Runs.{in_memory}
-use Rattle.derecho.proofs.outcome.run_in_memory.Goals as goal
+use Rattle.dr_outcome.proofs.Runs.{in_memory}
+use Rattle.dr_outcome.proofs.running.run_in_memory.Goals as goal
 
 pub returns-in-Ok : goal.returns-in-Ok
 returns-in-Ok g c = inr (
