@@ -28,6 +28,7 @@ use Rattle.dr_program.specs.Reading.{step_due, step_of_member}
 use Rattle.dr_program.specs.Sight.{IsSeenNext, MaySee}
 use Rattle.dr_program.specs.Form.{IsRunningMember}
 use Rattle.dr_program.proofs.Waiting.{vote_free}
+use Rattle.dr_program.proofs.StepsAt.{append_either, push_either, vote_either}
 use Rattle.dr_member.specs.declared.search.Due.{Due}
 use Rattle.dr_member.specs.declared.search.Due.TheVariants as dues
 use Rattle.dr_member.specs.Deeds.{is_act, is_look, is_push, is_append}
@@ -56,16 +57,10 @@ push_part r parts.Push i c e = (refl, by (crashes_now r) refl e)
         → crashes_now r ≡ false
     by true same e = absurd (cc)
     by false same e = same
-push_part r parts.Append i c e = absurd (by r.failed e)
-  where
-    by : (o : Option LogWhy) → is_push (deed_of r (append_or_end o)) ≡ true → ⊥
-    by None e = cc
-    by (Some why) e = cc
-push_part r parts.Vote i c e = absurd (by r.failed e)
-  where
-    by : (o : Option LogWhy) → is_push (deed_of r (vote_or_end o (value_due r.replica))) ≡ true → ⊥
-    by None e = cc
-    by (Some why) e = cc
+push_part r parts.Append i c e =
+    absurd (append_either (λ s. is_push (deed_of r s) ≡ true → ⊥) r.failed (λ e. cc) (λ why e. cc) e)
+push_part r parts.Vote i c e =
+    absurd (vote_either (λ s. is_push (deed_of r s) ≡ true → ⊥) r.failed _ (λ e. cc) (λ why e. cc) e)
 push_part r part i c e = absurd (cc)
 
 -- an append's deed alone is one
@@ -92,11 +87,8 @@ append_part r parts.Vote i c e = inr (refl, by r.failed refl e)
         → vote_or_end r.failed (value_due r.replica) ≡ steps.LogVote (value_due r.replica)
     by None none e = ap (λ o. vote_or_end o (value_due r.replica)) none
     by (Some why) none e = absurd (cc)
-append_part r parts.Push i c e = absurd (by (crashes_now r) e)
-  where
-    by : (b : Bool) → is_append (deed_of r (push_or_crash b i c)) ≡ true → ⊥
-    by true e = cc
-    by false e = cc
+append_part r parts.Push i c e =
+    absurd (push_either (λ s. is_append (deed_of r s) ≡ true → ⊥) (crashes_now r) i c (λ e. cc) (λ e. cc) e)
 append_part r part i c e = absurd (cc)
 
 -- ---- what is known where a deed of a kind is due
@@ -140,22 +132,12 @@ pub record IsLookDue (r : Running) (word : ℕ) : Type 0 where
 look_part : (r : Running) (part : Part) (i c word : ℕ) → MaySee r (Some (step_at r part i c)) word
     → (part ≡ parts.Look) × IsSeenNext r i c word
 look_part r parts.Look i c word may = (refl, may)
-look_part r parts.Push i c word may = absurd (by (crashes_now r) may)
-  where
-    by : (b : Bool)
-        → MaySee r (Some (push_or_crash b i c)) word → ⊥
-    by true may = may
-    by false may = may
-look_part r parts.Append i c word may = absurd (by r.failed may)
-  where
-    by : (o : Option LogWhy) → MaySee r (Some (append_or_end o)) word → ⊥
-    by None may = may
-    by (Some why) may = may
-look_part r parts.Vote i c word may = absurd (by r.failed may)
-  where
-    by : (o : Option LogWhy) → MaySee r (Some (vote_or_end o (value_due r.replica))) word → ⊥
-    by None may = may
-    by (Some why) may = may
+look_part r parts.Push i c word may =
+    absurd (push_either (λ s. MaySee r (Some s) word → ⊥) (crashes_now r) i c (λ x. x) (λ x. x) may)
+look_part r parts.Append i c word may =
+    absurd (append_either (λ s. MaySee r (Some s) word → ⊥) r.failed (λ x. x) (λ why x. x) may)
+look_part r parts.Vote i c word may =
+    absurd (vote_either (λ s. MaySee r (Some s) word → ⊥) r.failed _ (λ x. x) (λ why x. x) may)
 look_part r parts.Receive i c word may = absurd may
 look_part r part i c word may = absurd may
 

@@ -138,7 +138,6 @@ made r n w v m k f l o p en ew ev em small a b d e h = record {
 kept : (b : Bases) (word : ℕ) (r : Replica) (s : Step) → ends_view s ≡ false → AreBases b r
     → AreBases b (stepped word r s)
 kept b word r (Do acts.Finish) stays f = absurd (cc stays)
-kept b word r (Do acts.Beat) stays f = record { are = f.are; small = f.small }
 kept b word r (Do a) stays f = record { are = f.are; small = f.small }
 kept b word r s stays f = record { are = f.are; small = f.small }
 

@@ -23,6 +23,7 @@ use Rattle.dr_program.specs.Running.{Running, append_or_end, crashes_now, deed, 
 use Rattle.dr_program.specs.Sight.{MaySee}
 use Rattle.dr_program.specs.Steps.{NoWordFell, allows, has_cell, index_in}
 use Rattle.dr_program.specs.Turn.{IsIn, columns_in, part_of, rows_in}
+use Rattle.dr_program.proofs.StepsAt.{append_either, push_either, vote_either}
 use Rattle.dr_turn.specs.Work.{IsStill, deeds_left}
 use Rattle.dr_member.specs.Deeds.{is_look, is_push}
 use Rattle.dr_member.specs.declared.member.Member.TheInside.{Inside}
@@ -118,21 +119,12 @@ record IsAtLook (r : Running) : Type 0 where
 look_part : (r : Running) (part : Part) (i c : ℕ) → is_look (deed_of r (step_at r part i c)) ≡ true
     → part ≡ parts.Look
 look_part r parts.Look i c e = refl
-look_part r parts.Push i c e = absurd (by (crashes_now r) e)
-  where
-    by : (b : Bool) → is_look (deed_of r (push_or_crash b i c)) ≡ true → ⊥
-    by true e = cc
-    by false e = cc
-look_part r parts.Append i c e = absurd (by r.failed e)
-  where
-    by : (o : Option LogWhy) → is_look (deed_of r (append_or_end o)) ≡ true → ⊥
-    by None e = cc
-    by (Some why) e = cc
-look_part r parts.Vote i c e = absurd (by r.failed e)
-  where
-    by : (o : Option LogWhy) → is_look (deed_of r (vote_or_end o (value_due r.replica))) ≡ true → ⊥
-    by None e = cc
-    by (Some why) e = cc
+look_part r parts.Push i c e =
+    absurd (push_either (λ s. is_look (deed_of r s) ≡ true → ⊥) (crashes_now r) i c (λ e. cc) (λ e. cc) e)
+look_part r parts.Append i c e =
+    absurd (append_either (λ s. is_look (deed_of r s) ≡ true → ⊥) r.failed (λ e. cc) (λ why e. cc) e)
+look_part r parts.Vote i c e =
+    absurd (vote_either (λ s. is_look (deed_of r s) ≡ true → ⊥) r.failed _ (λ e. cc) (λ why e. cc) e)
 look_part r part i c e = absurd (cc)
 
 -- a running member whose next deed is a look is at one
