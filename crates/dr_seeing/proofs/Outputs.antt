@@ -114,7 +114,8 @@ pub settled_flushed : (text : List ℕ) (before old new : Written) → before.tr
     → Tells [] old new → Tells text before new
 settled_flushed text before old new none free same calm waits flushed =
     subst (λ (l : List ℕ). Tells l before new) (append-nil text)
-    (tells_both text [] before old new (tells_more text before old none free (sym same) (sym calm) waits) flushed)
+    (tells_both text [] before old new (tells_more text before old none free (sym same) (sym calm) waits)
+    flushed)
 
 pub settled_wanting : (text : List ℕ) (before old new : Written) → before.trouble ≡ None
     → before.held ≡ old.held → before.faults ≡ old.faults → new.held ≡ old.held → new.faults ≡ old.faults

@@ -1,5 +1,5 @@
--- The line of a deed: what a member is about to do, told by what it has, by what it has seen, and by the words of
--- the table.
+-- The line of a deed: what a member is about to do, told by what it has, by what it has seen, and by the
+-- words of the table.
 use Rattle.std.specs.Prelude.{ℕ, ◌+◌, ◌==◌, false, if◌then◌else◌, List, [], ◌∷◌, ◌++◌, length, take, codes, slice_index_or, Option, None, Some, unwrap_or}
 use Rattle.std.specs.Fmt.{decimal, digits}
 use Rattle.std.specs.List.{concat, flat_map}
@@ -96,4 +96,5 @@ line_of r table = option_map_or (told (me r.replica)) (step_text table r.replica
 
 -- the line of an age, by its number and its number of entries
 abbrev pub age_line : ℕ → ℕ → List ℕ
-age_line age entries = concat (codes "age " ∷ decimal age ∷ codes " start " ∷ decimal entries ∷ codes "\n" ∷ [])
+age_line age entries =
+    concat (codes "age " ∷ decimal age ∷ codes " start " ∷ decimal entries ∷ codes "\n" ∷ [])

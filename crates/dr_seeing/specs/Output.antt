@@ -6,8 +6,8 @@ use Rattle.dr_seeing.specs.declared.output.Trouble.{Trouble}
 use Rattle.dr_seeing.specs.declared.output.Trouble.TheVariants as troubles
 use Rattle.dr_text.specs.Writing.{WroteFront}
 
--- what the sink holds, how many of its calls have failed, the text that waits to be written, and what is in the
--- way of writing it
+-- what the sink holds, how many of its calls have failed, the text that waits to be written, and what is in
+-- the way of writing it
 pub record Written : Type 0 where
   pub held : Option (List ℕ)
   pub faults : ℕ
@@ -26,8 +26,8 @@ abbrev pub HasStopped : Trouble → Option (List ℕ) → ℕ → List ℕ → W
 HasStopped troubles.Sink held fell text now = Rose fell now.faults × WroteFront held now.held text
 HasStopped troubles.Memory held fell text now = (now.faults ≡ fell) × WroteFront held now.held text
 
--- what has become of a text since the sink held that much and so many of its calls had failed, by what is in the
--- way
+-- what has become of a text since the sink held that much and so many of its calls had failed, by what is
+-- in the way
 abbrev pub HasCome : Option Trouble → Option (List ℕ) → ℕ → List ℕ → Written → Type 0
 HasCome None held fell text now = IsUnderway held fell text now
 HasCome (Some trouble) held fell text now = HasStopped trouble held fell text now
@@ -44,8 +44,8 @@ Tells text old new = (held : Option (List ℕ)) (fell : ℕ) (before : List ℕ)
 abbrev pub TellsSome : Written → Written → Type 0
 TellsSome old new = (text : List ℕ) × Tells text old new
 
--- the whole text was written, where nothing was in the way, and else a front part of it; where the sink was in the
--- way, a call of it has failed, and else none has
+-- the whole text was written, where nothing was in the way, and else a front part of it; where the sink was
+-- in the way, a call of it has failed, and else none has
 abbrev pub IsFinished : Option Trouble → Option (List ℕ) → ℕ → List ℕ → Option (List ℕ) → ℕ → Type 0
 IsFinished None held fell text holds falls = Gains held holds text × (falls ≡ fell)
 IsFinished (Some troubles.Sink) held fell text holds falls = Rose fell falls × WroteFront held holds text

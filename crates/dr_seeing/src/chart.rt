@@ -122,7 +122,8 @@ impl Chart {
         Ok(())
     }
 
-    /// Takes note of an act that a member is about to do. A turn ends with its end, or as the next one begins.
+    /// Takes note of an act that a member is about to do. A turn ends with its end, or as the next one
+    /// begins.
     fn note(&mut self, replica: &Replica, act: Act) -> Result<(), AllocError>
         requires { may replica.now act ≡ true }
     {

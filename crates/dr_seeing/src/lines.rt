@@ -20,8 +20,8 @@ use dr_replica::Replica;
 use std::alloc::AllocError;
 use std::fmt::Write;
 
-/// Appends the line of the deed that is due to a member, which has not ended, over these words of the table. A
-/// look that shows nothing new has no line.
+/// Appends the line of the deed that is due to a member, which has not ended, over these words of the
+/// table. A look that shows nothing new has no line.
 ///
 /// # Errors
 ///

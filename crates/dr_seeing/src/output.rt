@@ -25,8 +25,8 @@ pub enum Trouble {
     Memory,
 }
 
-/// A text that is told piece by piece, and written to a sink as soon as enough of it waits. Once a call of the
-/// sink has failed, or memory was wanting, nothing more is written.
+/// A text that is told piece by piece, and written to a sink as soon as enough of it waits. Once a call of
+/// the sink has failed, or memory was wanting, nothing more is written.
 #[derive(Drop)]
 pub struct Output<K: Sink> {
     sink: K,
@@ -67,7 +67,8 @@ impl<K: Sink> Output<K> {
         self.trouble
     }
 
-    /// Tells the line of the deed that is due to a member, which has not ended, over these words of the table.
+    /// Tells the line of the deed that is due to a member, which has not ended, over these words of the
+    /// table.
     pub fn tell_line(&mut self, member: &Member, table: &[u64])
         requires going { member.now.replica.end ≡ None }
         requires form { IsRunningMember member.now }

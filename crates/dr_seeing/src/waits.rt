@@ -7,8 +7,8 @@ use dr_words::{DONE_COLUMN, LOGGED_COLUMN, RECEIVED_COLUMN};
 use std::alloc::AllocError;
 use std::fmt::Write;
 
-/// Appends a line for each thing that a member waits for and each member that it waits for, where its turns were
-/// spent: by what it has seen of that member, and by how that one has ended.
+/// Appends a line for each thing that a member waits for and each member that it waits for, where its turns
+/// were spent: by what it has seen of that member, and by how that one has ended.
 pub(crate) fn push_waits(
     out: &mut String,
     member: &Member,
