@@ -1,9 +1,10 @@
 -- What is said of a text, and what a call comes to.
-use Rattle.std.specs.Prelude.{◌≡◌, ◌≢◌, ◌⊎◌, ℕ, ◌+◌, ◌*◌, List, [], ◌∷◌, ◌++◌, length, map, fold, max, codes, Option, String}
+use Rattle.std.specs.Prelude.{◌≡◌, ◌≢◌, ◌⊎◌, ℕ, List, [], ◌∷◌, ◌++◌, codes, Option, String}
 use Rattle.std.specs.Fmt.{decimal}
 use Rattle.std.specs.List.{concat}
 use Rattle.std.specs.Option.{option_map_or}
 use Rattle.std.specs.declared.alloc.Global.{Global}
+use Rattle.dr_enough.specs.Enough.{turns_enough}
 use Rattle.dr_intake.specs.Reading.{WasRead, refusal_in}
 use Rattle.dr_intake.specs.Status.{WroteText, status_of}
 use Rattle.dr_io.specs.Faults.{Rose}
@@ -13,15 +14,6 @@ use Rattle.dr_script.specs.declared.script.Script.{Script}
 use Rattle.dr_script.specs.Reading.{Reading, Reads, reading_of}
 use Rattle.dr_text.specs.declared.last.Last.TheVariants as lasts
 use Rattle.dr_text.specs.Report.{last_text}
-
--- how many messages the member has that has most
-abbrev pub most_messages : Script → ℕ
-most_messages s = fold max 0 (map length s.messages)
-
--- how many turns are enough for the group of a script in lockstep: four for each message of the member that
--- has most, and eight more
-abbrev pub turns_enough : Script → ℕ
-turns_enough s = 4 * most_messages s + 8
 
 -- the first line of what is said of a script
 abbrev pub turns_line : Script → List ℕ

@@ -16,7 +16,6 @@ use dr_intake::{OUT_OF_MEMORY, words_of};
 use dr_io::{InputSource, OutputSink};
 use std::process::ExitCode;
 pub use top::explain;
-pub use turns::enough_is_time;
 
 #[cfg(test)]
 mod tests;

@@ -1,7 +1,7 @@
 use Rattle.std.proofs.Common.{arith}
 use Rattle.dr_entry.specs.declared.limits.TheConstants.{MAX_MESSAGES}
-use Rattle.derecho_explain.proofs.Enough.{longest_within}
-use Rattle.derecho_explain.proofs.turns.turns_enough.Goals as goal
+use Rattle.dr_enough.proofs.Enough.{longest_within}
+use Rattle.dr_enough.proofs.turns.turns_enough.Goals as goal
 
 pub overflow_mul-result : goal.overflow_mul-result
 overflow_mul-result c =

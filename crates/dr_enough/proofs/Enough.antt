@@ -5,7 +5,7 @@ use Rattle.dr_complete.specs.Time.{HasTime}
 use Rattle.dr_script.specs.declared.script.Script.{Script}
 use Rattle.dr_script.specs.declared.script.Schedule.TheVariants.{Lockstep}
 use Rattle.dr_script.specs.Ranges.{HasGroupRanges}
-use Rattle.derecho_explain.specs.Answer.{turns_enough}
+use Rattle.dr_enough.specs.Enough.{turns_enough}
 
 -- a list of messages is no longer than a bound, or has time enough
 abbrev Fits : ℕ → List (List ℕ) → Type 0
