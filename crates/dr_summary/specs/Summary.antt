@@ -1,0 +1,25 @@
+-- The summary of an age, and what it rests on.
+use Rattle.std.specs.Prelude.{ℕ, ◌<◌, List, ◌++◌, length}
+use Rattle.dr_entry.specs.declared.end.AgeEnd.{AgeEnd}
+use Rattle.dr_entry.specs.declared.end.MemberEnd.{MemberEnd}
+use Rattle.dr_history.specs.declared.opening.Opening.{Opening}
+use Rattle.dr_history.specs.Agreement.{EndsAgreed}
+use Rattle.dr_history.specs.Soundness.{IsPresentIn}
+use Rattle.dr_script.specs.declared.script.Script.{Script}
+use Rattle.dr_summary.specs.Notes.{ends_text, faults_text, undelivered, undelivered_text}
+use Rattle.dr_summary.specs.Table.{longest, table_text}
+
+-- these are the ends of members that agree: all of them took part in an age with this opening
+pub record HaveAgreed (o : Opening) (members : List MemberEnd) : Type 0 where
+  pub present : (i : ℕ) → i < length members → IsPresentIn o i
+  pub agreed : EndsAgreed o members
+
+-- the lines below its table
+unfoldable pub notes_text : Script → ℕ → AgeEnd → List ℕ
+notes_text script nth a =
+    undelivered_text (undelivered script (longest a.members))
+    ++ (faults_text script.faults nth a.members ++ ends_text script.turns a.members)
+
+-- the summary of age number nth of a run of the script, from 0
+abbrev pub age_text : Script → ℕ → AgeEnd → List ℕ
+age_text script nth a = table_text a ++ notes_text script nth a

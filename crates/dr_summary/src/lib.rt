@@ -1,0 +1,16 @@
+//! The text of a summary, age by age: one history as rows, the members as columns, and below it what was
+//! delivered by nobody, which planned faults never came, and how the members ended.
+#![tactic(auto)]
+
+mod age;
+mod columns;
+mod ends;
+mod faults;
+mod labels;
+mod laws;
+mod longest;
+mod rows;
+mod undelivered;
+
+pub use age::push_age;
+pub use laws::histories_are_fronts;
