@@ -1,0 +1,108 @@
+-- What is said of a text, by what is read of it, and with which status.
+use Rattle.std.proofs.Common.{◌≡◌, ◌==◌, ◌⊎◌, ◌∙◌, inl, inr, sym, ap, subst, Bool, true, ℕ, zero, suc, List, length, Option, Some, None, [], ◌∷◌, Contains, String, Result, Ok, Err, IfOk, string_bytes, arith}
+use Rattle.std.proofs.lemmas.List.{nil_from_length}
+use Rattle.std.proofs.lemmas.Option.{none-some, same_Some}
+use Rattle.std.specs.declared.alloc.Global.{Global}
+use Rattle.dr_ages.specs.declared.mode.Mode.TheVariants.{Sim}
+use Rattle.dr_ages.specs.declared.stop.Stop.{Stop}
+use Rattle.dr_entry.specs.declared.end.AgeEnd.{AgeEnd}
+use Rattle.dr_intake.specs.Reading.{WasRead, refusal_in}
+use Rattle.dr_intake.specs.Status.{status_of}
+use Rattle.dr_outcome.proofs.Runs.{memory_lasts}
+use Rattle.dr_outcome.specs.Last.{last_of}
+use Rattle.dr_outcome.specs.Outcome.{IsRunInMemory}
+use Rattle.dr_script.specs.declared.script.Script.{Script}
+use Rattle.dr_script.specs.Reading.{Reading, TooLong, NotJson, Wrong, Reads, reading_of}
+use Rattle.dr_text.specs.declared.last.Last.{Last}
+use Rattle.dr_text.specs.declared.last.Last.TheVariants as lasts
+use Rattle.dr_text.specs.Report.{last_text}
+use Rattle.derecho_summary.specs.declared.top.Answer.{Answer}
+use Rattle.derecho_summary.specs.Answer.{IsAnswer, IsAnswerFor, IsRefusal, IsRunAnswer, no_source, read, usage}
+
+-- the run behind a last line
+pub run_behind : (script : Script) (ages : List AgeEnd) (stop : Option Stop) (last : Option Last) (line : Last)
+    → ((ages ≡ []) × (stop ≡ None) × (last ≡ None))
+    ⊎ (IsRunInMemory script Sim ages stop × (last ≡ last_of ages stop))
+    → last ≡ Some line → IsRunInMemory script Sim ages stop × (last_of ages stop ≡ Some line)
+run_behind script ages stop last line (inl (none, unstopped, silent)) is =
+    absurd (none-some line (sym silent ∙ is))
+run_behind script ages stop last line (inr (run, told)) is = (run, sym told ∙ is)
+
+-- the answer to a script
+script_answer : (r : Reading) (s : Script) (text : List ℕ) (status : ℕ) → r ≡ Reads s
+    → IsRunAnswer s text status → IsAnswerFor r text status
+script_answer r s text status is answer =
+    subst (λ (x : Reading). IsAnswerFor x text status) (sym is) answer
+
+-- the answer to a text that is refused
+refused_answer : (r : Reading) (line : Last) (text : List ℕ) (status : ℕ) → refusal_in r ≡ Some line
+    → text ≡ last_text line → status ≡ status_of line → IsAnswerFor r text status
+refused_answer TooLong line text status is refused due =
+    record { last = line; line = is; refused = refused; due = due }
+refused_answer NotJson line text status is refused due =
+    record { last = line; line = is; refused = refused; due = due }
+refused_answer (Wrong rule path) line text status is refused due =
+    record { last = line; line = is; refused = refused; due = due }
+refused_answer (Reads script) line text status is refused due = absurd (none-some line is)
+
+-- the same, where there was memory for the answer
+pub script_if : {E : Type 0} (answer : Result Answer E) (r : Reading) (s : Script) → r ≡ Reads s
+    → IfOk answer (λ a. IsRunAnswer s (string_bytes a.text) a.status)
+    → IfOk answer (λ a. IsAnswerFor r (string_bytes a.text) a.status)
+script_if (Ok a) r s is answer = script_answer r s (string_bytes a.text) a.status is answer
+script_if (Err e) r s is answer = tt
+
+pub refused_if : {E : Type 0} (answer : Result Answer E) (r : Reading) (line : Last)
+    → refusal_in r ≡ Some line → IfOk answer (λ a. string_bytes a.text ≡ last_text line)
+    → IfOk answer (λ a. a.status ≡ status_of line)
+    → IfOk answer (λ a. IsAnswerFor r (string_bytes a.text) a.status)
+refused_if (Ok a) r line is refused due = refused_answer r line (string_bytes a.text) a.status is refused due
+refused_if (Err e) r line is refused due = tt
+
+-- no words are an empty list
+pub none_if : (words : List (String Global)) (empty : Bool) → empty ≡ (length words == 0) → empty ≡ true
+    → words ≡ []
+none_if words empty is said = nil_from_length words (grind (arith, is, said))
+
+-- what was read decides the answer of a call without words
+pub read_if : {E : Type 0} (answer : Result Answer E) (words : List (String Global))
+    (old new : Option (List ℕ)) (failed fails : ℕ) (bytes : List ℕ) → words ≡ [] → WasRead old new bytes
+    → IfOk answer (λ a. IsAnswerFor (reading_of bytes) (string_bytes a.text) a.status)
+    → IfOk answer (λ a. IsAnswer words old new failed fails (string_bytes a.text) a.status)
+read_if (Ok a) words old new failed fails bytes none was is = read none bytes was is
+read_if (Err e) words old new failed fails bytes none was is = tt
+
+-- the status of each call is one of these
+abbrev IsKnown : ℕ → Type 0
+IsKnown status = Contains (0 ∷ 2 ∷ 3 ∷ 4 ∷ 5 ∷ 8 ∷ 9 ∷ 10 ∷ []) status
+
+run_known : (status : ℕ) → Contains (0 ∷ 8 ∷ 9 ∷ []) status → IsKnown status
+run_known status (zero, below, is) = (0, omega arith, is)
+run_known status (suc zero, below, is) = (5, omega arith, is)
+run_known status (suc (suc zero), below, is) = (6, omega arith, is)
+run_known status (suc (suc (suc i)), below, is) = absurd (omega (arith, below))
+
+refused_known : (r : Reading) (line : Last) → refusal_in r ≡ Some line → status_of line ≡ 3
+refused_known TooLong line is = ap status_of (sym (same_Some lasts.TooLong line is))
+refused_known NotJson line is = ap status_of (sym (same_Some lasts.NotJson line is))
+refused_known (Wrong rule path) line is = ap status_of (sym (same_Some (lasts.Rule rule path) line is))
+refused_known (Reads script) line is = absurd (none-some line is)
+
+refusal_known : (r : Reading) (text : List ℕ) (status : ℕ) → IsRefusal r text status → IsKnown status
+refusal_known r text status is = (2, omega arith, sym (is.due ∙ refused_known r is.last is.line))
+
+answer_known : (r : Reading) (text : List ℕ) (status : ℕ) → IsAnswerFor r text status → IsKnown status
+answer_known TooLong text status is = refusal_known TooLong text status is
+answer_known NotJson text status is = refusal_known NotJson text status is
+answer_known (Wrong rule path) text status is = refusal_known (Wrong rule path) text status is
+answer_known (Reads script) text status is =
+    subst IsKnown (sym is.due)
+    (run_known (status_of is.last) (memory_lasts script Sim is.ages is.stop is.last is.run is.line))
+
+pub due_known : (words : List (String Global)) (old new : Option (List ℕ)) (failed fails : ℕ) (text : List ℕ)
+    (status : ℕ) → IsAnswer words old new failed fails text status → IsKnown status
+due_known words old new failed fails text status answer = elim answer [
+  | usage some kept said due ↦ (1, omega arith, sym due)
+  | no_source none rose said due ↦ (3, omega arith, sym due)
+  | read none bytes was is ↦ answer_known (reading_of bytes) text status is
+]

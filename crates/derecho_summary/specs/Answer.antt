@@ -1,0 +1,75 @@
+-- What a call comes to.
+use Rattle.std.specs.Prelude.{◌≡◌, ◌≢◌, ◌⊎◌, ℕ, List, [], Option, Some, String, codes}
+use Rattle.std.specs.declared.alloc.Global.{Global}
+use Rattle.dr_ages.specs.declared.mode.Mode.TheVariants.{Sim}
+use Rattle.dr_ages.specs.declared.stop.Stop.{Stop}
+use Rattle.dr_entry.specs.declared.end.AgeEnd.{AgeEnd}
+use Rattle.dr_intake.specs.Reading.{WasRead, refusal_in}
+use Rattle.dr_intake.specs.Status.{WroteText, status_of}
+use Rattle.dr_io.specs.Faults.{Rose}
+use Rattle.dr_io.specs.Sink.{Gains}
+use Rattle.dr_io.specs.Source.{Loses}
+use Rattle.dr_outcome.specs.Last.{last_of}
+use Rattle.dr_outcome.specs.Outcome.{IsRunInMemory}
+use Rattle.dr_script.specs.declared.script.Script.{Script}
+use Rattle.dr_script.specs.Reading.{Reading, TooLong, NotJson, Wrong, Reads, reading_of}
+use Rattle.dr_text.specs.declared.last.Last.{Last}
+use Rattle.dr_text.specs.declared.last.Last.TheVariants as lasts
+use Rattle.dr_text.specs.Report.{last_text}
+use Rattle.derecho_summary.specs.Summary.{summary_text}
+
+-- the text is the summary of a simulated run of the script over empty disks, and the status is that of its
+-- last line
+pub record IsRunAnswer (script : Script) (text : List ℕ) (status : ℕ) : Type 0 where
+  pub ages : List AgeEnd
+  pub stop : Option Stop
+  pub run : IsRunInMemory script Sim ages stop
+  pub last : Last
+  pub line : last_of ages stop ≡ Some last
+  pub summary : text ≡ summary_text script ages last
+  pub due : status ≡ status_of last
+
+-- the text is the last line by which what was read is refused, and the status is that of this line
+pub record IsRefusal (reading : Reading) (text : List ℕ) (status : ℕ) : Type 0 where
+  pub last : Last
+  pub line : refusal_in reading ≡ Some last
+  pub refused : text ≡ last_text last
+  pub due : status ≡ status_of last
+
+-- what is said of what was read, and the status
+abbrev pub IsAnswerFor : Reading → List ℕ → ℕ → Type 0
+IsAnswerFor (Reads script) text status = IsRunAnswer script text status
+IsAnswerFor refused text status = IsRefusal refused text status
+
+-- how it is called
+abbrev pub usage_text : List ℕ
+usage_text = codes "usage: derecho_summary < SCRIPT\n"
+
+-- What a call has to say, and the status that is due, by its words and by what its source had left and then
+-- has.
+pub data IsAnswer (words : List (String Global)) (old new : Option (List ℕ)) (failed fails : ℕ)
+    (text : List ℕ) (status : ℕ) : Type 0 where
+  -- there are words, and it takes none
+  usage : words ≢ [] → Loses old new [] → text ≡ usage_text → status ≡ 2
+      → IsAnswer words old new failed fails text status
+  -- the source failed
+  no_source : words ≡ [] → Rose failed fails → text ≡ last_text lasts.SourceFault → status ≡ 4
+      → IsAnswer words old new failed fails text status
+  -- it was read, and what was read decides
+  read : words ≡ [] → (bytes : List ℕ) → WasRead old new bytes → IsAnswerFor (reading_of bytes) text status
+      → IsAnswer words old new failed fails text status
+
+-- an answer was written
+pub record ToldAnswer (words : List (String Global)) (old new : Option (List ℕ)) (failed fails : ℕ)
+    (held holds : Option (List ℕ)) (fell falls status : ℕ) : Type 0 where
+  pub text : List ℕ
+  pub due : ℕ
+  pub answer : IsAnswer words old new failed fails text due
+  pub wrote : WroteText held holds fell falls status due text
+
+-- memory was wanting and nothing was written, or an answer was
+abbrev pub Told : List (String Global) → Option (List ℕ) → Option (List ℕ) → ℕ → ℕ → Option (List ℕ)
+    → Option (List ℕ) → ℕ → ℕ → ℕ → Type 0
+Told words old new failed fails held holds fell falls status =
+    ((status ≡ 10) × Gains held holds [])
+    ⊎ ToldAnswer words old new failed fails held holds fell falls status

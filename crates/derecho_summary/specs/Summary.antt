@@ -1,0 +1,63 @@
+-- The text of a summary.
+use Rattle.std.specs.Prelude.{ℕ, ◌==◌, ◌&&◌, if◌then◌else◌, Bool, true, false, List, [], ◌∷◌, ◌++◌, All, length, map, fold, max, codes}
+use Rattle.std.specs.Fmt.{decimal}
+use Rattle.std.specs.List.{concat, enumerate_from, flat_map, list_any}
+use Rattle.dr_enough.specs.Enough.{turns_enough}
+use Rattle.dr_entry.specs.declared.end.AgeEnd.{AgeEnd}
+use Rattle.dr_entry.specs.declared.end.End.{End}
+use Rattle.dr_entry.specs.declared.end.End.TheVariants.{Spent}
+use Rattle.dr_entry.specs.declared.end.MemberEnd.{MemberEnd}
+use Rattle.dr_history.specs.declared.opening.Opening.{Opening}
+use Rattle.dr_script.specs.declared.script.Schedule.{Schedule}
+use Rattle.dr_script.specs.declared.script.Schedule.TheVariants.{Lockstep, Seed}
+use Rattle.dr_script.specs.declared.script.Script.{Script}
+use Rattle.dr_summary.specs.Summary.{HaveAgreed, age_text}
+use Rattle.dr_text.specs.declared.last.Last.{Last}
+use Rattle.dr_text.specs.Report.{last_text}
+
+-- the members of each age agree
+abbrev pub AreAgreed : List AgeEnd → Type 0
+AreAgreed ages = All (λ (age : AgeEnd). (o : Opening) × HaveAgreed o age.members) ages
+
+-- the summaries of ages, the first of which is number 0 of the run
+abbrev pub ages_text : Script → List AgeEnd → List ℕ
+ages_text script ages = flat_map (λ t. age_text script t.0 t.1) (enumerate_from 0 ages)
+
+-- whether some member of some age has spent its turns
+abbrev pub is_spent : End → Bool
+is_spent (Spent turns) = true
+is_spent end = false
+
+abbrev pub some_spent : List AgeEnd → Bool
+some_spent ages = list_any (λ (age : AgeEnd). list_any (λ (m : MemberEnd). is_spent m.end) age.members) ages
+
+-- the most turns that a member of an age has taken, and of any age
+unfoldable pub turns_in : AgeEnd → ℕ
+turns_in age = fold max 0 (map (λ (m : MemberEnd). m.turns) age.members)
+
+abbrev pub most_turns : List AgeEnd → ℕ
+most_turns ages = fold max 0 (map turns_in ages)
+
+-- whether a script is in lockstep without faults
+abbrev pub is_lockstep : Schedule → Bool
+is_lockstep Lockstep = true
+is_lockstep (Seed seed) = false
+
+abbrev pub is_calm : Script → Bool
+is_calm script = (length script.faults == 0) && is_lockstep script.schedule
+
+-- how many turns would have been enough: where nobody has spent its own, the most that a member took; else
+-- the number that is enough in lockstep without faults, where the script is so
+abbrev pub turns_text : Script → List AgeEnd → List ℕ
+turns_text script ages =
+    if some_spent ages then
+    (if is_calm script then
+    concat
+    (decimal (turns_enough script) ∷ codes " turns are enough in lockstep without faults\n" ∷ [])
+    else [])
+    else concat (decimal (most_turns ages) ∷ codes " turns would have been enough\n" ∷ [])
+
+-- the summary of a run of a script, with its ages and its last line
+abbrev pub summary_text : Script → List AgeEnd → Last → List ℕ
+summary_text script ages last =
+    concat (ages_text script ages ∷ turns_text script ages ∷ last_text last ∷ [])

@@ -1,0 +1,23 @@
+//! Runs a script as `derecho sim` does, and prints for each age one history with the members as columns, and
+//! what nobody delivered, which faults never came, how the members ended, and how many turns were enough.
+#![tactic(auto)]
+
+mod ages;
+mod text;
+mod top;
+mod turns;
+
+use dr_intake::{OUT_OF_MEMORY, words_of};
+use dr_io::{InputSource, OutputSink};
+use std::process::ExitCode;
+pub use top::summarize;
+
+fn main(rt: HostRuntime) -> ExitCode {
+    let alloc = rt.alloc();
+    let Ok(words) = words_of(&rt, alloc) else {
+        return ExitCode::from(OUT_OF_MEMORY);
+    };
+    let mut source = InputSource::new(rt.stdin());
+    let mut sink = OutputSink::new(rt.stdout());
+    ExitCode::from(summarize(&rt, alloc, &words, &mut source, &mut sink))
+}

@@ -1,0 +1,28 @@
+ghost use Rattle.std.specs.Prelude.{◌≡◌, IfOk, string_bytes};
+ghost use Rattle.dr_script.specs.Ranges.{HasRanges};
+ghost use Rattle.derecho_summary.specs.Summary.{AreAgreed, summary_text};
+
+use crate::ages::push_ages;
+use crate::turns::push_turns;
+use dr_entry::AgeEnd;
+use dr_script::Script;
+use dr_text::{Last, push_last};
+use std::alloc::{AllocError, Global};
+
+/// The summary of a run of a script: these are its ages, each of whose members agree, and its last line.
+pub(crate) fn summary_of(
+    alloc: Global,
+    script: &Script,
+    ages: &[AgeEnd],
+    last: &Last,
+) -> Result<String, AllocError>
+    requires ranges { HasRanges script.now }
+    requires agreed { AreAgreed ages.now }
+    ensures { IfOk result (λ text. string_bytes text ≡ summary_text script.now ages.now last.now) }
+{
+    let mut text = String::new(alloc);
+    push_ages(alloc, &mut text, script, ages)?;
+    push_turns(&mut text, script, ages)?;
+    push_last(&mut text, last)?;
+    Ok(text)
+}

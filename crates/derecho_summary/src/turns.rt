@@ -1,0 +1,80 @@
+ghost use Rattle.std.specs.Prelude.{◌≡◌, ◌++◌, OnOk, string_bytes};
+ghost use Rattle.std.specs.List.{list_any};
+ghost use Rattle.dr_entry.specs.declared.end.MemberEnd.{MemberEnd as MemberEndOf};
+ghost use Rattle.dr_script.specs.Ranges.{HasRanges};
+ghost use Rattle.derecho_summary.specs.Summary.{is_calm, is_spent, most_turns, some_spent, turns_in, turns_text};
+
+use dr_enough::turns_enough;
+use dr_entry::{AgeEnd, End, MemberEnd};
+use dr_script::{Schedule, Script};
+use std::alloc::AllocError;
+use std::fmt::Write;
+
+/// Appends how many turns would have been enough, as far as that is known.
+pub(crate) fn push_turns(
+    out: &mut String,
+    script: &Script,
+    ages: &[AgeEnd],
+) -> Result<(), AllocError>
+    requires { HasRanges script.now }
+    ensures { OnOk result (string_bytes out.new ≡ string_bytes out.old ++ turns_text script.now ages.now) }
+{
+    if !some_spent(ages) {
+        let turns = most_turns(ages);
+        return writeln!(out, "{turns} turns would have been enough");
+    }
+    if is_calm(script) {
+        let turns = turns_enough(script);
+        return writeln!(out, "{turns} turns are enough in lockstep without faults");
+    }
+    Ok(())
+}
+
+/// Whether some member has spent its turns.
+fn some_spent(ages: &[AgeEnd]) -> bool
+    ensures { result ≡ some_spent ages.now }
+{
+    ages.iter().any(|age| has_spent(age.members.as_slice()))
+}
+
+fn has_spent(members: &[MemberEnd]) -> bool
+    ensures { result ≡ list_any (λ (m : MemberEndOf). is_spent m.end) members.now }
+{
+    members.iter().any(|member| is_spent(member.end))
+}
+
+fn is_spent(end: End) -> bool
+    ensures { result ≡ is_spent end }
+{
+    matches!(end, End::Spent { .. })
+}
+
+/// Whether a script is in lockstep without faults.
+fn is_calm(script: &Script) -> bool
+    ensures { result ≡ is_calm script.now }
+{
+    script.faults.as_slice().is_empty() && matches!(script.schedule, Schedule::Lockstep)
+}
+
+/// The most turns that a member of any age has taken.
+fn most_turns(ages: &[AgeEnd]) -> u32
+    ensures { result ≡ most_turns ages.now }
+{
+    let mut most = 0;
+    for age in ages {
+        most = most.max(turns_in(age));
+    }
+    most
+}
+
+/// The most turns that a member of an age has taken.
+#[tactic(auto, unfolding(crate::specs::Summary::turns_in))]
+fn turns_in(age: &AgeEnd) -> u32
+    ensures { result ≡ turns_in age.now }
+{
+    age.members
+        .as_slice()
+        .iter()
+        .map(|member| member.turns)
+        .fold(0, |most, turns| most.max(turns))
+}
