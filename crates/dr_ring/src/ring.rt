@@ -65,9 +65,9 @@ pub fn put(rows: &mut Rows, shape: &Shape, members: Mask, k: u32, item: &Item)
         Item::Text(message) => {
             let bytes = message.bytes();
             rows.set_own(shape.head_column(slot), pack_ring(k, bytes.len() as u32));
+            let body = shape.body_column(slot, 0);
             for part in 0..bytes.len().div_ceil(4) {
-                let piece = piece_of(bytes, part);
-                rows.set_own(shape.body_column(slot, part as u8), pack_ring(k, piece));
+                rows.set_own(body + part, pack_ring(k, piece_of(bytes, part)));
             }
         }
     }

@@ -1,4 +1,4 @@
-use Rattle.std.proofs.Common.{◌≡◌, ◌∷◌, ℕ, List, length, map, ap, sym, subst, ◌∙◌, rules, arith}
+use Rattle.std.proofs.Common.{◌≡◌, ◌+◌, ◌∷◌, ℕ, List, length, map, ap, sym, subst, ◌∙◌, rules, arith}
 use Rattle.std.specs.List.{range_with_len}
 use Rattle.std.specs.Int.{div_ceil}
 use Rattle.dr_entry.specs.declared.entry.Item.{Item}
@@ -60,11 +60,11 @@ set_own-requires-in-loop-part-clause-grown c =
     c.head_column-in-Text.result c.pack_ring-in-Text.result (search rules)
     (search rules) c.set_own-in-Text.ensures.after c.set_own-in-Text.ensures.form in
     body_rises c.args.shape.now.window c.args.rows.now c.loop-part.rows c.args.k c.args.shape.now.members
-    c.slot_at-slot.result c.body_column.result c.pack_ring-in-loop-part.result c.loop-part.part
+    c.slot_at-slot.result (c.body_column-body.result + c.loop-part.part) c.pack_ring-in-loop-part.result c.loop-part.part
     c.bytes-bytes.result.now
     room (omega (arith, ap length c.bytes-bytes.ensures.same)) c.requires.earlier
-    c.loop-part.invariant.after c.requires.shape.members c.slot_at-slot.ensures.value (search rules)
-    (search rules)
+    c.loop-part.invariant.after c.requires.shape.members c.slot_at-slot.ensures.value
+    (omega (arith, c.body_column-body.ensures.value)) (search rules)
 
 pub loop-part-preserved : goal.loop-part-preserved
 loop-part-preserved c =
@@ -74,10 +74,10 @@ loop-part-preserved c =
     record {
       after = body_set c.args.shape.now.window c.args.rows.now c.loop-part.rows
           c.set_own-in-loop-part.new.self c.args.k c.args.shape.now.members c.slot_at-slot.result
-          c.body_column.result c.pack_ring-in-loop-part.result c.loop-part.part c.bytes-bytes.result.now
+          (c.body_column-body.result + c.loop-part.part) c.pack_ring-in-loop-part.result c.loop-part.part c.bytes-bytes.result.now
           room (omega (arith, ap length c.bytes-bytes.ensures.same)) c.loop-part.invariant.after
           c.set_own-in-loop-part.ensures.after c.requires.shape.members c.slot_at-slot.ensures.value
-          (search rules) (search rules);
+          (omega (arith, c.body_column-body.ensures.value)) (search rules);
       form = c.set_own-in-loop-part.ensures.form;
       bytes = c.loop-part.invariant.bytes;
     }
