@@ -3,6 +3,8 @@
 
 mod last;
 mod running;
+mod watching;
 
 pub use last::{Kind, last_of};
 pub use running::{Outcome, run_in_memory, run_script, without_ages};
+pub use watching::watch_in_memory;

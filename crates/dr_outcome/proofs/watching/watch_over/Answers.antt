@@ -1,0 +1,14 @@
+use Rattle.std.proofs.Common.{◌≤◌, All, length, subst, sym}
+use Rattle.dr_ages.specs.declared.mode.Mode.TheVariants.{Sim}
+use Rattle.dr_entry.specs.declared.end.AgeEnd.{AgeEnd}
+use Rattle.dr_entry.specs.declared.limits.TheConstants.{MAX_MEMBERS}
+use Rattle.dr_yard.specs.Yards.{state_by}
+use Rattle.dr_outcome.proofs.Runs.{few_members}
+use Rattle.dr_outcome.proofs.watching.watch_over.Goals as goal
+
+pub last_of-last-requires : goal.last_of-last-requires
+last_of-last-requires g c =
+    subst (All (λ (age : AgeEnd). length age.members ≤ MAX_MEMBERS)) (sym c.as_slice.ensures)
+    (few_members c.args.script.now Sim 0 (state_by g.Y.Yard.told g.Y.Yard.faults c.args.yard.now)
+    c.watch_ages-ages.ensures.run.last c.watch_ages-ages.result.ages c.requires.ranges.group.most_members
+    c.watch_ages-ages.ensures.run.course)
