@@ -1,0 +1,213 @@
+-- What is told of a run, by what its watcher was told.
+use Rattle.std.proofs.Common.{◌≡◌, ◌∙◌, ℕ, ◌+◌, List, [], ◌∷◌, ◌++◌, Option, Some, None, length, slice_get, refl, sym, ap, subst, append-nil, ◌⊎◌, inl, inr}
+use Rattle.std.proofs.lemmas.Option.{none-some}
+use Rattle.dr_ages.specs.declared.mode.Mode.TheVariants.{Sim}
+use Rattle.dr_ages.specs.Ages.{start_of}
+use Rattle.dr_ages.specs.Watched.{AreWatched}
+use Rattle.dr_entry.specs.declared.end.AgeEnd.{AgeEnd}
+use Rattle.dr_program.specs.Program.{Move, Program, step_of}
+use Rattle.dr_program.specs.Running.{Running}
+use Rattle.dr_restart.specs.declared.start.Start.{Start}
+use Rattle.dr_script.specs.declared.script.Script.{Script}
+use Rattle.dr_seeing.specs.Lines.{age_line, line_of}
+use Rattle.dr_seeing.specs.Output.{HasTold, Tells, TellsSome, Written}
+use Rattle.dr_seeing.proofs.Outputs.{tells_both}
+use Rattle.dr_sim.specs.Watched.{WasTold}
+use Rattle.dr_ages.specs.declared.stop.Stop.{Stop}
+use Rattle.dr_intake.specs.Reading.{refusal_in}
+use Rattle.dr_outcome.specs.Last.{last_of}
+use Rattle.dr_outcome.specs.Outcome.{IsRunInMemory}
+use Rattle.dr_script.specs.Reading.{Reading, NotJson, Reads, TooLong, Wrong}
+use Rattle.dr_text.specs.declared.last.Last.{Last}
+use Rattle.derecho_trace.specs.declared.words.Form.{Form}
+use Rattle.derecho_trace.specs.declared.words.Form.TheVariants.{Chart, Lines}
+use Rattle.derecho_trace.specs.Trace.{AreLines, IsToldOf, IsTraced, IsTracedFor, Wrote, WroteOne, deed_line, end_line, end_status, moves_text}
+
+-- what `Lines` does as it is told of an age, of a deed and of the end
+abbrev pub Opens : Written → Start → Written → Type 0
+Opens old start new = Tells (age_line start.age (length start.entries)) old new
+
+abbrev pub Sees : Written → Running → List ℕ → Written → Type 0
+Sees old member table new = Tells (line_of member table) old new
+
+abbrev pub Closes : Written → List Running → List ℕ → Written → Type 0
+Closes old members table new = Tells [] old new
+
+-- nothing more is told where nothing changes
+tells_same : (old new : Written) → old ≡ new → Tells [] old new
+tells_same old new same = λ held fell before told.
+    subst (λ (l : List ℕ). HasTold held fell l new) (sym (append-nil before))
+    (subst (λ (w : Written). HasTold held fell before w) same told)
+
+-- the lines of all moves are told
+moves_told : (p : Program) (es : List Move) (old new : Written) → WasTold Sees p es old new
+    → Tells (moves_text p es) old new
+moves_told p [] old new same = tells_same old new same
+moves_told p (e ∷ es) old new was =
+    let line : deed_line p.table (slice_get p.members e.member) ≡ line_of was.0 p.table =
+    ap (deed_line p.table) was.2 in
+    tells_both (deed_line p.table (slice_get p.members e.member)) (moves_text (step_of p e) es) old was.1 new
+    (subst (λ (l : List ℕ). Tells l old was.1) (sym line) was.3)
+    (moves_told (step_of p e) es was.1 new was.4)
+
+-- these ages have lines, which are told
+pub record HaveLines (script : Script) (nth : ℕ) (ages : List AgeEnd) (old new : Written) : Type 0 where
+  pub text : List ℕ
+  pub lines : AreLines script nth ages text
+  pub tells : Tells text old new
+
+pub lines_told : (script : Script) (nth : ℕ) (ages : List AgeEnd) (old new : Written)
+    → AreWatched Opens Sees Closes Sim script nth ages old new → HaveLines script nth ages old new
+lines_told script nth [] old new same = record {
+  text = [];
+  lines = refl;
+  tells = tells_same old new (sym same);
+}
+lines_told script nth (age ∷ ages) old new was =
+    let next = was.0 in
+    let seen = was.1 in
+    let rest = lines_told script (nth + 1) ages next new was.2 in
+    let head = age_line age.age (length age.start) in
+    let moves = moves_text seen.is.begun seen.is.run.moves in
+    let told : Tells (head ++ moves) old seen.ended =
+    tells_both head moves old seen.opened seen.ended seen.opening
+    (moves_told seen.is.begun seen.is.run.moves seen.opened seen.ended seen.moves) in
+    let all : Tells (head ++ moves) old next =
+    subst (λ (l : List ℕ). Tells l old next) (append-nil (head ++ moves))
+    (tells_both (head ++ moves) [] old seen.ended next told seen.closing) in
+    record {
+      text = (head ++ moves) ++ rest.text;
+      lines = (seen.is, rest.text, rest.lines, refl);
+      tells = tells_both (head ++ moves) rest.text old next new all rest.tells;
+    }
+
+-- ---- what is told of a chart
+
+abbrev pub OpensSome : Written → Start → Written → Type 0
+OpensSome old start new = TellsSome old new
+
+abbrev pub SeesSome : Written → Running → List ℕ → Written → Type 0
+SeesSome old member table new = TellsSome old new
+
+abbrev pub ClosesSome : Written → List Running → List ℕ → Written → Type 0
+ClosesSome old members table new = TellsSome old new
+
+some_both : (old now new : Written) → TellsSome old now → TellsSome now new → TellsSome old new
+some_both old now new a b = (a.0 ++ b.0, tells_both a.0 b.0 old now new a.1 b.1)
+
+some_moves : (p : Program) (es : List Move) (old new : Written) → WasTold SeesSome p es old new
+    → TellsSome old new
+some_moves p [] old new same = ([], tells_same old new same)
+some_moves p (e ∷ es) old new was =
+    some_both old was.1 new was.3 (some_moves (step_of p e) es was.1 new was.4)
+
+pub some_told : (script : Script) (nth : ℕ) (ages : List AgeEnd) (old new : Written)
+    → AreWatched OpensSome SeesSome ClosesSome Sim script nth ages old new → TellsSome old new
+some_told script nth [] old new same = ([], tells_same old new (sym same))
+some_told script nth (age ∷ ages) old new was =
+    let seen = was.1 in
+    some_both old was.0 new
+    (some_both old seen.opened was.0 seen.opening
+    (some_both seen.opened seen.ended was.0
+    (some_moves seen.is.begun seen.is.run.moves seen.opened seen.ended seen.moves) seen.closing))
+    (some_told script (nth + 1) ages was.0 new was.2)
+
+-- ---- what was written of a run
+
+-- nothing was run as memory was wanting, or this is the run
+abbrev pub HasRun : Script → List AgeEnd → Option Stop → Option Last → Type 0
+HasRun script ages stop last =
+    ((ages ≡ []) × (stop ≡ None) × (last ≡ None))
+    ⊎ (IsRunInMemory script Sim ages stop × (last ≡ last_of ages stop))
+
+-- whatever is told, it is written with the last line behind it
+abbrev pub Writes : Option (List ℕ) → Option (List ℕ) → ℕ → ℕ → ℕ → Option Last → Written → Type 0
+Writes held holds fell falls status last now =
+    (text : List ℕ) → HasTold held fell text now
+    → Wrote held holds fell falls status (end_status last) (text ++ end_line last)
+
+wanting_wrote : (form : Form) (script : Script) (last : Option Last) (held holds : Option (List ℕ))
+    (fell falls status : ℕ) → last ≡ None
+    → Wrote held holds fell falls status (end_status last) ([] ++ end_line last)
+    → WroteOne (IsTraced form script) held holds fell falls status
+wanting_wrote form script last held holds fell falls status none wrote = record {
+  text = end_line last;
+  due = end_status last;
+  is = inl (ap end_line none, ap end_status none);
+  wrote = wrote;
+}
+
+run_wrote : (form : Form) (script : Script) (ages : List AgeEnd) (stop : Option Stop) (last : Option Last)
+    (held holds : Option (List ℕ)) (fell falls status : ℕ) (told : List ℕ)
+    → IsRunInMemory script Sim ages stop
+    → last ≡ last_of ages stop → IsToldOf form script ages told
+    → Wrote held holds fell falls status (end_status last) (told ++ end_line last)
+    → WroteOne (IsTraced form script) held holds fell falls status
+run_wrote form script ages stop last held holds fell falls status told run is tells wrote = record {
+  text = told ++ end_line last;
+  due = end_status last;
+  is = inr (record {
+    ages = ages;
+    stop = stop;
+    run = run;
+    told = told;
+    tells = tells;
+    whole = ap (λ (l : Option Last). told ++ end_line l) is;
+    status = ap end_status is;
+  });
+  wrote = wrote;
+}
+
+pub lines_wrote : (script : Script) (ages : List AgeEnd) (stop : Option Stop) (last : Option Last)
+    (held holds : Option (List ℕ)) (fell falls status : ℕ) (old new : Written) → HasRun script ages stop last
+    → AreWatched Opens Sees Closes Sim script 0 ages old new → HasTold held fell [] old
+    → Writes held holds fell falls status last new
+    → WroteOne (IsTraced Lines script) held holds fell falls status
+lines_wrote script ages stop last held holds fell falls status old new (inl none) watched told writes =
+    let same : new ≡ old =
+    subst (λ (l : List AgeEnd). AreWatched Opens Sees Closes Sim script 0 l old new) none.0 watched in
+    wanting_wrote Lines script last held holds fell falls status none.2
+    (writes [] (subst (λ (w : Written). HasTold held fell [] w) (sym same) told))
+lines_wrote script ages stop last held holds fell falls status old new (inr ran) watched told writes =
+    let lines = lines_told script 0 ages old new watched in
+    run_wrote Lines script ages stop last held holds fell falls status lines.text ran.0 ran.1 lines.lines
+    (writes lines.text (lines.tells held fell [] told))
+
+pub chart_wrote : (script : Script) (ages : List AgeEnd) (stop : Option Stop) (last : Option Last)
+    (held holds : Option (List ℕ)) (fell falls status : ℕ) (old new : Written) → HasRun script ages stop last
+    → AreWatched OpensSome SeesSome ClosesSome Sim script 0 ages old new → HasTold held fell [] old
+    → Writes held holds fell falls status last new
+    → WroteOne (IsTraced Chart script) held holds fell falls status
+chart_wrote script ages stop last held holds fell falls status old new (inl none) watched told writes =
+    let same : new ≡ old =
+    subst (λ (l : List AgeEnd). AreWatched OpensSome SeesSome ClosesSome Sim script 0 l old new) none.0
+    watched in
+    wanting_wrote Chart script last held holds fell falls status none.2
+    (writes [] (subst (λ (w : Written). HasTold held fell [] w) (sym same) told))
+chart_wrote script ages stop last held holds fell falls status old new (inr ran) watched told writes =
+    let some = some_told script 0 ages old new watched in
+    run_wrote Chart script ages stop last held holds fell falls status some.0 ran.0 ran.1 tt
+    (writes some.0 (some.1 held fell [] told))
+
+-- what was written of a text that is no script
+pub refused_wrote : (form : Form) (r : Reading) (line : Option Last) (held holds : Option (List ℕ))
+    (fell falls status : ℕ) → ((l : Last) → line ≡ Some l → refusal_in r ≡ Some l)
+    → Wrote held holds fell falls status (end_status line) ([] ++ end_line line)
+    → WroteOne (IsTracedFor form r) held holds fell falls status
+refused_wrote form r line held holds fell falls status refusal wrote = record {
+  text = end_line line;
+  due = end_status line;
+  is = by r line refusal;
+  wrote = wrote;
+}
+  where
+    by : (x : Reading) (o : Option Last) → ((l : Last) → o ≡ Some l → refusal_in x ≡ Some l)
+        → IsTracedFor form x (end_line o) (end_status o)
+    by TooLong None is = inl (refl, refl)
+    by NotJson None is = inl (refl, refl)
+    by (Wrong rule path) None is = inl (refl, refl)
+    by (Reads script) None is = inl (refl, refl)
+    by TooLong (Some l) is = inr (ap end_line (sym (is l refl)), ap end_status (sym (is l refl)))
+    by NotJson (Some l) is = inr (ap end_line (sym (is l refl)), ap end_status (sym (is l refl)))
+    by (Wrong rule path) (Some l) is = inr (ap end_line (sym (is l refl)), ap end_status (sym (is l refl)))
+    by (Reads script) (Some l) is = absurd (none-some l (is l refl))

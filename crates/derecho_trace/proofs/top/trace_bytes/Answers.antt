@@ -1,0 +1,21 @@
+use Rattle.std.proofs.Common.{Err, ap, sym, subst}
+use Rattle.dr_script.specs.Reading.{Reading, reading_of}
+use Rattle.derecho_trace.specs.Trace.{IsTracedFor, WroteOne}
+use Rattle.derecho_trace.proofs.Traces.{refused_wrote}
+use Rattle.derecho_trace.proofs.top.trace_bytes.Goals as goal
+
+pub returns-in-Ok : goal.returns-in-Ok
+returns-in-Ok g c = λ held fell told.
+    subst (λ (r : Reading). WroteOne (IsTracedFor c.args.form r) held (g.K.Sink.held
+    c.trace_script.result.sink)
+    fell (g.K.Sink.faults c.trace_script.result.sink) c.trace_script.result.status) (sym
+    c.in-Ok.ensures.script)
+    (c.trace_script.ensures held fell told)
+
+pub returns-in-Err : goal.returns-in-Err
+returns-in-Err g c = λ held fell told.
+    refused_wrote c.args.form (reading_of c.args.bytes.now) c.in-Err.line held (g.K.Sink.held
+    c.end.result.sink)
+    fell (g.K.Sink.faults c.end.result.sink) c.end.result.status (λ l is. c.in-Err.ensures.refusal l (ap
+    Err is))
+    (c.end.ensures.wrote held fell _ told)

@@ -1,0 +1,119 @@
+-- What is told of a run, and what a call comes to.
+use Rattle.std.specs.Prelude.{◌≡◌, ◌⊎◌, ⊤, ℕ, ◌+◌, List, [], ◌∷◌, ◌++◌, length, slice_get, codes, Option, None, Some, String}
+use Rattle.std.specs.Option.{option_map_or}
+use Rattle.std.specs.declared.alloc.Global.{Global}
+use Rattle.dr_ages.specs.declared.mode.Mode.TheVariants.{Sim}
+use Rattle.dr_ages.specs.declared.stop.Stop.{Stop}
+use Rattle.dr_ages.specs.Ages.{start_of}
+use Rattle.dr_entry.specs.declared.end.AgeEnd.{AgeEnd}
+use Rattle.dr_intake.specs.Reading.{WasRead, refusal_in}
+use Rattle.dr_intake.specs.Status.{WroteText, status_of}
+use Rattle.dr_io.specs.Faults.{Rose}
+use Rattle.dr_io.specs.Source.{Loses}
+use Rattle.dr_outcome.specs.Last.{last_of}
+use Rattle.dr_outcome.specs.Outcome.{IsRunInMemory}
+use Rattle.dr_program.specs.Program.{Move, Program, step_of}
+use Rattle.dr_program.specs.Running.{Running}
+use Rattle.dr_script.specs.declared.script.Script.{Script}
+use Rattle.dr_script.specs.Reading.{Reading, Reads, reading_of}
+use Rattle.dr_seeing.specs.Lines.{age_line, line_of}
+use Rattle.dr_sim.specs.Simulated.{IsSimulated}
+use Rattle.dr_text.specs.declared.last.Last.{Last}
+use Rattle.dr_text.specs.declared.last.Last.TheVariants as lasts
+use Rattle.dr_text.specs.Report.{last_text}
+use Rattle.dr_text.specs.Writing.{WroteFront}
+use Rattle.derecho_trace.specs.Words.{asked_by}
+use Rattle.derecho_trace.specs.declared.words.Form.{Form}
+use Rattle.derecho_trace.specs.declared.words.Form.TheVariants.{Chart, Lines}
+
+-- the line of the next deed of a member
+abbrev pub deed_line : List ℕ → Option Running → List ℕ
+deed_line table r = option_map_or (λ (now : Running). line_of now table) r []
+
+-- the lines of these moves of a program, in their order
+abbrev pub moves_text : Program → List Move → List ℕ
+moves_text p [] = []
+moves_text p (e ∷ es) = deed_line p.table (slice_get p.members e.member) ++ moves_text (step_of p e) es
+
+-- the lines of these ages, the first of which is number nth of the run: for each its own line, and those of
+-- the moves by which it ran
+abbrev pub AreLines : Script → ℕ → List AgeEnd → List ℕ → Type 0
+AreLines script nth [] text = text ≡ []
+AreLines script nth (age ∷ ages) text =
+    (is : IsSimulated script (start_of script age) nth age) × (rest : List ℕ)
+    × AreLines script (nth + 1) ages rest
+    × (text ≡ (age_line age.age (length age.start) ++ moves_text is.begun is.run.moves) ++ rest)
+
+-- what is told of these ages in a form: of a chart nothing is said
+abbrev pub IsToldOf : Form → Script → List AgeEnd → List ℕ → Type 0
+IsToldOf Lines script ages text = AreLines script 0 ages text
+IsToldOf Chart script ages text = ⊤
+
+-- behind what is told comes the last line, with its status; where memory was wanting there is none, with
+-- status 10
+abbrev pub end_line : Option Last → List ℕ
+end_line last = option_map_or last_text last []
+
+abbrev pub end_status : Option Last → ℕ
+end_status last = option_map_or status_of last 10
+
+-- nothing is told, as memory was wanting before anything was run
+abbrev pub IsWanting : List ℕ → ℕ → Type 0
+IsWanting text due = (text ≡ []) × (due ≡ 10)
+
+-- the text tells the run of a script, with this status
+pub record IsRunTraced (form : Form) (script : Script) (text : List ℕ) (due : ℕ) : Type 0 where
+  pub ages : List AgeEnd
+  pub stop : Option Stop
+  pub run : IsRunInMemory script Sim ages stop
+  pub told : List ℕ
+  pub tells : IsToldOf form script ages told
+  pub whole : text ≡ told ++ end_line (last_of ages stop)
+  pub status : due ≡ end_status (last_of ages stop)
+
+-- it does, or memory was wanting
+abbrev pub IsTraced : Form → Script → List ℕ → ℕ → Type 0
+IsTraced form script text due = IsWanting text due ⊎ IsRunTraced form script text due
+
+-- it tells what is to be told of what was read: the run of a script, or the line by which it is refused
+abbrev pub IsTracedFor : Form → Reading → List ℕ → ℕ → Type 0
+IsTracedFor form (Reads script) text due = IsTraced form script text due
+IsTracedFor form refused text due =
+    IsWanting text due ⊎ ((text ≡ end_line (refusal_in refused)) × (due ≡ end_status (refusal_in refused)))
+
+-- how the program is called
+abbrev pub usage_text : List ℕ
+usage_text = codes "usage: derecho_trace [lines] < SCRIPT\n"
+
+-- What a call is to write, and the status that is due, by its words and by what its source had left and then
+-- has.
+pub data IsAnswer (words : List (String Global)) (old new : Option (List ℕ)) (failed fails : ℕ)
+    (text : List ℕ) (due : ℕ) : Type 0 where
+  -- the words name no form
+  usage : asked_by words ≡ None → Loses old new [] → text ≡ usage_text → due ≡ 2
+      → IsAnswer words old new failed fails text due
+  -- the source failed
+  no_source : (form : Form) → asked_by words ≡ Some form → Rose failed fails
+      → text ≡ last_text lasts.SourceFault
+      → due ≡ 4 → IsAnswer words old new failed fails text due
+  -- memory was wanting as it was read
+  no_memory : (form : Form) → asked_by words ≡ Some form → IsWanting text due
+      → IsAnswer words old new failed fails text due
+  -- it was read, and what was read decides
+  read : (form : Form) → asked_by words ≡ Some form → (bytes : List ℕ) → WasRead old new bytes
+      → IsTracedFor form (reading_of bytes) text due → IsAnswer words old new failed fails text due
+
+-- the text was written, with the status that is due, or a front part of it, where the sink failed, with
+-- status 5, or memory was wanting, with status 10
+pub record Wrote (held holds : Option (List ℕ)) (fell falls status due : ℕ) (text : List ℕ) : Type 0 where
+  pub wrote : WroteText held holds fell falls status due text ⊎ ((status ≡ 10) × WroteFront held holds text)
+  -- no fault of the sink is hidden
+  pub told : (falls ≡ fell) ⊎ (status ≡ 5)
+
+-- a text of which this holds, with its status, was written
+pub record WroteOne (Is : List ℕ → ℕ → Type 0) (held holds : Option (List ℕ)) (fell falls status : ℕ) :
+    Type 0 where
+  pub text : List ℕ
+  pub due : ℕ
+  pub is : Is text due
+  pub wrote : Wrote held holds fell falls status due text

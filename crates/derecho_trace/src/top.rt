@@ -1,0 +1,194 @@
+ghost use Rattle.std.specs.Prelude.{◌≡◌, ◌⊎◌, ◌∷◌, ◌++◌, ℕ, List, Option, [], Contains};
+ghost use Rattle.dr_script.specs.Ranges.{HasRanges};
+ghost use Rattle.dr_script.specs.Reading.{reading_of};
+ghost use Rattle.dr_seeing.specs.Output.{HasTold};
+ghost use Rattle.derecho_trace.specs.Trace.{IsAnswer, IsTraced, IsTracedFor, Wrote, WroteOne, end_line, end_status, usage_text};
+
+use crate::chart::Drawing;
+use crate::lines::Lines;
+use crate::words::{Form, form_of};
+use dr_intake::{
+    OUT_OF_MEMORY, READ_FAULT, READ_LIMIT, ReadFault, USAGE, WRITE_FAULT, read_all,
+    script_or_refusal, status_of,
+};
+use dr_io::{Sink, Source};
+use dr_outcome::watch_in_memory;
+use dr_script::{Schedule, Script};
+use dr_seeing::{Chart, Output, Trouble};
+use dr_text::Last;
+use std::alloc::Global;
+use std::thread::Threads;
+
+/// How the program is called.
+const USAGE_TEXT: &str = "usage: derecho_trace [lines] < SCRIPT\n";
+
+/// How a call ended: its status, and the sink.
+#[derive(Drop)]
+pub struct Traced<K: Sink> {
+    pub status: u8,
+    pub sink: K,
+}
+
+/// Reads a script from the source, simulates its group as `derecho sim` does, without folders of logs, and
+/// tells the sink what happens, in order. The last line and the status are those of `derecho sim`.
+///
+/// Without words it is told as a chart; with the word `lines` as a line for each event. The text is written
+/// as the run goes on. Where memory is wanting, and where a call of the sink fails, a front part of it is
+/// written.
+pub fn trace<R: Threads + Sync, S: Source, K: Sink>(
+    rt: &R,
+    alloc: Global,
+    words: &[String],
+    source: &mut S,
+    sink: K,
+) -> Traced<K>
+    ensures told { WroteOne
+        (IsAnswer words.now (S.left source.old) (S.left source.new)
+        (S.faults source.old) (S.faults source.new))
+        (K.held sink) (K.held result.sink) (K.faults sink) (K.faults result.sink) result.status }
+    // No fault is hidden.
+    ensures read_fault_told { (S.faults source.new ≡ S.faults source.old)
+        ⊎ Contains (4 ∷ 10 ∷ 5 ∷ []) result.status }
+{
+    let output = Output::new(alloc, sink);
+    let Some(form) = form_of(words) else {
+        return usage(output);
+    };
+    match read_all(alloc, source, READ_LIMIT) {
+        Ok(bytes) => trace_bytes(rt, alloc, form, &bytes, output),
+        Err(ReadFault::Failed) => end(output, Some(Last::SourceFault)),
+        Err(ReadFault::OutOfMemory) => end(output, None),
+    }
+}
+
+/// Says how the program is called.
+fn usage<K: Sink>(output: Output<K>) -> Traced<K>
+    ensures { (held : Option (List ℕ)) (fell : ℕ) → HasTold held fell [] output
+        → Wrote held (K.held result.sink) fell (K.faults result.sink) result.status 2 usage_text }
+{
+    let mut output = output;
+    output.tell(USAGE_TEXT);
+    finish(output, USAGE)
+}
+
+/// Tells the run of what was read, where it is a script.
+fn trace_bytes<R: Threads + Sync, K: Sink>(
+    rt: &R,
+    alloc: Global,
+    form: Form,
+    bytes: &[u8],
+    output: Output<K>,
+) -> Traced<K>
+    ensures { (held : Option (List ℕ)) (fell : ℕ) → HasTold held fell [] output
+        → WroteOne (IsTracedFor form (reading_of bytes.now)) held (K.held result.sink)
+        fell (K.faults result.sink) result.status }
+{
+    match script_or_refusal(alloc, bytes) {
+        Ok(script) => trace_script(rt, alloc, form, &script, output),
+        Err(line) => end(output, line),
+    }
+}
+
+/// Tells the run of a script.
+fn trace_script<R: Threads + Sync, K: Sink>(
+    rt: &R,
+    alloc: Global,
+    form: Form,
+    script: &Script,
+    output: Output<K>,
+) -> Traced<K>
+    requires { HasRanges script.now }
+    ensures { (held : Option (List ℕ)) (fell : ℕ) → HasTold held fell [] output
+        → WroteOne (IsTraced form script.now) held (K.held result.sink)
+        fell (K.faults result.sink) result.status }
+{
+    match form {
+        Form::Lines => trace_lines(rt, alloc, script, Lines { output }),
+        Form::Chart => trace_chart(rt, alloc, script, output),
+    }
+}
+
+/// Tells the run of a script, a line for each event.
+fn trace_lines<R: Threads + Sync, K: Sink>(
+    rt: &R,
+    alloc: Global,
+    script: &Script,
+    lines: Lines<K>,
+) -> Traced<K>
+    requires { HasRanges script.now }
+    ensures { (held : Option (List ℕ)) (fell : ℕ) → HasTold held fell [] lines
+        → WroteOne (IsTraced Form.Lines script.now) held (K.held result.sink)
+        fell (K.faults result.sink) result.status }
+{
+    let mut lines = lines;
+    let outcome = watch_in_memory(rt, alloc, script, &mut lines);
+    end(lines.output, outcome.last)
+}
+
+/// Tells the run of a script as a chart.
+fn trace_chart<R: Threads + Sync, K: Sink>(
+    rt: &R,
+    alloc: Global,
+    script: &Script,
+    output: Output<K>,
+) -> Traced<K>
+    requires { HasRanges script.now }
+    ensures { (held : Option (List ℕ)) (fell : ℕ) → HasTold held fell [] output
+        → WroteOne (IsTraced Form.Chart script.now) held (K.held result.sink)
+        fell (K.faults result.sink) result.status }
+{
+    let whole_turns = matches!(script.schedule, Schedule::Lockstep);
+    match Chart::new(alloc, script.members, whole_turns) {
+        Ok(chart) => draw(rt, alloc, script, Drawing { output, chart }),
+        Err(_) => end(output, None),
+    }
+}
+
+/// Draws the run of a script.
+fn draw<R: Threads + Sync, K: Sink>(
+    rt: &R,
+    alloc: Global,
+    script: &Script,
+    drawing: Drawing<K>,
+) -> Traced<K>
+    requires { HasRanges script.now }
+    ensures { (held : Option (List ℕ)) (fell : ℕ) → HasTold held fell [] drawing
+        → WroteOne (IsTraced Form.Chart script.now) held (K.held result.sink)
+        fell (K.faults result.sink) result.status }
+{
+    let mut drawing = drawing;
+    let outcome = watch_in_memory(rt, alloc, script, &mut drawing);
+    end(drawing.output, outcome.last)
+}
+
+/// Tells the last line, and writes what waits. There is none where memory was wanting.
+fn end<K: Sink>(output: Output<K>, last: Option<Last>) -> Traced<K>
+    ensures wrote { (held : Option (List ℕ)) (fell : ℕ) (text : List ℕ) → HasTold held fell text output
+        → Wrote held (K.held result.sink) fell (K.faults result.sink) result.status
+        (end_status last) (text ++ end_line last) }
+    ensures status { Contains (end_status last ∷ 10 ∷ 5 ∷ []) result.status }
+{
+    let mut output = output;
+    match &last {
+        Some(line) => {
+            output.tell_last(line);
+            finish(output, status_of(line))
+        }
+        None => finish(output, OUT_OF_MEMORY),
+    }
+}
+
+/// Writes what waits, and answers this status, where nothing is in the way.
+fn finish<K: Sink>(output: Output<K>, due: u8) -> Traced<K>
+    ensures wrote { (held : Option (List ℕ)) (fell : ℕ) (text : List ℕ) → HasTold held fell text output
+        → Wrote held (K.held result.sink) fell (K.faults result.sink) result.status due text }
+    ensures status { Contains (due ∷ 10 ∷ 5 ∷ []) result.status }
+{
+    let (sink, trouble) = output.finish();
+    let status = match trouble {
+        None => due,
+        Some(Trouble::Sink) => WRITE_FAULT,
+        Some(Trouble::Memory) => OUT_OF_MEMORY,
+    };
+    Traced { status, sink }
+}

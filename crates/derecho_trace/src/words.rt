@@ -1,0 +1,22 @@
+ghost use Rattle.std.specs.Prelude.{◌≡◌, map, string_bytes};
+ghost use Rattle.derecho_trace.specs.Words.{form_of};
+
+/// In which form a run is told.
+#[derive(Clone, Copy, Debug, PartialEq, Eq)]
+pub(crate) enum Form {
+    /// A line for each event.
+    Lines,
+    /// A column for each member, and a row for each of its turns with news.
+    Chart,
+}
+
+/// The form that the words of a call ask for, where they are those of one.
+pub(crate) fn form_of(words: &[String]) -> Option<Form>
+    ensures { result ≡ form_of (map string_bytes words.now) }
+{
+    match words {
+        [] => Some(Form::Chart),
+        [word] if word.as_str() == "lines" => Some(Form::Lines),
+        _ => None,
+    }
+}
