@@ -57,8 +57,7 @@ fn watch_over<R: Threads + Sync, Y: Yard, W: Watcher>(
 {
     // A simulation never calls its pace.
     let pace = &SnoozePace;
-    let AgesEnd { ages, stop } =
-        watch_ages(rt, alloc, script, Mode::Sim, "", yard, pace, watcher);
+    let AgesEnd { ages, stop } = watch_ages(rt, alloc, script, Mode::Sim, "", yard, pace, watcher);
     let last = last_of(ages.as_slice(), stop);
     Outcome { ages, stop, last }
 }
