@@ -40,7 +40,7 @@ pub(crate) fn push_act(out: &mut String, replica: &Replica, act: Act) -> Result<
 }
 
 /// Appends a number behind a word.
-pub(crate) fn push_number(out: &mut String, word: &str, number: u64) -> Result<(), AllocError>
+fn push_number(out: &mut String, word: &str, number: u64) -> Result<(), AllocError>
     ensures { OnOk result (string_bytes out.new ≡ string_bytes out.old ++ with_number word.now number) }
 {
     write!(out, "{word}{number}")

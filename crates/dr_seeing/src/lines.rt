@@ -2,16 +2,13 @@
 ghost use Rattle.std.specs.Prelude.{◌≡◌, ◌<◌, ◌≤◌, ◌++◌, None, OnOk, length, string_bytes, true};
 ghost use Rattle.std.specs.Option.{option_map_or};
 ghost use Rattle.std.specs.Prelude.{[], codes};
-ghost use Rattle.dr_machine.specs.declared.step.Step.TheVariants as steps;
 ghost use Rattle.dr_member.specs.Deeds.{table_size};
 ghost use Rattle.dr_program.specs.Acts.{may};
 ghost use Rattle.dr_program.specs.Form.{IsRunningMember};
 ghost use Rattle.dr_program.specs.Replica.{me};
-ghost use Rattle.dr_program.specs.Running.{next_step};
-ghost use Rattle.dr_rows.specs.Words.{own};
 ghost use Rattle.dr_seeing.specs.Lines.{act_text, age_line, line_of, look_text, told, vote_text, with_number, word_text};
 
-use crate::acts::{push_act, push_number};
+use crate::acts::push_act;
 use crate::values::push_value;
 use dr_entry::Value;
 use dr_machine::{Act, Step};
