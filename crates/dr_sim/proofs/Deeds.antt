@@ -40,7 +40,8 @@ is_taken table r cells x none member words = record {
   table = words ∙ sym (ap (stores table r) none);
 }
 
-other_taken : (table : List ℕ) (r : Running) (cells : List ℕ) (x : Running) → r.replica.end ≡ None
+-- by a deed that is no append
+pub other_taken : (table : List ℕ) (r : Running) (cells : List ℕ) (x : Running) → r.replica.end ≡ None
     → is_append (next_step r) ≡ false → x ≡ after_step (next_sight table r) r
     → cells ≡ stored table r.replica (next_step r) → IsTaken table r cells x
 other_taken table r cells x none other member words =

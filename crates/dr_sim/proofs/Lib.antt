@@ -6,5 +6,6 @@ mod Logs
 mod Rooms
 mod Tellings
 mod Turns
+mod Sweeps
 mod Choices
 pub mod Courses

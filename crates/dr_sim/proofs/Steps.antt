@@ -8,6 +8,7 @@ use Rattle.dr_machine.specs.Group.{Group}
 use Rattle.dr_program.specs.Form.{IsRunningMember}
 use Rattle.dr_program.specs.Running.{Running}
 use Rattle.dr_program.specs.declared.outcome.LogWhy.{LogWhy}
+use Rattle.dr_program.specs.declared.outcome.Outcome.{Outcome}
 use Rattle.dr_program.specs.declared.outcome.Outcome.TheVariants.{Ok}
 use Rattle.dr_program.specs.Program.{Move, Program, step_of}
 use Rattle.dr_program.proofs.Holdings.{replica_set}
@@ -26,23 +27,23 @@ pub move_sound : (g : Group) (p : Program) (e : Move) → IsSound g p → IsSoun
 move_sound g p e is = let kept = move_kept g p e is.group is.form is.reached in
     record { group = is.group; form = kept.0; reached = kept.1 }
 
--- a member whose deeds left fall takes its step, and the others stay
-pub took : (g : Group) (p : Program) (m : ℕ) (r x : Running) (cells : List ℕ) → IsSound g p
+-- member m took its next deed, and the program stays sound
+pub record HasStepped (g : Group) (p : Program) (m : ℕ) (q : Program) : Type 0 where
+  pub outcome : Outcome
+  pub step : q ≡ step_of p (move m outcome)
+  pub well : (outcome ≡ Ok) ⊎ SomeFailed q
+  pub sound : IsSound g q
+
+-- a member takes its step, and the others stay
+pub stepped : (g : Group) (p : Program) (m : ℕ) (r x : Running) (cells : List ℕ) → IsSound g p
     → slice_get p.members m ≡ Some r → r.replica.end ≡ None
     → x ≡ member_after p.table (outcome_by x.failed) r → cells ≡ table_after p.table r
-    → deeds_left x < deeds_left r
-    → TookDeed g p m (record { members = slice_set p.members m x; table = cells })
-took g p m r x cells is there none member table falls = record {
+    → HasStepped g p m (record { members = slice_set p.members m x; table = cells })
+stepped g p m r x cells is there none member table = record {
   outcome = outcome_by x.failed;
   step = step;
   well = well x.failed refl;
   sound = subst (IsSound g) (sym step) (move_sound g p (move m (outcome_by x.failed)) is);
-  falls = omega (
-    arith,
-    sum_by-set deeds_left p.members m x r (slice_get_within p.members m r there),
-    ap deeds_left (get_or_from_slice_get p.members m r r there),
-    falls,
-  );
 }
   where
     step : record { members = slice_set p.members m x; table = cells }
@@ -60,6 +61,27 @@ took g p m r x cells is there none member table falls = record {
     well None at = inl refl
     well (Some why) at =
         inr (m, x, why, replica_set p.members m x (slice_get_within p.members m r there), at)
+
+-- and where its deeds left fall, those of all do
+pub took : (g : Group) (p : Program) (m : ℕ) (r x : Running) (cells : List ℕ) → IsSound g p
+    → slice_get p.members m ≡ Some r → r.replica.end ≡ None
+    → x ≡ member_after p.table (outcome_by x.failed) r → cells ≡ table_after p.table r
+    → deeds_left x < deeds_left r
+    → TookDeed g p m (record { members = slice_set p.members m x; table = cells })
+took g p m r x cells is there none member table falls =
+    let now = stepped g p m r x cells is there none member table in
+    record {
+      outcome = now.outcome;
+      step = now.step;
+      well = now.well;
+      sound = now.sound;
+      falls = omega (
+        arith,
+        sum_by-set deeds_left p.members m x r (slice_get_within p.members m r there),
+        ap deeds_left (get_or_from_slice_get p.members m r r there),
+        falls,
+      );
+    }
 
 -- in a sound program every member sees well
 pub sees_well : (g : Group) (p : Program) (m : ℕ) (r : Running) → IsSound g p → slice_get p.members m

@@ -168,7 +168,7 @@ turn_goes_on new m o begun p q r is step well amid there seen = record {
 
 -- ---- a turn of a member alone
 
-set_twice : {A : Type 0} (xs : List A) (i : ℕ) (a b : A) → slice_set (slice_set xs i a) i b
+pub set_twice : {A : Type 0} (xs : List A) (i : ℕ) (a b : A) → slice_set (slice_set xs i a) i b
     ≡ slice_set xs i b
 set_twice [] i a b = refl
 set_twice (x ∷ xs) zero a b = refl
@@ -222,7 +222,7 @@ way_takes g p m x y cells next is none member table falls =
     (took g (with_member p m x cells) m x y next is.sound is.there none member table falls)
 
 -- where it stands then is where it stands in the program
-stands : (p : Program) (m : ℕ) (y : Running) (next : List ℕ) (b : Bool) → m < length p.members
+pub stands : (p : Program) (m : ℕ) (y : Running) (next : List ℕ) (b : Bool) → m < length p.members
     → is_between_turns (Some y) ≡ b → is_between_turns (slice_get (with_member p m y next).members m)
     ≡ b
 stands p m y next b within at = ap is_between_turns (replica_set p.members m y within) ∙ at

@@ -1,5 +1,6 @@
 pub mod Deeds
 pub mod Sound
+pub mod Sweeps
 pub mod Inside
 pub mod Simulated
 pub mod Watched

@@ -7,6 +7,10 @@ use Rattle.dr_restart.specs.declared.start.Start.{Start}
 use Rattle.dr_script.specs.declared.script.Script.{Script}
 use Rattle.dr_sim.specs.Simulated.{IsSimulated}
 
+-- the watcher takes note of no deed: it stays as it is, whatever it is told of
+abbrev pub TakesNoNote : {W : Type 0} → (W → Running → List ℕ → W → Type 0) → W → Type 0
+TakesNoNote sees w = (r : Running) → (table : List ℕ) → sees w r table w
+
 -- the watcher was told of each of these moves from p on, one after the other and right before it was made: of
 -- the member that makes it, and of the words of the table
 abbrev pub WasTold : {W : Type 0} → (W → Running → List ℕ → W → Type 0) → Program → List Move → W → W → Type 0

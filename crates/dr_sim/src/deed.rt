@@ -9,8 +9,10 @@ ghost use Rattle.dr_turn.specs.Work.{deeds_left};
 ghost use Rattle.dr_sim.specs.Deeds.{SeesWell, member_after, outcome_by, table_after};
 ghost use Rattle.dr_logged.specs.Served.{AppendsWell, HasServed, IsReady};
 ghost use Rattle.dr_sim.specs.Sound.{IsAmong, IsSomewhere, TookTurn, with_member};
+ghost use Rattle.dr_sim.specs.Sweeps.{HasGoneOn};
 ghost use Rattle.dr_sim.specs.Watched.{WasTold};
 
+use crate::sweep::Alone;
 use crate::watcher::Watcher;
 use dr_disk::Disk;
 use dr_log::Log;
@@ -80,26 +82,53 @@ fn append<D: Disk>(member: &mut Member, log: &mut Log<D>)
     }
 }
 
+/// The member, which has not ended, takes its next deed, told to the watcher first. Where the watcher takes
+/// note of none, it takes with a look or a push those of the same kind behind it in the row.
+#[inline(always)]
+fn take_on<D: Disk, W: Watcher>(
+    member: &mut Member,
+    table: &mut Vec<u64>,
+    log: &mut Log<D>,
+    watcher: &mut W,
+)
+    requires somewhere { IsSomewhere member.old table.old.items }
+    requires going { is_some member.old.replica.end ≡ false }
+    requires ready { IsReady log.old member.old }
+    ensures goes { HasGoneOn W.sees watcher.old watcher.new table.old.items member.old
+        table.new.items member.new }
+    ensures falls { deeds_left member.new < deeds_left member.old }
+    ensures ready { IsReady log.new member.new }
+    ensures served { (base : LogState D) → HasServed D.told D.faults base log.old member.old
+        → HasServed D.told D.faults base log.new member.new }
+{
+    let noted = watcher.takes_note();
+    match member.next() {
+        Deed::Look(_) if !noted => member.look_row(table, &Alone, 0),
+        Deed::Push(_, _) if !noted => member.push_row(table, &Alone, 0),
+        _ => take(member, table.as_mut_slice(), log, watcher),
+    }
+}
+
 /// The member, which has not ended, takes a whole turn: its deeds up to the first after which it has
 /// ended or stands before a turn.
 pub fn take_turn<D: Disk, W: Watcher>(
     member: &mut Member,
-    table: &mut [u64],
+    table: &mut Vec<u64>,
     log: &mut Log<D>,
     watcher: &mut W,
 )
-    requires somewhere { IsSomewhere member.old table.old }
+    requires somewhere { IsSomewhere member.old table.old.items }
     requires going { is_some member.old.replica.end ≡ false }
     requires ready { IsReady log.old member.old }
-    ensures turn { (g : Group) → (p : Program) → (m : ℕ) → IsAmong g p m member.old table.old
-        → (took : TookTurn g p m (with_member p m member.new table.new))
+    ensures turn { (g : Group) → (p : Program) → (m : ℕ) → IsAmong g p m member.old table.old.items
+        → (took : TookTurn g p m (with_member p m member.new table.new.items))
         × WasTold W.sees p took.moves watcher.old watcher.new }
     ensures ready { IsReady log.new member.new }
     ensures served { (base : LogState D) → HasServed D.told D.faults base log.old member.old
         → HasServed D.told D.faults base log.new member.new }
 {
     loop {
-        take(member, table, log, watcher);
+        take_on(member, table, log, watcher);
         if member.is_between_turns() {
             return;
         }

@@ -17,7 +17,8 @@ use dr_log::Log;
 
 impl Simulation {
     /// Runs the members in lockstep to their ends: round after round, in each of which every member
-    /// that has not ended takes a whole turn, by their numbers. The watcher is told of each deed first.
+    /// that has not ended takes a whole turn, by their numbers. A watcher that takes note of deeds is told of
+    /// each first.
     #[inline(never)]
     pub fn run_lockstep<D: Disk, W: Watcher>(&mut self, logs: &mut [Log<D>], watcher: &mut W)
         ghost group: { Group }

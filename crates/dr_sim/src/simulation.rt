@@ -145,7 +145,7 @@ impl Simulation {
     }
 
     /// Member `m`, which has not ended, takes a whole turn, with its log: its deeds up to the first after
-    /// which it has ended or stands before a turn. The watcher is told of each first.
+    /// which it has ended or stands before a turn. A watcher that takes note of deeds is told of each first.
     pub fn take_turn<D: Disk, W: Watcher>(&mut self, m: usize, log: &mut Log<D>, watcher: &mut W)
         ghost group: { Group }
         requires sound { IsSound group self.old }
@@ -158,11 +158,6 @@ impl Simulation {
         ensures served { (base : LogState D) → AtMember self.old m (HasServed D.told D.faults base log.old)
             → AtMember self.new m (HasServed D.told D.faults base log.new) }
     {
-        take_turn(
-            &mut self.members[m],
-            self.table.as_mut_slice(),
-            log,
-            watcher,
-        );
+        take_turn(&mut self.members[m], &mut self.table, log, watcher);
     }
 }

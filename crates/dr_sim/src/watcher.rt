@@ -1,9 +1,10 @@
 //! Watchers of simulated ages.
-ghost use Rattle.std.specs.Prelude.{◌≡◌, ◌≤◌, ℕ, All, List, None, length};
+ghost use Rattle.std.specs.Prelude.{◌≡◌, ◌≤◌, ℕ, All, List, None, false, length};
 ghost use Rattle.dr_member.specs.Deeds.{table_size};
 ghost use Rattle.dr_program.specs.Form.{IsRunningMember};
 ghost use Rattle.dr_program.specs.Running.{Running};
 ghost use Rattle.dr_restart.specs.declared.start.Start.{Start};
+ghost use Rattle.dr_sim.specs.Watched.{TakesNoNote};
 
 use dr_member::Member;
 use dr_restart::Start;
@@ -23,6 +24,11 @@ pub trait Watcher {
     /// An age opens from this start.
     fn open(&mut self, start: &Start)
         ensures { opens self.old start.now self.new };
+
+    /// Whether it takes note of deeds. One that doesn't is not told of all of them, and so a run in lockstep
+    /// may take several at once.
+    fn takes_note(&self) -> bool
+        ensures { result ≡ false → TakesNoNote sees self.now };
 
     /// The member, which has not ended, is about to do its next deed, over these words of the table.
     fn see(&mut self, member: &Member, table: &[u64])
@@ -51,6 +57,11 @@ impl Watcher for Unwatched {
 
     #[inline(always)]
     fn open(&mut self, _start: &Start) {}
+
+    #[inline(always)]
+    fn takes_note(&self) -> bool {
+        false
+    }
 
     #[inline(always)]
     fn see(&mut self, _member: &Member, _table: &[u64]) {}

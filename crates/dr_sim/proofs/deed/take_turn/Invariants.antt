@@ -10,8 +10,8 @@ use Rattle.dr_sim.proofs.deed.take_turn.Given as goal
 
 abbrev pub invariant-loop : goal.invariant-loop
 invariant-loop g l = record {
-  way : (h : Group) (p : Program) (m : ℕ) → IsAmong h p m l.fn.member l.fn.table
-      → IsUnderWay g.W.Watcher.sees l.fn.watcher l.watcher h p m (with_member p m l.member l.table);
+  way : (h : Group) (p : Program) (m : ℕ) → IsAmong h p m l.fn.member l.fn.table.items
+      → IsUnderWay g.W.Watcher.sees l.fn.watcher l.watcher h p m (with_member p m l.member l.table.items);
   going : is_some l.member.replica.end ≡ false;
   ready : IsReady l.log l.member;
   served : (base : LogState g.row.D.Denot) → HasServed g.D.Disk.told g.D.Disk.faults base l.fn.log l.fn.member

@@ -1,7 +1,5 @@
-use Rattle.std.proofs.Common.{sym, ap, ◌∙◌, subst, ℕ, List}
+use Rattle.std.proofs.Common.{refl, sym, ap, ◌∙◌, subst, List}
 use Rattle.std.specs.Prelude.{slice_get, slice_set}
-use Rattle.std.specs.Vec.{with_items}
-use Rattle.std.proofs.lemmas.List.{with_items_is}
 use Rattle.dr_logged.specs.Served.{HasServed, IsReady}
 use Rattle.dr_program.specs.Program.{Program}
 use Rattle.dr_program.proofs.Holdings.{replica_kept}
@@ -14,43 +12,34 @@ use Rattle.dr_sim.proofs.simulation.Simulation.take_turn.Goals as goal
 pub take_turn-requires-clause-somewhere : goal.take_turn-requires-clause-somewhere
 take_turn-requires-clause-somewhere g c = λ ks within.
     let among = among_read g.group c.self.inside.members.items c.self.inside.table.items
-    c.as_mut_slice.result.now c.args.self.now c.args.m c.index_mut.result.now c.self.view_is
-    c.requires.1.1.1.0 c.requires.1.1.1.1.0 c.index_mut.ensures.value c.as_mut_slice.ensures.value in
+    c.self.inside.table.items c.args.self.now c.args.m c.index_mut.result.now c.self.view_is
+    c.requires.1.1.1.0 c.requires.1.1.1.1.0 c.index_mut.ensures.value refl in
     (g.group, c.args.self.now, c.args.m, among)
 
 pub take_turn-requires-clause-going : goal.take_turn-requires-clause-going
 take_turn-requires-clause-going g c = λ ks within.
     let among = among_read g.group c.self.inside.members.items c.self.inside.table.items
-    c.as_mut_slice.result.now c.args.self.now c.args.m c.index_mut.result.now c.self.view_is
-    c.requires.1.1.1.0 c.requires.1.1.1.1.0 c.index_mut.ensures.value c.as_mut_slice.ensures.value in
+    c.self.inside.table.items c.args.self.now c.args.m c.index_mut.result.now c.self.view_is
+    c.requires.1.1.1.0 c.requires.1.1.1.1.0 c.index_mut.ensures.value refl in
     sym (ap has_ended among.there) ∙ c.requires.1.1.1.1.0
 
 pub take_turn-requires-clause-ready : goal.take_turn-requires-clause-ready
 take_turn-requires-clause-ready g c = λ ks within.
     let among = among_read g.group c.self.inside.members.items c.self.inside.table.items
-    c.as_mut_slice.result.now c.args.self.now c.args.m c.index_mut.result.now c.self.view_is
-    c.requires.1.1.1.0 c.requires.1.1.1.1.0 c.index_mut.ensures.value c.as_mut_slice.ensures.value in
+    c.self.inside.table.items c.args.self.now c.args.m c.index_mut.result.now c.self.view_is
+    c.requires.1.1.1.0 c.requires.1.1.1.1.0 c.index_mut.ensures.value refl in
     c.requires.1.1.1.1.1 c.index_mut.result.now among.there
 
 pub returns-clause-took : goal.returns-clause-took
 returns-clause-took g c =
     let among = among_read g.group c.self.inside.members.items c.self.inside.table.items
-    c.as_mut_slice.result.now c.args.self.now c.args.m c.index_mut.result.now c.self.view_is
-    c.requires.1.1.1.0 c.requires.1.1.1.1.0 c.index_mut.ensures.value c.as_mut_slice.ensures.value in
-    let written = with_items_is c.self.inside.table c.take_turn.new.table
-    (c.take_turn.auto.table ∙ c.as_mut_slice.ensures.len) in
+    c.self.inside.table.items c.args.self.now c.args.m c.index_mut.result.now c.self.view_is
+    c.requires.1.1.1.0 c.requires.1.1.1.1.0 c.index_mut.ensures.value refl in
     subst (λ (rs : List Running). HasTurn g.W.Watcher.sees c.args.watcher.now c.take_turn.new.watcher g.group
     c.args.self.now c.args.m
-    (record {
-      members = slice_set rs c.args.m c.take_turn.new.member;
-      table = (with_items c.self.inside.table c.take_turn.new.table).items;
-    }))
+    (record { members = slice_set rs c.args.m c.take_turn.new.member; table = c.take_turn.new.table.items }))
     (sym (ap (λ (v : Program). v.members) c.self.view_is))
-    (subst (λ (t : List ℕ). HasTurn g.W.Watcher.sees c.args.watcher.now c.take_turn.new.watcher g.group
-    c.args.self.now c.args.m
-    (record { members = slice_set c.args.self.now.members c.args.m c.take_turn.new.member; table = t }))
-    (sym written)
-    (c.take_turn.ensures.turn g.group c.args.self.now c.args.m among))
+    (c.take_turn.ensures.turn g.group c.args.self.now c.args.m among)
 
 pub returns-clause-ready : goal.returns-clause-ready
 returns-clause-ready g c = λ r there.
@@ -61,8 +50,8 @@ returns-clause-ready g c = λ r there.
 pub returns-clause-served : goal.returns-clause-served
 returns-clause-served g c = λ base served r there.
     let among = among_read g.group c.self.inside.members.items c.self.inside.table.items
-    c.as_mut_slice.result.now c.args.self.now c.args.m c.index_mut.result.now c.self.view_is
-    c.requires.1.1.1.0 c.requires.1.1.1.1.0 c.index_mut.ensures.value c.as_mut_slice.ensures.value in
+    c.self.inside.table.items c.args.self.now c.args.m c.index_mut.result.now c.self.view_is
+    c.requires.1.1.1.0 c.requires.1.1.1.1.0 c.index_mut.ensures.value refl in
     at_set (HasServed g.D.Disk.told g.D.Disk.faults base c.take_turn.new.log) c.self.inside.members.items
     c.args.m c.take_turn.new.member r
     (going_there c.self.inside.members.items c.self.inside.table.items c.args.self.now c.args.m c.self.view_is

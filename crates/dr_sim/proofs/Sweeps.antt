@@ -1,0 +1,343 @@
+-- Sweeps: what comes of a program, and of a log, by looks and pushes of one member.
+use Rattle.std.proofs.Common.{◌≡◌, refl, sym, ap, ◌∙◌, subst, inl, inr, ℕ, zero, suc, ◌<◌, ◌≤◌, true, false, ◌||◌, List, length, slice_index, length-append, arith}
+use Rattle.std.specs.Prelude.{Option, None, Some, is_some, slice_get, slice_set}
+use Rattle.std.proofs.lemmas.List.Sums.{sum_by-set}
+use Rattle.std.proofs.lemmas.Option.{slice_get_within}
+use Rattle.dr_disk.specs.Disk.{Told}
+use Rattle.dr_entry.specs.declared.end.End.{End}
+use Rattle.dr_log.specs.State.{LogState}
+use Rattle.dr_logged.specs.Served.{HasServed, IsReady, is_append}
+use Rattle.dr_logged.proofs.Serving.{grows, other_ready, other_served, settled_same}
+use Rattle.dr_machine.specs.Group.{Group}
+use Rattle.dr_machine.specs.declared.step.Step.{Step}
+use Rattle.dr_machine.specs.declared.step.Step.TheVariants as steps
+use Rattle.dr_member.specs.Deeds.{is_look, is_push, table_size}
+use Rattle.dr_program.specs.declared.deed.Deed.TheVariants as deeds
+use Rattle.dr_program.specs.declared.place.Part.{Part}
+use Rattle.dr_program.specs.declared.place.Part.TheVariants as parts
+use Rattle.dr_program.specs.Program.{Move, Program, next_sight}
+use Rattle.dr_program.specs.Replica.{Replica}
+use Rattle.dr_program.specs.Reading.{step_of_member}
+use Rattle.dr_program.specs.Running.{Running, after_step, deed, deed_of, next_deed, next_step, step_at}
+use Rattle.dr_program.specs.Sight.{MaySee}
+use Rattle.dr_program.specs.Schedule.{IsTurn, is_between_turns}
+use Rattle.dr_program.specs.Steps.{stored}
+use Rattle.dr_program.specs.Turn.{is_beat, part_of}
+use Rattle.dr_program.proofs.Holdings.{replica_set}
+use Rattle.dr_turn.specs.Work.{deeds_left}
+use Rattle.dr_age.specs.Sound.{IsSound}
+use Rattle.dr_age.proofs.Deeds.{deed_tells}
+use Rattle.dr_sim.specs.Deeds.{SeesWell, member_after, outcome_by, table_after}
+use Rattle.dr_sim.specs.Simulated.{WentWell}
+use Rattle.dr_sim.specs.Sound.{IsAmong, IsSomewhere, all_left, with_member}
+use Rattle.dr_sim.specs.Sweeps.{HasCome, HasGoneOn, HasTaken, IsAtSweep}
+use Rattle.dr_sim.specs.Watched.{TakesNoNote, WasTold}
+use Rattle.dr_sim.proofs.Deeds.{IsTaken, look_seen, other_taken}
+use Rattle.dr_sim.proofs.Steps.{HasStepped, sees_well, stepped, whole_table}
+use Rattle.dr_sim.proofs.Turns.{HasTurn, IsInTurn, IsUnderWay, more_moves, set_twice, stands, turn_ends, turn_goes_on, way_ends, way_goes_on}
+
+-- ---- a member at a look or a push
+
+-- the step is a look or a push
+abbrev pub IsSwept : Step → Type 0
+IsSwept (steps.Look i c) = Unit {0}
+IsSwept (steps.Push j c) = Unit {0}
+IsSwept s = ⊥
+
+swept_other : (s : Step) → IsSwept s → is_append s ≡ false
+swept_other (steps.Look i c) swept = refl
+swept_other (steps.Push j c) swept = refl
+swept_other s swept = absurd swept
+
+-- it is no part between turns
+no_beat : (r : Running) (p : Part) (i c : ℕ) → IsSwept (step_at r p i c) → is_beat p ≡ false
+no_beat r (parts.Do a) i c swept = absurd swept
+no_beat r p i c swept = refl
+
+-- so it has not ended, appends nothing, and stands amid its turn
+pub record IsSweeping (r : Running) : Type 0 where
+  pub none : r.replica.end ≡ None
+  pub other : is_append (next_step r) ≡ false
+  pub amid : is_between_turns (Some r) ≡ false
+
+pub at_sweep : (r : Running) → IsAtSweep r → IsSweeping r
+at_sweep r due = by r.replica.end refl due
+  where
+    swept : (s : Step) → (is_look (deed_of r s) || is_push (deed_of r s)) ≡ true → IsSwept s
+    swept (steps.Look i c) due = tt
+    swept (steps.Push j c) due = tt
+    swept s due = absurd (cc)
+
+    by : (o : Option End) → r.replica.end ≡ o → (is_look (deed r o) || is_push (deed r o)) ≡ true
+        → IsSweeping r
+    by (Some end) e due = absurd (cc)
+    by None e due = record {
+      none = e;
+      other = swept_other (next_step r) (swept (next_step r) due);
+      amid = ap (λ o. is_some o || is_beat (part_of r.place)) e
+          ∙ no_beat r (part_of r.place) r.place.row r.place.column (swept (next_step r) due);
+    }
+
+-- what its next deed makes of it and of the table
+pub swept_taken : (words : List ℕ) (r : Running) → IsSweeping r
+    → IsTaken words r (stored words r.replica (next_step r)) (after_step (next_sight words r) r)
+swept_taken words r is = other_taken words r _ _ is.none is.other refl refl
+
+-- one deed more
+pub taken_more : (n : ℕ) (words : List ℕ) (r : Running) (cells : List ℕ) (q : Running) (next : List ℕ)
+    (x : Running) → HasTaken n words r cells q → IsAtSweep q → stored cells q.replica (next_step q) ≡ next
+    → after_step (next_sight cells q) q ≡ x → HasTaken (suc n) words r next x
+taken_more zero words r cells q next x (same, is) due to after = (
+  subst IsAtSweep (sym is) due,
+  (
+    (λ z. stored (same z) (is z).replica (next_step (is z))) ∙ to,
+    (λ z. after_step (next_sight (same z) (is z)) (is z)) ∙ after,
+  ),
+)
+taken_more (suc n) words r cells q next x (first, rest) due to after =
+    (first, taken_more n _ _ cells q next x rest due to after)
+
+-- ---- a member of some sound program
+
+-- it is one of a sound program after its next deed too
+pub somewhere_on : (r x : Running) (words cells : List ℕ) → IsSomewhere r words → r.replica.end ≡ None
+    → IsTaken words r cells x → IsSomewhere x cells
+somewhere_on r x words cells (g, p, m, is) none taken =
+    let now = stepped g p m r x cells is.sound is.there none
+    (subst (λ t. x ≡ member_after t (outcome_by x.failed) r) (sym is.table) taken.member)
+    (subst (λ t. cells ≡ table_after t r) (sym is.table) taken.table) in (
+      g,
+      record { members = slice_set p.members m x; table = cells },
+      m,
+      record {
+        sound = now.sound;
+        there = replica_set p.members m x (slice_get_within p.members m r is.there);
+        table = refl;
+      },
+    )
+
+-- so a member comes on by one deed more
+pub come_on : (words : List ℕ) (r : Running) (cells : List ℕ) (q : Running) (next : List ℕ) (x : Running)
+    → HasCome words r cells q → IsAtSweep q → stored cells q.replica (next_step q) ≡ next
+    → after_step (next_sight cells q) q ≡ x → HasCome words r next x
+come_on words r cells q next x come due to after =
+    let is = at_sweep q due in
+    let (n, taken) = come.taken in
+    record {
+      somewhere = somewhere_on q x cells next come.somewhere is.none
+          (subst (IsTaken cells q next) after
+          (subst (λ t. IsTaken cells q t (after_step (next_sight cells q) q)) to (swept_taken cells q is)));
+      taken = (suc n, taken_more n words r cells q next x taken due to after);
+    }
+
+-- ---- a turn
+
+-- the program in which the member has gone so far is sound
+pub record IsOnWay {W : Type 0} (sees : W → Running → List ℕ → W → Type 0) (old new : W) (g : Group)
+    (p : Program) (m : ℕ) (q : Program) : Type 0 where
+  pub sound : IsSound g q
+  pub turn : IsInTurn sees old new m p q
+
+-- the member has ended its turn
+pub record HasTurned {W : Type 0} (sees : W → Running → List ℕ → W → Type 0) (old new : W) (g : Group)
+    (p : Program) (m : ℕ) (q : Program) : Type 0 where
+  pub sound : IsSound g q
+  pub turn : (es : List Move) × IsTurn m p es q × WentWell es q × WasTold sees p es old new
+
+-- it has, or it is still amid it, as its place says
+pub record HasGone {W : Type 0} (sees : W → Running → List ℕ → W → Type 0) (old new : W) (g : Group)
+    (p : Program) (m : ℕ) (x : Running) (cells : List ℕ) : Type 0 where
+  pub amid : is_between_turns (Some x) ≡ false → IsOnWay sees old new g p m (with_member p m x cells)
+  pub whole : is_between_turns (Some x) ≡ true → HasTurned sees old new g p m (with_member p m x cells)
+
+-- where the watcher takes no note
+module _ {W : Type 0} (sees : W → Running → List ℕ → W → Type 0) (old now : W) (idle : TakesNoNote sees now)
+    (g : Group) (p : Program) (m : ℕ) (within : m < length p.members) where
+  -- its next deed there
+  steps_there : (x y : Running) (cells next : List ℕ) → IsOnWay sees old now g p m (with_member p m x cells)
+      → x.replica.end ≡ None → IsTaken cells x next y
+      → HasStepped g (with_member p m x cells) m (with_member p m y next)
+  steps_there x y cells next way none taken =
+      subst (λ rs. HasStepped g (with_member p m x cells) m (record { members = rs; table = next }))
+      (set_twice p.members m x y)
+      (stepped g (with_member p m x cells) m x y next way.sound (replica_set p.members m x within) none
+      taken.member taken.table)
+
+  gone_by : (x y : Running) (cells next : List ℕ) → IsOnWay sees old now g p m (with_member p m x cells)
+      → x.replica.end ≡ None → IsTaken cells x next y → HasGone sees old now g p m y next
+  gone_by x y cells next way none taken =
+      let step = steps_there x y cells next way none taken in
+      let there = replica_set p.members m x within in
+      record {
+        amid = λ amid. record {
+          sound = step.sound;
+          turn = turn_goes_on now m step.outcome p (with_member p m x cells) (with_member p m y next) x
+              way.turn step.step step.well (stands p m y next false within amid) there (idle x cells);
+        };
+        whole = λ whole. let turn = turn_ends now m step.outcome p (with_member p m x cells)
+            (with_member p m y next) x way.turn step.step step.well (stands p m y next true within whole)
+            there (idle x cells) in
+            record {
+              sound = step.sound;
+              turn = (more_moves m step.outcome p (with_member p m x cells) way.turn, turn.0, turn.1, turn.2);
+            };
+      }
+
+  -- where it has come by looks and pushes
+  gone_sweeping : (n : ℕ) (words : List ℕ) (r : Running) (cells : List ℕ) (q : Running)
+      → IsOnWay sees old now g p m (with_member p m r words) → is_between_turns (Some r) ≡ false
+      → HasTaken n words r cells q → HasGone sees old now g p m q cells
+  gone_sweeping zero words r cells q way amid (same, is) =
+      subst (λ x. HasGone sees old now g p m x cells) is (subst (HasGone sees old now g p m r) same (record {
+        amid = λ e. way;
+        whole = λ whole. absurd (cc);
+      }))
+  gone_sweeping (suc zero) words r cells q way amid (due, (same, is)) =
+      subst (λ x. HasGone sees old now g p m x cells) is
+      (subst (HasGone sees old now g p m (after_step (next_sight words r) r)) same
+      (gone_by r (after_step (next_sight words r) r) words (stored words r.replica (next_step r)) way
+      (at_sweep r due).none (swept_taken words r (at_sweep r due))))
+  gone_sweeping (suc (suc n)) words r cells q way amid (due, (then, rest)) =
+      let x = after_step (next_sight words r) r in
+      let next = stored words r.replica (next_step r) in
+      let gone = gone_by r x words next way (at_sweep r due).none (swept_taken words r (at_sweep r due)) in
+      gone_sweeping (suc n) next x cells q (gone.amid (at_sweep x then).amid) (at_sweep x then).amid
+      (then, rest)
+
+-- fewer deeds are left to all, where a member has fewer left
+left_falls : (p : Program) (m : ℕ) (r x y : Running) (cells next : List ℕ) → slice_get p.members m ≡ Some r
+    → deeds_left y < deeds_left x → all_left (with_member p m y next) < all_left (with_member p m x cells)
+left_falls p m r x y cells next there falls = omega (
+  arith,
+  sum_by-set deeds_left p.members m x r (slice_get_within p.members m r there),
+  sum_by-set deeds_left p.members m y r (slice_get_within p.members m r there),
+  falls,
+)
+
+-- a member that goes on within its turn is under way
+pub way_on : {W : Type 0} {sees : W → Running → List ℕ → W → Type 0} {old mid : W} (new : W) (g : Group)
+    (p : Program) (m : ℕ) (r x y : Running) (table cells next : List ℕ)
+    → IsAmong g p m r table → IsUnderWay sees old mid g p m (with_member p m x cells) → x.replica.end ≡ None
+    → HasGoneOn sees mid new cells x next y → deeds_left y < deeds_left x → is_between_turns (Some y) ≡ false
+    → IsUnderWay sees old new g p m (with_member p m y next)
+way_on new g p m r x y table cells next is way none (inl (member, stores, seen)) falls amid =
+    way_goes_on new g p m r x y table cells next is way none member stores falls amid seen
+way_on {W} {sees} {old} {mid} new g p m r x y table cells next is way none (inr (due, come, same, idle))
+    falls amid =
+    let (n, taken) = come.taken in
+    let on = (gone_sweeping sees old mid idle g p m (slice_get_within p.members m r is.there) n cells x next y
+    (record { sound = way.sound; turn = way.turn }) (at_sweep x due).amid taken).amid amid in
+    subst (λ w. IsUnderWay sees old w g p m (with_member p m y next)) same (record {
+      sound = on.sound;
+      turn = on.turn;
+      falls = omega (arith, left_falls p m r x y cells next is.there falls, way.falls);
+    })
+
+-- where it comes between turns, it has ended its turn
+pub way_over : {W : Type 0} {sees : W → Running → List ℕ → W → Type 0} {old mid : W} (new : W) (g : Group)
+    (p : Program) (m : ℕ) (r x y : Running) (table cells next : List ℕ)
+    → IsAmong g p m r table → IsUnderWay sees old mid g p m (with_member p m x cells) → x.replica.end ≡ None
+    → HasGoneOn sees mid new cells x next y → deeds_left y < deeds_left x → is_between_turns (Some y) ≡ true
+    → HasTurn sees old new g p m (with_member p m y next)
+way_over new g p m r x y table cells next is way none (inl (member, stores, seen)) falls whole =
+    way_ends new g p m r x y table cells next is way none member stores falls whole seen
+way_over {W} {sees} {old} {mid} new g p m r x y table cells next is way none (inr (due, come, same, idle))
+    falls whole =
+    let (n, taken) = come.taken in
+    let done = (gone_sweeping sees old mid idle g p m (slice_get_within p.members m r is.there) n cells x next
+    y (record { sound = way.sound; turn = way.turn }) (at_sweep x due).amid taken).whole whole in
+    let (es, turn, well, told) = done.turn in (
+      record {
+        moves = es;
+        turn = turn;
+        well = well;
+        sound = done.sound;
+        falls = omega (arith, left_falls p m r x y cells next is.there falls, way.falls);
+      },
+      subst (WasTold sees p es old) same told,
+    )
+
+-- ---- logs
+
+-- a log stays ready for its member
+swept_ready : {D : Type 0} (log : LogState D) (n : ℕ) (words : List ℕ) (r : Running) (cells : List ℕ)
+    (q : Running) → HasTaken n words r cells q → IsReady log r → IsReady log q
+swept_ready log zero words r cells q (same, is) ready = subst (IsReady log) is ready
+swept_ready log (suc n) words r cells q (due, rest) ready =
+    swept_ready log n _ _ cells q rest
+    (other_ready log (next_sight words r) r (at_sweep r due).other ready)
+
+-- no more is logged than there is, as before
+logged_on : (word : ℕ) (r : Running) → is_append (next_step r) ≡ false
+    → r.replica.logged ≤ length r.replica.history
+    → (after_step word r).replica.logged ≤ length (after_step word r).replica.history
+logged_on word r other within =
+    let g = grows word r.replica (next_step r) other in
+    subst (λ (x : Replica). x.logged ≤ length x.history)
+    (sym (ap (λ (x : Running). x.replica) (settled_same word r)))
+    (omega (arith, within, g.logged, ap length g.history, length-append r.replica.history g.more))
+
+-- and has served it
+swept_served : {D : Type 0} (told : D → Option Told) (faults : D → ℕ) (base log : LogState D) (n : ℕ)
+    (words : List ℕ) (r : Running) (cells : List ℕ) (q : Running) → HasTaken n words r cells q
+    → r.replica.logged ≤ length r.replica.history
+    → HasServed told faults base log r → HasServed told faults base log q
+swept_served told faults base log zero words r cells q (same, is) within served =
+    subst (HasServed told faults base log) is served
+swept_served told faults base log (suc n) words r cells q (due, rest) within served =
+    let other = (at_sweep r due).other in
+    swept_served told faults base log n _ _ cells q rest (logged_on (next_sight words r) r other within)
+    (other_served told faults base log (next_sight words r) r other within served)
+
+-- ---- what the table does for a sweep
+
+-- the table has the words that the member names
+pub index_within : (r : Running) (words : List ℕ) (index : ℕ) → IsSomewhere r words → index < table_size r
+    → index < length words
+index_within r words index (g, p, m, is) below =
+    subst (λ n. index < n) (whole_table g p m r is.sound is.there ∙ ap length is.table) below
+
+-- a member at a look may see the word that stands there
+pub look_sees : (r : Running) (words : List ℕ) (index word : ℕ) → IsSomewhere r words
+    → next_deed r ≡ deeds.Look index → word ≡ slice_index words index → MaySee r (step_of_member r) word
+look_sees r words index word (g, p, m, is) due found =
+    subst (MaySee r (step_of_member r)) (sym found) (look_seen words r index
+    (subst (λ t. SeesWell t r) is.table (sees_well g p m r is.sound is.there)) due)
+
+pub look_comes : (words : List ℕ) (r : Running) (cells : List ℕ) (q : Running) (index word : ℕ)
+    → HasCome words r cells q → next_deed q ≡ deeds.Look index → word ≡ slice_index cells index
+    → HasCome words r cells (after_step word q)
+look_comes words r cells q index word come due found =
+    let t = deed_tells cells q (deeds.Look index) due in
+    come_on words r cells q cells (after_step word q) come (ap (λ d. is_look d || is_push d) due)
+    (ap (stored cells q.replica) t.says.look) (ap (λ w. after_step w q) (t.says.sees ∙ sym found))
+
+pub push_comes : (words : List ℕ) (r : Running) (cells : List ℕ) (q : Running) (index word : ℕ)
+    (next : List ℕ) → HasCome words r cells q → next_deed q ≡ deeds.Push index word
+    → next ≡ slice_set cells index word → HasCome words r next (after_step 0 q)
+push_comes words r cells q index word next come due to =
+    let t = deed_tells cells q (deeds.Push index word) due in
+    come_on words r cells q next (after_step 0 q) come (ap (λ d. is_look d || is_push d) due)
+    (t.says.stores ∙ sym to) (ap (λ w. after_step w q) t.says.sees)
+
+-- so it is where the member has come from
+pub come_ready : {D : Type 0} (log : LogState D) (words : List ℕ) (r : Running) (cells : List ℕ)
+    (q : Running) → HasCome words r cells q → IsReady log r → IsReady log q
+come_ready log words r cells q come ready = let (n, taken) = come.taken in
+    swept_ready log n words r cells q taken ready
+
+pub come_served : {D : Type 0} (told : D → Option Told) (faults : D → ℕ) (base log : LogState D)
+    (words : List ℕ) (r : Running) (cells : List ℕ) (q : Running) → HasCome words r cells q
+    → r.replica.logged ≤ length r.replica.history
+    → HasServed told faults base log r → HasServed told faults base log q
+come_served told faults base log words r cells q come within served = let (n, taken) = come.taken in
+    swept_served told faults base log n words r cells q taken within served
+
+-- a running member has logged no more than there is
+pub somewhere_logged : (r : Running) (words : List ℕ) → IsSomewhere r words
+    → r.replica.logged ≤ length r.replica.history
+somewhere_logged r words (g, p, m, is) = (is.sound.form.form m r is.there).replica.logged
+
+-- no deed was taken yet
+pub come_none : (r : Running) (words : List ℕ) → IsSomewhere r words → HasCome words r words r
+come_none r words somewhere = record { somewhere = somewhere; taken = (0, (refl, refl)) }

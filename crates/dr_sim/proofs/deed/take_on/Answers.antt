@@ -1,0 +1,55 @@
+use Rattle.std.proofs.Common.{refl, sym, ap, ◌∙◌, subst, inr, ◌||◌}
+use Rattle.dr_member.specs.Deeds.{is_look, is_push}
+use Rattle.dr_age.proofs.Sound.{appends_well}
+use Rattle.dr_sim.specs.Deeds.{SeesWell}
+use Rattle.dr_sim.proofs.Steps.{sees_well}
+use Rattle.dr_sim.proofs.Sweeps.{come_ready, come_served, somewhere_logged}
+use Rattle.dr_sim.proofs.deed.take_on.Goals as goal
+
+pub take-requires-clause-form : goal.take-requires-clause-form
+take-requires-clause-form g c = λ ks within.
+    let (h, p, m, is) = c.requires.somewhere in is.sound.form.form m c.args.member.now is.there
+
+pub take-requires-clause-sight : goal.take-requires-clause-sight
+take-requires-clause-sight g c = λ ks within.
+    let (h, p, m, is) = c.requires.somewhere in
+    subst (λ t. SeesWell t c.args.member.now) (is.table ∙ sym c.as_mut_slice.ensures.value)
+    (sees_well h p m c.args.member.now is.sound is.there)
+
+pub take-requires-clause-appends : goal.take-requires-clause-appends
+take-requires-clause-appends g c = λ ks within.
+    let (h, p, m, is) = c.requires.somewhere in appends_well h p m c.args.member.now is.sound is.there
+
+pub returns-in-Look-clause-goes : goal.returns-in-Look-clause-goes
+returns-in-Look-clause-goes g c = inr (
+  ap (λ d. is_look d || is_push d) (sym c.in-Look.ensures.deed),
+  c.look_row.ensures.came,
+  refl,
+  c.takes_note-noted.ensures c.if-not-noted.true,
+)
+
+pub returns-in-Look-clause-ready : goal.returns-in-Look-clause-ready
+returns-in-Look-clause-ready g c =
+    come_ready c.args.log.now _ _ _ _ c.look_row.ensures.came c.requires.ready
+
+pub returns-in-Look-clause-served : goal.returns-in-Look-clause-served
+returns-in-Look-clause-served g c = λ base served.
+    come_served g.D.Disk.told g.D.Disk.faults base c.args.log.now _ _ _ _ c.look_row.ensures.came
+    (somewhere_logged c.args.member.now c.args.table.now.items c.requires.somewhere) served
+
+pub returns-in-Push-clause-goes : goal.returns-in-Push-clause-goes
+returns-in-Push-clause-goes g c = inr (
+  ap (λ d. is_look d || is_push d) (sym c.in-Push.ensures.deed),
+  c.push_row.ensures.came,
+  refl,
+  c.takes_note-noted.ensures c.if-not-noted-2.true,
+)
+
+pub returns-in-Push-clause-ready : goal.returns-in-Push-clause-ready
+returns-in-Push-clause-ready g c =
+    come_ready c.args.log.now _ _ _ _ c.push_row.ensures.came c.requires.ready
+
+pub returns-in-Push-clause-served : goal.returns-in-Push-clause-served
+returns-in-Push-clause-served g c = λ base served.
+    come_served g.D.Disk.told g.D.Disk.faults base c.args.log.now _ _ _ _ c.push_row.ensures.came
+    (somewhere_logged c.args.member.now c.args.table.now.items c.requires.somewhere) served
