@@ -65,6 +65,10 @@ impl<K: Sink> Watcher for Drawing<K> {
         self.tell(drawn);
     }
 
+    fn takes_note(&self) -> bool {
+        true
+    }
+
     fn see(&mut self, member: &Member, _table: &[u64]) {
         let drawn = self.chart.see(member);
         self.tell(drawn);

@@ -36,6 +36,10 @@ impl<K: Sink> Watcher for Lines<K> {
             .tell_age(start.age, start.entries.as_slice().len());
     }
 
+    fn takes_note(&self) -> bool {
+        true
+    }
+
     fn see(&mut self, member: &Member, table: &[u64]) {
         self.output.tell_line(member, table);
     }
