@@ -1,3 +1,5 @@
 pub mod Table
+pub mod Marks
+pub mod Plain
 pub mod Notes
 pub mod Summary

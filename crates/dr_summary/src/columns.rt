@@ -48,7 +48,7 @@ pub(crate) fn push_number(out: &mut String, number: usize) -> Result<(), AllocEr
 pub(crate) fn push_margin(out: &mut String) -> Result<(), AllocError>
     ensures { OnOk result (string_bytes out.new ≡ string_bytes out.old ++ margin) }
 {
-    push_blanks(out, LABEL_WIDTH)
+    out.push_str("                                        ")
 }
 
 /// Appends a label, and blanks up to the marks, which stand on a line of their own behind a long label.
@@ -75,5 +75,9 @@ fn push_gap(out: &mut String, width: usize) -> Result<(), AllocError>
 fn width_of(text: &str) -> usize
     ensures { result ≡ length (chars text.now) }
 {
-    text.chars().count()
+    if text.is_ascii() {
+        text.len()
+    } else {
+        text.chars().count()
+    }
 }

@@ -1,21 +1,25 @@
-ghost use Rattle.std.specs.Prelude.{◌≡◌, ◌++◌, IfOk, MatchOption, OnOk, false, string_bytes, true};
+ghost use Rattle.std.specs.Prelude.{◌≡◌, ◌≤◌, ◌↔◌, ◌++◌, All, IfOk, IsTrue, MatchOption, OnOk, false, length, string_bytes, true};
+ghost use Rattle.dr_summary.specs.Plain.{is_plain};
 ghost use Rattle.dr_summary.specs.Table.{before_dashes, can_be_shown, is_clear, label_text, message_text, quoted, rule_text};
 
 use crate::columns::{push_dashes, push_number};
-use dr_entry::{Entry, Message};
+use dr_entry::{Entry, MAX_MESSAGE_LENGTH, Message};
 use dr_text::{push_hex_bytes, push_mask};
 use std::alloc::{AllocError, Global};
 use std::fmt::Write;
-use std::str::from_utf8;
+use std::str::{from_utf8, from_utf8_unchecked};
 
 /// How many characters the rule of a view takes at least.
 const RULE_WIDTH: usize = 38;
+
+/// How many bytes a label has room for at first.
+const LABEL_ROOM: usize = 128;
 
 /// The label of the row of an entry with this number.
 pub(crate) fn label_of(alloc: Global, number: usize, entry: &Entry) -> Result<String, AllocError>
     ensures { IfOk result (λ label. string_bytes label ≡ label_text number entry.now) }
 {
-    let mut label = String::new(alloc);
+    let mut label = String::with_capacity(alloc, LABEL_ROOM)?;
     push_number(&mut label, number)?;
     match entry {
         Entry::View {
@@ -51,10 +55,46 @@ fn push_rule(label: &mut String, number: u8, members: u16) -> Result<(), AllocEr
 fn push_message(alloc: Global, out: &mut String, message: &Message) -> Result<(), AllocError>
     ensures { OnOk result (string_bytes out.new ≡ string_bytes out.old ++ message_text message.now) }
 {
-    let quoted = quoted(alloc, message.bytes())?;
+    let bytes = message.bytes();
+    if are_plain(bytes) {
+        push_plain(out, bytes)
+    } else {
+        push_other(alloc, out, bytes)
+    }
+}
+
+/// Whether all these bytes stand in quotes as they are.
+fn are_plain(bytes: &[u8]) -> bool
+    ensures { IsTrue result ↔ All (λ byte. is_plain byte ≡ true) bytes.now }
+{
+    bytes.iter().all(|byte| is_plain(*byte))
+}
+
+fn is_plain(byte: u8) -> bool
+    ensures { result ≡ is_plain byte }
+{
+    byte >= b' ' && byte <= b'~' && byte != b'"' && byte != b'\\'
+}
+
+/// Appends bytes that stand in quotes as they are.
+fn push_plain(out: &mut String, bytes: &[u8]) -> Result<(), AllocError>
+    requires { All (λ byte. is_plain byte ≡ true) bytes.now }
+    ensures { OnOk result (string_bytes out.new ≡ string_bytes out.old ++ message_text bytes.now) }
+{
+    out.push_str("\"")?;
+    out.push_str(unsafe { from_utf8_unchecked(bytes) })?;
+    out.push_str("\"")
+}
+
+/// Appends any other bytes, in quotes where they can be shown so, and else in hexadecimal.
+fn push_other(alloc: Global, out: &mut String, bytes: &[u8]) -> Result<(), AllocError>
+    requires { length bytes.now ≤ MAX_MESSAGE_LENGTH }
+    ensures { OnOk result (string_bytes out.new ≡ string_bytes out.old ++ message_text bytes.now) }
+{
+    let quoted = quoted(alloc, bytes)?;
     match shown(&quoted) {
         Some(text) => out.push_str(text),
-        None => push_hex_bytes(out, message.bytes()),
+        None => push_hex_bytes(out, bytes),
     }
 }
 

@@ -9,6 +9,7 @@ mod faults;
 mod labels;
 mod laws;
 mod longest;
+mod marks;
 mod rows;
 mod undelivered;
 

@@ -1,8 +1,10 @@
-ghost use Rattle.std.specs.Prelude.{◌≡◌, ◌+◌, ◌^◌, ◌<◌, ◌++◌, OnOk, length, string_bytes};
-ghost use Rattle.dr_summary.specs.Table.{mark_text, marks_text, row_text, rows_text};
+ghost use Rattle.std.specs.Prelude.{◌≡◌, ◌∷◌, [], ◌+◌, ◌^◌, ◌<◌, ◌++◌, OnOk, codes, length, string_bytes};
+ghost use Rattle.std.specs.List.{concat};
+ghost use Rattle.dr_summary.specs.Table.{in_column, label_text, rows_text};
 
 use crate::columns::push_in_column;
 use crate::labels::label_of;
+use crate::marks::{marks_of, renew};
 use dr_entry::{Entry, MemberEnd};
 use std::alloc::{AllocError, Global};
 
@@ -18,51 +20,28 @@ pub(crate) fn push_rows(
     ensures { OnOk result (string_bytes out.new
         ≡ string_bytes out.old ++ rows_text members.now first entries.now) }
 {
+    let mut marks = marks_of(alloc, members, first)?;
     for (index, entry) in entries.iter().enumerate() {
-        push_row(alloc, out, members, first + index, entry)?;
+        let number = first + index;
+        renew(alloc, &mut marks, members, number)?;
+        push_row(alloc, out, number, entry, marks.text.as_str())?;
     }
     Ok(())
 }
 
-/// Appends the row of an entry with this number.
+/// Appends the row of an entry with this number and these marks.
 fn push_row(
     alloc: Global,
     out: &mut String,
-    members: &[MemberEnd],
     number: usize,
     entry: &Entry,
+    marks: &str,
 ) -> Result<(), AllocError>
-    ensures { OnOk result
-        (string_bytes out.new ≡ string_bytes out.old ++ row_text members.now number entry.now) }
+    ensures { OnOk result (string_bytes out.new ≡ string_bytes out.old
+        ++ concat (in_column (label_text number entry.now) ∷ marks.now ∷ codes "\n" ∷ [])) }
 {
     let label = label_of(alloc, number, entry)?;
     push_in_column(out, label.as_str())?;
-    push_marks(out, members, number)?;
+    out.push_str(marks)?;
     out.push_str("\n")
-}
-
-/// Appends how far each member has come with the entry of this number.
-fn push_marks(out: &mut String, members: &[MemberEnd], number: usize) -> Result<(), AllocError>
-    ensures { OnOk result
-        (string_bytes out.new ≡ string_bytes out.old ++ marks_text members.now number) }
-{
-    for member in members {
-        out.push_str(mark_of(member, number))?;
-    }
-    Ok(())
-}
-
-/// How far a member has come with the entry of this number.
-fn mark_of(member: &MemberEnd, number: usize) -> &str
-    ensures { result.now ≡ mark_text number member.now }
-{
-    if (number as u64) < member.durable {
-        "     durable"
-    } else if (number as u64) < member.logged {
-        "      logged"
-    } else if number < member.history.as_slice().len() {
-        "   delivered"
-    } else {
-        "           ."
-    }
 }

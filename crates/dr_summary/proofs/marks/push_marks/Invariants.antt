@@ -1,6 +1,6 @@
 use Rattle.std.proofs.Common.{◌≡◌, ◌++◌, string_bytes, take}
 use Rattle.dr_summary.specs.Table.{marks_text}
-use Rattle.dr_summary.proofs.rows.push_marks.Given as goal
+use Rattle.dr_summary.proofs.marks.push_marks.Given as goal
 
 abbrev pub invariant-loop-member : goal.invariant-loop-member
 invariant-loop-member l =
