@@ -46,6 +46,15 @@ is_lockstep (Seed seed) = false
 abbrev pub is_calm : Script → Bool
 is_calm script = (length script.faults == 0) && is_lockstep script.schedule
 
+-- one turn, or turns
+abbrev pub turns_word : ℕ → List ℕ
+turns_word count = if count == 1 then codes "turn" else codes "turns"
+
+-- that so many turns would have been enough
+abbrev pub enough_text : ℕ → List ℕ
+enough_text count =
+    concat (decimal count ∷ codes " " ∷ turns_word count ∷ codes " would have been enough\n" ∷ [])
+
 -- how many turns would have been enough: where nobody has spent its own, the most that a member took; else
 -- the number that is enough in lockstep without faults, where the script is so
 abbrev pub turns_text : Script → List AgeEnd → List ℕ
@@ -55,7 +64,7 @@ turns_text script ages =
     concat
     (decimal (turns_enough script) ∷ codes " turns are enough in lockstep without faults\n" ∷ [])
     else [])
-    else concat (decimal (most_turns ages) ∷ codes " turns would have been enough\n" ∷ [])
+    else enough_text (most_turns ages)
 
 -- the summary of a run of a script, with its ages and its last line
 abbrev pub summary_text : Script → List AgeEnd → Last → List ℕ

@@ -2,7 +2,7 @@ ghost use Rattle.std.specs.Prelude.{◌≡◌, ◌++◌, OnOk, string_bytes};
 ghost use Rattle.std.specs.List.{list_any};
 ghost use Rattle.dr_entry.specs.declared.end.MemberEnd.{MemberEnd as MemberEndOf};
 ghost use Rattle.dr_script.specs.Ranges.{HasRanges};
-ghost use Rattle.derecho_summary.specs.Summary.{is_calm, is_spent, most_turns, some_spent, turns_in, turns_text};
+ghost use Rattle.derecho_summary.specs.Summary.{enough_text, is_calm, is_spent, most_turns, some_spent, turns_in, turns_text};
 
 use dr_enough::turns_enough;
 use dr_entry::{AgeEnd, End, MemberEnd};
@@ -20,14 +20,21 @@ pub(crate) fn push_turns(
     ensures { OnOk result (string_bytes out.new ≡ string_bytes out.old ++ turns_text script.now ages.now) }
 {
     if !some_spent(ages) {
-        let turns = most_turns(ages);
-        return writeln!(out, "{turns} turns would have been enough");
+        return push_enough(out, most_turns(ages));
     }
     if is_calm(script) {
         let turns = turns_enough(script);
         return writeln!(out, "{turns} turns are enough in lockstep without faults");
     }
     Ok(())
+}
+
+/// Appends that so many turns would have been enough.
+fn push_enough(out: &mut String, turns: u32) -> Result<(), AllocError>
+    ensures { OnOk result (string_bytes out.new ≡ string_bytes out.old ++ enough_text turns) }
+{
+    let word = if turns == 1 { "turn" } else { "turns" };
+    writeln!(out, "{turns} {word} would have been enough")
 }
 
 /// Whether some member has spent its turns.
