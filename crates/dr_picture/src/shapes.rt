@@ -1,0 +1,86 @@
+//! The marks of a picture, and their colours.
+use std::alloc::AllocError;
+use std::fmt::Write;
+
+/// The colour of words.
+pub(crate) const INK: &str = "#333";
+
+/// The colour of what is said beside the marks.
+pub(crate) const GREY: &str = "#789";
+
+/// The colour of suspicions and crashes.
+pub(crate) const RED: &str = "#c62828";
+
+/// The colour of what members propose and vote for.
+pub(crate) const VIOLET: &str = "#6a3fa0";
+
+/// The colours of members, which begin again behind the last one.
+const MEMBERS: [&str; 8] = [
+    "#3b6fb6", "#c8553d", "#3f8f4a", "#b98a1e", "#3f8f93", "#a0527f", "#6b7a2a", "#777777",
+];
+
+/// The grounds of views, which begin again behind the last one.
+const VIEWS: [&str; 4] = ["#eef3fa", "#fbf3df", "#eaf5e8", "#f6ecf5"];
+
+/// A point of a picture, in pixels from its left and its top.
+#[derive(Clone, Copy, Debug, PartialEq, Eq)]
+pub(crate) struct Point {
+    pub x: u32,
+    pub y: u32,
+}
+
+/// What a mark looks like.
+#[derive(Clone, Copy, Debug, PartialEq, Eq)]
+pub(crate) enum Shape {
+    Square,
+    HollowSquare,
+    Dot,
+    Bar,
+    Cross,
+    Diamond,
+    HollowDiamond,
+}
+
+impl Shape {
+    /// Its outline around a point.
+    fn outline(self) -> &'static str {
+        match self {
+            Shape::Square | Shape::HollowSquare => "m-4.5-4.5h9v9h-9z",
+            Shape::Dot => "m-4 0a4 4 0 1 0 8 0a4 4 0 1 0-8 0z",
+            Shape::Bar => "m-7-1h14v2h-14z",
+            Shape::Cross => "m-4-4l8 8m0-8l-8 8",
+            Shape::Diamond | Shape::HollowDiamond => "m0-5.5l5.5 5.5-5.5 5.5-5.5-5.5z",
+        }
+    }
+
+    /// Whether it is drawn by its outline alone.
+    fn is_hollow(self) -> bool {
+        matches!(self, Shape::HollowSquare | Shape::HollowDiamond)
+    }
+}
+
+/// The colour of a member.
+pub(crate) fn member_colour(member: u8) -> &'static str {
+    MEMBERS[usize::from(member % 8)]
+}
+
+/// The ground of a view.
+pub(crate) fn view_ground(view: u8) -> &'static str {
+    VIEWS[usize::from(view % 4)]
+}
+
+/// Appends a mark around a point.
+pub(crate) fn push_shape(
+    out: &mut String,
+    shape: Shape,
+    at: Point,
+    colour: &str,
+) -> Result<(), AllocError> {
+    let Point { x, y } = at;
+    let outline = shape.outline();
+    let fill = if shape.is_hollow() { "white" } else { colour };
+    writeln!(
+        out,
+        "<path d='M{x} {y}{outline}' fill='{fill}' stroke='{colour}'/>"
+    )
+}
