@@ -1,5 +1,5 @@
 -- What is told of a run, by what its watcher was told.
-use Rattle.std.proofs.Common.{◌≡◌, ℕ, ◌+◌, List, [], ◌∷◌, ◌++◌, Option, Some, None, length, slice_get, refl, sym, ap, subst, append-nil, ◌⊎◌, inl, inr}
+use Rattle.std.proofs.Common.{◌≡◌, ℕ, ◌+◌, List, [], ◌∷◌, ◌++◌, Option, Some, None, length, slice_get, refl, sym, ap, subst, append-nil, append_assoc, ◌⊎◌, inl, inr}
 use Rattle.std.proofs.lemmas.Option.{none-some}
 use Rattle.dr_ages.specs.declared.mode.Mode.TheVariants.{Sim}
 use Rattle.dr_ages.specs.Watched.{AreWatched}
@@ -19,8 +19,8 @@ use Rattle.dr_outcome.specs.Outcome.{IsRunInMemory}
 use Rattle.dr_script.specs.Reading.{Reading, NotJson, Reads, TooLong, Wrong}
 use Rattle.dr_text.specs.declared.last.Last.{Last}
 use Rattle.derecho_trace.specs.declared.words.Form.{Form}
-use Rattle.derecho_trace.specs.declared.words.Form.TheVariants.{Chart, Lines}
-use Rattle.derecho_trace.specs.Trace.{AreLines, IsToldOf, IsTraced, IsTracedFor, Wrote, WroteOne, deed_line, end_line, end_status, moves_text}
+use Rattle.derecho_trace.specs.declared.words.Form.TheVariants.{Chart, Lines, Picture}
+use Rattle.derecho_trace.specs.Trace.{AreLines, IsToldOf, IsTraced, IsTracedFor, Wrote, WroteOne, deed_line, end_line, end_status, ending, moves_text}
 
 -- what `Lines` does as it is told of an age, of a deed and of the end
 abbrev pub Opens : Written → Start → Written → Type 0
@@ -140,10 +140,10 @@ run_wrote : (form : Form) (script : Script) (ages : List AgeEnd) (stop : Option 
     (held holds : Option (List ℕ)) (fell falls status : ℕ) (told : List ℕ)
     → IsRunInMemory script Sim ages stop
     → last ≡ last_of ages stop → IsToldOf form script ages told
-    → Wrote held holds fell falls status (end_status last) (told ++ end_line last)
+    → Wrote held holds fell falls status (end_status last) (told ++ ending form last)
     → WroteOne (IsTraced form script) held holds fell falls status
 run_wrote form script ages stop last held holds fell falls status told run is tells wrote = record {
-  text = told ++ end_line last;
+  text = told ++ ending form last;
   due = end_status last;
   is = inr (record {
     ages = ages;
@@ -151,7 +151,7 @@ run_wrote form script ages stop last held holds fell falls status told run is te
     run = run;
     told = told;
     tells = tells;
-    whole = ap (λ (l : Option Last). told ++ end_line l) is;
+    whole = ap (λ (l : Option Last). told ++ ending form l) is;
     status = ap end_status is;
   });
   wrote = wrote;
@@ -187,6 +187,25 @@ chart_wrote script ages stop last held holds fell falls status old new (inr ran)
     let some = some_told script 0 ages old new watched in
     run_wrote Chart script ages stop last held holds fell falls status some.0 ran.0 ran.1 tt
     (writes some.0 (some.1 held fell [] told))
+
+-- what is drawn, the last line and what closes a picture are told one behind the other
+pub hung : (drawn line closing : List ℕ) (held : Option (List ℕ)) (fell : ℕ) (old first then new : Written)
+    → HasTold held fell [] old → Tells drawn old first → Tells line first then → Tells closing then new
+    → HasTold held fell (drawn ++ (line ++ closing)) new
+hung drawn line closing held fell old first then new told a b c =
+    subst (λ (l : List ℕ). HasTold held fell l new) (append_assoc drawn line closing)
+    (c held fell (drawn ++ line) (b held fell drawn (a held fell [] told)))
+
+-- a picture was written, with the last line in it
+pub picture_wrote : (script : Script) (ages : List AgeEnd) (stop : Option Stop) (last : Last)
+    (held holds : Option (List ℕ)) (fell falls status : ℕ) (told : List ℕ)
+    → HasRun script ages stop (Some last)
+    → Wrote held holds fell falls status (end_status (Some last)) (told ++ ending Picture (Some last))
+    → WroteOne (IsTraced Picture script) held holds fell falls status
+picture_wrote script ages stop last held holds fell falls status told (inl none) wrote =
+    absurd (none-some last (sym none.2))
+picture_wrote script ages stop last held holds fell falls status told (inr ran) wrote =
+    run_wrote Picture script ages stop (Some last) held holds fell falls status told ran.0 ran.1 tt wrote
 
 -- what was written of a text that is no script
 pub refused_wrote : (form : Form) (r : Reading) (line : Option Last) (held holds : Option (List ℕ))

@@ -24,7 +24,7 @@ use Rattle.dr_text.specs.Report.{last_text}
 use Rattle.dr_text.specs.Writing.{WroteFront}
 use Rattle.derecho_trace.specs.Words.{asked_by}
 use Rattle.derecho_trace.specs.declared.words.Form.{Form}
-use Rattle.derecho_trace.specs.declared.words.Form.TheVariants.{Chart, Lines}
+use Rattle.derecho_trace.specs.declared.words.Form.TheVariants.{Chart, Lines, Picture}
 
 -- the line of the next deed of a member
 abbrev pub deed_line : List ℕ → Option Running → List ℕ
@@ -44,10 +44,11 @@ AreLines script nth (age ∷ ages) text =
     × AreLines script (nth + 1) ages rest
     × (text ≡ (age_line age.age (length age.start) ++ moves_text is.begun is.run.moves) ++ rest)
 
--- what is told of these ages in a form: of a chart nothing is said
+-- what is told of these ages in a form: of a chart and of a picture nothing is said
 abbrev pub IsToldOf : Form → Script → List AgeEnd → List ℕ → Type 0
 IsToldOf Lines script ages text = AreLines script 0 ages text
 IsToldOf Chart script ages text = ⊤
+IsToldOf Picture script ages text = ⊤
 
 -- behind what is told comes the last line, with its status; where memory was wanting there is none, with
 -- status 10
@@ -57,7 +58,12 @@ end_line last = option_map_or last_text last []
 abbrev pub end_status : Option Last → ℕ
 end_status last = option_map_or status_of last 10
 
--- nothing is told, as memory was wanting before anything was run
+-- how a text of a form ends: with the last line, behind which a picture is closed
+abbrev pub ending : Form → Option Last → List ℕ
+ending Picture last = end_line last ++ codes "</text>\n</svg>\n"
+ending form last = end_line last
+
+-- nothing is told, as memory was wanting for it
 abbrev pub IsWanting : List ℕ → ℕ → Type 0
 IsWanting text due = (text ≡ []) × (due ≡ 10)
 
@@ -68,7 +74,7 @@ pub record IsRunTraced (form : Form) (script : Script) (text : List ℕ) (due : 
   pub run : IsRunInMemory script Sim ages stop
   pub told : List ℕ
   pub tells : IsToldOf form script ages told
-  pub whole : text ≡ told ++ end_line (last_of ages stop)
+  pub whole : text ≡ told ++ ending form (last_of ages stop)
   pub status : due ≡ end_status (last_of ages stop)
 
 -- it does, or memory was wanting
@@ -83,7 +89,7 @@ IsTracedFor form refused text due =
 
 -- how the program is called
 abbrev pub usage_text : List ℕ
-usage_text = codes "usage: derecho_trace [lines] < SCRIPT\n"
+usage_text = codes "usage: derecho_trace [lines|svg] < SCRIPT\n"
 
 -- What a call is to write, and the status that is due, by its words and by what its source had left and then
 -- has.

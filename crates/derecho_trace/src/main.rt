@@ -3,6 +3,7 @@
 
 mod chart;
 mod lines;
+mod picture;
 mod top;
 mod words;
 

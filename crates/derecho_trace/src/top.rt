@@ -1,11 +1,12 @@
-ghost use Rattle.std.specs.Prelude.{◌≡◌, ◌⊎◌, ◌∷◌, ◌++◌, ℕ, List, Option, [], Contains};
+ghost use Rattle.std.specs.Prelude.{◌≡◌, ◌⊎◌, ◌∷◌, ◌++◌, ℕ, List, Option, Some, [], Contains};
 ghost use Rattle.dr_script.specs.Ranges.{HasRanges};
 ghost use Rattle.dr_script.specs.Reading.{reading_of};
 ghost use Rattle.dr_seeing.specs.Output.{HasTold};
-ghost use Rattle.derecho_trace.specs.Trace.{IsAnswer, IsTraced, IsTracedFor, Wrote, WroteOne, end_line, end_status, usage_text};
+ghost use Rattle.derecho_trace.specs.Trace.{IsAnswer, IsTraced, IsTracedFor, Wrote, WroteOne, end_line, end_status, ending, usage_text};
 
 use crate::chart::Drawing;
 use crate::lines::Lines;
+use crate::picture::Picturing;
 use crate::words::{Form, form_of};
 use dr_intake::{
     OUT_OF_MEMORY, READ_FAULT, READ_LIMIT, ReadFault, USAGE, WRITE_FAULT, read_all,
@@ -20,7 +21,10 @@ use std::alloc::Global;
 use std::thread::Threads;
 
 /// How the program is called.
-const USAGE_TEXT: &str = "usage: derecho_trace [lines] < SCRIPT\n";
+const USAGE_TEXT: &str = "usage: derecho_trace [lines|svg] < SCRIPT\n";
+
+/// What closes a picture.
+const CLOSING: &str = "</text>\n</svg>\n";
 
 /// How a call ended: its status, and the sink.
 #[derive(Drop)]
@@ -32,9 +36,9 @@ pub struct Traced<K: Sink> {
 /// Reads a script from the source, simulates its group as `derecho sim` does, without folders of logs, and
 /// tells the sink what happens, in order. The last line and the status are those of `derecho sim`.
 ///
-/// Without words it is told as a chart; with the word `lines` as a line for each event. The text is written
-/// as the run goes on. Where memory is wanting, and where a call of the sink fails, a front part of it is
-/// written.
+/// Without words it is told as a chart; with the word `lines` as a line for each event; with the word `svg` as
+/// a picture, in which the last line stands. A picture is written at the end, and the other texts as the run
+/// goes on. Where memory is wanting, and where a call of the sink fails, a front part of it is written.
 pub fn trace<R: Threads + Sync, S: Source, K: Sink>(
     rt: &R,
     alloc: Global,
@@ -105,6 +109,7 @@ fn trace_script<R: Threads + Sync, K: Sink>(
     match form {
         Form::Lines => trace_lines(rt, alloc, script, Lines { output }),
         Form::Chart => trace_chart(rt, alloc, script, output),
+        Form::Picture => trace_picture(rt, alloc, script, output),
     }
 }
 
@@ -159,6 +164,61 @@ fn draw<R: Threads + Sync, K: Sink>(
     let mut drawing = drawing;
     let outcome = watch_in_memory(rt, alloc, script, &mut drawing);
     end(drawing.output, outcome.last)
+}
+
+/// Tells the run of a script as a picture.
+fn trace_picture<R: Threads + Sync, K: Sink>(
+    rt: &R,
+    alloc: Global,
+    script: &Script,
+    output: Output<K>,
+) -> Traced<K>
+    requires { HasRanges script.now }
+    ensures { (held : Option (List ℕ)) (fell : ℕ) → HasTold held fell [] output
+        → WroteOne (IsTraced Form.Picture script.now) held (K.held result.sink)
+        fell (K.faults result.sink) result.status }
+{
+    match Picturing::new(alloc, script.members) {
+        Ok(picturing) => picture(rt, alloc, script, picturing, output),
+        Err(_) => end(output, None),
+    }
+}
+
+/// Draws the run of a script on a picture, and tells it.
+fn picture<R: Threads + Sync, K: Sink>(
+    rt: &R,
+    alloc: Global,
+    script: &Script,
+    picturing: Picturing,
+    output: Output<K>,
+) -> Traced<K>
+    requires { HasRanges script.now }
+    ensures { (held : Option (List ℕ)) (fell : ℕ) → HasTold held fell [] output
+        → WroteOne (IsTraced Form.Picture script.now) held (K.held result.sink)
+        fell (K.faults result.sink) result.status }
+{
+    let mut picturing = picturing;
+    let outcome = watch_in_memory(rt, alloc, script, &mut picturing);
+    let Ok(drawn) = picturing.finish(alloc) else {
+        return end(output, None);
+    };
+    match &outcome.last {
+        Some(last) => hang(output, drawn.as_str(), last),
+        None => end(output, None),
+    }
+}
+
+/// Tells a picture, with the last line in it, and writes what waits.
+fn hang<K: Sink>(output: Output<K>, drawn: &str, last: &Last) -> Traced<K>
+    ensures { (held : Option (List ℕ)) (fell : ℕ) → HasTold held fell [] output
+        → Wrote held (K.held result.sink) fell (K.faults result.sink) result.status
+        (end_status (Some last.now)) (drawn.now ++ ending Form.Picture (Some last.now)) }
+{
+    let mut output = output;
+    output.tell(drawn);
+    output.tell_last(last);
+    output.tell(CLOSING);
+    finish(output, status_of(last))
 }
 
 /// Tells the last line, and writes what waits. There is none where memory was wanting.

@@ -8,6 +8,8 @@ pub(crate) enum Form {
     Lines,
     /// A column for each member, and a row for each of its turns with news.
     Chart,
+    /// A picture in the language SVG.
+    Picture,
 }
 
 /// The form that the words of a call ask for, where they are those of one.
@@ -17,6 +19,7 @@ pub(crate) fn form_of(words: &[String]) -> Option<Form>
     match words {
         [] => Some(Form::Chart),
         [word] if word.as_str() == "lines" => Some(Form::Lines),
+        [word] if word.as_str() == "svg" => Some(Form::Picture),
         _ => None,
     }
 }

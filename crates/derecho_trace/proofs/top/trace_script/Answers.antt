@@ -16,3 +16,10 @@ returns-in-Chart g c = λ held fell told.
     c.trace_chart.result.sink) fell
     (g.K.Sink.faults c.trace_chart.result.sink) c.trace_chart.result.status) (sym c.in-Chart.is)
     (c.trace_chart.ensures held fell told)
+
+pub returns-in-Picture : goal.returns-in-Picture
+returns-in-Picture g c = λ held fell told.
+    subst (λ (f : Form). WroteOne (IsTraced f c.args.script.now) held (g.K.Sink.held
+    c.trace_picture.result.sink) fell
+    (g.K.Sink.faults c.trace_picture.result.sink) c.trace_picture.result.status) (sym c.in-Picture.is)
+    (c.trace_picture.ensures held fell told)

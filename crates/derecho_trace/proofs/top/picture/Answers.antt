@@ -1,0 +1,14 @@
+use Rattle.std.proofs.Common.{Option, subst}
+use Rattle.dr_text.specs.declared.last.Last.{Last}
+use Rattle.derecho_trace.proofs.Traces.{HasRun, picture_wrote}
+use Rattle.derecho_trace.proofs.top.picture.Goals as goal
+
+pub returns-in-Some : goal.returns-in-Some
+returns-in-Some g c = λ held fell told.
+    let outcome = c.watch_in_memory-outcome.result in
+    picture_wrote c.args.script.now outcome.ages outcome.stop c.in-Some.last held (g.K.Sink.held
+    c.hang.result.sink) fell
+    (g.K.Sink.faults c.hang.result.sink) c.hang.result.status c.as_str.result.now
+    (subst (λ (l : Option Last). HasRun c.args.script.now outcome.ages outcome.stop l) c.in-Some.is
+    c.watch_in_memory-outcome.ensures.ran)
+    (c.hang.ensures held fell told)
