@@ -47,8 +47,11 @@ plain_escaped (b ∷ bs) plain =
 plain_printable : (b : ℕ) → is_plain b ≡ true → is_control b ≡ false
 plain_printable b plain =
     let parts = plain_parts b plain in
-    rw (lt-leb b 31 (omega (arith, parts.0)), lt-leb 127 b (omega (arith, parts.1)),
-    le-leb 0 b (omega arith)) refl
+    rw (
+      lt-leb b 31 (omega (arith, parts.0)),
+      lt-leb 127 b (omega (arith, parts.1)),
+      le-leb 0 b (omega arith),
+    ) refl
 
 plain_uncontrolled : (bs : List ℕ) → ArePlain bs → list_any is_control bs ≡ false
 plain_uncontrolled [] plain = refl
@@ -66,15 +69,20 @@ quotes_ascii bs plain =
 
 quotes_clear : (bs : List ℕ) → ArePlain bs → is_clear (34 ∷ (bs ++ 34 ∷ [])) ≡ true
 quotes_clear bs plain =
-    rw (chars-IsAscii (34 ∷ (bs ++ 34 ∷ [])) (quotes_ascii bs plain),
-    list_any-append is_control bs (34 ∷ []), plain_uncontrolled bs plain) refl
+    rw (
+      chars-IsAscii (34 ∷ (bs ++ 34 ∷ [])) (quotes_ascii bs plain),
+      list_any-append is_control bs (34 ∷ []),
+      plain_uncontrolled bs plain,
+    ) refl
 
 -- a message of such bytes
 pub plain_message : (bs : List ℕ) → ArePlain bs → message_text bs ≡ 34 ∷ (bs ++ 34 ∷ [])
 plain_message bs plain =
-    rw (plain_quoted bs plain,
-    shown_clear (34 ∷ (bs ++ 34 ∷ [])) (IsUtf8-from_ascii _ (quotes_ascii bs plain))
-    (quotes_clear bs plain)) refl
+    rw (
+      plain_quoted bs plain,
+      shown_clear (34 ∷ (bs ++ 34 ∷ [])) (IsUtf8-from_ascii _ (quotes_ascii bs plain))
+          (quotes_clear bs plain),
+    ) refl
 
 -- the width of a text that a test found to be ASCII
 pub ascii_width : (r : Bool) (text : List ℕ) (n : ℕ) → MatchBool r (IsAscii text) (IsNotAscii text) → r ≡ true

@@ -12,9 +12,9 @@ same_side : (limit first last n : ℕ) → (first < limit → last < limit) → 
     → nat_lt n limit ≡ nat_lt first limit
 same_side limit first last n before from until = elim (cases_Bool (nat_lt first limit)) [
   | inl below ↦
-    lt-ltb n limit (omega (arith, until, before (ltb-true first limit below))) ∙ sym below
+      lt-ltb n limit (omega (arith, until, before (ltb-true first limit below))) ∙ sym below
   | inr above ↦
-    le-ltb n limit (omega (arith, from, ltb-false first limit above)) ∙ sym above
+      le-ltb n limit (omega (arith, from, ltb-false first limit above)) ∙ sym above
 ]
 
 -- a mark stays where a row passes none of the member's limits
@@ -22,17 +22,21 @@ pub mark_stays : (m : MemberEnd) (first last : ℕ) → (first < m.durable → l
     → (first < m.logged → last < m.logged) → (first < length m.history → last < length m.history)
     → IsMarkUntil first last m
 mark_stays m first last durable logged delivered n from until =
-    rw (same_side m.durable first last n durable from until,
-    same_side m.logged first last n logged from until,
-    same_side (length m.history) first last n delivered from until) refl
+    rw (
+      same_side m.durable first last n durable from until,
+      same_side m.logged first last n logged from until,
+      same_side (length m.history) first last n delivered from until,
+    ) refl
 
 -- the marks of a row, where no member's changes
 pub marks_stay : (ms : List MemberEnd) (first last n : ℕ) → All (IsMarkUntil first last) ms → first ≤ n
     → n ≤ last → marks_text ms n ≡ marks_text ms first
 marks_stay [] first last n same from until = refl
 marks_stay (m ∷ ms) first last n same from until =
-    rw (same 0 m (omega arith) n from until,
-    marks_stay ms first last n (λ k d below. same (suc k) d (omega (arith, below))) from until) refl
+    rw (
+      same 0 m (omega arith) n from until,
+      marks_stay ms first last n (λ k d below. same (suc k) d (omega (arith, below))) from until,
+    ) refl
 
 -- marks that hold up to a row hold up to each row before it
 pub until_less : (first last less : ℕ) (m : MemberEnd) → less ≤ last → IsMarkUntil first last m
