@@ -14,6 +14,7 @@ use Rattle.dr_machine.specs.Guards.{CanDeliver, CanMark, CanReport}
 use Rattle.dr_machine.specs.Run.{PastGrew, WordsGrew}
 use Rattle.dr_machine.specs.World.{Past, World, item_at_place, own_word, shown}
 use Rattle.dr_machine.specs.Writes.{at, at₃}
+use Rattle.dr_faithful.proofs.Beside.{same_own_keeps}
 use Rattle.dr_faithful.proofs.Lists.{least_all, least_most, least_some, prefix_more, prefix_next}
 use Rattle.dr_faithful.proofs.OwnWords.{IsPlain, accepts_word, counts_word, delivered_word, form_word, old_later, own_grown, suspicions_word, closed_written, fresh_written}
 use Rattle.dr_faithful.proofs.Pasts.{past_same, prefix_refl, prefix_short, same_past, tells_done, tells_later, tells_logged, words_later}
@@ -33,23 +34,10 @@ use Rattle.dr_words.specs.Grown.{HasGrown}
 pub beside_keeps : (g : Group) (V : Views) (w : World) (turns : ℕ → ℕ) (end : ℕ → Option End)
     (committed : ℕ → Option Value) → Faithful g V w
     → Faithful g V (record w { turns = turns; end = end; committed = committed })
-beside_keeps g V w turns end committed f = record {
-  beginning = f.beginning;
-  views = f.views;
-  items = f.items;
-  sent = f.sent;
-  counts = f.counts;
-  suspicions = f.suspicions;
-  accepts = f.accepts;
-  words = words_later g V w (record w { turns = turns; end = end; committed = committed })
-      (past_same w.past) refl refl refl refl f.words;
-  logs = f.logs;
-  delivered = f.delivered;
-  fresh = f.fresh;
-  closed = f.closed;
-  old = f.old;
-  form = f.form;
-}
+beside_keeps g V w turns end committed f =
+    let u : World = record w { turns = turns; end = end; committed = committed } in
+    same_own_keeps g V w u refl (words_later g V w u (past_same w.past) refl refl refl refl f.words)
+    f.logs f.delivered f.old f.form f
 
 -- a turn begins
 pub beat_keeps : (g : Group) (V : Views) (w : World) (m : ℕ) → Faithful g V w → Faithful g V (beats w m)
@@ -179,28 +167,17 @@ append_past w m =
 -- and is a front of the history still
 pub append_keeps : (g : Group) (V : Views) (w : World) (m : ℕ) → Faithful g V w
     → Faithful g V (appends w m)
-append_keeps g V w m f = record {
-  beginning = f.beginning;
-  views = f.views;
-  items = f.items;
-  sent = f.sent;
-  counts = f.counts;
-  suspicions = f.suspicions;
-  accepts = f.accepts;
-  words = words_later g V w (appends w m) (append_past w m) refl refl refl refl f.words;
-  logs = record {
-    bounded = f.logs.bounded;
-    front = at_case (λ i l. IsPrefixOf l (w.past.history i)) w.past.log m (w.past.log m ++ one)
-        (λ i d. f.logs.front i) (prefix_next (w.past.log m) (w.past.history m) (f.logs.front m));
-    safe = λ a i l h. le_trans (f.logs.safe a i l h) (longer i);
-    small = f.logs.small;
-  };
-  delivered = f.delivered;
-  fresh = f.fresh;
-  closed = f.closed;
-  old = f.old;
-  form = f.form;
-}
+append_keeps g V w m f = same_own_keeps g V w (appends w m) refl
+    (words_later g V w (appends w m) (append_past w m) refl refl refl refl f.words)
+    (record {
+      bounded = f.logs.bounded;
+      front = at_case (λ i l. IsPrefixOf l (w.past.history i)) w.past.log m (w.past.log m ++ one)
+          (λ i d. f.logs.front i) (prefix_next (w.past.log m) (w.past.history m) (f.logs.front m));
+      safe = λ a i l h. le_trans (f.logs.safe a i l h) (longer i);
+      small = f.logs.small;
+    })
+    f.delivered
+    f.old f.form f
   where
     one : List Entry
     one = take 1 (drop (length (w.past.log m)) (w.past.history m))
@@ -236,30 +213,19 @@ report_past g V w m can f =
 -- and stands on the logs of all members of the view
 pub report_keeps : (g : Group) (V : Views) (w : World) (m : ℕ) → IsGroup g → CanReport g w m
     → Faithful g V w → Faithful g V (reports w m)
-report_keeps g V w m is can f = record {
-  beginning = f.beginning;
-  views = f.views;
-  items = f.items;
-  sent = f.sent;
-  counts = f.counts;
-  suspicions = f.suspicions;
-  accepts = f.accepts;
-  words = words_later g V w (reports w m) (report_past g V w m can f) refl refl refl refl f.words;
-  logs = record {
-    bounded = f.logs.bounded;
-    front = f.logs.front;
-    safe = at_case (λ a d. (i : ℕ) → IsPresent g a → has (V (w.past.view a)) i ≡ true → d
-        ≤ length (w.past.log i)) w.past.durable m least
-        (λ a d. f.logs.safe a) (λ i l h. logged i h);
-    small = at_case (λ a d. d < 2 ^ 64) w.past.durable m least (λ a d. f.logs.small a)
-        (omega (arith, least_most (λ i. shown w m i LOGGED_COLUMN) (w.members m) (2 ^ 64 - 1)));
-  };
-  delivered = f.delivered;
-  fresh = f.fresh;
-  closed = f.closed;
-  old = f.old;
-  form = f.form;
-}
+report_keeps g V w m is can f = same_own_keeps g V w (reports w m) refl
+    (words_later g V w (reports w m) (report_past g V w m can f) refl refl refl refl f.words)
+    (record {
+      bounded = f.logs.bounded;
+      front = f.logs.front;
+      safe = at_case (λ a d. (i : ℕ) → IsPresent g a → has (V (w.past.view a)) i ≡ true → d
+          ≤ length (w.past.log i)) w.past.durable m least
+          (λ a d. f.logs.safe a) (λ i l h. logged i h);
+      small = at_case (λ a d. d < 2 ^ 64) w.past.durable m least (λ a d. f.logs.small a)
+          (omega (arith, least_most (λ i. shown w m i LOGGED_COLUMN) (w.members m) (2 ^ 64 - 1)));
+    })
+    f.delivered
+    f.old f.form f
   where
     least : ℕ
     least = least_shown w m LOGGED_COLUMN
@@ -294,32 +260,21 @@ deliver_past w m =
 -- a place is delivered that every member of the view holds
 pub deliver_keeps : (g : Group) (V : Views) (w : World) (m : ℕ) → CanDeliver g w m → Faithful g V w
     → Faithful g V (delivers w m)
-deliver_keeps g V w m can f = record {
-  beginning = f.beginning;
-  views = f.views;
-  items = f.items;
-  sent = f.sent;
-  counts = f.counts;
-  suspicions = f.suspicions;
-  accepts = f.accepts;
-  words = words_later g V w (delivers w m) (deliver_past w m) refl refl refl refl f.words;
-  logs = record {
-    bounded = f.logs.bounded;
-    front = at_case (λ i l. IsPrefixOf (w.past.log i) l) w.past.history m (w.past.history m ++ new)
-        (λ i d. f.logs.front i) (prefix_more (w.past.log m) (w.past.history m) new (f.logs.front m));
-    safe = f.logs.safe;
-    small = f.logs.small;
-  };
-  delivered = record {
-    held = λ a i. at_case (λ x n. IsPresent g x → has (V (w.past.view x)) i ≡ true → n
-        ≤ w.past.own i (w.past.view x) 2) w.next m (w.next m + 1)
-        (λ x d. f.delivered.held x i) (λ l h. shows i h) a;
-  };
-  fresh = f.fresh;
-  closed = f.closed;
-  old = f.old;
-  form = f.form;
-}
+deliver_keeps g V w m can f = same_own_keeps g V w (delivers w m) refl
+    (words_later g V w (delivers w m) (deliver_past w m) refl refl refl refl f.words)
+    (record {
+      bounded = f.logs.bounded;
+      front = at_case (λ i l. IsPrefixOf (w.past.log i) l) w.past.history m (w.past.history m ++ new)
+          (λ i d. f.logs.front i) (prefix_more (w.past.log m) (w.past.history m) new (f.logs.front m));
+      safe = f.logs.safe;
+      small = f.logs.small;
+    })
+    (record {
+      held = λ a i. at_case (λ x n. IsPresent g x → has (V (w.past.view x)) i ≡ true → n
+          ≤ w.past.own i (w.past.view x) 2) w.next m (w.next m + 1)
+          (λ x d. f.delivered.held x i) (λ l h. shows i h) a;
+    })
+    f.old f.form f
   where
     new : List Entry
     new = entries_of (w.past.history m) (sender_at w m (w.next m)) (item_at_place w m (w.next m))

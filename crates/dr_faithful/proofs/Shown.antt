@@ -1,6 +1,7 @@
--- A word that a member shows another is at most its owner's.
-use Rattle.std.proofs.Common.{arith, inl, inr, le_of_eq, le_trans, ℕ, ◌≡◌, ◌≢◌, ◌≤◌, ◌⊎◌}
+-- A word that a member shows another is at most its owner's, and a done word is 0 or 1.
+use Rattle.std.proofs.Common.{arith, inl, inr, le_of_eq, le_trans, refl, ℕ, ◌≡◌, ◌≢◌, ◌≤◌, ◌⊎◌}
 use Rattle.std.proofs.lemmas.Bool.{cases_eq}
+use Rattle.dr_words.specs.declared.column.TheConstants.{DONE_COLUMN}
 use Rattle.dr_machine.specs.Group.{Group}
 use Rattle.dr_machine.specs.World.{World, shown}
 use Rattle.dr_faithful.specs.Faithful.{Faithful}
@@ -27,3 +28,8 @@ shown_le g V w m i c f = by (cases_eq i m)
     by : (i ≡ m) ⊎ (i ≢ m) → shown w m i c ≤ w.past.own i (w.past.view m) c
     by (inl e) = le_of_eq (shown_own w m i c e)
     by (inr d) = rw (shown_seen w m i c d) (seen_le g V w m i c f d)
+
+-- a done word that isn't 0 is 1
+pub done_is_one : (g : Group) (V : Views) (w : World) (i v : ℕ) → Faithful g V w
+    → 1 ≤ w.past.own i v DONE_COLUMN → w.past.own i v DONE_COLUMN ≡ 1
+done_is_one g V w i v f some = omega (arith, some, ((f.words.own i v DONE_COLUMN).done refl).0)

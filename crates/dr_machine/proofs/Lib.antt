@@ -2,4 +2,5 @@ pub mod Runs
 pub mod Sending
 pub mod Presence
 pub mod Events
+pub mod Ends
 pub mod Voting

@@ -13,10 +13,11 @@ use Rattle.dr_machine.specs.World.{World, no_vote, shown}
 use Rattle.dr_machine.specs.Writes.{at}
 use Rattle.dr_faithful.proofs.Shown.{shown_own, shown_seen}
 use Rattle.dr_faithful.proofs.Votes.{accept_grew, accepted_row, is_waiting, own_tag, row_promise, row_tag, row_value, vote_waiting}
-use Rattle.dr_faithful.proofs.Writes.{at_case, at_other, at_same, at₂_case, at₂_read}
+use Rattle.dr_faithful.proofs.Writes.{at_case, at_other, at_same, at₂_read}
 use Rattle.dr_faithful.specs.Faithful.{Faithful, IsWaiting}
 use Rattle.dr_faithful.specs.Tells.{Views}
-use Rattle.dr_vote_laws.proofs.Later.{OwnGrew, original_on, tells_on}
+use Rattle.dr_vote_laws.proofs.Frames.{row_rewritten}
+use Rattle.dr_vote_laws.proofs.Later.{OwnGrew, original_on}
 use Rattle.dr_vote_laws.proofs.Logs.{votes_same}
 use Rattle.dr_vote_laws.specs.Tells.{TellsVote, promise_in, tag_in}
 use Rattle.dr_vote_laws.specs.Voting.{Voting}
@@ -45,7 +46,8 @@ shown_tells g V w m i c f a = by (cases_eq i m)
 
 -- the vote that waits is on the log, in the present view and by the ballot of the promise
 pub waiting_voted : (g : Group) (V : Views) (w : World) (m : ℕ) (x : Vote) → w.pending m ≡ Some x
-    → Voting g V w → HasVoted g w.past.votes m (w.past.view m) (vote_waiting w m).ballot (vote_waiting w m).value
+    → Voting g V w
+    → HasVoted g w.past.votes m (w.past.view m) (vote_waiting w m).ballot (vote_waiting w m).value
 waiting_voted g V w m x e f =
     let there = f.acted.waiting m x e in
     let same : vote_waiting w m ≡ x = ap (λ o. unwrap_or o no_vote) e in
@@ -65,7 +67,8 @@ word_before g w m i v c (inl d) = ap (λ r. r v c)
 word_before g w m i v c (inr d) = by (cases_eq i m)
   where
     by : (i ≡ m) ⊎ (i ≢ m) → (accepts g w m).past.own i v c ≡ w.past.own i v c
-    by (inl e) = rw e (ap (λ r. r v c) (at_same w.past.own m (at (w.past.own m) (w.past.view m) (accepted_row g w m)))
+    by (inl e) = rw e (ap (λ r. r v c) (at_same w.past.own m
+        (at (w.past.own m) (w.past.view m) (accepted_row g w m)))
         ∙ ap (λ r. r c) (at_other (w.past.own m) (w.past.view m) (accepted_row g w m) v d))
     by (inr o) = ap (λ r. r v c)
         (at_other w.past.own m (at (w.past.own m) (w.past.view m) (accepted_row g w m)) i o)
@@ -172,25 +175,13 @@ accept_votes g V w m x is e f old = record {
   };
   original = λ v b y h. original_on g V w.past.own (accepts g w m).past.own w.past.votes w.past.votes
       v b y (f.views.within v) grew (votes_same g w.past.own w.past.votes) (old.original v b y h);
-  words = record {
-    in_own = λ i v c a. at₂_case (λ i v r. is_accept_of (roster g) (V v) c ≡ true
-        → TellsVote g (accepts g w m).past.own w.past.votes i v c (r c)) w.past.own m
-        (w.past.view m) (accepted_row g w m)
-        (λ i v a. on i v c (w.past.own i v c) (old.words.in_own i v c a))
-        (λ a. row_votes g V w m c x is e f old a) i v a;
-    in_table = λ v k i c a. on i v c (w.table v k i c) (old.words.in_table v k i c a);
-    in_seen = λ k i c a. on i (w.past.view k) c (w.seen k i c) (old.words.in_seen k i c a);
-  };
+  words = row_rewritten g V w.past.view w.past.own m (w.past.view m) (accepted_row g w m) w.table w.seen
+      w.past.votes grew (λ c a. row_votes g V w m c x is e f old a) old.words;
   chosen = old.chosen;
 }
   where
     grew : OwnGrew g w.past.own (accepts g w m).past.own
     grew = (accept_grew g V w m x e f).own
-
-    on : (i v c word : ℕ) → TellsVote g w.past.own w.past.votes i v c word
-        → TellsVote g (accepts g w m).past.own w.past.votes i v c word
-    on i v c word = tells_on g w.past.own (accepts g w m).past.own w.past.votes w.past.votes i v c word
-        grew (votes_same g w.past.own w.past.votes)
 
     accepted : (i b : ℕ) → (i ≡ m) ⊎ (i ≢ m) → (accepts g w m).tag i ≡ b + 1
         → HasVoted g w.past.votes i (w.past.view i) b ((accepts g w m).value i)

@@ -9,8 +9,11 @@ use Rattle.dr_faithful.specs.Faithful.{Numbers, Table}
 use Rattle.dr_faithful.specs.Tells.{Views}
 use Rattle.dr_vote_laws.proofs.Later.{OwnGrew, original_on, tells_on}
 use Rattle.dr_vote_laws.proofs.Logs.{votes_same}
-use Rattle.dr_vote_laws.specs.Tells.{TellsVote}
+use Rattle.dr_vote_laws.specs.Tells.{TellsVote, WordsTellVotes}
 use Rattle.dr_vote_laws.specs.Voting.{AreVoting}
+use Rattle.dr_machine.specs.Writes.{at₂}
+use Rattle.dr_faithful.proofs.Writes.{at₂_case}
+use Rattle.dr_words.specs.Rewrites.{is_accept_of}
 use Rattle.dr_words.proofs.Accepts.{accept_within}
 use Rattle.dr_words.specs.Columns.{head_column, leavers_column, recv_column}
 use Rattle.dr_words.specs.Packing.{accept_tag}
@@ -57,3 +60,22 @@ same_accepts g V view tag value committed pending own new table copies seen vote
   where
     on : (i v c word : ℕ) → TellsVote g own votes i v c word → TellsVote g new votes i v c word
     on i v c word = tells_on g own new votes votes i v c word grew (votes_same g own votes)
+
+-- where the row of one member is rewritten, and its accept words tell of its votes what is so
+pub row_rewritten : (g : Group) (V : Views) (view : ℕ → ℕ) (own : Numbers) (m u : ℕ) (row : ℕ → ℕ)
+    (table : Table) (seen : Numbers) (votes : Votes) → OwnGrew g own (at₂ own m u row)
+    → ((c : ℕ) → is_accept_of (roster g) (V u) c ≡ true
+    → TellsVote g (at₂ own m u row) votes m u c (row c))
+    → WordsTellVotes g V view own table seen votes
+    → WordsTellVotes g V view (at₂ own m u row) table seen votes
+row_rewritten g V view own m u row table seen votes grew here old = record {
+  in_own = λ i v c a. at₂_case (λ i v r. is_accept_of (roster g) (V v) c ≡ true
+      → TellsVote g (at₂ own m u row) votes i v c (r c)) own m u row
+      (λ i v a. on i v c (own i v c) (old.in_own i v c a)) (here c) i v a;
+  in_table = λ v k i c a. on i v c (table v k i c) (old.in_table v k i c a);
+  in_seen = λ k i c a. on i (view k) c (seen k i c) (old.in_seen k i c a);
+}
+  where
+    on : (i v c word : ℕ) → TellsVote g own votes i v c word
+        → TellsVote g (at₂ own m u row) votes i v c word
+    on i v c word = tells_on g own (at₂ own m u row) votes votes i v c word grew (votes_same g own votes)

@@ -1,12 +1,15 @@
--- Each event keeps what is true of votes.
-use Rattle.std.proofs.Common.{arith, refl, ℕ, length}
+-- Each event keeps what is true of votes, each accept word one that its owner had, and whoever suspects nobody
+-- without a vote that waits.
+use Rattle.std.proofs.Common.{◌≡◌, None, Option, Some, arith, refl, inl, inr, ℕ, ◌+◌, length}
+use Rattle.dr_entry.specs.declared.record.Value.{Value}
 use Rattle.dr_entry.specs.declared.end.SentItem.TheVariants.{Index, Null}
 use Rattle.dr_machine.specs.Acts.{CanDo, CanTake, Guard, does, effect, effect_of}
-use Rattle.dr_machine.specs.Effects.{puts, receives}
+use Rattle.dr_machine.specs.Effects.{one_more, puts, receives, vote_for}
 use Rattle.dr_machine.specs.Events.{member_of, step_of}
-use Rattle.dr_machine.specs.Group.{Group, IsGroup}
+use Rattle.dr_machine.specs.Group.{Group, IsGroup, roster}
 use Rattle.dr_machine.specs.Guards.{next_index}
-use Rattle.dr_machine.specs.World.{World}
+use Rattle.dr_machine.specs.World.{World, own_word}
+use Rattle.dr_machine.specs.Run.{IsReached}
 use Rattle.dr_machine.specs.declared.event.Event.{Event}
 use Rattle.dr_machine.specs.declared.event.Act.{Act}
 use Rattle.dr_machine.specs.declared.event.Act.TheVariants as acts
@@ -25,7 +28,12 @@ use Rattle.dr_vote_laws.proofs.Moving.{finish_votes}
 use Rattle.dr_vote_laws.proofs.Plain.{look_votes, push_votes, stamp_votes, word_votes}
 use Rattle.dr_vote_laws.proofs.Suspecting.{suspect_votes}
 use Rattle.dr_vote_laws.specs.Voting.{Voting}
-use Rattle.dr_words.specs.declared.column.TheConstants.{DONE_COLUMN, LOGGED_COLUMN}
+use Rattle.dr_vote_laws.proofs.Moments.{AreOfMoments, AreSo, IsOfMoment, all_on, had_on, has_now}
+use Rattle.dr_vote_laws.specs.Moments.{AcceptsOfMoments, HadAccepted}
+use Rattle.dr_words.proofs.Accepts.{accept_within}
+use Rattle.dr_faithful.proofs.Suspicions.{mask_after, mask_some}
+use Rattle.dr_faithful.proofs.Writes.{at_both, at_case, at₃_case, at₄_case}
+use Rattle.dr_words.specs.declared.column.TheConstants.{BEAT_COLUMN, DONE_COLUMN, LOGGED_COLUMN}
 
 -- an item that is put
 put_votes : (g : Group) (V : Views) (w : World) (m : ℕ) (x : SentItem) → IsGroup g → MayPut g w m x
@@ -76,3 +84,82 @@ step_votes g V w m (LogVote v) is well can f old = vote_votes g V w m v is can f
 pub voting_keeps : (g : Group) (V : Views) (w : World) (e : Event) → IsGroup g → AllGoOn g V w
     → Guard g w e → Faithful g V w → Voting g V w → Voting g V (effect g w e)
 voting_keeps g V w e is well can f old = step_votes g V w (member_of e) (step_of e) is well can f old
+
+-- ---- the words of votes are of moments
+
+-- no act writes the table, but for its stamp, and one alone what was seen: in the next view nothing was
+does_same : (g : Group) (V : Views) (w after : World) (m : ℕ) (a : Act)
+    → AreOfMoments g V after w.past.view w.table w.seen
+    → AreOfMoments g V after (does g w m a).past.view (does g w m a).table (does g w m a).seen
+does_same g V w after m acts.Finish so = record {
+  in_table = so.in_table;
+  in_seen = at_both (λ k view row. (i c : ℕ) → IsOfMoment g V after view i c (row i c)) w.past.view w.seen m
+      (w.past.view m + 1) (λ i c. 0) so.in_seen (λ i c column. inl refl);
+}
+does_same g V w after m a so = so
+
+-- the beat word is no accept word
+beat_so : (g : Group) (V : Views) (w : World) (v i word : ℕ) → IsOfMoment g V w v i BEAT_COLUMN word
+beat_so g V w v i word column = absurd (omega (arith, accept_within (roster g) (V v) BEAT_COLUMN column))
+
+step_so : (g : Group) (V : Views) (w : World) (m : ℕ) (s : Step) → IsReached g w → Faithful g V w
+    → ((i v c word : ℕ) → HadAccepted g w i v c word → HadAccepted g (effect_of g w m s) i v c word)
+    → AreOfMoments g V (effect_of g w m s) w.past.view w.table w.seen → AreSo g V (effect_of g w m s)
+step_so g V w m (Do a) run f on so =
+    let u : World = does g w m a in
+    let did = does_same g V w (effect_of g w m (Do a)) m a so in record {
+      in_table = at₄_case (λ v j i c word. IsOfMoment g V (effect_of g w m (Do a)) v i c word) u.table
+          (w.past.view m) m m BEAT_COLUMN (one_more 64 (u.past.acts m)) did.in_table
+          (beat_so g V (effect_of g w m (Do a)) (w.past.view m) m (one_more 64 (u.past.acts m)));
+      in_seen = did.in_seen;
+    }
+step_so g V w m (Look i c) run f on so = record {
+  in_table = so.in_table;
+  in_seen = at₃_case (λ k a d word. IsOfMoment g V (effect_of g w m (Look i c)) (w.past.view k) a d word)
+      w.seen m i c (w.table (w.past.view m) m i c) so.in_seen (so.in_table (w.past.view m) m i c);
+}
+step_so g V w m (Push j c) run f on so = record {
+  in_table = at₄_case (λ v k a d word. IsOfMoment g V (effect_of g w m (Push j c)) v a d word) w.table
+      (w.past.view m) j m c (own_word w m c) so.in_table
+      (λ column. inr (on m (w.past.view m) c (own_word w m c) (has_now g V w m c run f column)));
+  in_seen = so.in_seen;
+}
+step_so g V w m s run f on so = record { in_table = so.in_table; in_seen = so.in_seen }
+
+pub accepts_stay : (g : Group) (V : Views) (w : World) (e : Event) → IsReached g w → Guard g w e
+    → Faithful g V w → AcceptsOfMoments g V w → AcceptsOfMoments g V (effect g w e)
+accepts_stay g V w e run can f old =
+    let so = step_so g V w (member_of e) (step_of e) run f
+    (λ i v c word. had_on g w (effect g w e) e i v c word (inl (can, refl)))
+    (all_on g V w (effect g w e) e (inl (can, refl)) old) in
+    record { in_table = so.in_table; in_seen = so.in_seen }
+
+-- ---- who suspects nobody
+
+-- who suspects nobody has no vote that waits, and has committed nothing
+abbrev pub AreQuiet : World → Type 0
+AreQuiet w = (m : ℕ) → w.suspects m ≡ 0 → (w.pending m ≡ None) × (w.committed m ≡ None)
+
+-- each step keeps it so
+pub step_quiet : (g : Group) (V : Views) (w : World) (m : ℕ) (s : Step) → IsGroup g → Faithful g V w
+    → CanTake g w m s → AreQuiet w → AreQuiet (effect_of g w m s)
+step_quiet g V w m (Do (acts.Suspect j)) is f can old =
+    at_case (λ k mask. mask ≡ 0 → (w.pending k ≡ None) × (w.committed k ≡ None)) w.suspects m
+    (mask_after w m j) (λ k d. old k) (λ none. absurd (mask_some g V w m j is can f none))
+step_quiet g V w m (Do acts.Propose) is f can old =
+    at_case (λ k vote. w.suspects k ≡ 0 → (vote ≡ None) × (w.committed k ≡ None)) w.pending m None
+    (λ k d. old k) (λ calm. (refl, (old m calm).1))
+step_quiet g V w m (Do acts.Accept) is f can old =
+    at_case (λ k vote. w.suspects k ≡ 0 → (vote ≡ None) × (w.committed k ≡ None)) w.pending m None
+    (λ k d. old k) (λ calm. (refl, (old m calm).1))
+step_quiet g V w m (Do acts.Commit) is f can old =
+    at_case (λ k choice. w.suspects k ≡ 0 → (w.pending k ≡ None) × (choice ≡ None)) w.committed m
+    (Some (w.value m)) (λ k d. old k) (λ calm. absurd (can.wedged calm))
+step_quiet g V w m (Do acts.Finish) is f can old =
+    at_both (λ k (mask : ℕ) (choice : Option Value). mask ≡ 0 → (w.pending k ≡ None) × (choice ≡ None))
+    w.suspects w.committed m 0 None old (λ calm. (can.may.idle, refl))
+step_quiet g V w m (Do a) is f can old = old
+step_quiet g V w m (LogVote v) is f can old =
+    at_case (λ k vote. w.suspects k ≡ 0 → (vote ≡ None) × (w.committed k ≡ None)) w.pending m
+    (Some (vote_for g w m v)) (λ k d. old k) (λ calm. absurd (can.wedged calm))
+step_quiet g V w m s is f can old = old

@@ -10,7 +10,8 @@ use Rattle.dr_faithful.proofs.Suspicions.{mask_after, promise_after, promise_ris
 use Rattle.dr_faithful.proofs.Writes.{at₂_case, at₂_read}
 use Rattle.dr_faithful.specs.Faithful.{Faithful}
 use Rattle.dr_faithful.specs.Tells.{Views}
-use Rattle.dr_vote_laws.proofs.Later.{OwnGrew, original_on, tells_on}
+use Rattle.dr_vote_laws.proofs.Frames.{row_rewritten}
+use Rattle.dr_vote_laws.proofs.Later.{OwnGrew, original_on}
 use Rattle.dr_vote_laws.proofs.Logs.{votes_same}
 use Rattle.dr_vote_laws.specs.Tells.{TellsVote, promise_in, tag_in}
 use Rattle.dr_vote_laws.specs.Voting.{Voting}
@@ -94,22 +95,10 @@ suspect_votes g V w m j is can f old = record {
   };
   original = λ v b x h. original_on g V w.past.own (suspects g w m j).past.own w.past.votes w.past.votes
       v b x (f.views.within v) grew (votes_same g w.past.own w.past.votes) (old.original v b x h);
-  words = record {
-    in_own = λ i v c a. at₂_case (λ i v r. is_accept_of (roster g) (V v) c ≡ true
-        → TellsVote g (suspects g w m j).past.own w.past.votes i v c (r c)) w.past.own m
-        (w.past.view m) (row_after g w m j)
-        (λ i v a. on i v c (w.past.own i v c) (old.words.in_own i v c a))
-        (λ a. row_votes g V w m j c is can f old a) i v a;
-    in_table = λ v k i c a. on i v c (w.table v k i c) (old.words.in_table v k i c a);
-    in_seen = λ k i c a. on i (w.past.view k) c (w.seen k i c) (old.words.in_seen k i c a);
-  };
+  words = row_rewritten g V w.past.view w.past.own m (w.past.view m) (row_after g w m j) w.table w.seen
+      w.past.votes grew (λ c a. row_votes g V w m j c is can f old a) old.words;
   chosen = old.chosen;
 }
   where
     grew : OwnGrew g w.past.own (suspects g w m j).past.own
     grew = (suspect_grew g V w m j is can f).own
-
-    on : (i v c word : ℕ) → TellsVote g w.past.own w.past.votes i v c word
-        → TellsVote g (suspects g w m j).past.own w.past.votes i v c word
-    on i v c word = tells_on g w.past.own (suspects g w m j).past.own w.past.votes w.past.votes i v c word
-        grew (votes_same g w.past.own w.past.votes)

@@ -25,6 +25,7 @@ use Rattle.dr_machine.specs.World.{World}
 use Rattle.dr_machine.specs.Run.{accounts_in, WorldAgreed}
 use Rattle.dr_faithful.specs.Chosen.{Values, endings_by, views_by}
 use Rattle.dr_world_laws.specs.Historic.{IsMerged, head_by, view_numbered}
+use Rattle.dr_world_laws.proofs.Completion.{done_shown}
 use Rattle.dr_world_laws.proofs.ChosenViews.{place-kept}
 use Rattle.dr_world_laws.proofs.Finishing.{goes-any}
 use Rattle.dr_world_laws.proofs.Items.{held-next}
@@ -151,7 +152,8 @@ agreed g values w is y = agreed-by g values w (accounts_in w) is y
 -- a member that ended as done knows its whole history to be durable
 pub done-durable : (g : Group) (values : Values) (w : World) (m : ℕ) → Known g values w → m < roster g
     → w.end m ≡ Some Done → w.past.durable m ≡ length (w.past.history m)
-done-durable g values w m y l e = y.complete.durable m l (y.complete.shown m l e)
+done-durable g values w m y l e = y.complete.durable m l
+    (done_shown g (views_by g values) w m y.faithful y.complete l e)
 
 -- a member that ended as done holds all messages of the members of its view
 pub done-whole : (g : Group) (values : Values) (w : World) (m : ℕ) → IsGroup g → Known g values w
@@ -165,7 +167,8 @@ done-whole g values w m is y l e s member =
     ≡ true = subst (λ mask. has mask s ≡ true) (y.faithful.views.own m) member in
     omega (
       arith,
-      ((y.faithful.words.own m (w.past.view m) DONE_COLUMN).done refl).1 (y.complete.shown m l e) s of_view,
+      ((y.faithful.words.own m (w.past.view m) DONE_COLUMN).done refl).1
+          (done_shown g (views_by g values) w m y.faithful y.complete l e) s of_view,
       ap (λ es. length (messages_from s es)) all,
       ap length numbered.1,
       length-append (messages_from s (w.past.history m)) numbered.0,

@@ -2,22 +2,20 @@
 -- nobody has committed one before, nobody has left the view either, and so the value may be chosen for it,
 -- as far as what came before goes.
 use Rattle.std.proofs.Common.{List, [], ◌∷◌, None, Option, Some, ap, arith, inl, inr, le_refl, refl, subst, suc, sym, zero, ℕ, ◌+◌, ◌<◌, ◌∙◌, ◌≡◌, ◌≢◌, ◌≤◌, ◌⊎◌}
-use Rattle.std.specs.Prelude.{⊤}
 use Rattle.std.proofs.lemmas.Bool.{cases_eq, cases_lt}
 use Rattle.std.proofs.lemmas.Option.{none-some}
 use Rattle.dr_entry.specs.declared.record.Value.{Value}
+use Rattle.dr_machine.proofs.Events.{standing_after}
 use Rattle.dr_machine.proofs.Presence.{in_roster}
 use Rattle.dr_machine.proofs.Runs.{reached, reached_where, reached_where_effect}
 use Rattle.dr_machine.specs.Acts.{CanTake, Guard, effect, effect_of}
-use Rattle.dr_machine.specs.declared.event.Act.TheVariants.{Beat, Commit, Finish}
 use Rattle.dr_machine.specs.declared.event.Event.{Event}
 use Rattle.dr_machine.specs.declared.step.Step.{Step}
-use Rattle.dr_machine.specs.declared.step.Step.TheVariants.{Do}
-use Rattle.dr_machine.specs.Effects.{commits as after_commit}
+use Rattle.dr_machine.specs.Effects.{commits as after_commit, finishes}
 use Rattle.dr_machine.specs.Events.{member_of, step_of}
-use Rattle.dr_machine.specs.Group.{Group, IsGroup, roster}
+use Rattle.dr_machine.specs.Group.{Group, IsGroup, IsPresent, roster}
 use Rattle.dr_machine.specs.Guards.{CanCommit}
-use Rattle.dr_machine.specs.Run.{Happens, IsReached, IsReachedWhere, RunWhere}
+use Rattle.dr_machine.specs.Run.{Happens, IsReached, RunWhere}
 use Rattle.dr_machine.specs.Votes.{IsOf, MajorityHas}
 use Rattle.dr_machine.specs.World.{World, no_value, opening_world}
 use Rattle.dr_machine.specs.Writes.{at}
@@ -42,15 +40,19 @@ AreIdle g w = (k : ℕ) → roster g ≤ k → (w.past.view k ≡ 0) × (w.commi
 
 others_idle : (g : Group) (w : World) (m : ℕ) (s : Step) → IsGroup g → CanTake g w m s → AreIdle g w
     → AreIdle g (effect_of g w m s)
-others_idle g w m (Do Finish) is can old =
-    at_both (λ k v c. roster g ≤ k → (v ≡ 0) × (c ≡ None)) w.past.view w.committed m (w.past.view m + 1) None
-    old (λ l. absurd (omega (arith, l, in_roster g m is can.may.alive.present)))
-others_idle g w m (Do Commit) is can old =
-    at_case (λ k c. roster g ≤ k → (w.past.view k ≡ 0) × (c ≡ None)) w.committed m (Some (w.value m))
-    (λ k d. old k) (λ l. absurd (omega (arith, l, in_roster g m is can.may.alive.present)))
-others_idle g w m (Do Beat) is can old = old
-others_idle g w m (Do a) is can old = old
-others_idle g w m s is can old = old
+others_idle g w m s is can old = standing_after g w m s
+    (λ x. (k : ℕ) → roster g ≤ k → (x.view k ≡ 0) × (x.committed k ≡ None)) can (record {
+      goes_on = λ can. at_both (λ k v c. roster g ≤ k → (v ≡ 0) × (c ≡ None)) w.past.view w.committed m
+          (w.past.view m + 1) None old (λ l. absurd (within can.may.alive.present l));
+      chooses = λ can. at_case (λ k c. roster g ≤ k → (w.past.view k ≡ 0) × (c ≡ None)) w.committed m
+          (Some (w.value m)) (λ k d. old k) (λ l. absurd (within can.may.alive.present l));
+      wedges = λ j can. old;
+      stops = λ end alive why. old;
+      stays = old;
+    })
+  where
+    within : IsPresent g m → roster g ≤ m → ⊥
+    within there l = omega (arith, l, in_roster g m is there)
 
 -- ---- views that nobody has committed a value in, or left
 
@@ -117,36 +119,9 @@ passed_or_before g w v idle = by (search w v (roster g))
 
 -- ---- back along a run
 
-finish_back : (v view : ℕ) (committed : Option Value) → IsBefore v (view + 1) None
-    → IsBefore v view committed
-finish_back v view committed b = record {
-  within = omega (arith, b.within);
-  none = λ e. absurd (omega (arith, e, b.within));
-}
-
--- where nobody has passed a view after a step, nobody had before
-step_back : (g : Group) (w : World) (m : ℕ) (s : Step) (v : ℕ) → CanTake g w m s
-    → AreBefore (effect_of g w m s) v → AreBefore w v
-step_back g w m (Do Finish) v can after k = by (cases_eq k m)
-  where
-    view : k ≢ m → at w.past.view m (w.past.view m + 1) k ≡ w.past.view k
-    view d = at_other w.past.view m (w.past.view m + 1) k d
-
-    none : k ≢ m → at w.committed m None k ≡ w.committed k
-    none d = at_other w.committed m None k d
-
-    now : IsBefore v (at w.past.view m (w.past.view m + 1) k) (at w.committed m None k)
-    now = after k
-
-    by : (k ≡ m) ⊎ (k ≢ m) → IsBefore v (w.past.view k) (w.committed k)
-    by (inl e) = subst (λ i. IsBefore v (w.past.view i) (w.committed i)) (sym e)
-        (finish_back v (w.past.view m) (w.committed m)
-        (subst (λ x. IsBefore v x None) (at_same w.past.view m (w.past.view m + 1))
-        (subst (λ c. IsBefore v (at w.past.view m (w.past.view m + 1) m) c) (at_same w.committed m None)
-        (after m))))
-    by (inr d) = subst (λ x. IsBefore v x (w.committed k)) (view d)
-        (subst (λ c. IsBefore v (at w.past.view m (w.past.view m + 1) k) c) (none d) (after k))
-step_back g w m (Do Commit) v can after k = by (cases_eq k m)
+commit_back : (g : Group) (w : World) (m v : ℕ) → CanCommit g w m → AreBefore (after_commit w m) v
+    → AreBefore w v
+commit_back g w m v can after k = by (cases_eq k m)
   where
     by : (k ≡ m) ⊎ (k ≢ m) → IsBefore v (w.past.view k) (w.committed k)
     by (inl e) = record { within = (after k).within; none = λ d. ap w.committed e ∙ can.uncommitted }
@@ -154,9 +129,31 @@ step_back g w m (Do Commit) v can after k = by (cases_eq k m)
       within = (after k).within;
       none = λ e. sym (at_other w.committed m (Some (w.value m)) k d) ∙ (after k).none e;
     }
-step_back g w m (Do Beat) v can after k = record { within = (after k).within; none = (after k).none }
-step_back g w m (Do a) v can after k = record { within = (after k).within; none = (after k).none }
-step_back g w m s v can after k = record { within = (after k).within; none = (after k).none }
+
+finish_back : (g : Group) (w : World) (m v : ℕ) → AreBefore (finishes g w m) v → AreBefore w v
+finish_back g w m v after k = by (cases_eq k m)
+  where
+    by : (k ≡ m) ⊎ (k ≢ m) → IsBefore v (w.past.view k) (w.committed k)
+    by (inl e) =
+        let left : w.past.view k + 1 ≤ v =
+        subst (λ n. n ≤ v) (ap (at w.past.view m (w.past.view m + 1)) e
+        ∙ at_same w.past.view m (w.past.view m + 1) ∙ ap (λ i. w.past.view i + 1) (sym e)) (after k).within
+        in record { within = omega (arith, left); none = λ same. absurd (omega (arith, left, same)) }
+    by (inr d) = subst (λ x. IsBefore v x (w.committed k)) (at_other w.past.view m (w.past.view m + 1) k d)
+        (subst (λ c. IsBefore v (at w.past.view m (w.past.view m + 1) k) c) (at_other w.committed m None k d)
+        (after k))
+
+-- where nobody has passed a view after a step, nobody had before
+step_back : (g : Group) (w : World) (m : ℕ) (s : Step) (v : ℕ) → CanTake g w m s
+    → AreBefore (effect_of g w m s) v → AreBefore w v
+step_back g w m s v can = standing_after g w m s
+    (λ x. ((k : ℕ) → IsBefore v (x.view k) (x.committed k)) → AreBefore w v) can (record {
+      goes_on = λ can. finish_back g w m v;
+      chooses = λ can. commit_back g w m v can;
+      wedges = λ j can before. before;
+      stops = λ end alive why before. before;
+      stays = λ before. before;
+    })
 
 happens_back : (g : Group) (w mid : World) (e : Event) (v : ℕ) → Happens g w e mid → AreBefore mid v
     → AreBefore w v
@@ -185,38 +182,6 @@ reached_free g values w v x before r = record {
   way = (r.way.0, (run_free g values v x (opening_world g) w r.way.0 r.way.1 before).0);
   now = value_free w values v x before r.now;
 }
-
--- ---- one event more
-
--- a step commits the chosen value of the view, or none
-abbrev CommitsChosen : Values → World → ℕ → Step → Type 0
-CommitsChosen values w m (Do Commit) = w.value m ≡ values (w.past.view m)
-CommitsChosen values w m s = ⊤
-
-ones_stay : (g : Group) (values : Values) (w : World) (m : ℕ) (s : Step) → CanTake g w m s
-    → CommitsChosen values w m s
-    → ((k : ℕ) (x : Value) → w.committed k ≡ Some x → x ≡ values (w.past.view k))
-    → (k : ℕ) (x : Value) → (effect_of g w m s).committed k ≡ Some x
-    → x ≡ values ((effect_of g w m s).past.view k)
-ones_stay g values w m (Do Finish) can so old =
-    at_both (λ k v (c : Option Value). (x : Value) → c ≡ Some x → x ≡ values v) w.past.view w.committed m
-    (w.past.view m + 1) None old (λ x e. absurd (none-some x e))
-ones_stay g values w m (Do Commit) can so old =
-    at_case (λ k (c : Option Value). (x : Value) → c ≡ Some x → x ≡ values (w.past.view k)) w.committed m
-    (Some (w.value m)) (λ k d. old k) (λ x e. sym (some_same (w.value m) x e) ∙ so)
-ones_stay g values w m (Do Beat) can so old = old
-ones_stay g values w m (Do a) can so old = old
-ones_stay g values w m s can so old = old
-
-event_more : (g : Group) (values : Values) (w : World) (e : Event) → IsGroup g → IsReachedBy g values w
-    → Guard g w e → CommitsChosen values w (member_of e) (step_of e) → IsReachedBy g values (effect g w e)
-event_more g values w e is r can so = record {
-  way = way;
-  now = ones_stay g values w (member_of e) (step_of e) can so r.now;
-}
-  where
-    way : IsReachedWhere g (AreChosen values) (effect g w e)
-    way = reached_where_effect g (AreChosen values) w e r.now r.way can
 
 -- ---- which value is chosen
 
@@ -247,20 +212,39 @@ commits_same g values w m k y chosen can passed =
 -- there are values by which a world is reached, and by which its next step goes
 choose : (g : Group) (values : Values) (w : World) (m : ℕ) (s : Step) → IsGroup g → AreIdle g w
     → IsReachedBy g values w → CanTake g w m s
-    → (more : Values) × IsReachedBy g more w × CommitsChosen more w m s
-choose g values w m (Do Commit) is idle r can = by (passed_or_before g w (w.past.view m) idle)
+    → (more : Values) × IsReachedBy g more w × AreChosen more (effect_of g w m s)
+choose g values w m s is idle r can = standing_after g w m s (λ x. (more : Values) × IsReachedBy g more w
+    × ((k : ℕ) (y : Value) → x.committed k ≡ Some y → y ≡ more (x.view k))) can (record {
+      goes_on = λ can. (
+        values,
+        r,
+        at_both
+            (λ k v (c : Option Value). (y : Value) → c ≡ Some y → y ≡ values v) w.past.view w.committed m
+            (w.past.view m + 1) None r.now (λ y e. absurd (none-some y e)),
+      );
+      chooses = λ can. by can (passed_or_before g w (w.past.view m) idle);
+      wedges = λ j can. (values, r, r.now);
+      stops = λ end alive why. (values, r, r.now);
+      stays = (values, r, r.now);
+    })
   where
-    by : ((k : ℕ) × HasPassed w (w.past.view m) k) ⊎ AreBefore w (w.past.view m)
-        → (more : Values) × IsReachedBy g more w × CommitsChosen more w m (Do Commit)
-    by (inl t) = (values, r, commits_same g values w m t.0 (known g values w is r.way) r.now can t.1)
-    by (inr before) = (
-      at values (w.past.view m) (w.value m),
-      reached_free g values w (w.past.view m) (w.value m) before r,
-      sym (at_same values (w.past.view m) (w.value m)),
+    commit : (more : Values) → AreChosen more w → w.value m ≡ more (w.past.view m)
+        → AreChosen more (after_commit w m)
+    commit more now so = at_case (λ k (c : Option Value). (y : Value) → c ≡ Some y → y ≡ more (w.past.view k))
+        w.committed m (Some (w.value m)) (λ k d. now k) (λ y e. sym (some_same (w.value m) y e) ∙ so)
+
+    by : CanCommit g w m → ((k : ℕ) × HasPassed w (w.past.view m) k) ⊎ AreBefore w (w.past.view m)
+        → (more : Values) × IsReachedBy g more w × AreChosen more (after_commit w m)
+    by can (inl t) = (
+      values,
+      r,
+      commit values r.now
+          (commits_same g values w m t.0 (known g values w is r.way) r.now can t.1),
     )
-choose g values w m (Do Beat) is idle r can = (values, r, tt)
-choose g values w m (Do a) is idle r can = (values, r, tt)
-choose g values w m s is idle r can = (values, r, tt)
+    by can (inr before) =
+        let more : Values = at values (w.past.view m) (w.value m) in
+        let free = reached_free g values w (w.past.view m) (w.value m) before r in
+        (more, free, commit more free.now (sym (at_same values (w.past.view m) (w.value m))))
 
 -- so every world that is reached is reached by values
 abbrev IsReachedSo : Group → World → Type 0
@@ -274,7 +258,10 @@ step_so : (g : Group) (w : World) (e : Event) → IsGroup g → Guard g w e → 
     → IsReachedSo g (effect g w e)
 step_so g w e is can (r, idle) =
     let t = choose g r.0 w (member_of e) (step_of e) is idle r.1 can in (
-      (t.0, event_more g t.0 w e is t.1 can t.2),
+      (
+        t.0,
+        record { way = reached_where_effect g (AreChosen t.0) w e t.1.now t.1.way can; now = t.2 },
+      ),
       others_idle g w (member_of e) (step_of e) is can idle,
     )
 

@@ -1,19 +1,20 @@
 -- While nobody suspects anybody, nobody commits a value, and everybody stays in the first view.
-use Rattle.std.proofs.Common.{List, None, arith, length, length-append, refl, sym, true, ℕ, ◌+◌, ◌<◌, ◌∙◌, ◌≡◌, ◌≤◌}
+use Rattle.std.proofs.Common.{◌++◌, List, None, arith, length, length-append, refl, sym, true, ℕ, ◌+◌, ◌<◌, ◌∙◌, ◌≡◌, ◌≤◌}
 use Rattle.std.proofs.lemmas.Option.{none-some}
 use Rattle.dr_entry.specs.declared.entry.Entry.{Entry}
 use Rattle.dr_entry.specs.declared.entry.Item.{Item}
 use Rattle.dr_entry.specs.declared.entry.Item.TheVariants.{Null, Text}
 use Rattle.dr_history.specs.Members.{has}
 use Rattle.dr_history.specs.Order.{first_entries, messages_from}
+use Rattle.dr_machine.proofs.Events.{progress_after, standing_after}
 use Rattle.dr_machine.proofs.Runs.{reached_where}
-use Rattle.dr_machine.specs.declared.event.Act.TheVariants.{Beat, Commit, Deliver, Finish}
 use Rattle.dr_machine.specs.declared.step.Step.{Step}
-use Rattle.dr_machine.specs.declared.step.Step.TheVariants.{Do}
 use Rattle.dr_machine.specs.Acts.{CanTake, effect_of}
 use Rattle.dr_machine.specs.Effects.{entries_of, sender_at}
 use Rattle.dr_machine.specs.Events.{member_of, step_of}
 use Rattle.dr_machine.specs.Group.{Group, IsGroup, roster}
+use Rattle.dr_machine.specs.Guards.{CanFinish}
+use Rattle.dr_machine.specs.Writes.{at}
 use Rattle.dr_machine.specs.Run.{IsReachedWhere}
 use Rattle.dr_machine.specs.World.{World, item_at_place}
 use Rattle.dr_words.proofs.Bits.{has_ones}
@@ -37,27 +38,53 @@ one_entry history s (Text bytes) = omega arith
 
 step_keeps : (g : Group) (w : World) (m : ℕ) (s : Step) → CanTake g w m s → NobodySuspects w
     → AreUncommitted g w → AreUncommitted g (effect_of g w m s)
-step_keeps g w m (Do Commit) can calm u = absurd (can.wedged (calm m))
-step_keeps g w m (Do Finish) can calm u = absurd (none-some can.value (sym (u.none m) ∙ can.committed))
-step_keeps g w m (Do Deliver) can calm u = record {
-  none = u.none;
-  first = u.first;
-  start = u.start;
-  short = λ a. grind (
-    arith,
-    u.short a,
-    length-append (w.past.history m) new,
-    one_entry (w.past.history m) (sender_at w m (w.next m)) (item_at_place w m (w.next m)),
-  );
+step_keeps g w m s can calm u = record {
+  none = stand.0;
+  first = stand.1;
+  start = went.0;
+  short = went.1;
 }
   where
+    stays : CanFinish g w m → ⊥
+    stays can = none-some can.value (sym (u.none m) ∙ can.committed)
+
+    stand : ((k : ℕ) → (effect_of g w m s).committed k ≡ None)
+        × ((k : ℕ) → (effect_of g w m s).past.view k ≡ 0)
+    stand = standing_after g w m s (λ x. ((k : ℕ) → x.committed k ≡ None) × ((k : ℕ) → x.view k ≡ 0)) can
+        (record {
+          goes_on = λ can. absurd (stays can);
+          chooses = λ can. absurd (can.wedged (calm m));
+          wedges = λ j can. (u.none, u.first);
+          stops = λ end alive why. (u.none, u.first);
+          stays = (u.none, u.first);
+        })
+
     new : List Entry
     new = entries_of (w.past.history m) (sender_at w m (w.next m)) (item_at_place w m (w.next m))
-step_keeps g w m (Do Beat) can calm u =
-    record { none = u.none; first = u.first; start = u.start; short = u.short }
-step_keeps g w m (Do a) can calm u =
-    record { none = u.none; first = u.first; start = u.start; short = u.short }
-step_keeps g w m s can calm u = record { none = u.none; first = u.first; start = u.start; short = u.short }
+
+    delivered : (k : ℕ)
+        → length (at w.past.history m
+        (w.past.history m
+        ++ entries_of (w.past.history m) (sender_at w m (w.next m)) (item_at_place w m (w.next m))) k)
+        ≤ length (first_entries g.opening) + at w.next m (w.next m + 1) k
+    delivered k = grind (
+      arith,
+      u.short k,
+      length-append (w.past.history m) new,
+      one_entry (w.past.history m) (sender_at w m (w.next m)) (item_at_place w m (w.next m)),
+    )
+
+    went : ((k : ℕ) → (effect_of g w m s).base k ≡ length (messages_from k g.opening.start))
+        × ((k : ℕ) → length ((effect_of g w m s).past.history k)
+        ≤ length (first_entries g.opening) + (effect_of g w m s).next k)
+    went = progress_after g w m s (λ x. ((k : ℕ) → x.base k ≡ length (messages_from k g.opening.start))
+        × ((k : ℕ) → length (x.history k) ≤ length (first_entries g.opening) + x.next k)) can (record {
+          puts_item = λ name may. (u.start, u.short);
+          delivers_place = λ can. (u.start, delivered);
+          knows_more = λ can. (u.start, u.short);
+          goes_on = λ can. absurd (stays can);
+          stays = (u.start, u.short);
+        })
 
 -- nobody may end its view
 pub none_go_on : (g : Group) (V : Views) (w : World) → AreUncommitted g w → AllGoOn g V w

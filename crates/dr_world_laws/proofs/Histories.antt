@@ -2,9 +2,7 @@
 use Rattle.std.proofs.Common.{◌≡◌, ◌≢◌, refl, ap, sym, ◌∙◌, ◌⊎◌, inl, inr, subst, ℕ, ◌+◌, ◌<◌, ◌≤◌, le_refl, arith, List, [], ◌∷◌, ◌++◌, length, take, slice_get, option_to_list, append_assoc, append-nil}
 use Rattle.dr_entry.specs.declared.entry.Entry.{Entry}
 use Rattle.dr_entry.specs.declared.end.SentItem.{SentItem}
-use Rattle.dr_entry.specs.declared.end.SentItem.TheVariants as sent_items
-use Rattle.dr_entry.specs.declared.end.SentItem.TheVariants.{Index}
-use Rattle.dr_entry.specs.declared.entry.Item.{Item}
+use Rattle.dr_entry.specs.declared.end.SentItem.TheVariants.{Index, Null}
 use Rattle.std.proofs.lemmas.Bool.{cases_eq}
 use Rattle.dr_history.specs.declared.opening.Opening.{Opening}
 use Rattle.dr_history.specs.History.{IsPrefixOf, GroupView, Sent, messages_in}
@@ -15,26 +13,21 @@ use Rattle.dr_history_laws.proofs.SendingLemmas.{GoesOn-send}
 use Rattle.dr_history_laws.specs.Courses.{HasEnded, course, head_of}
 use Rattle.dr_history_laws.proofs.Courses.{course-head, course-steady, head-steady}
 use Rattle.dr_machine.specs.declared.event.Event.{Event}
-use Rattle.dr_machine.specs.declared.event.Act.TheVariants.{Send, Null, Deliver, Finish}
 use Rattle.dr_machine.specs.declared.step.Step.{Step}
-use Rattle.dr_machine.specs.declared.step.Step.TheVariants.{Do}
+use Rattle.dr_machine.proofs.Events.{IsNextItem, Progress, progress, progress_after}
 use Rattle.dr_machine.specs.Events.{member_of, step_of}
 use Rattle.dr_machine.specs.Group.{Group, roster, IsPresent}
 use Rattle.dr_machine.specs.Acts.{CanTake, Guard, effect, effect_of}
-use Rattle.dr_machine.specs.Guards.{CanDeliver, CanFinish, CanSend, next_index}
+use Rattle.dr_machine.specs.Guards.{CanDeliver, CanFinish}
 use Rattle.dr_machine.specs.Writes.{at₂}
 use Rattle.dr_machine.specs.World.{World, item_at_place}
-use Rattle.dr_machine.specs.Effects.{delivers, finished_history, finishes, finishes_by, puts, stamped_in, entries_of, sender_at}
+use Rattle.dr_machine.specs.Effects.{delivers, finished_history, finishes, finishes_by, entries_of, sender_at}
 use Rattle.dr_faithful.specs.Tells.{Views}
 use Rattle.dr_faithful.specs.Chosen.{Values, endings_by, views_by}
 use Rattle.dr_faithful.proofs.Faithfulness.{committed_is}
-use Rattle.dr_faithful.proofs.Writes.{at_both, at_case, at_three}
+use Rattle.dr_faithful.proofs.Writes.{at_both, at_case, at_three, at₂_case, at₂_read}
 use Rattle.dr_entry.specs.declared.record.Value.{Value}
 use Rattle.dr_world_laws.specs.Historic.{Historic, head_by, view_numbered}
-
-at₂_case : {A : Type 0} (P : ℕ → ℕ → A → Type 0) (f : ℕ → ℕ → A) (a b : ℕ) (v : A)
-    → ((i j : ℕ) → P i j (f i j)) → P a b v → (i j : ℕ) → P i j (at₂ f a b v i j)
-at₂_case P f a b v old here i j = grind (arith, old i j)
 
 -- what the next place adds
 abbrev pub added : World → ℕ → List Entry
@@ -52,7 +45,7 @@ AreHeld g V w = (m : ℕ) → m < roster g
 
 -- one place is delivered
 deliver_keeps : (g : Group) (values : Values) (w : World) (m : ℕ) → AddsEntry g (views_by g values) w m
-    → Historic g values w → Historic g values (stamped_in (delivers w m) m (w.past.view m))
+    → Historic g values w → Historic g values (delivers w m)
 deliver_keeps g values w m adds h = record {
   history = at_both
       (λ k es p. k < roster g → es
@@ -83,9 +76,6 @@ sent_more sent m v name = at₂_case (λ s n xs. IsPrefixOf (sent s n) xs) sent 
     (sent m v ++ name ∷ []) (λ s n. ([], append-nil (sent s n))) (name ∷ [], refl)
 
 -- what was sent in another view, or by another member
-at₂_own : {A : Type 0} (f : ℕ → ℕ → A) (a b : ℕ) (v : A) → at₂ f a b v a b ≡ v
-at₂_own f a b v = grind arith
-
 at₂_member : {A : Type 0} (f : ℕ → ℕ → A) (a b : ℕ) (v : A) (i : ℕ) → i ≢ a
     → at₂ f a b v i b ≡ f i b
 at₂_member f a b v i d = grind arith
@@ -109,29 +99,30 @@ abbrev pub HaveEnded : Group → Values → World → Type 0
 HaveEnded g values w = (m v : ℕ) → m < roster g → v < w.past.view m
     → HasEnded g.opening w.past.sent (endings_by g.opening values) v
 
--- the message that m may put is the next one
-message_next : (g : Group) (values : Values) (w : World) (m : ℕ) → m < roster g → Historic g values w
-    → CanSend g w m
+-- the message that m may put is the next one, and a null may always be put
+next_is : (g : Group) (values : Values) (w : World) (m : ℕ) (name : SentItem)
+    → ((m : ℕ) → IsPresent g m → m < roster g) → Historic g values w → IsNextItem g w m name
     → MayBeNext g.opening w.past.sent (head_by g values w (w.past.view m))
-    (view_numbered g (views_by g values) (w.past.view m)) m (Index (next_index w m))
-message_next g values w m l h can = record {
-  index = λ i e. let same : next_index w m ≡ i = cc in omega (arith, same, h.based m l);
-  scripted = λ i e. let same : next_index w m ≡ i = cc in omega (arith, same, can.left);
+    (view_numbered g (views_by g values) (w.past.view m)) m name
+next_is g values w m (Index n) within h (can, is) = record {
+  index = λ i e. let same : n ≡ i = cc in
+      omega (arith, same, is, h.based m (within m can.may.alive.present));
+  scripted = λ i e. let same : n ≡ i = cc in omega (arith, same, is, can.left);
 }
+next_is g values w m Null within h can =
+    record { index = λ i e. absurd (cc); scripted = λ i e. absurd (cc) }
 
--- and a null may always be
-null_next : (g : Group) (values : Values) (w : World) (m : ℕ)
-    → MayBeNext g.opening w.past.sent (head_by g values w (w.past.view m))
-    (view_numbered g (views_by g values) (w.past.view m)) m sent_items.Null
-null_next g values w m = record { index = λ i e. absurd (cc); scripted = λ i e. absurd (cc) }
-
-put_keeps : (g : Group) (values : Values) (w : World) (m : ℕ) (name : SentItem) (item : Item)
+put_keeps : (g : Group) (values : Values) (w : World) (m : ℕ) (name : SentItem)
     → HaveEnded g values w → AreHeld g (views_by g values) w
     → MayBeNext g.opening w.past.sent (head_by g values w (w.past.view m))
     (view_numbered g (views_by g values) (w.past.view m)) m name
     → Historic g values w
-    → Historic g values (stamped_in (puts g w m name item) m (w.past.view m))
-put_keeps g values w m name item ended held next h = record {
+    → Historic g values (record w {
+      past = record w.past {
+        sent = at₂ w.past.sent m (w.past.view m) (w.past.sent m (w.past.view m) ++ name ∷ []);
+      };
+    })
+put_keeps g values w m name ended held next h = record {
   history = λ k l. h.history k l ∙ sym (course-steady g.opening w.past.sent now
       (endings_by g.opening values) (w.past.view k) (w.next k) more (λ u. ended k u l) (held k l));
   goes = λ k v l come. subst (λ es. GoesOn g.opening now es (view_numbered g (views_by g values) v))
@@ -170,7 +161,7 @@ put_keeps g values w m name item ended held next h = record {
         (GoesOn-send g.opening w.past.sent now (head_by g values w u)
         (view_numbered g (views_by g values) u) m name (h.goes k u l (omega (arith, come, same)))
         (record {
-          own = at₂_own w.past.sent m u items;
+          own = at₂_read w.past.sent m u items;
           others = λ t d. at₂_member w.past.sent m u items t d;
         }) next)
     goes k v l come (inr other) = goes_still g.opening w.past.sent now (head_by g values w v)
@@ -223,21 +214,35 @@ pub record AreReady (g : Group) (values : Values) (w : World) : Type 0 where
   pub adds : (m : ℕ) → CanDeliver g w m → AddsEntry g (views_by g values) w m
   pub comes : (m : ℕ) → (can : CanFinish g w m) → ComesToHead g values w m can.value
 
+-- the world, but for what its members have put and delivered
+abbrev with_progress : World → Progress → World
+with_progress w x = record w {
+  past = record w.past { view = x.view; sent = x.sent; history = x.history };
+  next = x.next;
+  base = x.base;
+}
+
 -- each step keeps what the histories are made of
 step_keeps : (g : Group) (values : Values) (w : World) (m : ℕ) (s : Step) → AreReady g values w
     → CanTake g w m s → Historic g values w → Historic g values (effect_of g w m s)
-step_keeps g values w m (Do Send) r can h = put_keeps g values w m (Index (next_index w m)) _ r.ended r.held
-    (message_next g values w m (r.present m can.may.alive.present) h can) h
-step_keeps g values w m (Do Null) r can h =
-    put_keeps g values w m sent_items.Null _ r.ended r.held (null_next g values w m) h
-step_keeps g values w m (Do Deliver) r can h = deliver_keeps g values w m (r.adds m can) h
-step_keeps g values w m (Do Finish) r can h =
-    let c = r.comes m can in
-    let after : Historic g values (finishes g w m) = committed_is w m can.value (Historic g values) g
-    can.committed (finish_keeps g values w m can.value c.history c.goes h) in
-    record { history = after.history; goes = after.goes; based = after.based }
-step_keeps g values w m (Do a) r can h = record { history = h.history; goes = h.goes; based = h.based }
-step_keeps g values w m s r can h = record { history = h.history; goes = h.goes; based = h.based }
+step_keeps g values w m s r can h = record { history = after.history; goes = after.goes; based = after.based }
+  where
+    finish : CanFinish g w m → Historic g values (with_progress w (progress (finishes g w m)))
+    finish can =
+        let c = r.comes m can in
+        let next : Historic g values (finishes g w m) = committed_is w m can.value (Historic g values) g
+        can.committed (finish_keeps g values w m can.value c.history c.goes h) in
+        record { history = next.history; goes = next.goes; based = next.based }
+
+    after : Historic g values (with_progress w (progress (effect_of g w m s)))
+    after = progress_after g w m s (λ x. Historic g values (with_progress w x)) can (record {
+      puts_item = λ name may.
+          put_keeps g values w m name r.ended r.held (next_is g values w m name r.present h may) h;
+      delivers_place = λ can. deliver_keeps g values w m (r.adds m can) h;
+      knows_more = λ can. h;
+      goes_on = finish;
+      stays = h;
+    })
 
 -- after an event too, histories are laid out by views and places
 pub event_keeps : (g : Group) (values : Values) (w : World) (e : Event) → AreReady g values w

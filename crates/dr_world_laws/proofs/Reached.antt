@@ -26,9 +26,8 @@ use Rattle.dr_machine.specs.World.{World, opening_world, own_word}
 use Rattle.dr_machine.specs.Acts.{CanTake, Guard, effect, effect_of}
 use Rattle.dr_machine.specs.Events.{member_of, step_of}
 use Rattle.dr_machine.specs.Writes.{at}
-use Rattle.dr_machine.specs.declared.event.Act.TheVariants.{Finish}
 use Rattle.dr_machine.specs.declared.step.Step.{Step}
-use Rattle.dr_machine.specs.declared.step.Step.TheVariants.{Do}
+use Rattle.dr_machine.proofs.Events.{standing_after}
 use Rattle.dr_machine.proofs.Presence.{in_roster}
 use Rattle.dr_machine.specs.Run.{IsReachedWhere}
 use Rattle.dr_machine.proofs.Runs.{reached_where}
@@ -157,7 +156,14 @@ done-delivers_none g values w m is y can l e =
 left_or_ended : (g : Group) (w : World) (m : ℕ) (s : Step) (k v : ℕ) → CanTake g w m s
     → v < (effect_of g w m s).past.view k → (v < w.past.view k)
     ⊎ (CanFinish g w k × (v ≡ w.past.view k))
-left_or_ended g w m (Do Finish) k v can l = by (cases_eq k m)
+left_or_ended g w m s k v can = standing_after g w m s
+    (λ x. v < x.view k → (v < w.past.view k) ⊎ (CanFinish g w k × (v ≡ w.past.view k))) can (record {
+      goes_on = λ can l. moved can l (cases_eq k m);
+      chooses = λ can l. inl l;
+      wedges = λ j can l. inl l;
+      stops = λ end alive why l. inl l;
+      stays = λ l. inl l;
+    })
   where
     here : (view : ℕ → ℕ) (m v : ℕ) → v < at view m (view m + 1) m → (v < view m) ⊎ (v ≡ view m)
     here view m v l = grind (arith, l)
@@ -165,17 +171,17 @@ left_or_ended g w m (Do Finish) k v can l = by (cases_eq k m)
     other : (view : ℕ → ℕ) (m k v : ℕ) → k ≢ m → v < at view m (view m + 1) k → v < view k
     other view m k v d l = grind (arith, d, l)
 
-    ended : (v < w.past.view m) ⊎ (v ≡ w.past.view m) → (v < w.past.view m)
+    ended : CanFinish g w m → (v < w.past.view m) ⊎ (v ≡ w.past.view m) → (v < w.past.view m)
         ⊎ (CanFinish g w m × (v ≡ w.past.view m))
-    ended (inl less) = inl less
-    ended (inr same) = inr (can, same)
+    ended can (inl less) = inl less
+    ended can (inr same) = inr (can, same)
 
-    by : (k ≡ m) ⊎ (k ≢ m) → (v < w.past.view k) ⊎ (CanFinish g w k × (v ≡ w.past.view k))
-    by (inl same) = subst (λ i. (v < w.past.view i) ⊎ (CanFinish g w i × (v ≡ w.past.view i))) (sym same)
-        (ended (here w.past.view m v (subst (λ i. v < at w.past.view m (w.past.view m + 1) i) same l)))
-    by (inr d) = inl (other w.past.view m k v d l)
-left_or_ended g w m (Do a) k v can l = inl l
-left_or_ended g w m s k v can l = inl l
+    moved : CanFinish g w m → v < at w.past.view m (w.past.view m + 1) k → (k ≡ m) ⊎ (k ≢ m)
+        → (v < w.past.view k) ⊎ (CanFinish g w k × (v ≡ w.past.view k))
+    moved can l (inl same) =
+        subst (λ i. (v < w.past.view i) ⊎ (CanFinish g w i × (v ≡ w.past.view i))) (sym same)
+        (ended can (here w.past.view m v (subst (λ i. v < at w.past.view m (w.past.view m + 1) i) same l)))
+    moved can l (inr d) = inl (other w.past.view m k v d l)
 
 -- each of them ended well
 all-left : (g : Group) (values : Values) (w : World) (e : Event) → IsGroup g → AreChosen values w
@@ -207,7 +213,7 @@ opening-laid g values = record {
 }
 
 opening-complete : (g : Group) → Complete g (opening_world g)
-opening-complete g = record { durable = λ m l e. refl; shown = λ m l e. absurd (cc) }
+opening-complete g = record { durable = λ m l e. refl; shown = λ m e. absurd (cc) }
 
 pub begins : (g : Group) (values : Values) → IsGroup g → Known g values (opening_world g)
 begins g values is = record {
@@ -232,7 +238,8 @@ event-known g values w e is chosen can y = record {
         (words_on g (views_by g values) w e is well can y.faithful)
         (all-left g values w e is chosen can y k v l less);
   };
-  complete = event_completes g (views_by g values) w e y.faithful
+  complete = event_completes g (views_by g values) w e y.faithful now
+      (words_on g (views_by g values) w e is well can y.faithful)
       (λ m d. done-delivers_none g values w m is y d) can y.complete;
   voting = voting_keeps g (views_by g values) w e is well can y.faithful y.voting;
   ballots = λ k v less. ballots-stay g values w (effect g w e) v

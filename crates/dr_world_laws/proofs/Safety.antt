@@ -5,10 +5,9 @@ use Rattle.dr_entry.specs.declared.record.Value.{Value}
 use Rattle.dr_history.specs.Members.{has}
 use Rattle.dr_words.specs.Columns.{recv_column}
 use Rattle.dr_words.specs.Packing.{is_final}
+use Rattle.dr_machine.proofs.Events.{standing_after}
 use Rattle.dr_machine.specs.Acts.{CanTake, effect_of}
-use Rattle.dr_machine.specs.declared.event.Act.TheVariants.{Beat, Commit, Finish, Suspect}
 use Rattle.dr_machine.specs.declared.step.Step.{Step}
-use Rattle.dr_machine.specs.declared.step.Step.TheVariants.{Do}
 use Rattle.dr_machine.specs.Group.{Group, IsGroup}
 use Rattle.dr_machine.specs.Votes.{vote_in}
 use Rattle.dr_machine.specs.World.{World}
@@ -74,15 +73,14 @@ pub wedged_stay : (g : Group) (V : Views) (w : World) (m : ℕ) (s : Step) → I
     → ((k : ℕ) (x : Value) → w.committed k ≡ Some x → w.suspects k ≢ 0)
     → (k : ℕ) (x : Value) → (effect_of g w m s).committed k ≡ Some x
     → (effect_of g w m s).suspects k ≢ 0
-wedged_stay g V w m (Do Finish) is can f old =
-    at_both (λ k (mask : ℕ) (c : Option Value). (x : Value) → c ≡ Some x → mask ≢ 0) w.suspects w.committed
-    m 0 None old (λ x e. absurd (none-some x e))
-wedged_stay g V w m (Do Commit) is can f old =
-    at_case (λ k (c : Option Value). (x : Value) → c ≡ Some x → w.suspects k ≢ 0) w.committed m
-    (Some (w.value m)) (λ k d. old k) (λ x e. can.wedged)
-wedged_stay g V w m (Do (Suspect j)) is can f old =
-    at_case (λ k (mask : ℕ). (x : Value) → w.committed k ≡ Some x → mask ≢ 0) w.suspects m (mask_after w m j)
-    (λ k d. old k) (λ x e. mask_some g V w m j is can f)
-wedged_stay g V w m (Do Beat) is can f old = old
-wedged_stay g V w m (Do a) is can f old = old
-wedged_stay g V w m s is can f old = old
+wedged_stay g V w m s is can f old = standing_after g w m s
+    (λ x. (k : ℕ) (y : Value) → x.committed k ≡ Some y → x.suspected k ≢ 0) can (record {
+      goes_on = λ can. at_both (λ k (mask : ℕ) (c : Option Value). (x : Value) → c ≡ Some x → mask ≢ 0)
+          w.suspects w.committed m 0 None old (λ x e. absurd (none-some x e));
+      chooses = λ can. at_case (λ k (c : Option Value). (x : Value) → c ≡ Some x → w.suspects k ≢ 0)
+          w.committed m (Some (w.value m)) (λ k d. old k) (λ x e. can.wedged);
+      wedges = λ j can. at_case (λ k (mask : ℕ). (x : Value) → w.committed k ≡ Some x → mask ≢ 0) w.suspects m
+          (mask_after w m j) (λ k d. old k) (λ x e. mask_some g V w m j is can f);
+      stops = λ end alive why. old;
+      stays = old;
+    })

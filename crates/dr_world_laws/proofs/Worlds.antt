@@ -1,5 +1,5 @@
 -- What is known of every world that is reached.
-use Rattle.std.proofs.Common.{[], List, refl, arith, ap, length, map, slice_index, subst, sym, false, ℕ, ◌++◌, ◌<◌, ◌∙◌, ◌≡◌, ◌≢◌, ◌≤◌, Some}
+use Rattle.std.proofs.Common.{[], List, None, refl, arith, ap, length, map, slice_index, subst, sym, false, ℕ, ◌++◌, ◌<◌, ◌∙◌, ◌≡◌, ◌≢◌, ◌≤◌, Some}
 use Rattle.dr_entry.specs.declared.end.End.TheVariants.{Done}
 use Rattle.dr_entry.specs.declared.record.Value.{Value}
 use Rattle.dr_entry.specs.declared.record.Vote.{Vote}
@@ -16,9 +16,10 @@ use Rattle.dr_words.specs.Masks.{IsLeastOf}
 use Rattle.dr_machine.specs.Acts.{Guard, effect}
 use Rattle.dr_machine.specs.declared.event.Event.{Event}
 use Rattle.dr_machine.specs.Effects.{counts_by}
+use Rattle.dr_machine.specs.Events.{member_of, step_of}
 use Rattle.dr_machine.specs.Group.{Group, IsGroup, roster}
 use Rattle.dr_machine.specs.Guards.{CanFinish, HoldsAll, MayChoose, unsuspected_of}
-use Rattle.dr_machine.proofs.Runs.{kept, reached_effect, reached_where}
+use Rattle.dr_machine.proofs.Runs.{kept, reached, reached_effect, reached_where}
 use Rattle.dr_machine.specs.Run.{IsReached, NoLaterItem, PastGrew, Run, WordsGrew, WorldAgreed}
 use Rattle.dr_machine.specs.Sending.{IsPut}
 use Rattle.dr_machine.specs.Votes.{HasLogged, IsOf, MajorityHas}
@@ -28,7 +29,8 @@ use Rattle.dr_faithful.proofs.Pasts.{past_on, past_same}
 use Rattle.dr_faithful.specs.Chosen.{AreChosen, Values, endings_by, views_by}
 use Rattle.dr_faithful.specs.Faithful.{AllGoOn, Faithful}
 use Rattle.dr_faithful.specs.Tells.{SuspicionsTold}
-use Rattle.dr_vote_laws.proofs.Moments.{accepts_begin, accepts_stay}
+use Rattle.dr_vote_laws.proofs.Moments.{accepts_begin}
+use Rattle.dr_vote_laws.proofs.Steps.{AreQuiet, accepts_stay, step_quiet}
 use Rattle.dr_vote_laws.proofs.Values as votes
 use Rattle.dr_vote_laws.specs.Moments.{AcceptsOfMoments}
 use Rattle.dr_vote_laws.specs.Voting.{IsChosen}
@@ -216,3 +218,14 @@ holds_messages g w m y l = messages.holds_messages g y.values w m y.chosen l
 pub left_so : (g : Group) (w : World) → IsGroup g → Known g w → (m : ℕ) → m < roster g
     → IsLeftSo w m (w.end m)
 left_so g w is y m l = leavings.left_so g y.values w is y.by.way m l
+
+-- who suspects nobody has no vote that waits, and has committed nothing
+pub quiet : (g : Group) (w : World) (m : ℕ) → IsGroup g → IsReached g w → w.suspects m ≡ 0
+    → (w.pending m ≡ None) × (w.committed m ≡ None)
+quiet g w m is r = (reached g (λ u. IsReached g u × AreQuiet u)
+    (λ u e can y. (
+      reached_effect g u e y.0 can,
+      let t = known g u is y.0 in
+          step_quiet g (views_by g t.values) u (member_of e) (step_of e) is (faithful g u t) can y.1,
+    ))
+    (([], refl), λ k calm. (refl, refl)) w r).1 m

@@ -1,0 +1,41 @@
+-- Worlds in which members have the same own words, items and votes.
+use Rattle.std.proofs.Common.{◌≡◌, subst, sym}
+use Rattle.dr_machine.specs.Group.{Group}
+use Rattle.dr_machine.specs.World.{World}
+use Rattle.dr_faithful.specs.Faithful.{AreDelivered, AreInForm, AreLogs, AreOld, Faithful}
+use Rattle.dr_faithful.specs.Tells.{Views, WordsTell}
+
+-- two worlds differ at most in turns, ends, commits, histories, places, logs, and copies of words
+abbrev pub HasSameOwn : World → World → Type 0
+HasSameOwn w u = u ≡ record w {
+  past = record w.past { history = u.past.history; log = u.past.log; durable = u.past.durable };
+  committed = u.committed;
+  next = u.next;
+  seen = u.seen;
+  turns = u.turns;
+  end = u.end;
+  table = u.table;
+}
+
+-- such a world is faithful where these are
+pub same_own_keeps : (g : Group) (V : Views) (w u : World) → HasSameOwn w u → WordsTell g V u
+    → AreLogs g V w.past.view w.past.acts u.past.durable u.past.log u.past.history
+    → AreDelivered g V w.past.view u.next w.past.own → AreOld g w.past.view w.past.own u.table u.seen
+    → AreInForm g w.past.own u.table u.seen → Faithful g V w → Faithful g V u
+same_own_keeps g V w u same words logs delivered old form f = subst (λ (x : World). Faithful g V x) (sym same)
+    (record {
+      beginning = f.beginning;
+      views = f.views;
+      items = f.items;
+      sent = f.sent;
+      counts = f.counts;
+      suspicions = f.suspicions;
+      accepts = f.accepts;
+      words = subst (λ (x : World). WordsTell g V x) same words;
+      logs = logs;
+      delivered = delivered;
+      fresh = f.fresh;
+      closed = f.closed;
+      old = old;
+      form = form;
+    })
