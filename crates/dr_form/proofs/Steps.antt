@@ -11,7 +11,7 @@ use Rattle.dr_machine.specs.declared.step.Step.{Step}
 use Rattle.dr_machine.specs.declared.step.Step.TheVariants.{Append, Do, LogVote, Look, Push}
 use Rattle.dr_program.specs.Form.{HasForm}
 use Rattle.dr_program.specs.Replica.{Replica, is_other}
-use Rattle.dr_program.specs.Steps.{NoWordFell, allows, has_cell, is_free, stepped}
+use Rattle.dr_program.specs.Steps.{AtLook, NoWordFell, allows, has_cell, is_free, stepped}
 use Rattle.dr_form.proofs.Accepting.{voted_form}
 use Rattle.dr_form.proofs.Finishing.{none_waits}
 use Rattle.dr_form.proofs.Keeps.{appended_keeps, looked_keeps, looked_rises, pushed_keeps, taken_grown, taken_keeps}
@@ -34,7 +34,7 @@ cell r i c e =
 
 -- a replica keeps its form over a step that it allows, where a word that it sees is in form
 pub stepped_form : (word : ℕ) (r : Replica) (s : Step) → HasForm r → allows r s ≡ true
-    → is_free r s ≡ true → ((i c : ℕ) → s ≡ Look i c → IsInForm r.roster c word) → HasForm (stepped word r s)
+    → is_free r s ≡ true → AtLook s (λ i c. IsInForm r.roster c word) → HasForm (stepped word r s)
 stepped_form word r (Do a) form may free sees = taken_keeps r a form may free
 stepped_form word r (Look i c) form may free sees =
     let at = cell r i c (and_parts (not (has r.suspects i)) (has_cell r i c) may).1 in
@@ -45,7 +45,7 @@ stepped_form word r (LogVote v) form may free sees = voted_form r v form (none_w
 
 -- no word falls by one by which it stays in its view, where a word that it sees has grown
 pub stepped_grown : (word : ℕ) (r : Replica) (s : Step) → HasForm r → allows r s ≡ true
-    → ((i c : ℕ) → s ≡ Look i c → HasGrown r.roster c (seen r.rows i c) word)
+    → AtLook s (λ i c. HasGrown r.roster c (seen r.rows i c) word)
     → (stepped word r s).view ≡ r.view → NoWordFell r (stepped word r s)
 stepped_grown word r (Do a) form may sees same = taken_grown r a form may same
 stepped_grown word r (Look i c) form may sees same =

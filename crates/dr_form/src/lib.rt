@@ -6,10 +6,9 @@
 
 ghost use Rattle.std.specs.Prelude.{◌≡◌, ℕ, true};
 ghost use Rattle.dr_machine.specs.declared.step.Step.{Step};
-ghost use Rattle.dr_machine.specs.declared.step.Step.TheVariants.{Look};
 ghost use Rattle.dr_program.specs.Form.{HasForm};
 ghost use Rattle.dr_program.specs.Replica.{Replica};
-ghost use Rattle.dr_program.specs.Steps.{NoWordFell, may_take, stepped};
+ghost use Rattle.dr_program.specs.Steps.{AtLook, NoWordFell, may_take, stepped};
 ghost use Rattle.dr_rows.specs.Words.{seen};
 ghost use Rattle.dr_words.specs.Form.{IsInForm};
 ghost use Rattle.dr_words.specs.Grown.{HasGrown};
@@ -18,8 +17,8 @@ ghost use Rattle.dr_words.specs.Grown.{HasGrown};
 /// falls by a step with which the member stays in its view, where a look finds a word that has grown.
 pub fn steps_keep_the_form()
     ensures form { (word : ℕ) (r : Replica) (s : Step) → HasForm r → may_take r s ≡ true
-        → ((i c : ℕ) → s ≡ Look i c → IsInForm r.roster c word) → HasForm (stepped word r s) }
+        → AtLook s (λ i c. IsInForm r.roster c word) → HasForm (stepped word r s) }
     ensures grown { (word : ℕ) (r : Replica) (s : Step) → HasForm r → may_take r s ≡ true
-        → ((i c : ℕ) → s ≡ Look i c → HasGrown r.roster c (seen r.rows i c) word)
+        → AtLook s (λ i c. HasGrown r.roster c (seen r.rows i c) word)
         → (stepped word r s).view ≡ r.view → NoWordFell r (stepped word r s) }
 {}

@@ -1,8 +1,6 @@
 -- What no step changes of a replica.
-use Rattle.std.proofs.Common.{◌≡◌, refl, ap, ◌∙◌, ℕ, List, slice_index}
-use Rattle.dr_machine.specs.declared.event.Act.TheVariants as acts
+use Rattle.std.proofs.Common.{◌≡◌, ap, ◌∙◌, ℕ, List, slice_index, arith}
 use Rattle.dr_machine.specs.declared.step.Step.{Step}
-use Rattle.dr_machine.specs.declared.step.Step.TheVariants.{Do}
 use Rattle.dr_machine.specs.Group.{Group}
 use Rattle.dr_program.specs.Replica.{Replica, me}
 use Rattle.dr_program.specs.Steps.{stepped}
@@ -33,9 +31,7 @@ told r = record {
 
 -- a step leaves it, whatever it sees
 pub step_told : (word : ℕ) (r : Replica) (s : Step) → told (stepped word r s) ≡ told r
-step_told word r (Do acts.Mark) = refl
-step_told word r (Do a) = refl
-step_told word r s = refl
+step_told word r s = grind arith
 
 -- a replica that was told the same is still that of the member
 pub of_told : (g : Group) (m : ℕ) (r q : Replica) → told q ≡ told r → IsOf g m r → IsOf g m q

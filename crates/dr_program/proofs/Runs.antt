@@ -1,7 +1,6 @@
 -- Programs that take deeds one after the other.
-use Rattle.std.proofs.Common.{◌≡◌, refl, ℕ, List, [], ◌∷◌, ◌++◌}
+use Rattle.std.proofs.Common.{◌≡◌, ◌⊎◌, inl, inr, refl, sym, subst, ℕ, List, [], ◌∷◌, ◌++◌, arith}
 use Rattle.dr_machine.specs.declared.step.Step.{Step}
-use Rattle.dr_machine.specs.declared.step.Step.TheVariants.{Do, Append, LogVote}
 use Rattle.dr_program.specs.declared.outcome.LogWhy.{LogWhy}
 use Rattle.dr_program.specs.declared.outcome.Outcome.{Outcome}
 use Rattle.dr_program.specs.declared.outcome.Outcome.TheVariants as outcomes
@@ -18,18 +17,21 @@ ran_on p (e ∷ es) b = ran_on (step_of p e) es b
 -- a deed whose append goes well is the step that is due
 pub after_ok : (table : List ℕ) (r : Running) (s : Step)
     → after_deed (sight table r.replica s) outcomes.Ok r s ≡ after_step (sight table r.replica s) r
-after_ok table r Append = refl
-after_ok table r (LogVote v) = refl
-after_ok table r (Do a) = refl
-after_ok table r s = refl
+after_ok table r s = grind arith
+
+-- any other is that step, however appends go
+failed : (table : List ℕ) (why : LogWhy) (r : Running) (s : Step)
+    → (after_deed (sight table r.replica s) (outcomes.Failed why) r s
+    ≡ after_step (sight table r.replica s) r)
+    ⊎ (IsAppend s × (after_deed (sight table r.replica s) (outcomes.Failed why) r s ≡ broken_off why r))
+failed table why r s = grind arith
 
 -- a member has taken the step that is due after a deed, or was broken off in an append
 pub after_either : (P : Running → Type 0) (table : List ℕ) (o : Outcome) (r : Running) (s : Step)
     → P (after_step (sight table r.replica s) r) → ((why : LogWhy) → IsAppend s → P (broken_off why r))
     → P (after_deed (sight table r.replica s) o r s)
-after_either P table outcomes.Ok r Append taken broken = taken
-after_either P table (outcomes.Failed why) r Append taken broken = broken why tt
-after_either P table outcomes.Ok r (LogVote v) taken broken = taken
-after_either P table (outcomes.Failed why) r (LogVote v) taken broken = broken why tt
-after_either P table o r (Do a) taken broken = taken
-after_either P table o r s taken broken = taken
+after_either P table outcomes.Ok r s taken broken = subst P (sym (after_ok table r s)) taken
+after_either P table (outcomes.Failed why) r s taken broken = elim (failed table why r s) [
+  | inl same ↦ subst P (sym same) taken
+  | inr append ↦ subst P (sym append.1) (broken why append.0)
+]

@@ -1,5 +1,5 @@
 -- The acts of a replica: whether it may do each, and what each makes of it.
-use Rattle.std.specs.Prelude.{◌&&◌, nat_lt, Bool, true}
+use Rattle.std.specs.Prelude.{◌&&◌, nat_lt, Bool, true, false}
 use Rattle.dr_machine.specs.declared.event.Act.{Act}
 use Rattle.dr_machine.specs.declared.event.Act.TheVariants as acts
 use Rattle.dr_program.specs.Replica.{Replica, me, is_due, is_fault, is_own, is_others, may_commit, may_finish, may_receive, may_send, may_null, may_deliver, may_publish, may_report, may_mark, may_suspect, acted, beaten, received, sent, nulled, delivered, published, reported, marked, suspected, accepted, decided, finished, ended}
@@ -21,6 +21,18 @@ may r acts.Accept = is_others (me r) r.pending
 may r acts.Commit = may_commit r
 may r (acts.Halt end) = is_due r end
 may r (acts.Crash end) = is_fault end
+
+-- whether a member whose vote waits may do it: it acts on the vote, or crashes
+abbrev pub may_waiting : Act → Bool
+may_waiting acts.Propose = true
+may_waiting acts.Accept = true
+may_waiting (acts.Crash end) = true
+may_waiting a = false
+
+-- whether a member leaves its view with it
+abbrev pub leaves_view : Act → Bool
+leaves_view acts.Finish = true
+leaves_view a = false
 
 -- the replica after the act, but for its stamp, and with it
 abbrev pub done : Replica → Act → Replica

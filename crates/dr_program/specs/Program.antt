@@ -58,6 +58,18 @@ after_deed word outcome r Append = appended_as outcome r
 after_deed word outcome r (LogVote v) = appended_as outcome r
 after_deed word outcome r s = after_step word r
 
+-- the step of the machine that an append comes to, by its outcome: none where it failed
+abbrev pub append_by : Step → Outcome → Option Step
+append_by s outcomes.Ok = Some s
+append_by s (outcomes.Failed why) = None
+
+-- the step of the machine that a due step comes to: an append by its outcome, any other as it is
+abbrev pub comes_to : Option Step → Outcome → Option Step
+comes_to None outcome = None
+comes_to (Some Append) outcome = append_by Append outcome
+comes_to (Some (LogVote v)) outcome = append_by (LogVote v) outcome
+comes_to (Some s) outcome = Some s
+
 -- the program after its member r, with this end, has made this move
 abbrev pub went : Program → Running → Move → Option End → Program
 went p r e None = record {

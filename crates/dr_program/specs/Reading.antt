@@ -6,14 +6,12 @@ use Rattle.dr_rows.specs.Words.{own, seen}
 use Rattle.dr_words.specs.Layout.{word_index_of}
 use Rattle.dr_entry.specs.declared.end.End.{End}
 use Rattle.dr_machine.specs.declared.step.Step.{Step}
-use Rattle.dr_machine.specs.declared.step.Step.TheVariants as steps
 use Rattle.dr_machine.specs.Group.{Group, banks, roster, columns}
 use Rattle.dr_machine.specs.World.{World, opening_world}
 use Rattle.dr_program.specs.declared.outcome.Outcome.{Outcome}
-use Rattle.dr_program.specs.declared.outcome.Outcome.TheVariants as outcomes
 use Rattle.dr_program.specs.Replica.{LeftView, Replica, me, count, item, promise}
 use Rattle.dr_program.specs.Running.{Running, next_step}
-use Rattle.dr_program.specs.Program.{Program}
+use Rattle.dr_program.specs.Program.{Program, comes_to}
 
 -- what member m has of something, and at the opening's where there is no such member
 abbrev pub of_member : {A : Type 0} → List Replica → (Replica → A) → (ℕ → A) → ℕ → A
@@ -85,18 +83,6 @@ step_due r (Some end) = None
 
 abbrev pub step_of_member : Running → Option Step
 step_of_member r = step_due r r.replica.end
-
--- the step of the machine that an append comes to, by its outcome: none where it failed
-abbrev pub append_by : Step → Outcome → Option Step
-append_by s outcomes.Ok = Some s
-append_by s (outcomes.Failed why) = None
-
--- the step of the machine that a due step comes to: an append by its outcome, any other as it is
-abbrev pub comes_to : Option Step → Outcome → Option Step
-comes_to None outcome = None
-comes_to (Some steps.Append) outcome = append_by steps.Append outcome
-comes_to (Some (steps.LogVote v)) outcome = append_by (steps.LogVote v) outcome
-comes_to (Some s) outcome = Some s
 
 -- the step of the machine that the next deed of a running member comes to, where an append has this outcome
 abbrev pub step_by : Running → Outcome → Option Step

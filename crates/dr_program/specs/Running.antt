@@ -26,7 +26,8 @@ use Rattle.dr_machine.specs.declared.event.Act.{Act}
 use Rattle.dr_machine.specs.declared.event.Act.TheVariants as acts
 use Rattle.dr_machine.specs.declared.step.Step.{Step}
 use Rattle.dr_machine.specs.declared.step.Step.TheVariants as steps
-use Rattle.dr_program.specs.Turn.{part_of, after, places_in}
+use Rattle.dr_program.specs.Acts.{leaves_view}
+use Rattle.dr_program.specs.Turn.{part_of, after, is_beat, places_in}
 use Rattle.dr_program.specs.Steps.{allows, stepped, index_in}
 use Rattle.dr_program.specs.declared.deed.Deed.{Deed}
 use Rattle.dr_program.specs.declared.deed.Deed.TheVariants as deeds
@@ -194,13 +195,12 @@ goes n k parts.Append p = after n k p
 goes n k parts.Vote p = after n k p
 goes n k (parts.Do acts.Publish) p = record p { part = p.part - 1 }
 goes n k parts.Push p = after n k p
-goes n k (parts.Do acts.Beat) p = after n k p
-goes n k part p = p
+goes n k part p = if is_beat part then after n k p else p
 
 -- the pushes of the turn after a step
 abbrev pub pushes_after : ℕ → Step → ℕ
 pushes_after pushes (steps.Push j c) = one_more 32 pushes
-pushes_after pushes (steps.Do acts.Beat) = 0
+pushes_after pushes (steps.Do a) = if is_beat (parts.Do a) then 0 else pushes
 pushes_after pushes s = pushes
 
 -- how long it has waited after a step: with the last word of a row, its beat is compared with that of the
@@ -209,7 +209,7 @@ abbrev pub waits_after : ℕ → Running → Step → Waits
 waits_after word r (steps.Look i c) =
     if c + 1 == columns r then compared r.waits (looked r.replica.rows i c word) i
     else r.waits
-waits_after word r (steps.Do acts.Finish) = begun r.waits.limit
+waits_after word r (steps.Do a) = if leaves_view a then begun r.waits.limit else r.waits
 waits_after word r s = r.waits
 
 -- the member after a step, with the word that it saw, before and after the search

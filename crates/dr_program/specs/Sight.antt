@@ -1,11 +1,11 @@
 -- What a member may see where its next deed is a look.
-use Rattle.std.specs.Prelude.{ℕ, Option, Some}
+use Rattle.std.specs.Prelude.{ℕ, Option, None, Some}
 use Rattle.dr_rows.specs.Words.{seen}
 use Rattle.dr_words.specs.Form.{IsInForm}
 use Rattle.dr_words.specs.Grown.{HasGrown}
 use Rattle.dr_machine.specs.declared.step.Step.{Step}
-use Rattle.dr_machine.specs.declared.step.Step.TheVariants.{Look}
 use Rattle.dr_program.specs.Running.{Running, members}
+use Rattle.dr_program.specs.Steps.{IsLook}
 
 -- the word of row i and column c that a member may see next: it is in form, and has grown from the one that
 -- it saw before
@@ -15,5 +15,5 @@ pub record IsSeenNext (r : Running) (i c word : ℕ) : Type 0 where
 
 -- the step is a look, and the member may see this word at it
 abbrev pub MaySee : Running → Option Step → ℕ → Type 0
-MaySee r (Some (Look i c)) word = IsSeenNext r i c word
-MaySee r step word = ⊥
+MaySee r None word = ⊥
+MaySee r (Some step) word = IsLook step (λ i c. IsSeenNext r i c word)

@@ -1,15 +1,14 @@
 -- What a step makes of a replica and of the table, and when it may.
-use Rattle.std.specs.Prelude.{⊤, ℕ, ◌&&◌, not, nat_lt, Bool, true, is_some, List, slice_index, slice_set}
+use Rattle.std.specs.Prelude.{⊤, ◌≡◌, ℕ, ◌&&◌, ◌||◌, not, nat_lt, Bool, is_some, List, slice_index, slice_set}
 use Rattle.dr_history.specs.Members.{has}
 use Rattle.dr_rows.specs.Words.{own}
 use Rattle.dr_words.specs.declared.column.TheConstants.{BEAT_COLUMN}
 use Rattle.dr_words.specs.Columns.{columns_of}
 use Rattle.dr_words.specs.Grown.{Grown}
 use Rattle.dr_words.specs.Layout.{word_index_of}
-use Rattle.dr_machine.specs.declared.event.Act.TheVariants as acts
 use Rattle.dr_machine.specs.declared.step.Step.{Step}
 use Rattle.dr_machine.specs.declared.step.Step.TheVariants.{Do, Look, Push, Append, LogVote}
-use Rattle.dr_program.specs.Acts.{may, taken}
+use Rattle.dr_program.specs.Acts.{may, may_waiting, taken}
 use Rattle.dr_machine.specs.Effects.{one_more}
 use Rattle.dr_program.specs.Replica.{Replica, me, is_other, may_append, may_vote, looked, pushed, appended, voted}
 
@@ -19,9 +18,7 @@ has_cell r i c = nat_lt i r.roster && (is_other r i && nat_lt c (columns_of r.ro
 
 -- a member whose vote waits acts on it, or crashes, and does nothing else
 abbrev pub is_free : Replica → Step → Bool
-is_free r (Do acts.Propose) = true
-is_free r (Do acts.Accept) = true
-is_free r (Do (acts.Crash end)) = true
+is_free r (Do a) = may_waiting a || not (is_some r.pending)
 is_free r s = not (is_some r.pending)
 
 -- the test of a step at a replica without an end, of which no vote waits, and at any
@@ -40,6 +37,15 @@ abbrev pub IsAppend : Step → Type 0
 IsAppend Append = ⊤
 IsAppend (LogVote v) = ⊤
 IsAppend s = ⊥
+
+-- the step is a look, and this holds of the row and the column that it looks at
+abbrev pub IsLook : Step → (ℕ → ℕ → Type 0) → Type 0
+IsLook (Look i c) P = P i c
+IsLook s P = ⊥
+
+-- where the step is a look, this holds of the row and the column that it looks at
+abbrev pub AtLook : Step → (ℕ → ℕ → Type 0) → Type 0
+AtLook s P = (i c : ℕ) → s ≡ Look i c → P i c
 
 -- the index of a word of the table, in the copy of a member
 abbrev pub index_in : Replica → ℕ → ℕ → ℕ → ℕ

@@ -1,6 +1,8 @@
 -- Each deed of a running member lowers the number of deeds that are left to it.
-use Rattle.std.proofs.Common.{ℕ, zero, suc, ◌+◌, ◌-◌, ◌<◌, ◌≤◌, List, [], ◌∷◌, length, slice_index, slice_set, sum_by, le_refl, arith}
+use Rattle.std.proofs.Common.{ℕ, inl, inr, zero, suc, ◌+◌, ◌-◌, ◌<◌, ◌≤◌, List, [], ◌∷◌, length, slice_index, slice_set, sum_by, le_refl, arith}
 use Rattle.std.specs.Prelude.{⊤, slice_index_or}
+use Rattle.std.proofs.lemmas.Bool.{cases_lt}
+use Rattle.std.proofs.lemmas.List.{set_past}
 use Rattle.std.proofs.lemmas.Nat.{mul-add-lt}
 use Rattle.std.proofs.lemmas.List.Sums.{sum_by-set}
 use Rattle.dr_program.specs.Replica.{Replica}
@@ -39,6 +41,16 @@ pub items_less : (most : ℕ) (counts : List ℕ) (s : ℕ) → s < length count
     (λ count. most - count) counts
 items_less most counts s within below =
     omega (arith, sum_by-set (λ (count : ℕ). most - count) counts s (slice_index counts s + 1) 0 within)
+
+-- and it never raises that sum
+pub items_no_more : (most : ℕ) (counts : List ℕ) (s : ℕ)
+    → sum_by (λ count. most - count) (slice_set counts s (slice_index counts s + 1))
+    ≤ sum_by (λ count. most - count) counts
+items_no_more most counts s = elim (cases_lt s (length counts)) [
+  | inl within ↦ omega
+      (arith, sum_by-set (λ (count : ℕ). most - count) counts s (slice_index counts s + 1) 0 within)
+  | inr past ↦ rw (set_past counts s (slice_index counts s + 1) past) (le_refl _)
+]
 
 -- ---- the search
 

@@ -1,10 +1,9 @@
 -- The order of a turn: each place but the last has more places left than the one after it.
-use Rattle.std.proofs.Common.{◌≡◌, ◌≢◌, refl, sym, ap, ◌∙◌, ℕ, zero, suc, ◌+◌, ◌-◌, ◌*◌, ◌<◌, ◌≤◌, ◌==◌, ◌&&◌, ◌||◌, not, inl, inr, Bool, true, false, if◌then◌else◌, nat_lt, List, [], ◌∷◌, length, drop, arith}
+use Rattle.std.proofs.Common.{◌≡◌, ◌≢◌, refl, sym, ap, ℕ, zero, suc, ◌+◌, ◌-◌, ◌*◌, ◌<◌, ◌≤◌, ◌==◌, ◌&&◌, ◌||◌, not, inl, inr, Bool, true, false, if◌then◌else◌, nat_lt, List, [], ◌∷◌, length, drop, arith}
 use Rattle.std.specs.Prelude.{slice_index_or}
 use Rattle.std.proofs.lemmas.Nat.{mul-add-lt}
 use Rattle.std.proofs.lemmas.Bool.{and_parts, cases_eq}
 use Rattle.std.proofs.lemmas.Bool.Decides.{nat_tests}
-use Rattle.dr_machine.specs.declared.event.Act.TheVariants as acts
 use Rattle.dr_program.specs.declared.place.Part.{Part}
 use Rattle.dr_program.specs.declared.place.Part.TheVariants as parts
 use Rattle.dr_program.specs.declared.place.Place.{Place}
@@ -176,30 +175,10 @@ after_beat n k p is other e =
     let at : p.part ≡ length TURN - 2 = omega (arith, before) in
     ap (λ i. slice_index_or TURN i turn_begins) at
 
--- ---- votes
+-- ---- the next part
 
--- the parts of a vote, and of the acts on it
-abbrev is_vote : Part → Bool
-is_vote parts.Vote = true
-is_vote part = false
-
-abbrev is_propose : Part → Bool
-is_propose (parts.Do acts.Propose) = true
-is_propose part = false
-
-abbrev is_accept : Part → Bool
-is_accept (parts.Do acts.Accept) = true
-is_accept part = false
-
-propose_test : (part : Part) → is_propose part ≡ true → part ≡ parts.Do acts.Propose
-propose_test (parts.Do acts.Propose) e = refl
-propose_test part e = absurd (cc e)
-
-accept_test : (part : Part) → is_accept part ≡ true → part ≡ parts.Do acts.Accept
-accept_test (parts.Do acts.Accept) e = refl
-accept_test part e = absurd (cc e)
-
-implied : (a b : Bool) → (not a || b) ≡ true → a ≡ true → b ≡ true
+-- a test that holds where another does holds there
+pub implied : (a b : Bool) → (not a || b) ≡ true → a ≡ true → b ≡ true
 implied true b t e = t
 implied false b t e = absurd (cc e)
 
@@ -219,13 +198,13 @@ nexts n k p false true z a b c rows columns more = absurd (grind (arith, nat_tes
 nexts n k p false false true a b c rows columns more = refl
 nexts n k p false false false a b c rows columns more = absurd (grind (arith, nat_tests, c, more))
 
-next_part : (n k : ℕ) (p : Place) → rows_in n (part_of p) ≡ 1 → columns_in k (part_of p) ≡ 1
+pub next_part : (n k : ℕ) (p : Place) → rows_in n (part_of p) ≡ 1 → columns_in k (part_of p) ≡ 1
     → p.part + 1 < length TURN → part_of (after n k p) ≡ slice_index_or TURN (p.part + 1) turn_begins
 next_part n k p rows columns more =
     ap (λ i. slice_index_or TURN i turn_begins) (nexts n k p _ _ _ refl refl refl rows columns more)
 
 -- where behind each part of one kind there is one of another kind, so it is behind this one
-follows : (here next : Part → Bool)
+pub follows : (here next : Part → Bool)
     → all_below (length TURN) (λ j. not (here (slice_index_or TURN j turn_begins))
     || (nat_lt (j + 1) (length TURN) && next (slice_index_or TURN (j + 1) turn_begins))) ≡ true
     → (i : ℕ) → i < length TURN → here (slice_index_or TURN i turn_begins) ≡ true
@@ -235,26 +214,3 @@ follows here next all i l e =
     (implied _ _ (each_below (length TURN) i (λ j. not (here (slice_index_or TURN j turn_begins))
     || (nat_lt (j + 1) (length TURN) && next (slice_index_or TURN (j + 1) turn_begins))) all l) e) in
     (grind (arith, nat_tests, both.0), both.1)
-
--- behind a vote comes the proposal, and behind that the acceptance
-vote_number : (i : ℕ) → i < length TURN → is_vote (slice_index_or TURN i turn_begins) ≡ true
-    → (i + 1 < length TURN) × (slice_index_or TURN (i + 1) turn_begins ≡ parts.Do acts.Propose)
-unfolding all_below
-vote_number i l e = let both = follows is_vote is_propose refl i l e in (both.0, propose_test _ both.1)
-
-propose_number : (i : ℕ) → i < length TURN → is_propose (slice_index_or TURN i turn_begins) ≡ true
-    → (i + 1 < length TURN) × (slice_index_or TURN (i + 1) turn_begins ≡ parts.Do acts.Accept)
-unfolding all_below
-propose_number i l e = let both = follows is_propose is_accept refl i l e in (both.0, accept_test _ both.1)
-
-pub after_vote : (n k : ℕ) (p : Place) → IsIn n k p → part_of p ≡ parts.Vote
-    → part_of (after n k p) ≡ parts.Do acts.Propose
-after_vote n k p is at =
-    let number = vote_number p.part is.part (ap is_vote at) in
-    next_part n k p (ap (rows_in n) at) (ap (columns_in k) at) number.0 ∙ number.1
-
-pub after_propose : (n k : ℕ) (p : Place) → IsIn n k p → part_of p ≡ parts.Do acts.Propose
-    → part_of (after n k p) ≡ parts.Do acts.Accept
-after_propose n k p is at =
-    let number = propose_number p.part is.part (ap is_propose at) in
-    next_part n k p (ap (rows_in n) at) (ap (columns_in k) at) number.0 ∙ number.1

@@ -1,23 +1,21 @@
 -- The search along the order of a turn.
-use Rattle.std.proofs.Common.{◌≡◌, refl, sym, ap, ◌∙◌, ℕ, zero, suc, ◌+◌, ◌-◌, ◌<◌, ◌≤◌, ◌==◌, ◌&&◌, ◌||◌, not, inl, inr, Bool, true, false, if◌then◌else◌, length, le_refl, le_trans, arith}
+use Rattle.std.proofs.Common.{◌≡◌, refl, sym, ap, ◌∙◌, ℕ, zero, suc, ◌+◌, ◌-◌, ◌<◌, ◌≤◌, ◌==◌, ◌&&◌, ◌||◌, Bool, true, false, if◌then◌else◌, length, le_refl, le_trans, arith}
 use Rattle.std.specs.Prelude.{Option, Some, None, is_some, slice_index_or}
 use Rattle.std.proofs.lemmas.Bool.Decides.{nat_tests}
 use Rattle.dr_entry.specs.declared.end.End.{End}
 use Rattle.dr_program.specs.declared.place.Part.{Part}
-use Rattle.dr_machine.specs.declared.event.Act.TheVariants as acts
 use Rattle.dr_program.specs.declared.place.Part.TheVariants as parts
 use Rattle.dr_program.specs.declared.place.Place.{Place}
 use Rattle.dr_program.specs.declared.place.TheConstants.{TURN}
 use Rattle.dr_program.specs.Turn.{after, is_beat, IsIn, part_of, places_in, turn_begins}
 use Rattle.dr_program.specs.Running.{Running, WaitsAt, members, columns, asks, step_at, applies, moved, settle, settled}
 use Rattle.dr_program.specs.Steps.{allows}
-use Rattle.dr_entry.specs.declared.record.Vote.{Vote}
-use Rattle.dr_program.specs.Replica.{is_others, is_own, me}
 use Rattle.dr_program.specs.Form.{HasForm, IsRunningMember}
 use Rattle.dr_turn.specs.Search.{left, IsUnderway, Passed, here, on}
 use Rattle.dr_turn.specs.Work.{left_to, deeds_left, may_fail, work}
 use Rattle.dr_turn.proofs.Fewer.{no_more_here}
-use Rattle.dr_turn.proofs.Order.{after_beat, after_in, after_propose, left_falls, left_small, left_some}
+use Rattle.dr_turn.proofs.Order.{after_beat, after_in, left_falls, left_small, left_some}
+use Rattle.dr_turn.proofs.Parts.{waits_on}
 
 -- ---- what applies at which part
 
@@ -37,8 +35,7 @@ applies_from r p q = same_at r p (part_of q) q.row q.column
 
 -- a turn may begin at any time
 pub beat_test : (part : Part) → is_beat part ≡ true → part ≡ turn_begins
-beat_test (parts.Do acts.Beat) e = refl
-beat_test part e = absurd (cc)
+beat_test part e = grind (arith, e)
 
 -- a place with nothing to do is not a beat, which there always is to do
 pub idle_part : (r : Running) (p : Place) → applies r p ≡ false → is_beat (part_of p) ≡ false
@@ -92,36 +89,12 @@ underway_moved r u other unspent free = record {
     inside : IsIn (members r) (columns r) (after (members r) (columns r) r.place)
     inside = after_in (members r) (columns r) r.place (some_member r u.replica) (some_column r) u.place
 
--- a vote that waits is acted on at the next place where it isn't at this one
-other_ballot : (b : Bool) → b ≡ false → not b ≡ true
-other_ballot true e = absurd (cc e)
-other_ballot false e = refl
-
-waits_on : (r : Running) → IsUnderway r → applies r r.place ≡ false → WaitsAt r (part_of (moved r).place)
-waits_on r u e = by u.free r.replica.pending refl
-  where
-    here : (part : Part) → part_of r.place ≡ part → applies_at r part r.place.row r.place.column ≡ false
-    here part at = sym (ap (λ x. applies_at r x r.place.row r.place.column) at) ∙ e
-
-    by : WaitsAt r (part_of r.place) → (o : Option Vote) → r.replica.pending ≡ o
-        → WaitsAt r (part_of (moved r).place)
-    by (inl none) o q = inl none
-    by (inr (inl at)) None q = inl q
-    by (inr (inl at)) (Some x) q =
-        let not_own : is_own (me r.replica) (Some x) ≡ false =
-        sym (ap (is_own (me r.replica)) q) ∙ here (parts.Do acts.Propose) at in
-        inr (inr (
-          after_propose (members r) (columns r) r.place u.place at,
-          ap (is_others (me r.replica)) q ∙ other_ballot (x.ballot == me r.replica) not_own,
-        ))
-    by (inr (inr t)) o q = absurd (cc (t.1, here (parts.Do acts.Accept) t.0))
-
 -- a member under way is still so behind a place with nothing to do
 pub underway_idle : (r : Running) → IsUnderway r → applies r r.place ≡ false → IsUnderway (moved r)
 underway_idle r u e =
     underway_moved r u (idle_part r r.place e)
     (λ none spent. unspent (ap (λ x. applies_at r x r.place.row r.place.column) spent))
-    (waits_on r u e)
+    (waits_on r u.place u.free e)
   where
     unspent : applies r r.place ≡ ((r.replica.turns == r.limit) && true) → r.replica.turns < r.limit
     unspent t = grind (arith, nat_tests, t, e, u.turns)

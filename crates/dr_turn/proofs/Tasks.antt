@@ -1,5 +1,5 @@
 -- The tasks of a replica: which of its deeds lowers each, and that no deed raises any.
-use Rattle.std.proofs.Common.{◌≡◌, refl, ap, inl, sym, subst, ◌∙◌, ℕ, suc, ◌+◌, ◌-◌, ◌*◌, ◌^◌, ◌<◌, ◌≤◌, ◌==◌, nat_lt, not, Bool, true, false, length, slice_index, le_refl, arith}
+use Rattle.std.proofs.Common.{◌≡◌, refl, ap, inl, sym, subst, ◌∙◌, ℕ, suc, ◌+◌, ◌-◌, ◌*◌, ◌^◌, ◌<◌, ◌≤◌, ◌==◌, nat_lt, not, ◌&&◌, Bool, true, false, length, slice_index, arith}
 use Rattle.std.proofs.lemmas.Bool.{and_parts, ltb-true}
 use Rattle.std.proofs.lemmas.Bool.Decides.{nat_tests}
 use Rattle.std.proofs.lemmas.List.{get_or-set_same}
@@ -13,27 +13,26 @@ use Rattle.dr_machine.specs.World.{no_vote}
 use Rattle.dr_words.proofs.Accepts.{leavers_accept}
 use Rattle.dr_words.specs.Columns.{leavers_column}
 use Rattle.std.specs.Prelude.{None, Option, Some, is_some, unwrap_or}
-use Rattle.dr_machine.specs.declared.event.Act.TheVariants as acts
 use Rattle.dr_machine.specs.declared.step.Step.{Step}
-use Rattle.dr_machine.specs.declared.step.Step.TheVariants.{Do, Append}
+use Rattle.dr_machine.specs.declared.step.Step.TheVariants.{Do}
 use Rattle.dr_rows.specs.Words.{own, seen, with_own}
 use Rattle.dr_rows.proofs.Grids.{with_word-same, with_word-column}
 use Rattle.dr_words.specs.Rewrites.{is_accept_of}
 use Rattle.dr_words.specs.declared.column.TheConstants.{BEAT_COLUMN, RECEIVED_COLUMN, LOGGED_COLUMN, DONE_COLUMN}
 use Rattle.dr_words.proofs.Masks.{in_roster_small, with_member_greater, with_member_small}
 use Rattle.dr_words.specs.Masks.{with_member}
-use Rattle.dr_program.specs.Acts.{may}
+use Rattle.dr_program.specs.Acts.{leaves_view}
 use Rattle.dr_program.specs.Replica.{Replica, me, greatest, is_other, is_wedged, least_seen, may_deliver, may_mark, may_publish, may_receive, may_report, may_suspect, acted, received, put, delivered, published, reported, marked, suspected, accepted, decided, finished, is_own, is_others, may_commit, promise}
 use Rattle.dr_program.specs.Steps.{NoWordFell, allows, stepped}
 use Rattle.dr_program.specs.Form.{HasForm}
 use Rattle.dr_program.proofs.Least.{least_fits}
 use Rattle.dr_program.proofs.Opening.{first_own}
 use Rattle.dr_turn.specs.Work.{ballots_left, commit_left, items_left, open_count, places_left, log_left, refill, reports_left, mark_left, sum_of, trust_left, tasks, views_left, work}
-use Rattle.dr_turn.proofs.Fewer.{NoneRises, items_less}
+use Rattle.dr_turn.proofs.Fewer.{NoneRises, items_less, items_no_more}
 
 -- the step ends a view
 abbrev pub ends_view : Step → Bool
-ends_view (Do acts.Finish) = true
+ends_view (Do a) = leaves_view a
 ends_view s = false
 
 -- ---- the own words
@@ -59,21 +58,28 @@ risen r q same grown =
 -- ---- items
 
 -- a received item leaves fewer items to come
-pub received_less : (r : Replica) (s : ℕ) → s < length r.counts → HasForm (acted (received r s))
-    → items_left (acted (received r s)) < items_left r
+pub received_less : (r : Replica) (s : ℕ) → HasForm r → (nat_lt s r.roster && may_receive r s) ≡ true
+    → HasForm (acted (received r s)) → items_left (acted (received r s)) < items_left r
 unfolding items_left
-received_less r s within form = items_less (greatest r.totals) r.counts s within below
+received_less r s f is form = items_less (greatest r.totals) r.counts s within below
   where
+    within : s < length r.counts
+    within = omega
+        (arith, f.counts, ltb-true s r.roster (and_parts (nat_lt s r.roster) (may_receive r s) is).0)
+
     below : slice_index r.counts s < greatest r.totals
     below = omega (arith, form.bounded s, get_or-set_same r.counts s (slice_index r.counts s + 1) 0 within)
 
 -- an item that is put leaves fewer items to come
-pub put_less : (r : Replica) (name : SentItem) (item : Item) → me r < length r.counts
+pub put_less : (r : Replica) (name : SentItem) (item : Item) → HasForm r
     → HasForm (acted (put r name item))
     → items_left (acted (put r name item)) < items_left r
 unfolding items_left
-put_less r name item within form = items_less (greatest r.totals) r.counts (me r) within below
+put_less r name item f form = items_less (greatest r.totals) r.counts (me r) within below
   where
+    within : me r < length r.counts
+    within = omega (arith, f.counts, f.members, f.rows.present)
+
     below : slice_index r.counts (me r) < greatest r.totals
     below = omega (
       arith,
@@ -82,26 +88,10 @@ put_less r name item within form = items_less (greatest r.totals) r.counts (me r
           (slice_index r.counts (me r) + 1) 0 within,
     )
 
--- a member receives only from members of its roster
-pub sender_within : (r : Replica) (s : ℕ) → HasForm r → may r (acts.Receive s) ≡ true → s
-    < length r.counts
-sender_within r s f is =
-    omega (arith, f.counts, ltb-true s r.roster (and_parts (nat_lt s r.roster) (may_receive r s) is).0)
-
--- a member is one of its roster
-pub me_within : (r : Replica) → HasForm r → me r < length r.counts
-me_within r f = omega (arith, f.counts, f.members, f.rows.present)
-
-items_keep : (word : ℕ) (r : Replica) (s : Step) → ends_view s ≡ false → HasForm r → allows r s ≡ true
-    → HasForm (stepped word r s) → items_left (stepped word r s) ≤ items_left r
+items_keep : (word : ℕ) (r : Replica) (s : Step) → ends_view s ≡ false
+    → items_left (stepped word r s) ≤ items_left r
 unfolding items_left
-items_keep word r (Do acts.Finish) stays f is form = absurd (cc stays)
-items_keep word r (Do (acts.Receive s)) stays f is form =
-    omega (arith, received_less r s (sender_within r s f is) form)
-items_keep word r (Do acts.Send) stays f is form = omega (arith, put_less r _ _ (me_within r f) form)
-items_keep word r (Do acts.Null) stays f is form = omega (arith, put_less r _ _ (me_within r f) form)
-items_keep word r (Do a) stays f is form = le_refl _
-items_keep word r s stays f is form = le_refl _
+items_keep word r s stays = grind (arith, stays, items_no_more (greatest r.totals) r.counts)
 
 -- ---- places
 
@@ -117,10 +107,7 @@ delivered_less r is =
 places_keep : (word : ℕ) (r : Replica) (s : Step) → ends_view s ≡ false → allows r s ≡ true
     → places_left (stepped word r s) ≤ places_left r
 unfolding places_left
-places_keep word r (Do acts.Finish) stays is = absurd (cc stays)
-places_keep word r (Do acts.Deliver) stays is = omega (arith, delivered_less r is)
-places_keep word r (Do a) stays is = le_refl _
-places_keep word r s stays is = le_refl _
+places_keep word r s stays is = grind (arith, stays, is, delivered_less r)
 
 -- ---- the log
 
@@ -145,10 +132,8 @@ published_less r form is = omega (arith, now, ltb-true (own r.rows LOGGED_COLUMN
 log_keeps : (word : ℕ) (r : Replica) (s : Step) → HasForm r → allows r s ≡ true
     → HasRisen r (stepped word r s) → log_left (stepped word r s) ≤ log_left r
 unfolding log_left
-log_keeps word r Append form is rise = omega (arith, ltb-true r.logged (length r.history) is, form.room)
-log_keeps word r (Do acts.Report) form is rise = omega (arith, rise.rise LOGGED_COLUMN)
-log_keeps word r (Do a) form is rise = omega (arith, rise.rise LOGGED_COLUMN)
-log_keeps word r s form is rise = omega (arith, rise.rise LOGGED_COLUMN)
+log_keeps word r s form is rise =
+    grind (arith, is, ltb-true r.logged (length r.history), form.room, rise.rise LOGGED_COLUMN)
 
 -- ---- reports
 
@@ -163,9 +148,7 @@ reported_less r is =
 reports_keep : (word : ℕ) (r : Replica) (s : Step) → allows r s ≡ true
     → reports_left (stepped word r s) ≤ reports_left r
 unfolding reports_left
-reports_keep word r (Do acts.Report) is = omega (arith, reported_less r is)
-reports_keep word r (Do a) is = le_refl _
-reports_keep word r s is = le_refl _
+reports_keep word r s is = grind (arith, is, reported_less r)
 
 -- ---- the mark
 
@@ -216,10 +199,7 @@ suspected_less r j form is = minus_less (2 ^ 16) r.suspects (with_member r.suspe
 trust_keeps : (word : ℕ) (r : Replica) (s : Step) → ends_view s ≡ false → HasForm r → allows r s ≡ true
     → trust_left (stepped word r s) ≤ trust_left r
 unfolding trust_left
-trust_keeps word r (Do acts.Finish) stays form is = absurd (cc stays)
-trust_keeps word r (Do (acts.Suspect j)) stays form is = omega (arith, suspected_less r j form is)
-trust_keeps word r (Do a) stays form is = le_refl _
-trust_keeps word r s stays form is = le_refl _
+trust_keeps word r s stays form is = grind (arith, stays, is, form, suspected_less r)
 
 -- ---- votes
 
@@ -252,22 +232,18 @@ waits_others : (me : ℕ) (o : Option Vote) → is_others me o ≡ true → (x :
 waits_others me None e = absurd (cc e)
 waits_others me (Some x) e = (x, refl)
 
-pub proposed_less : (r : Replica) → HasForm r → may r acts.Propose ≡ true
+pub proposed_less : (r : Replica) → HasForm r → is_own (me r) r.pending ≡ true
     → ballots_left (acted (accepted r)) < ballots_left r
 proposed_less r form is = let t = waits_own (me r) r.pending is in accepted_from r t.0 form t.1
 
-pub accepted_less : (r : Replica) → HasForm r → may r acts.Accept ≡ true
+pub accepted_less : (r : Replica) → HasForm r → is_others (me r) r.pending ≡ true
     → ballots_left (acted (accepted r)) < ballots_left r
 accepted_less r form is = let t = waits_others (me r) r.pending is in accepted_from r t.0 form t.1
 
 ballots_keep : (word : ℕ) (r : Replica) (s : Step) → ends_view s ≡ false → HasForm r → allows r s ≡ true
     → ballots_left (stepped word r s) ≤ ballots_left r
 unfolding ballots_left
-ballots_keep word r (Do acts.Finish) stays form is = absurd (cc stays)
-ballots_keep word r (Do acts.Propose) stays form is = omega (arith, proposed_less r form is)
-ballots_keep word r (Do acts.Accept) stays form is = omega (arith, accepted_less r form is)
-ballots_keep word r (Do a) stays form is = le_refl _
-ballots_keep word r s stays form is = le_refl _
+ballots_keep word r s stays form is = grind (arith, stays, is, form, proposed_less r, accepted_less r)
 
 -- a commit leaves none to come
 open_one : (o : Option Value) → not (is_some o) ≡ true → open_count o ≡ 1
@@ -285,10 +261,7 @@ decided_less r is =
 commit_keeps : (word : ℕ) (r : Replica) (s : Step) → ends_view s ≡ false → allows r s ≡ true
     → commit_left (stepped word r s) ≤ commit_left r
 unfolding commit_left
-commit_keeps word r (Do acts.Finish) stays is = absurd (cc stays)
-commit_keeps word r (Do acts.Commit) stays is = omega (arith, decided_less r is)
-commit_keeps word r (Do a) stays is = le_refl _
-commit_keeps word r s stays is = le_refl _
+commit_keeps word r s stays is = grind (arith, stays, is, decided_less r)
 
 -- ---- all of them
 
@@ -297,7 +270,7 @@ pub none_rises : (word : ℕ) (r : Replica) (s : Step) → ends_view s ≡ false
     → HasForm (stepped word r s) → HasRisen r (stepped word r s)
     → NoneRises r (stepped word r s) tasks
 none_rises word r s stays f is form rise = (
-  items_keep word r s stays f is form,
+  items_keep word r s stays,
   (
     places_keep word r s stays is,
     (
@@ -321,16 +294,12 @@ none_rises word r s stays f is form rise = (
 -- other steps stay in the view
 pub view_stays : (word : ℕ) (r : Replica) (s : Step) → ends_view s ≡ false
     → (stepped word r s).view ≡ r.view
-view_stays word r (Do acts.Finish) stays = absurd (cc stays)
-view_stays word r (Do a) stays = refl
-view_stays word r s stays = refl
+view_stays word r s stays = grind (arith, stays)
 
 pub views_keep : (word : ℕ) (r : Replica) (s : Step) → ends_view s ≡ false
     → views_left (stepped word r s) ≡ views_left r
 unfolding views_left refill
-views_keep word r (Do acts.Finish) stays = absurd (cc stays)
-views_keep word r (Do a) stays = refl
-views_keep word r s stays = refl
+views_keep word r s stays = grind (arith, stays)
 
 -- the next view is one less
 one_view_less : (r : Replica) → r.view < r.banks → views_left (finished (acted r)) + refill r ≤ views_left r

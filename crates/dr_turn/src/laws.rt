@@ -1,10 +1,9 @@
 //! Laws of the turn.
 ghost use Rattle.std.specs.Prelude.{◌≡◌, ℕ, ◌^◌, ◌<◌, ◌≤◌, None, is_some, false, true};
-ghost use Rattle.dr_machine.specs.declared.step.Step.TheVariants.{Look};
 ghost use Rattle.dr_program.specs.declared.outcome.LogWhy.{LogWhy};
 ghost use Rattle.dr_program.specs.Form.{HasForm, IsRunningMember};
 ghost use Rattle.dr_program.specs.Running.{Running, after_step, applies, broken_off, next_step, settled, took};
-ghost use Rattle.dr_program.specs.Steps.{IsAppend};
+ghost use Rattle.dr_program.specs.Steps.{AtLook, IsAppend};
 ghost use Rattle.dr_rows.specs.Words.{is_frozen};
 ghost use Rattle.dr_turn.specs.Search.{IsUnderway, Passed};
 ghost use Rattle.dr_turn.specs.Work.{HasGrownTo, IsDone, deeds_left};
@@ -40,6 +39,6 @@ pub fn deeds_keep_members()
 
 /// No member's next deed is a look at a row that is frozen for it.
 pub fn frozen_rows_are_not_read()
-    ensures { (r : Running) (i c : ℕ) → IsRunningMember r → r.replica.end ≡ None
-        → next_step r ≡ Look i c → is_frozen r.replica.rows i ≡ false }
+    ensures { (r : Running) → IsRunningMember r → r.replica.end ≡ None
+        → AtLook (next_step r) (λ i c. is_frozen r.replica.rows i ≡ false) }
 {}
