@@ -5,10 +5,7 @@ use Rattle.std.specs.List.{list_any}
 use Rattle.std.proofs.lemmas.Bool.{and_parts}
 use Rattle.std.proofs.lemmas.Bool.Decides.{nat_tests}
 use Rattle.std.proofs.lemmas.List.Folds.{Any-from_list_any}
-use Rattle.dr_entry.specs.declared.end.End.{End}
-use Rattle.dr_entry.specs.declared.end.End.TheVariants as ends
 use Rattle.dr_machine.specs.declared.event.Act.{Act}
-use Rattle.dr_machine.specs.declared.event.Act.TheVariants as acts
 use Rattle.dr_machine.specs.declared.step.Step.{Step}
 use Rattle.dr_machine.specs.declared.step.Step.TheVariants as steps
 use Rattle.dr_program.specs.declared.outcome.Outcome.{Outcome}
@@ -21,18 +18,19 @@ use Rattle.dr_program.specs.declared.place.Part.TheVariants as parts
 use Rattle.dr_program.specs.declared.place.TheConstants.{TURN}
 use Rattle.dr_program.specs.Form.{IsRunningMember}
 use Rattle.dr_program.specs.Program.{after_deed, next_sight}
-use Rattle.dr_program.specs.Running.{Running, asks, begun_running, columns, crashes_now, end_by, is_at_push, is_in_turn, judged, members, next_step, push_or_crash, pushes_after, step_at, goes, waits_after}
+use Rattle.dr_program.specs.Running.{Running, append_or_end, asks, begun_running, columns, crashes_now, end_by, is_at_push, is_in_turn, judged, members, next_step, push_or_crash, pushes_after, step_at, goes, vote_or_end, waits_after}
+use Rattle.dr_program.specs.Replica.{value_due}
 use Rattle.dr_program.specs.Steps.{allows, stepped}
 use Rattle.dr_program.specs.Turn.{after, is_beat, part_of, turn_begins}
 use Rattle.dr_program.proofs.Runs.{after_either}
 use Rattle.dr_program.proofs.StepsAt.{append_either, vote_either}
 use Rattle.dr_turn.specs.Search.{IsUnderway}
-use Rattle.dr_turn.proofs.Deeds.{first_part, is_publish, is_verdict, verdict_of}
+use Rattle.dr_turn.proofs.Deeds.{first_part}
 use Rattle.dr_program.specs.Acts.{taken}
 use Rattle.dr_turn.proofs.Search.{beat_test}
 use Rattle.dr_turn.proofs.Order.{all_below, each_below}
 use Rattle.dr_program_laws.specs.Ended.{IsBeforeCrash}
-use Rattle.dr_turn.proofs.Parts.{goes_back_or_stays, is_end, no_end, taken_end, taken_turns}
+use Rattle.dr_turn.proofs.Parts.{goes_back_or_stays, is_end, is_publish, is_verdict, no_end, taken_end, taken_turns, verdict_no_beat, verdict_of}
 use Rattle.dr_program_laws.proofs.Standing.{IsNotPast, IsProper, Stands, goes_on, is_crash, is_late, next_turn, settled_stands}
 
 -- ---- crash points
@@ -104,23 +102,28 @@ done_by word r part s = record r {
 abbrev done_at : ℕ → Running → Part → Running
 done_at word r part = done_by word r part (step_at r part r.place.row r.place.column)
 
+-- a step that counts no turn leaves a member standing as it should
+same_turn : (limit : ℕ) (points : List CrashPoint) (word : ℕ) (r : Running) (part : Part) (s : Step)
+    → (stepped word r.replica s).turns ≡ r.replica.turns → Stands limit points r
+    → (is_late (part_of (goes (members r) (columns r) part r.place)) ≡ true
+    → IsBeforeCrash points r.replica.turns)
+    → IsProper limit points r.replica.turns (stepped word r.replica s).end
+    → Stands limit points (done_by word r part s)
+same_turn limit points word r part s same v ahead proper = record {
+  limited = v.limited;
+  planned = v.planned;
+  later = subst (IsNotPast points) (sym same) v.later;
+  ahead = λ late. subst (IsBeforeCrash points) (sym same) (ahead late);
+  proper = subst (λ n. IsProper limit points n (stepped word r.replica s).end) (sym same) proper;
+}
+
 -- an end by the log is proper at any time
 log_proper : (limit : ℕ) (points : List CrashPoint) (turns : ℕ) (why : LogWhy)
     → IsProper limit points turns (Some (end_by why))
 log_proper limit points turns whys.DiskFault = tt
 log_proper limit points turns (whys.LogFull len) = tt
 
--- an end that comes by itself leaves a member standing as it should, where it is a proper one
-crash_keeps : (limit : ℕ) (points : List CrashPoint) (word : ℕ) (r : Running) (part : Part) (end : End)
-    → Stands limit points r
-    → (is_late (part_of (goes (members r) (columns r) part r.place)) ≡ true
-    → IsBeforeCrash points r.replica.turns)
-    → IsProper limit points r.replica.turns (Some end)
-    → Stands limit points (done_by word r part (steps.Do (acts.Crash end)))
-crash_keeps limit points word r part end v ahead proper =
-    record { limited = v.limited; planned = v.planned; later = v.later; ahead = ahead; proper = proper }
-
--- so does a push, or the crash in its place
+-- a push, or the crash in its place
 push_keeps : (limit : ℕ) (points : List CrashPoint) (word : ℕ) (r : Running) → IsDue r parts.Push
     → Stands limit points r → Stands limit points (done_at word r parts.Push)
 push_keeps limit points word r d v = by (crashes_now r) refl
@@ -131,9 +134,14 @@ push_keeps limit points word r d v = by (crashes_now r) refl
 
     by : (b : Bool) → crashes_now r ≡ b
         → Stands limit points (done_by word r parts.Push (push_or_crash b r.place.row r.place.column))
-    by true e = crash_keeps limit points word r parts.Push ends.Crashed v ahead
-        (named_at_push points r.replica.turns r.pushes
-        (ap (list_any (is_at_push r.replica.turns r.pushes)) (sym v.planned) ∙ e))
+    by true e = record {
+      limited = v.limited;
+      planned = v.planned;
+      later = v.later;
+      ahead = ahead;
+      proper = named_at_push points r.replica.turns r.pushes
+          (ap (list_any (is_at_push r.replica.turns r.pushes)) (sym v.planned) ∙ e);
+    }
     by false e =
         record { limited = v.limited; planned = v.planned; later = v.later; ahead = ahead; proper = v.proper }
 
@@ -141,33 +149,29 @@ push_keeps limit points word r d v = by (crashes_now r) refl
 append_keeps : (limit : ℕ) (points : List CrashPoint) (word : ℕ) (r : Running) → IsDue r parts.Append
     → Stands limit points r → Stands limit points (done_at word r parts.Append)
 append_keeps limit points word r d v =
-    let ahead = onward limit points r parts.Append d refl v in
-    append_either (λ s. Stands limit points (done_by word r parts.Append s)) r.failed
-    (record { limited = v.limited; planned = v.planned; later = v.later; ahead = ahead; proper = v.proper })
-    (λ why. crash_keeps limit points word r parts.Append (end_by why) v ahead
-    (log_proper limit points r.replica.turns why))
+    same_turn limit points word r parts.Append (append_or_end r.failed)
+    (append_either (λ s. (stepped word r.replica s).turns ≡ r.replica.turns) r.failed refl (λ why. refl)) v
+    (onward limit points r parts.Append d refl v)
+    (append_either (λ s. IsProper limit points r.replica.turns (stepped word r.replica s).end) r.failed
+    v.proper (log_proper limit points r.replica.turns))
 
 -- a vote, or the end in its place
 vote_keeps : (limit : ℕ) (points : List CrashPoint) (word : ℕ) (r : Running) → IsDue r parts.Vote
     → Stands limit points r → Stands limit points (done_at word r parts.Vote)
 vote_keeps limit points word r d v =
-    let ahead = onward limit points r parts.Vote d refl v in
-    vote_either (λ s. Stands limit points (done_by word r parts.Vote s)) r.failed _
-    (record { limited = v.limited; planned = v.planned; later = v.later; ahead = ahead; proper = v.proper })
-    (λ why. crash_keeps limit points word r parts.Vote (end_by why) v ahead
-    (log_proper limit points r.replica.turns why))
+    same_turn limit points word r parts.Vote (vote_or_end r.failed (value_due r.replica))
+    (vote_either (λ s. (stepped word r.replica s).turns ≡ r.replica.turns) r.failed _ refl (λ why. refl)) v
+    (onward limit points r parts.Vote d refl v)
+    (vote_either (λ s. IsProper limit points r.replica.turns (stepped word r.replica s).end) r.failed _
+    v.proper (log_proper limit points r.replica.turns))
 
 -- a verdict, to suspect another member or to end by suspicion
 verdict_keeps : (limit : ℕ) (points : List CrashPoint) (word : ℕ) (r : Running) (a : Act)
     → is_verdict a ≡ true → Stands limit points r
     → Stands limit points (done_by word r parts.Judge (steps.Do a))
-verdict_keeps limit points word r (acts.Suspect j) is v =
-    record { limited = v.limited; planned = v.planned; later = v.later; ahead = v.ahead; proper = v.proper }
-verdict_keeps limit points word r (acts.Halt (ends.Suspected by)) is v =
-    record { limited = v.limited; planned = v.planned; later = v.later; ahead = v.ahead; proper = tt }
-verdict_keeps limit points word r (acts.Halt (ends.NoMajority mask)) is v =
-    record { limited = v.limited; planned = v.planned; later = v.later; ahead = v.ahead; proper = tt }
-verdict_keeps limit points word r a is v = absurd (cc)
+verdict_keeps limit points word r a is v =
+    same_turn limit points word r parts.Judge (steps.Do a) (taken_turns r.replica a (verdict_no_beat a is)) v
+    v.ahead (grind (arith, is, v.proper))
 
 -- so does a beat, with which a turn begins
 beat_keeps : (limit : ℕ) (points : List CrashPoint) (word : ℕ) (r : Running)
@@ -210,21 +214,14 @@ act_keeps limit points word r a d v = by (is_beat (parts.Do a)) refl
       | inr stays ↦ v.ahead (sym (ap (λ p. is_late (part_of p)) stays.1) ∙ late)
     ]
 
-    stands : is_beat (parts.Do a) ≡ false → (taken r.replica a).turns ≡ r.replica.turns
-        → Stands limit points (done_at word r (parts.Do a))
-    stands other same = record {
-      limited = v.limited;
-      planned = v.planned;
-      later = subst (IsNotPast points) (sym same) v.later;
-      ahead = λ late. subst (IsBeforeCrash points) (sym same) (ahead other late);
-      proper = subst (IsProper limit points (taken r.replica a).turns) (sym ended)
-          (subst (λ n. IsProper limit points n r.replica.end) (sym same) v.proper);
-    }
+    stands : is_beat (parts.Do a) ≡ false → Stands limit points (done_at word r (parts.Do a))
+    stands other = same_turn limit points word r (parts.Do a) (steps.Do a) (taken_turns r.replica a other) v
+        (ahead other) (subst (IsProper limit points r.replica.turns) (sym ended) v.proper)
 
     by : (b : Bool) → is_beat (parts.Do a) ≡ b → Stands limit points (done_at word r (parts.Do a))
     by true beat = subst (λ part. IsDue r part → Stands limit points (done_at word r part))
         (sym (beat_test (parts.Do a) beat)) (λ due. beat_keeps limit points word r due v) d
-    by false other = stands other (taken_turns r.replica a other)
+    by false other = stands other
 
 deed_keeps : (limit : ℕ) (points : List CrashPoint) (word : ℕ) (r : Running) (part : Part)
     → IsDue r part → Stands limit points r → Stands limit points (done_at word r part)

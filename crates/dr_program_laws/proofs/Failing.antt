@@ -1,13 +1,9 @@
 -- A failed append ends its member.
-use Rattle.std.proofs.Common.{◌≡◌, refl, sym, ap, ◌∙◌, subst, inl, inr, ℕ, ◌≤◌, Bool, true, false, List}
+use Rattle.std.proofs.Common.{◌≡◌, refl, sym, ap, ◌∙◌, subst, inl, inr, ℕ, ◌≤◌, Bool, true, false, List, arith}
 use Rattle.std.specs.Prelude.{Option, None, Some, is_some, option_map, slice_get}
 use Rattle.std.proofs.lemmas.Option.{same_Some, slice_get-map}
 use Rattle.dr_entry.specs.declared.end.End.{End}
-use Rattle.dr_entry.specs.declared.end.End.TheVariants.{NoMajority, Suspected}
 use Rattle.dr_machine.specs.declared.event.Act.{Act}
-use Rattle.dr_machine.specs.declared.event.Act.TheVariants as acts
-use Rattle.dr_machine.specs.declared.step.Step.TheVariants.{Do}
-use Rattle.dr_machine.specs.declared.event.Act.TheVariants.{Crash}
 use Rattle.dr_machine.specs.Group.{Group, IsGroup}
 use Rattle.dr_program.specs.declared.outcome.LogWhy.{LogWhy}
 use Rattle.dr_program.specs.declared.place.Part.{Part}
@@ -25,10 +21,9 @@ use Rattle.dr_program.proofs.StepsAt.{push_either}
 use Rattle.dr_refine.specs.Programs.{IsProgram}
 use Rattle.dr_refine.proofs.Deeds.{rest_changes_nothing, step_is}
 use Rattle.dr_refine.proofs.Steps.{begun_is_program}
-use Rattle.dr_turn.proofs.Deeds.{is_verdict, verdict_of}
 use Rattle.dr_turn.proofs.Search.{settle_only}
 use Rattle.dr_program_laws.specs.Failing.{AreFailing, EndsBy, IsFailing, has_log_end}
-use Rattle.dr_turn.proofs.Parts.{is_end, no_end, taken_end}
+use Rattle.dr_turn.proofs.Parts.{is_end, is_verdict, no_end, taken_end, verdict_of}
 use Rattle.dr_program_laws.proofs.Keeping.{begun_reached}
 use Rattle.dr_program_laws.proofs.Programs.{ran_keeps, replaced_either}
 
@@ -37,10 +32,7 @@ use Rattle.dr_program_laws.proofs.Programs.{ran_keeps, replaced_either}
 -- a verdict ends no member by its log
 verdict_logs : (r : Replica) (a : Act) → is_verdict a ≡ true → r.end ≡ None
     → has_log_end (taken r a).end ≡ false
-verdict_logs r (acts.Suspect j) is none = ap has_log_end none
-verdict_logs r (acts.Halt (Suspected by)) is none = refl
-verdict_logs r (acts.Halt (NoMajority mask)) is none = refl
-verdict_logs r a is none = absurd (cc)
+verdict_logs r a is none = grind (arith, is, none)
 
 -- where no append has failed no part of a turn ends its member by its log
 no_log_end : (word : ℕ) (r : Running) (part : Part) (i c : ℕ) → r.failed ≡ None → r.replica.end ≡ None
@@ -81,7 +73,7 @@ takes word r member none is = record {
 
 -- a member whose append fails
 breaks_at : (why : LogWhy) (r : Running) (part : Part) (i c : ℕ) → IsAppend (step_at r part i c)
-    → step_at (broken_off why r) part i c ≡ Do (Crash (end_by why))
+    → step_at (broken_off why r) part i c ≡ append_or_end (Some why)
 breaks_at why r parts.Append i c due = refl
 breaks_at why r parts.Vote i c due = refl
 breaks_at why r parts.Push i c due = absurd (by (crashes_now r) due)
@@ -98,7 +90,7 @@ breaks why r none due = record {
   broken = λ reason failed. inl (
     none,
     breaks_at why r (part_of r.place) r.place.row r.place.column due
-        ∙ ap (λ (x : LogWhy). Do (Crash (end_by x))) (same_Some why reason failed),
+        ∙ ap (λ (x : LogWhy). append_or_end (Some x)) (same_Some why reason failed),
   );
 }
 

@@ -4,7 +4,7 @@ use Rattle.std.specs.Prelude.{Option, None, Some, slice_get}
 use Rattle.std.proofs.lemmas.Option.{same_Some}
 use Rattle.dr_entry.specs.declared.end.End.{End}
 use Rattle.dr_words.specs.Form.{IsInForm}
-use Rattle.dr_machine.specs.declared.step.Step.TheVariants.{Look}
+use Rattle.dr_program.specs.declared.place.Part.TheVariants as parts
 use Rattle.dr_machine.specs.Group.{Group, IsGroup}
 use Rattle.dr_machine.specs.Run.{IsReached}
 use Rattle.dr_program.specs.declared.outcome.Outcome.{Outcome}
@@ -12,7 +12,7 @@ use Rattle.dr_program.specs.declared.setup.Setup.{Setup}
 use Rattle.dr_program.specs.Form.{HasForm, IsRunningMember}
 use Rattle.dr_program.specs.Program.{AreSetups, IsRanFrom, Move, Program, after_deed, begun_program, next_sight, ran, step_of}
 use Rattle.dr_program.specs.Reading.{step_due, step_of_member, world}
-use Rattle.dr_program.specs.Running.{Running, after_step, next_step}
+use Rattle.dr_program.specs.Running.{Running, after_step, next_step, step_at}
 use Rattle.dr_program.specs.Sight.{IsSeenNext, MaySee}
 use Rattle.dr_program.specs.Steps.{allows, sight, stepped}
 use Rattle.dr_program.proofs.Opening.{begins_at_the_opening}
@@ -95,19 +95,19 @@ deeds_kept g turns setups p group some are (es, is) =
 -- a look that is due finds a word that its member may see
 pub sees : (g : Group) (p : Program) (m : ℕ) (r : Running) (i c : ℕ) → IsGroup g → IsProgram g p
     → IsReached g (world g p)
-    → slice_get p.members m ≡ Some r → step_of_member r ≡ Some (Look i c)
+    → slice_get p.members m ≡ Some r → step_of_member r ≡ Some (step_at r parts.Look i c)
     → MaySee r (step_of_member r) (next_sight p.table r)
 sees g p m r i c group is run there due = by r.replica.end refl due
   where
-    found_there : next_step r ≡ Look i c → r.replica.end ≡ None
+    found_there : next_step r ≡ step_at r parts.Look i c → r.replica.end ≡ None
         → IsSeenNext r i c (next_sight p.table r)
     found_there at unended =
         subst (λ s. IsSeenNext r i c (sight p.table r.replica s)) (sym at)
         (found_seen g p m r i c group is run there
         (subst (λ s. allows r.replica s ≡ true) at (due_allowed r ((is.form m r there).due unended))))
 
-    by : (o : Option End) → r.replica.end ≡ o → step_due r o ≡ Some (Look i c)
+    by : (o : Option End) → r.replica.end ≡ o → step_due r o ≡ Some (step_at r parts.Look i c)
         → MaySee r (step_of_member r) (next_sight p.table r)
     by None unended same = subst (λ s. MaySee r s (next_sight p.table r)) (sym due)
-        (found_there (same_Some (next_step r) (Look i c) same) unended)
+        (found_there (same_Some (next_step r) (step_at r parts.Look i c) same) unended)
     by (Some x) ended same = absurd (cc)

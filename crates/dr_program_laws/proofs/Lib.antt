@@ -3,7 +3,7 @@ pub mod Keeping
 pub mod Standing
 mod Deeds
 pub mod Programs
-mod Quiet
+pub mod Quiet
 pub mod Worlds
 pub mod Ending
 pub mod Schedules

@@ -3,9 +3,8 @@ use Rattle.std.proofs.Common.{◌≡◌, ◌≢◌, ◌⊎◌, refl, sym, ap, �
 use Rattle.std.proofs.lemmas.Bool.{cases_eq, cases_lt, not-true}
 use Rattle.std.proofs.lemmas.Bool.Decides.{nat_tests}
 use Rattle.std.proofs.lemmas.List.{get_or_past, get_or-set_same, get_or-set_other}
-use Rattle.dr_machine.specs.declared.event.Act.TheVariants as acts
 use Rattle.dr_machine.specs.declared.step.Step.{Step}
-use Rattle.dr_machine.specs.declared.step.Step.TheVariants.{Do, Look}
+use Rattle.dr_machine.specs.declared.step.Step.TheVariants.{Look}
 use Rattle.dr_program.specs.declared.place.Part.{Part}
 use Rattle.dr_program.specs.declared.place.Part.TheVariants as parts
 use Rattle.dr_program.specs.declared.place.Place.{Place}
@@ -18,13 +17,12 @@ use Rattle.dr_program.proofs.StepsAt.{append_either, push_either, vote_either}
 use Rattle.dr_rows.specs.Words.{Words, looked, seen}
 use Rattle.dr_suspect.specs.Waits.{Waits, beat_of, compared, count_of, next_count}
 use Rattle.dr_turn.specs.Search.{Passed, here, on}
-use Rattle.dr_turn.proofs.Deeds.{is_publish}
 use Rattle.dr_turn.proofs.Order.{all_below, each_below}
 use Rattle.dr_turn.proofs.Search.{applies_at, beat_test, passed_at, settle_only, settle_passed}
 use Rattle.dr_turn.proofs.Tasks.{ends_view}
 use Rattle.dr_words.specs.declared.column.TheConstants.{BEAT_COLUMN}
 use Rattle.dr_program_laws.specs.Trusting.{IsOthers, IsPatient, MayWait, to_come}
-use Rattle.dr_turn.proofs.Parts.{goes_back_or_stays, numbered}
+use Rattle.dr_turn.proofs.Parts.{goes_back_or_stays, is_publish, numbered}
 
 -- ---- the rows that are still to be compared in the turn of a place
 
@@ -159,10 +157,7 @@ plain_looks r part i c other = refl
 -- no other step changes how long the member has waited, unless it ends its view
 pub waits_stay : (word : ℕ) (r : Running) (s : Step) → is_look s ≡ false → ends_view s ≡ false
     → waits_after word r s ≡ r.waits
-waits_stay word r (Look i c) other stays = absurd (cc other)
-waits_stay word r (Do acts.Finish) other stays = absurd (cc stays)
-waits_stay word r (Do a) other stays = refl
-waits_stay word r s other stays = refl
+waits_stay word r s other stays = grind (arith, other, stays)
 
 -- behind the looks no deed but the one that begins a turn goes back to them
 pub goes_less : (n k : ℕ) (part : Part) (p : Place) (i : ℕ) → part_of p ≡ part → is_beat part ≡ false
@@ -220,7 +215,7 @@ compared_other w rows j i other =
 
 -- the looks: with the last word of a row one is counted, and none is to come for it
 looks_less : (word : ℕ) (r : Running) (i : ℕ) → IsRunningMember r → part_of r.place ≡ parts.Look
-    → count_of (waits_after word r (Look r.place.row r.place.column)) i
+    → count_of (waits_after word r (step_at r parts.Look r.place.row r.place.column)) i
     + comes (after (members r) (columns r) r.place) i
     ≤ count_of r.waits i + comes r.place i
 looks_less word r i member at = by (r.place.column + 1 == columns r) refl (cases_eq i r.place.row)

@@ -1,59 +1,28 @@
--- Who suspects nobody has voted for nothing.
-use Rattle.std.proofs.Common.{◌≡◌, refl, ℕ, []}
-use Rattle.std.specs.Prelude.{Option, None, Some}
-use Rattle.dr_entry.specs.declared.record.Value.{Value}
-use Rattle.dr_faithful.proofs.Suspicions.{mask_after, mask_some}
-use Rattle.dr_faithful.proofs.Writes.{at_both, at_case}
-use Rattle.dr_faithful.specs.Faithful.{Faithful}
-use Rattle.dr_faithful.specs.Chosen.{views_by}
-use Rattle.dr_faithful.specs.Tells.{Views}
-use Rattle.dr_machine.proofs.Runs.{reached, reached_effect}
-use Rattle.dr_machine.specs.Acts.{CanTake, effect_of}
+-- Who suspects nobody passes the parts of its turn that are for voting.
+use Rattle.std.proofs.Common.{◌≡◌, Bool, true, false, arith}
+use Rattle.std.specs.Prelude.{None}
+use Rattle.dr_machine.specs.declared.event.Act.{Act}
 use Rattle.dr_machine.specs.declared.event.Act.TheVariants as acts
-use Rattle.dr_machine.specs.declared.step.Step.{Step}
-use Rattle.dr_machine.specs.declared.step.Step.TheVariants.{Do, LogVote}
-use Rattle.dr_machine.specs.Effects.{vote_for}
-use Rattle.dr_machine.specs.Events.{member_of, step_of}
-use Rattle.dr_machine.specs.Group.{Group, IsGroup}
-use Rattle.dr_machine.specs.Run.{IsReached}
-use Rattle.dr_machine.specs.World.{World}
-use Rattle.dr_world_laws.proofs.Worlds.{faithful, known}
+use Rattle.dr_machine.specs.declared.step.Step.TheVariants.{Do}
+use Rattle.dr_program.specs.Acts.{may}
+use Rattle.dr_program.specs.Replica.{Replica}
+use Rattle.dr_program.specs.declared.place.Part.{Part}
+use Rattle.dr_program.specs.declared.place.Part.TheVariants as parts
+use Rattle.dr_turn.proofs.Tasks.{ends_view}
 
--- who suspects nobody has no vote that waits, and has committed nothing
-abbrev AreQuiet : World → Type 0
-AreQuiet w = (m : ℕ) → w.suspects m ≡ 0 → (w.pending m ≡ None) × (w.committed m ≡ None)
+-- the part is one that a member which suspects nobody passes: it judges nothing, has no vote, and doesn't end
+-- its view
+abbrev pub is_passed : Part → Bool
+is_passed parts.Judge = true
+is_passed parts.Vote = true
+is_passed (parts.Do acts.Propose) = true
+is_passed (parts.Do acts.Accept) = true
+is_passed (parts.Do acts.Commit) = true
+is_passed (parts.Do a) = ends_view (Do a)
+is_passed parts.Excluded = true
+is_passed part = false
 
--- each step keeps it so
-step_quiet : (g : Group) (V : Views) (w : World) (m : ℕ) (s : Step) → IsGroup g → Faithful g V w
-    → CanTake g w m s → AreQuiet w → AreQuiet (effect_of g w m s)
-step_quiet g V w m (Do (acts.Suspect j)) is f can old =
-    at_case (λ k mask. mask ≡ 0 → (w.pending k ≡ None) × (w.committed k ≡ None)) w.suspects m
-    (mask_after w m j) (λ k d. old k) (λ none. absurd (mask_some g V w m j is can f none))
-step_quiet g V w m (Do acts.Propose) is f can old =
-    at_case (λ k vote. w.suspects k ≡ 0 → (vote ≡ None) × (w.committed k ≡ None)) w.pending m None
-    (λ k d. old k) (λ calm. (refl, (old m calm).1))
-step_quiet g V w m (Do acts.Accept) is f can old =
-    at_case (λ k vote. w.suspects k ≡ 0 → (vote ≡ None) × (w.committed k ≡ None)) w.pending m None
-    (λ k d. old k) (λ calm. (refl, (old m calm).1))
-step_quiet g V w m (Do acts.Commit) is f can old =
-    at_case (λ k choice. w.suspects k ≡ 0 → (w.pending k ≡ None) × (choice ≡ None)) w.committed m
-    (Some (w.value m)) (λ k d. old k) (λ calm. absurd (can.wedged calm))
-step_quiet g V w m (Do acts.Finish) is f can old =
-    at_both (λ k (mask : ℕ) (choice : Option Value). mask ≡ 0 → (w.pending k ≡ None) × (choice ≡ None))
-    w.suspects w.committed m 0 None old (λ calm. (can.may.idle, refl))
-step_quiet g V w m (Do a) is f can old = old
-step_quiet g V w m (LogVote v) is f can old =
-    at_case (λ k vote. w.suspects k ≡ 0 → (vote ≡ None) × (w.committed k ≡ None)) w.pending m
-    (Some (vote_for g w m v)) (λ k d. old k) (λ calm. absurd (can.wedged calm))
-step_quiet g V w m s is f can old = old
-
--- so it is in every world that is reached
-pub quiet : (g : Group) (w : World) (m : ℕ) → IsGroup g → IsReached g w → w.suspects m ≡ 0
-    → (w.pending m ≡ None) × (w.committed m ≡ None)
-quiet g w m is r = (reached g (λ u. IsReached g u × AreQuiet u)
-    (λ u e can y. (
-      reached_effect g u e y.0 can,
-      let t = known g u is y.0 in
-          step_quiet g (views_by g t.values) u (member_of e) (step_of e) is (faithful g u t) can y.1,
-    ))
-    (([], refl), λ k calm. (refl, refl)) w r).1 m
+-- the act of such a part it may not do
+pub passed_act : (r : Replica) (a : Act) → r.suspects ≡ 0 → r.pending ≡ None → r.committed ≡ None
+    → is_passed (parts.Do a) ≡ true → may r a ≡ false
+passed_act r a calm idle none passed = grind (arith, calm, idle, none, passed)

@@ -1,5 +1,5 @@
 -- What a look finds in the table of a program in a reached world, its member may see.
-use Rattle.std.proofs.Common.{◌≡◌, ◌≢◌, sym, ap, ◌∙◌, subst, ℕ, ◌<◌, true, slice_index, not, arith}
+use Rattle.std.proofs.Common.{◌≡◌, ◌≢◌, sym, ap, ◌∙◌, subst, ℕ, ◌<◌, true, slice_index, ◌&&◌, not, arith}
 use Rattle.std.specs.Prelude.{Some, slice_get}
 use Rattle.std.proofs.lemmas.Bool.{and_parts}
 use Rattle.std.proofs.lemmas.Option.{slice_get_within}
@@ -8,13 +8,12 @@ use Rattle.dr_rows.specs.Words.{seen}
 use Rattle.dr_words.specs.Form.{IsInForm}
 use Rattle.dr_words.specs.Grown.{HasGrown}
 use Rattle.dr_words.specs.Layout.{word_index_of}
-use Rattle.dr_machine.specs.declared.step.Step.TheVariants.{Look}
 use Rattle.dr_machine.specs.Group.{Group, IsGroup, columns, roster}
 use Rattle.dr_machine.specs.Run.{IsReached}
 use Rattle.dr_machine.specs.World.{World}
 use Rattle.dr_program.specs.Replica.{is_other}
 use Rattle.dr_program.specs.Running.{Running}
-use Rattle.dr_program.specs.Steps.{allows, found, has_cell}
+use Rattle.dr_program.specs.Steps.{found, has_cell}
 use Rattle.dr_program.specs.Form.{IsOf}
 use Rattle.dr_program.specs.Program.{Program}
 use Rattle.dr_program.specs.Reading.{world}
@@ -45,7 +44,7 @@ word_found g p m r i c member within other column =
 -- it is in form, and has grown from the word that was seen before
 pub found_seen : (g : Group) (p : Program) (m : ℕ) (r : Running) (i c : ℕ) → IsGroup g
     → IsProgram g p → IsReached g (world g p)
-    → slice_get p.members m ≡ Some r → allows r.replica (Look i c) ≡ true
+    → slice_get p.members m ≡ Some r → (not (has r.replica.suspects i) && has_cell r.replica i c) ≡ true
     → IsSeenNext r i c (found p.table r.replica i c)
 found_seen g p m r i c group is run there may = record {
   form = subst (λ n. IsInForm n c word) (sym of.members)

@@ -6,7 +6,7 @@ use Rattle.std.proofs.lemmas.Bool.Decides.{nat_tests}
 use Rattle.std.proofs.lemmas.List.Folds.{list_any_at}
 use Rattle.dr_entry.specs.declared.end.End.{End}
 use Rattle.dr_entry.specs.declared.end.End.TheVariants as ends
-use Rattle.dr_machine.specs.declared.event.Act.TheVariants as acts
+use Rattle.dr_machine.specs.declared.step.Step.TheVariants as steps
 use Rattle.dr_program.specs.declared.setup.CrashPoint.{CrashPoint}
 use Rattle.dr_program.specs.declared.place.Part.{Part}
 use Rattle.dr_program.specs.declared.place.Part.TheVariants as parts
@@ -16,6 +16,7 @@ use Rattle.dr_program.specs.Turn.{after, columns_in, is_beat, part_of, rows_in, 
 use Rattle.dr_program.specs.Running.{Running, applies, columns, crashes_in_turn, is_in_turn, members, moved, settle, settled}
 use Rattle.dr_turn.proofs.Order.{all_below, each_below}
 use Rattle.dr_turn.proofs.Search.{applies_at}
+use Rattle.dr_turn.proofs.Tasks.{ends_view}
 use Rattle.dr_program_laws.specs.Ended.{IsBeforeCrash}
 
 -- ---- before and after a crash
@@ -54,9 +55,9 @@ no_crash points turns later none =
 -- the parts behind the end of a member that was to crash, and the beginning of the next turn
 abbrev pub is_late : Part → Bool
 is_late parts.Done = true
-is_late (parts.Do acts.Finish) = true
 is_late parts.Spent = true
-is_late part = is_beat part
+is_late (parts.Do a) = ends_view (steps.Do a) || is_beat (parts.Do a)
+is_late part = false
 
 -- the part is that of a crash
 abbrev pub is_crash : Part → Bool

@@ -3,7 +3,7 @@
 use Rattle.std.proofs.Common.{◌≡◌, ◌≢◌, refl, sym, ap, ◌∙◌, subst, inl, inr, ◌⊎◌, ℕ, suc, ◌+◌, ◌<◌, ◌≤◌, ◌==◌, ◌&&◌, not, nat_lt, Bool, true, false, if◌then◌else◌, All, List, [], ◌∷◌, length, map, arith}
 use Rattle.std.proofs.Math.Path.{fun_ext}
 use Rattle.std.specs.List.{find}
-use Rattle.std.specs.Option.{option_and_then, option_map, option_or}
+use Rattle.std.specs.Option.{option_and_then, option_map}
 use Rattle.std.specs.Prelude.{Option, None, Some, filter_map, is_some, slice_get, slice_index_or, unwrap_or}
 use Rattle.std.proofs.lemmas.Bool.{and_left, and_right, cases_eq, cases_lt}
 use Rattle.std.proofs.lemmas.Bool.Decides.{nat_tests}
@@ -12,9 +12,9 @@ use Rattle.dr_entry.specs.declared.end.End.{End}
 use Rattle.dr_entry.specs.declared.end.End.TheVariants as ends
 use Rattle.dr_faithful.specs.Chosen.{views_by}
 use Rattle.dr_faithful.specs.Faithful.{Faithful}
-use Rattle.dr_machine.specs.declared.event.Act.TheVariants as acts
+use Rattle.dr_machine.specs.declared.event.Act.{Act}
 use Rattle.dr_machine.specs.declared.step.Step.{Step}
-use Rattle.dr_machine.specs.declared.step.Step.TheVariants.{Do, Look}
+use Rattle.dr_machine.specs.declared.step.Step.TheVariants.{Do}
 use Rattle.dr_machine.specs.Group.{Group, IsGroup}
 use Rattle.dr_machine.specs.Run.{IsReached}
 use Rattle.dr_machine.specs.World.{World, opening_world}
@@ -24,9 +24,9 @@ use Rattle.dr_program.specs.declared.setup.Setup.{Setup}
 use Rattle.dr_program.specs.declared.setup.Suspicion.{Suspicion}
 use Rattle.dr_program.specs.Program.{AreSetups, IsRanFrom, Move, Program, after_deed, begun_program, end_of, moved_by, next_sight, step_of}
 use Rattle.dr_program.specs.Reading.{world}
-use Rattle.dr_program.specs.Replica.{Replica, has_majority, is_due, is_fault, is_named, is_others, is_own, is_wedged, may_commit, may_finish, may_suspect, may_vote, me, value_due}
+use Rattle.dr_program.specs.Replica.{Replica, is_named, is_wedged, may_vote, me, value_due}
 use Rattle.dr_program.specs.Replica as replica
-use Rattle.dr_program.specs.Running.{Running, after_step, begun_running, columns, crashes_now, is_scripted, judged, judgement, minority, named_by, next_step, overdue, scripted, step_at, told, took, vote_or_end, waits_after}
+use Rattle.dr_program.specs.Running.{Running, after_step, begun_running, crashes_now, is_scripted, judged, judgement, minority, named_by, next_step, overdue, scripted, step_at, told, took, vote_or_end, waits_after}
 use Rattle.dr_program.specs.Steps.{allows, stepped}
 use Rattle.dr_program.specs.Turn.{is_beat, part_of}
 use Rattle.dr_program.specs.Form.{HasForm, IsRunningMember}
@@ -41,26 +41,25 @@ use Rattle.dr_restart.specs.declared.start.Start.{Start}
 use Rattle.dr_restart.specs.Groups.{group_of}
 use Rattle.dr_restart.specs.Setups.{AreSetupsOf, IsBegun, suspicion_in, suspicion_of}
 use Rattle.dr_restart.proofs.Setups.{are_setups}
-use Rattle.dr_rows.specs.Words.{looked, seen}
+use Rattle.dr_rows.specs.Words.{seen}
 use Rattle.dr_script.specs.declared.script.Fault.{Fault}
 use Rattle.dr_script.specs.declared.script.Script.{Script}
 use Rattle.dr_suspect.specs.Answers.{least_where}
 use Rattle.dr_suspect.specs.Suspicion.{is_unsuspected, names, names_me, spreads}
-use Rattle.dr_suspect.specs.Waits.{Waits, compared, count_of, is_late, is_overdue}
-use Rattle.dr_turn.proofs.Deeds.{is_verdict}
-use Rattle.dr_turn.proofs.Parts.{has_verdict, is_judge, no_verdict}
+use Rattle.dr_suspect.specs.Waits.{count_of, is_late, is_overdue}
+use Rattle.dr_turn.proofs.Parts.{has_verdict, is_judge, is_verdict, no_verdict}
 use Rattle.dr_turn.proofs.Search.{settle_only}
 use Rattle.dr_turn.proofs.Tasks.{ends_view, view_stays}
 use Rattle.dr_words.proofs.Bits.{has_zero}
 use Rattle.dr_words.proofs.Masks.{has_without_mask}
 use Rattle.dr_words.specs.declared.column.TheConstants.{SUSPECTED_COLUMN}
-use Rattle.dr_world_laws.proofs.Worlds.{Known, faithful, known}
+use Rattle.dr_world_laws.proofs.Worlds.{Known, faithful, known, quiet}
 use Rattle.dr_history.specs.Members.{has}
 use Rattle.dr_program_laws.specs.Trusting.{AreAtEase, AreTrusting, IsAtEase, IsCalm, IsPatient, IsTrusting, MayWait, NoneLeft, SuspectsNobody, has_been_left, is_left_out, to_come}
 use Rattle.dr_program_laws.proofs.Patience.{patient_on}
 use Rattle.dr_program_laws.proofs.Keeping.{begun_reached}
 use Rattle.dr_program_laws.proofs.Programs.{ran_keeps, replaced_either}
-use Rattle.dr_program_laws.proofs.Quiet.{quiet}
+use Rattle.dr_program_laws.proofs.Quiet.{is_passed, passed_act}
 use Rattle.dr_program_laws.proofs.Worlds.{all_ends, of_there}
 
 -- ---- words
@@ -145,11 +144,7 @@ nothing_spreads test none = ap (λ (t : ℕ → ℕ → Bool). option_and_then (
 -- such a member judges nothing
 judges_nothing : (g : Group) (p : Program) (m : ℕ) (r : Running) → IsAmong g p m r
     → judgement r ≡ None
-judges_nothing g p m r is = λ z.
-    option_or (option_map (λ by. acts.Halt (ends.Suspected by)) (named z))
-    (option_or (option_map acts.Suspect (script z))
-    (option_or (option_map acts.Suspect (spread z))
-    (option_or (option_map acts.Suspect (late z)) (few z))))
+judges_nothing g p m r is = grind (arith, named, script, spread, late, few)
   where
     q : Replica
     q = r.replica
@@ -200,25 +195,21 @@ judges_nothing g p m r is = λ z.
     late = nothing_found (is_overdue r.waits q.rows (replica.unsuspected q)) (in_time so.patient)
 
     few : minority q ≡ None
-    few = ap (λ n. if not (n == 0) && not (has_majority q)
-        then Some (acts.Halt (ends.NoMajority (replica.unsuspected q))) else None) so.unwedged
+    few = grind (arith, so.unwedged)
 
 -- so it never stands where members judge
 pub never_judges : (g : Group) (p : Program) (m : ℕ) (r : Running) → IsAmong g p m r
     → r.replica.end ≡ None → is_judge (part_of r.place) ≡ false
 never_judges g p m r is unended = by (part_of r.place) refl
   where
-    nobody : judged r ≡ acts.Suspect (me r.replica)
-    nobody = ap (λ o. unwrap_or o (acts.Suspect (me r.replica))) (judges_nothing g p m r is)
-
-    not_itself : may_suspect r.replica (me r.replica) ≡ false
-    not_itself = grind arith
+    not_itself : allows r.replica (Do (judged r)) ≡ false
+    not_itself = rw (judges_nothing g p m r is) (grind arith)
 
     by : (part : Part) → part_of r.place ≡ part → is_judge part ≡ false
     by parts.Judge at = absurd (cc (
       sym (ap (λ x. allows r.replica (step_at r x r.place.row r.place.column)) at)
           ∙ due_allowed r ((is.program.form m r is.there).due unended),
-      ap (λ a. allows r.replica (Do a)) nobody ∙ not_itself,
+      not_itself,
     ))
     by part at = refl
 
@@ -232,18 +223,6 @@ votes_nothing g p m r is =
       sym (of_there p (λ q. q.pending) (opening_world g).pending m r is.there) ∙ none.0,
       sym (of_there p (λ q. q.committed) (opening_world g).committed m r is.there) ∙ none.1,
     )
-
--- the part is one that a member which suspects nobody passes: it judges nothing, has no vote, and doesn't end
--- its view
-abbrev pub is_passed : Part → Bool
-is_passed parts.Judge = true
-is_passed parts.Vote = true
-is_passed (parts.Do acts.Propose) = true
-is_passed (parts.Do acts.Accept) = true
-is_passed (parts.Do acts.Commit) = true
-is_passed (parts.Do acts.Finish) = true
-is_passed parts.Excluded = true
-is_passed part = false
 
 -- so until an append of it fails it stands at no part that it passes
 pub never_passed : (g : Group) (p : Program) (m : ℕ) (r : Running) → IsAmong g p m r
@@ -259,9 +238,6 @@ never_passed g p m r is unended well = by (part_of r.place) refl
     no_vote : may_vote r.replica (value_due r.replica) ≡ false
     no_vote = and_left (is_wedged r.replica) _ calm
 
-    no_commit : may_commit r.replica ≡ false
-    no_commit = and_left (is_wedged r.replica) _ calm
-
     unnamed : allows r.replica (step_at r parts.Excluded r.place.row r.place.column) ≡ false
     unnamed = and_left (is_named (me r.replica) r.replica.committed) _
         (ap (is_named (me r.replica)) none.1)
@@ -274,15 +250,18 @@ never_passed g p m r is unended well = by (part_of r.place) refl
       fails,
     ))
 
+    act : (a : Act) → part_of r.place ≡ parts.Do a → (b : Bool) → is_passed (parts.Do a) ≡ b
+        → is_passed (parts.Do a) ≡ false
+    act a at true passed =
+        never (parts.Do a) at (passed_act r.replica a (is.ease m r is.there).unwedged none.0 none.1 passed)
+    act a at false other = other
+
     by : (part : Part) → part_of r.place ≡ part → is_passed part ≡ false
     by parts.Judge at = absurd (cc (ap is_judge at, never_judges g p m r is unended))
     by parts.Vote at = never parts.Vote at
         (ap (λ o. allows r.replica (vote_or_end o (value_due r.replica))) well ∙ no_vote)
-    by (parts.Do acts.Propose) at = never (parts.Do acts.Propose) at (ap (is_own (me r.replica)) none.0)
-    by (parts.Do acts.Accept) at = never (parts.Do acts.Accept) at (ap (is_others (me r.replica)) none.0)
-    by (parts.Do acts.Commit) at = never (parts.Do acts.Commit) at no_commit
     by parts.Excluded at = never parts.Excluded at unnamed
-    by (parts.Do acts.Finish) at = never (parts.Do acts.Finish) at (ap (may_finish r.replica) none.1)
+    by (parts.Do a) at = act a at (is_passed (parts.Do a)) refl
     by part at = refl
 
 -- ---- other steps
@@ -304,9 +283,7 @@ plain_step r part i c other none = refl
 
 -- who has committed nothing doesn't end its view
 view_goes_on : (r : Replica) (s : Step) → r.committed ≡ None → allows r s ≡ true → ends_view s ≡ false
-view_goes_on r (Do acts.Finish) none may = absurd (cc (ap (may_finish r) none, may))
-view_goes_on r (Do a) none may = refl
-view_goes_on r s none may = refl
+view_goes_on r s none may = grind (arith, none, may)
 
 -- so such a member stays in its view
 pub never_ends : (g : Group) (p : Program) (m : ℕ) (r : Running) → IsAmong g p m r → r.replica.end ≡ None
@@ -317,48 +294,16 @@ never_ends g p m r is unended = view_goes_on r.replica (next_step r) (votes_noth
 -- and no other step makes a member suspect anybody
 suspects_stay : (word : ℕ) (r : Replica) (s : Step) → judges s ≡ false → ends_view s ≡ false
     → (stepped word r s).suspects ≡ r.suspects
-suspects_stay word r (Do (acts.Suspect j)) other stays = absurd (cc other)
-suspects_stay word r (Do acts.Finish) other stays = absurd (cc stays)
-suspects_stay word r (Do acts.Beat) other stays = refl
-suspects_stay word r (Do a) other stays = refl
-suspects_stay word r s other stays = refl
+suspects_stay word r s other stays = grind (arith, other, stays)
 
 -- or ends it by suspicion
-halt_kept : (r : Replica) (end : End) → r.committed ≡ None → is_verdict (acts.Halt end) ≡ false
-    → is_due r end ≡ true → is_left_out end ≡ false
-halt_kept r (ends.Suspected by) none other due = absurd (cc)
-halt_kept r (ends.NoMajority mask) none other due = absurd (cc)
-halt_kept r (ends.Excluded view) none other due =
-    let fails : is_due r (ends.Excluded view) ≡ false = and_left (is_named (me r) r.committed) _
-    (ap (is_named (me r)) none) in
-    absurd (cc (fails, due))
-halt_kept r end none other due = refl
-
-crash_kept : (end : End) → is_fault end ≡ true → is_left_out end ≡ false
-crash_kept (ends.Suspected by) fault = absurd (cc)
-crash_kept (ends.NoMajority mask) fault = absurd (cc)
-crash_kept (ends.Excluded view) fault = absurd (cc)
-crash_kept end fault = refl
-
 end_stays : (word : ℕ) (r : Replica) (s : Step) → r.committed ≡ None → judges s ≡ false
     → allows r s ≡ true → has_been_left r.end ≡ false → has_been_left (stepped word r s).end ≡ false
-end_stays word r (Do (acts.Halt end)) none other may kept = halt_kept r end none other may
-end_stays word r (Do (acts.Crash end)) none other may kept = crash_kept end may
-end_stays word r (Do acts.Finish) none other may kept = kept
-end_stays word r (Do acts.Beat) none other may kept = kept
-end_stays word r (Do a) none other may kept = kept
-end_stays word r s none other may kept = kept
+end_stays word r s none other may kept = grind (arith, none, other, may, kept)
 
 -- no step at all changes for how long it waits
 pub limit_stays : (word : ℕ) (r : Running) (s : Step) → (waits_after word r s).limit ≡ r.waits.limit
-limit_stays word r (Look i c) =
-    by (c + 1 == columns r) (compared r.waits (looked r.replica.rows i c word) i) refl
-  where
-    by : (b : Bool) (w : Waits) → w.limit ≡ r.waits.limit → (if b then w else r.waits).limit ≡ r.waits.limit
-    by true w same = same
-    by false w same = refl
-limit_stays word r (Do acts.Finish) = refl
-limit_stays word r s = refl
+limit_stays word r s = grind arith
 
 -- ---- a move
 

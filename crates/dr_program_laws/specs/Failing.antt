@@ -1,11 +1,9 @@
 -- Members whose appends fail.
 use Rattle.std.specs.Prelude.{◌≡◌, ◌⊎◌, ℕ, Bool, false, Option, None, Some, slice_get}
 use Rattle.dr_entry.specs.declared.end.End.{End}
-use Rattle.dr_machine.specs.declared.event.Act.TheVariants.{Crash}
-use Rattle.dr_machine.specs.declared.step.Step.TheVariants.{Do}
 use Rattle.dr_program.specs.declared.outcome.LogWhy.{LogWhy}
 use Rattle.dr_program.specs.Program.{Program}
-use Rattle.dr_program.specs.Running.{Running, end_by, next_step}
+use Rattle.dr_program.specs.Running.{Running, append_or_end, end_by, next_step}
 use Rattle.dr_program_laws.specs.Ended.{is_log_end}
 
 -- a member has ended by its log
@@ -16,7 +14,7 @@ has_log_end (Some end) = is_log_end end
 -- its next act is the end for this reason, or it has ended so
 abbrev pub EndsBy : LogWhy → Running → Type 0
 EndsBy why r =
-    ((r.replica.end ≡ None) × (next_step r ≡ Do (Crash (end_by why)))) ⊎ (r.replica.end ≡ Some (end_by why))
+    ((r.replica.end ≡ None) × (next_step r ≡ append_or_end (Some why))) ⊎ (r.replica.end ≡ Some (end_by why))
 
 -- an append that fails is what a member ends by, and no other member ends by its log
 pub record IsFailing (r : Running) : Type 0 where

@@ -1,29 +1,27 @@
 -- The next deed of a running member is a step of the machine.
-use Rattle.std.proofs.Common.{◌≡◌, refl, sym, ap, ◌∙◌, subst, ℕ, zero, suc, ◌||◌, Bool, true, false, inl, if◌then◌else◌, List, [], ◌∷◌, ◌++◌, map}
+use Rattle.std.proofs.Common.{◌≡◌, refl, sym, ap, ◌∙◌, subst, ℕ, zero, suc, ◌||◌, Bool, true, false, inl, if◌then◌else◌, List, [], ◌∷◌, map, arith}
 use Rattle.std.specs.Prelude.{Option, Some, None, is_some, slice_get, slice_index_or, slice_set, option_map}
 use Rattle.std.proofs.lemmas.List.{set-get_or}
-use Rattle.std.proofs.lemmas.Option.{get_or_from_slice_get, slice_get-map, same_Some}
+use Rattle.std.proofs.lemmas.Option.{get_or_from_slice_get, slice_get-map}
 use Rattle.std.proofs.lemmas.Bool.{and_from, and_parts}
 use Rattle.dr_entry.specs.declared.end.End.{End}
 use Rattle.dr_machine.specs.declared.step.Step.{Step}
-use Rattle.dr_machine.specs.declared.step.Step.TheVariants.{Do, Append, LogVote}
 use Rattle.dr_machine.specs.Events.{event_of}
 use Rattle.dr_machine.specs.Events as events
 use Rattle.dr_machine.specs.Group.{Group, IsGroup}
-use Rattle.dr_machine.specs.World.{World, opening_world}
+use Rattle.dr_machine.specs.World.{World}
 use Rattle.dr_machine.specs.Acts.{CanTake, effect_of}
 use Rattle.dr_machine.specs.Run.{Happens, IsReached}
 use Rattle.dr_program.specs.Replica.{Replica}
 use Rattle.dr_program.specs.declared.outcome.Outcome.{Outcome}
-use Rattle.dr_program.specs.declared.outcome.Outcome.TheVariants as outcomes
 use Rattle.dr_program.specs.Steps.{allows, sight, stored}
 use Rattle.dr_program.specs.Running.{Running, after_step, applies, asks, moved, next_step, settle, settled, took}
 use Rattle.dr_program.specs.Turn.{part_of}
-use Rattle.dr_program.specs.Program.{Program, Move, after_deed, moved_by, next_sight, step_of, went}
-use Rattle.dr_program.specs.Reading.{comes_to, step_by, step_due, world, world_of}
+use Rattle.dr_program.specs.Program.{Program, Move, after_deed, comes_to, moved_by, next_sight, step_of, went}
+use Rattle.dr_program.specs.Reading.{step_by, step_due, world, world_of}
 use Rattle.dr_program.proofs.Waiting.{free_step}
 use Rattle.dr_machine.proofs.Events.{member_of_event, step_of_event}
-use Rattle.dr_machine.proofs.Runs.{run_on}
+use Rattle.dr_machine.proofs.Runs.{reached_more}
 use Rattle.dr_refine.specs.Programs.{IsMember, IsProgram}
 use Rattle.dr_refine.proofs.Tests.{step_effect, step_guard}
 
@@ -114,12 +112,7 @@ deed_step g p m o r group is there unended takes =
 -- what comes to a step is the step that is due, and is taken
 came_to : (table : List ℕ) (o : Outcome) (r : Running) (due s : Step) → comes_to (Some due) o ≡ Some s
     → (due ≡ s) × (after_deed (sight table r.replica due) o r due ≡ after_step (sight table r.replica due) r)
-came_to table outcomes.Ok r Append s came = (same_Some Append s came, refl)
-came_to table (outcomes.Failed why) r Append s came = absurd (cc)
-came_to table outcomes.Ok r (LogVote v) s came = (same_Some (LogVote v) s came, refl)
-came_to table (outcomes.Failed why) r (LogVote v) s came = absurd (cc)
-came_to table o r (Do a) s came = (same_Some (Do a) s came, refl)
-came_to table o r due s came = (same_Some due s came, refl)
+came_to table o r due s came = grind (arith, came)
 
 -- by the outcome
 outcome_step : (g : Group) (p : Program) (m : ℕ) (r : Running) (o : Outcome) (s : Step) → IsGroup g
@@ -155,12 +148,7 @@ rest_changes_nothing p e r there rests = by r.replica.end refl rests
 fails_alone : (table : List ℕ) (o : Outcome) (r : Running) (due : Step) → comes_to (Some due) o ≡ None
     → ((after_deed (sight table r.replica due) o r due).replica ≡ r.replica)
     × (stored table r.replica due ≡ table)
-fails_alone table (outcomes.Failed why) r Append none = (refl, refl)
-fails_alone table outcomes.Ok r Append none = absurd (cc)
-fails_alone table (outcomes.Failed why) r (LogVote v) none = (refl, refl)
-fails_alone table outcomes.Ok r (LogVote v) none = absurd (cc)
-fails_alone table o r (Do a) none = absurd (cc)
-fails_alone table o r due none = absurd (cc)
+fails_alone table o r due none = grind (arith, none)
 
 -- a move that is no step leaves the world
 pub no_step_no_change : (g : Group) (p : Program) (e : Move) (r : Running) → slice_get p.members e.member
@@ -197,24 +185,24 @@ happens_to g w after m s can e = inl
     (sym (member_of_event m s))
     (subst (λ x. CanTake g w m x × (after ≡ effect_of g w m x)) (sym (step_of_event m s)) (can, e)))
 
+-- so what comes of a step that may come is reached, where the world before it is
+pub taken_reached : (g : Group) (w after : World) (m : ℕ) (s : Step) → IsReached g w → CanTake g w m s
+    → after ≡ effect_of g w m s → IsReached g after
+taken_reached g w after m s reached can e =
+    reached_more g w after (event_of m s) reached (happens_to g w after m s can e)
+
 -- the world after a move is reached, where the world before it is
 pub step_reached : (g : Group) (p : Program) (e : Move) → IsGroup g → IsProgram g p
     → IsReached g (world g p) → IsReached g (world g (step_of p e))
-step_reached g p e group is (es, run) = by (slice_get p.members e.member) refl
+step_reached g p e group is reached = by (slice_get p.members e.member) refl
   where
-    after : World
-    after = world g (step_of p e)
-
     named : (r : Running) → slice_get p.members e.member ≡ Some r → (x : Option Step)
         → step_by r e.outcome ≡ x → IsReached g (world g (step_of p e))
-    named r there None none = subst (IsReached g) (sym (no_step_no_change g p e r there none)) (es, run)
+    named r there None none = subst (IsReached g) (sym (no_step_no_change g p e r there none)) reached
     named r there (Some s) some =
-        let happened = deed_is_step g p e r s group is there some in (
-          es ++ event_of e.member s ∷ [],
-          run_on g (opening_world g) (world g p) after es (event_of e.member s ∷ []) run
-              (after, happens_to g (world g p) after e.member s happened.0 happened.1, refl),
-        )
+        let happened = deed_is_step g p e r s group is there some in
+        taken_reached g (world g p) (world g (step_of p e)) e.member s reached happened.0 happened.1
 
     by : (o : Option Running) → slice_get p.members e.member ≡ o → IsReached g (world g (step_of p e))
-    by None none = subst (λ q. IsReached g (world g q)) (sym (ap (λ x. moved_by p x e) none)) (es, run)
+    by None none = subst (λ q. IsReached g (world g q)) (sym (ap (λ x. moved_by p x e) none)) reached
     by (Some r) there = named r there (step_by r e.outcome) refl

@@ -23,6 +23,7 @@ use Rattle.dr_machine.specs.Writes.{at₂, at₃}
 use Rattle.dr_machine.specs.Group.{Group, roster}
 use Rattle.dr_machine.specs.Guards.{CanFinish}
 use Rattle.dr_machine.specs.World.{World, count_of, no_value}
+use Rattle.dr_machine.specs.Effects as effects
 use Rattle.dr_machine.specs.Effects.{committed_value, entries_of, finishes, finishes_by, one_more, stamped, stamped_in}
 use Rattle.dr_program.specs.Replica.{LeftView, Replica, me, acted, count, finished, finished_by, finished_history, item_at, left_now, may_end, may_finish, sender_at, view_of, with_place}
 use Rattle.dr_program.specs.Reading.{kept_word, nothing_left, world_of}
@@ -30,6 +31,7 @@ use Rattle.dr_program.proofs.Finishing.{finished_more}
 use Rattle.dr_program.proofs.Holdings.{Holding, held, holding_of, held_of, Changes, replica_set}
 use Rattle.dr_program.proofs.Opening.{copy_at, first_own, first_seen}
 use Rattle.dr_program.proofs.OwnWords.{both_same, same_number, other_number}
+use Rattle.dr_faithful.proofs.Writes.{at_same}
 use Rattle.dr_refine.specs.Programs.{IsMember, acted_table}
 use Rattle.dr_refine.proofs.Acts.{item_shown}
 use Rattle.dr_refine.proofs.Guards.{IsIdle, count_is, may_choose}
@@ -386,21 +388,36 @@ finish_effect g rs table m r is =
     value : committed_value (world_of g rs table) m ≡ unwrap_or r.committed no_value
     value = ap (λ h. unwrap_or h.committed no_value) (held_of g rs table m r is.there)
 
--- so its history, and how many of its own messages it has, are as the world says
-pub based_is : (g : Group) (rs : List Replica) (table : List ℕ) (m : ℕ) (r : Replica)
-    → IsMember g rs table m r
-    → (stamped_in (finishes g (world_of g rs table) m) m ((world_of g rs table).past.view m)).base m
-    ≡ (finished (acted r)).base
-based_is g rs table m r is =
-    ap (λ (u : World). u.base m) (sym (finish_effect g rs table m r is))
-    ∙ ap (λ h. h.base) (held_of g (slice_set rs m (finished (acted r))) (acted_table g table m r) m
-    (finished (acted r)) (replica_set rs m (finished (acted r)) (slice_get_within rs m r is.there)))
+-- so there is room for it, where its history and its own messages there keep within what the replica may hold
+pub finish_room : (g : Group) (rs : List Replica) (table : List ℕ) (m : ℕ) (r : Replica)
+    → IsMember g rs table m r → (can : CanFinish g (world_of g rs table) m)
+    → length ((stamped_in (finishes g (world_of g rs table) m) m
+    ((world_of g rs table).past.view m)).past.history m) ≤ r.room
+    → length (messages_from m (effects.finished_history g (world_of g rs table) m can.value))
+    ≤ length r.messages
+    → (length (finished r).history ≤ r.room) × ((finished r).base ≤ length r.messages)
+finish_room g rs table m r is can room few = (
+  omega (arith, room, ap length history),
+  omega (arith, few, ap (λ x. length (messages_from m (effects.finished_history g w m x))) value, base),
+)
+  where
+    w : World
+    w = world_of g rs table
 
-pub finished_is : (g : Group) (rs : List Replica) (table : List ℕ) (m : ℕ) (r : Replica)
-    → IsMember g rs table m r
-    → (stamped_in (finishes g (world_of g rs table) m) m ((world_of g rs table).past.view m)).past.history m
-    ≡ (finished (acted r)).history
-finished_is g rs table m r is =
-    ap (λ (u : World). u.past.history m) (sym (finish_effect g rs table m r is))
-    ∙ ap (λ h. h.history) (held_of g (slice_set rs m (finished (acted r))) (acted_table g table m r) m
-    (finished (acted r)) (replica_set rs m (finished (acted r)) (slice_get_within rs m r is.there)))
+    after : World
+    after = stamped_in (finishes g w m) m (w.past.view m)
+
+    shown : {X : Type 0} (get : Holding → X) → get (held after m) ≡ get (holding_of g (finished (acted r)))
+    shown get =
+        ap (λ u. get (held u m)) (sym (finish_effect g rs table m r is))
+        ∙ ap get (held_of g (slice_set rs m (finished (acted r))) (acted_table g table m r) m
+        (finished (acted r)) (replica_set rs m (finished (acted r)) (slice_get_within rs m r is.there)))
+
+    history : after.past.history m ≡ (finished r).history
+    history = shown (λ h. h.history)
+
+    base : length (messages_from m (effects.finished_history g w m (committed_value w m))) ≡ (finished r).base
+    base = sym (at_same w.base m _) ∙ shown (λ h. h.base)
+
+    value : committed_value w m ≡ can.value
+    value = ap (λ o. unwrap_or o no_value) can.committed

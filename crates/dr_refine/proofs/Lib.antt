@@ -12,4 +12,3 @@ pub mod Finishes
 pub mod Deeds
 pub mod Steps
 pub mod Tests
-pub mod Bounds

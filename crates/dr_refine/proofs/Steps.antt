@@ -10,7 +10,6 @@ use Rattle.dr_machine.specs.Group.{Group, IsGroup, banks, roster}
 use Rattle.dr_program.specs.Replica.{Replica}
 use Rattle.dr_entry.specs.declared.end.End.{End}
 use Rattle.dr_machine.specs.declared.step.Step.{Step}
-use Rattle.dr_machine.specs.declared.step.Step.TheVariants.{Do, Push}
 use Rattle.dr_program.specs.declared.outcome.Outcome.{Outcome}
 use Rattle.dr_program.specs.Steps.{stepped, stored}
 use Rattle.dr_program.specs.Running.{Running, begun_running, next_step, settled, took}
@@ -32,9 +31,7 @@ of_settled g m x of = subst (IsOf g m) (sym (settle_replica _ x)) of
 
 -- the table keeps its length
 pub stored_length : (table : List ℕ) (q : Replica) (s : Step) → length (stored table q s) ≡ length table
-stored_length table q (Do a) = length-set table _ _
-stored_length table q (Push j c) = length-set table _ _
-stored_length table q s = refl
+stored_length table q s = grind (arith, length-set table)
 
 -- one member replaced by a running one of its number
 replaced_program : (g : Group) (p : Program) (m : ℕ) (r : Running) (cells : List ℕ) → IsProgram g p

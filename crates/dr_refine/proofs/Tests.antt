@@ -1,5 +1,6 @@
--- A replica that has no end and passes its test is one whose event may come, and the other way round.
-use Rattle.std.proofs.Common.{◌≡◌, refl, sym, ap, ◌∙◌, ◌↔◌, subst, ℕ, ◌+◌, ◌*◌, ◌<◌, ◌&&◌, not, true, Bool, List, length, arith, slice_index}
+-- All cases by acts and steps: a replica that has no end and passes its test is one whose event may come, and
+-- the other way round; what the step makes of it is the effect; and which room the step asks for.
+use Rattle.std.proofs.Common.{◌≡◌, refl, sym, ap, ◌∙◌, ◌↔◌, subst, ℕ, ◌+◌, ◌<◌, ◌≤◌, ◌&&◌, not, true, Bool, List, length, arith, slice_index}
 use Rattle.std.proofs.lemmas.Bool.Decides.{nat_tests}
 use Rattle.std.specs.Prelude.{Option, None, Some, is_some, nat_lt, slice_set}
 use Rattle.std.proofs.lemmas.Bool.{and_from, and_parts}
@@ -9,14 +10,14 @@ use Rattle.dr_history.specs.Members.{has}
 use Rattle.dr_words.specs.Columns.{columns_of}
 use Rattle.dr_machine.specs.declared.step.Step.{Step}
 use Rattle.dr_machine.specs.declared.step.Step.TheVariants as steps
-use Rattle.dr_machine.specs.Group.{Group, banks, columns, roster}
-use Rattle.dr_machine.specs.Run.{IsReached}
-use Rattle.dr_machine.specs.World.{World}
+use Rattle.dr_machine.specs.Group.{Group, columns, roster}
+use Rattle.dr_machine.specs.World.{World, count_of}
 use Rattle.dr_program.specs.Steps.{has_cell, allows, is_free, may_take, index_in, found, stepped_over, stored}
 use Rattle.dr_machine.specs.Acts.{CanDo, CanTake, effect_of}
 use Rattle.dr_program.specs.Acts.{may, taken}
 use Rattle.dr_entry.specs.declared.record.Vote.{Vote}
-use Rattle.dr_machine.specs.Guards.{IsRunning, IsFault, MayChoose}
+use Rattle.dr_machine.specs.Guards.{CanFinish, IsRunning, IsFault, MayChoose}
+use Rattle.dr_history.specs.Order.{messages_from}
 use Rattle.dr_machine.specs.declared.event.Act.{Act}
 use Rattle.dr_machine.specs.declared.event.Act.TheVariants as acts
 use Rattle.dr_program.specs.Replica.{Replica, greatest, is_other, is_fault, may_receive, me, looked, pushed}
@@ -24,14 +25,14 @@ use Rattle.dr_program.specs.Reading.{world_of}
 use Rattle.dr_program.proofs.Holdings.{held_of}
 use Rattle.dr_refine.specs.Programs.{HasRoomFor, IsMember, acted_table}
 use Rattle.dr_refine.proofs.Votes.{accept_effect, accept_guard, commit_effect, commit_guard, propose_guard, vote_effect, vote_guard}
-use Rattle.dr_refine.proofs.Guards.{IsIdle, no_vote_waits, beat_guard, look_guard, suspect_guard, other_member, other_below, push_guard, send_guard, null_guard, receive_guard, deliver_guard, append_guard, publish_guard, report_guard, mark_guard, halt_guard, crash_guard}
+use Rattle.dr_refine.proofs.Guards.{IsIdle, count_is, no_vote_waits, beat_guard, look_guard, suspect_guard, other_member, other_below, push_guard, send_guard, null_guard, receive_guard, deliver_guard, append_guard, publish_guard, report_guard, mark_guard, halt_guard, crash_guard}
 use Rattle.dr_rows.specs.Words.{own}
 use Rattle.dr_words.specs.declared.column.TheConstants.{BEAT_COLUMN}
 use Rattle.dr_words.specs.Layout.{word_index_of}
-use Rattle.dr_machine.specs.Effects.{one_more}
+use Rattle.dr_machine.specs.Effects.{finished_history, one_more}
+use Rattle.dr_machine.specs.Writes.{at, at₂}
 use Rattle.dr_refine.proofs.Acts.{append_effect, beat_effect, deliver_effect, publish_effect, report_effect, mark_effect, end_effect}
-use Rattle.dr_refine.proofs.Bounds.{deliver_bounded, receive_bounded, finish_bounded}
-use Rattle.dr_refine.proofs.Finishes.{finish_effect, finish_guard}
+use Rattle.dr_refine.proofs.Finishes.{finish_effect, finish_guard, finish_room}
 use Rattle.dr_refine.proofs.Looks.{look_effect, push_effect}
 use Rattle.dr_refine.proofs.Suspects.{suspect_effect}
 use Rattle.dr_refine.proofs.Puts.{null_effect, send_effect, receive_effect}
@@ -216,18 +217,30 @@ act_effect g rs table m r (acts.Crash end) is may = end_effect g rs table m r en
 
 -- ---- room
 
--- the room for a step is there by itself
-pub has_room : (g : Group) (rs : List Replica) (table : List ℕ) (m : ℕ) (r : Replica) (s : Step)
-    → IsMember g rs table m r
-    → length g.opening.start + banks g + greatest r.totals * roster g < r.room
-    → IsReached g (world_of g rs table) → CanTake g (world_of g rs table) m s → HasRoomFor r s
-has_room g rs table m r (steps.Do (acts.Receive s)) is room reached can =
-    receive_bounded g rs table m r s is reached can
-has_room g rs table m r (steps.Do acts.Deliver) is room reached can =
-    deliver_bounded g rs table m r is room reached
-has_room g rs table m r (steps.Do acts.Finish) is room reached can =
-    finish_bounded g rs table m r is room reached can
-has_room g rs table m r s is room reached can = tt
+written : (count : ℕ → ℕ → ℕ → ℕ) (m v s x : ℕ)
+    → at₂ count m v (at (count m v) s x) m v s ≡ x
+written count m v s x = grind arith
+
+-- a replica with room for one entry more has the room that a step asks for, where what comes of the step keeps
+-- within what it may hold
+pub room_by : (g : Group) (rs : List Replica) (table : List ℕ) (m : ℕ) (r : Replica) (s : Step)
+    → IsMember g rs table m r → CanTake g (world_of g rs table) m s → length r.history < r.room
+    → ((v i : ℕ) → (effect_of g (world_of g rs table) m s).past.count m v i ≤ greatest r.totals)
+    → length ((effect_of g (world_of g rs table) m s).past.history m) ≤ r.room
+    → ((can : CanFinish g (world_of g rs table) m)
+    → length (messages_from m (finished_history g (world_of g rs table) m can.value)) ≤ length r.messages)
+    → HasRoomFor r s
+room_by g rs table m r (steps.Do (acts.Receive s)) is can entry counts history few =
+    let w : World = world_of g rs table in omega (
+      arith,
+      counts (w.past.view m) s,
+      written w.past.count m (w.past.view m) s (count_of w m s + 1),
+      count_is g rs table m r s is,
+    )
+room_by g rs table m r (steps.Do acts.Deliver) is can entry counts history few = entry
+room_by g rs table m r (steps.Do acts.Finish) is can entry counts history few =
+    finish_room g rs table m r is can history (few can)
+room_by g rs table m r s is can entry counts history few = tt
 
 -- ---- words of the table
 

@@ -1,13 +1,11 @@
 //! Laws that tie replicas and running members to the machine.
-ghost use Rattle.std.specs.Prelude.{◌≡◌, ◌↔◌, ℕ, ◌+◌, ◌*◌, ◌≤◌, ◌<◌, true, List, length, map, is_some, slice_get, slice_set, Some, None};
-ghost use Rattle.dr_entry.specs.declared.limits.TheConstants.{MAX_MEMBERS, MAX_MESSAGES};
+ghost use Rattle.std.specs.Prelude.{◌≡◌, ◌↔◌, ℕ, ◌≤◌, true, List, is_some, slice_get, slice_set, Some, None};
 ghost use Rattle.dr_machine.specs.declared.step.Step.{Step};
 ghost use Rattle.dr_program.specs.declared.setup.Setup.{Setup};
-ghost use Rattle.dr_machine.specs.Group.{Group, IsGroup, banks, roster};
+ghost use Rattle.dr_machine.specs.Group.{Group, IsGroup};
 ghost use Rattle.dr_machine.specs.Acts.{CanTake, effect_of};
-ghost use Rattle.dr_machine.specs.World.{World};
 ghost use Rattle.dr_machine.specs.Run.{IsReached};
-ghost use Rattle.dr_program.specs.Replica.{Replica, greatest};
+ghost use Rattle.dr_program.specs.Replica.{Replica};
 ghost use Rattle.dr_program.specs.Steps.{allows, may_take, stepped_over, stored};
 ghost use Rattle.dr_program.specs.Running.{Running, next_step};
 ghost use Rattle.dr_program.specs.Program.{Program, Move, AreSetups, after_deed, begun_program, next_sight, step_of};
@@ -22,25 +20,6 @@ pub fn tests_are_guards()
     ensures { (g : Group) (rs : List Replica) (table : List ℕ) (m : ℕ) (r : Replica) (s : Step)
         → IsMember g rs table m r
         → (may_take r s ≡ true) ↔ (CanTake g (world_of g rs table) m s × HasRoomFor r s) }
-{}
-
-/// In a reached world a member has the room that a step asks for, where its history has room for every
-/// message and every View: it never waits for room.
-pub fn room_is_there()
-    ensures { (g : Group) (rs : List Replica) (table : List ℕ) (m : ℕ) (r : Replica) (s : Step)
-        → IsMember g rs table m r
-        → length g.opening.start + banks g + greatest r.totals * roster g < r.room
-        → IsReached g (world_of g rs table) → CanTake g (world_of g rs table) m s → HasRoomFor r s }
-{}
-
-/// In a reached world a history has no more entries than the start, a View for each bank, and for each member
-/// of the roster as many messages as the script gives any of them.
-pub fn histories_are_bounded()
-    ensures script { (g : Group) (w : World) (m : ℕ) → IsGroup g → IsReached g w → m < roster g
-        → length (w.past.history m)
-        ≤ length g.opening.start + banks g + greatest (map length g.opening.messages) * roster g }
-    ensures limits { (g : Group) (w : World) (m : ℕ) → IsGroup g → IsReached g w → m < roster g
-        → length (w.past.history m) ≤ length g.opening.start + MAX_MEMBERS + MAX_MESSAGES * MAX_MEMBERS }
 {}
 
 /// What a step makes of a replica and of the table is the effect of the step on the world that they

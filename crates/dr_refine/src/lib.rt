@@ -4,6 +4,4 @@
 
 mod laws;
 
-pub use laws::{
-    deeds_are_steps, histories_are_bounded, room_is_there, steps_are_effects, tests_are_guards,
-};
+pub use laws::{deeds_are_steps, steps_are_effects, tests_are_guards};

@@ -1,5 +1,5 @@
-use Rattle.dr_refine.proofs.Bounds.{history_bounded, history_small}
-use Rattle.dr_refine.proofs.laws.histories_are_bounded.Goals as goal
+use Rattle.dr_room.proofs.Bounds.{history_bounded, history_small}
+use Rattle.dr_room.proofs.histories_are_bounded.Goals as goal
 
 pub returns-clause-script : goal.returns-clause-script
 returns-clause-script c = history_bounded
