@@ -23,7 +23,7 @@ use Rattle.dr_turn_laws.proofs.Acts.{nothing_left}
 use Rattle.dr_turn_laws.specs.Rested.{IsRested}
 use Rattle.dr_turn_laws.specs.Wants.{IsLeft}
 use Rattle.dr_complete.proofs.Come.{HasCome, Rests, Room, come_less, come_more, come_none}
-use Rattle.dr_complete.proofs.DoneWords.{done_is_one}
+use Rattle.dr_faithful.proofs.Shown.{done_is_one}
 use Rattle.dr_complete.proofs.Firsts.{IsFirst, count_first, members_are, of_members, of_roster, own_first, start_first, told}
 use Rattle.dr_machine.proofs.Sending.{messages_within}
 use Rattle.dr_world_laws.proofs.SentItems.{all_put}

@@ -27,7 +27,8 @@ use Rattle.dr_suspect.specs.Waits.{beat_of, count_of, next_count}
 use Rattle.dr_program_laws.specs.Trusting.{has_been_left}
 use Rattle.dr_complete.proofs.Between.{AreFresh, ArePushed, HasGone, HasWaited, IsAfter, IsBetween, IsFit, IsGoing, IsUpright, ShowDone, first_of, member_at, same_held}
 use Rattle.dr_complete.proofs.Along.{IsAlong, along_less, along_more, in_view_is, shown_mine, shown_other}
-use Rattle.dr_complete.proofs.DoneWords.{done_is_one, done_shows_all}
+use Rattle.dr_complete.proofs.DoneWords.{done_shows_all}
+use Rattle.dr_faithful.proofs.Shown.{done_is_one}
 use Rattle.dr_complete.proofs.Firsts.{IsFirst, members_are, of_members, own_first, told}
 use Rattle.dr_complete.specs.Reached.{AllShowDone}
 

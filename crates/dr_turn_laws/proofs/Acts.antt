@@ -1,6 +1,7 @@
 -- What is told act by act of a whole turn: what each step asks, what it leaves of what other steps ask, and
 -- that none is asked for behind the turn. A further act adds its lines here.
-use Rattle.std.proofs.Common.{◌≡◌, refl, sym, ◌∙◌, inl, ℕ, ◌<◌, ◌==◌, Bool, true, false, length, ap, ◌+◌, ◌-◌, ◌&&◌, ◌||◌, arith}
+use Rattle.std.proofs.Common.{◌≡◌, refl, sym, ◌∙◌, inl, ℕ, ◌<◌, ◌≤◌, ◌^◌, ◌==◌, Bool, true, false, length, ap, ◌+◌, ◌-◌, ◌&&◌, ◌||◌, arith}
+use Rattle.std.proofs.Math.Nat.{min-le_left}
 use Rattle.std.specs.Prelude.{Option, None, Some, is_some, option_map}
 use Rattle.dr_entry.specs.declared.end.End.{End}
 use Rattle.dr_entry.specs.declared.end.End.TheVariants as ends
@@ -14,7 +15,16 @@ use Rattle.dr_machine.specs.declared.event.Act.{Act}
 use Rattle.dr_machine.specs.declared.event.Act.TheVariants as acts
 use Rattle.dr_machine.specs.declared.step.Step.{Step}
 use Rattle.dr_machine.specs.declared.step.Step.TheVariants as steps
-use Rattle.dr_program.specs.Running.{Running, step_at}
+use Rattle.dr_program.proofs.Opening.{first_rows}
+use Rattle.dr_program.specs.Acts.{taken}
+use Rattle.dr_program.specs.Form.{HasForm}
+use Rattle.dr_program.specs.Replica.{Replica}
+use Rattle.dr_program.specs.declared.outcome.LogWhy.{LogWhy}
+use Rattle.dr_program.specs.declared.outcome.Outcome.TheVariants as outcomes
+use Rattle.dr_program.specs.Program.{after_deed, comes_to}
+use Rattle.dr_program.specs.Running.{Running, broken_off, step_at}
+use Rattle.dr_program.specs.Steps.{IsAppend, NoWordFell, allows, stepped}
+use Rattle.dr_turn.specs.Work.{work}
 use Rattle.dr_program.specs.Turn.{part_of, columns_in, is_beat, rows_in}
 use Rattle.dr_program.specs.declared.place.Part.{Part}
 use Rattle.dr_program.specs.declared.place.Part.TheVariants as parts
@@ -22,11 +32,12 @@ use Rattle.dr_program.specs.declared.place.Place.{Place}
 use Rattle.dr_program.specs.declared.place.TheConstants.{TURN}
 use Rattle.dr_turn_laws.specs.Rested.{IsRested}
 use Rattle.dr_turn_laws.specs.Swept.{IsIdle, Swept}
-use Rattle.dr_turn_laws.specs.Wants.{Wants, ShowsMore, is_work, IsToTake, IsLeft, NoneIsLeft, IsToEnd, IsToPublish, IsToMark}
-use Rattle.dr_turn.proofs.Deeds.{is_publish}
+use Rattle.dr_turn_laws.specs.Wants.{Wants, ShowsMore, is_work, IsToTake, IsLeft, NoneIsLeft, IsToEnd, IsToLog, IsToPublish, IsToMark}
+use Rattle.dr_turn.proofs.Deeds.{one_turn}
 use Rattle.dr_turn.proofs.Order.{all_below, each_below}
-use Rattle.dr_turn.proofs.Parts.{numbered}
-use Rattle.dr_program_laws.proofs.Trusting.{is_passed}
+use Rattle.dr_turn.proofs.Parts.{is_publish, lowers, numbered}
+use Rattle.dr_turn.proofs.Tasks.{ends_view}
+use Rattle.dr_program_laws.proofs.Quiet.{is_passed}
 use Rattle.dr_words.proofs.Bits.{has_zero}
 use Rattle.dr_words.specs.declared.column.TheConstants.{BEAT_COLUMN, DONE_COLUMN, LOGGED_COLUMN, RECEIVED_COLUMN}
 use Rattle.dr_turn_laws.proofs.Leaving.{Stays, apart_by, differs, done_own, end_kept, gained_other, nulled_left, own_other, publish_own, published_own, row_other, shows_own, still_room, to_take}
@@ -364,7 +375,7 @@ pub record HasNothingLeft (g : Group) (w : World) (m : ℕ) : Type 0 where
   pub messages : IsLeft g w m × HasRoom g w m (count_of w m m) → ⊥
   pub nulls : NoneIsLeft g w m × HasRoom g w m (count_of w m m) × IsBehind w m → ⊥
   pub places : ShowsMore w m RECEIVED_COLUMN (w.next m) → ⊥
-  pub entries : length (w.past.log m) < length (w.past.history m) → ⊥
+  pub entries : IsToLog w m → ⊥
   pub logged : IsToPublish w m → ⊥
   pub durable : ShowsMore w m LOGGED_COLUMN (w.past.durable m) → ⊥
   pub mark : IsToMark g w m → ⊥
@@ -392,5 +403,51 @@ turns_stay g w m a other = refl
 
 -- in the table only a stamp changes
 pub table_stays : (g : Group) (w : World) (m : ℕ) (a : Act) → (does g w m a).table ≡ w.table
-table_stays g w m acts.Finish = refl
-table_stays g w m a = refl
+table_stays g w m a = grind arith
+
+-- who ends a view has pushed nothing in the next one
+pub begins_anew : (r : Replica) (a : Act) → ends_view (steps.Do a) ≡ true
+    → ((taken r a).rows ≡ first_rows r.rows.members r.rows.columns r.rows.me r.logged)
+    × ((taken r a).view ≡ r.view + 1)
+begins_anew r acts.Finish ends = (refl, refl)
+begins_anew r a ends = absurd (cc ends)
+
+-- ---- the work of a step
+
+-- the step begins a turn
+abbrev pub begins_turn : Step → Bool
+begins_turn (steps.Do a) = is_beat (parts.Do a)
+begins_turn s = false
+
+one_act : (n : ℕ) → one_more 64 n ≤ n + 1
+one_act n = min-le_left (n + 1) (2 ^ 64 - 1)
+
+-- what a step does is paid for
+pub worked_on : (word n : ℕ) (r : Replica) (s : Step) → HasForm r → allows r s ≡ true
+    → HasForm (stepped word r s) → ((stepped word r s).view ≡ r.view → NoWordFell r (stepped word r s))
+    → (begins_turn s ≡ true → r.turns + 1 < 2 ^ 32) → r.acts + work r ≤ n + r.turns
+    → (stepped word r s).end ≡ None
+    → (stepped word r s).acts + work (stepped word r s) ≤ n + (stepped word r s).turns
+worked_on word n r (steps.Do acts.Beat) form may keeps grown turn old going = omega (
+  arith,
+  lowers word r (steps.Do acts.Beat) form may keeps grown,
+  one_act r.acts,
+  one_turn r.turns (r.turns + 1) (omega arith) (turn refl),
+  old,
+)
+worked_on word n r (steps.Do (acts.Halt end)) form may keeps grown turn old going = absurd (cc going)
+worked_on word n r (steps.Do (acts.Crash end)) form may keeps grown turn old going = absurd (cc going)
+worked_on word n r (steps.Do a) form may keeps grown turn old going =
+    omega (arith, lowers word r (steps.Do a) form may keeps grown, one_act r.acts, old)
+worked_on word n r s form may keeps grown turn old going =
+    omega (arith, lowers word r s form may keeps grown, old)
+
+-- ---- an append that fails
+
+-- breaks its member off, and is no step of the machine
+pub fails : (word : ℕ) (why : LogWhy) (r : Running) (s : Step) → IsAppend s
+    → (after_deed word (outcomes.Failed why) r s ≡ broken_off why r)
+    × (comes_to (Some s) (outcomes.Failed why) ≡ None)
+fails word why r steps.Append is = (refl, refl)
+fails word why r (steps.LogVote v) is = (refl, refl)
+fails word why r s is = absurd is

@@ -8,8 +8,6 @@ use Rattle.dr_history.specs.Places.{front_of, is_held}
 use Rattle.dr_history.proofs.Fronts.{first_within}
 use Rattle.dr_history_laws.proofs.Members.{members_of-few}
 use Rattle.dr_machine.proofs.Presence.{is_present}
-use Rattle.dr_machine.specs.declared.event.Act.TheVariants as acts
-use Rattle.dr_machine.specs.declared.step.Step.TheVariants.{Do}
 use Rattle.dr_machine.specs.Acts.{effect_of}
 use Rattle.dr_machine.specs.Effects.{one_more}
 use Rattle.dr_machine.specs.Group.{Group, roster}
@@ -174,6 +172,7 @@ beat_rises g p m r is begins = subst (λ v. w.past.own m v BEAT_COLUMN < u.past.
     y : Known g (world g p)
     y = known g (world g p) is.steady.group is.steady.reached
 
-    moved : world g (step_of p (ok m)) ≡ effect_of g (world g p) m (Do acts.Beat)
+    moved : world g (step_of p (ok m))
+        ≡ effect_of g (world g p) m (step_at r turn_begins r.place.row r.place.column)
     moved = (world_on g p m r is.steady is.there is.unended).1
         ∙ ap (λ part. effect_of g (world g p) m (step_at r part r.place.row r.place.column)) begins

@@ -8,10 +8,7 @@ use Rattle.dr_entry.specs.declared.end.SentItem.TheVariants.{Null}
 use Rattle.dr_history.specs.History.{messages_in, messages_of}
 use Rattle.dr_history.specs.Members.{has}
 use Rattle.dr_machine.proofs.Sending.{messages_null}
-use Rattle.dr_machine.specs.declared.event.Act.TheVariants as acts
-use Rattle.dr_machine.specs.declared.step.Step.TheVariants.{Do}
-use Rattle.dr_machine.specs.Acts.{effect_of}
-use Rattle.dr_machine.specs.Effects.{ends, nulls, one_more, receives, stamped, with_own}
+use Rattle.dr_machine.specs.Effects.{ends, nulls, one_more, receives, stamped, stamped_in, with_own}
 use Rattle.dr_machine.specs.Group.{Group}
 use Rattle.dr_machine.specs.Guards.{HasRoom, IsOther, seen_slot}
 use Rattle.dr_machine.specs.World.{World, count_of, own_word}
@@ -23,7 +20,7 @@ use Rattle.dr_words.specs.declared.column.TheConstants.{BEAT_COLUMN, DONE_COLUMN
 use Rattle.dr_words.specs.Columns.{recv_column}
 use Rattle.dr_words.specs.Packing.{recv_count}
 use Rattle.dr_turn_laws.specs.Swept.{IsIdle}
-use Rattle.dr_turn_laws.specs.Wants.{IsToTake, SeesAllDone, ShowsMore, Wants}
+use Rattle.dr_turn_laws.specs.Wants.{IsLeft, IsToTake, SeesAllDone, ShowsMore}
 
 -- ---- writes
 
@@ -126,12 +123,12 @@ sent_here : (sent : ℕ → ℕ → List SentItem) (m v : ℕ) (items : List Sen
 sent_here sent m v items = grind arith
 
 -- a null is no message, and where there is a slot behind it there was one before
-pub nulled_left : (g : Group) (w : World) (m : ℕ)
-    → Wants g (effect_of g w m (Do acts.Null)) m (Do acts.Send) → Wants g w m (Do acts.Send)
+pub nulled_left : (g : Group) (w : World) (m : ℕ) → let v = stamped_in (nulls g w m) m (w.past.view m) in
+    IsLeft g v m × HasRoom g v m (count_of v m m) → IsLeft g w m × HasRoom g w m (count_of w m m)
 nulled_left g w m wants = (
   subst (λ n. w.base m + n < length (messages_of g.opening m)) same wants.0,
-  still_room g w (effect_of g w m (Do acts.Null)) m (count_of w m m) (count_of (nulls g w m) m m) refl
-      (omega (arith, more)) wants.1,
+  still_room g w (stamped_in (nulls g w m) m (w.past.view m)) m (count_of w m m)
+      (count_of (nulls g w m) m m) refl (omega (arith, more)) wants.1,
 )
   where
     sent : List SentItem

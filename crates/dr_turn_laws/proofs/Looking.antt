@@ -5,9 +5,7 @@ use Rattle.std.proofs.lemmas.Bool.{cases_eq, cases_lt}
 use Rattle.std.proofs.lemmas.Bool.Decides.{nat_tests}
 use Rattle.std.proofs.lemmas.List.{get_or-set_same, get_or-set_other}
 use Rattle.dr_entry.specs.declared.end.End.{End}
-use Rattle.dr_machine.specs.declared.event.Act.TheVariants as acts
 use Rattle.dr_machine.specs.declared.step.Step.{Step}
-use Rattle.dr_machine.specs.declared.step.Step.TheVariants.{Do, Look}
 use Rattle.dr_machine.specs.Acts.{effect_of}
 use Rattle.dr_machine.specs.Group.{Group, columns, roster}
 use Rattle.dr_machine.specs.World.{World}
@@ -167,7 +165,7 @@ passes_none g q m z a i is inside fails within other = by (part_of a) refl
     looks at (inl own) = rows_after (roster g) (columns g) a i at
         (subst (λ part. a.column < columns_in (columns g) part) at inside.column)
         (λ same. other (same ∙ own)) within
-    looks at (inr apart) = absurd (unasked g q m z (Look a.row a.column) is
+    looks at (inr apart) = absurd (unasked g q m z (step_at z parts.Look a.row a.column) is
         (sym (ap (λ part. applies_at z part a.row a.column) at) ∙ fails) (
           record {
             member = in_view g q m z a.row is (subst (λ part. a.row < rows_in (roster g) part) at inside.row);
@@ -209,10 +207,7 @@ search_same g q m z _ _ i is inside (on a b fails rest) within other =
 -- only a look changes what a member has seen
 seen_stays : (g : Group) (w : World) (m i : ℕ) (s : Step) → is_look s ≡ false → ends_view s ≡ false
     → (effect_of g w m s).seen m i BEAT_COLUMN ≡ w.seen m i BEAT_COLUMN
-seen_stays g w m i (Look j c) other stays = absurd (cc other)
-seen_stays g w m i (Do acts.Finish) other stays = absurd (cc stays)
-seen_stays g w m i (Do a) other stays = refl
-seen_stays g w m i s other stays = refl
+seen_stays g w m i s other stays = grind (arith, other, stays)
 
 seen_other : (seen : ℕ → ℕ → ℕ → ℕ) (m j c x i d : ℕ) → i ≢ j → at₃ seen m j c x m i d ≡ seen m i d
 seen_other seen m j c x i d other = grind (arith, other)
@@ -288,7 +283,7 @@ look_behind g p m r old is at was = by (r.place.column + 1 == running.columns r)
     row : r.place.row < members r
     row = subst (λ part. r.place.row < rows_in (members r) part) at form.place.row
 
-    step : next_step r ≡ Look r.place.row r.place.column
+    step : next_step r ≡ step_at r parts.Look r.place.row r.place.column
     step = ap (λ part. step_at r part r.place.row r.place.column) at
 
     all : members r ≡ roster g

@@ -6,7 +6,6 @@ use Rattle.std.proofs.lemmas.Bool.Decides.{nat_tests}
 use Rattle.dr_faithful.specs.Chosen.{views_by}
 use Rattle.dr_history.specs.Members.{has}
 use Rattle.dr_machine.specs.declared.step.Step.{Step}
-use Rattle.dr_machine.specs.declared.step.Step.TheVariants as steps
 use Rattle.dr_machine.proofs.Presence.{is_present}
 use Rattle.dr_machine.specs.Group.{Group, columns, roster}
 use Rattle.dr_machine.specs.World.{own_word}
@@ -26,7 +25,8 @@ use Rattle.dr_refine.specs.Programs.{IsMember}
 use Rattle.dr_refine.proofs.Deeds.{program_member, replicas}
 use Rattle.dr_refine.proofs.Guards as guards
 use Rattle.dr_refine.proofs.Members.{own_shown}
-use Rattle.dr_refine.proofs.Tests.{has_room, step_guard}
+use Rattle.dr_refine.proofs.Tests.{step_guard}
+use Rattle.dr_room.proofs.Bounds.{has_room}
 use Rattle.dr_rows.specs.Words.{changed, last_pushed, own}
 use Rattle.dr_turn.specs.Search.{Passed, here, on}
 use Rattle.dr_turn.proofs.Failing.{may_end}
@@ -37,7 +37,7 @@ use Rattle.dr_turn_laws.specs.Steady.{IsSteady}
 use Rattle.dr_turn_laws.specs.Swept.{IsBefore, IsIdle, Swept}
 use Rattle.dr_program_laws.specs.Trusting.{AreAtEase}
 use Rattle.dr_turn_laws.specs.Wants.{Wants}
-use Rattle.dr_turn_laws.proofs.Acts.{asked}
+use Rattle.dr_turn_laws.proofs.Acts.{asked, uncrashed}
 use Rattle.dr_turn_laws.proofs.Before.{before_after}
 use Rattle.dr_program_laws.proofs.Trusting.{IsAmong, nobody_suspects, stay_first, votes_nothing}
 
@@ -129,7 +129,7 @@ unpushed g p m r j c is within other low fails =
   where
     may : (b : Bool) → allows r.replica (push_or_crash b j c) ≡ true
     may true = refl
-    may false = allowed g p m r (steps.Push j c) is
+    may false = allowed g p m r (uncrashed r parts.Push j c) is
         (record { member = in_view g p m r j is within; other = other }, low)
 
 -- ---- places
@@ -139,16 +139,16 @@ idle_at : (g : Group) (p : Program) (m : ℕ) (r : Running) (part : Part) (i c :
     → i < rows_in (roster g) part → c < columns_in (columns g) part → applies_at r part i c ≡ false
     → IsIdle g (world g p) m part i c
 idle_at g p m r parts.Look i c is within low fails = λ other.
-    absurd (unasked g p m r (steps.Look i c) is fails
+    absurd (unasked g p m r (uncrashed r parts.Look i c) is fails
     (record { member = in_view g p m r i is within; other = other }, low))
 idle_at g p m r parts.Receive i c is within low fails =
     unasked g p m r (step_at r parts.Receive i c) is fails
-idle_at g p m r (parts.Do a) i c is within low fails = unasked g p m r (steps.Do a) is fails
+idle_at g p m r (parts.Do a) i c is within low fails = unasked g p m r (step_at r (parts.Do a) i c) is fails
 idle_at g p m r parts.Append i c is within low fails = by r.failed fails
   where
     by : (o : Option LogWhy) → allows r.replica (append_or_end o) ≡ false
         → IsIdle g (world g p) m parts.Append i c
-    by None fails = λ wants. absurd (unasked g p m r steps.Append is fails wants)
+    by None fails = λ wants. absurd (unasked g p m r (uncrashed r parts.Append i c) is fails wants)
     by (Some why) fails = absurd (cc (may_end why, fails))
 idle_at g p m r parts.Push i c is within low fails = λ other unended.
     unchanged_stands g p m r i c is within other low (unpushed g p m r i c is within other low fails)

@@ -6,11 +6,10 @@ use Rattle.std.proofs.lemmas.Bool.Decides.{nat_tests}
 use Rattle.std.proofs.lemmas.Option.{same_Some, slice_get-map, slice_get_within}
 use Rattle.dr_entry.specs.declared.end.End.{End}
 use Rattle.dr_machine.specs.declared.event.Act.{Act}
-use Rattle.dr_machine.specs.declared.event.Act.TheVariants as acts
 use Rattle.dr_machine.specs.declared.step.Step.{Step}
-use Rattle.dr_machine.specs.declared.step.Step.TheVariants.{Do, Look, Push, Append, LogVote}
+use Rattle.dr_machine.specs.declared.step.Step.TheVariants.{Do}
 use Rattle.dr_machine.specs.Acts.{CanTake, does, effect_of}
-use Rattle.dr_machine.specs.Effects.{one_more}
+use Rattle.dr_machine.specs.Effects.{one_more, pushes}
 use Rattle.dr_machine.specs.Group.{Group, IsGroup, banks, columns, roster}
 use Rattle.dr_machine.specs.World.{World, own_word}
 use Rattle.dr_machine.specs.Writes.{at₄}
@@ -18,9 +17,9 @@ use Rattle.dr_program.specs.declared.outcome.LogWhy.{LogWhy}
 use Rattle.dr_program.specs.declared.outcome.Outcome.TheVariants as outcomes
 use Rattle.dr_program.specs.declared.setup.Setup.{Setup}
 use Rattle.dr_program.specs.Acts.{taken}
-use Rattle.dr_program.specs.Program.{AreSetups, IsSetup, Move, Program, after_deed, begun_program, moved_by, next_sight, ok, step_of}
-use Rattle.dr_program.specs.Reading.{comes_to, step_by, step_due, world}
-use Rattle.dr_program.specs.Replica.{Replica, first_entries_of, greatest}
+use Rattle.dr_program.specs.Program.{AreSetups, IsSetup, Move, Program, after_deed, begun_program, comes_to, moved_by, next_sight, ok, step_of}
+use Rattle.dr_program.specs.Reading.{step_by, step_due, world}
+use Rattle.dr_program.specs.Replica.{Replica, first_entries_of, greatest, pushed}
 use Rattle.dr_program.specs.Running.{Running, after_step, begun_running, broken_off, crashes_now, judged, next_step, step_at, took}
 use Rattle.dr_program.specs.Turn.{is_beat, part_of}
 use Rattle.dr_program.specs.declared.place.Part.{Part}
@@ -41,15 +40,14 @@ use Rattle.dr_rows.specs.Words.{IsWords, begun, last_pushed, own, with_word, wor
 use Rattle.dr_rows.proofs.Grids.{with_word-same, with_word-row, with_word-column}
 use Rattle.dr_rows.proofs.WordsLemmas.{IsFresh-begun}
 use Rattle.dr_turn.specs.Work.{work}
-use Rattle.dr_turn.proofs.Deeds.{verdict_of}
 use Rattle.dr_turn.proofs.Search.{beat_test, settle_only}
 use Rattle.dr_turn.proofs.Tasks.{ends_view, view_stays}
 use Rattle.dr_words.specs.declared.column.TheConstants.{BEAT_COLUMN}
 use Rattle.dr_words.specs.Columns.{columns_of}
 use Rattle.dr_world_laws.proofs.Worlds.{faithful, known}
 use Rattle.dr_turn_laws.specs.Steady.{HasRooms, HasWorked, IsSteady, all_work}
-use Rattle.dr_turn.proofs.Parts.{taken_pushed, verdict_no_beat}
-use Rattle.dr_turn_laws.proofs.Acts.{table_stays}
+use Rattle.dr_turn.proofs.Parts.{taken_pushed, verdict_no_beat, verdict_of}
+use Rattle.dr_turn_laws.proofs.Acts.{begins_anew, begins_turn, fails, table_stays}
 use Rattle.dr_turn_laws.proofs.Working.{works_begin, works_on}
 use Rattle.dr_program_laws.proofs.Programs.{replaced_either}
 
@@ -130,10 +128,7 @@ act_cells g w m a v j i c apart =
 rows_stay : (g : Group) (w : World) (m : ℕ) (s : Step) (v j i c : ℕ) → i ≢ m
     → (effect_of g w m s).table v j i c ≡ w.table v j i c
 rows_stay g w m (Do a) v j i c other = act_cells g w m a v j i c (inr other)
-rows_stay g w m (Push k d) v j i c other = grind (arith, other)
-rows_stay g w m (Look k d) v j i c other = refl
-rows_stay g w m Append v j i c other = refl
-rows_stay g w m (LogVote value) v j i c other = refl
+rows_stay g w m s v j i c other = grind (arith, other)
 
 -- the own words that stand in the table as they were pushed
 abbrev ArePushed : Group → World → ℕ → Replica → Type 0
@@ -142,8 +137,7 @@ ArePushed g w m r = (j c : ℕ) → j < roster g → j ≢ m → c < columns g
 
 push_stands : (g : Group) (w : World) (m : ℕ) (r : Replica) (k d : ℕ) → IsWords r.rows
     → r.rows.members ≡ roster g → r.rows.columns ≡ columns g → w.past.view m ≡ r.view
-    → own_word w m d ≡ own r.rows d
-    → ArePushed g w m r → ArePushed g (effect_of g w m (Push k d)) m (stepped 0 r (Push k d))
+    → own_word w m d ≡ own r.rows d → ArePushed g w m r → ArePushed g (pushes w m k d) m (pushed r k d)
 push_stands g w m r k d form rows wide view word old j c l other low =
     by (cases_eq j k) (cases_eq c d)
   where
@@ -190,28 +184,28 @@ begun_unpushed n k m logged j c =
     zero : (a b : ℕ) → a ≡ 0 → not (a == b) ≡ false → b ≡ 0
     zero a b none same = grind (arith, nat_tests, none, same)
 
--- an act by which the member stays in its view doesn't change that
-act_stands : (g : Group) (w : World) (m word : ℕ) (r : Replica) (a : Act) → ends_view (Do a) ≡ false
-    → ArePushed g w m r → ArePushed g (effect_of g w m (Do a)) m (stepped word r (Do a))
-act_stands g w m word r a stays old = λ j c l other low.
-    ap (λ rows. word_at rows j c) (taken_pushed r a stays)
-    ∙ old j c l other low
-    ∙ ap (λ v. w.table v j m c) (sym (view_stays word r (Do a) stays))
-    ∙ sym (act_cells g w m a (taken r a).view j m c (inl other))
-
--- nor does any step. In a view that it has not come to, it has written nothing
+-- no step changes that: in a view that it has not come to, the member has written nothing
 step_stands : (g : Group) (w : World) (m word : ℕ) (r : Replica) (s : Step) → HasShown g w m r
     → ArePushed g w m r → ArePushed g (effect_of g w m s) m (stepped word r s)
-step_stands g w m word r (Do acts.Finish) shown old = λ j c l other low.
-    begun_unpushed r.rows.members r.rows.columns r.rows.me r.logged j c
-    ∙ sym (shown.unwritten j c)
-    ∙ sym (act_cells g w m acts.Finish (r.view + 1) j m c (inl other))
-step_stands g w m word r (Do a) shown old = act_stands g w m word r a refl old
-step_stands g w m word r (Push k d) shown old =
-    push_stands g w m r k d shown.form shown.rows shown.wide shown.view (shown.own d) old
-step_stands g w m word r (Look k d) shown old = old
-step_stands g w m word r Append shown old = old
-step_stands g w m word r (LogVote value) shown old = old
+step_stands g w m word r (Do a) shown old j c l other low = by (ends_view (Do a)) refl
+  where
+    same : w.table (taken r a).view j m c ≡ (effect_of g w m (Do a)).table (taken r a).view j m c
+    same = sym (act_cells g w m a (taken r a).view j m c (inl other))
+
+    by : (b : Bool) → ends_view (Do a) ≡ b
+        → last_pushed (taken r a).rows j c ≡ (effect_of g w m (Do a)).table (taken r a).view j m c
+    by false stays = ap (λ rows. word_at rows j c) (taken_pushed r a stays) ∙ old j c l other low
+        ∙ ap (λ v. w.table v j m c) (sym (view_stays word r (Do a) stays)) ∙ same
+    by true ends =
+        let anew = begins_anew r a ends in
+        ap (λ rows. last_pushed rows j c) anew.0
+        ∙ begun_unpushed r.rows.members r.rows.columns r.rows.me r.logged j c ∙ sym (shown.unwritten j c)
+        ∙ ap (λ v. w.table v j m c) (sym anew.1) ∙ same
+step_stands g w m word r s shown old j c l other low = grind (arith, old j c l other low, here)
+  where
+    here : (k d : ℕ) → last_pushed (pushed r k d).rows j c ≡ (pushes w m k d).table r.view j m c
+    here k d =
+        push_stands g w m r k d shown.form shown.rows shown.wide shown.view (shown.own d) old j c l other low
 
 -- ---- the program
 
@@ -250,18 +244,14 @@ moved_either : (p : Program) (m : ℕ) (r : Running) → slice_get p.members m �
 moved_either p m r there unended i y at = replaced_either p.members m r (stepped_on p r) there i y
     (sym (ap (λ (x : Program). slice_get x.members i) (move_made p m r there unended)) ∙ at)
 
--- the step begins a turn; only one part of a turn does so
-abbrev is_beat_step : Step → Bool
-is_beat_step (Do a) = is_beat (parts.Do a)
-is_beat_step s = false
-
+-- only one part begins a turn
 plain_begins : (r : Running) (part : Part) (i c : ℕ) → is_beat part ≡ false
-    → is_beat_step (step_at r part i c) ≡ false
+    → begins_turn (step_at r part i c) ≡ false
 plain_begins r parts.Judge i c other = verdict_no_beat (judged r) (verdict_of r)
 plain_begins r parts.Append i c other =
-    append_either (λ s. is_beat_step s ≡ false) r.failed refl (λ why. refl)
-plain_begins r parts.Vote i c other = vote_either (λ s. is_beat_step s ≡ false) r.failed _ refl (λ why. refl)
-plain_begins r parts.Push i c other = push_either (λ s. is_beat_step s ≡ false) (crashes_now r) i c refl refl
+    append_either (λ s. begins_turn s ≡ false) r.failed refl (λ why. refl)
+plain_begins r parts.Vote i c other = vote_either (λ s. begins_turn s ≡ false) r.failed _ refl (λ why. refl)
+plain_begins r parts.Push i c other = push_either (λ s. begins_turn s ≡ false) (crashes_now r) i c refl refl
 plain_begins r (parts.Do a) i c other = other
 plain_begins r part i c other = refl
 
@@ -304,7 +294,7 @@ steady_on g p m r is there unended = record {
     after : World
     after = world g (step_of p (ok m))
 
-    begins_early : next_step r ≡ Do acts.Beat → r.replica.turns + 1 < 2 ^ 32
+    begins_early : begins_turn (next_step r) ≡ true → r.replica.turns + 1 < 2 ^ 32
     begins_early at = by (is_beat (part_of r.place)) refl
       where
         by : (b : Bool) → is_beat (part_of r.place) ≡ b → r.replica.turns + 1 < 2 ^ 32
@@ -313,21 +303,12 @@ steady_on g p m r is there unended = record {
           (is.program.form m r there).left unended (beat_test (part_of r.place) beat),
           is.limits m r there,
         )
-        by false other = absurd (cc (
-          ap is_beat_step at,
-          plain_begins r (part_of r.place) r.place.row r.place.column other,
-        ))
+        by false other =
+            absurd (cc (at, plain_begins r (part_of r.place) r.place.row r.place.column other))
 
     moved : CanTake g (world g p) m (next_step r)
         × (world g (step_of p (ok m)) ≡ effect_of g (world g p) m (next_step r))
     moved = world_on g p m r is there unended
-
--- a member after an append that fails
-deed_failed : (word : ℕ) (why : LogWhy) (r : Running) (s : Step) → IsAppend s
-    → after_deed word (outcomes.Failed why) r s ≡ broken_off why r
-deed_failed word why r Append is = refl
-deed_failed word why r (LogVote value) is = refl
-deed_failed word why r s is = absurd is
 
 -- the program after a move whose append fails
 failed_made : (p : Program) (m : ℕ) (why : LogWhy) (r : Running) → slice_get p.members m ≡ Some r
@@ -341,7 +322,7 @@ failed_made p m why r there unended due =
     ∙ ap (λ x. record {
       members = slice_set p.members m x;
       table = stored p.table r.replica (next_step r);
-    }) (deed_failed (next_sight p.table r) why r (next_step r) due)
+    }) (fails (next_sight p.table r) why r (next_step r) due).0
 
 -- it leaves each member its replica and its limit
 failed_leaves : (p : Program) (m : ℕ) (why : LogWhy) (r : Running) → slice_get p.members m ≡ Some r
@@ -393,14 +374,9 @@ steady_failed g p m why r is there unended due = record {
     kept : IsProgram g (step_of p move) × IsReached g (world g (step_of p move))
     kept = move_kept g p move is.group is.program is.reached
 
-    comes_to_none : (s : Step) → IsAppend s → comes_to (Some s) (outcomes.Failed why) ≡ None
-    comes_to_none Append is = refl
-    comes_to_none (LogVote value) is = refl
-    comes_to_none s is = absurd is
-
     none : step_by r (outcomes.Failed why) ≡ None
     none = ap (λ o. comes_to (step_due r o) (outcomes.Failed why)) unended
-        ∙ comes_to_none (next_step r) due
+        ∙ (fails 0 why r (next_step r) due).1
 
     same : world g (record {
       members = slice_set p.members m (broken_off why r);

@@ -26,7 +26,7 @@ use Rattle.dr_turn_laws.specs.Swept.{Swept}
 use Rattle.dr_program_laws.specs.Trusting.{AreAtEase, MayWait}
 use Rattle.dr_turn_laws.specs.Wants.{SeesAllDone}
 use Rattle.dr_turn.proofs.Parts.{is_end, no_end, taken_end}
-use Rattle.dr_program_laws.proofs.Trusting.{is_passed}
+use Rattle.dr_program_laws.proofs.Quiet.{is_passed}
 use Rattle.dr_turn_laws.proofs.Acts.{asks, uncrashed}
 use Rattle.dr_turn_laws.proofs.Leaving.{end_sees}
 use Rattle.dr_turn_laws.proofs.Passing.{IsGoing, among, passes}

@@ -13,13 +13,12 @@ use Rattle.dr_program.specs.declared.place.Part.TheVariants as parts
 use Rattle.dr_program.specs.declared.place.Place.{Place}
 use Rattle.dr_program.specs.Running.{Running, goes}
 use Rattle.dr_program.specs.Turn.{IsIn, after, columns_in, is_beat, part_of, rows_in}
-use Rattle.dr_turn.proofs.Deeds.{is_publish}
 use Rattle.dr_turn.proofs.Search.{part_before}
 use Rattle.dr_words.specs.declared.column.TheConstants.{LOGGED_COLUMN}
 use Rattle.dr_turn_laws.specs.Swept.{IsBefore, IsIdle, Swept}
 use Rattle.dr_turn_laws.proofs.Before.{IsLess, before_after}
-use Rattle.dr_turn.proofs.Parts.{goes_back_or_stays}
-use Rattle.dr_program_laws.proofs.Trusting.{is_passed}
+use Rattle.dr_turn.proofs.Parts.{goes_back_or_stays, is_publish}
+use Rattle.dr_program_laws.proofs.Quiet.{is_passed}
 use Rattle.dr_turn_laws.proofs.Acts.{earlier_kept, uncrashed}
 use Rattle.dr_turn_laws.proofs.Leaving.{Stays, gained_other}
 

@@ -33,7 +33,7 @@ use Rattle.dr_program.proofs.Holdings.{held_of}
 use Rattle.dr_program.proofs.StepsAt.{append_either, push_either, vote_either}
 use Rattle.dr_refine.proofs.Deeds.{program_member, replicas}
 use Rattle.dr_turn.specs.Search.{IsUnderway}
-use Rattle.dr_turn.proofs.Deeds.{beat_place, one_turn, verdict_of}
+use Rattle.dr_turn.proofs.Deeds.{beat_place, one_turn}
 use Rattle.dr_world_laws.proofs.Worlds.{Known, all_go_on, faithful, known}
 use Rattle.dr_program_laws.specs.Failing.{has_log_end}
 use Rattle.dr_turn_laws.specs.Rested.{HasCompared, HasTurned}
@@ -42,7 +42,7 @@ use Rattle.dr_turn_laws.specs.Swept.{IsBefore, Swept}
 use Rattle.dr_program_laws.specs.Trusting.{AreAtEase, MayWait, to_come}
 use Rattle.dr_turn_laws.proofs.Beats.{beat_rises}
 use Rattle.dr_turn_laws.proofs.Looking.{HasLooked, deed_behind, settled_behind}
-use Rattle.dr_turn.proofs.Parts.{verdict_no_beat}
+use Rattle.dr_turn.proofs.Parts.{verdict_no_beat, verdict_of}
 use Rattle.dr_turn_laws.proofs.Acts.{turns_stay}
 use Rattle.dr_turn_laws.proofs.Passing.{IsGoing, passes}
 use Rattle.dr_turn_laws.proofs.Resting.{Knows, knows_logs, rests}

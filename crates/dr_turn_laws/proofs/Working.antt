@@ -1,18 +1,14 @@
 -- With each act a member has done some of its work, or has begun a turn: so acts are few.
-use Rattle.std.proofs.Common.{◌≡◌, refl, sym, ap, ◌∙◌, subst, ℕ, ◌+◌, ◌-◌, ◌*◌, ◌^◌, ◌<◌, ◌≤◌, true, [], ◌∷◌, replicate, sum_by, length-append, arith}
+use Rattle.std.proofs.Common.{◌≡◌, sym, ap, ◌∙◌, subst, ℕ, ◌+◌, ◌-◌, ◌*◌, ◌^◌, ◌<◌, ◌≤◌, true, [], ◌∷◌, replicate, sum_by, length-append, arith}
 use Rattle.std.specs.Prelude.{None, Some, slice_get}
-use Rattle.std.proofs.Math.Nat.{min-le_left, mul_comm}
+use Rattle.std.proofs.Math.Nat.{mul_comm}
 use Rattle.std.proofs.lemmas.List.Folds.{sum_by-replicate}
 use Rattle.dr_entry.specs.declared.entry.Entry.TheVariants.{View}
 use Rattle.dr_entry.specs.declared.limits.TheConstants.{MAX_MEMBERS}
-use Rattle.dr_machine.specs.declared.event.Act.TheVariants as acts
 use Rattle.dr_machine.specs.declared.step.Step.{Step}
-use Rattle.dr_machine.specs.declared.step.Step.TheVariants.{Do}
-use Rattle.dr_machine.specs.Effects.{one_more}
 use Rattle.dr_machine.specs.Group.{Group, IsGroup}
 use Rattle.dr_machine.specs.Run.{IsReached}
 use Rattle.dr_program.specs.declared.setup.Setup.{Setup}
-use Rattle.dr_program.specs.Form.{HasForm}
 use Rattle.dr_program.specs.Program.{Program, next_sight}
 use Rattle.dr_program.specs.Reading.{world}
 use Rattle.dr_program.specs.Replica.{Replica, begun_replica, greatest}
@@ -24,10 +20,12 @@ use Rattle.dr_refine.proofs.Deeds.{due_allowed}
 use Rattle.dr_form.proofs.Steps.{stepped_grown}
 use Rattle.dr_rows.specs.Words.{seen}
 use Rattle.dr_turn.specs.Work.{ballots_left, commit_left, items_left, log_left, mark_left, places_left, refill, reports_left, sum_of, trust_left, views_left, work}
-use Rattle.dr_turn.proofs.Deeds.{lowers, one_turn}
+use Rattle.dr_turn.proofs.Deeds.{one_turn}
+use Rattle.dr_turn.proofs.Parts.{lowers}
 use Rattle.dr_words.specs.Grown.{HasGrown}
 use Rattle.dr_turn_laws.specs.Steady.{HasWorked, all_work}
 use Rattle.dr_program_laws.proofs.Keeping.{next_form}
+use Rattle.dr_turn_laws.proofs.Acts.{begins_turn, worked_on}
 use Rattle.dr_program_laws.proofs.Sight.{found_seen}
 
 -- ---- no word falls
@@ -46,29 +44,6 @@ next_grown g p m r group is run there unended =
 
 -- ---- a step
 
-one_act : (n : ℕ) → one_more 64 n ≤ n + 1
-one_act n = min-le_left (n + 1) (2 ^ 64 - 1)
-
--- what a step does is paid for
-worked_on : (word n : ℕ) (r : Replica) (s : Step) → HasForm r → allows r s ≡ true → HasForm (stepped word r s)
-    → ((stepped word r s).view ≡ r.view → NoWordFell r (stepped word r s))
-    → (s ≡ Do acts.Beat → r.turns + 1 < 2 ^ 32) → r.acts + work r ≤ n + r.turns
-    → (stepped word r s).end ≡ None
-    → (stepped word r s).acts + work (stepped word r s) ≤ n + (stepped word r s).turns
-worked_on word n r (Do acts.Beat) form may kept grown turn old going = omega (
-  arith,
-  lowers word r (Do acts.Beat) form may kept grown,
-  one_act r.acts,
-  one_turn r.turns (r.turns + 1) (omega arith) (turn refl),
-  old,
-)
-worked_on word n r (Do (acts.Halt end)) form may kept grown turn old going = absurd (cc going)
-worked_on word n r (Do (acts.Crash end)) form may kept grown turn old going = absurd (cc going)
-worked_on word n r (Do a) form may kept grown turn old going =
-    omega (arith, lowers word r (Do a) form may kept grown, one_act r.acts, old)
-worked_on word n r s form may kept grown turn old going =
-    omega (arith, lowers word r s form may kept grown, old)
-
 -- all the work stays what it was
 all_same : (word : ℕ) (r : Replica) (s : Step) → all_work (stepped word r s) ≡ all_work r
 unfolding refill
@@ -80,7 +55,7 @@ all_same word r s = ap (λ (t : Told).
 -- so it is with each next step of a member
 pub works_on : (g : Group) (p : Program) (m : ℕ) (r : Running) → IsGroup g → IsProgram g p
     → IsReached g (world g p) → slice_get p.members m ≡ Some r → r.replica.end ≡ None
-    → (next_step r ≡ Do acts.Beat → r.replica.turns + 1 < 2 ^ 32) → HasWorked r
+    → (begins_turn (next_step r) ≡ true → r.replica.turns + 1 < 2 ^ 32) → HasWorked r
     → let q = stepped (next_sight p.table r) r.replica (next_step r) in
     q.end ≡ None → q.acts + work q ≤ all_work q + q.turns
 works_on g p m r group is run there unended turn old going = omega (

@@ -8,7 +8,7 @@ use Rattle.dr_program.specs.declared.place.Part.TheVariants as parts
 use Rattle.dr_program.specs.declared.place.Place.{Place}
 use Rattle.dr_program.specs.Turn.{IsIn, part_of}
 use Rattle.dr_turn_laws.specs.Rested.{HasPushed, HasSeen}
-use Rattle.dr_turn_laws.specs.Wants.{IsToPublish, IsToTake, SeesAllDone, Wants}
+use Rattle.dr_turn_laws.specs.Wants.{IsToLog, IsToPublish, IsToTake, SeesAllDone, Wants}
 
 -- nothing is left to do of a part, in a row and a column: its word is seen or pushed, or its step isn't asked
 -- for. An entry that is to be logged waits for one that is to be published, since publishing goes back
@@ -16,7 +16,7 @@ abbrev pub IsIdle : Group → World → ℕ → Part → ℕ → ℕ → Type 0
 IsIdle g w m parts.Look i c = i ≢ m → HasSeen w m i c
 IsIdle g w m parts.Receive i c = IsToTake g w m i → ⊥
 IsIdle g w m (parts.Do a) i c = Wants g w m (steps.Do a) → ⊥
-IsIdle g w m parts.Append i c = Wants g w m steps.Append → IsToPublish w m
+IsIdle g w m parts.Append i c = IsToLog w m → IsToPublish w m
 IsIdle g w m parts.Push i c = i ≢ m → HasPushed w m i c
 IsIdle g w m parts.Done i c = SeesAllDone w m → ⊥
 IsIdle g w m part i c = ⊤

@@ -42,6 +42,10 @@ SeesAllDone w m = (i : ℕ) → has (w.members m) i ≡ true → shown w m i DON
 abbrev pub IsToPublish : World → ℕ → Type 0
 IsToPublish w m = own_word w m LOGGED_COLUMN < length (w.past.log m)
 
+-- m has more in its history than on its log
+abbrev pub IsToLog : World → ℕ → Type 0
+IsToLog w m = length (w.past.log m) < length (w.past.history m)
+
 -- m has everything, durably, and hasn't said so
 abbrev pub IsToMark : Group → World → ℕ → Type 0
 IsToMark g w m = (own_word w m DONE_COLUMN ≡ 0) × HoldsAll g w m
@@ -81,7 +85,7 @@ Wants g w m (steps.Do (acts.Halt end)) = IsToEnd w m end
 Wants g w m (steps.Do (acts.Crash end)) = IsFault end
 Wants g w m (steps.Look i c) = IsOther w m i × (c < columns g)
 Wants g w m (steps.Push j c) = IsOther w m j × (c < columns g)
-Wants g w m steps.Append = length (w.past.log m) < length (w.past.history m)
+Wants g w m steps.Append = IsToLog w m
 Wants g w m (steps.LogVote v) = ⊥
 
 -- the steps that a turn has to do between its looks and its pushes, where they are asked for
