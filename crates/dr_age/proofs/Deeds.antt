@@ -1,24 +1,30 @@
 -- What the next deed of a member says of the step that is due to it.
 use Rattle.std.proofs.Common.{◌≡◌, refl, ap, subst, ℕ, false, true, List, [], length, slice_index, ltb-true}
-use Rattle.std.specs.Prelude.{Option, None, Some, slice_set}
+use Rattle.std.specs.Prelude.{All, Option, None, Some, slice_set}
 use Rattle.dr_entry.specs.declared.end.End.{End}
+use Rattle.dr_entry.specs.declared.entry.Entry.TheVariants.{View}
+use Rattle.dr_entry.specs.Spelling.{IsValid, IsValidEntry}
 use Rattle.dr_entry.specs.declared.record.Record.{Record}
 use Rattle.dr_entry.specs.declared.record.Value.{Value}
+use Rattle.dr_machine.specs.declared.event.Act.{Act}
 use Rattle.dr_machine.specs.declared.step.Step.{Step}
-use Rattle.dr_machine.specs.declared.step.Step.TheVariants.{Do, Look, Push, Append, LogVote}
+use Rattle.dr_machine.specs.declared.step.Step.TheVariants.{Do, Append, LogVote}
 use Rattle.dr_program.specs.declared.deed.Deed.{Deed}
 use Rattle.dr_program.specs.declared.deed.Deed.TheVariants as deeds
 use Rattle.dr_program.specs.declared.outcome.Outcome.{Outcome}
 use Rattle.dr_program.specs.Form.{HasForm, IsRunningMember}
 use Rattle.dr_program.specs.Program.{after_deed, appended_as}
 use Rattle.dr_program.specs.Replica.{Replica}
-use Rattle.dr_program.specs.Running.{Running, after_step, deed, deed_of, next_deed, next_step}
+use Rattle.dr_program.specs.Running.{Running, after_step, crashes_now, deed, deed_of, next_deed, next_step, step_at}
+use Rattle.dr_program.specs.Turn.{part_of}
+use Rattle.dr_program.specs.declared.place.Part.{Part}
+use Rattle.dr_program.specs.declared.place.Part.TheVariants as parts
+use Rattle.dr_program.proofs.StepsAt.{append_either, push_either, vote_either}
 use Rattle.dr_program.proofs.Voting.{vote_room, vote_valid}
-use Rattle.dr_program.proofs.Waiting.{vote_free}
-use Rattle.dr_program.specs.Steps.{IsAppend, allows, sight, stored}
+use Rattle.dr_program.proofs.Waiting.{append_free}
+use Rattle.dr_program.specs.Steps.{IsAppend, allows, sight, stepped, stored}
 use Rattle.dr_refine.proofs.Deeds.{due_allowed}
-use Rattle.dr_logged.specs.Appended.{IsAppendDue, MayLog, record_due, record_of}
-use Rattle.dr_logged.specs.Served.{is_append}
+use Rattle.dr_logged.specs.Appended.{IsAppendDue, MayLog, is_append, record_due, record_of}
 
 -- ---- a step, by its deed
 
@@ -26,7 +32,7 @@ use Rattle.dr_logged.specs.Served.{is_append}
 pub record IsLookAt (words : List ℕ) (r : Running) (s : Step) (index : ℕ) : Type 0 where
   pub row : ℕ
   pub column : ℕ
-  pub look : s ≡ Look row column
+  pub look : s ≡ step_at r parts.Look row column
   pub sees : sight words r.replica s ≡ slice_index words index
 
 -- it stores this word at this index
@@ -43,12 +49,22 @@ Says words r s (deeds.Act index word) = IsStoreAt words r s index word
 Says words r s (deeds.Append due) = IsAppend s × (due ≡ record_of r s)
 Says words r s (deeds.Rest end) = ⊥
 
-says : (words : List ℕ) (r : Running) (s : Step) → Says words r s (deed_of r s)
-says words r (Do a) = record { other = refl; sees = refl; stores = refl }
-says words r (Look i c) = record { row = i; column = c; look = refl; sees = refl }
-says words r (Push j c) = record { other = refl; sees = refl; stores = refl }
-says words r Append = (tt, refl)
-says words r (LogVote v) = (tt, refl)
+-- the deed that the step is says so
+abbrev SaysOf : List ℕ → Running → Step → Type 0
+SaysOf words r s = Says words r s (deed_of r s)
+
+act_says : (words : List ℕ) (r : Running) (a : Act) → SaysOf words r (Do a)
+act_says words r a = record { other = refl; sees = refl; stores = refl }
+
+says : (words : List ℕ) (r : Running) (part : Part) (i c : ℕ) → SaysOf words r (step_at r part i c)
+says words r parts.Look i c = record { row = i; column = c; look = refl; sees = refl }
+says words r parts.Append i c =
+    append_either (SaysOf words r) r.failed (tt, refl) (λ why. act_says words r _)
+says words r parts.Vote i c =
+    vote_either (SaysOf words r) r.failed _ (tt, refl) (λ why. act_says words r _)
+says words r parts.Push i c = push_either (SaysOf words r) (crashes_now r) i c
+    (record { other = refl; sees = refl; stores = refl }) (act_says words r _)
+says words r part i c = act_says words r _
 
 -- so it is with the next deed of a member that has not ended
 pub record IsTold (words : List ℕ) (r : Running) (d : Deed) : Type 0 where
@@ -69,7 +85,8 @@ tells : (words : List ℕ) (r : Running) → Tells words r (next_deed r)
 tells words r = by r.replica.end refl
   where
     by : (o : Option End) → r.replica.end ≡ o → Tells words r (deed r o)
-    by None e = no_rest words r (deed_of r (next_step r)) e (says words r (next_step r))
+    by None e = no_rest words r (deed_of r (next_step r)) e
+        (says words r (part_of r.place) r.place.row r.place.column)
     by (Some end) e = e
 
 -- what it tells, by its next deed
@@ -81,9 +98,7 @@ pub any_outcome : (word : ℕ) (o : Outcome) (r : Running) (s : Step) → is_app
     → after_deed word o r s ≡ after_step word r
 any_outcome word o r Append other = absurd (cc)
 any_outcome word o r (LogVote v) other = absurd (cc)
-any_outcome word o r (Do a) other = refl
-any_outcome word o r (Look i c) other = refl
-any_outcome word o r (Push j c) other = refl
+any_outcome word o r s other = refl
 
 -- an append is done by how it goes, and leaves the words as they are
 pub after_append : (word : ℕ) (o : Outcome) (r : Running) (s : Step) → IsAppend s
@@ -96,6 +111,12 @@ pub stored_append : (words : List ℕ) (r : Replica) (s : Step) → IsAppend s �
 stored_append words r Append is = refl
 stored_append words r (LogVote v) is = refl
 stored_append words r s is = absurd is
+
+-- and it ends nobody
+pub unended_append : (word : ℕ) (r : Replica) (s : Step) → IsAppend s → (stepped word r s).end ≡ r.end
+unended_append word r Append is = refl
+unended_append word r (LogVote v) is = refl
+unended_append word r s is = absurd is
 
 -- ---- which step is due
 
@@ -112,11 +133,18 @@ at_act r index word is = (deed_tells [] r (deeds.Act index word) is).says.other
 
 -- an append that is allowed is of the next entry, which is there, or of a vote
 may_log : (r : Running) (s : Step) → HasForm r.replica → IsAppend s → allows r.replica s ≡ true
-    → ((v : Value) → s ≡ LogVote v → r.replica.pending ≡ None) → MayLog r s
+    → r.replica.pending ≡ None → MayLog r s
 may_log r Append form is may free = ltb-true r.replica.logged (length r.replica.history) may
 may_log r (LogVote v) form is may free =
-    (vote_room r.replica v form (free v refl) may, vote_valid r.replica v form may)
+    (vote_room r.replica v form free may, vote_valid r.replica v form may)
 may_log r s form is may free = absurd is
+
+-- and its record is valid where the entries of the member's history are
+pub valid_due : (r : Running) (s : Step) → All IsValidEntry r.replica.history → MayLog r s
+    → IsValid (record_of r s)
+valid_due r Append valid may = valid r.replica.logged (View 0 0 0) may
+valid_due r (LogVote v) valid may = may.1
+valid_due r s valid may = absurd may
 
 pub at_append : (r : Running) (due : Record) → IsRunningMember r → next_deed r ≡ deeds.Append due
     → IsAppendDue r × (due ≡ record_due r)
@@ -124,7 +152,7 @@ at_append r due form is =
     let t = deed_tells [] r (deeds.Append due) is in (
       record {
         due = may_log r (next_step r) form.replica t.says.0 (due_allowed r (form.due t.none))
-            (vote_free r form.free);
+            (append_free r form.free t.says.0);
         room = form.replica.room;
       },
       t.says.1,

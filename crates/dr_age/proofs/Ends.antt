@@ -39,7 +39,7 @@ use Rattle.dr_restart.specs.Groups.{group_of}
 use Rattle.dr_restart.specs.Setups.{IsBegun}
 use Rattle.dr_restart.proofs.Setups.{are_setups}
 use Rattle.dr_script.specs.declared.script.Script.{Script}
-use Rattle.dr_refine.proofs.Bounds.{history_small}
+use Rattle.dr_room.proofs.Bounds.{history_small}
 use Rattle.dr_refine.proofs.Deeds.{program_member, replicas}
 use Rattle.dr_world_laws.proofs.Messages.{valid_history}
 use Rattle.dr_world_laws.proofs.Worlds.{holds_messages, known}

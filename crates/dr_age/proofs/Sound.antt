@@ -2,12 +2,8 @@
 use Rattle.std.proofs.Common.{◌≡◌, sym, ap, subst, ℕ, arith}
 use Rattle.std.specs.Prelude.{All, Some, slice_get}
 use Rattle.std.proofs.lemmas.Option.{slice_get_within}
-use Rattle.dr_entry.specs.declared.entry.Entry.TheVariants.{View}
 use Rattle.dr_entry.specs.Spelling.{IsValid, IsValidEntry}
-use Rattle.dr_logged.specs.Appended.{MayLog, record_of}
 use Rattle.dr_logged.specs.Served.{AppendsWell}
-use Rattle.dr_machine.specs.declared.step.Step.{Step}
-use Rattle.dr_machine.specs.declared.step.Step.TheVariants.{Append, LogVote}
 use Rattle.dr_machine.specs.Group.{Group}
 use Rattle.dr_program.specs.Program.{Program}
 use Rattle.dr_program.specs.Reading.{world}
@@ -17,7 +13,7 @@ use Rattle.dr_refine.proofs.Deeds.{program_member, replicas}
 use Rattle.dr_world_laws.proofs.Messages.{valid_history}
 use Rattle.dr_world_laws.proofs.Worlds.{holds_messages, known}
 use Rattle.dr_age.specs.Sound.{IsSound}
-use Rattle.dr_age.proofs.Deeds.{at_append}
+use Rattle.dr_age.proofs.Deeds.{at_append, valid_due}
 
 -- the history of a member in the program's world
 pub history_there : (g : Group) (p : Program) (m : ℕ) (r : Running) → IsSound g p
@@ -26,14 +22,7 @@ history_there g p m r is there =
     ap (λ h. h.history) (held_of g (replicas p.members) p.table m r.replica
     (program_member g p m r is.group is.form there).there)
 
--- what a member appends is a valid record where its history is of such
-valid_due : (r : Running) (s : Step) → All IsValidEntry r.replica.history → MayLog r s
-    → IsValid (record_of r s)
-valid_due r Append valid may = valid r.replica.logged (View 0 0 0) may
-valid_due r (LogVote v) valid may = may.1
-valid_due r s valid may = absurd may
-
--- so it is in a sound program
+-- what a member of a sound program appends is a valid record
 pub appends_well : (g : Group) (p : Program) (m : ℕ) (r : Running) → IsSound g p
     → slice_get p.members m ≡ Some r → AppendsWell r
 appends_well g p m r is there = λ due next.

@@ -5,7 +5,7 @@ use Rattle.std.proofs.lemmas.Option.{slice_get-get_or}
 use Rattle.dr_age.specs.Sound.{IsSound}
 use Rattle.dr_age.proofs.Deeds.{after_append, any_outcome, deed_tells, stored_append}
 use Rattle.dr_entry.specs.declared.record.Record.{Record}
-use Rattle.dr_logged.specs.Served.{is_append}
+use Rattle.dr_logged.specs.Appended.{is_append}
 use Rattle.dr_machine.specs.Group.{Group}
 use Rattle.dr_member.specs.Deeds.{table_size}
 use Rattle.dr_program.specs.declared.deed.Deed.TheVariants as deeds

@@ -1,6 +1,6 @@
 -- What an append to a log has come to for its member.
-use Rattle.std.proofs.Common.{◌≡◌, refl, sym, subst, ℕ, ◌+◌, ◌<◌, ◌≤◌, length, arith}
-use Rattle.std.specs.Prelude.{Option, None, Err, IsErrOf}
+use Rattle.std.proofs.Common.{◌≡◌, refl, sym, subst, ℕ, ◌+◌, ◌<◌, ◌≤◌}
+use Rattle.std.specs.Prelude.{Option, Err, IsErrOf}
 use Rattle.dr_disk.specs.Disk.{Told}
 use Rattle.dr_disk.specs.Images.{Goes}
 use Rattle.dr_entry.specs.declared.record.Record.{Record}
@@ -9,12 +9,10 @@ use Rattle.dr_log.specs.declared.fault.LogFault.{LogFault}
 use Rattle.dr_log.specs.declared.fault.LogFault.TheVariants as faults
 use Rattle.dr_log.specs.Standing.{IsBeforeOrAfter, block_length, log_length}
 use Rattle.dr_log.specs.State.{KeepsLimit, LogState, appended, as_entry, as_vote, broken_off as log_broken_off}
-use Rattle.dr_machine.specs.declared.step.Step.{Step}
-use Rattle.dr_machine.specs.declared.step.Step.TheVariants.{Append, LogVote}
 use Rattle.dr_program.specs.Running.{Running, broken_off, next_step}
-use Rattle.dr_logged.specs.Appended.{HasAppended, IsAppendDue, MayLog, record_due, record_of, why_of}
+use Rattle.dr_logged.specs.Appended.{HasAppended, IsAppendDue, record_due, why_of}
 use Rattle.dr_logged.specs.Served.{HasServed, IsReady, IsSafe, LosesNothing}
-use Rattle.dr_logged.proofs.Serving.{failed_served, full_served, unfailed}
+use Rattle.dr_logged.proofs.Serving.{failed_served, full_served, spares, unfailed}
 
 -- a record that is the one due was appended
 pub did_append : {D : Type 0} (told : D → Option Told) (count : D → ℕ) (log new : LogState D)
@@ -60,13 +58,6 @@ did_fail T told count base log new r due (faults.LogFull len) is same broken ful
     (subst (λ n. log.limit < n + block_length due) (sym limit.0) limit.1)))
 
 -- the log has a spare for the record that is due
-spares : {D : Type 0} (log : LogState D) (r : Running) (s : Step) → MayLog r s
-    → length r.replica.history ≤ r.replica.room → r.failed ≡ None → IsReady log r
-    → (as_entry (record_of r s) ≤ log.spare_entries) × (as_vote (record_of r s) ≤ log.spare_votes)
-spares log r Append may room none ready = (omega (arith, may, room, ready.spare none), omega arith)
-spares log r (LogVote v) may room none ready = (omega arith, omega (arith, may.0, ready.votes none))
-spares log r s may room none ready = absurd may
-
 pub has_spares : {D : Type 0} (log : LogState D) (r : Running) (due : Record) → IsAppendDue r
     → due ≡ record_due r → IsReady log r
     → (as_entry due ≤ log.spare_entries) × (as_vote due ≤ log.spare_votes)

@@ -1,9 +1,10 @@
 -- Each deed of a member leaves its log ready and served.
-use Rattle.std.proofs.Common.{◌≡◌, refl, sym, ap, ◌∙◌, subst, ℕ, zero, suc, ◌+◌, ◌*◌, ◌-◌, ◌<◌, ◌≤◌, max, false, List, [], ◌∷◌, ◌++◌, length, take, append-nil, append_assoc, length-append, le_trans, inl, inr, arith}
+use Rattle.std.proofs.Common.{◌≡◌, refl, sym, ap, ◌∙◌, subst, ℕ, zero, suc, ◌+◌, ◌*◌, ◌-◌, ◌<◌, ◌≤◌, max, false, List, [], ◌∷◌, ◌++◌, length, take, drop, append-nil, append_assoc, length-append, le_refl, le_trans, inl, inr, arith}
 use Rattle.std.specs.Prelude.{Option, None, Some, slice_index_or, unwrap_or}
 use Rattle.std.specs.Prelude.{◌^◌}
 use Rattle.std.proofs.Math.Nat.{le-min, le-max_left, le-max_right, min-le_left, min-le_right}
-use Rattle.std.proofs.lemmas.List.{length_push, take-append-le, take_all, take_more}
+use Rattle.std.proofs.lemmas.List.{length_push, take-append-drop, take-append-le, take_all, take_more}
+use Rattle.std.proofs.Math.Seq.{take-append_seam}
 use Rattle.dr_entry.specs.declared.entry.Entry.{Entry}
 use Rattle.dr_entry.specs.declared.entry.Entry.TheVariants.{View}
 use Rattle.dr_entry.specs.declared.record.Record.{Record}
@@ -14,27 +15,27 @@ use Rattle.dr_disk.specs.Images.{Goes, IsLeft}
 use Rattle.dr_disk.proofs.Moments.{Goes-last, goes_on, lasts_still, lasts_then, stays_at}
 use Rattle.dr_io.specs.Faults.{Rose}
 use Rattle.dr_log.specs.Standing.{IsBeforeOrAfter, LosesNone, StandsFor, block_length, log_length, with_entry, with_vote}
-use Rattle.dr_log.specs.State.{LogState, appended, broken_off as log_broken_off}
+use Rattle.dr_log.specs.State.{LogState, appended, as_entry, as_vote, broken_off as log_broken_off}
 use Rattle.dr_log.proofs.Growing.{length_of_more}
 use Rattle.dr_log.proofs.Lasting.{none_lost}
-use Rattle.dr_machine.specs.declared.event.Act.TheVariants as acts
+use Rattle.dr_machine.specs.declared.event.Act.{Act}
+use Rattle.dr_program.specs.Acts.{taken}
 use Rattle.dr_machine.specs.declared.step.Step.{Step}
-use Rattle.dr_machine.specs.declared.step.Step.TheVariants.{Do, Look, Push, Append, LogVote}
-use Rattle.dr_machine.specs.Effects.{entries_of}
+use Rattle.dr_machine.specs.declared.step.Step.TheVariants.{Append, LogVote}
 use Rattle.dr_machine.specs.World.{no_value}
 use Rattle.dr_program.proofs.Finishing.{finished_more}
 use Rattle.dr_program.proofs.Fixed.{Told as ToldReplica, step_told}
 use Rattle.dr_program.specs.declared.outcome.LogWhy.{LogWhy}
 use Rattle.dr_program.specs.declared.outcome.LogWhy.TheVariants as whys
-use Rattle.dr_program.specs.Replica.{Replica, acted, item_at, sender_at, vote_of}
+use Rattle.dr_program.specs.Replica.{Replica, acted, finished, vote_of}
 use Rattle.dr_program.specs.Running.{Running, after_step, broken_off, columns, members, next_step, took}
 use Rattle.dr_program.specs.Steps.{IsAppend, stepped}
 use Rattle.dr_program.specs.Turn.{part_of, places_in}
 use Rattle.dr_program.specs.declared.place.TheConstants.{TURN}
 use Rattle.dr_turn.proofs.Failing.{append_at}
 use Rattle.dr_turn.proofs.Search.{settle_only}
-use Rattle.dr_logged.specs.Appended.{IsAppendDue, MayLog, record_due, record_of}
-use Rattle.dr_logged.specs.Served.{HasCome, HasServed, IsNext, IsReady, IsRoomy, IsSafe, LosesNothing, WentSo, is_append}
+use Rattle.dr_logged.specs.Appended.{IsAppendDue, MayLog, is_append, record_due, record_of}
+use Rattle.dr_logged.specs.Served.{HasCome, HasServed, IsNext, IsReady, IsRoomy, IsSafe, LosesNothing, WentSo}
 
 -- ---- what a step other than an append leaves
 
@@ -45,30 +46,26 @@ pub record Grows (r q : Replica) : Type 0 where
   pub logged : q.logged ≡ r.logged
   pub votes : q.votes ≡ r.votes
 
-still : (r q : Replica) → q.history ≡ r.history → q.logged ≡ r.logged → q.votes ≡ r.votes → Grows r q
-still r q history logged votes = record {
-  more = [];
-  history = history ∙ sym (append-nil r.history);
-  logged = logged;
-  votes = votes;
-}
+-- the history begins as before: at the end of a view too
+begins_so : (r : Replica) (a : Act) → take (length r.history) (taken r a).history ≡ r.history
+begins_so r a = grind (arith, itself, take-append_seam {A = Entry}, ended)
+  where
+    itself : (h : List Entry) → take (length h) h ≡ h
+    itself h = take_all (length h) h (le_refl _)
+
+    ended : take (length r.history) (finished (acted r)).history ≡ r.history
+    ended = let all = finished_more (acted r) (unwrap_or r.committed no_value) in
+        ap (take (length r.history)) all.1 ∙ take-append_seam r.history all.0
 
 pub grows : (word : ℕ) (r : Replica) (s : Step) → is_append s ≡ false → Grows r (stepped word r s)
-grows word r (Do acts.Deliver) other = record {
-  more = entries_of r.history (sender_at r r.next) (item_at r r.next);
-  history = refl;
-  logged = refl;
-  votes = refl;
+grows word r s other = record {
+  more = drop (length r.history) (stepped word r s).history;
+  history = sym (take-append-drop (length r.history) (stepped word r s).history)
+      ∙ ap (λ h. h ++ drop (length r.history) (stepped word r s).history)
+      (grind (arith, begins_so, take_all (length r.history) r.history (le_refl _)));
+  logged = grind (arith, other);
+  votes = grind (arith, other);
 }
-grows word r (Do acts.Finish) other =
-    let all = finished_more (acted r) (unwrap_or r.committed no_value) in
-    record { more = all.0; history = all.1; logged = refl; votes = refl }
-grows word r (Do acts.Mark) other = still r (stepped word r (Do acts.Mark)) refl refl refl
-grows word r (Do a) other = still r (stepped word r (Do a)) refl refl refl
-grows word r (Look i c) other = still r (stepped word r (Look i c)) refl refl refl
-grows word r (Push j c) other = still r (stepped word r (Push j c)) refl refl refl
-grows word r Append other = absurd (cc)
-grows word r (LogVote v) other = absurd (cc)
 
 -- the search changes nothing but the place
 pub settled_same : (word : ℕ) (r : Running)
@@ -312,6 +309,14 @@ appended_served told faults base log new word r may served made fits goes lastin
     (put_step told faults base log new word r (next_step r) may
     (subst (HasCome told faults base log r.replica.banks r.replica.history r.replica.logged r.replica.votes)
     (unfailed r may) served) made fits goes lasting safe calm))
+
+-- the log has a spare for the record that is due
+pub spares : {D : Type 0} (log : LogState D) (r : Running) (s : Step) → MayLog r s
+    → length r.replica.history ≤ r.replica.room → r.failed ≡ None → IsReady log r
+    → (as_entry (record_of r s) ≤ log.spare_entries) × (as_vote (record_of r s) ≤ log.spare_votes)
+spares log r Append may room none ready = (omega (arith, may, room, ready.spare none), omega arith)
+spares log r (LogVote v) may room none ready = (omega arith, omega (arith, may.0, ready.votes none))
+spares log r s may room none ready = absurd may
 
 -- and leaves it ready for the next one
 ready_step : {D : Type 0} (log new : LogState D) (word : ℕ) (r : Running) (s : Step) → MayLog r s

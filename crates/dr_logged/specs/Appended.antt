@@ -1,5 +1,6 @@
--- What an append of the next entry or of a vote has come to, by the contract of a log.
-use Rattle.std.specs.Prelude.{◌≡◌, ℕ, ◌+◌, ◌*◌, ◌<◌, ◌≤◌, length, Option}
+-- Which steps append, and what an append, of the next entry or of a vote, has come to by the contract of a
+-- log.
+use Rattle.std.specs.Prelude.{◌≡◌, ℕ, ◌+◌, ◌*◌, ◌<◌, ◌≤◌, Bool, true, false, length, Option}
 use Rattle.dr_disk.specs.Disk.{Told}
 use Rattle.dr_disk.specs.Images.{Goes}
 use Rattle.dr_entry.specs.declared.record.Record.{Record}
@@ -17,6 +18,12 @@ use Rattle.dr_program.specs.declared.outcome.LogWhy.TheVariants as whys
 use Rattle.dr_program.specs.Replica.{vote_of}
 use Rattle.dr_program.specs.Running.{Running, next_step}
 use Rattle.dr_logged.specs.Served.{IsSafe, LosesNothing, next_record}
+
+-- the step is an append
+abbrev pub is_append : Step → Bool
+is_append Append = true
+is_append (LogVote v) = true
+is_append s = false
 
 -- the step is an append: of the next entry, which is there, or of a valid vote, of which the member has fewer
 -- than there are ballots in all views: one for each member of the roster in each

@@ -1,5 +1,5 @@
 -- The logs of members that run: what comes of each while its member takes its deeds.
-use Rattle.std.specs.Prelude.{◌≡◌, ◌≢◌, ◌⊎◌, Bool, ℕ, ◌+◌, ◌*◌, ◌-◌, ◌<◌, ◌≤◌, max, true, false, List, ◌++◌, length, take, slice_get, slice_index_or, Option, None, Some}
+use Rattle.std.specs.Prelude.{◌≡◌, ◌≢◌, ◌⊎◌, ℕ, ◌+◌, ◌*◌, ◌-◌, ◌<◌, ◌≤◌, max, true, false, List, ◌++◌, length, take, slice_get, slice_index_or, Option, None, Some}
 use Rattle.dr_entry.specs.declared.entry.Entry.{Entry}
 use Rattle.dr_entry.specs.declared.entry.Entry.TheVariants.{View}
 use Rattle.dr_entry.specs.declared.record.Record.{Record}
@@ -11,8 +11,6 @@ use Rattle.dr_disk.specs.Disk.{Told}
 use Rattle.dr_disk.specs.Images.{Goes, IsLeft, Lasts}
 use Rattle.dr_log.specs.Standing.{IsBeforeOrAfter, LosesNone, StandsFor, block_length, log_length}
 use Rattle.dr_log.specs.State.{LogState}
-use Rattle.dr_machine.specs.declared.step.Step.{Step}
-use Rattle.dr_machine.specs.declared.step.Step.TheVariants.{Append, LogVote}
 use Rattle.dr_program.specs.declared.deed.Deed.TheVariants as deeds
 use Rattle.dr_program.specs.declared.outcome.LogWhy.{LogWhy}
 use Rattle.dr_program.specs.declared.outcome.LogWhy.TheVariants as whys
@@ -94,12 +92,6 @@ abbrev pub HasServed : {D : Type 0} → (D → Option Told) → (D → ℕ) → 
     → Type 0
 HasServed told faults base log r =
     HasCome told faults base log r.replica.banks r.replica.history r.replica.logged r.replica.votes r.failed
-
--- the step is an append
-abbrev pub is_append : Step → Bool
-is_append Append = true
-is_append (LogVote v) = true
-is_append s = false
 
 -- the log is ready for all that its member may still append, unless an append has failed
 pub record IsReady {D : Type 0} (log : LogState D) (r : Running) : Type 0 where

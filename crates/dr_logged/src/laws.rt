@@ -11,8 +11,8 @@ ghost use Rattle.dr_program.specs.declared.outcome.LogWhy.{LogWhy};
 ghost use Rattle.dr_program.specs.declared.outcome.LogWhy.TheVariants as whys;
 ghost use Rattle.dr_program.specs.Form.{HasForm};
 ghost use Rattle.dr_program.specs.Running.{Running, after_step, broken_off, next_step};
-ghost use Rattle.dr_logged.specs.Served.{HasCome, HasServed, IsReady, IsRoomy, is_append};
-ghost use Rattle.dr_logged.specs.Appended.{HasAppended, HasBroken, IsAppendDue, IsOver};
+ghost use Rattle.dr_logged.specs.Served.{HasCome, HasServed, IsReady, IsRoomy};
+ghost use Rattle.dr_logged.specs.Appended.{HasAppended, HasBroken, IsAppendDue, IsOver, is_append};
 
 use dr_disk::Disk;
 

@@ -10,9 +10,9 @@ use Rattle.dr_program.specs.Reading.{step_due, step_of_member}
 use Rattle.dr_program.specs.Running.{Running, after_step, broken_off, next_deed, next_step}
 use Rattle.dr_program.specs.Sight.{MaySee}
 use Rattle.dr_program.specs.Steps.{IsAppend, stored}
-use Rattle.dr_logged.specs.Served.{is_append}
+use Rattle.dr_logged.specs.Appended.{is_append}
 use Rattle.dr_logged.proofs.Serving.{none_failed, settled_same}
-use Rattle.dr_age.proofs.Deeds.{after_append, any_outcome, deed_tells, stored_append}
+use Rattle.dr_age.proofs.Deeds.{IsStoreAt, after_append, any_outcome, deed_tells, stored_append}
 use Rattle.dr_sim.specs.Deeds.{SeesWell, member_after, outcome_by, stores, table_after, went_so}
 
 -- ---- a look
@@ -57,23 +57,24 @@ look_taken table r index x is member =
     (member ∙ ap (λ w. after_step w r) (sym t.says.sees))
     (sym (ap (stored table r.replica) t.says.look))
 
--- a member at a push takes it, and the word stands in the table
+-- a member at a push or an act takes it, and the word stands in the table
+store_taken : (table : List ℕ) (r : Running) (index word : ℕ) (cells : List ℕ) (x : Running)
+    → r.replica.end ≡ None → IsStoreAt table r (next_step r) index word
+    → ((seen : ℕ) → x ≡ after_step seen r) → cells ≡ slice_set table index word → IsTaken table r cells x
+store_taken table r index word cells x none says member words =
+    other_taken table r cells x none says.other (member (next_sight table r)) (words ∙ sym says.stores)
+
 pub push_taken : (table : List ℕ) (r : Running) (index word : ℕ) (cells : List ℕ) (x : Running)
     → next_deed r ≡ deeds.Push index word
-    → ((seen : ℕ) → x ≡ after_step seen r) → cells ≡ slice_set table index word
-    → IsTaken table r cells x
-push_taken table r index word cells x is member words =
-    let t = deed_tells table r (deeds.Push index word) is in
-    other_taken table r cells x t.none t.says.other (member (next_sight table r)) (words ∙ sym t.says.stores)
+    → ((seen : ℕ) → x ≡ after_step seen r) → cells ≡ slice_set table index word → IsTaken table r cells x
+push_taken table r index word cells x is = let t = deed_tells table r (deeds.Push index word) is in
+    store_taken table r index word cells x t.none t.says
 
--- a member at an act takes it, and the word stands in the table
 pub act_taken : (table : List ℕ) (r : Running) (index word : ℕ) (cells : List ℕ) (x : Running)
     → next_deed r ≡ deeds.Act index word
-    → ((seen : ℕ) → x ≡ after_step seen r) → cells ≡ slice_set table index word
-    → IsTaken table r cells x
-act_taken table r index word cells x is member words =
-    let t = deed_tells table r (deeds.Act index word) is in
-    other_taken table r cells x t.none t.says.other (member (next_sight table r)) (words ∙ sym t.says.stores)
+    → ((seen : ℕ) → x ≡ after_step seen r) → cells ≡ slice_set table index word → IsTaken table r cells x
+act_taken table r index word cells x is = let t = deed_tells table r (deeds.Act index word) is in
+    store_taken table r index word cells x t.none t.says
 
 -- the table stays at an append
 table_at : (table : List ℕ) (r : Running) → IsAppend (next_step r)

@@ -5,28 +5,24 @@ use Rattle.std.proofs.lemmas.Bool.{cases_eq}
 use Rattle.std.proofs.lemmas.List.Elements.{All-append, All-nil}
 use Rattle.std.proofs.lemmas.Option.{same_Some, slice_get_within}
 use Rattle.dr_entry.specs.declared.end.End.{End}
-use Rattle.dr_machine.specs.declared.step.Step.{Step}
-use Rattle.dr_machine.specs.declared.step.Step.TheVariants.{Do, Look, Push, Append, LogVote}
 use Rattle.dr_program.specs.declared.outcome.LogWhy.{LogWhy}
 use Rattle.dr_program.specs.declared.outcome.Outcome.{Outcome}
-use Rattle.dr_program.specs.declared.outcome.Outcome.TheVariants.{Ok, Failed}
+use Rattle.dr_program.specs.declared.outcome.Outcome.TheVariants.{Ok}
 use Rattle.dr_program.specs.Program.{AllOk, Move, Program, after_deed, moved_by, next_sight, ran, step_of, went}
 use Rattle.dr_program.specs.Running.{Running, next_step}
 use Rattle.dr_program.proofs.Holdings.{replica_kept, replica_set}
+use Rattle.dr_program.proofs.Runs.{after_either}
 use Rattle.dr_logged.proofs.Serving.{settled_same}
 use Rattle.dr_sim.specs.Simulated.{SomeFailed, WentWell}
 use Rattle.dr_sim.specs.Sound.{move}
 
 -- a member whose append has failed stays one
-still_failed : (word : ℕ) (o : Outcome) (r : Running) (s : Step) (why : LogWhy) → r.failed ≡ Some why
-    → (next : LogWhy) × ((after_deed word o r s).failed ≡ Some next)
-still_failed word Ok r Append why at = (why, ap (λ (x : Running). x.failed) (settled_same 0 r) ∙ at)
-still_failed word (Failed next) r Append why at = (next, refl)
-still_failed word Ok r (LogVote v) why at = (why, ap (λ (x : Running). x.failed) (settled_same 0 r) ∙ at)
-still_failed word (Failed next) r (LogVote v) why at = (next, refl)
-still_failed word o r (Do a) why at = (why, ap (λ (x : Running). x.failed) (settled_same word r) ∙ at)
-still_failed word o r (Look i c) why at = (why, ap (λ (x : Running). x.failed) (settled_same word r) ∙ at)
-still_failed word o r (Push j c) why at = (why, ap (λ (x : Running). x.failed) (settled_same word r) ∙ at)
+still_failed : (table : List ℕ) (o : Outcome) (r : Running) (why : LogWhy) → r.failed ≡ Some why
+    → (next : LogWhy) × ((after_deed (next_sight table r) o r (next_step r)).failed ≡ Some next)
+still_failed table o r why at =
+    after_either (λ x. (next : LogWhy) × (x.failed ≡ Some next)) table o r (next_step r)
+    (why, ap (λ (x : Running). x.failed) (settled_same (next_sight table r) r) ∙ at)
+    (λ next due. (next, refl))
 
 failed_step : (p : Program) (e : Move) → SomeFailed p → SomeFailed (step_of p e)
 failed_step p e (m, r, why, there, at) = by (slice_get p.members e.member) refl
@@ -45,7 +41,7 @@ failed_step p e (m, r, why, there, at) = by (slice_get p.members e.member) refl
       )
       | inl here ↦
           let same : r ≡ x = same_Some r x (sym there ∙ ap (slice_get p.members) here ∙ is) in
-          let next = still_failed (next_sight p.table x) e.outcome x (next_step x) why
+          let next = still_failed p.table e.outcome x why
           (ap (λ (y : Running). y.failed) (sym same) ∙ at) in (
             e.member,
             after_deed (next_sight p.table x) e.outcome x (next_step x),

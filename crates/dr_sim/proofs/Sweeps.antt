@@ -6,12 +6,12 @@ use Rattle.std.proofs.lemmas.Option.{slice_get_within}
 use Rattle.dr_disk.specs.Disk.{Told}
 use Rattle.dr_entry.specs.declared.end.End.{End}
 use Rattle.dr_log.specs.State.{LogState}
-use Rattle.dr_logged.specs.Served.{HasServed, IsReady, is_append}
+use Rattle.dr_logged.specs.Appended.{is_append}
+use Rattle.dr_logged.specs.Served.{HasServed, IsReady}
 use Rattle.dr_logged.proofs.Serving.{grows, other_ready, other_served, settled_same}
 use Rattle.dr_machine.specs.Group.{Group}
-use Rattle.dr_machine.specs.declared.step.Step.{Step}
-use Rattle.dr_machine.specs.declared.step.Step.TheVariants as steps
 use Rattle.dr_member.specs.Deeds.{is_look, is_push, table_size}
+use Rattle.dr_program.specs.declared.deed.Deed.{Deed}
 use Rattle.dr_program.specs.declared.deed.Deed.TheVariants as deeds
 use Rattle.dr_program.specs.declared.place.Part.{Part}
 use Rattle.dr_program.specs.declared.place.Part.TheVariants as parts
@@ -26,7 +26,7 @@ use Rattle.dr_program.specs.Turn.{is_beat, part_of}
 use Rattle.dr_program.proofs.Holdings.{replica_set}
 use Rattle.dr_turn.specs.Work.{deeds_left}
 use Rattle.dr_age.specs.Sound.{IsSound}
-use Rattle.dr_age.proofs.Deeds.{deed_tells}
+use Rattle.dr_age.proofs.Deeds.{at_look, at_push, deed_tells}
 use Rattle.dr_sim.specs.Deeds.{SeesWell, member_after, outcome_by, table_after}
 use Rattle.dr_sim.specs.Simulated.{WentWell}
 use Rattle.dr_sim.specs.Sound.{IsAmong, IsSomewhere, all_left, with_member}
@@ -34,25 +34,22 @@ use Rattle.dr_sim.specs.Sweeps.{HasCome, HasGoneOn, HasTaken, IsAtSweep}
 use Rattle.dr_sim.specs.Watched.{TakesNoNote, WasTold}
 use Rattle.dr_sim.proofs.Deeds.{IsTaken, look_seen, other_taken}
 use Rattle.dr_sim.proofs.Steps.{HasStepped, sees_well, stepped, whole_table}
-use Rattle.dr_sim.proofs.Turns.{HasTurn, IsInTurn, IsUnderWay, more_moves, set_twice, stands, turn_ends, turn_goes_on, way_ends, way_goes_on}
+use Rattle.dr_sim.proofs.Turns.{HasTurn, IsInTurn, IsUnderWay, more_moves, set_twice, stands, turn_ends, turn_goes_on}
 
 -- ---- a member at a look or a push
 
--- the step is a look or a push
-abbrev pub IsSwept : Step → Type 0
-IsSwept (steps.Look i c) = Unit {0}
-IsSwept (steps.Push j c) = Unit {0}
-IsSwept s = ⊥
+-- the deed is no append
+no_append : (r : Running) (d : Deed) → next_deed r ≡ d → (is_look d || is_push d) ≡ true
+    → is_append (next_step r) ≡ false
+no_append r (deeds.Look index) next due = at_look r index next
+no_append r (deeds.Push index word) next due = at_push r index word next
+no_append r d next due = absurd (cc)
 
-swept_other : (s : Step) → IsSwept s → is_append s ≡ false
-swept_other (steps.Look i c) swept = refl
-swept_other (steps.Push j c) swept = refl
-swept_other s swept = absurd swept
-
--- it is no part between turns
-no_beat : (r : Running) (p : Part) (i c : ℕ) → IsSwept (step_at r p i c) → is_beat p ≡ false
-no_beat r (parts.Do a) i c swept = absurd swept
-no_beat r p i c swept = refl
+-- nor does it begin a turn
+no_beat : (r : Running) (p : Part) (i c : ℕ) → let d = deed_of r (step_at r p i c) in
+    (is_look d || is_push d) ≡ true → is_beat p ≡ false
+no_beat r (parts.Do a) i c due = absurd (cc)
+no_beat r p i c due = refl
 
 -- so it has not ended, appends nothing, and stands amid its turn
 pub record IsSweeping (r : Running) : Type 0 where
@@ -63,19 +60,14 @@ pub record IsSweeping (r : Running) : Type 0 where
 pub at_sweep : (r : Running) → IsAtSweep r → IsSweeping r
 at_sweep r due = by r.replica.end refl due
   where
-    swept : (s : Step) → (is_look (deed_of r s) || is_push (deed_of r s)) ≡ true → IsSwept s
-    swept (steps.Look i c) due = tt
-    swept (steps.Push j c) due = tt
-    swept s due = absurd (cc)
-
     by : (o : Option End) → r.replica.end ≡ o → (is_look (deed r o) || is_push (deed r o)) ≡ true
         → IsSweeping r
-    by (Some end) e due = absurd (cc)
-    by None e due = record {
+    by (Some end) e kind = absurd (cc)
+    by None e kind = record {
       none = e;
-      other = swept_other (next_step r) (swept (next_step r) due);
+      other = no_append r (next_deed r) refl due;
       amid = ap (λ o. is_some o || is_beat (part_of r.place)) e
-          ∙ no_beat r (part_of r.place) r.place.row r.place.column (swept (next_step r) due);
+          ∙ no_beat r (part_of r.place) r.place.row r.place.column kind;
     }
 
 -- what its next deed makes of it and of the table
@@ -150,40 +142,50 @@ pub record HasGone {W : Type 0} (sees : W → Running → List ℕ → W → Typ
   pub amid : is_between_turns (Some x) ≡ false → IsOnWay sees old new g p m (with_member p m x cells)
   pub whole : is_between_turns (Some x) ≡ true → HasTurned sees old new g p m (with_member p m x cells)
 
+-- its next deed there
+steps_there : (g : Group) (p : Program) (m : ℕ) (x y : Running) (cells next : List ℕ) → m < length p.members
+    → IsSound g (with_member p m x cells) → x.replica.end ≡ None → IsTaken cells x next y
+    → HasStepped g (with_member p m x cells) m (with_member p m y next)
+steps_there g p m x y cells next within sound none taken =
+    subst (λ rs. HasStepped g (with_member p m x cells) m (record { members = rs; table = next }))
+    (set_twice p.members m x y)
+    (stepped g (with_member p m x cells) m x y next sound (replica_set p.members m x within) none
+    taken.member taken.table)
+
+gone_by : {W : Type 0} {sees : W → Running → List ℕ → W → Type 0} {old mid : W} (new : W) (g : Group)
+    (p : Program) (m : ℕ) (x y : Running) (cells next : List ℕ) → m < length p.members
+    → IsOnWay sees old mid g p m (with_member p m x cells) → x.replica.end ≡ None → IsTaken cells x next y
+    → sees mid x cells new → HasGone sees old new g p m y next
+gone_by new g p m x y cells next within way none taken seen =
+    let step = steps_there g p m x y cells next within way.sound none taken in
+    let there = replica_set p.members m x within in
+    record {
+      amid = λ amid. record {
+        sound = step.sound;
+        turn = turn_goes_on new m step.outcome p (with_member p m x cells) (with_member p m y next) x way.turn
+            step.step step.well (stands p m y next false within amid) there seen;
+      };
+      whole = λ whole.
+          let turn = turn_ends new m step.outcome p (with_member p m x cells) (with_member p m y next) x
+          way.turn step.step step.well (stands p m y next true within whole) there seen in
+          record {
+            sound = step.sound;
+            turn = (more_moves m step.outcome p (with_member p m x cells) way.turn, turn.0, turn.1, turn.2);
+          };
+    }
+
 -- where the watcher takes no note
 module _ {W : Type 0} (sees : W → Running → List ℕ → W → Type 0) (old now : W) (idle : TakesNoNote sees now)
     (g : Group) (p : Program) (m : ℕ) (within : m < length p.members) where
-  -- its next deed there
-  steps_there : (x y : Running) (cells next : List ℕ) → IsOnWay sees old now g p m (with_member p m x cells)
-      → x.replica.end ≡ None → IsTaken cells x next y
-      → HasStepped g (with_member p m x cells) m (with_member p m y next)
-  steps_there x y cells next way none taken =
-      subst (λ rs. HasStepped g (with_member p m x cells) m (record { members = rs; table = next }))
-      (set_twice p.members m x y)
-      (stepped g (with_member p m x cells) m x y next way.sound (replica_set p.members m x within) none
-      taken.member taken.table)
+  -- by a look or a push
+  gone_swept : (words : List ℕ) (r : Running) → IsOnWay sees old now g p m (with_member p m r words)
+      → IsAtSweep r → HasGone sees old now g p m (after_step (next_sight words r) r)
+      (stored words r.replica (next_step r))
+  gone_swept words r way due =
+      gone_by now g p m r (after_step (next_sight words r) r) words (stored words r.replica (next_step r))
+      within way (at_sweep r due).none (swept_taken words r (at_sweep r due)) (idle r words)
 
-  gone_by : (x y : Running) (cells next : List ℕ) → IsOnWay sees old now g p m (with_member p m x cells)
-      → x.replica.end ≡ None → IsTaken cells x next y → HasGone sees old now g p m y next
-  gone_by x y cells next way none taken =
-      let step = steps_there x y cells next way none taken in
-      let there = replica_set p.members m x within in
-      record {
-        amid = λ amid. record {
-          sound = step.sound;
-          turn = turn_goes_on now m step.outcome p (with_member p m x cells) (with_member p m y next) x
-              way.turn step.step step.well (stands p m y next false within amid) there (idle x cells);
-        };
-        whole = λ whole. let turn = turn_ends now m step.outcome p (with_member p m x cells)
-            (with_member p m y next) x way.turn step.step step.well (stands p m y next true within whole)
-            there (idle x cells) in
-            record {
-              sound = step.sound;
-              turn = (more_moves m step.outcome p (with_member p m x cells) way.turn, turn.0, turn.1, turn.2);
-            };
-      }
-
-  -- where it has come by looks and pushes
+  -- and where it has come by several
   gone_sweeping : (n : ℕ) (words : List ℕ) (r : Running) (cells : List ℕ) (q : Running)
       → IsOnWay sees old now g p m (with_member p m r words) → is_between_turns (Some r) ≡ false
       → HasTaken n words r cells q → HasGone sees old now g p m q cells
@@ -195,14 +197,11 @@ module _ {W : Type 0} (sees : W → Running → List ℕ → W → Type 0) (old 
   gone_sweeping (suc zero) words r cells q way amid (due, (same, is)) =
       subst (λ x. HasGone sees old now g p m x cells) is
       (subst (HasGone sees old now g p m (after_step (next_sight words r) r)) same
-      (gone_by r (after_step (next_sight words r) r) words (stored words r.replica (next_step r)) way
-      (at_sweep r due).none (swept_taken words r (at_sweep r due))))
+      (gone_swept words r way due))
   gone_sweeping (suc (suc n)) words r cells q way amid (due, (then, rest)) =
       let x = after_step (next_sight words r) r in
-      let next = stored words r.replica (next_step r) in
-      let gone = gone_by r x words next way (at_sweep r due).none (swept_taken words r (at_sweep r due)) in
-      gone_sweeping (suc n) next x cells q (gone.amid (at_sweep x then).amid) (at_sweep x then).amid
-      (then, rest)
+      gone_sweeping (suc n) (stored words r.replica (next_step r)) x cells q
+      ((gone_swept words r way due).amid (at_sweep x then).amid) (at_sweep x then).amid (then, rest)
 
 -- fewer deeds are left to all, where a member has fewer left
 left_falls : (p : Program) (m : ℕ) (r x y : Running) (cells next : List ℕ) → slice_get p.members m ≡ Some r
@@ -214,48 +213,45 @@ left_falls p m r x y cells next there falls = omega (
   falls,
 )
 
--- a member that goes on within its turn is under way
+-- a member that goes on is under way still, or has ended its turn, as its place says
 pub way_on : {W : Type 0} {sees : W → Running → List ℕ → W → Type 0} {old mid : W} (new : W) (g : Group)
     (p : Program) (m : ℕ) (r x y : Running) (table cells next : List ℕ)
     → IsAmong g p m r table → IsUnderWay sees old mid g p m (with_member p m x cells) → x.replica.end ≡ None
-    → HasGoneOn sees mid new cells x next y → deeds_left y < deeds_left x → is_between_turns (Some y) ≡ false
-    → IsUnderWay sees old new g p m (with_member p m y next)
-way_on new g p m r x y table cells next is way none (inl (member, stores, seen)) falls amid =
-    way_goes_on new g p m r x y table cells next is way none member stores falls amid seen
-way_on {W} {sees} {old} {mid} new g p m r x y table cells next is way none (inr (due, come, same, idle))
-    falls amid =
-    let (n, taken) = come.taken in
-    let on = (gone_sweeping sees old mid idle g p m (slice_get_within p.members m r is.there) n cells x next y
-    (record { sound = way.sound; turn = way.turn }) (at_sweep x due).amid taken).amid amid in
-    subst (λ w. IsUnderWay sees old w g p m (with_member p m y next)) same (record {
-      sound = on.sound;
-      turn = on.turn;
-      falls = omega (arith, left_falls p m r x y cells next is.there falls, way.falls);
-    })
+    → HasGoneOn sees mid new cells x next y → deeds_left y < deeds_left x
+    → (is_between_turns (Some y) ≡ false → IsUnderWay sees old new g p m (with_member p m y next))
+    × (is_between_turns (Some y) ≡ true → HasTurn sees old new g p m (with_member p m y next))
+way_on {W} {sees} {old} {mid} new g p m r x y table cells next is way none goes falls = (
+  λ amid. let on = (gone goes).amid amid in
+      record { sound = on.sound; turn = on.turn; falls = omega (arith, less, way.falls) },
+  λ whole.
+      let done = (gone goes).whole whole in
+      let (es, turn, well, told) = done.turn in (
+        record {
+          moves = es;
+          turn = turn;
+          well = well;
+          sound = done.sound;
+          falls = omega (arith, less, way.falls);
+        },
+        told,
+      ),
+)
+  where
+    less : all_left (with_member p m y next) < all_left (with_member p m x cells)
+    less = left_falls p m r x y cells next is.there falls
 
--- where it comes between turns, it has ended its turn
-pub way_over : {W : Type 0} {sees : W → Running → List ℕ → W → Type 0} {old mid : W} (new : W) (g : Group)
-    (p : Program) (m : ℕ) (r x y : Running) (table cells next : List ℕ)
-    → IsAmong g p m r table → IsUnderWay sees old mid g p m (with_member p m x cells) → x.replica.end ≡ None
-    → HasGoneOn sees mid new cells x next y → deeds_left y < deeds_left x → is_between_turns (Some y) ≡ true
-    → HasTurn sees old new g p m (with_member p m y next)
-way_over new g p m r x y table cells next is way none (inl (member, stores, seen)) falls whole =
-    way_ends new g p m r x y table cells next is way none member stores falls whole seen
-way_over {W} {sees} {old} {mid} new g p m r x y table cells next is way none (inr (due, come, same, idle))
-    falls whole =
-    let (n, taken) = come.taken in
-    let done = (gone_sweeping sees old mid idle g p m (slice_get_within p.members m r is.there) n cells x next
-    y (record { sound = way.sound; turn = way.turn }) (at_sweep x due).amid taken).whole whole in
-    let (es, turn, well, told) = done.turn in (
-      record {
-        moves = es;
-        turn = turn;
-        well = well;
-        sound = done.sound;
-        falls = omega (arith, left_falls p m r x y cells next is.there falls, way.falls);
-      },
-      subst (WasTold sees p es old) same told,
-    )
+    within : m < length p.members
+    within = slice_get_within p.members m r is.there
+
+    here : IsOnWay sees old mid g p m (with_member p m x cells)
+    here = record { sound = way.sound; turn = way.turn }
+
+    gone : HasGoneOn sees mid new cells x next y → HasGone sees old new g p m y next
+    gone (inl (member, stores, seen)) = gone_by new g p m x y cells next within here none
+        (record { member = member; table = stores }) seen
+    gone (inr (due, come, same, idle)) = let (n, taken) = come.taken in
+        subst (λ w. HasGone sees old w g p m y next) same
+        (gone_sweeping sees old mid idle g p m within n cells x next y here (at_sweep x due).amid taken)
 
 -- ---- logs
 

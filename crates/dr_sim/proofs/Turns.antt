@@ -14,14 +14,12 @@ use Rattle.dr_program.specs.Running.{Running}
 use Rattle.dr_program.specs.Turn.{is_beat, part_of}
 use Rattle.dr_program.proofs.Holdings.{replica_set}
 use Rattle.dr_program.proofs.Runs.{ran_on}
-use Rattle.dr_turn.specs.Work.{deeds_left}
 use Rattle.dr_program_laws.proofs.Schedules.{turns_taken}
 use Rattle.dr_program.specs.declared.outcome.Outcome.{Outcome}
-use Rattle.dr_sim.specs.Deeds.{member_after, outcome_by, table_after}
 use Rattle.dr_script.specs.declared.script.Schedule.TheVariants.{Lockstep}
 use Rattle.dr_sim.specs.Simulated.{HasRun, SomeFailed, WentWell}
 use Rattle.dr_age.specs.Sound.{IsSound}
-use Rattle.dr_sim.specs.Sound.{IsAmong, TookDeed, TookTurn, TookTurns, all_left, move, with_member}
+use Rattle.dr_sim.specs.Sound.{IsAmong, TookTurn, TookTurns, all_left, move, with_member}
 use Rattle.dr_sim.proofs.Outcomes.{none_well, well_both, well_one}
 use Rattle.dr_sim.proofs.Ranges.{count_more}
 use Rattle.dr_sim.specs.Watched.{WasTold}
@@ -210,17 +208,6 @@ way_among g p m r x table cells is way =
       table = refl;
     }
 
--- its next deed there
-way_takes : (g : Group) (p : Program) (m : ℕ) (x y : Running) (cells next : List ℕ)
-    → IsAmong g (with_member p m x cells) m x cells
-    → x.replica.end ≡ None → y ≡ member_after cells (outcome_by y.failed) x → next ≡ table_after cells x
-    → deeds_left y < deeds_left x
-    → TookDeed g (with_member p m x cells) m (with_member p m y next)
-way_takes g p m x y cells next is none member table falls =
-    subst (λ rs. TookDeed g (with_member p m x cells) m (record { members = rs; table = next }))
-    (set_twice p.members m x y)
-    (took g (with_member p m x cells) m x y next is.sound is.there none member table falls)
-
 -- where it stands then is where it stands in the program
 pub stands : (p : Program) (m : ℕ) (y : Running) (next : List ℕ) (b : Bool) → m < length p.members
     → is_between_turns (Some y) ≡ b → is_between_turns (slice_get (with_member p m y next).members m)
@@ -231,49 +218,6 @@ stands p m y next b within at = ap is_between_turns (replica_set p.members m y w
 abbrev pub HasTurn : {W : Type 0} → (W → Running → List ℕ → W → Type 0) → W → W → Group → Program → ℕ
     → Program → Type 0
 HasTurn sees old new g p m q = (took : TookTurn g p m q) × WasTold sees p took.moves old new
-
--- a deed within the turn leaves the member under way
-pub way_goes_on : {W : Type 0} {sees : W → Running → List ℕ → W → Type 0} {old mid : W} (new : W) (g : Group)
-    (p : Program) (m : ℕ) (r x y : Running) (table cells next : List ℕ)
-    → IsAmong g p m r table → IsUnderWay sees old mid g p m (with_member p m x cells)
-    → x.replica.end ≡ None → y ≡ member_after cells (outcome_by y.failed) x
-    → next ≡ table_after cells x
-    → deeds_left y < deeds_left x → is_between_turns (Some y) ≡ false → sees mid x cells new
-    → IsUnderWay sees old new g p m (with_member p m y next)
-way_goes_on new g p m r x y table cells next is way none member stores falls amid seen =
-    let here = way_among g p m r x table cells is way in
-    let took = way_takes g p m x y cells next here none member stores falls in
-    record {
-      sound = took.sound;
-      turn = turn_goes_on new m took.outcome p (with_member p m x cells) (with_member p m y next) x way.turn
-          took.step took.well
-          (stands p m y next false (slice_get_within p.members m r is.there) amid) here.there seen;
-      falls = omega (arith, took.falls, way.falls);
-    }
-
--- a deed between turns ends the member's turn
-pub way_ends : {W : Type 0} {sees : W → Running → List ℕ → W → Type 0} {old mid : W} (new : W) (g : Group)
-    (p : Program) (m : ℕ) (r x y : Running) (table cells next : List ℕ)
-    → IsAmong g p m r table → IsUnderWay sees old mid g p m (with_member p m x cells)
-    → x.replica.end ≡ None → y ≡ member_after cells (outcome_by y.failed) x
-    → next ≡ table_after cells x
-    → deeds_left y < deeds_left x → is_between_turns (Some y) ≡ true → sees mid x cells new
-    → HasTurn sees old new g p m (with_member p m y next)
-way_ends new g p m r x y table cells next is way none member stores falls whole seen =
-    let here = way_among g p m r x table cells is way in
-    let took = way_takes g p m x y cells next here none member stores falls in
-    let turn = turn_ends new m took.outcome p (with_member p m x cells) (with_member p m y next) x way.turn
-    took.step took.well
-    (stands p m y next true (slice_get_within p.members m r is.there) whole) here.there seen in (
-      record {
-        moves = more_moves m took.outcome p (with_member p m x cells) way.turn;
-        turn = turn.0;
-        well = turn.1;
-        sound = took.sound;
-        falls = omega (arith, took.falls, way.falls);
-      },
-      turn.2,
-    )
 
 -- a member amid its turn has not ended
 pub amid_goes : (r : Running) → is_between_turns (Some r) ≡ false → is_some r.replica.end ≡ false

@@ -1,17 +1,14 @@
 -- Deeds that store, appends, and which program a deed makes.
-use Rattle.std.proofs.Common.{◌≡◌, refl, sym, ap, ◌∙◌, subst, ℕ, true, List, [], ◌∷◌, ◌++◌, set-set, true≢false}
-use Rattle.std.specs.Prelude.{Option, None, Some, slice_get, slice_set}
+use Rattle.std.proofs.Common.{◌≡◌, refl, sym, ap, ◌∙◌, subst, ℕ, true, List, [], ◌∷◌, ◌++◌, set-set}
+use Rattle.std.specs.Prelude.{None, Some, slice_get, slice_set}
 use Rattle.std.proofs.lemmas.Option.{slice_get_within}
-use Rattle.dr_entry.specs.declared.end.End.{End}
-use Rattle.dr_machine.specs.declared.step.Step.{Step}
-use Rattle.dr_machine.specs.declared.step.Step.TheVariants.{Do, Look, Push, Append, LogVote}
 use Rattle.dr_member.specs.Deeds.{is_append}
 use Rattle.dr_program.specs.declared.deed.Deed.{Deed}
 use Rattle.dr_program.specs.declared.deed.Deed.TheVariants as deeds
 use Rattle.dr_program.specs.declared.outcome.Outcome.{Outcome}
 use Rattle.dr_program.specs.declared.outcome.Outcome.TheVariants as outcomes
 use Rattle.dr_program.specs.Program.{IsRanFrom, Move, Program, after_deed, appended_as, next_sight, ran, step_of}
-use Rattle.dr_program.specs.Running.{Running, after_step, deed, deed_of, next_deed, next_step, took}
+use Rattle.dr_program.specs.Running.{Running, after_step, next_deed, next_step, took}
 use Rattle.dr_program.specs.Steps.{IsAppend, stored}
 use Rattle.dr_program.proofs.Fixed.{Told, told, step_told}
 use Rattle.dr_program.proofs.Holdings.{replica_set}
@@ -34,39 +31,27 @@ pub stores : (words : List ℕ) (r : Running) (index word : ℕ) → IsStore ind
     → StoresAt words r index word
 stores words r index word is = by (next_deed r) refl is
   where
+    at : (i w : ℕ) → r.replica.end ≡ None → IsStoreAt words r (next_step r) i w → (i ≡ index) × (w ≡ word)
+        → StoresAt words r index word
+    at i w none says (there, same) = record {
+      none = none;
+      says = subst (λ k. IsStoreAt words r (next_step r) k word) there
+          (subst (IsStoreAt words r (next_step r) i) same says);
+    }
+
     by : (d : Deed) → next_deed r ≡ d → IsStore index word d → StoresAt words r index word
-    by (deeds.Push i w) e (at, same) =
-        let t = deed_tells words r (deeds.Push i w) e in record {
-          none = t.none;
-          says = subst (λ k. IsStoreAt words r (next_step r) k word) at
-              (subst (IsStoreAt words r (next_step r) i) same t.says);
-        }
-    by (deeds.Act i w) e (at, same) =
-        let t = deed_tells words r (deeds.Act i w) e in record {
-          none = t.none;
-          says = subst (λ k. IsStoreAt words r (next_step r) k word) at
-              (subst (IsStoreAt words r (next_step r) i) same t.says);
-        }
-    by (deeds.Look i) e is = absurd is
-    by (deeds.Append x) e is = absurd is
-    by (deeds.Rest x) e is = absurd is
+    by (deeds.Push i w) e is = let t = deed_tells words r (deeds.Push i w) e in at i w t.none t.says is
+    by (deeds.Act i w) e is = let t = deed_tells words r (deeds.Act i w) e in at i w t.none t.says is
+    by d e is = absurd is
 
 -- a member whose next deed is an append is due to append
 pub append_due : (r : Running) → is_append (next_deed r) ≡ true → (r.replica.end ≡ None)
     × IsAppend (next_step r)
-append_due r due = by r.replica.end refl due
+append_due r due = by (next_deed r) refl due
   where
-    step : (s : Step) → is_append (deed_of r s) ≡ true → IsAppend s
-    step Append e = tt
-    step (LogVote v) e = tt
-    step (Do a) e = absurd (true≢false (sym e))
-    step (Look i c) e = absurd (true≢false (sym e))
-    step (Push j c) e = absurd (true≢false (sym e))
-
-    by : (o : Option End) → r.replica.end ≡ o → is_append (deed r o) ≡ true
-        → (r.replica.end ≡ None) × IsAppend (next_step r)
-    by None none e = (none, step (next_step r) e)
-    by (Some end) ended e = absurd (true≢false (sym e))
+    by : (d : Deed) → next_deed r ≡ d → is_append d ≡ true → (r.replica.end ≡ None) × IsAppend (next_step r)
+    by (deeds.Append x) next due = let t = deed_tells [] r (deeds.Append x) next in (t.none, t.says.0)
+    by d next due = absurd (cc)
 
 -- ---- what a member was told stays
 

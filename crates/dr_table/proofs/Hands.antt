@@ -1,23 +1,16 @@
--- What is known of the members of a hand, as it is dealt, as one of them changes, and as hands are cut and
--- put together.
+-- What is known of the members of a hand, as it is dealt, and as hands are cut and put together.
 use Rattle.std.proofs.Common.{◌≡◌, inl, inr, refl, sym, ap, ◌∙◌, subst, ℕ, zero, suc, ◌+◌, ◌<◌, ◌≤◌, true, List, [], ◌∷◌, ◌++◌, length, length-append, length-set, take, drop, replicate, get_or, arith}
-use Rattle.std.specs.Prelude.{All, None, Some, is_some, slice_get, slice_set, vec_capacity}
+use Rattle.std.specs.Prelude.{All, None, Some, is_some, slice_get, slice_set}
 use Rattle.std.proofs.lemmas.List.{length-map}
 use Rattle.std.proofs.lemmas.Option.{get_or_from_slice_get, same_Some, slice_get_read, slice_get_within}
-use Rattle.atomic_table.specs.Seated.{TableId}
 use Rattle.dr_history_laws.proofs.Lists.{slice_get-left, slice_get-some}
 use Rattle.dr_machine.specs.Group.{banks, roster}
 use Rattle.dr_member.specs.Deeds.{is_append, table_size}
 use Rattle.dr_program.specs.declared.outcome.Outcome.{Outcome}
 use Rattle.dr_program.specs.declared.outcome.Outcome.TheVariants as outcomes
 use Rattle.dr_program.specs.Program.{IsRanFrom, Program, appended_as, begun_program, ran}
-use Rattle.dr_machine.specs.declared.step.Step.{Step}
-use Rattle.dr_machine.specs.declared.step.Step.TheVariants.{Append, LogVote}
-use Rattle.dr_program.specs.Replica.{Replica}
-use Rattle.dr_program.specs.Running.{Running, after_step, begun_running, next_deed, next_step}
-use Rattle.dr_program.specs.Steps.{IsAppend, stepped}
-use Rattle.dr_program.proofs.Fixed.{Told, told}
-use Rattle.dr_program.proofs.Holdings.{replica_set}
+use Rattle.dr_program.specs.Running.{Running, begun_running, next_deed, next_step}
+use Rattle.dr_program.proofs.Fixed.{Told}
 use Rattle.dr_program_laws.proofs.Keeping.{begun_reached}
 use Rattle.dr_refine.specs.Programs.{IsProgram}
 use Rattle.dr_refine.proofs.Deeds.{settle_replica}
@@ -25,12 +18,10 @@ use Rattle.dr_refine.proofs.Steps.{begun_is_program}
 use Rattle.dr_words.specs.Layout.{words_of}
 use Rattle.dr_words.specs.Columns.{columns_of}
 use Rattle.dr_words.proofs.Places.{word_index_within}
-use Rattle.dr_turn.specs.Work.{deeds_left}
-use Rattle.dr_table.specs.Cards.{AreFew, AreOf, AreReached, Cards, HasEnded, HasFewerLeft, HasGoneOn, HaveRoom, opened}
-use Rattle.dr_table.specs.declared.hand.Hand.TheInside.{Inside}
-use Rattle.dr_table.specs.Inside.{IsInside}
+use Rattle.dr_table.specs.Cards.{AreFew, AreOf, AreReached, Cards, HasEnded, HaveRoom, opened}
 use Rattle.dr_table.specs.Rule.{Found, IsDealt, IsKept, number}
-use Rattle.dr_table.specs.Steps.{AreAhead, HasAppended, IsAhead, IsReachedMember}
+use Rattle.dr_table.specs.Steps.{AreAhead, HasAppended, IsAhead}
+use Rattle.dr_age.proofs.Deeds.{unended_append}
 use Rattle.dr_table.proofs.Deeds.{append_due, appends_told}
 use Rattle.dr_table.proofs.Lists.{at_append, at_drop, at_set, at_take, same_elements}
 
@@ -149,17 +140,12 @@ ahead_append (x ∷ xs) (y ∷ ys) w qs are too =
     ahead_first x y (xs ++ w) (ys ++ qs) (are.each 0 x y refl refl) rest
 
 -- an append ends nobody
-append_leaves : (word : ℕ) (r : Replica) (s : Step) → IsAppend s → (stepped word r s).end ≡ r.end
-append_leaves word r Append is = refl
-append_leaves word r (LogVote v) is = refl
-append_leaves word r s is = absurd is
-
 append_stays : (o : Outcome) (r : Running) → is_append (next_deed r) ≡ true
     → (appended_as o r).replica.end ≡ None
 append_stays (outcomes.Failed why) r due = (append_due r due).0
 append_stays outcomes.Ok r due =
     let (none, step) = append_due r due in
-    ap (λ q. q.end) (settle_replica _ _) ∙ append_leaves 0 r.replica (next_step r) step ∙ none
+    ap (λ q. q.end) (settle_replica _ _) ∙ unended_append 0 r.replica (next_step r) step ∙ none
 
 -- a member that has ended is as the seat knows it
 ended_same : (os : List Outcome) (r q : Running) → HasAppended os r q → HasEnded q → r ≡ q
@@ -276,70 +262,6 @@ dealt_kept dealt d words same = record {
     only : (s a : ℕ) (r : Running) → Found (dealt ∷ []) s a r → (s ≡ 0) × (slice_get dealt a ≡ Some r)
     only zero a r (v, is, there) = (refl, ap (λ l. slice_get l a) (same_Some dealt v is) ∙ there)
     only (suc s) a r (v, is, there) = absurd (cc)
-
--- ---- one member of a hand changes
-
--- the member that an index lends is the one at that place
-pub read : (w : Cards) (items : List Running) (i : ℕ) (m : Running) → items ≡ w.members
-    → i < length w.members → m ≡ get_or items i m → slice_get items i ≡ Some m
-read w items i m is within at = slice_get_read items (length w.members) i m (ap length (sym is)) within at
-
-pub ahead_step : (v w rs : List Running) (at : ℕ) (x y : Running) → AreAhead v rs → w ≡ slice_set v at x
-    → IsAhead x y → AreAhead w (slice_set rs at y)
-ahead_step v w rs at x y are to ahead =
-    subst (λ l. AreAhead l (slice_set rs at y)) (sym to) (ahead_set v rs at x y ahead are)
-
-pub of_step : (n k : ℕ) (rs : List Running) (at : ℕ) (r x : Running) → n ≡ k → AreOf n rs
-    → slice_get rs at ≡ Some r → told x.replica ≡ told r.replica → AreOf k (slice_set rs at x)
-of_step n k rs at r x words are here same =
-    each_set (λ q. table_size q ≡ k) rs at x
-    (ap (λ (t : Told). words_of t.roster t.window t.banks) same ∙ are at r here ∙ words)
-    (λ j q there. are j q there ∙ words)
-
-pub room_step : (n : ℕ) (rs : List Running) (at : ℕ) (r x : Running) → HaveRoom n rs
-    → slice_get rs at ≡ Some r → told x.replica ≡ told r.replica → HaveRoom n (slice_set rs at x)
-room_step n rs at r x have here same =
-    each_set (λ q. q.replica.roster ≤ n) rs at x
-    (subst (λ k. k ≤ n) (sym (ap (λ (t : Told). t.roster) same)) (have at r here)) have
-
--- so the hand keeps what it knows, behind a step of its seat or an append
-pub inside_after : (h k : Inside) (at : ℕ) (r x : Running) → IsInside h
-    → slice_get h.members.items at ≡ Some r → told x.replica ≡ told r.replica → IsReachedMember x
-    → k.members.items ≡ slice_set h.members.items at x → vec_capacity k.members ≡ vec_capacity h.members
-    → k.seat.table_id ≡ h.seat.table_id → k.seat.me.1 ≡ []
-    → AreAhead k.seat.me.0 (slice_set h.members.items at x) → IsInside k
-inside_after h k at r x is here same reached items room table slots ahead = record {
-  ahead = subst (AreAhead k.seat.me.0) (sym items) ahead;
-  slots = slots;
-  reached = subst AreReached (sym items) (each_set IsReachedMember h.members.items at x reached is.reached);
-  of = subst (AreOf k.seat.table_id.words) (sym items) (of_step h.seat.table_id.words k.seat.table_id.words
-      h.members.items at r x (ap (λ (t : TableId). t.words) (sym table)) is.of here same);
-  words = subst (λ (t : TableId). 0 < t.words) (sym table) is.words;
-  room = subst (HaveRoom (vec_capacity k.members)) (sym items)
-      (subst (λ n. HaveRoom n (slice_set h.members.items at x)) (sym room)
-      (room_step (vec_capacity h.members) h.members.items at r x is.room here same));
-}
-
--- what it has become, where it stood
-pub went_on : (old items : List Running) (at : ℕ) (m x : Running) → items ≡ old
-    → slice_get items at ≡ Some m → x ≡ after_step 0 m → HasGoneOn old at (slice_set items at x)
-went_on old items at m x is here to r there =
-    let same = same_Some m r (sym here ∙ ap (λ l. slice_get l at) is ∙ there) in
-    λ k. slice_set (is k) at ((to ∙ ap (after_step 0) same) k)
-
-pub went_so : (f : Running → Running) (old items : List Running) (at : ℕ) (m x : Running) → items ≡ old
-    → slice_get items at ≡ Some m → x ≡ f m
-    → (r : Running) → slice_get old at ≡ Some r → slice_set items at x ≡ slice_set old at (f r)
-went_so f old items at m x is here to r there =
-    let same = same_Some m r (sym here ∙ ap (λ l. slice_get l at) is ∙ there) in
-    λ k. slice_set (is k) at ((to ∙ ap f same) k)
-
-pub fewer : (old items : List Running) (at : ℕ) (m x : Running) → items ≡ old
-    → slice_get items at ≡ Some m → deeds_left x < deeds_left m → HasFewerLeft old at (slice_set items at x)
-fewer old items at m x is here less r q there stands =
-    let was = same_Some m r (sym here ∙ ap (λ l. slice_get l at) is ∙ there) in
-    let now = same_Some x q (sym (replica_set items at x (slice_get_within items at m here)) ∙ stands) in
-    subst (λ z. deeds_left q < deeds_left z) was (subst (λ z. deeds_left z < deeds_left m) now less)
 
 -- ---- boards
 

@@ -5,4 +5,5 @@ pub mod Keeping
 pub mod Cuts
 pub mod Room
 pub mod Hands
+pub mod Members
 pub mod Sweeps

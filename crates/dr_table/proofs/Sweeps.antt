@@ -1,19 +1,22 @@
 -- Sweeps: what a hand knows as one begins, as it goes on, and as it ends.
 use Rattle.std.proofs.Common.{◌≡◌, refl, sym, ap, ◌∙◌, subst, ℕ, List, [], ◌∷◌, ◌++◌, set-set}
-use Rattle.std.specs.Prelude.{Some, slice_get, slice_set}
-use Rattle.std.proofs.lemmas.Option.{same_Some, slice_get_within}
+use Rattle.std.specs.Prelude.{slice_get, slice_set, vec_capacity}
+use Rattle.std.proofs.lemmas.Option.{slice_get_within}
 use Rattle.dr_program.specs.declared.deed.Deed.TheVariants as deeds
 use Rattle.dr_program.specs.Running.{Running, after_step, next_deed}
 use Rattle.dr_program.proofs.Fixed.{Told, told}
 use Rattle.dr_program.proofs.Holdings.{replica_set}
 use Rattle.dr_words.specs.Layout.{words_of}
-use Rattle.dr_table.specs.Cards.{AreOf}
+use Rattle.dr_table.specs.Cards.{Cards}
 use Rattle.dr_table.specs.Deeds.{IsStore}
-use Rattle.dr_table.specs.Steps.{AreAhead, IsReachedMember, MayFind}
+use Rattle.dr_table.specs.declared.hand.Hand.TheInside.{Inside}
+use Rattle.dr_table.specs.Inside.{IsInside}
+use Rattle.dr_table.specs.Steps.{IsReachedMember, MayFind}
 use Rattle.dr_table.specs.Sweeps.{HasCome, HasSwept, HasTaken, IsSwept}
 use Rattle.dr_table.proofs.Deeds.{after_told, stores}
 use Rattle.dr_table.proofs.Hands.{seat_has}
 use Rattle.dr_table.proofs.Lists.{set_again}
+use Rattle.dr_table.proofs.Members.{StandsAt, only, stepped_inside}
 
 -- one deed more
 taken_more : (words : List ℕ) (word : ℕ) (r q : Running) → HasTaken words r q → IsSwept (next_deed q)
@@ -30,15 +33,15 @@ taken_told (word ∷ words) r q (swept, found, rest) =
     taken_told words (after_step word r) q rest ∙ after_told word r
 
 -- no deed was taken yet
-pub come_begins : (size : ℕ) (v rs : List Running) (at : ℕ) (q : Running) → AreAhead v rs
-    → slice_get rs at ≡ Some q → IsReachedMember q → AreOf size rs → HasCome size v q v at q
-come_begins size v rs at q are here reached of =
-    let (r, there, ahead) = seat_has v rs at q are here in
+pub come_begins : {h : Inside} {hand : Cards} {at : ℕ} {m : Running} → StandsAt h hand at m
+    → HasCome h.seat.table_id.words h.seat.me.0 m h.seat.me.0 at m
+come_begins {h} {hand} {at} {m} s =
+    let (r, there, ahead) = seat_has h.seat.me.0 h.members.items at m s.is.ahead s.here in
     record {
       taken = ([], refl);
-      seat = (r, ahead, there, sym (set_again v at r there));
-      reached = reached;
-      of = of at q here;
+      seat = (r, ahead, there, sym (set_again h.seat.me.0 at r there));
+      reached = s.is.reached at m s.here;
+      of = s.is.of at m s.here;
     }
 
 -- one more was taken
@@ -75,13 +78,24 @@ look_swept q index next = subst IsSwept (sym next) tt
 pub push_swept : (q : Running) (index new : ℕ) → next_deed q ≡ deeds.Push index new → IsSwept (next_deed q)
 push_swept q index new next = subst IsSwept (sym next) tt
 
+-- ---- behind a sweep
+
+-- the hand keeps what it knows
+pub swept_inside : {h : Inside} {hand : Cards} {at : ℕ} {m : Running} (k : Inside) (x : Running)
+    → StandsAt h hand at m → k.members.items ≡ slice_set h.members.items at x
+    → vec_capacity k.members ≡ vec_capacity h.members → k.seat.table_id ≡ h.seat.table_id → k.seat.me.1 ≡ []
+    → HasCome k.seat.table_id.words h.seat.me.0 m k.seat.me.0 at x → IsInside k
+swept_inside {m = m} k x s items room table slots come =
+    let (words, taken) = come.taken in
+    let (r, ahead, there, to) = come.seat in
+    stepped_inside k r x s (taken_told words m x taken) come.reached items room table slots to ahead
+
 -- what the member has become, where it stood
-pub went_sweeping : (old items : List Running) (at : ℕ) (m x : Running) → items ≡ old
-    → slice_get items at ≡ Some m → (words : List ℕ) × HasTaken words m x
-    → HasSwept old at (slice_set items at x)
-went_sweeping old items at m x is here (words, taken) r there = (
+pub went_sweeping : {h : Inside} {hand : Cards} {at : ℕ} {m : Running} (x : Running) → StandsAt h hand at m
+    → (words : List ℕ) × HasTaken words m x → HasSwept hand.members at (slice_set h.members.items at x)
+went_sweeping {at = at} x s (words, taken) r stands = (
   words,
   x,
-  subst (λ q. HasTaken words q x) (same_Some m r (sym here ∙ ap (λ l. slice_get l at) is ∙ there)) taken,
-  λ k. slice_set (is k) at x,
+  subst (λ q. HasTaken words q x) (only s stands) taken,
+  λ k. slice_set (s.items k) at x,
 )

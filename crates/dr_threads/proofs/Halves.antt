@@ -1,6 +1,8 @@
 -- The answers of two halves are the answer of both.
 use Rattle.std.proofs.Common.{◌≡◌, refl, sym, ap, ◌∙◌, subst, inl, inr, ◌⊎◌, ℕ, zero, suc, ◌+◌, List, [], ◌∷◌, ◌++◌, append-nil, length, length-append, map, take, drop, le_refl, arith}
-use Rattle.std.specs.Prelude.{All, Option, Some, slice_get}
+use Rattle.std.specs.Prelude.{All, Option, Some, Result, Ok, Err, Vec, slice_get}
+use Rattle.std.specs.declared.alloc.AllocError.{AllocError}
+use Rattle.std.specs.declared.alloc.Global.{Global}
 use Rattle.std.proofs.lemmas.List.{map-append}
 use Rattle.std.proofs.lemmas.Option.{same_Some, slice_get_within}
 use Rattle.atomic_table.specs.Seated.{TableId}
@@ -12,6 +14,7 @@ use Rattle.dr_program.specs.Running.{Running}
 use Rattle.dr_table.specs.Cards.{Cards, HasEnded}
 use Rattle.dr_table.specs.Rule.{number}
 use Rattle.dr_table.proofs.Lists.{at_drop, at_take}
+use Rattle.dr_threads.specs.Answers.{IsAnswer, logs_of}
 use Rattle.dr_threads.specs.Course.{HaveRun}
 use Rattle.dr_threads.specs.Logs.{AreFor, AreLonger, IsLonger}
 use Rattle.dr_threads.proofs.Runs.{as_many}
@@ -57,6 +60,9 @@ all_append P (r ∷ rs) qs a b (suc k) d h = all_append P rs qs (λ j e l. a (su
 
 -- ---- answers
 
+abbrev pub Answer : Type 0 → Type 0
+Answer D = Result (Cards × Vec (LogState D) Global) (Vec (LogState D) Global × AllocError)
+
 module _ {D : Type 0} (told : D → Option Told) (faults : D → ℕ) where
   -- both halves have run
   pub both_run : (table : TableId) (before after : List Running) (logs more : List (LogState D))
@@ -85,35 +91,46 @@ module _ {D : Type 0} (told : D → Option Told) (faults : D → ℕ) where
         ]));
   }
 
-  -- logs that have served their members are longer
-  pub run_longer : (table : TableId) (before : List Running) (logs : List (LogState D)) (a : Cards)
-      (news : List (LogState D)) → length logs ≡ length before → HaveRun told faults table before logs a news
-      → AreLonger told faults logs news
-  run_longer table before logs a news m h = record {
+  -- the logs of an answer are longer
+  answer_longer : (table : TableId) (before : List Running) (logs : List (LogState D)) (r : Answer D)
+      → length logs ≡ length before → IsAnswer told faults table before logs r
+      → AreLonger told faults logs (logs_of r)
+  answer_longer table before logs (Err r) m h = h
+  answer_longer table before logs (Ok r) m h = record {
     all = h.all;
     each = λ k old new from there.
-        let (r, member) = slice_get-some a.members k
-        (omega (arith, slice_get_within logs k old from, m, as_many before a.members h.over.same)) in
-        let come = h.served k old new r from there member in
+        let members = r.0.members in
+        let (x, member) = slice_get-some members k
+        (omega (arith, slice_get_within logs k old from, m, as_many before members h.over.same)) in
+        let come = h.served k old new x from there member in
         record {
           entries = come.more;
-          votes = (r.replica.votes, come.voted);
+          votes = (x.replica.votes, come.voted);
           moments = inr come.moments;
           later = come.later;
         };
   }
 
-  pub both_longer : (logs more news newer all : List (LogState D)) → all ≡ news ++ newer
-      → AreLonger told faults logs news → AreLonger told faults more newer → AreLonger told faults
-      (logs ++ more) all
-  both_longer logs more news newer all to a b = record {
-    all = ap length to ∙ length-append news newer ∙ (λ z. a.all z + b.all z) ∙ sym (length-append logs more);
-    each = λ k old new from there. elim (pairs logs more news newer k old new (sym a.all) from
-        (ap (λ l. slice_get l k) (sym to) ∙ there)) [
-          | inl first ↦ a.each k old new first.0 first.1
-          | inr second ↦ b.each second.0 old new second.1 second.2
+  -- so are those of two answers
+  pub both_longer : (table : TableId) (before after : List Running) (logs more all : List (LogState D))
+      (first second : Answer D) → all ≡ logs_of first ++ logs_of second → length logs ≡ length before
+      → length more ≡ length after → IsAnswer told faults table before logs first
+      → IsAnswer told faults table after more second → AreLonger told faults (logs ++ more) all
+  both_longer table before after logs more all first second to m n h k = record {
+    all = ap length to ∙ length-append (logs_of first) (logs_of second) ∙ (λ z. a.all z + b.all z)
+        ∙ sym (length-append logs more);
+    each = λ i old new from there. elim (pairs logs more (logs_of first) (logs_of second) i old new
+        (sym a.all) from (ap (λ l. slice_get l i) (sym to) ∙ there)) [
+          | inl left ↦ a.each i old new left.0 left.1
+          | inr right ↦ b.each right.0 old new right.1 right.2
         ];
   }
+    where
+      a : AreLonger told faults logs (logs_of first)
+      a = answer_longer table before logs first m h
+
+      b : AreLonger told faults more (logs_of second)
+      b = answer_longer table after more second n k
 
   -- logs as they were
   pub same_longer : (logs : List (LogState D)) → AreLonger told faults logs logs

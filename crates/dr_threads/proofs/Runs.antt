@@ -6,7 +6,8 @@ use Rattle.std.proofs.lemmas.Option.{same_Some}
 use Rattle.dr_disk.specs.Disk.{Told}
 use Rattle.dr_entry.specs.declared.end.End.{End}
 use Rattle.dr_log.specs.State.{LogState}
-use Rattle.dr_logged.specs.Served.{AppendsWell, HasServed, IsReady, is_append}
+use Rattle.dr_logged.specs.Appended.{is_append}
+use Rattle.dr_logged.specs.Served.{AppendsWell, HasServed, IsReady}
 use Rattle.dr_logged.proofs.Serving.{other_ready, other_served}
 use Rattle.dr_program.specs.declared.deed.Deed.{Deed}
 use Rattle.dr_program.specs.declared.deed.Deed.TheVariants as deeds
@@ -18,7 +19,7 @@ use Rattle.dr_turn.specs.Work.{deeds_left}
 use Rattle.dr_table.specs.Cards.{AreSame, HasEnded, HasFewerLeft}
 use Rattle.dr_table.specs.Rule.{number}
 use Rattle.dr_table.specs.Steps.{IsReachedMember}
-use Rattle.dr_table.specs.Sweeps.{HasTaken, IsSwept}
+use Rattle.dr_table.specs.Sweeps.{HasSwept, HasTaken, IsSwept}
 use Rattle.dr_table.proofs.Deeds.{after_told, same_number}
 use Rattle.dr_table.proofs.Sweeps.{taken_told}
 use Rattle.dr_threads.specs.Course.{HasGone}
@@ -99,22 +100,23 @@ module _ {D : Type 0} (told : D → Option Told) (faults : D → ℕ) where
       (reached_form r (g, p, is)).replica.logged served)
 
   -- by looks and pushes
-  pub gone_sweeping : (rs qs : List Running) (r q : Running) (words : List ℕ) (log : LogState D)
-      → length rs ≡ 1 → slice_get rs 0 ≡ Some r → HasTaken words r q → qs ≡ slice_set rs 0 q
-      → HasGone told faults rs log qs log
-  gone_sweeping rs qs r q words log one there taken to =
+  pub gone_sweeping : (rs qs : List Running) (r : Running) (log : LogState D) → length rs ≡ 1
+      → slice_get rs 0 ≡ Some r → HasSwept rs 0 qs → HasGone told faults rs log qs log
+  gone_sweeping rs qs r log one there swept =
+      let (words, q, taken, to) = swept r there in
       gone_by rs qs r q log log one there to (same_number r q (taken_told words r q taken))
       (swept_ready log words r q taken) (λ base. swept_served base log words r q taken)
 
 -- ---- fewer deeds left
 
-pub left_falls : (rs qs : List Running) → length rs ≡ 1 → length qs ≡ 1 → HasFewerLeft rs 0 qs
-    → sum_by deeds_left qs < sum_by deeds_left rs
-left_falls [] qs one too fewer = absurd (omega arith)
-left_falls (r ∷ s ∷ rs) qs one too fewer = absurd (omega arith)
-left_falls (r ∷ []) [] one too fewer = absurd (omega arith)
-left_falls (r ∷ []) (q ∷ s ∷ qs) one too fewer = absurd (omega arith)
-left_falls (r ∷ []) (q ∷ []) one too fewer = let less = fewer r q refl refl in omega (arith, less)
+-- the one member, x now, has fewer left
+pub left_falls : (rs qs : List Running) (x : Running) → length rs ≡ 1 → qs ≡ slice_set rs 0 x
+    → HasFewerLeft rs 0 qs → sum_by deeds_left qs < sum_by deeds_left rs
+left_falls [] qs x one to fewer = absurd (omega arith)
+left_falls (r ∷ s ∷ rs) qs x one to fewer = absurd (omega arith)
+left_falls (r ∷ []) qs x one to fewer =
+    let less = fewer r x refl (ap (λ l. slice_get l 0) to) in
+    subst (λ l. sum_by deeds_left l < sum_by deeds_left (r ∷ [])) (sym to) (omega (arith, less))
 
 -- the same members are as many
 pub as_many : (rs qs : List Running) → AreSame rs qs → length qs ≡ length rs

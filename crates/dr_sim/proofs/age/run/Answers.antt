@@ -1,6 +1,8 @@
-use Rattle.std.proofs.Common.{sym, ap, ◌∙◌, subst, map}
+use Rattle.std.proofs.Common.{ap, ◌∙◌, List, map}
+use Rattle.dr_log.specs.State.{LogState}
+use Rattle.dr_logged.specs.Served.{HaveServed}
+use Rattle.dr_age.specs.Sound.{IsSound}
 use Rattle.dr_program.specs.Program.{Program, end_of}
-use Rattle.dr_script.specs.declared.script.Schedule.{Schedule}
 use Rattle.dr_sim.specs.Simulated.{HasRun}
 use Rattle.dr_sim.specs.Watched.{WasTold}
 use Rattle.dr_sim.proofs.age.run.Goals as goal
@@ -14,53 +16,38 @@ tell_end-requires g c = λ ks within. elim c.match-script.branch [
 
 pub returns : goal.returns
 returns g c =
+    let over : Program = c.match-script.simulation in
+    let ran : ((run : HasRun c.args.script.now.schedule c.args.simulation over)
+    × WasTold g.W.Watcher.sees c.args.simulation run.moves c.open.new.self c.match-script.watcher)
+    × IsSound g.group over
+    × ((bases : List (LogState g.row.D.Denot))
+    → HaveServed g.D.Disk.told g.D.Disk.faults bases c.args.logs.now c.args.simulation.members
+    → HaveServed g.D.Disk.told g.D.Disk.faults bases c.match-script.logs over.members) =
     elim c.match-script.branch [
-      | in-Lockstep w ↦
-          let ran = subst (λ (s : Schedule). (run : HasRun s c.args.simulation w.run_lockstep.new.self)
-          × WasTold g.W.Watcher.sees c.args.simulation run.moves c.open.new.self w.run_lockstep.new.watcher)
-          (sym w.in-Lockstep.is) w.run_lockstep.ensures.run in (
-            w.run_lockstep.new.self,
-            ran.0,
-            w.run_lockstep.ensures.sound,
-            (λ z. record {
-              age = c.args.start.now.age;
-              start = c.requires.1.1.1.1.0 z;
-              members = (c.of.ensures ∙ c.ends_of.ensures ∙ ap (map end_of) c.into_members.ensures
-                  ∙ ap (λ (v : Program). map end_of v.members) w.simulation-is) z;
-            }),
-            (λ bases served. rw w.logs-is (w.run_lockstep.ensures.served bases served)),
-            c.match-script.auto.logs,
-            c.open.new.self,
-            w.run_lockstep.new.watcher,
-            c.open.ensures,
-            ran.1,
-            subst (λ (x : g.row.W.Denot). g.W.Watcher.closes x w.run_lockstep.new.self.members
-                w.run_lockstep.new.self.table c.tell_end.new.watcher) w.watcher-is
-                (subst (λ (v : Program). g.W.Watcher.closes c.match-script.watcher v.members v.table
-                c.tell_end.new.watcher) w.simulation-is c.tell_end.ensures),
-          )
-      | in-Seed w ↦
-          let ran = subst (λ (s : Schedule). (run : HasRun s c.args.simulation w.run_seeded.new.self)
-          × WasTold g.W.Watcher.sees c.args.simulation run.moves c.open.new.self w.run_seeded.new.watcher)
-          (sym w.in-Seed.is) w.run_seeded.ensures.run in (
-            w.run_seeded.new.self,
-            ran.0,
-            w.run_seeded.ensures.sound,
-            (λ z. record {
-              age = c.args.start.now.age;
-              start = c.requires.1.1.1.1.0 z;
-              members = (c.of.ensures ∙ c.ends_of.ensures ∙ ap (map end_of) c.into_members.ensures
-                  ∙ ap (λ (v : Program). map end_of v.members) w.simulation-is) z;
-            }),
-            (λ bases served. rw w.logs-is (w.run_seeded.ensures.served bases served)),
-            c.match-script.auto.logs,
-            c.open.new.self,
-            w.run_seeded.new.watcher,
-            c.open.ensures,
-            ran.1,
-            subst (λ (x : g.row.W.Denot). g.W.Watcher.closes x w.run_seeded.new.self.members
-                w.run_seeded.new.self.table c.tell_end.new.watcher) w.watcher-is
-                (subst (λ (v : Program). g.W.Watcher.closes c.match-script.watcher v.members v.table
-                c.tell_end.new.watcher) w.simulation-is c.tell_end.ensures),
-          )
-    ]
+      | in-Lockstep w ↦ rw (w.simulation-is, w.watcher-is, w.logs-is, w.in-Lockstep.is) (
+        w.run_lockstep.ensures.run,
+        w.run_lockstep.ensures.sound,
+        w.run_lockstep.ensures.served,
+      )
+      | in-Seed w ↦ rw (w.simulation-is, w.watcher-is, w.logs-is, w.in-Seed.is) (
+        w.run_seeded.ensures.run,
+        w.run_seeded.ensures.sound,
+        w.run_seeded.ensures.served,
+      )
+    ] in (
+      over,
+      ran.0.0,
+      ran.1,
+      (λ z. record {
+        age = c.args.start.now.age;
+        start = c.requires.1.1.1.1.0 z;
+        members = (c.of.ensures ∙ c.ends_of.ensures ∙ ap (map end_of) c.into_members.ensures) z;
+      }),
+      ran.2,
+      c.match-script.auto.logs,
+      c.open.new.self,
+      c.match-script.watcher,
+      c.open.ensures,
+      ran.0.1,
+      c.tell_end.ensures,
+    )

@@ -1,5 +1,5 @@
 use Rattle.std.proofs.Common.{sym, ◌∙◌}
-use Rattle.dr_sim.proofs.Sweeps.{way_on, way_over}
+use Rattle.dr_sim.proofs.Sweeps.{way_on}
 use Rattle.dr_sim.proofs.Turns.{amid_goes, going_none, way_among, way_begins}
 use Rattle.dr_sim.proofs.deed.take_turn.Goals as goal
 
@@ -24,9 +24,9 @@ take_on-requires-clause-somewhere g c = λ ks within.
 
 pub returns-then-is_between_turns-clause-turn : goal.returns-then-is_between_turns-clause-turn
 returns-then-is_between_turns-clause-turn g c =
-    λ h p m is. way_over c.take_on.new.watcher h p m c.args.member.now c.loop.member c.take_on.new.member
+    λ h p m is. (way_on c.take_on.new.watcher h p m c.args.member.now c.loop.member c.take_on.new.member
     c.args.table.now.items c.loop.table.items c.take_on.new.table.items is (c.loop.invariant.way h p m is)
-    (going_none c.loop.member c.loop.invariant.going) c.take_on.ensures.goes c.take_on.ensures.falls
+    (going_none c.loop.member c.loop.invariant.going) c.take_on.ensures.goes c.take_on.ensures.falls).1
     (sym c.is_between_turns.ensures ∙ c.if-is_between_turns.true)
 
 pub returns-then-is_between_turns-clause-served : goal.returns-then-is_between_turns-clause-served
@@ -40,10 +40,10 @@ pub loop-preserved : goal.loop-preserved
 loop-preserved g c =
     let amid = sym c.is_between_turns.ensures ∙ c.if-is_between_turns.false in record {
       way = λ h p m is.
-          way_on c.take_on.new.watcher h p m c.args.member.now c.loop.member c.take_on.new.member
+          (way_on c.take_on.new.watcher h p m c.args.member.now c.loop.member c.take_on.new.member
           c.args.table.now.items c.loop.table.items c.take_on.new.table.items is
           (c.loop.invariant.way h p m is) (going_none c.loop.member c.loop.invariant.going)
-          c.take_on.ensures.goes c.take_on.ensures.falls amid;
+          c.take_on.ensures.goes c.take_on.ensures.falls).0 amid;
       going = amid_goes c.take_on.new.member amid;
       ready = c.take_on.ensures.ready;
       served = λ base served. c.take_on.ensures.served base (c.loop.invariant.served base served);

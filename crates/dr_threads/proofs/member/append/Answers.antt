@@ -1,4 +1,4 @@
-use Rattle.std.proofs.Common.{refl, sym, ap, ◌∙◌, subst, length, length-set}
+use Rattle.std.proofs.Common.{refl, sym, subst}
 use Rattle.dr_logged.specs.Served.{HasServed}
 use Rattle.dr_logged.proofs.Serving.{appended_ready, appended_served, failed_ready, unfailed}
 use Rattle.dr_program.specs.Running.{after_step, broken_off}
@@ -53,9 +53,8 @@ returns-in-Ok-clause-gone g c =
 
 pub returns-in-Ok-clause-falls : goal.returns-in-Ok-clause-falls
 returns-in-Ok-clause-falls g c =
-    left_falls c.args.hand.now.members c.appended.new.self.members c.requires.one
-    (ap length (c.appended.ensures.members c.member.result.now c.member.ensures.there)
-    ∙ length-set c.args.hand.now.members 0 _ ∙ c.requires.one) c.appended.ensures.falls
+    left_falls c.args.hand.now.members c.appended.new.self.members _ c.requires.one
+    (c.appended.ensures.members c.member.result.now c.member.ensures.there) c.appended.ensures.falls
 
 pub returns-in-Err-clause-gone : goal.returns-in-Err-clause-gone
 returns-in-Err-clause-gone g c =
@@ -76,6 +75,5 @@ returns-in-Err-clause-gone g c =
 
 pub returns-in-Err-clause-falls : goal.returns-in-Err-clause-falls
 returns-in-Err-clause-falls g c =
-    left_falls c.args.hand.now.members c.append_failed.new.self.members c.requires.one
-    (ap length (c.append_failed.ensures.members c.member.result.now c.member.ensures.there)
-    ∙ length-set c.args.hand.now.members 0 _ ∙ c.requires.one) c.append_failed.ensures.falls
+    left_falls c.args.hand.now.members c.append_failed.new.self.members _ c.requires.one
+    (c.append_failed.ensures.members c.member.result.now c.member.ensures.there) c.append_failed.ensures.falls
