@@ -4,10 +4,7 @@ use Rattle.std.specs.Prelude.{None, is_some}
 use Rattle.std.proofs.lemmas.Bool.Decides.{nat_tests}
 use Rattle.dr_rows.specs.Words.{changed}
 use Rattle.dr_words.specs.Columns.{columns_of}
-use Rattle.dr_machine.specs.declared.event.Act.{Act}
-use Rattle.dr_machine.specs.declared.event.Act.TheVariants as acts
 use Rattle.dr_machine.specs.declared.step.Step.{Step}
-use Rattle.dr_machine.specs.declared.step.Step.TheVariants as steps
 use Rattle.dr_program.specs.declared.place.Part.TheVariants as parts
 use Rattle.dr_program.specs.declared.place.Place.{Place}
 use Rattle.dr_program.specs.Replica.{Replica, is_other}
@@ -21,8 +18,8 @@ use Rattle.dr_turn.proofs.Deeds.{deed_done, deeds_keep}
 use Rattle.dr_turn.proofs.Search.{applies_at}
 use Rattle.dr_turn.proofs.Staying.{settled_here, stops_due}
 use Rattle.dr_member.specs.declared.fate.Fate.{Fate}
-use Rattle.dr_member.specs.Fate.{fate_after}
 use Rattle.dr_member.specs.Search.{standing}
+use Rattle.dr_member.proofs.Dues.{may_look}
 use Rattle.dr_member.proofs.Passing.{from_column, from_here, passes, pushes_idle}
 
 -- the fate is that of r after a step, which saw this word
@@ -47,37 +44,20 @@ fate_stays word replica fate place s e waits = record {
   failed = refl;
 }
 
-pub fate_of_act : (word : ℕ) (replica : Replica) (fate : Fate) (place : Place) (a : Act) (turn : ℕ)
-    → IsFateAfter word (standing replica fate place) (steps.Do a) (fate_after fate a turn)
-fate_of_act word replica fate place acts.Beat turn =
-    record { limit = refl; waits = refl; crashes = refl; suspicions = refl; pushes = refl; failed = refl }
-fate_of_act word replica fate place acts.Finish turn =
-    record { limit = refl; waits = refl; crashes = refl; suspicions = refl; pushes = refl; failed = refl }
-fate_of_act word replica fate place a turn = record {
-  limit = refl;
-  waits = refl;
-  crashes = refl;
-  suspicions = refl;
-  pushes = refl;
-  failed = refl;
-}
-
--- what the code has done at a member r that was due to take step s, which saw this word
-pub record IsTaken (word : ℕ) (r : Running) (s : Step) (q : Replica) (fate : Fate)
-    (from : Place) : Type 0 where
+-- what the code has done at a member r to which a step was due, which saw this word
+pub record IsTaken (word : ℕ) (r : Running) (q : Replica) (fate : Fate) (from : Place) : Type 0 where
   pub running : IsRunningMember r
   pub fits : r.limit < 2 ^ 32
   pub none : r.replica.end ≡ None
-  pub due : next_step r ≡ s
-  pub replica : q ≡ stepped word r.replica s
+  pub replica : q ≡ stepped word r.replica (next_step r)
   pub form : HasForm q
   pub grown : q.view ≡ r.replica.view → NoWordFell r.replica q
   pub place : from ≡ goes (members r) (columns r) (part_of r.place) r.place
-  pub told : IsFateAfter word r s fate
+  pub told : IsFateAfter word r (next_step r) fate
 
-pub is_took : (word : ℕ) (r : Running) (s : Step) (q : Replica) (fate : Fate) (from : Place)
-    → IsTaken word r s q fate from → standing q fate from ≡ took word r (next_step r)
-is_took word r s q fate from t = (λ z. record {
+pub is_took : (word : ℕ) (r : Running) (q : Replica) (fate : Fate) (from : Place)
+    → IsTaken word r q fate from → standing q fate from ≡ took word r (next_step r)
+is_took word r q fate from t = λ z. record {
   replica = t.replica z;
   place = t.place z;
   limit = t.told.limit z;
@@ -86,15 +66,14 @@ is_took word r s q fate from t = (λ z. record {
   suspicions = t.told.suspicions z;
   pushes = t.told.pushes z;
   failed = t.told.failed z;
-}) ∙ ap (took word r) (sym t.due)
+}
 
-pub is_done : (word : ℕ) (r : Running) (s : Step) (q : Replica) (fate : Fate) (from : Place)
-    → IsTaken word r s q fate from → IsDone r (standing q fate from)
-is_done word r s q fate from t =
-    let same = is_took word r s q fate from t in
-    let replica = t.replica ∙ ap (stepped word r.replica) (sym t.due) in
-    subst (IsDone r) (sym same) (deed_done word r t.running t.fits t.none (subst HasForm replica t.form)
-    (subst (λ (x : Replica). x.view ≡ r.replica.view → NoWordFell r.replica x) replica t.grown))
+pub is_done : (word : ℕ) (r : Running) (q : Replica) (fate : Fate) (from : Place)
+    → IsTaken word r q fate from → IsDone r (standing q fate from)
+is_done word r q fate from t =
+    subst (IsDone r) (sym (is_took word r q fate from t))
+    (deed_done word r t.running t.fits t.none (subst HasForm t.replica t.form)
+    (subst (λ (x : Replica). x.view ≡ r.replica.view → NoWordFell r.replica x) t.replica t.grown))
 
 -- what a running member is after a deed, once it has settled
 pub record IsAnswer (word : ℕ) (r x : Running) : Type 0 where
@@ -102,20 +81,18 @@ pub record IsAnswer (word : ℕ) (r x : Running) : Type 0 where
   pub form : IsRunningMember x
   pub done : IsDone r x
 
-pub is_answer : (word : ℕ) (r : Running) (s : Step) (q : Replica) (fate : Fate) (from place : Place)
-    → IsTaken word r s q fate from
+pub is_answer : (word : ℕ) (r : Running) (q : Replica) (fate : Fate) (from place : Place)
+    → IsTaken word r q fate from
     → standing q fate place ≡ settled (standing q fate from) → IsAnswer word r (standing q fate place)
-is_answer word r s q fate from place t searched =
+is_answer word r q fate from place t searched =
     let same : standing q fate place ≡ after_step word r = searched
-    ∙ ap settled (is_took word r s q fate from t) in
-    let replica = t.replica ∙ ap (stepped word r.replica) (sym t.due) in
-    let kept = deeds_keep word r t.running t.fits t.none (subst HasForm replica t.form)
-    (subst (λ (x : Replica). x.view ≡ r.replica.view → NoWordFell r.replica x) replica t.grown) in
+    ∙ ap settled (is_took word r q fate from t) in
+    let kept = deeds_keep word r t.running t.fits t.none (subst HasForm t.replica t.form)
+    (subst (λ (x : Replica). x.view ≡ r.replica.view → NoWordFell r.replica x) t.replica t.grown) in
     record {
       after = same;
       form = subst IsRunningMember (sym same) kept.0;
-      done =
-          subst (IsDone r) (sym same) kept.1;
+      done = subst (IsDone r) (sym same) kept.1;
     }
 
 -- the same of what contracts see of the member before
@@ -126,7 +103,7 @@ answer_at word r now x view a = subst (λ (y : Running). IsAnswer word y x) view
 
 -- there is something to do at a look that is allowed
 pub look_applies : (r : Running) (p : Place) → part_of p ≡ parts.Look
-    → allows r.replica (steps.Look p.row p.column) ≡ true → applies r p ≡ true
+    → may_look r.replica p.row p.column ≡ true → applies r p ≡ true
 look_applies r p at may = ap (λ x. applies_at r x p.row p.column) at ∙ may
 
 -- and at the push of a changed word to it, be it a push or a crash

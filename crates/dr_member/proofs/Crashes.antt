@@ -3,15 +3,11 @@ use Rattle.std.proofs.Common.{◌≡◌, refl, sym, ap, ◌∙◌, ℕ, ◌≤�
 use Rattle.std.specs.Prelude.{Option, Some, None, is_some}
 use Rattle.std.specs.List.{list_any}
 use Rattle.std.proofs.lemmas.Bool.Decides.{nat_tests}
-use Rattle.dr_machine.specs.declared.event.Act.{Act}
-use Rattle.dr_machine.specs.declared.event.Act.TheVariants as acts
 use Rattle.dr_program.specs.declared.setup.CrashPoint.{CrashPoint}
-use Rattle.dr_program.specs.Acts.{taken}
-use Rattle.dr_program.specs.Replica.{Replica}
 use Rattle.dr_program.specs.Running.{is_at_push, is_in_turn}
 use Rattle.dr_machine.specs.Effects.{one_more}
 use Rattle.dr_member.specs.declared.fate.Fate.{Fate}
-use Rattle.dr_member.specs.Fate.{IsTimely, fate_after, is_push_now, lesser, with_point}
+use Rattle.dr_member.specs.Fate.{IsTimely, is_push_now, lesser, with_point}
 
 or_no : (a : Bool) → a ≡ (a || false)
 or_no true = refl
@@ -97,16 +93,7 @@ some_at_push fate turn t =
     ap (is_push_now fate.pushes) t.crash
     ∙ at_push turn fate.pushes fate.crashes None (λ push e. t.ahead push (t.crash ∙ e))
 
--- ---- what is kept stays timely
-
--- over an act
-pub timely_act : (fate : Fate) (r : Replica) (a : Act) → IsTimely fate r.turns
-    → IsTimely (fate_after fate a (taken r a).turns) (taken r a).turns
-timely_act fate r acts.Beat t = record { crash = refl; ahead = λ push e. omega arith }
-timely_act fate r acts.Finish t = record { crash = t.crash; ahead = t.ahead }
-timely_act fate r a t = record { crash = t.crash; ahead = t.ahead }
-
--- and over a push before which the member doesn't crash
+-- what is kept stays timely over a push before which the member doesn't crash
 pub timely_push : (fate : Fate) (turn : ℕ) → IsTimely fate turn → is_push_now fate.pushes fate.crash
     ≡ false
     → IsTimely (record fate { pushes = one_more 32 fate.pushes }) turn

@@ -1,7 +1,8 @@
 -- What is due to a running member, by the kind of its next deed.
-use Rattle.std.proofs.Common.{◌≡◌, ◌≢◌, ◌⊎◌, inl, inr, refl, sym, ap, ◌∙◌, ℕ, ◌<◌, ◌&&◌, Bool, true, false, nat_lt}
+use Rattle.std.proofs.Common.{◌≡◌, ◌≢◌, ◌⊎◌, inl, inr, refl, subst, sym, ap, ◌∙◌, ℕ, ◌+◌, ◌<◌, ◌≤◌, ◌==◌, ◌&&◌, if◌then◌else◌, Bool, true, false, nat_lt, arith}
 use Rattle.std.specs.Prelude.{Option, Some, None, slice_get}
 use Rattle.std.proofs.lemmas.Bool.{and_parts, ltb-true}
+use Rattle.std.proofs.lemmas.Bool.Decides.{nat_tests}
 use Rattle.std.proofs.lemmas.Option.{get_or_from_slice_get}
 use Rattle.dr_entry.specs.declared.end.End.{End}
 use Rattle.dr_entry.specs.declared.entry.Entry.{Entry}
@@ -10,7 +11,6 @@ use Rattle.dr_entry.specs.declared.record.Record.TheVariants as records
 use Rattle.dr_entry.specs.declared.record.Value.{Value}
 use Rattle.dr_entry.specs.declared.record.Vote.{Vote}
 use Rattle.dr_machine.specs.declared.event.Act.{Act}
-use Rattle.dr_machine.specs.declared.event.Act.TheVariants as acts
 use Rattle.dr_machine.specs.declared.step.Step.{Step}
 use Rattle.dr_machine.specs.declared.step.Step.TheVariants as steps
 use Rattle.dr_program.specs.declared.deed.Deed.{Deed}
@@ -20,14 +20,17 @@ use Rattle.dr_program.specs.declared.place.Part.{Part}
 use Rattle.dr_program.specs.declared.place.Part.TheVariants as parts
 use Rattle.dr_program.specs.declared.place.Place.{Place}
 use Rattle.dr_program.specs.Acts.{may}
-use Rattle.dr_program.specs.Replica.{is_other, is_wedged, may_vote, value_due, vote_of}
-use Rattle.dr_program.specs.Steps.{IsAppend, allows, has_cell}
+use Rattle.dr_rows.specs.Words as rows
+use Rattle.dr_suspect.specs.Waits.{compared}
+use Rattle.dr_machine.specs.Effects.{one_more}
+use Rattle.dr_program.specs.Replica.{Replica, appended, is_other, is_wedged, looked, may_vote, pushed, value_due, vote_of, voted}
+use Rattle.dr_program.specs.Steps.{IsAppend, allows, has_cell, stepped}
 use Rattle.dr_program.specs.Turn.{part_of}
-use Rattle.dr_program.specs.Running.{Running, append_or_end, asks, columns, crashes_now, deed, deed_of, end_by, members, next_deed, next_step, push_or_crash, step_at, vote_or_end}
+use Rattle.dr_program.specs.Running.{Running, append_or_end, asks, columns, crashes_now, deed, deed_of, members, next_deed, next_step, push_or_crash, pushes_after, step_at, vote_or_end, waits_after}
 use Rattle.dr_program.specs.Reading.{step_due, step_of_member}
 use Rattle.dr_program.specs.Sight.{IsSeenNext, MaySee}
 use Rattle.dr_program.specs.Form.{IsRunningMember}
-use Rattle.dr_program.proofs.Waiting.{vote_free}
+use Rattle.dr_program.proofs.Waiting.{append_free}
 use Rattle.dr_program.proofs.StepsAt.{append_either, push_either, vote_either}
 use Rattle.dr_member.specs.declared.search.Due.{Due}
 use Rattle.dr_member.specs.declared.search.Due.TheVariants as dues
@@ -63,10 +66,11 @@ push_part r parts.Vote i c e =
     absurd (vote_either (λ s. is_push (deed_of r s) ≡ true → ⊥) r.failed _ (λ e. cc) (λ why e. cc) e)
 push_part r part i c e = absurd (cc)
 
--- an append's deed alone is one
-append_kind : (r : Running) (s : Step) → is_append (deed_of r s) ≡ true → IsAppend s
-append_kind r steps.Append e = tt
-append_kind r (steps.LogVote v) e = tt
+-- an append's deed alone is one, and its step neither counts as a push nor is waited for
+append_kind : (r : Running) (s : Step) → is_append (deed_of r s) ≡ true
+    → (r.pushes ≡ pushes_after r.pushes s) × ((word : ℕ) → r.waits ≡ waits_after word r s)
+append_kind r steps.Append e = (refl, λ word. refl)
+append_kind r (steps.LogVote v) e = (refl, λ word. refl)
 append_kind r s e = absurd (cc)
 
 -- what is appended is an entry, or at its part a vote
@@ -120,14 +124,47 @@ allowed r m none s is =
     ∙ (and_parts (asks r (part_of r.place) r.place.row r.place.column) (allows r.replica (next_step r))
     (m.due none)).1
 
+-- a replica may look at this cell
+abbrev pub may_look : Replica → ℕ → ℕ → Bool
+may_look r i c = allows r (steps.Look i c)
+
+-- within a row it goes on waiting as before, and with the last column it has waited a turn more
+waits_stay : (word : ℕ) (r : Running) (i c : ℕ) → c + 1 < columns r
+    → r.waits ≡ waits_after word r (steps.Look i c)
+waits_stay word r i c within = by (c + 1 == columns r) (grind (arith, nat_tests, within))
+  where
+    by : (b : Bool) → b ≡ false
+        → r.waits ≡ (if b then compared r.waits (rows.looked r.replica.rows i c word) i
+        else r.waits)
+    by true e = absurd (cc)
+    by false e = refl
+
+waits_turn : (word : ℕ) (r : Running) (i c : ℕ) → c < columns r → columns r ≤ c + 1
+    → compared r.waits (rows.looked r.replica.rows i c word) i
+    ≡ waits_after word r (steps.Look i c)
+waits_turn word r i c within past = by (c + 1 == columns r) (grind (arith, nat_tests, within, past))
+  where
+    by : (b : Bool) → b ≡ true
+        → compared r.waits (rows.looked r.replica.rows i c word) i
+        ≡ (if b then compared r.waits (rows.looked r.replica.rows i c word) i
+        else r.waits)
+    by true e = refl
+    by false e = absurd (cc)
+
 -- the next deed is a look at this word
 pub record IsLookDue (r : Running) (word : ℕ) : Type 0 where
   pub none : r.replica.end ≡ None
   pub at : part_of r.place ≡ parts.Look
-  pub step : next_step r ≡ steps.Look r.place.row r.place.column
-  pub may : allows r.replica (steps.Look r.place.row r.place.column) ≡ true
+  pub may : may_look r.replica r.place.row r.place.column ≡ true
   pub cell : IsCellOf r r.place.row r.place.column
   pub seen : IsSeenNext r r.place.row r.place.column word
+  -- what it makes of the replica, of the pushes and, within the row and with its last column, of the waits
+  pub step : stepped word r.replica (next_step r) ≡ looked r.replica r.place.row r.place.column word
+  pub pushes : r.pushes ≡ pushes_after r.pushes (next_step r)
+  pub within : r.place.column + 1 < columns r → r.waits ≡ waits_after word r (next_step r)
+  pub past : columns r ≤ r.place.column + 1
+      → compared r.waits (rows.looked r.replica.rows r.place.row r.place.column word) r.place.row
+      ≡ waits_after word r (next_step r)
 
 look_part : (r : Running) (part : Part) (i c word : ℕ) → MaySee r (Some (step_at r part i c)) word
     → (part ≡ parts.Look) × IsSeenNext r i c word
@@ -152,28 +189,67 @@ look_due r word m may = by r.replica.end refl may
         let step : next_step r ≡ steps.Look r.place.row r.place.column =
         ap (λ x. step_at r x r.place.row r.place.column) at.0 in
         let may = allowed r m none (steps.Look r.place.row r.place.column) step in
+        let cell = is_cell r r.place.row r.place.column
+        (and_parts _ (has_cell r.replica r.place.row r.place.column) may).1 in
         record {
           none = none;
           at = at.0;
-          step = step;
           may = may;
-          cell =
-              is_cell r r.place.row r.place.column
-              (and_parts _ (has_cell r.replica r.place.row r.place.column) may).1;
+          cell = cell;
           seen = at.1;
+          step = ap (stepped word r.replica) step;
+          pushes = ap (pushes_after r.pushes) (sym step);
+          within = λ inner. waits_stay word r r.place.row r.place.column inner
+              ∙ ap (waits_after word r) (sym step);
+          past = λ outer. waits_turn word r r.place.row r.place.column cell.column outer
+              ∙ ap (waits_after word r) (sym step);
         }
 
     by : (o : Option End) → r.replica.end ≡ o → MaySee r (step_due r o) word → IsLookDue r word
     by None none may = due none may
     by (Some end) none may = absurd may
 
+-- the member is at a look, whatever it sees
+pub record IsAtLook (r : Running) : Type 0 where
+  pub none : r.replica.end ≡ None
+  pub at : part_of r.place ≡ parts.Look
+  pub cell : IsCellOf r r.place.row r.place.column
+
+-- a running member whose next deed is a look is at one
+pub at_look : (r : Running) → IsRunningMember r → is_look (next_deed r) ≡ true → IsAtLook r
+at_look r m e =
+    let due = deed_due is_look (λ end. refl) r e in
+    let at = sees_part r (part_of r.place) r.place.row r.place.column due.1 in
+    let may = allowed r m due.0 (steps.Look r.place.row r.place.column)
+    (ap (λ x. step_at r x r.place.row r.place.column) at) in
+    record {
+      none = due.0;
+      at = at;
+      cell = is_cell r r.place.row r.place.column
+          (and_parts _ (has_cell r.replica r.place.row r.place.column) may).1;
+    }
+  where
+    sees_part : (r : Running) (part : Part) (i c : ℕ) → is_look (deed_of r (step_at r part i c)) ≡ true
+        → part ≡ parts.Look
+    sees_part r parts.Look i c e = refl
+    sees_part r parts.Push i c e = absurd
+        (push_either (λ s. is_look (deed_of r s) ≡ true → ⊥) (crashes_now r) i c (λ e. cc) (λ e. cc) e)
+    sees_part r parts.Append i c e = absurd
+        (append_either (λ s. is_look (deed_of r s) ≡ true → ⊥) r.failed (λ e. cc) (λ why e. cc) e)
+    sees_part r parts.Vote i c e = absurd
+        (vote_either (λ s. is_look (deed_of r s) ≡ true → ⊥) r.failed _ (λ e. cc) (λ why e. cc) e)
+    sees_part r part i c e = absurd (cc)
+
 -- the next deed is a push
 pub record IsPushDue (r : Running) : Type 0 where
   pub none : r.replica.end ≡ None
   pub at : part_of r.place ≡ parts.Push
-  pub step : next_step r ≡ steps.Push r.place.row r.place.column
   pub cell : IsCellOf r r.place.row r.place.column
   pub later : crashes_now r ≡ false
+  -- what it makes of the replica, of the pushes and of the waits
+  pub step : (word : ℕ) → stepped word r.replica (next_step r) ≡ pushed r.replica r.place.row r.place.column
+  pub pushes : one_more 32 r.pushes ≡ pushes_after r.pushes (next_step r)
+  pub waits : (word : ℕ) → r.waits ≡ waits_after word r (next_step r)
 
 -- a running member at a push has it due, and crashes not there
 pub push_due : (r : Running) → IsRunningMember r → is_push (next_deed r) ≡ true → IsPushDue r
@@ -186,43 +262,44 @@ push_due r m e =
     record {
       none = due.0;
       at = at.0;
-      step = step;
       cell =
           is_cell r r.place.row r.place.column
           (allowed r m due.0 (steps.Push r.place.row r.place.column) step);
       later = at.1;
+      step = λ word. ap (stepped word r.replica) step;
+      pushes = ap (pushes_after r.pushes) (sym step);
+      waits = λ word. ap (waits_after word r) (sym step);
     }
 
 -- the next deed is an append
 pub record IsAppendDue (r : Running) : Type 0 where
   pub none : r.replica.end ≡ None
-  pub kind : IsAppend (next_step r)
-  pub may : allows r.replica (next_step r) ≡ true
+  -- what it makes of the pushes and of the waits
+  pub pushes : r.pushes ≡ pushes_after r.pushes (next_step r)
+  pub waits : (word : ℕ) → r.waits ≡ waits_after word r (next_step r)
 
--- a running member at an append has it due, and may append
-pub append_due : (r : Running) → IsRunningMember r → is_append (next_deed r) ≡ true → IsAppendDue r
-append_due r m e =
+-- a member at an append has it due
+pub append_due : (r : Running) → is_append (next_deed r) ≡ true → IsAppendDue r
+append_due r e =
     let due = deed_due is_append (λ end. refl) r e in
-    record {
-      none = due.0;
-      kind = append_kind r (next_step r) due.1;
-      may = allowed r m due.0 (next_step r) refl;
-    }
+    let kind = append_kind r (next_step r) due.1 in
+    record { none = due.0; pushes = kind.0; waits = kind.1 }
 
 -- at the part of the vote it is a vote of a wedged member, and none waits
 pub record IsVoteDue (r : Running) : Type 0 where
-  pub step : next_step r ≡ steps.LogVote (value_due r.replica)
   pub may : may_vote r.replica (value_due r.replica) ≡ true
   pub wedged : is_wedged r.replica ≡ true
   pub free : r.replica.pending ≡ None
+  -- what it makes of the replica
+  pub step : (word : ℕ) → stepped word r.replica (next_step r) ≡ voted r.replica (value_due r.replica)
 
 pub vote_due : (r : Running) → IsRunningMember r → is_append (next_deed r) ≡ true
     → part_of r.place ≡ parts.Vote → IsVoteDue r
 vote_due r m e at = record {
-  step = step;
   may = may;
   wedged = (and_parts (is_wedged r.replica) _ may).0;
-  free = vote_free r m.free (value_due r.replica) step;
+  free = append_free r m.free (subst IsAppend (sym step) tt);
+  step = λ word. ap (stepped word r.replica) step;
 }
   where
     due : (r.replica.end ≡ None) × (is_append (deed_of r (next_step r)) ≡ true)
@@ -237,23 +314,18 @@ vote_due r m e at = record {
     may : may_vote r.replica (value_due r.replica) ≡ true
     may = allowed r m due.0 (steps.LogVote (value_due r.replica)) step
 
--- and elsewhere an entry
-pub entry_due : (r : Running) → is_append (next_deed r) ≡ true → part_of r.place ≢ parts.Vote
-    → next_step r ≡ steps.Append
+-- and elsewhere an entry, at its part
+pub record IsEntryDue (r : Running) : Type 0 where
+  pub at : part_of r.place ≡ parts.Append
+  -- what it makes of the replica
+  pub step : (word : ℕ) → stepped word r.replica (next_step r) ≡ appended r.replica
+
+pub entry_due : (r : Running) → is_append (next_deed r) ≡ true → part_of r.place ≢ parts.Vote → IsEntryDue r
 entry_due r e other =
     elim (append_part r (part_of r.place) r.place.row r.place.column
     (deed_due is_append (λ end. refl) r e).1) [
-      | inl t ↦ t.1
+      | inl t ↦ record { at = t.0; step = λ word. ap (stepped word r.replica) t.1 }
       | inr t ↦ absurd (other t.0)
-    ]
-
--- an entry is appended at its part
-pub entry_part : (r : Running) → is_append (next_deed r) ≡ true → next_step r ≡ steps.Append
-    → part_of r.place ≡ parts.Append
-entry_part r e step = elim (append_part r (part_of r.place) r.place.row r.place.column
-    (deed_due is_append (λ end. refl) r e).1) [
-      | inl t ↦ t.0
-      | inr t ↦ absurd (cc (t.1, step))
     ]
 
 -- the next deed is to append this entry, or this vote
@@ -273,18 +345,11 @@ vote_deed r vote none step is =
 
 -- ---- what is due at a place
 
--- an append, or a vote, unless an append has failed
-pub append_by : (o : Option LogWhy) (d : Due) (p : Place) (v : Value) → (o ≡ None → d ≡ dues.Append)
-    → ((why : LogWhy) → o ≡ Some why → d ≡ dues.Act (acts.Crash (end_by why)))
-    → step_by d p v ≡ append_or_end o
-append_by None d p v none some = ap (λ x. step_by x p v) (none refl)
-append_by (Some why) d p v none some = ap (λ x. step_by x p v) (some why refl)
-
-pub vote_by : (o : Option LogWhy) (d : Due) (p : Place) (v : Value) → (o ≡ None → d ≡ dues.Vote)
-    → ((why : LogWhy) → o ≡ Some why → d ≡ dues.Act (acts.Crash (end_by why)))
-    → step_by d p v ≡ vote_or_end o v
-vote_by None d p v none some = ap (λ x. step_by x p v) (none refl)
-vote_by (Some why) d p v none some = ap (λ x. step_by x p v) (some why refl)
+-- a step that an append has failed for or hasn't, by what it is in either case
+pub unless_failed : (f : Option LogWhy → Step) (o : Option LogWhy) (s : Step) → (o ≡ None → s ≡ f None)
+    → ((why : LogWhy) → o ≡ Some why → s ≡ f (Some why)) → s ≡ f o
+unless_failed f None s none some = none refl
+unless_failed f (Some why) s none some = some why refl
 
 -- the step of an act that is due, and the act of such a step
 pub step_is : (s : Step) (d : Due) (p : Place) (v : Value) (a : Act) → step_by d p v ≡ s → d ≡ dues.Act a

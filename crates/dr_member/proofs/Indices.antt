@@ -1,20 +1,14 @@
 -- The numbers by which a member finds words of the table: the indices that they give, and that deeds within a
 -- view keep them.
-use Rattle.std.proofs.Common.{◌≡◌, ◌≢◌, refl, false, sym, ap, subst, ◌∙◌, ℕ, ◌+◌, ◌*◌, ◌^◌, ◌<◌, ◌≤◌, arith}
+use Rattle.std.proofs.Common.{◌≡◌, sym, ap, subst, ◌∙◌, ℕ, ◌+◌, ◌*◌, ◌^◌, ◌<◌, ◌≤◌, arith}
 use Rattle.std.proofs.lemmas.Nat.{mul-le}
 use Rattle.dr_words.specs.Columns.{columns_of}
 use Rattle.dr_words.specs.Layout.{word_index_of}
 use Rattle.dr_words.proofs.Places.{word_index_within}
-use Rattle.dr_machine.specs.declared.event.Act.{Act}
-use Rattle.dr_machine.specs.declared.event.Act.TheVariants as acts
-use Rattle.dr_machine.specs.declared.step.Step.{Step}
-use Rattle.dr_machine.specs.declared.step.Step.TheVariants.{Do}
-use Rattle.dr_program.specs.Acts.{taken}
 use Rattle.dr_program.specs.Replica.{Replica, me}
 use Rattle.dr_program.specs.Running.{Running, members, columns}
-use Rattle.dr_program.specs.Steps.{index_in, stepped}
+use Rattle.dr_program.specs.Steps.{index_in}
 use Rattle.dr_program.specs.Form.{HasForm}
-use Rattle.dr_turn.proofs.Tasks.{ends_view}
 use Rattle.dr_member.specs.declared.bases.Bases.{Bases}
 use Rattle.dr_member.specs.declared.member.Member.TheInside.{Inside}
 use Rattle.dr_member.specs.Bases.{bases_of, AreBases}
@@ -24,7 +18,7 @@ use Rattle.dr_member.specs.Inside.{IsInside, view_of}
 -- ---- the indices
 
 -- bases of a roster and a window hold their count of columns
-pub columns_kept : (b : Bases) (n w v m : ℕ) → b ≡ bases_of n w v m → b.columns ≡ columns_of n w
+columns_kept : (b : Bases) (n w v m : ℕ) → b ≡ bases_of n w v m → b.columns ≡ columns_of n w
 unfolding bases_of
 columns_kept b n w v m e = ap (λ (x : Bases). x.columns) e
 
@@ -66,35 +60,37 @@ is_index r sum copy row column form small p q s e = record {
       (omega (arith, form.rows.few, form.members)) form.most_slots small p q s);
 }
 
+-- a sum that is one where the member stands inside is one of the member that contracts see
+index_at : (now : Running) (a : Inside) (sum : ℕ) (copy row : Running → ℕ) (column : ℕ) → view_of a ≡ now
+    → IsInside a → copy (view_of a) < a.replica.roster → row (view_of a) < a.replica.roster
+    → column < columns now → sum ≡ index_in a.replica (copy (view_of a)) (row (view_of a)) column
+    → IsIndex now sum (copy now) (row now) column
+index_at now a sum copy row column view is p q l e =
+    subst (λ (r : Running). IsIndex r sum (copy r) (row r) column) view
+    (is_index (view_of a) sum (copy (view_of a)) (row (view_of a)) column is.form.replica is.bases.small p q
+    (subst (λ (r : Running). column < columns r) (sym view) l) e)
+
+-- its own row is one of its roster
+pub me_within : (a : Inside) → IsInside a → me a.replica < a.replica.roster
+me_within a is = omega (arith, is.form.replica.rows.present, is.form.replica.members)
+
 -- a look reads the table at the member's own copy of that row's word
-pub look_at : (now : Running) (a : Inside) (x i c : ℕ) → view_of a ≡ now → IsInside a → x ≡ i
-    → i < members now → c < columns now
-    → IsIndex now (a.bases.own_copy + x * a.bases.columns + c) (me now.replica) i c
-look_at now a x i c view is e p q =
-    subst (λ (y : Running). i < members y → c < columns y
-    → IsIndex y (a.bases.own_copy + x * a.bases.columns + c) (me y.replica) i c) view
-    (λ l h. is_index (view_of a) (a.bases.own_copy + x * a.bases.columns + c)
-    (me a.replica) i c is.form.replica is.bases.small
-    (omega (arith, is.form.replica.rows.present, is.form.replica.members)) l h
-    (ap (λ (b : Bases). b.own_copy + x * b.columns + c) is.bases.are
-    ∙ look_sum a.replica.roster a.replica.window a.replica.view (me a.replica) x c
-    ∙ ap (λ (y : ℕ). word_index_of a.replica.roster a.replica.window a.replica.view
-    (me a.replica) y c) e)) p q
+pub look_at : (now : Running) (a : Inside) (i c : ℕ) → view_of a ≡ now → IsInside a → i < members now
+    → c < columns now → IsIndex now (a.bases.own_copy + i * a.bases.columns + c) (me now.replica) i c
+look_at now a i c view is row column =
+    index_at now a (a.bases.own_copy + i * a.bases.columns + c) (λ r. me r.replica) (λ r. i) c view is
+    (me_within a is) (subst (λ (r : Running). i < members r) (sym view) row) column
+    (ap (λ (b : Bases). b.own_copy + i * b.columns + c) is.bases.are
+    ∙ look_sum a.replica.roster a.replica.window a.replica.view (me a.replica) i c)
 
 -- a push writes the table at the row's copy of the member's own word
-pub push_at : (now : Running) (a : Inside) (x j c : ℕ) → view_of a ≡ now → IsInside a → x ≡ j
-    → j < members now → c < columns now
-    → IsIndex now (a.bases.own_row + x * a.bases.copy_words + c) j (me now.replica) c
-push_at now a x j c view is e p q =
-    subst (λ (y : Running). j < members y → c < columns y
-    → IsIndex y (a.bases.own_row + x * a.bases.copy_words + c) j (me y.replica) c) view
-    (λ l h. is_index (view_of a) (a.bases.own_row + x * a.bases.copy_words + c) j
-    (me a.replica) c is.form.replica is.bases.small
-    l (omega (arith, is.form.replica.rows.present, is.form.replica.members)) h
-    (ap (λ (b : Bases). b.own_row + x * b.copy_words + c) is.bases.are
-    ∙ push_sum a.replica.roster a.replica.window a.replica.view (me a.replica) x c
-    ∙ ap (λ (y : ℕ). word_index_of a.replica.roster a.replica.window a.replica.view y
-    (me a.replica) c) e)) p q
+pub push_at : (now : Running) (a : Inside) (j c : ℕ) → view_of a ≡ now → IsInside a → j < members now
+    → c < columns now → IsIndex now (a.bases.own_row + j * a.bases.copy_words + c) j (me now.replica) c
+push_at now a j c view is row column =
+    index_at now a (a.bases.own_row + j * a.bases.copy_words + c) (λ r. j) (λ r. me r.replica) c view is
+    (subst (λ (r : Running). j < members r) (sym view) row) (me_within a is) column
+    (ap (λ (b : Bases). b.own_row + j * b.copy_words + c) is.bases.are
+    ∙ push_sum a.replica.roster a.replica.window a.replica.view (me a.replica) j c)
 
 -- ---- the beginning
 
@@ -135,22 +131,22 @@ made r n w v m k f l o p en ew ev em small a b d e h = record {
 
 -- ---- the deeds
 
-kept : (b : Bases) (word : ℕ) (r : Replica) (s : Step) → ends_view s ≡ false → AreBases b r
-    → AreBases b (stepped word r s)
-kept b word r (Do acts.Finish) stays f = absurd (cc stays)
-kept b word r (Do a) stays f = record { are = f.are; small = f.small }
-kept b word r s stays f = record { are = f.are; small = f.small }
+-- what of a replica its bases rest on: its roster, its window, its view, and its own number
+abbrev pub footing : Replica → ℕ × ℕ × ℕ × ℕ
+footing r = (r.roster, r.window, r.view, me r)
 
--- no step within a view changes a replica's bases
-pub deeds_keep_bases : (b : Bases) (word : ℕ) (r q : Replica) (s : Step) → ends_view s ≡ false
-    → q ≡ stepped word r s → AreBases b r → AreBases b q
-deeds_keep_bases b word r q s stays e f = subst (AreBases b) (sym e) (kept b word r s stays f)
+-- where that stays, they stay
+pub bases_stay : (b : Bases) (r q x : Replica) → q ≡ x → footing x ≡ footing r → AreBases b r → AreBases b q
+bases_stay b r q x e stays f =
+    let same : footing r ≡ footing q = sym (ap footing e ∙ stays) in
+    record {
+      are = f.are ∙ (λ z. bases_of (same z).0 (same z).1 (same z).2 (same z).3);
+      small = subst (λ (v : ℕ). v < 2 ^ 8) (λ z. (same z).2) f.small;
+    }
 
--- so no act but the end of a view
-stays_in_view : (a : Act) → a ≢ acts.Finish → ends_view (Do a) ≡ false
-stays_in_view acts.Finish other = absurd (other refl)
-stays_in_view a other = refl
-
-pub acts_keep_bases : (b : Bases) (a : Act) (r q : Replica) → a ≢ acts.Finish → AreBases b r
-    → q ≡ taken r a → AreBases b q
-acts_keep_bases b a r q other f e = deeds_keep_bases b 0 r q (Do a) (stays_in_view a other) e f
+-- the kept number of columns is that of such a replica
+pub columns_after : (a : Inside) (q x : Replica) → IsInside a → q ≡ x → footing x ≡ footing a.replica
+    → a.bases.columns ≡ columns_of q.roster q.window
+columns_after a q x is e stays =
+    columns_kept a.bases q.roster q.window q.view (me q)
+    (bases_stay a.bases a.replica q x e stays is.bases).are

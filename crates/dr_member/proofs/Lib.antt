@@ -7,3 +7,4 @@ mod Answers
 mod Indices
 mod Moves
 mod Sweeps
+mod Fates

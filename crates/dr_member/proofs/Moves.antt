@@ -1,44 +1,40 @@
 -- What a running member is after each kind of deed, in the terms of the code's fields.
-use Rattle.std.proofs.Common.{◌≡◌, ◌≢◌, refl, sym, ap, ◌∙◌, subst, ℕ, ◌+◌, ◌^◌, ◌<◌, ◌≤◌, ◌==◌, ◌&&◌, if◌then◌else◌, Bool, true, false, nat_lt, arith}
+use Rattle.std.proofs.Common.{◌≡◌, ◌≢◌, refl, sym, ap, ◌∙◌, subst, ℕ, ◌+◌, ◌^◌, ◌<◌, ◌≤◌, ◌&&◌, Bool, true, false, nat_lt, arith}
 use Rattle.std.proofs.lemmas.Bool.Decides.{nat_tests}
-use Rattle.dr_entry.specs.declared.record.Value.{Value}
 use Rattle.dr_rows.specs.Words.{changed, own}
-use Rattle.dr_rows.specs.Words as rows
 use Rattle.dr_suspect.specs.Waits.{Waits, compared}
 use Rattle.std.proofs.lemmas.Bool.{and_parts}
 use Rattle.dr_words.specs.Columns.{columns_of}
 use Rattle.dr_words.specs.declared.column.TheConstants.{LOGGED_COLUMN}
 use Rattle.dr_machine.specs.Effects.{one_more}
 use Rattle.dr_machine.specs.declared.event.Act.{Act}
-use Rattle.dr_machine.specs.declared.event.Act.TheVariants as acts
-use Rattle.dr_machine.specs.declared.step.Step.{Step}
-use Rattle.dr_machine.specs.declared.step.Step.TheVariants as steps
+use Rattle.dr_machine.specs.declared.step.Step.TheVariants.{Do}
 use Rattle.dr_program.specs.declared.place.Part.{Part}
 use Rattle.dr_program.specs.declared.place.Part.TheVariants as parts
 use Rattle.dr_program.specs.declared.place.Place.{Place}
 use Rattle.std.specs.Prelude.{None}
 use Rattle.dr_program.specs.Acts.{may, taken}
-use Rattle.dr_program.specs.Replica.{Replica, appended, is_other, looked, me, pushed, value_due}
-use Rattle.dr_program.specs.Steps.{IsAppend, NoWordFell, allows, has_cell, is_free, stepped}
+use Rattle.dr_program.specs.Replica.{Replica, appended, is_other, looked, pushed}
+use Rattle.dr_program.specs.Steps.{NoWordFell, has_cell, is_free, stepped}
 use Rattle.dr_program.specs.Turn.{IsIn, after, columns_in, part_of, rows_in}
-use Rattle.dr_program.specs.Running.{Running, applies, columns, goes, next_deed, next_step, settled, waits_after}
+use Rattle.dr_program.specs.Running.{Running, applies, goes, next_deed, next_step, settled}
 use Rattle.dr_program.specs.Reading.{step_of_member}
 use Rattle.dr_program.specs.Sight.{MaySee}
 use Rattle.dr_program.specs.Form.{HasForm, IsRunningMember}
 use Rattle.dr_program.proofs.Waiting.{free_step}
 use Rattle.dr_turn.specs.Search.{IsUnderway}
 use Rattle.dr_turn.proofs.Order.{all_below}
-use Rattle.dr_turn.proofs.Tasks.{ends_view}
 use Rattle.dr_member.specs.declared.fate.Fate.{Fate}
 use Rattle.dr_member.specs.declared.member.Member.TheInside.{Inside}
 use Rattle.dr_member.specs.Deeds.{is_act, is_append, is_push}
-use Rattle.dr_member.specs.Fate.{IsTimely, fate_after}
+use Rattle.dr_member.specs.Fate.{IsTimely}
 use Rattle.dr_member.specs.Inside.{IsInside, view_of}
 use Rattle.dr_member.specs.Search.{next_row, standing}
-use Rattle.dr_member.proofs.Answers.{IsAnswer, IsFateAfter, IsTaken, answer_at, fate_of_act, fate_stays, is_answer, is_done, look_applies, push_applies, pushes_searched, stays}
-use Rattle.dr_member.proofs.Crashes.{some_at_push, timely_act, timely_push}
-use Rattle.dr_member.proofs.Dues.{IsLookDue, IsPushDue, IsVoteDue, allowed, append_due, deed_due, entry_part, look_due, push_due, vote_due}
-use Rattle.dr_member.proofs.Indices.{columns_kept, deeds_keep_bases}
+use Rattle.dr_member.proofs.Fates.{IsFateBy, fate_told}
+use Rattle.dr_member.proofs.Answers.{IsAnswer, IsFateAfter, IsTaken, answer_at, fate_stays, is_answer, is_done, look_applies, push_applies, pushes_searched, stays}
+use Rattle.dr_member.proofs.Crashes.{some_at_push, timely_push}
+use Rattle.dr_member.proofs.Dues.{IsEntryDue, IsLookDue, IsPushDue, IsVoteDue, allowed, append_due, deed_due, entry_due, look_due, may_look, push_due, vote_due}
+use Rattle.dr_member.proofs.Indices.{bases_stay, footing}
 use Rattle.dr_member.proofs.Passing.{begin, from_behind, from_column, from_here, only_place, part_number}
 
 -- ---- rows
@@ -91,29 +87,6 @@ pub record IsLooked (replica q : Replica) (fate : Fate) (p : Place) (word : ℕ)
   pub form : HasForm q
   pub grown : NoWordFell replica q
 
--- within a row it goes on waiting as before, and with the last column it has waited a turn more
-waits_stay : (word : ℕ) (r : Running) (i c : ℕ) → c + 1 < columns r
-    → r.waits ≡ waits_after word r (steps.Look i c)
-waits_stay word r i c within = by (c + 1 == columns r) (grind (arith, nat_tests, within))
-  where
-    by : (b : Bool) → b ≡ false
-        → r.waits ≡ (if b then compared r.waits (rows.looked r.replica.rows i c word) i
-        else r.waits)
-    by true e = absurd (cc)
-    by false e = refl
-
-waits_turn : (word : ℕ) (r : Running) (i c : ℕ) → c < columns r → columns r ≤ c + 1
-    → compared r.waits (rows.looked r.replica.rows i c word) i
-    ≡ waits_after word r (steps.Look i c)
-waits_turn word r i c within past = by (c + 1 == columns r) (grind (arith, nat_tests, within, past))
-  where
-    by : (b : Bool) → b ≡ true
-        → compared r.waits (rows.looked r.replica.rows i c word) i
-        ≡ (if b then compared r.waits (rows.looked r.replica.rows i c word) i
-        else r.waits)
-    by true e = refl
-    by false e = absurd (cc)
-
 -- the fate with these waits
 abbrev pub waited : Fate → Waits → Fate
 waited fate w = record fate { waits = w }
@@ -126,39 +99,37 @@ pub record IsWaited (q : Replica) (fate : Fate) (p : Place) (w : Waits) : Type 0
 -- the fate within a row, and behind its last column
 told_within : (replica q : Replica) (fate : Fate) (p : Place) (word : ℕ)
     → IsLooked replica q fate p word → p.column + 1 < columns_of q.roster q.window
-    → IsFateAfter word (standing replica fate p) (steps.Look p.row p.column) fate
+    → IsFateAfter word (standing replica fate p) (next_step (standing replica fate p)) fate
 told_within replica q fate p word l within =
-    fate_stays word replica fate p (steps.Look p.row p.column) refl
-    (waits_stay word (standing replica fate p) p.row p.column
-    (subst (λ (x : Replica). p.column + 1 < columns_of x.roster x.window) l.after within))
+    fate_stays word replica fate p (next_step (standing replica fate p)) l.due.pushes
+    (l.due.within (subst (λ (x : Replica). p.column + 1 < columns_of x.roster x.window) l.after within))
 
 told_past : (replica q : Replica) (fate : Fate) (p : Place) (word : ℕ) (w : Waits)
     → IsLooked replica q fate p word → IsWaited q fate p w
-    → IsFateAfter word (standing replica fate p) (steps.Look p.row p.column) (waited fate w)
+    → IsFateAfter word (standing replica fate p) (next_step (standing replica fate p)) (waited fate w)
 told_past replica q fate p word w l is = record {
   limit = refl;
   waits = is.waits
       ∙ ap (λ (x : Replica). compared fate.waits x.rows p.row) l.after
-      ∙ waits_turn word (standing replica fate p) p.row p.column l.due.cell.column
+      ∙ l.due.past
       (subst (λ (x : Replica). columns_of x.roster x.window ≤ p.column + 1) l.after is.past);
   crashes = refl;
   suspicions = refl;
-  pushes = refl;
+  pushes = l.due.pushes;
   failed = refl;
 }
 
 -- a replica that has looked took its look, and stands at the next column
 pub look_taken : (replica q : Replica) (fate told : Fate) (p : Place) (word : ℕ)
     → IsLooked replica q fate p word
-    → IsFateAfter word (standing replica fate p) (steps.Look p.row p.column) told
-    → IsTaken word (standing replica fate p) (steps.Look p.row p.column) q told
+    → IsFateAfter word (standing replica fate p) (next_step (standing replica fate p)) told
+    → IsTaken word (standing replica fate p) q told
     (from_column q.roster (columns_of q.roster q.window) p (p.column + 1))
 look_taken replica q fate told p word l is = record {
   running = l.running;
   fits = l.fits;
   none = l.due.none;
-  due = l.due.step;
-  replica = l.after;
+  replica = l.after ∙ sym l.due.step;
   form = l.form;
   grown = λ same. l.grown;
   place = behind replica q p parts.Look l.due.at (ap (λ (x : Replica). x.roster) l.after)
@@ -173,7 +144,7 @@ pub looked_within : (now : Running) (replica q : Replica) (fate : Fate) (p : Pla
     → IsAnswer word now (standing q fate (record p { column = p.column + 1 }))
 looked_within now replica q fate p word view l within =
     answer_at word (standing replica fate p) now (standing q fate next) view
-    (is_answer word (standing replica fate p) (steps.Look p.row p.column) q fate
+    (is_answer word (standing replica fate p) q fate
     (from_column q.roster (columns_of q.roster q.window) p (p.column + 1)) next
     (look_taken replica q fate fate p word l (told_within replica q fate p word l within))
     (stays (standing q fate next) (look_applies (standing q fate next) next l.due.at may)
@@ -194,8 +165,8 @@ looked_within now replica q fate p word view l within =
         (omega (arith, ap (λ (x : Replica). x.roster) l.after, l.due.cell.row))
         (ap (λ (x : Replica). is_other x p.row) l.after ∙ l.due.cell.other) within
 
-    may : allows q (steps.Look p.row (p.column + 1)) ≡ true
-    may = subst (λ (x : Replica). allows x (steps.Look p.row (p.column + 1)) ≡ true) (sym l.after)
+    may : may_look q p.row (p.column + 1) ≡ true
+    may = subst (λ (x : Replica). may_look x p.row (p.column + 1) ≡ true) (sym l.after)
         (together _ _ (and_parts _ (has_cell replica p.row p.column) l.due.may).0
         (subst (λ (x : Replica). has_cell x p.row (p.column + 1) ≡ true) l.after cell))
 
@@ -206,7 +177,7 @@ pub look_left : (replica q : Replica) (fate : Fate) (p : Place) (word : ℕ) (w 
 look_left replica q fate p word w l is =
     subst (λ (x : Place). IsUnderway (standing q (waited fate w) x))
     (row_left q p parts.Look (p.column + 1) l.due.at refl is.past)
-    (is_done word _ _ _ _ _
+    (is_done word _ _ _ _
     (look_taken replica q fate (waited fate w) p word l (told_past replica q fate p word w l is))).underway
 
 pub looked_past : (now : Running) (replica q : Replica) (fate : Fate) (p s : Place) (word : ℕ)
@@ -216,7 +187,7 @@ pub looked_past : (now : Running) (replica q : Replica) (fate : Fate) (p s : Pla
     → IsAnswer word now (standing q (waited fate w) s)
 looked_past now replica q fate p s word w view l is e =
     answer_at word _ now _ view
-    (is_answer word _ _ _ _ _ s
+    (is_answer word _ _ _ _ s
     (look_taken replica q fate (waited fate w) p word l (told_past replica q fate p word w l is))
     (e ∙ ap (λ (x : Place). settled (standing q (waited fate w) x))
     (sym (row_left q p parts.Look (p.column + 1) l.due.at refl is.past))))
@@ -244,24 +215,23 @@ pub record IsPushed (replica q : Replica) (fate : Fate) (p : Place) (n t : ℕ) 
 -- a replica that has pushed took its push, and stands at the next column
 pub push_taken : (replica q : Replica) (fate : Fate) (p : Place) (n t word : ℕ)
     → IsPushed replica q fate p n t
-    → IsTaken word (standing replica fate p) (steps.Push p.row p.column) q (counted fate n)
+    → IsTaken word (standing replica fate p) q (counted fate n)
     (from_column q.roster (columns_of q.roster q.window) p (p.column + 1))
 push_taken replica q fate p n t word l = record {
   running = l.running;
   fits = l.fits;
   none = l.due.none;
-  due = l.due.step;
-  replica = l.after;
+  replica = l.after ∙ sym (l.due.step word);
   form = l.form;
   grown = λ same. l.grown;
   place = behind replica q p parts.Push l.due.at (ap (λ (x : Replica). x.roster) l.after)
       (ap (λ (x : Replica). x.window) l.after) refl;
   told = record {
     limit = refl;
-    waits = refl;
+    waits = l.due.waits word;
     crashes = refl;
     suspicions = refl;
-    pushes = l.pushes;
+    pushes = l.pushes ∙ l.due.pushes;
     failed = refl;
   };
 }
@@ -276,7 +246,7 @@ pub push_searched : (replica q : Replica) (fate : Fate) (p : Place) (n t : ℕ)
 push_searched replica q fate p n t l =
     pushes_searched q (counted fate n) p (p.column + 1) t l.due.at (ap (λ (x : Replica). x.end) l.after
     ∙ l.due.none)
-    (is_done 0 _ _ _ _ _ (push_taken replica q fate p n t 0 l)).underway l.unchanged l.above l.within
+    (is_done 0 _ _ _ _ (push_taken replica q fate p n t 0 l)).underway l.unchanged l.above l.within
 
 -- a member that pushed and then settled stands where the answer says
 pushed_past : (now : Running) (replica q : Replica) (fate : Fate) (p s : Place) (n t word : ℕ)
@@ -286,7 +256,7 @@ pushed_past : (now : Running) (replica q : Replica) (fate : Fate) (p s : Place) 
     → IsAnswer word now (standing q (counted fate n) s)
 pushed_past now replica q fate p s n t word view l e =
     answer_at word (standing replica fate p) now (standing q (counted fate n) s) view
-    (is_answer word (standing replica fate p) (steps.Push p.row p.column) q (counted fate n)
+    (is_answer word (standing replica fate p) q (counted fate n)
     (from_column q.roster (columns_of q.roster q.window) p (p.column + 1)) s
     (push_taken replica q fate p n t word l)
     (e ∙ (push_searched replica q fate p n t l).1))
@@ -345,18 +315,22 @@ pushed_timely replica q fate p n t l =
 -- ---- the code's fields after a step
 
 -- a step within its view leaves the member in good order inside
-pub inside_after : (a : Inside) (q : Replica) (fate : Fate) (place : Place) (word : ℕ) (s : Step)
-    → ends_view s ≡ false → IsInside a → q ≡ stepped word a.replica s
-    → IsRunningMember (standing q fate place) → IsTimely fate q.turns → fate.limit ≡ a.fate.limit
+pub inside_after : (a : Inside) (q x : Replica) (fate : Fate) (place : Place) → IsInside a → q ≡ x
+    → footing x ≡ footing a.replica → IsRunningMember (standing q fate place) → IsTimely fate q.turns
+    → fate.limit ≡ a.fate.limit
     → IsInside (record { replica = q; place = place; fate = fate; bases = a.bases })
-inside_after a q fate place word s stays is e form timely limit =
+inside_after a q x fate place is e stays form timely limit =
     record {
       form = form;
       fate = timely;
       limit = omega (arith, limit, is.limit);
-      bases =
-          deeds_keep_bases a.bases word a.replica q s stays e is.bases;
+      bases = bases_stay a.bases a.replica q x e stays is.bases;
     }
+
+-- and its fate timely, where no turn begins
+pub stays_timely : (a : Inside) (q x : Replica) → IsInside a → q ≡ x → x.turns ≡ a.replica.turns
+    → IsTimely a.fate q.turns
+stays_timely a q x is e turn = subst (IsTimely a.fate) (sym (ap (λ (r : Replica). r.turns) e ∙ turn)) is.fate
 
 -- of a look
 pub look_due_at : (now : Running) (a : Inside) (word : ℕ) → view_of a ≡ now → IsInside a
@@ -379,21 +353,11 @@ is_looked now a q word view is may after form grown = record {
   grown = grown;
 }
 
--- a look leaves the fate timely
-pub looked_timely : (a : Inside) (q : Replica) (i c word : ℕ) → IsInside a → q
-    ≡ looked a.replica i c word
-    → IsTimely a.fate q.turns
-looked_timely a q i c word is e = subst (λ (x : Replica). IsTimely a.fate x.turns) (sym e) is.fate
-
 -- a turn of waiting leaves it timely, too
-waited_timely : (fate : Fate) (w : Waits) (turn : ℕ) → IsTimely fate turn
-    → IsTimely (waited fate w) turn
-waited_timely fate w turn t = record { crash = t.crash; ahead = t.ahead }
-
 pub looked_row_timely : (a : Inside) (q : Replica) (i c word : ℕ) (w : Waits) → IsInside a
     → q ≡ looked a.replica i c word → IsTimely (waited a.fate w) q.turns
 looked_row_timely a q i c word w is e =
-    waited_timely a.fate w q.turns (looked_timely a q i c word is e)
+    let t = stays_timely a q _ is e refl in record { crash = t.crash; ahead = t.ahead }
 
 -- of an act, which is due and so is one that it may do
 pub act_none : (now : Running) (a : Inside) → view_of a ≡ now → is_act (next_deed now) ≡ true
@@ -402,88 +366,64 @@ act_none now a view acts = (deed_due is_act (λ end. refl) (view_of a)
     (subst (λ (x : Running). is_act (next_deed x) ≡ true) (sym view) acts)).0
 
 pub act_allowed : (now : Running) (a : Inside) (act : Act) → view_of a ≡ now → IsInside a
-    → is_act (next_deed now) ≡ true → next_step (view_of a) ≡ steps.Do act
+    → is_act (next_deed now) ≡ true → next_step (view_of a) ≡ Do act
     → may a.replica act ≡ true
 act_allowed now a act view is acts due =
-    allowed (view_of a) is.form (act_none now a view acts) (steps.Do act) due
+    allowed (view_of a) is.form (act_none now a view acts) (Do act) due
 
 -- a vote waits only where the act is the vote's
-pub act_free : (a : Inside) (act : Act) → IsInside a → next_step (view_of a) ≡ steps.Do act
-    → is_free a.replica (steps.Do act) ≡ true
+pub act_free : (a : Inside) (act : Act) → IsInside a → next_step (view_of a) ≡ Do act
+    → is_free a.replica (Do act) ≡ true
 act_free a act is due = subst (λ s. is_free a.replica s ≡ true) due (free_step (view_of a) is.form.free)
 
+-- so it makes of the fate what it is to be, and leaves it timely
+pub act_told : (word : ℕ) (a : Inside) (q : Replica) (fate : Fate) (act : Act) → IsInside a
+    → q ≡ taken a.replica act → IsFateBy act q.turns a.fate fate
+    → IsFateAfter word (view_of a) (Do act) fate × IsTimely fate q.turns
+act_told word a q fate act is after by =
+    let turn : q.turns ≡ (taken a.replica act).turns = ap (λ (x : Replica). x.turns) after in
+    subst (λ (n : ℕ). IsFateAfter word (view_of a) (Do act) fate × IsTimely fate n) (sym turn)
+    (fate_told word a.replica a.fate fate a.place act is.fate
+    (subst (λ (n : ℕ). IsFateBy act n a.fate fate) turn by))
+
 pub act_taken : (word : ℕ) (now : Running) (a : Inside) (q : Replica) (fate : Fate) (from : Place)
-    (act : Act) (turn : ℕ) → view_of a ≡ now → IsInside a
-    → is_act (next_deed now) ≡ true → next_step (view_of a) ≡ steps.Do act → q
-    ≡ taken a.replica act
+    (act : Act) → view_of a ≡ now → IsInside a → is_act (next_deed now) ≡ true
+    → next_step (view_of a) ≡ Do act → q ≡ taken a.replica act
     → HasForm q → (q.view ≡ a.replica.view → NoWordFell a.replica q)
     → from ≡ goes a.replica.roster (columns_of a.replica.roster a.replica.window)
     (part_of a.place) a.place
-    → fate ≡ fate_after a.fate act turn
-    → IsTaken word (view_of a) (steps.Do act) q fate from
-act_taken word now a q fate from act turn view is acts due after form grown place told = record {
+    → IsFateBy act q.turns a.fate fate → IsTaken word (view_of a) q fate from
+act_taken word now a q fate from act view is acts due after form grown place by = record {
   running = is.form;
   fits = is.limit;
   none = act_none now a view acts;
-  due = due;
-  replica = after;
+  replica = after ∙ ap (stepped word a.replica) (sym due);
   form = form;
   grown = grown;
   place = place;
-  told = subst (IsFateAfter word (view_of a) (steps.Do act)) (sym told)
-      (fate_of_act word a.replica a.fate a.place act turn);
+  told = subst (λ s. IsFateAfter word (view_of a) s fate) (sym due)
+      (act_told word a q fate act is after by).0;
 }
 
--- an act that begins neither a turn nor a view leaves the fate as it is
-pub fate_kept : (fate : Fate) (act : Act) (turn : ℕ) → act ≢ acts.Beat → act ≢ acts.Finish
-    → fate_after fate act turn ≡ fate
-fate_kept fate acts.Beat turn no_turn no_view = absurd (no_turn refl)
-fate_kept fate acts.Finish turn no_turn no_view = absurd (no_view refl)
-fate_kept fate act turn no_turn no_view = refl
-
--- an act leaves the fate timely
-pub acted_timely : (a : Inside) (q : Replica) (fate : Fate) (act : Act) (turn : ℕ) → IsInside a
-    → q ≡ taken a.replica act → fate ≡ fate_after a.fate act turn → turn ≡ q.turns
-    → IsTimely fate q.turns
-acted_timely a q fate act turn is after told same =
-    subst (λ (x : Fate). IsTimely x q.turns)
-    (sym (told ∙ ap (fate_after a.fate act) (same ∙ ap (λ (x : Replica). x.turns) after)))
-    (subst (λ (x : ℕ). IsTimely (fate_after a.fate act (taken a.replica act).turns) x)
-    (sym (ap (λ (x : Replica). x.turns) after)) (timely_act a.fate a.replica act is.fate))
-
--- an act leaves the limit
-pub acted_limit : (a : Inside) (fate : Fate) (act : Act) (turn : ℕ) → fate ≡ fate_after a.fate act turn
-    → fate.limit ≡ a.fate.limit
-acted_limit a fate act turn told = ap (λ (x : Fate). x.limit) told
-    ∙ (fate_of_act 0 a.replica a.fate a.place act turn).limit
-
 -- of an append
-append_fate : (word : ℕ) (replica : Replica) (fate : Fate) (place : Place) (s : Step) → IsAppend s
-    → IsFateAfter word (standing replica fate place) s fate
-append_fate word replica fate place steps.Append is =
-    fate_stays word replica fate place steps.Append refl refl
-append_fate word replica fate place (steps.LogVote v) is =
-    fate_stays word replica fate place (steps.LogVote v) refl refl
-append_fate word replica fate place s is = absurd is
-
-pub append_taken : (word : ℕ) (now : Running) (a : Inside) (s : Step) (q : Replica) (from : Place)
-    → view_of a ≡ now → IsInside a → is_append (next_deed now) ≡ true → next_step now ≡ s → IsAppend s
-    → q ≡ stepped word a.replica s → HasForm q → NoWordFell a.replica q
+pub append_taken : (word : ℕ) (now : Running) (a : Inside) (q : Replica) (from : Place)
+    → view_of a ≡ now → IsInside a → is_append (next_deed now) ≡ true
+    → q ≡ stepped word a.replica (next_step (view_of a)) → HasForm q → NoWordFell a.replica q
     → from ≡ goes a.replica.roster (columns_of a.replica.roster a.replica.window)
     (part_of a.place) a.place
-    → IsTaken word (view_of a) s q a.fate from
-append_taken word now a s q from view is append step kind after form grown place =
-    let due = append_due (view_of a) is.form
-    (subst (λ (x : Running). is_append (next_deed x) ≡ true) (sym view) append) in record {
+    → IsTaken word (view_of a) q a.fate from
+append_taken word now a q from view is append after form grown place =
+    let due = append_due (view_of a)
+    (subst (λ (x : Running). is_append (next_deed x) ≡ true) (sym view) append) in
+    record {
       running = is.form;
       fits = is.limit;
       none = due.none;
-      due = ap next_step view ∙ step;
       replica = after;
       form = form;
       grown = λ same. grown;
       place = place;
-      told = append_fate word a.replica a.fate a.place s kind;
+      told = fate_stays word a.replica a.fate a.place (next_step (view_of a)) due.pushes (due.waits word);
     }
 
 -- a part is that of appends
@@ -506,19 +446,19 @@ publishes r q fate f after =
 
 -- so behind the append of an entry the search stays
 pub entry_answer : (word : ℕ) (now : Running) (a : Inside) (q : Replica) (from : Place) → view_of a ≡ now
-    → IsInside a → is_append (next_deed now) ≡ true → next_step now ≡ steps.Append
+    → IsInside a → is_append (next_deed now) ≡ true → part_of now.place ≢ parts.Vote
     → q ≡ appended a.replica → HasForm q → NoWordFell a.replica q
     → from ≡ goes a.replica.roster (columns_of a.replica.roster a.replica.window)
     (part_of a.place) a.place
     → IsAnswer word now (standing q a.fate from)
-entry_answer word now a q from view is append step after form grown place =
-    let at = entry_part (view_of a) (subst (λ (x : Running). is_append (next_deed x) ≡ true) (sym view) append)
-    (ap next_step view ∙ step) in
+entry_answer word now a q from view is append other after form grown place =
+    let due = subst IsEntryDue (sym view) (entry_due now append other) in
     let next : from ≡ begin 7 = place
-    ∙ ap (λ x. goes a.replica.roster (columns_of a.replica.roster a.replica.window) x a.place) at
-    ∙ append_next a.replica.roster (columns_of a.replica.roster a.replica.window) a.place is.form.place at in
-    answer_at word _ now _ view (is_answer word _ _ _ _ _ from
-    (append_taken word now a steps.Append q from view is append step tt after form grown place)
+    ∙ ap (λ x. goes a.replica.roster (columns_of a.replica.roster a.replica.window) x a.place) due.at
+    ∙ append_next a.replica.roster (columns_of a.replica.roster a.replica.window) a.place is.form.place
+    due.at in
+    answer_at word _ now _ view (is_answer word _ _ _ _ from
+    (append_taken word now a q from view is append (after ∙ sym (due.step word)) form grown place)
     (stays (standing q a.fate from) (subst (λ (x : Place). applies (standing q a.fate x) x ≡ true) (sym next)
     (publishes a.replica q a.fate is.form.replica after))))
 
@@ -528,21 +468,6 @@ pub vote_due_at : (now : Running) (a : Inside) → view_of a ≡ now → IsInsid
 vote_due_at now a view is append at = vote_due (view_of a) is.form
     (subst (λ (x : Running). is_append (next_deed x) ≡ true) (sym view) append)
     (subst (λ (x : Running). part_of x.place ≡ parts.Vote) (sym view) at)
-
-pub vote_step : (now : Running) (a : Inside) (v : Value) → view_of a ≡ now → IsVoteDue (view_of a)
-    → v ≡ value_due a.replica → next_step now ≡ steps.LogVote v
-vote_step now a v view due is = sym (ap next_step view) ∙ due.step ∙ ap steps.LogVote (sym is)
-
--- an append leaves the fate timely
-append_turns : (word : ℕ) (r : Replica) (s : Step) → IsAppend s → (stepped word r s).turns ≡ r.turns
-append_turns word r steps.Append is = refl
-append_turns word r (steps.LogVote v) is = refl
-append_turns word r s is = absurd is
-
-pub appended_timely : (a : Inside) (s : Step) (q : Replica) → IsInside a → IsAppend s
-    → q ≡ stepped 0 a.replica s → IsTimely a.fate q.turns
-appended_timely a s q is kind e = subst (IsTimely a.fate)
-    (sym (ap (λ (x : Replica). x.turns) e ∙ append_turns 0 a.replica s kind)) is.fate
 
 -- of a push, where t is the next changed column
 pub is_pushed : (now : Running) (a : Inside) (q : Replica) (n t : ℕ) → view_of a ≡ now → IsInside a
@@ -566,9 +491,3 @@ is_pushed now a q n t view is push after form grown pushes unchanged above withi
   above = above;
   within = within;
 }
-
--- the kept number of columns is that of the replica after a step
-pub columns_after : (a : Inside) (q : Replica) (word : ℕ) (s : Step) → ends_view s ≡ false → IsInside a
-    → q ≡ stepped word a.replica s → a.bases.columns ≡ columns_of q.roster q.window
-columns_after a q word s stays is e = columns_kept a.bases q.roster q.window q.view (me q)
-    (deeds_keep_bases a.bases word a.replica q s stays e is.bases).are

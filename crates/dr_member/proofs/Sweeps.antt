@@ -1,7 +1,6 @@
 -- A member along a row of its looks or of its pushes, in the terms of the code's fields.
 use Rattle.std.proofs.Common.{◌≡◌, refl, sym, ap, ◌∙◌, subst, ℕ, ◌+◌, ◌<◌, ◌≤◌, ◌&&◌, Bool, true, false, not, arith}
-use Rattle.std.specs.Prelude.{None, Option, Some}
-use Rattle.std.proofs.lemmas.Bool.{and_parts}
+use Rattle.std.specs.Prelude.{None}
 use Rattle.dr_rows.specs.Words.{changed, own, seen}
 use Rattle.dr_suspect.specs.Waits.{Waits, compared}
 use Rattle.dr_words.specs.Columns.{columns_of}
@@ -9,30 +8,26 @@ use Rattle.dr_words.specs.Form.{IsInForm}
 use Rattle.dr_words.specs.Grown.{Grown, HasGrown}
 use Rattle.dr_words.proofs.Order.{Grown_refl, Grown_trans}
 use Rattle.dr_machine.specs.Effects.{one_more}
-use Rattle.dr_machine.specs.declared.step.Step.TheVariants as steps
 use Rattle.dr_program.specs.declared.deed.Deed.{Deed}
 use Rattle.dr_program.specs.declared.deed.Deed.TheVariants as deeds
-use Rattle.dr_program.specs.declared.outcome.LogWhy.{LogWhy}
-use Rattle.dr_program.specs.declared.place.Part.{Part}
 use Rattle.dr_program.specs.declared.place.Part.TheVariants as parts
 use Rattle.dr_program.specs.declared.place.Place.{Place}
-use Rattle.dr_program.specs.Form.{HasForm, IsRunningMember}
+use Rattle.dr_program.specs.Form.{HasForm}
 use Rattle.dr_program.specs.Reading.{step_of_member}
-use Rattle.dr_program.specs.Replica.{Replica, is_other, looked, me, pushed, value_due}
-use Rattle.dr_program.specs.Running.{Running, append_or_end, crashes_now, deed, deed_of, next_deed, push_or_crash, settled, step_at, vote_or_end}
+use Rattle.dr_program.specs.Replica.{Replica, is_other, looked, me, pushed}
+use Rattle.dr_program.specs.Running.{Running, crashes_now, deed, deed_of, next_deed, push_or_crash, settled, step_at}
 use Rattle.dr_program.specs.Sight.{MaySee}
-use Rattle.dr_program.specs.Steps.{NoWordFell, allows, has_cell, index_in}
+use Rattle.dr_program.specs.Steps.{NoWordFell, index_in}
 use Rattle.dr_program.specs.Turn.{IsIn, columns_in, part_of, rows_in}
-use Rattle.dr_program.proofs.StepsAt.{append_either, push_either, vote_either}
 use Rattle.dr_turn.specs.Work.{IsStill, deeds_left}
 use Rattle.dr_member.specs.Deeds.{is_look, is_push}
 use Rattle.dr_member.specs.declared.member.Member.TheInside.{Inside}
 use Rattle.dr_member.specs.Inside.{IsInside, view_of}
 use Rattle.dr_member.specs.Search.{next_row, standing}
 use Rattle.dr_member.proofs.Answers.{IsAnswer}
-use Rattle.dr_member.proofs.Dues.{IsCellOf, allowed, deed_due, is_cell, look_due, push_due}
-use Rattle.dr_member.proofs.Indices.{IsIndex, is_index}
-use Rattle.dr_member.proofs.Moves.{IsLooked, IsPushed, IsWaited, columns_after, counted, inside_after, is_looked, is_pushed, looked_past, looked_row_timely, looked_timely, looked_within, pushed_timely, pushed_within, waited}
+use Rattle.dr_member.proofs.Dues.{at_look, look_due, may_look, push_due}
+use Rattle.dr_member.proofs.Indices.{IsIndex, columns_after, is_index, me_within}
+use Rattle.dr_member.proofs.Moves.{IsLooked, IsPushed, IsWaited, counted, inside_after, is_looked, is_pushed, looked_past, looked_row_timely, looked_within, pushed_timely, pushed_within, stays_timely, waited}
 
 -- the member inside has come from another one, and this deed is due to it
 pub record IsOnRow (d : Deed) (from : Running) (a : Inside) : Type 0 where
@@ -109,42 +104,6 @@ same_look x y e = cc
 same_push : (x y v w : ℕ) → deeds.Push x v ≡ deeds.Push y w → x ≡ y
 same_push x y v w e = cc
 
--- the member is at a look, whatever it sees
-record IsAtLook (r : Running) : Type 0 where
-  none : r.replica.end ≡ None
-  at : part_of r.place ≡ parts.Look
-  cell : IsCellOf r r.place.row r.place.column
-
--- only the part of looks has one
-look_part : (r : Running) (part : Part) (i c : ℕ) → is_look (deed_of r (step_at r part i c)) ≡ true
-    → part ≡ parts.Look
-look_part r parts.Look i c e = refl
-look_part r parts.Push i c e =
-    absurd (push_either (λ s. is_look (deed_of r s) ≡ true → ⊥) (crashes_now r) i c (λ e. cc) (λ e. cc) e)
-look_part r parts.Append i c e =
-    absurd (append_either (λ s. is_look (deed_of r s) ≡ true → ⊥) r.failed (λ e. cc) (λ why e. cc) e)
-look_part r parts.Vote i c e =
-    absurd (vote_either (λ s. is_look (deed_of r s) ≡ true → ⊥) r.failed _ (λ e. cc) (λ why e. cc) e)
-look_part r part i c e = absurd (cc)
-
--- a running member whose next deed is a look is at one
-at_look : (r : Running) → IsRunningMember r → is_look (next_deed r) ≡ true → IsAtLook r
-at_look r m e =
-    let due = deed_due is_look (λ end. refl) r e in
-    let at = look_part r (part_of r.place) r.place.row r.place.column due.1 in
-    let may = allowed r m due.0 (steps.Look r.place.row r.place.column)
-    (ap (λ x. step_at r x r.place.row r.place.column) at) in
-    record {
-      none = due.0;
-      at = at;
-      cell = is_cell r r.place.row r.place.column
-          (and_parts _ (has_cell r.replica r.place.row r.place.column) may).1;
-    }
-
--- its own row is one of its roster
-me_within : (a : Inside) → IsInside a → me a.replica < a.replica.roster
-me_within a is = omega (arith, is.form.replica.rows.present, is.form.replica.members)
-
 -- ---- as a row begins
 
 -- the deed that is due names the index of the row's first word, and so many words more
@@ -192,7 +151,7 @@ push_index from a sum word is =
 pub record IsLookOf (r : Replica) (i c word : ℕ) : Type 0 where
   pub row : i < r.roster
   pub other : is_other r i ≡ true
-  pub may : allows r (steps.Look i c) ≡ true
+  pub may : may_look r i c ≡ true
   pub in_form : IsInForm r.roster c word
   pub grown : HasGrown r.roster c (seen r.rows i c) word
 
@@ -245,14 +204,7 @@ wrote from a q row sum word n t is same after form grown pushes unchanged above 
     (after ∙ ap (λ i. pushed a.replica i a.place.column) (sym same)) form grown pushes
     (λ x l h. ap (λ i. changed q.rows i x) same ∙ unchanged x l h) above within
 
--- the columns of the row, behind a push
-pub pushed_columns : (a : Inside) (q : Replica) (row : ℕ) → IsInside a → a.place.row ≡ row
-    → q ≡ pushed a.replica row a.place.column → a.bases.columns ≡ columns_of q.roster q.window
-pushed_columns a q row is same after =
-    columns_after a q 0 (steps.Push a.place.row a.place.column) refl is
-    (after ∙ ap (λ i. pushed a.replica i a.place.column) (sym same))
-
--- and the next column is one of them, or behind the last
+-- behind a push the next column is one of the row, or behind the last
 pub pushed_from : (from : Running) (a : Inside) (q : Replica) (row sum word : ℕ)
     → IsOnRow (deeds.Push sum word) from a → q ≡ pushed a.replica row a.place.column
     → a.place.column + 1 ≤ columns_of q.roster q.window
@@ -287,8 +239,8 @@ pub look_on : (from : Running) (a : Inside) (q : Replica) (first word : ℕ)
     × IsAnswer word (view_of a) (standing q a.fate (record a.place { column = a.place.column + 1 }))
 look_on from a q first word is l within = (
   row_on (deeds.Look (first + a.place.column)) from a is word _ b
-      (inside_after a q a.fate b.place word (steps.Look a.place.row a.place.column) refl is.inside l.after
-      answer.form (looked_timely a q a.place.row a.place.column word is.inside l.after) refl)
+      (inside_after a q _ a.fate b.place is.inside l.after refl answer.form
+      (stays_timely a q _ is.inside l.after refl) refl)
       answer (ap (λ (r : Replica). r.roster) l.after) l.grown due,
   answer,
 )
@@ -297,11 +249,7 @@ look_on from a q first word is l within = (
     b = record a { replica = q; place = record a.place { column = a.place.column + 1 } }
 
     inner : a.place.column + 1 < columns_of q.roster q.window
-    inner = omega (
-      arith,
-      within,
-      columns_after a q word (steps.Look a.place.row a.place.column) refl is.inside l.after,
-    )
+    inner = omega (arith, within, columns_after a q _ is.inside l.after refl)
 
     answer : IsAnswer word (view_of a) (view_of b)
     answer = looked_within (view_of a) a.replica q a.fate a.place word refl l inner
@@ -328,8 +276,8 @@ pub push_on : (from : Running) (a : Inside) (q : Replica) (first n t : ℕ)
     × IsAnswer 0 (view_of a) (standing q (counted a.fate n) (record a.place { column = t }))
 push_on from a q first n t is l within changes later = (
   row_on (deeds.Push (first + a.place.column) (own a.replica.rows a.place.column)) from a is 0 _ b
-      (inside_after a q b.fate b.place 0 (steps.Push a.place.row a.place.column) refl is.inside l.after
-      answer.form (pushed_timely a.replica q a.fate a.place n t l) refl)
+      (inside_after a q _ b.fate b.place is.inside l.after refl answer.form
+      (pushed_timely a.replica q a.fate a.place n t l) refl)
       answer (ap (λ (r : Replica). r.roster) l.after) l.grown due,
   answer,
 )
@@ -338,11 +286,7 @@ push_on from a q first n t is l within changes later = (
     b = record a { replica = q; fate = counted a.fate n; place = record a.place { column = t } }
 
     inner : t < columns_of q.roster q.window
-    inner = omega (
-      arith,
-      within,
-      columns_after a q 0 (steps.Push a.place.row a.place.column) refl is.inside l.after,
-    )
+    inner = omega (arith, within, columns_after a q _ is.inside l.after refl)
 
     answer : IsAnswer 0 (view_of a) (view_of b)
     answer = pushed_within (view_of a) a.replica q a.fate a.place n t 0 refl l inner (changes inner)
@@ -372,11 +316,7 @@ pub was_waited : (a : Inside) (q : Replica) (row word : ℕ) (w : Waits) → IsI
     → IsLooked a.replica q a.fate a.place word → a.bases.columns ≤ a.place.column + 1 → a.place.row ≡ row
     → w ≡ compared a.fate.waits q.rows row → IsWaited q a.fate a.place w
 was_waited a q row word w is l past same waits = record {
-  past = omega (
-    arith,
-    past,
-    columns_after a q word (steps.Look a.place.row a.place.column) refl is l.after,
-  );
+  past = omega (arith, past, columns_after a q _ is l.after refl);
   waits = waits ∙ ap (compared a.fate.waits q.rows) (sym same);
 }
 
@@ -389,8 +329,7 @@ pub looks_end : (from : Running) (a : Inside) (q : Replica) (s : Place) (sum wor
 looks_end from a q s sum word w is l past e =
     let answer : IsAnswer word (view_of a) (standing q (waited a.fate w) s) =
     looked_past (view_of a) a.replica q a.fate a.place s word w refl l past e in record {
-      inside = inside_after a q (waited a.fate w) s word (steps.Look a.place.row a.place.column) refl
-          is.inside l.after answer.form
+      inside = inside_after a q _ (waited a.fate w) s is.inside l.after refl answer.form
           (looked_row_timely a q a.place.row a.place.column word w is.inside l.after) refl;
       answer = answer;
       grown = row_grown (deeds.Look sum) from a is q l.grown;
@@ -404,8 +343,8 @@ pub pushes_end : (from : Running) (a : Inside) (q : Replica) (s : Place) (sum wo
     → IsAnswer 0 (view_of a) (standing q (counted a.fate n) s)
     → HasLeft 0 from (view_of a) (record a { replica = q; place = s; fate = counted a.fate n })
 pushes_end from a q s sum word n t is l answer = record {
-  inside = inside_after a q (counted a.fate n) s 0 (steps.Push a.place.row a.place.column) refl is.inside
-      l.after answer.form (pushed_timely a.replica q a.fate a.place n t l) refl;
+  inside = inside_after a q _ (counted a.fate n) s is.inside l.after refl answer.form
+      (pushed_timely a.replica q a.fate a.place n t l) refl;
   answer = answer;
   grown = row_grown (deeds.Push sum word) from a is q l.grown;
   falls = row_falls (deeds.Push sum word) from a is 0 _ answer;

@@ -1,7 +1,5 @@
 -- What a member keeps of its script: the least push of its turn at which it crashes.
 use Rattle.std.specs.Prelude.{◌≡◌, ℕ, ◌==◌, ◌≤◌, min, if◌then◌else◌, Bool, false, List, fold, Option, None, Some}
-use Rattle.dr_machine.specs.declared.event.Act.{Act}
-use Rattle.dr_machine.specs.declared.event.Act.TheVariants as acts
 use Rattle.dr_suspect.specs.Waits.{begun}
 use Rattle.dr_program.specs.declared.setup.CrashPoint.{CrashPoint}
 use Rattle.dr_member.specs.declared.fate.Fate.{Fate}
@@ -28,8 +26,9 @@ pub record IsTimely (fate : Fate) (turn : ℕ) : Type 0 where
   pub crash : fate.crash ≡ first_push turn fate.crashes
   pub ahead : (push : ℕ) → fate.crash ≡ Some push → fate.pushes ≤ push
 
--- the fate after an act, in this turn
-abbrev pub fate_after : Fate → Act → ℕ → Fate
-fate_after fate acts.Beat turn = record fate { pushes = 0; crash = first_push turn fate.crashes }
-fate_after fate acts.Finish turn = record fate { waits = begun fate.waits.limit }
-fate_after fate act turn = fate
+-- the fate as a turn begins, and as a view does
+abbrev pub turned : Fate → ℕ → Fate
+turned fate turn = record fate { pushes = 0; crash = first_push turn fate.crashes }
+
+abbrev pub renewed : Fate → Fate
+renewed fate = record fate { waits = begun fate.waits.limit }

@@ -1,11 +1,12 @@
 //! What an act makes of a member.
-ghost use Rattle.std.specs.Prelude.{◌≡◌, true};
+ghost use Rattle.std.specs.Prelude.{◌≡◌, ◌≢◌, true};
+ghost use Rattle.dr_machine.specs.declared.event.Act.TheVariants.{Beat, Finish};
 ghost use Rattle.dr_machine.specs.declared.step.Step.TheVariants.{Do};
 ghost use Rattle.dr_program.specs.Acts.{may, taken};
 ghost use Rattle.dr_program.specs.Form.{HasForm};
 ghost use Rattle.dr_program.specs.Steps.{NoWordFell, is_free};
 ghost use Rattle.dr_member.specs.Bases.{AreBases};
-ghost use Rattle.dr_member.specs.Fate.{fate_after};
+ghost use Rattle.dr_member.specs.Fate.{renewed, turned};
 
 use crate::bases::Bases;
 use crate::fate::Fate;
@@ -21,7 +22,9 @@ pub(crate) fn take_act(act: Act, replica: &mut Replica, fate: &mut Fate, bases: 
     ensures after { replica.new ≡ taken replica.old act }
     ensures grown { replica.new.view ≡ replica.old.view → NoWordFell replica.old replica.new }
     ensures form { HasForm replica.new }
-    ensures fate { fate.new ≡ fate_after fate.old act replica.new.turns }
+    ensures turn { act ≡ Beat → fate.new ≡ turned fate.old replica.new.turns }
+    ensures view { act ≡ Finish → fate.new ≡ renewed fate.old }
+    ensures fate { act ≢ Beat → act ≢ Finish → fate.new ≡ fate.old }
     ensures bases { AreBases bases.old replica.old → AreBases bases.new replica.new }
 {
     match act {

@@ -2,8 +2,7 @@
 ghost use Rattle.std.specs.Prelude.{◌≡◌, ◌^◌, ◌<◌, None};
 ghost use Rattle.dr_program.specs.declared.place.Place.{Place};
 ghost use Rattle.dr_program.specs.Running.{crashes_in_turn, crashes_now, end_by};
-ghost use Rattle.dr_suspect.specs.Waits.{begun};
-ghost use Rattle.dr_member.specs.Fate.{IsTimely, first_push, is_push_now, with_point};
+ghost use Rattle.dr_member.specs.Fate.{IsTimely, first_push, is_push_now, renewed, turned, with_point};
 ghost use Rattle.dr_member.specs.Search.{standing};
 
 use dr_entry::{End, Seq};
@@ -81,7 +80,7 @@ impl Fate {
 
     /// A turn begins. The script's points of that turn are sought among all of them.
     pub(crate) fn begin_turn(&mut self, turn: u32)
-        ensures { self.new ≡ record self.old { pushes = 0; crash = first_push turn self.old.crashes } }
+        ensures { self.new ≡ turned self.old turn }
     {
         self.pushes = 0;
         self.crash = first_push(self.crashes.as_slice(), turn);
@@ -89,7 +88,7 @@ impl Fate {
 
     /// A view begins, in which it waits anew.
     pub(crate) fn begin_view(&mut self)
-        ensures { self.new ≡ record self.old { waits = begun self.old.waits.limit } }
+        ensures { self.new ≡ renewed self.old }
     {
         self.waits.reset();
     }

@@ -1,9 +1,9 @@
 mod asking;
 mod sweep;
 
-ghost use Rattle.std.specs.Prelude.{◌≡◌, ◌*◌, ◌-◌, ◌<◌, ◌≤◌, ℕ, true, IfOk, Some, is_some, length};
+ghost use Rattle.std.specs.Prelude.{◌≡◌, ◌≢◌, ◌+◌, ◌*◌, ◌-◌, ◌^◌, ◌<◌, ◌≤◌, ℕ, true, IfOk, Some, is_some, length};
 ghost use Rattle.dr_machine.specs.declared.event.Act.TheVariants.{Crash};
-ghost use Rattle.dr_machine.specs.declared.step.Step.TheVariants.{Append, Do};
+ghost use Rattle.dr_machine.specs.declared.step.Step.TheVariants.{Do};
 ghost use Rattle.dr_program.specs.declared.place.Part.TheVariants as parts;
 ghost use Rattle.dr_program.specs.Form.{CanBegin, IsRunningMember};
 ghost use Rattle.dr_program.specs.Program.{end_of};
@@ -306,7 +306,7 @@ impl Member {
     #[inline(always)]
     fn entry_appended(&mut self)
         requires due { is_append (next_deed self.old) ≡ true }
-        requires step { next_step self.old ≡ Append }
+        requires at { part_of self.old.place ≢ parts.Vote }
         ensures after { (word : ℕ) → self.new ≡ after_step word self.old }
         ensures form { IsRunningMember self.new }
         ensures grown { NoWordFell self.old.replica self.new.replica }
@@ -368,7 +368,7 @@ impl Member {
         ensures index { result ≡ index_in self.now.replica (me self.now.replica) row column }
         ensures within { result < table_size self.now }
     {
-        self.bases.own_copy + usize::from(row) * self.bases.columns + column
+        index_behind(self.bases.own_copy, row, self.bases.columns, column)
     }
 
     /// The index in the table of the member's word of a column, in the copy of the member `to`.
@@ -379,6 +379,15 @@ impl Member {
         ensures index { result ≡ index_in self.now.replica to (me self.now.replica) column }
         ensures within { result < table_size self.now }
     {
-        self.bases.own_row + usize::from(to) * self.bases.copy_words + column
+        index_behind(self.bases.own_row, to, self.bases.copy_words, column)
     }
+}
+
+/// The index of a word, so many strides and a column behind another one.
+#[inline(always)]
+fn index_behind(first: usize, strides: u8, stride: usize, column: usize) -> usize
+    requires { first + strides * stride + column < 2 ^ 64 }
+    ensures { result ≡ first + strides * stride + column }
+{
+    first + usize::from(strides) * stride + column
 }

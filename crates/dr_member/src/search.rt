@@ -272,8 +272,9 @@ pub(crate) fn go(shape: &Shape, place: &mut Place)
 {
     match *part_of(*place) {
         Part::Look | Part::Push => step_on(shape, place),
-        Part::Append | Part::Vote | Part::Do(Act::Beat) => next_row(shape, place),
+        Part::Append | Part::Vote => next_row(shape, place),
         Part::Do(Act::Publish) => place.part = place.part.saturating_sub(1),
+        _ if place.part == BEAT => next_row(shape, place),
         _ => {}
     }
 }

@@ -1,10 +1,12 @@
 -- What the tests and values of a change of the view tell of a replica, by where it stands.
 use Rattle.std.proofs.Common.{◌≡◌, refl, sym, ap, subst, ◌∙◌, ℕ, ◌==◌, ◌||◌, ◌&&◌, not, Bool, true, false, Option, None, Some, is_some, length}
-use Rattle.std.specs.Prelude.{MatchOption, nat_eq}
+use Rattle.std.specs.Prelude.{MatchOption, nat_eq, ◌↔◌}
 use Rattle.std.proofs.lemmas.Bool.{and_from, and_parts, eq-eqb, eqb-true}
 use Rattle.std.specs.Cmp.Lexicographic.{other_text, same_text}
 use lib.Pointwise.{pointwise}
 use Rattle.dr_entry.specs.declared.record.Value.{Value}
+use Rattle.dr_entry.specs.declared.record.Vote.{Vote}
+use Rattle.dr_form.proofs.Accepting.{others_wait, own_waits}
 use Rattle.dr_lead.specs.Accepts as lead_accepts
 use Rattle.dr_lead.specs.Changes as lead
 use Rattle.dr_lead.specs.Standings.{IsStanding}
@@ -19,7 +21,7 @@ use Rattle.dr_words.specs.Choices.{proposal, shown_value}
 use Rattle.dr_program.proofs.Voting.{self_left, value_long, value_test, view_small, votes_for}
 use Rattle.dr_program.specs.Form.{HasForm}
 use Rattle.dr_replica.proofs.Received.{same_truth}
-use Rattle.dr_program.specs.Replica.{Replica, is_value, is_wedged, may_accept, may_append, may_propose, may_vote, me, value_due}
+use Rattle.dr_program.specs.Replica.{Replica, is_others, is_own, is_value, is_wedged, may_accept, may_append, may_propose, may_vote, me, value_due}
 
 -- it stands as the replica says, its history logged
 pub record StandsAs (r : Replica) (s : Standing) : Type 0 where
@@ -67,21 +69,24 @@ ToAccept r n members suspects k = MayAccept n (seen r.rows) members suspects k
 abbrev ToCommit : Replica → ℕ → ℕ → ℕ → ℕ → Type 0
 ToCommit r n members suspects k = MayCommit n (seen r.rows) members k
 
+-- an answer by such a relation at the standing tells the test that decides it at the replica
+test_told : (r : Replica) (s : Standing) (o : Option Value) (P : ℕ → ℕ → ℕ → ℕ → Type 0) (Q : Value → Type 0)
+    (test : Bool) → (test ≡ true) ↔ P r.roster r.members r.suspects (me r) → HasForm r → StandsAs r s
+    → MatchOption o (¬ (P r.rows.members s.members s.suspects s.me × (s.caught_up ≡ true)))
+    (λ v. (P r.rows.members s.members s.suspects s.me × (s.caught_up ≡ true)) × Q v)
+    → is_some o ≡ test
+test_told r s None P Q test law f is told =
+    sym (untrue test (λ e. told (to_standing r s P f is (law.0 e), is.logged)))
+test_told r s (Some v) P Q test law f is told = sym (law.1 (to_replica r s P f is told.0.0))
+
 -- whether it may propose
 pub propose_told : (r : Replica) (s : Standing) (o : Option Value) → HasForm r → StandsAs r s
     → MatchOption o (¬ lead.MayPropose r.rows s)
     (λ v. lead.MayPropose r.rows s × lead.IsProposal r.rows s v)
     → is_some o ≡ may_propose r
-propose_told r s None f is told =
-    sym (untrue (may_propose r) (λ e.
-    told (
-      to_standing r s (ToPropose r) f is
-          ((propose_test r.roster (seen r.rows) r.members r.suspects (me r) (view_small r f)).0 e),
-      is.logged,
-    )))
-propose_told r s (Some v) f is told =
-    sym ((propose_test r.roster (seen r.rows) r.members r.suspects (me r) (view_small r f)).1
-    (to_replica r s (ToPropose r) f is told.0.0))
+propose_told r s o f is told =
+    test_told r s o (ToPropose r) (lead.IsProposal r.rows s) (may_propose r)
+    (propose_test r.roster (seen r.rows) r.members r.suspects (me r) (view_small r f)) f is told
 
 -- whether it may accept
 pub accept_told : (r : Replica) (s : Standing) (o : Option Value) → HasForm r → StandsAs r s
@@ -89,16 +94,10 @@ pub accept_told : (r : Replica) (s : Standing) (o : Option Value) → HasForm r 
     (λ v. lead.MayAccept r.rows s
     × lead_accepts.Shows r.rows s.members (lead_accepts.promise_of r.rows s.me) v)
     → is_some o ≡ may_accept r
-accept_told r s None f is told =
-    sym (untrue (may_accept r) (λ e.
-    told (
-      to_standing r s (ToAccept r) f is
-          ((accept_test r.roster (seen r.rows) r.members r.suspects (me r) (view_small r f)).0 e),
-      is.logged,
-    )))
-accept_told r s (Some v) f is told =
-    sym ((accept_test r.roster (seen r.rows) r.members r.suspects (me r) (view_small r f)).1
-    (to_replica r s (ToAccept r) f is told.0.0))
+accept_told r s o f is told =
+    test_told r s o (ToAccept r)
+    (lead_accepts.Shows r.rows s.members (lead_accepts.promise_of r.rows s.me)) (may_accept r)
+    (accept_test r.roster (seen r.rows) r.members r.suspects (me r) (view_small r f)) f is told
 
 -- the value that it proposes
 pub proposes : (r : Replica) (s : Standing) (o : Option Value) (v : Value) → HasForm r → StandsAs r s
@@ -197,3 +196,12 @@ no_vote_told r v none = untrue (may_vote r v) (λ e.
     let due : may_vote r (value_due r) ≡ true =
     subst (λ (x : Value). may_vote r x ≡ true) (votes_for r v e) e in
     absurd (cc (none, due)))
+
+-- ---- the vote that waits
+
+-- where one's own vote waits, or another's, one does
+pub own_is_there : (me : ℕ) (o : Option Vote) → is_own me o ≡ true → is_some o ≡ true
+own_is_there me o e = let x = own_waits me o e in ap is_some x.1
+
+pub others_is_there : (me : ℕ) (o : Option Vote) → is_others me o ≡ true → is_some o ≡ true
+others_is_there me o e = let x = others_wait me o e in ap is_some x.1

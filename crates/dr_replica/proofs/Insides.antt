@@ -1,5 +1,5 @@
 -- The fields keep their invariant.
-use Rattle.std.proofs.Common.{◌≡◌, ℕ, ◌+◌, ◌*◌, ◌/◌, ◌%◌, ◌^◌, ◌<◌, ◌≤◌, Bool, true, not, nat_lt, map, slice_index, slice_index_or, List, ◌++◌, [], ◌∷◌, length, Option, None, unwrap_or, refl, sym, ap, subst, ◌∙◌, arith, le_trans}
+use Rattle.std.proofs.Common.{◌≡◌, ◌≢◌, ℕ, ◌+◌, ◌*◌, ◌/◌, ◌%◌, ◌^◌, ◌<◌, ◌≤◌, Bool, true, not, nat_lt, map, slice_index, slice_index_or, List, ◌++◌, [], ◌∷◌, length, Option, None, unwrap_or, refl, sym, ap, subst, ◌∙◌, arith, le_trans}
 use Rattle.std.proofs.lemmas.Bool.{and_parts, ltb-true}
 use Rattle.dr_entry.specs.declared.end.End.{End}
 use Rattle.dr_entry.specs.declared.entry.Item.{Item}
@@ -20,11 +20,11 @@ use Rattle.dr_entry.specs.declared.record.Vote.{Vote}
 use Rattle.dr_machine.specs.World.{no_vote}
 use Rattle.dr_form.proofs.Accepting.{accepted_form}
 use Rattle.dr_history.specs.Members.{members_of}
-use Rattle.dr_rows.specs.Words.{with_frozen}
+use Rattle.dr_rows.specs.Words.{with_frozen, with_own}
 use Rattle.dr_words.specs.Masks as masks
 use Rattle.dr_words.specs.Masks.{with_member, without}
 use Rattle.dr_suspect.specs.Suspicion.{Suspicion}
-use Rattle.dr_replica.proofs.Received.{accepted_received, suspected_received}
+use Rattle.dr_replica.proofs.Received.{accepted_received, other_received, suspected_received}
 use Rattle.dr_form.proofs.Wedging.{suspected_form}
 use Rattle.dr_replica.specs.Items as items
 use Rattle.dr_replica.specs.Items.{Held}
@@ -89,6 +89,18 @@ pub state_kept : (a : Inside) (rows : Words) (logged durable turns acts : ℕ) (
 state_kept a rows logged durable turns acts end inside me form rise =
     fields_kept a rows a.suspects a.tag a.value a.pending a.votes logged durable turns acts end inside form
     (same_suspicion a rows inside me) rise inside.votes
+
+-- and where an own word but the received one is set, and so many acts were done
+pub word_kept : (a : Inside) (rows : Words) (column word acts : ℕ) → IsInside a
+    → rows ≡ with_own a.rows column word → RECEIVED_COLUMN ≢ column
+    → HasForm (record (view_of a) { rows = with_own a.rows column word; acts = acts })
+    → IsInside (record a { rows = rows; acts = acts })
+word_kept a rows column word acts inside after other form =
+    state_kept a rows a.logged a.durable a.turns acts a.end inside (ap (λ (w : Words). w.me) after)
+    (subst (λ (w : Words). HasForm (record (view_of a) { rows = w; acts = acts })) (sym after) form)
+    (subst (λ (w : Words). least_seen (view_of a) RECEIVED_COLUMN
+    ≤ least_seen (record (view_of a) { rows = w }) RECEIVED_COLUMN) (sym after)
+    (other_received (view_of a) column word other))
 
 -- what holds of the value that the fields mean
 pub form_to : (new q : Replica) → new ≡ q → HasForm q → HasForm new

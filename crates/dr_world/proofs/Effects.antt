@@ -1,5 +1,5 @@
 -- What an event makes of the replica of its member and of the table is its effect on the world.
-use Rattle.std.proofs.Common.{◌≡◌, ◌≢◌, refl, sym, ap, ◌∙◌, subst, ℕ, ◌<◌, true, not, List, arith}
+use Rattle.std.proofs.Common.{◌≡◌, ◌≢◌, refl, sym, ap, ◌∙◌, subst, ℕ, ◌<◌, ◌&&◌, true, not, List, arith}
 use Rattle.std.specs.Prelude.{Some, slice_get, slice_index, slice_set}
 use Rattle.std.proofs.lemmas.Bool.{and_parts}
 use Rattle.std.proofs.lemmas.Option.{slice_get_within}
@@ -9,7 +9,7 @@ use Rattle.dr_words.specs.Form.{IsInForm}
 use Rattle.dr_words.specs.Grown.{HasGrown}
 use Rattle.dr_machine.specs.declared.event.Event.{Event}
 use Rattle.dr_machine.specs.declared.step.Step.{Step}
-use Rattle.dr_machine.specs.declared.step.Step.TheVariants.{Do, Look, Push, Append, LogVote}
+use Rattle.dr_machine.specs.declared.step.Step.TheVariants.{Do}
 use Rattle.dr_machine.specs.Events.{member_of, step_of}
 use Rattle.dr_machine.specs.Group.{Group, roster, columns}
 use Rattle.dr_machine.specs.World.{World}
@@ -26,7 +26,7 @@ use Rattle.dr_refine.proofs.Tables.{word_inside}
 use Rattle.dr_refine.proofs.Guards.{other_member, other_within, seen_is}
 use Rattle.dr_world.specs.Held.{Held, its_group, its_world, IsHeld}
 use Rattle.dr_refine.proofs.Tests.{found_is, step_effect, cell_test}
-use Rattle.dr_world.specs.Steps.{IsSight, IsInSight}
+use Rattle.dr_world.specs.Steps.{IsSight}
 use Rattle.dr_world.proofs.Guarding.{is_member}
 
 -- ---- effects
@@ -43,10 +43,7 @@ after h e r = record h {
 stored_first : (table : List ℕ) (r : Replica) (s : Step) → stepped_over (stored table r s) r s
     ≡ stepped_over table r s
 stored_first table r (Do a) = refl
-stored_first table r (Look i c) = refl
-stored_first table r (Push j c) = refl
-stored_first table r Append = refl
-stored_first table r (LogVote v) = refl
+stored_first table r s = refl
 
 -- what an event makes of what is held is its effect
 pub take_effect : (h : Held) (e : Event) (r : Replica) → IsHeld h → slice_get h.replicas (member_of e)
@@ -119,14 +116,10 @@ sight h m r i c is there cell = record {
         (omega (arith, slice_get_within h.replicas m r there, is.members.all))
         (other_within g h.replicas h.table m r i member tests.0) tests.1
 
-sight_of : (h : Held) (m : ℕ) (s : Step) (r : Replica) → IsHeld h → slice_get h.replicas m ≡ Some r
-    → allows r s ≡ true → IsInSight (stored h.table r s) r s
-sight_of h m (Look i c) r is there may =
-    sight h m r i c is there (and_parts (not (has r.suspects i)) (has_cell r i c) may).1
-sight_of h m s r is there may = tt
-
--- a step finds in the table what a look may
-pub in_sight : (h : Held) (e : Event) (r : Replica) → IsHeld h → slice_get h.replicas (member_of e)
-    ≡ Some r → allows r (step_of e) ≡ true
-    → IsInSight (stored h.table r (step_of e)) r (step_of e)
-in_sight h e r is there may = sight_of h (member_of e) (step_of e) r is there may
+-- so it is where its event has stored nothing
+pub in_sight : (h : Held) (e : Event) (r : Replica) (i c : ℕ) → IsHeld h
+    → slice_get h.replicas (member_of e) ≡ Some r → (not (has r.suspects i) && has_cell r i c) ≡ true
+    → stored h.table r (step_of e) ≡ h.table → IsSight (stored h.table r (step_of e)) r i c
+in_sight h e r i c is there may same =
+    subst (λ t. IsSight t r i c) (sym same)
+    (sight h (member_of e) r i c is there (and_parts (not (has r.suspects i)) (has_cell r i c) may).1)

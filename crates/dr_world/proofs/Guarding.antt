@@ -11,7 +11,8 @@ use Rattle.dr_machine.specs.Acts.{Guard}
 use Rattle.dr_program.specs.Replica.{Replica}
 use Rattle.dr_program.specs.Steps.{may_take}
 use Rattle.dr_refine.specs.Programs.{IsMember}
-use Rattle.dr_refine.proofs.Tests.{has_room, step_alive, step_test}
+use Rattle.dr_refine.proofs.Tests.{step_alive, step_test}
+use Rattle.dr_room.proofs.Bounds.{has_room}
 use Rattle.dr_world.specs.Held.{Held, its_group, its_world, IsHeld}
 
 -- ---- a member of what is held

@@ -1,11 +1,12 @@
 //! What an event does at the replica of its member and in the table.
-ghost use Rattle.std.specs.Prelude.{◌≡◌, ◌<◌, true, length};
+ghost use Rattle.std.specs.Prelude.{◌≡◌, ℕ, ◌<◌, true, length};
 ghost use Rattle.dr_machine.specs.Events.{step_of};
+ghost use Rattle.dr_machine.specs.declared.step.Step.TheVariants.{Look};
 ghost use Rattle.dr_program.specs.Form.{HasForm};
 ghost use Rattle.dr_program.specs.Steps.{index_in, is_free, may_take, stepped_over, stored};
 ghost use Rattle.dr_words.specs.Columns.{columns_of};
 ghost use Rattle.dr_words.specs.Layout.{words_of};
-ghost use Rattle.dr_world.specs.Steps.{IsInSight};
+ghost use Rattle.dr_world.specs.Steps.{IsSight};
 
 use dr_machine::{Act, Event, Step};
 use dr_replica::Replica;
@@ -79,7 +80,7 @@ pub(crate) fn store(replica: &Replica, table: &mut [u64], event: &Event)
 pub(crate) fn take(replica: &mut Replica, table: &[u64], event: &Event)
     requires may { may_take replica.old (step_of event.now) ≡ true }
     requires table { length table.now ≡ words_of replica.old.roster replica.old.window replica.old.banks }
-    requires sight { IsInSight table.now replica.old (step_of event.now) }
+    requires sight { (i c : ℕ) → step_of event.now ≡ Look i c → IsSight table.now replica.old i c }
     ensures taken { replica.new ≡ stepped_over table.now replica.old (step_of event.now) }
     ensures form { HasForm replica.new }
 {

@@ -1,10 +1,11 @@
 //! What a replica does.
-ghost use Rattle.std.specs.Prelude.{◌≡◌, ◌<◌, ◌≤◌, ◌+◌, ◌^◌, false, slice_index, true};
+ghost use Rattle.std.specs.Prelude.{◌≡◌, ◌<◌, ◌≤◌, ◌+◌, ◌^◌, None, false, slice_index, true};
 ghost use Rattle.dr_history.specs.Members.{has};
 ghost use Rattle.dr_machine.specs.declared.step.Step.TheVariants.{Do};
 ghost use Rattle.dr_program.specs.Form.{HasForm};
 ghost use Rattle.dr_program.specs.Acts.{done, may, taken};
-ghost use Rattle.dr_program.specs.Replica.{acted, appended, delivered, is_other, looked, marked, may_append, may_deliver, may_receive, may_send, may_suspect, published, put, pushed, received, reported, sent, suspected};
+ghost use Rattle.dr_program.specs.Replica.{acted, appended, delivered, finished, is_other, looked, marked, may_append, may_deliver, may_finish, may_null, may_receive, may_send, may_suspect, nulled, published, put, pushed, received, reported, sent, suspected};
+ghost use Rattle.dr_program.specs.Running.{minority};
 ghost use Rattle.dr_program.specs.Steps.{NoWordFell, is_free};
 ghost use Rattle.dr_replica.specs.Items.{front};
 ghost use Rattle.dr_form.specs.Puts.{MayPut};
@@ -52,6 +53,18 @@ impl Replica {
         }
     }
 
+    /// Its end, where it suspects so many that the others are no majority of its view.
+    #[inline]
+    pub fn minority(&self) -> Option<Act>
+        ensures { result ≡ minority self.now }
+    {
+        self.has_no_majority().then(|| Act::Halt {
+            end: End::NoMajority {
+                mask: self.suspects.unsuspected().bits(),
+            },
+        })
+    }
+
     /// Does an act.
     #[inline(always)]
     pub fn take(&mut self, act: Act)
@@ -63,11 +76,7 @@ impl Replica {
     {
         let _ = self.me();
         match act {
-            // The stamp of a member that ends its view stands in that view.
-            Act::Finish => {
-                self.stamp();
-                self.finish();
-            }
+            Act::Finish => self.leave(),
             act => {
                 self.carry_out(act);
                 self.stamp();
@@ -117,6 +126,7 @@ impl Replica {
 
     /// Does what an act is for.
     #[inline(always)]
+    #[tactic(auto, using(crate::proofs::Choosing::own_is_there, crate::proofs::Choosing::others_is_there))]
     fn carry_out(&mut self, act: Act)
         requires may { may self.old act ≡ true }
         requires free { is_free self.old (Do act) ≡ true }
@@ -126,7 +136,7 @@ impl Replica {
             Act::Beat => self.turns = self.turns.saturating_add(1),
             Act::Receive { sender } => self.receive(sender),
             Act::Send => self.send(),
-            Act::Null => self.put(SentItem::Null, Item::Null),
+            Act::Null => self.fill(),
             Act::Deliver => self.deliver(),
             Act::Publish => self.publish(),
             Act::Report => self.report(),
@@ -138,6 +148,19 @@ impl Replica {
             Act::Commit => self.committed = Some(self.value),
             Act::Halt { end } | Act::Crash { end } => self.end = Some(end),
         }
+    }
+
+    /// It ends its view. Its stamp stands in that view.
+    #[inline(always)]
+    fn leave(&mut self)
+        requires may { may_finish self.old self.old.committed ≡ true }
+        requires free { self.old.pending ≡ None }
+        ensures after { self.new ≡ finished (acted self.old) }
+        ensures form { HasForm self.new }
+    {
+        let _ = self.me();
+        self.stamp();
+        self.finish();
     }
 
     /// It takes the next item of a sender.
@@ -160,6 +183,15 @@ impl Replica {
         let index = self.next_index();
         let message = self.messages[index].copy();
         self.put(SentItem::Index(index as u32), Item::Text(message));
+    }
+
+    /// It fills its next place with a null.
+    #[inline(always)]
+    fn fill(&mut self)
+        requires { may_null self.old ≡ true }
+        ensures { self.new ≡ nulled self.old }
+    {
+        self.put(SentItem::Null, Item::Null);
     }
 
     /// It puts an item under its name.

@@ -1,13 +1,11 @@
-//! Whom a replica is told to suspect, and what ends it when it goes on without others.
+//! Whom a replica is told to suspect, and for whom it has waited too long.
 ghost use Rattle.std.specs.Prelude.{◌≡◌, ℕ, ◌<◌};
 ghost use Rattle.dr_program.specs.Replica.{unsuspected};
-ghost use Rattle.dr_program.specs.Running.{minority, named_by, told};
+ghost use Rattle.dr_program.specs.Running.{named_by, told};
 ghost use Rattle.dr_suspect.specs.Answers.{least_where};
 ghost use Rattle.dr_suspect.specs.Waits.{IsWaits, compared, is_overdue};
 
 use super::Replica;
-use dr_entry::End;
-use dr_machine::Act;
 use dr_suspect::Patience;
 
 impl Replica {
@@ -33,18 +31,6 @@ impl Replica {
         ensures { result ≡ least_where (is_overdue patience.now self.now.rows (unsuspected self.now)) }
     {
         patience.overdue(self.suspects.unsuspected(), &self.rows)
-    }
-
-    /// Its end, where it suspects so many that the others are no majority of its view.
-    #[inline]
-    pub fn minority(&self) -> Option<Act>
-        ensures { result ≡ minority self.now }
-    {
-        self.has_no_majority().then(|| Act::Halt {
-            end: End::NoMajority {
-                mask: self.suspects.unsuspected().bits(),
-            },
-        })
     }
 
     /// It has seen a row whole, which is news of its member where the beat differs from the one before.

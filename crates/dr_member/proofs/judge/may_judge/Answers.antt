@@ -1,16 +1,16 @@
-use Rattle.std.proofs.Common.{sym, ap, ◌∙◌}
+use Rattle.std.proofs.Common.{refl, sym, ap, ◌∙◌}
 use Rattle.std.specs.Prelude.{Some}
 use Rattle.dr_program.specs.Acts.{may}
 use Rattle.dr_member.specs.Search.{standing}
-use Rattle.dr_member.proofs.Judging.{judged_by, unjudged}
+use Rattle.dr_member.proofs.Judging.{judged_as, unjudged}
 use Rattle.dr_member.proofs.judge.may_judge.Goals as goal
 
 pub returns-in-Some : goal.returns-in-Some
 returns-in-Some c = λ place.
     c.may.ensures
-    ∙ sym (ap (may c.args.replica.now)
-    (judged_by (standing c.args.replica.now c.args.fate.now place) (Some c.in-Some.act)
-    (sym (c.judgement.ensures place) ∙ c.in-Some.is)))
+    ∙ ap (may c.args.replica.now)
+    (judged_as (standing c.args.replica.now c.args.fate.now place) (Some c.in-Some.act) _
+    (sym c.in-Some.is ∙ c.judgement.ensures place) refl)
 
 pub returns-in-None : goal.returns-in-None
 returns-in-None c = λ place.

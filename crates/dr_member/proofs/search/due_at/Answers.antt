@@ -1,9 +1,10 @@
 use Rattle.std.proofs.Common.{◌≡◌, sym, ap, ◌∙◌, true, false}
 use Rattle.dr_machine.specs.declared.step.Step.TheVariants.{Do}
 use Rattle.dr_program.specs.Replica.{value_due}
-use Rattle.dr_program.specs.Running.{crashes_now, push_or_crash, step_at}
-use Rattle.dr_member.specs.Search.{standing}
-use Rattle.dr_member.proofs.Dues.{append_by, vote_by}
+use Rattle.dr_program.specs.Running.{append_or_end, crashes_now, push_or_crash, step_at, vote_or_end}
+use Rattle.dr_member.specs.declared.search.Due.{Due}
+use Rattle.dr_member.specs.Search.{standing, step_by}
+use Rattle.dr_member.proofs.Dues.{unless_failed}
 use Rattle.dr_member.proofs.search.due_at.Goals as goal
 
 pub returns-in-Push : goal.returns-in-Push
@@ -31,13 +32,16 @@ returns-in-Judge c =
 pub returns-in-Append : goal.returns-in-Append
 returns-in-Append c =
     let r = standing c.args.replica.now c.args.fate.now c.args.place in
-    append_by r.failed c.unless_failed.result c.args.place (value_due r.replica)
-    c.unless_failed.ensures.none c.unless_failed.ensures.some
+    let step = λ (d : Due). step_by d c.args.place (value_due r.replica) in
+    unless_failed append_or_end r.failed _ (λ e. ap step (c.unless_failed.ensures.none e))
+    (λ why e. ap step (c.unless_failed.ensures.some why e))
     ∙ ap (λ x. step_at r x c.args.place.row c.args.place.column) (sym c.in-Append.is ∙ c.part_of.ensures)
 
 pub returns-in-Vote : goal.returns-in-Vote
 returns-in-Vote c =
     let r = standing c.args.replica.now c.args.fate.now c.args.place in
-    vote_by r.failed c.unless_failed-in-Vote.result c.args.place (value_due r.replica)
-    c.unless_failed-in-Vote.ensures.none c.unless_failed-in-Vote.ensures.some
+    let step = λ (d : Due). step_by d c.args.place (value_due r.replica) in
+    unless_failed (λ o. vote_or_end o (value_due r.replica)) r.failed _
+    (λ e. ap step (c.unless_failed-in-Vote.ensures.none e))
+    (λ why e. ap step (c.unless_failed-in-Vote.ensures.some why e))
     ∙ ap (λ x. step_at r x c.args.place.row c.args.place.column) (sym c.in-Vote.is ∙ c.part_of.ensures)

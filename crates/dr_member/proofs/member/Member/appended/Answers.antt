@@ -1,13 +1,12 @@
 use Rattle.std.proofs.Common.{sym, ap, ◌∙◌}
 use Rattle.dr_program.specs.Running.{Running}
 use Rattle.dr_program.specs.Turn.{part_of}
-use Rattle.dr_member.proofs.Dues.{entry_due}
 use Rattle.dr_member.proofs.member.Member.appended.Goals as goal
 
-pub entry_appended-requires-clause-step : goal.entry_appended-requires-clause-step
-entry_appended-requires-clause-step c = entry_due c.args.self.now c.requires (λ e.
+pub entry_appended-requires-clause-at : goal.entry_appended-requires-clause-at
+entry_appended-requires-clause-at c = λ e.
     c.in_default.not-Vote
-    (c.part_of.ensures ∙ ap (λ (x : Running). part_of x.place) c.self.view_is ∙ e))
+    (c.part_of.ensures ∙ ap (λ (x : Running). part_of x.place) c.self.view_is ∙ e)
 
 pub vote_appended-requires-clause-at : goal.vote_appended-requires-clause-at
 vote_appended-requires-clause-at c =

@@ -1,18 +1,17 @@
 use Rattle.std.proofs.Common.{refl, ℕ, ◌∙◌}
 use Rattle.dr_words.specs.Columns.{columns_of}
-use Rattle.dr_machine.specs.declared.step.Step.TheVariants.{Append}
 use Rattle.dr_program.specs.Turn.{part_of}
 use Rattle.dr_program.specs.Running.{goes}
 use Rattle.dr_member.specs.Search.{standing}
 use Rattle.dr_member.proofs.Answers.{IsAnswer}
-use Rattle.dr_member.proofs.Moves.{appended_timely, entry_answer, inside_after}
+use Rattle.dr_member.proofs.Moves.{entry_answer, inside_after, stays_timely}
 use Rattle.dr_member.proofs.member.Member.entry_appended.Goals as goal
 
 answer : (c : goal.After-append) (word : ℕ)
     → IsAnswer word c.args.self.now
     (standing c.append.new.self c.self.inside.fate c.go.new.place)
 answer c word = entry_answer word c.args.self.now c.self.inside c.append.new.self c.go.new.place
-    c.self.view_is c.self.invariant c.requires.due c.requires.step
+    c.self.view_is c.self.invariant c.requires.due c.requires.at
     c.append.ensures.after c.append.ensures.form c.append.ensures.grown
     (c.go.ensures
     ∙ (λ z. goes (c.shape.ensures.members z)
@@ -21,9 +20,9 @@ answer c word = entry_answer word c.args.self.now c.self.inside c.append.new.sel
 
 pub invariant_of-self : goal.invariant_of-self
 invariant_of-self c =
-    inside_after c.self.inside c.append.new.self c.self.inside.fate c.go.new.place 0 Append
-    refl c.self.invariant c.append.ensures.after (answer c 0).form
-    (appended_timely c.self.inside Append c.append.new.self c.self.invariant tt c.append.ensures.after) refl
+    inside_after c.self.inside c.append.new.self _ c.self.inside.fate c.go.new.place c.self.invariant
+    c.append.ensures.after refl (answer c 0).form
+    (stays_timely c.self.inside c.append.new.self _ c.self.invariant c.append.ensures.after refl) refl
 
 pub returns-clause-after : goal.returns-clause-after
 returns-clause-after c = λ word. (answer c word).after

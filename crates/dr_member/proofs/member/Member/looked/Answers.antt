@@ -1,9 +1,9 @@
 use Rattle.std.proofs.Common.{refl, ◌+◌, ◌<◌, arith}
 use Rattle.dr_words.specs.Columns.{columns_of}
-use Rattle.dr_machine.specs.declared.step.Step.TheVariants.{Look}
 use Rattle.dr_member.specs.Search.{standing}
 use Rattle.dr_member.proofs.Answers.{IsAnswer}
-use Rattle.dr_member.proofs.Moves.{IsLooked, IsWaited, columns_after, inside_after, is_looked, look_due_at, look_left, looked_past, looked_row_timely, looked_timely, looked_within, waited}
+use Rattle.dr_member.proofs.Indices.{columns_after}
+use Rattle.dr_member.proofs.Moves.{IsLooked, IsWaited, inside_after, is_looked, look_due_at, look_left, looked_past, looked_row_timely, looked_within, stays_timely, waited}
 use Rattle.dr_member.proofs.member.Member.looked.Goals as goal
 
 known : (c : goal.After-look)
@@ -22,9 +22,7 @@ within c = looked_within c.args.self.now c.self.inside.replica c.look.new.self c
     inner = omega (
       arith,
       c.if-next-self.true,
-      columns_after c.self.inside c.look.new.self c.args.word
-          (Look c.self.inside.place.row c.self.inside.place.column) refl c.self.invariant
-          c.look.ensures.after,
+      columns_after c.self.inside c.look.new.self _ c.self.invariant c.look.ensures.after refl,
     )
 
 known_past : (c : goal.After-leave_row-arg-else-next-self-2-1)
@@ -41,9 +39,8 @@ outer c = record {
   past = omega (
     arith,
     c.if-next-self.false,
-    columns_after c.self.inside c.look-else-next-self.new.self c.args.word
-        (Look c.self.inside.place.row c.self.inside.place.column) refl c.self.invariant
-        c.look-else-next-self.ensures.after,
+    columns_after c.self.inside c.look-else-next-self.new.self _ c.self.invariant
+        c.look-else-next-self.ensures.after refl,
   );
   waits = c.wait_for.ensures.after;
 }
@@ -87,18 +84,16 @@ leave_row-requires-clause-fate c =
     c.self.invariant c.look-else-next-self.ensures.after
 
 pub invariant_of-self : goal.invariant_of-self
-invariant_of-self c = inside_after c.self.inside c.look.new.self c.self.inside.fate
-    (record c.self.inside.place { column = c.self.inside.place.column + 1 }) c.args.word
-    (Look c.self.inside.place.row c.self.inside.place.column) refl c.self.invariant c.look.ensures.after
-    (within c).form
-    (looked_timely c.self.inside c.look.new.self _ _ c.args.word c.self.invariant c.look.ensures.after) refl
+invariant_of-self c = inside_after c.self.inside c.look.new.self _ c.self.inside.fate
+    (record c.self.inside.place { column = c.self.inside.place.column + 1 }) c.self.invariant
+    c.look.ensures.after refl (within c).form
+    (stays_timely c.self.inside c.look.new.self _ c.self.invariant c.look.ensures.after refl) refl
 
 pub invariant_of-self-else-next-self : goal.invariant_of-self-else-next-self
 invariant_of-self-else-next-self c =
-    inside_after c.self.inside c.look-else-next-self.new.self
-    (waited c.self.inside.fate c.wait_for.new.patience) c.leave_row.new.place c.args.word
-    (Look c.self.inside.place.row c.self.inside.place.column) refl c.self.invariant
-    c.look-else-next-self.ensures.after (past c).form
+    inside_after c.self.inside c.look-else-next-self.new.self _
+    (waited c.self.inside.fate c.wait_for.new.patience) c.leave_row.new.place c.self.invariant
+    c.look-else-next-self.ensures.after refl (past c).form
     (looked_row_timely c.self.inside c.look-else-next-self.new.self _ _ c.args.word
     c.wait_for.new.patience c.self.invariant c.look-else-next-self.ensures.after) refl
 

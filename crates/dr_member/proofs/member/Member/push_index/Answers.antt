@@ -1,32 +1,14 @@
-use Rattle.std.proofs.Common.{arith}
+use Rattle.std.proofs.Common.{◌∙◌, arith}
 use Rattle.dr_member.proofs.Indices.{push_at}
 use Rattle.dr_member.proofs.member.Member.push_index.Goals as goal
 
-pub overflow_mul-result : goal.overflow_mul-result
-overflow_mul-result c =
-    let is = push_at c.args.self.now c.self.inside c.from.result c.args.to c.args.column c.self.view_is
-    c.self.invariant c.from.ensures c.requires.to c.requires.column in
-    omega (arith, is.small)
+pub index_behind-requires : goal.index_behind-requires
+index_behind-requires c = (push_at c.args.self.now c.self.inside c.args.to c.args.column c.self.view_is
+    c.self.invariant c.requires.to c.requires.column).small
 
-pub overflow_add-result : goal.overflow_add-result
-overflow_add-result c =
-    let is = push_at c.args.self.now c.self.inside c.from.result c.args.to c.args.column c.self.view_is
-    c.self.invariant c.from.ensures c.requires.to c.requires.column in
-    omega (arith, is.small)
-
-pub overflow_add-result-2 : goal.overflow_add-result-2
-overflow_add-result-2 c =
-    let is = push_at c.args.self.now c.self.inside c.from.result c.args.to c.args.column c.self.view_is
-    c.self.invariant c.from.ensures c.requires.to c.requires.column in
-    omega (arith, is.small)
-
-pub returns-clause-index : goal.returns-clause-index
-returns-clause-index c =
-    (push_at c.args.self.now c.self.inside c.from.result c.args.to c.args.column c.self.view_is
-    c.self.invariant c.from.ensures c.requires.to c.requires.column).index
-
-pub returns-clause-within : goal.returns-clause-within
-returns-clause-within c =
-    let is = push_at c.args.self.now c.self.inside c.from.result c.args.to c.args.column c.self.view_is
-    c.self.invariant c.from.ensures c.requires.to c.requires.column in
-    omega (arith, is.index, is.within)
+pub returns : goal.returns
+returns c =
+    let is = push_at c.args.self.now c.self.inside c.args.to c.args.column c.self.view_is
+    c.self.invariant c.requires.to c.requires.column in
+    let index = c.index_behind.ensures ∙ is.index in
+    record { index = index; within = omega (arith, index, is.within) }

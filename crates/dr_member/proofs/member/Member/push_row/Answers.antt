@@ -5,8 +5,9 @@ use Rattle.dr_program.specs.declared.deed.Deed.TheVariants.{Push}
 use Rattle.dr_member.specs.Inside.{view_of}
 use Rattle.dr_member.specs.Search.{standing}
 use Rattle.dr_member.proofs.Answers.{IsAnswer}
+use Rattle.dr_member.proofs.Indices.{columns_after}
 use Rattle.dr_member.proofs.Moves.{IsPushed, counted, push_left, pushed_behind, pushed_timely, pushed_within}
-use Rattle.dr_member.proofs.Sweeps.{HasLeft, IsOnRow, at_column, push_index, push_on, push_row_stays, pushed_columns, pushed_from, pushes_begin, pushes_end, wrote}
+use Rattle.dr_member.proofs.Sweeps.{HasLeft, IsOnRow, at_column, push_index, push_on, push_row_stays, pushed_from, pushes_begin, pushes_end, wrote}
 use Rattle.dr_member.proofs.member.Member.push_row.Given.{Over}
 use Rattle.dr_member.proofs.member.Member.push_row.Goals as goal
 use Rattle.dr_member.proofs.member.Member.push_row.Goals.{After-next_changed-column}
@@ -38,9 +39,9 @@ push-requires-clause-within g c =
 pub next_changed-column-requires-clause-columns : goal.next_changed-column-requires-clause-columns
 next_changed-column-requires-clause-columns g c =
     sym c.loop-column.invariant.columns
-    ∙ pushed_columns (at_column c.loop-column.self-inside c.loop-column.column)
-    c.push-in-loop-column.new.self _ c.loop-column.invariant.on.inside c.loop-column.invariant.row
-    c.push-in-loop-column.ensures.after
+    ∙ columns_after (at_column c.loop-column.self-inside c.loop-column.column)
+    c.push-in-loop-column.new.self _ c.loop-column.invariant.on.inside
+    c.push-in-loop-column.ensures.after refl
 
 pub next_changed-column-requires-clause-to : goal.next_changed-column-requires-clause-to
 next_changed-column-requires-clause-to g c =
@@ -73,9 +74,9 @@ columns : (g : Over) (c : After-next_changed-column g)
     ≡ columns_of c.push-in-loop-column.new.self.roster c.push-in-loop-column.new.self.window
 columns g c =
     sym c.loop-column.invariant.columns
-    ∙ pushed_columns (at_column c.loop-column.self-inside c.loop-column.column)
-    c.push-in-loop-column.new.self _ c.loop-column.invariant.on.inside c.loop-column.invariant.row
-    c.push-in-loop-column.ensures.after
+    ∙ columns_after (at_column c.loop-column.self-inside c.loop-column.column)
+    c.push-in-loop-column.new.self _ c.loop-column.invariant.on.inside
+    c.push-in-loop-column.ensures.after refl
 
 -- and it stays on the row
 stays : (g : Over) (c : goal.Else-crashes_now g)
@@ -156,8 +157,8 @@ left g c =
       arith,
       c.if-column-columns.true,
       c.loop-column.invariant.columns,
-      pushed_columns a c.push-in-loop-column.new.self _ c.loop-column.invariant.on.inside
-          c.loop-column.invariant.row c.push-in-loop-column.ensures.after,
+      columns_after a c.push-in-loop-column.new.self _ c.loop-column.invariant.on.inside
+          c.push-in-loop-column.ensures.after refl,
     ) in
     pushes_end c.args.self.now a c.push-in-loop-column.new.self c.leave_row.new.place _ _ _ _
     c.loop-column.invariant.on l
@@ -186,8 +187,8 @@ crashes g c =
       arith,
       c.if-column-columns.false,
       c.loop-column.invariant.columns,
-      pushed_columns a c.push-in-loop-column.new.self _ c.loop-column.invariant.on.inside
-          c.loop-column.invariant.row c.push-in-loop-column.ensures.after,
+      columns_after a c.push-in-loop-column.new.self _ c.loop-column.invariant.on.inside
+          c.push-in-loop-column.ensures.after refl,
     ) in
     pushes_end c.args.self.now a c.push-in-loop-column.new.self _ _ _ _ _ c.loop-column.invariant.on l
     (pushed_within (view_of a) a.replica c.push-in-loop-column.new.self a.fate a.place _ _ 0 refl l inner

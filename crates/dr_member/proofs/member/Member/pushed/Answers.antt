@@ -1,9 +1,9 @@
 use Rattle.std.proofs.Common.{refl, ℕ, ◌<◌, ◌≤◌, arith}
 use Rattle.dr_words.specs.Columns.{columns_of}
-use Rattle.dr_machine.specs.declared.step.Step.TheVariants.{Push}
 use Rattle.dr_member.specs.Search.{standing}
 use Rattle.dr_member.proofs.Answers.{IsAnswer}
-use Rattle.dr_member.proofs.Moves.{IsPushed, columns_after, counted, inside_after, is_pushed, push_left, pushed_behind, pushed_timely, pushed_within}
+use Rattle.dr_member.proofs.Indices.{columns_after}
+use Rattle.dr_member.proofs.Moves.{IsPushed, counted, inside_after, is_pushed, push_left, pushed_behind, pushed_timely, pushed_within}
 use Rattle.dr_member.proofs.member.Member.pushed.Goals as goal
 
 known : (c : goal.After-self-then-next-columns-1)
@@ -30,9 +30,7 @@ next c word =
     within = omega (
       arith,
       c.if-next-columns.true,
-      columns_after c.self.inside c.push.new.self 0
-          (Push c.self.inside.place.row c.self.inside.place.column) refl c.self.invariant
-          c.push.ensures.after,
+      columns_after c.self.inside c.push.new.self _ c.self.invariant c.push.ensures.after refl,
     )
 
 known_past : (c : goal.After-leave_row-arg-else-next-columns-2-1)
@@ -50,8 +48,7 @@ outer : (c : goal.After-leave_row-arg-else-next-columns-2-1)
 outer c = omega (
   arith,
   c.if-next-columns.false,
-  columns_after c.self.inside c.push.new.self 0
-      (Push c.self.inside.place.row c.self.inside.place.column) refl c.self.invariant c.push.ensures.after,
+  columns_after c.self.inside c.push.new.self _ c.self.invariant c.push.ensures.after refl,
 )
 
 past : (c : goal.After-leave_row) (word : ℕ)
@@ -65,8 +62,7 @@ past c word =
 
 pub next_changed-next-requires-clause-columns : goal.next_changed-next-requires-clause-columns
 next_changed-next-requires-clause-columns c =
-    columns_after c.self.inside c.push.new.self 0
-    (Push c.self.inside.place.row c.self.inside.place.column) refl c.self.invariant c.push.ensures.after
+    columns_after c.self.inside c.push.new.self _ c.self.invariant c.push.ensures.after refl
 
 pub leave_row-requires-clause-underway : goal.leave_row-requires-clause-underway
 leave_row-requires-clause-underway c =
@@ -81,21 +77,19 @@ leave_row-requires-clause-fate c =
 
 pub invariant_of-self : goal.invariant_of-self
 invariant_of-self c =
-    inside_after c.self.inside c.push.new.self
+    inside_after c.self.inside c.push.new.self _
     (counted c.self.inside.fate c.saturating_add-self-inside.result)
-    (record c.self.inside.place { column = c.next_changed-next.result }) 0
-    (Push c.self.inside.place.row c.self.inside.place.column) refl c.self.invariant c.push.ensures.after
-    (next c 0).form
+    (record c.self.inside.place { column = c.next_changed-next.result }) c.self.invariant
+    c.push.ensures.after refl (next c 0).form
     (pushed_timely c.self.inside.replica c.push.new.self c.self.inside.fate c.self.inside.place
     c.saturating_add-self-inside.result c.next_changed-next.result
     (known c)) refl
 
 pub invariant_of-self-else-next-columns : goal.invariant_of-self-else-next-columns
 invariant_of-self-else-next-columns c =
-    inside_after c.self.inside c.push.new.self
-    (counted c.self.inside.fate c.saturating_add-self-inside.result) c.leave_row.new.place 0
-    (Push c.self.inside.place.row c.self.inside.place.column) refl c.self.invariant c.push.ensures.after
-    (past c 0).form
+    inside_after c.self.inside c.push.new.self _
+    (counted c.self.inside.fate c.saturating_add-self-inside.result) c.leave_row.new.place c.self.invariant
+    c.push.ensures.after refl (past c 0).form
     (pushed_timely c.self.inside.replica c.push.new.self c.self.inside.fate c.self.inside.place
     c.saturating_add-self-inside.result c.next_changed-next.result
     (known_past c.before)) refl

@@ -1,44 +1,37 @@
-use Rattle.std.proofs.Common.{◌≡◌, true, refl, sym, subst, ℕ, ◌∙◌}
+use Rattle.std.proofs.Common.{◌≡◌, true, refl, sym, ap, subst, ℕ, ◌∙◌}
 use Rattle.dr_entry.specs.declared.record.Value.{Value}
-use Rattle.dr_program.specs.Replica.{may_vote}
+use Rattle.dr_program.specs.Replica.{may_vote, voted}
 use Rattle.dr_words.specs.Columns.{columns_of}
-use Rattle.dr_machine.specs.declared.step.Step.TheVariants.{LogVote}
 use Rattle.dr_program.specs.Turn.{part_of}
 use Rattle.dr_program.specs.Running.{goes}
+use Rattle.dr_member.specs.Inside.{view_of}
 use Rattle.dr_member.specs.Search.{standing}
-use Rattle.dr_member.proofs.Answers.{IsAnswer, answer_at, is_answer, is_done}
-use Rattle.dr_member.proofs.Moves.{append_taken, appended_timely, inside_after, vote_due_at, vote_step}
+use Rattle.dr_member.proofs.Answers.{IsAnswer, IsTaken, answer_at, is_answer, is_done}
+use Rattle.dr_member.proofs.Moves.{append_taken, inside_after, stays_timely, vote_due_at}
 use Rattle.dr_member.proofs.member.Member.vote_appended.Goals as goal
+
+-- the vote was taken
+known : (c : goal.After-settle-arg-3-1) (word : ℕ)
+    → IsTaken word (view_of c.self.inside) c.vote.new.self c.self.inside.fate c.go.new.place
+known c word = append_taken word c.args.self.now c.self.inside c.vote.new.self c.go.new.place c.self.view_is
+    c.self.invariant c.requires.due
+    (c.vote.ensures.after ∙ ap (voted c.self.inside.replica) c.value_due-value.ensures
+    ∙ sym ((vote_due_at c.args.self.now c.self.inside c.self.view_is c.self.invariant c.requires.due
+    c.requires.at).step word))
+    c.vote.ensures.form c.vote.ensures.grown
+    (c.go.ensures
+    ∙ (λ z. goes (c.shape.ensures.members z)
+    (columns_of (c.shape.ensures.members z) (c.shape.ensures.window z))
+    (part_of c.self.inside.place) c.self.inside.place))
 
 answer : (c : goal.After-settle) (word : ℕ)
     → IsAnswer word c.args.self.now
     (standing c.vote.new.self c.self.inside.fate c.settle.new.place)
 answer c word = answer_at word _ c.args.self.now _ c.self.view_is
-    (is_answer word _ _ _ _ _ c.settle.new.place
-    (append_taken word c.args.self.now c.self.inside (LogVote c.value_due-value.result) c.vote.new.self
-    c.go.new.place c.self.view_is c.self.invariant c.requires.due
-    (vote_step c.args.self.now c.self.inside c.value_due-value.result c.self.view_is
-    (vote_due_at c.args.self.now c.self.inside c.self.view_is c.self.invariant c.requires.due c.requires.at)
-    c.value_due-value.ensures) tt
-    c.vote.ensures.after c.vote.ensures.form c.vote.ensures.grown
-    (c.go.ensures
-    ∙ (λ z. goes (c.shape.ensures.members z)
-    (columns_of (c.shape.ensures.members z) (c.shape.ensures.window z))
-    (part_of c.self.inside.place) c.self.inside.place)))
-    c.settle.ensures)
+    (is_answer word _ _ _ _ c.settle.new.place (known c.before word) c.settle.ensures)
 
 pub settle-requires-clause-underway : goal.settle-requires-clause-underway
-settle-requires-clause-underway c = (is_done 0 _ _ _ _ _
-    (append_taken 0 c.args.self.now c.self.inside (LogVote c.value_due-value.result) c.vote.new.self
-    c.go.new.place c.self.view_is c.self.invariant c.requires.due
-    (vote_step c.args.self.now c.self.inside c.value_due-value.result c.self.view_is
-    (vote_due_at c.args.self.now c.self.inside c.self.view_is c.self.invariant c.requires.due c.requires.at)
-    c.value_due-value.ensures) tt
-    c.vote.ensures.after c.vote.ensures.form c.vote.ensures.grown
-    (c.go.ensures
-    ∙ (λ z. goes (c.shape.ensures.members z)
-    (columns_of (c.shape.ensures.members z) (c.shape.ensures.window z))
-    (part_of c.self.inside.place) c.self.inside.place)))).underway
+settle-requires-clause-underway c = (is_done 0 _ _ _ _ (known c 0)).underway
 
 pub value_due-value-requires : goal.value_due-value-requires
 value_due-value-requires c = record {
@@ -59,10 +52,9 @@ vote-requires-clause-free c =
 
 pub invariant_of-self : goal.invariant_of-self
 invariant_of-self c =
-    inside_after c.self.inside c.vote.new.self c.self.inside.fate c.settle.new.place 0
-    (LogVote c.value_due-value.result) refl c.self.invariant c.vote.ensures.after (answer c 0).form
-    (appended_timely c.self.inside (LogVote c.value_due-value.result) c.vote.new.self c.self.invariant tt
-    c.vote.ensures.after) refl
+    inside_after c.self.inside c.vote.new.self _ c.self.inside.fate c.settle.new.place c.self.invariant
+    c.vote.ensures.after refl (answer c 0).form
+    (stays_timely c.self.inside c.vote.new.self _ c.self.invariant c.vote.ensures.after refl) refl
 
 pub returns-clause-after : goal.returns-clause-after
 returns-clause-after c = λ word. (answer c word).after

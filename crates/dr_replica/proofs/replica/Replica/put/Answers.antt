@@ -9,6 +9,7 @@ use Rattle.dr_replica.proofs.Received.{put_received}
 use Rattle.dr_words.specs.declared.column.TheConstants.{RECEIVED_COLUMN}
 use Rattle.dr_replica.proofs.Exchanges.{WasPut, items_kept, put_after, put_shows, room_left}
 use Rattle.dr_replica.proofs.replica.Replica.put.Goals as goal
+use Rattle.dr_replica.proofs.replica.Replica.put.Goals.{After-take}
 
 pub put-requires-clause-free : goal.put-requires-clause-free
 put-requires-clause-free c =
@@ -24,50 +25,40 @@ take-requires-clause-room c =
     c.requires c.self.invariant.form in
     room_left c.self.inside c.me-me.result c.args.name c.args.item c.self.invariant may c.me-me.ensures.me
 
+-- the item was put, and taken
+was : (c : After-take)
+    → WasPut c.self.inside c.me-me.result c.count.result c.args.item c.put.new.rows c.take.new.self
+was c = record {
+  me = c.me-me.ensures.me;
+  count = c.count.ensures.count;
+  rows = c.put.ensures.after;
+  took = c.take.ensures;
+}
+
 pub show_items-requires-clause-recv : goal.show_items-requires-clause-recv
 show_items-requires-clause-recv c =
     let may = subst (λ (r : Replica). HasForm r → MayPut r c.args.name c.args.item) (sym c.self.view_is)
     c.requires c.self.invariant.form in
-    let was : WasPut c.self.inside c.me-me.result c.count.result c.args.item c.put.new.rows c.take.new.self =
-    record {
-      me = c.me-me.ensures.me;
-      count = c.count.ensures.count;
-      rows = c.put.ensures.after;
-      took = c.take.ensures;
-    } in
     (put_shows c.self.inside c.me-me.result c.count.result c.args.name c.args.item c.put.new.rows
-    c.take.new.self c.self.invariant may was).0
+    c.take.new.self c.self.invariant may (was (goal.at.show_items-requires-clause-recv c).After-take)).0
 
 pub show_items-requires-clause-received : goal.show_items-requires-clause-received
 show_items-requires-clause-received c =
     let may = subst (λ (r : Replica). HasForm r → MayPut r c.args.name c.args.item) (sym c.self.view_is)
     c.requires c.self.invariant.form in
-    let was : WasPut c.self.inside c.me-me.result c.count.result c.args.item c.put.new.rows c.take.new.self =
-    record {
-      me = c.me-me.ensures.me;
-      count = c.count.ensures.count;
-      rows = c.put.ensures.after;
-      took = c.take.ensures;
-    } in
     (put_shows c.self.inside c.me-me.result c.count.result c.args.name c.args.item c.put.new.rows
-    c.take.new.self c.self.invariant may was).1
+    c.take.new.self c.self.invariant may (was (goal.at.show_items-requires-clause-received c).After-take)).1
 
 pub invariant_of-self : goal.invariant_of-self
 invariant_of-self c =
     let may = subst (λ (r : Replica). HasForm r → MayPut r c.args.name c.args.item) (sym c.self.view_is)
     c.requires c.self.invariant.form in
-    let was : WasPut c.self.inside c.me-me.result c.count.result c.args.item c.put.new.rows c.take.new.self =
-    record {
-      me = c.me-me.ensures.me;
-      count = c.count.ensures.count;
-      rows = c.put.ensures.after;
-      took = c.take.ensures;
-    } in
     let there : view_of (record c.self.inside
     { rows = c.show_items.new.rows; items = c.take.new.self; sent = c.push.new.self })
     ≡ put (view_of c.self.inside) c.args.name c.args.item =
     put_after c.self.inside c.show_items.new.rows c.me-me.result c.count.result c.args.name c.args.item
-    c.put.new.rows c.take.new.self c.push.new.self.items c.self.invariant may was
+    c.put.new.rows c.take.new.self c.push.new.self.items c.self.invariant may
+    (was (goal.at.invariant_of-self c).After-take)
     (search rules) c.show_items.ensures in
     items_kept c.self.inside c.show_items.new.rows c.take.new.self c.me-me.result c.args.item
     c.push.new.self c.self.invariant c.take.ensures

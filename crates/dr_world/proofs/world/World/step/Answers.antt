@@ -7,8 +7,8 @@ use Rattle.dr_machine.specs.Acts.{Guard}
 use Rattle.dr_world.specs.Held.{Held, its_group, its_world}
 use Rattle.dr_world.specs.Inside.{held_of}
 use Rattle.dr_machine.specs.Events.{step_of}
-use Rattle.dr_program.specs.Steps.{stored}
-use Rattle.dr_world.specs.Steps.{IsInSight}
+use Rattle.dr_program.specs.Steps.{allows, stored}
+use Rattle.dr_world.specs.Steps.{IsSight}
 use Rattle.dr_world.proofs.Taking.{refused, nobody, refused_event, may_still, words_within, Took, took, stored_within, allowed}
 use Rattle.dr_world.proofs.Effects.{in_sight}
 use Rattle.dr_world.proofs.world.World.step.Goals as goal
@@ -67,12 +67,14 @@ take-requires-clause-sight c =
     (omega arith) c.if-m-len.false c.index.ensures in
     let may = may_still c.self.inside.replicas.items c.from-m.result c.args.event.now c.index.result.now
     c.index_mut-replica.result.now before there (sym c.may_take.ensures ∙ c.if-not-may_take.false) in
-    subst (λ (t : List ℕ). IsInSight t c.index_mut-replica.result.now (step_of c.args.event.now))
+    λ i k e. subst (λ (t : List ℕ). IsSight t c.index_mut-replica.result.now i k)
     (sym (c.store.ensures ∙ ap (λ (t : List ℕ). stored t c.index_mut-replica.result.now
     (step_of c.args.event.now)) c.as_mut_slice-table.ensures.value))
-    (in_sight (held_of c.self.inside) c.args.event.now c.index_mut-replica.result.now c.self.invariant
+    (in_sight (held_of c.self.inside) c.args.event.now c.index_mut-replica.result.now i k c.self.invariant
     (ap (slice_get c.self.inside.replicas.items) (sym m) ∙ there)
-    (allowed c.index_mut-replica.result.now c.args.event.now may))
+    (sym (ap (allows c.index_mut-replica.result.now) e)
+    ∙ allowed c.index_mut-replica.result.now c.args.event.now may)
+    (ap (stored c.self.inside.table.items c.index_mut-replica.result.now) e))
 
 -- the event was taken
 took_now : (c : goal.After-self-2-1) → Took c.args.self.now c.args.event.now (held_of (record {
