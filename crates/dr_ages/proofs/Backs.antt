@@ -79,12 +79,18 @@ passed_with {D} tells faults before yard olds news mounted later count rest m = 
         on_since tells faults (before.told m) (before.faults m) old.0 new (mounted m old.0 old.1)
         (later m old.0 new old.1 at)
 
+-- the disks of these logs are back in their yard, which is else as it was
+abbrev pub AreAllBack : {D : Type 0} → (D → Option Told) → (D → ℕ) → YardState → YardState → List (LogState D)
+    → Type 0
+AreAllBack {D} tells faults mid after logs =
+    (m : ℕ) → (after.told m ≡ (with_logs tells faults mid logs).told m)
+    × (after.faults m ≡ (with_logs tells faults mid logs).faults m)
+
 -- what is told behind them, where the disks are back and the others are as they were
 pub after_is : {D : Type 0} (tells : D → Option Told) (faults : D → ℕ) (before mid after : YardState)
     (logs : List (LogState D))
     → ((m : ℕ) → length logs ≤ m → (mid.told m ≡ before.told m) × (mid.faults m ≡ before.faults m))
-    → ((m : ℕ) → (after.told m ≡ (with_logs tells faults mid logs).told m)
-    × (after.faults m ≡ (with_logs tells faults mid logs).faults m))
+    → AreAllBack tells faults mid after logs
     → with_logs tells faults before logs ≡ after
 after_is tells faults before mid after logs rest back =
     same_yard (with_logs tells faults before logs) after
@@ -95,8 +101,7 @@ pub passed_back : {D : Type 0} (tells : D → Option Told) (faults : D → ℕ) 
     (olds news : List (LogState D)) → AreMounted tells faults before olds → AreLater tells faults olds news
     → length news ≡ length olds
     → ((m : ℕ) → length olds ≤ m → GoesOn (before.told m) (before.faults m) (mid.told m) (mid.faults m))
-    → ((m : ℕ) → (after.told m ≡ (with_logs tells faults mid news).told m)
-    × (after.faults m ≡ (with_logs tells faults mid news).faults m))
+    → AreAllBack tells faults mid after news
     → PassOn before after
 passed_back tells faults before mid after olds news mounted later count rest back =
     subst (λ (y : YardState). PassOn before y)
@@ -107,8 +112,7 @@ passed_back tells faults before mid after olds news mounted later count rest bac
 pub later_back : {D : Type 0} (tells : D → Option Told) (faults : D → ℕ) (mid after : YardState)
     (logs : List (LogState D))
     → ((m : ℕ) (log : LogState D) → slice_get logs m ≡ Some log → mid.faults m ≤ faults log.disk)
-    → ((m : ℕ) → (after.told m ≡ (with_logs tells faults mid logs).told m)
-    × (after.faults m ≡ (with_logs tells faults mid logs).faults m))
+    → AreAllBack tells faults mid after logs
     → (m : ℕ) → mid.faults m ≤ after.faults m
 later_back {D} tells faults mid after logs counted back m =
     subst (λ (n : ℕ). mid.faults m ≤ n) (sym (back m).1) (by (slice_get logs m) refl)

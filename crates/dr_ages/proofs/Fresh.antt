@@ -40,7 +40,7 @@ use Rattle.dr_ages.specs.Found.{AreFew, AreFound}
 use Rattle.dr_ages.specs.Stops.{HasStopped, IsOutside, IsTooFull}
 use Rattle.dr_ages.proofs.Chain.{tell_on}
 use Rattle.dr_ages.proofs.Good.{IsGood, age_leaves_good, empty_found, empty_good, good_never, part_of_history}
-use Rattle.dr_ages.proofs.Keeping.{IsBehind, found_left, longest_begins}
+use Rattle.dr_ages.proofs.Keeping.{IsBehind, behind, found_left, longest_begins}
 use Rattle.dr_ages.proofs.Votes.{found_valid}
 
 -- ---- the view of what an age leaves
@@ -162,7 +162,7 @@ fresh_next script mode k nth before yard age ranges fresh is = record {
   few = λ lists votes found m l.
       let e = slice_get-some age.members m (omega (arith, l, is.roster)) in
       let es = slice_get-some lists m (omega (arith, l, found.all)) in
-      let now = (found_left script yard age lists votes m e.0 es.0 (behind lists votes found) e.1 es.1).votes in
+      let now = (found_left script yard age lists votes m e.0 es.0 (after lists votes found) e.1 es.1).votes in
       omega (
         arith,
         ap length now.parts,
@@ -171,27 +171,19 @@ fresh_next script mode k nth before yard age ranges fresh is = record {
         fresh.few is.lists is.votes is.found m l,
       );
   next = λ lists votes found es longest.
-      let p = part_of_history script yard age lists votes longest.place es (behind lists votes found) longest.one in
+      let p = part_of_history script yard age lists votes longest.place es (after lists votes found) longest.one in
       next_of_part (opening_of script age) (sent_by (accounts_of age.members)) es
       (accounts_of age.members longest.place).history (is.agreed.agreed.ordered longest.place p.0)
-      (longest_begins script yard age lists votes es (behind lists votes found) longest) p.1
+      (longest_begins script yard age lists votes es (after lists votes found) longest) p.1
       ∙ ap (λ (n : ℕ). n + 1) (age_number script k nth before yard age fresh is);
 }
   where
     tell : AllTell script.members yard
     tell = tell_on script.members before yard is.passes fresh.tell
 
-    behind : (lists : List (List Entry)) (votes : ℕ → List Vote) → AreFound script.members yard lists votes
+    after : (lists : List (List Entry)) (votes : ℕ → List Vote) → AreFound script.members yard lists votes
         → IsBehind script yard age lists votes
-    behind lists votes found = record {
-      ranges = ranges;
-      mode = mode;
-      nth = nth;
-      before = before;
-      is = is;
-      tell = tell;
-      found = found;
-    }
+    after = behind script mode nth before yard age ranges is tell
 
 pub fresh_last : (script : Script) (mode : Mode) (k nth : ℕ) (before : YardState) (ages : List AgeEnd) (last : YardState)
     → HasGroupRanges script → IsFreshAt script k before → AreAges script mode nth before ages last

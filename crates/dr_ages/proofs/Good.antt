@@ -34,7 +34,7 @@ use Rattle.dr_ages.specs.Ages.{IsAgeOf, opening_of, start_of}
 use Rattle.dr_ages.specs.Found.{AreFound, ReadsAs}
 use Rattle.dr_ages.specs.Left.{HasLeft}
 use Rattle.dr_ages.specs.Stops.{HasStopped, IsBadLogs, ReadsDamaged}
-use Rattle.dr_ages.proofs.Keeping.{IsBehind, found_left, left_part}
+use Rattle.dr_ages.proofs.Keeping.{IsBehind, behind, found_left, left_part}
 
 -- whatever is found on the disks makes sound lists that are along one another, and no disk is damaged
 pub record IsGood (script : Script) (yard : YardState) : Type 0 where
@@ -128,17 +128,9 @@ age_leaves_good script mode nth before yard age ranges is tell = record {
     all : length age.members ≡ roster (group_of script (start_of script age))
     all = is.roster ∙ sym ranges.lists
 
-    behind : (lists : List (List Entry)) (votes : ℕ → List Vote) → AreFound script.members yard lists votes
+    after : (lists : List (List Entry)) (votes : ℕ → List Vote) → AreFound script.members yard lists votes
         → IsBehind script yard age lists votes
-    behind lists votes found = record {
-      ranges = ranges;
-      mode = mode;
-      nth = nth;
-      before = before;
-      is = is;
-      tell = tell;
-      found = found;
-    }
+    after = behind script mode nth before yard age ranges is tell
 
     -- each log has a first part of its member's history
     parts : (lists : List (List Entry)) (votes : ℕ → List Vote) → AreFound script.members yard lists votes
@@ -149,7 +141,7 @@ age_leaves_good script mode nth before yard age ranges is tell = record {
           e.0,
           e.1,
           left_part e.0 es
-              (found_left script yard age lists votes m e.0 es (behind lists votes found) e.1 at).entries,
+              (found_left script yard age lists votes m e.0 es (after lists votes found) e.1 at).entries,
         )
 
     whole : (m at : ℕ) → m < script.members → IfSome (yard.told m) (ReadsDamaged at) → ⊥

@@ -162,6 +162,20 @@ pub record IsBehind (script : Script) (yard : YardState) (age : AgeEnd) (lists :
   pub tell : AllTell script.members yard
   pub found : AreFound script.members yard lists votes
 
+abbrev pub behind : (script : Script) (mode : Mode) (nth : ℕ) (before yard : YardState) (age : AgeEnd)
+    → HasGroupRanges script → IsAgeOf script mode nth before yard age → AllTell script.members yard
+    → (lists : List (List Entry)) (votes : ℕ → List Vote) → AreFound script.members yard lists votes
+    → IsBehind script yard age lists votes
+behind script mode nth before yard age ranges is tell lists votes found = record {
+  ranges = ranges;
+  mode = mode;
+  nth = nth;
+  before = before;
+  is = is;
+  tell = tell;
+  found = found;
+}
+
 pub found_left : (script : Script) (yard : YardState) (age : AgeEnd) (lists : List (List Entry))
     (votes : ℕ → List Vote) (m : ℕ) (e : MemberEnd) (es : List Entry) → (b : IsBehind script yard age lists votes)
     → slice_get age.members m ≡ Some e → slice_get lists m ≡ Some es → IsLeftBy e (b.is.votes m) es (votes m)
@@ -201,18 +215,11 @@ sound_age script nth before after age ranges is =
 
 -- ---- ages beside one another
 
-behind : (script : Script) (start : YardState) (a b : AgeEnd) → HasGroupRanges script
+behind_first : (script : Script) (start : YardState) (a b : AgeEnd) → HasGroupRanges script
     → AllTell script.members start → (r : AreBeside script start a b)
     → IsBehind script r.mid a r.second.lists r.second.votes
-behind script start a b ranges tell r = record {
-  ranges = ranges;
-  mode = r.mode;
-  nth = r.nth;
-  before = r.before;
-  is = r.first;
-  tell = tell_on script.members start r.mid r.passes tell;
-  found = r.second.found;
-}
+behind_first script start a b ranges tell r = behind script r.mode r.nth r.before r.mid a ranges r.first
+    (tell_on script.members start r.mid r.passes tell) r.second.lists r.second.votes r.second.found
 
 keeps_next : (script : Script) (start : YardState) (a b : AgeEnd) → HasGroupRanges script
     → AllTell script.members start → AreBeside script start a b
@@ -220,7 +227,7 @@ keeps_next : (script : Script) (start : YardState) (a b : AgeEnd) → HasGroupRa
 keeps_next script start a b ranges tell r =
     next_keeps (opening_of script a) (opening_of script b) a.members r.second.lists
     (sound_age script r.nth r.before r.mid a ranges r.first) r.first.agreed
-    (leave_logs script r.mid a r.second.lists r.second.votes (behind script start a b ranges tell r))
+    (leave_logs script r.mid a r.second.lists r.second.votes (behind_first script start a b ranges tell r))
     (sound_age script (r.nth + 1) r.mid r.after b ranges r.second) r.second.starts.restart.longest
 
 -- a later start begins with an earlier one
@@ -229,7 +236,7 @@ grows : (script : Script) (start : YardState) (a b : AgeEnd) → HasGroupRanges 
 grows script start a b ranges tell r =
     prefix_then a.start (first_entries (opening_of script a)) b.start
     (View a.age 0 (opening_of script a).members ∷ [], refl)
-    (longest_begins script r.mid a r.second.lists r.second.votes b.start (behind script start a b ranges tell r)
+    (longest_begins script r.mid a r.second.lists r.second.votes b.start (behind_first script start a b ranges tell r)
     r.second.starts.restart.longest)
 
 -- what a member knew to be durable, by its account

@@ -83,11 +83,14 @@ place_at-within sent h i p at = by (slice_get h i) refl
     by None e = let none : place_at sent h i ≡ None = rw e refl in absurd (none-some p (sym none ∙ at))
     by (Some x) e = slice_get_within h i x e
 
--- the parts of an order behind the first `start + 1` entries
+-- the parts of an order that its views and places are in, behind the first `start + 1` entries
+abbrev pub FrontParts : Opening → Sent → List Entry → ℕ → Type 0
+FrontParts o sent h start =
+    (IsPrefixOf (first_entries o) h × ViewsFollow h start) × (AllPlaced sent h start × PlacesRise sent h start)
+
+-- all parts of it
 abbrev pub Parts : Opening → Sent → List Entry → ℕ → Type 0
-Parts o sent h start =
-    ((IsPrefixOf (first_entries o) h × ViewsFollow h start) × (AllPlaced sent h start × PlacesRise sent h start))
-    × (AllNumbered o h × LastViewWhole sent h start)
+Parts o sent h start = FrontParts o sent h start × (AllNumbered o h × LastViewWhole sent h start)
 
 -- the parts together are the order
 pub InOrder-from_parts : (o : Opening) (sent : Sent) (h : List Entry) (start : ℕ)

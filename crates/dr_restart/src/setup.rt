@@ -2,7 +2,7 @@
 ghost use Rattle.std.specs.Prelude.{◌≡◌, ◌≤◌, ◌<◌, All, IfOk, [], length, map, slice_index_or};
 ghost use Rattle.std.specs.List.{range_with_len};
 ghost use Rattle.dr_script.specs.Ranges.{HasGroupRanges};
-ghost use Rattle.dr_restart.specs.Setups.{IsSetupOf, crash_of, crashes_of, suspicion_of, suspicions_of};
+ghost use Rattle.dr_restart.specs.Setups.{IsSetupOf, crashes_of, suspicions_of};
 
 use crate::copies::{copy_entries, copy_messages};
 use crate::start::Start;
@@ -43,7 +43,7 @@ pub fn setup_of(
     ensures { IfOk result (λ s. IsSetupOf script.now start.now nth me s) }
 {
     let lists = script.messages.as_slice();
-    let faults = script.faults.as_slice();
+    let (crashes, suspicions) = faults_of(alloc, script.faults.as_slice(), nth, me)?;
     Ok(Setup {
         shape: shape_of(script),
         me,
@@ -54,8 +54,8 @@ pub fn setup_of(
         start: copy_entries(alloc, &start.entries)?,
         messages: copy_messages(alloc, &lists[usize::from(me)])?,
         totals: totals_of(lists),
-        crashes: Seq::of(crashes_of(alloc, faults, nth, me)?),
-        suspicions: Seq::of(suspicions_of(alloc, faults, nth, me)?),
+        crashes: Seq::of(crashes),
+        suspicions: Seq::of(suspicions),
     })
 }
 
@@ -72,56 +72,26 @@ fn totals_of(lists: &[Seq<Message>]) -> [u32; MAX_MEMBERS]
     totals
 }
 
-/// The points at which the member `me` crashes in the age `nth`, in the order of the faults.
-fn crashes_of(
+/// The crashes and the suspicions of the member `me` in the age `nth`, each in the order of the faults.
+fn faults_of(
     alloc: Global,
     faults: &[Fault],
     nth: u8,
     me: u8,
-) -> Result<Vec<CrashPoint>, AllocError>
-    ensures { IfOk result (λ points. points.items ≡ crashes_of faults.now nth me) }
+) -> Result<(Vec<CrashPoint>, Vec<Suspicion>), AllocError>
+    ensures crashes { IfOk result (λ found. found.0.items ≡ crashes_of faults.now nth me) }
+    ensures suspicions { IfOk result (λ found. found.1.items ≡ suspicions_of faults.now nth me) }
 {
-    faults
-        .iter()
-        .filter_map(|fault| crash_of(fault, nth, me))
-        .collect(alloc)
-}
-
-/// The crash point that a fault is to the member `me` in the age `nth`.
-fn crash_of(fault: &Fault, nth: u8, me: u8) -> Option<CrashPoint>
-    ensures { result ≡ crash_of nth me fault.now }
-{
-    match fault.what {
-        What::Crash { turn, push } if fault.age == nth && fault.member == me => {
-            Some(CrashPoint { turn, push })
+    let mut crashes = Vec::new(alloc);
+    let mut suspicions = Vec::new(alloc);
+    for fault in faults {
+        if fault.age != nth || fault.member != me {
+            continue;
         }
-        _ => None,
-    }
-}
-
-/// The suspicions that the member `me` has in the age `nth`, in the order of the faults.
-fn suspicions_of(
-    alloc: Global,
-    faults: &[Fault],
-    nth: u8,
-    me: u8,
-) -> Result<Vec<Suspicion>, AllocError>
-    ensures { IfOk result (λ suspicions. suspicions.items ≡ suspicions_of faults.now nth me) }
-{
-    faults
-        .iter()
-        .filter_map(|fault| suspicion_of(fault, nth, me))
-        .collect(alloc)
-}
-
-/// The suspicion that a fault is to the member `me` in the age `nth`.
-fn suspicion_of(fault: &Fault, nth: u8, me: u8) -> Option<Suspicion>
-    ensures { result ≡ suspicion_of nth me fault.now }
-{
-    match fault.what {
-        What::Suspect { turn, other } if fault.age == nth && fault.member == me => {
-            Some(Suspicion { turn, other })
+        match fault.what {
+            What::Crash { turn, push } => crashes.push(CrashPoint { turn, push })?,
+            What::Suspect { turn, other } => suspicions.push(Suspicion { turn, other })?,
         }
-        _ => None,
     }
+    Ok((crashes, suspicions))
 }

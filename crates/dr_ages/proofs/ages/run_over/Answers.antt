@@ -13,7 +13,9 @@ use Rattle.dr_ages.specs.Opened.{AreCaughtUp, AreLater}
 use Rattle.dr_ages.specs.Stops.{HasStopped}
 use Rattle.dr_ages.specs.Watched.{HasSeen}
 use Rattle.dr_ages.proofs.Played.{are_opened, is_age, later_on, ok_at, same_start}
+use Rattle.dr_ages.proofs.ages.run_over.Given.{Over}
 use Rattle.dr_ages.proofs.ages.run_over.Goals as goal
+use Rattle.dr_ages.proofs.ages.run_over.Goals.{After-play_age-ended}
 
 pub play_age-ended-requires-clause-logs : goal.play_age-ended-requires-clause-logs
 play_age-ended-requires-clause-logs g c κs h =
@@ -93,8 +95,10 @@ returns-in-Ok-ended-clause-watched g c =
     c.in-Ok.ensures.start run.0)
     (ok_at _ ended age c.in-Ok-ended.is c.play_age-ended.ensures.watched)
 
-pub returns-in-Ok-ended-clause-later : goal.returns-in-Ok-ended-clause-later
-returns-in-Ok-ended-clause-later g c =
+-- a log is later behind the opening and the age
+both : (g : Over) (c : After-play_age-ended g)
+    → AreLater g.D.Disk.told g.D.Disk.faults c.args.logs.items c.play_age-ended.result.1.items
+both g c =
     let told = g.D.Disk.told in
     let faults = g.D.Disk.faults in
     let same = with_items_is c.args.logs c.open_age.new.logs
@@ -106,15 +110,9 @@ returns-in-Ok-ended-clause-later g c =
     (subst (λ (l : List (LogState g.row.D.Denot)). AreLater told faults l c.play_age-ended.result.1.items) same
     c.play_age-ended.ensures.later)
 
+pub returns-in-Ok-ended-clause-later : goal.returns-in-Ok-ended-clause-later
+returns-in-Ok-ended-clause-later g c =
+    both g (goal.at.returns-in-Ok-ended-clause-later g c).After-play_age-ended
+
 pub returns-clause-later : goal.returns-clause-later
-returns-clause-later g c =
-    let told = g.D.Disk.told in
-    let faults = g.D.Disk.faults in
-    let same = with_items_is c.args.logs c.open_age.new.logs
-    (c.open_age.ensures.count ∙ c.as_mut_slice.ensures.len) in
-    later_on told faults c.args.logs.items c.open_age.new.logs c.play_age-ended.result.1.items
-    (c.open_age.ensures.count ∙ ap length c.as_mut_slice.ensures.value)
-    (subst (λ (l : List (LogState g.row.D.Denot)). AreLater told faults l c.open_age.new.logs)
-    c.as_mut_slice.ensures.value c.open_age.ensures.later)
-    (subst (λ (l : List (LogState g.row.D.Denot)). AreLater told faults l c.play_age-ended.result.1.items) same
-    c.play_age-ended.ensures.later)
+returns-clause-later g c = both g (goal.at.returns-clause-later g c).After-play_age-ended
