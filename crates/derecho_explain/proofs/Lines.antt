@@ -1,17 +1,15 @@
 -- What is said of a text, by what is read of it.
-use Rattle.std.proofs.Common.{◌≡◌, ◌==◌, ◌∙◌, sym, ap, subst, Bool, true, ℕ, List, length, Option, Some, [], String, Result, Ok, Err, IfOk, string_bytes, arith}
-use Rattle.std.proofs.lemmas.List.{nil_from_length}
+use Rattle.std.proofs.Common.{◌≡◌, ◌∙◌, sym, ap, subst, ℕ, List, Some, Result, Ok, Err, IfOk, string_bytes}
 use Rattle.std.proofs.lemmas.Option.{none-some, same_Some}
-use Rattle.std.specs.declared.alloc.Global.{Global}
-use Rattle.dr_intake.specs.Reading.{WasRead, refusal_in}
+use Rattle.dr_intake.specs.Reading.{refusal_in}
 use Rattle.dr_intake.specs.Status.{status_of}
 use Rattle.dr_script.specs.declared.script.Script.{Script}
-use Rattle.dr_script.specs.Reading.{Reading, TooLong, NotJson, Wrong, Reads, reading_of}
+use Rattle.dr_script.specs.Reading.{Reading, TooLong, NotJson, Wrong, Reads}
 use Rattle.dr_text.specs.declared.last.Last.{Last}
 use Rattle.dr_text.specs.declared.last.Last.TheVariants as lasts
 use Rattle.dr_text.specs.Report.{last_text}
-use Rattle.derecho_explain.specs.declared.top.Answer.{Answer}
-use Rattle.derecho_explain.specs.Answer.{BeginsWith, IsAnswer, IsAnswerFor, read, turns_line}
+use Rattle.dr_intake.specs.declared.answer.Answer.{Answer}
+use Rattle.derecho_explain.specs.Answer.{BeginsWith, IsAnswerFor, turns_line}
 
 -- the answer to a script
 pub script_answer : (r : Reading) (s : Script) (text : List ℕ) (status : ℕ) → r ≡ Reads s
@@ -55,16 +53,3 @@ pub refused_if : {E : Type 0} (answer : Result Answer E) (r : Reading) (line : L
     → IfOk answer (λ a. IsAnswerFor r (string_bytes a.text) a.status)
 refused_if (Ok a) r line is begins due = refused_answer r line (string_bytes a.text) a.status is begins due
 refused_if (Err e) r line is begins due = tt
-
--- no words are an empty list
-pub none_if : (words : List (String Global)) (empty : Bool) → empty ≡ (length words == 0) → empty ≡ true
-    → words ≡ []
-none_if words empty is said = nil_from_length words (grind (arith, is, said))
-
--- what was read decides the answer of a call without words
-pub read_if : {E : Type 0} (answer : Result Answer E) (words : List (String Global))
-    (old new : Option (List ℕ)) (failed fails : ℕ) (bytes : List ℕ) → words ≡ [] → WasRead old new bytes
-    → IfOk answer (λ a. IsAnswerFor (reading_of bytes) (string_bytes a.text) a.status)
-    → IfOk answer (λ a. IsAnswer words old new failed fails (string_bytes a.text) a.status)
-read_if (Ok a) words old new failed fails bytes none was is = read none bytes was is
-read_if (Err e) words old new failed fails bytes none was is = tt

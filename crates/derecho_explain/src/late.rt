@@ -16,7 +16,7 @@ pub(crate) fn push_late(out: &mut String, script: &Script) -> Result<(), AllocEr
         if let Some(earlier) = crash_before(faults, index, fault) {
             writeln!(
                 out,
-                "fault {index} never comes: member {member} has crashed by then, by fault {earlier}"
+                "fault {index} never comes: member {member} has ended by then, by fault {earlier} at the latest"
             )?;
         } else if script.schedule == Schedule::Lockstep && is_late(faults, fault.age, enough) {
             writeln!(
@@ -28,12 +28,19 @@ pub(crate) fn push_late(out: &mut String, script: &Script) -> Result<(), AllocEr
     Ok(())
 }
 
-/// The number of a fault by which the member of this one has crashed before this one would come.
+/// The number of the fault by which the member of this one crashes first, where that is before this one would
+/// come.
 fn crash_before(faults: &[Fault], index: usize, fault: &Fault) -> Option<usize> {
-    faults
-        .iter()
-        .enumerate()
-        .position(|(at, other)| is_crash_before(at, other, index, fault))
+    let mut first = None;
+    for (at, other) in faults.iter().enumerate() {
+        if let What::Crash { turn, push } = other.what {
+            let is_first = first.is_none_or(|found| (turn, push, at) < found);
+            if is_first && is_crash_before(at, other, index, fault) {
+                first = Some((turn, push, at));
+            }
+        }
+    }
+    first.map(|(_, _, at)| at)
 }
 
 /// Whether the fault numbered `at` is a crash of the same member in the same age, and comes first.

@@ -7,21 +7,11 @@ ghost use Rattle.derecho_explain.specs.Answer.{BeginsWith, IsAnswer, IsAnswerFor
 
 use crate::reasons::{reasons_for, words_for};
 use crate::turns::push_turns;
-use dr_intake::{
-    DONE, OUT_OF_MEMORY, READ_FAULT, READ_LIMIT, ReadFault, USAGE, WRITE_FAULT, read_all,
-    script_or_refusal, status_of,
-};
+use dr_intake::{Answer, DONE, OUT_OF_MEMORY, bytes_or_answer, script_or_refusal, status_of};
 use dr_io::{Sink, Source};
 use dr_script::Script;
-use dr_text::{Last, push_last, write_all};
+use dr_text::{Last, push_last};
 use std::alloc::{AllocError, Global};
-
-/// What a call has to say, and the status that is due.
-#[derive(Drop)]
-struct Answer {
-    text: String,
-    status: u8,
-}
 
 /// Reads a text from the source, writes to the sink what is to be said of it, and answers the status.
 ///
@@ -46,10 +36,7 @@ pub fn explain<S: Source, K: Sink>(
     let Ok(answer) = answer_to(alloc, words, source) else {
         return OUT_OF_MEMORY;
     };
-    match write_all(sink, answer.text.as_str().as_bytes()) {
-        Ok(()) => answer.status,
-        Err(_) => WRITE_FAULT,
-    }
+    answer.write(sink)
 }
 
 /// What is to be said of what the source has.
@@ -63,29 +50,11 @@ fn answer_to<S: Source>(
     ensures told { IfOk result
         (λ a. (S.faults source.new ≡ S.faults source.old) ⊎ (a.status ≡ 4)) }
 {
-    if !words.is_empty() {
-        return Ok(Answer {
-            text: String::from_str(alloc, "usage: derecho_explain < SCRIPT\n")?,
-            status: USAGE,
-        });
-    }
-    match read_all(alloc, source, READ_LIMIT) {
+    match bytes_or_answer(alloc, "usage: derecho_explain < SCRIPT\n", words, source) {
         Ok(bytes) => answer_for(alloc, &bytes),
-        Err(ReadFault::Failed) => source_fault(alloc),
-        Err(ReadFault::OutOfMemory) => Err(AllocError),
+        Err(Some(answer)) => Ok(answer),
+        Err(None) => Err(AllocError),
     }
-}
-
-fn source_fault(alloc: Global) -> Result<Answer, AllocError>
-    ensures text { IfOk result (λ a. string_bytes a.text ≡ last_text Last.SourceFault) }
-    ensures status { IfOk result (λ a. a.status ≡ 4) }
-{
-    let mut text = String::new(alloc);
-    push_last(&mut text, &Last::SourceFault)?;
-    Ok(Answer {
-        text,
-        status: READ_FAULT,
-    })
 }
 
 /// What is to be said of these bytes.

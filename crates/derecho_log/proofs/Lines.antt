@@ -9,7 +9,7 @@ use Rattle.dr_log.specs.Grammar.{BreaksAt, blocks, magic}
 use Rattle.dr_log.specs.Parsed.{IsReadTo}
 use Rattle.dr_log.specs.Standing.{block_length}
 use Rattle.dr_log.proofs.Reading.{begun_read, closed_read, next_read}
-use Rattle.derecho_log.specs.declared.text.LogText.{LogText}
+use Rattle.dr_intake.specs.declared.answer.Answer.{Answer}
 use Rattle.derecho_log.specs.Text.{IsTold, broken, whole, end_line, record_text, records_text}
 
 -- the lines of these records are printed, and their blocks end at this place
@@ -77,7 +77,7 @@ broken_told bytes text text' at status long is block line due =
     broken long at front (line ∙ ap (λ (l : List ℕ). l ++ end_line (codes "damaged at ") at) is.printed) due
 
 -- the same, where the text of the end could be made
-pub closed_if : {E : Type 0} (r : Result LogText E) (bytes text : List ℕ) (at : ℕ) → 9 < length bytes
+pub closed_if : {E : Type 0} (r : Result Answer E) (bytes text : List ℕ) (at : ℕ) → 9 < length bytes
     → IsPrinted bytes text at → IsBlockAt bytes at found.Closed
     → IfOk r (λ log. string_bytes log.text ≡ text ++ end_line (codes "closed at ") at)
     → IfOk r (λ log. log.status ≡ 0) → IfOk r (λ log. IsTold bytes (string_bytes log.text) log.status)
@@ -85,7 +85,7 @@ closed_if (Ok log) bytes text at long is block line due =
     closed_told bytes text (string_bytes log.text) at log.status long is block line due
 closed_if (Err e) bytes text at long is block line due = tt
 
-pub broken_if : {E : Type 0} (r : Result LogText E) (bytes text : List ℕ) (at : ℕ) → 9 < length bytes
+pub broken_if : {E : Type 0} (r : Result Answer E) (bytes text : List ℕ) (at : ℕ) → 9 < length bytes
     → IsPrinted bytes text at → IsBlockAt bytes at found.Broken
     → IfOk r (λ log. string_bytes log.text ≡ text ++ end_line (codes "damaged at ") at)
     → IfOk r (λ log. log.status ≡ 7) → IfOk r (λ log. IsTold bytes (string_bytes log.text) log.status)

@@ -1,11 +1,10 @@
 ghost use Rattle.std.specs.Prelude.{◌≡◌, ◌⊎◌};
 ghost use Rattle.derecho_log.specs.Printed.{Printed};
 
-use crate::text::{LogText, log_text};
-use dr_intake::{OUT_OF_MEMORY, READ_FAULT, ReadFault, WRITE_FAULT, read_all};
+use crate::text::log_text;
+use dr_intake::{OUT_OF_MEMORY, READ_FAULT, ReadFault, read_all};
 use dr_io::{Sink, Source};
-use dr_text::write_all;
-use std::alloc::{AllocError, Global};
+use std::alloc::Global;
 
 /// Reads the log that a source has, prints it to the sink, and answers the status: 0 for a log, 7 for one that
 /// is damaged, 4 where the source failed, 5 where the sink failed, 10 where memory was wanting.
@@ -25,8 +24,5 @@ pub fn print_log<S: Source, K: Sink>(alloc: Global, source: &mut S, sink: &mut K
     let Ok(log) = log_text(alloc, &bytes) else {
         return OUT_OF_MEMORY;
     };
-    match write_all(sink, log.text.as_str().as_bytes()) {
-        Ok(()) => log.status,
-        Err(_) => WRITE_FAULT,
-    }
+    log.write(sink)
 }

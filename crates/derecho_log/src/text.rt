@@ -5,7 +5,7 @@ ghost use Rattle.derecho_log.specs.Text.{IsTold, end_line, record_text};
 
 use crate::votes::push_vote;
 use dr_entry::Record;
-use dr_intake::{DONE, LOGS_REFUSED};
+use dr_intake::{Answer, DONE, LOGS_REFUSED};
 use dr_log::{Block, FIRST_GATE, begins_as_log, block_at};
 use dr_text::push_entry;
 use std::alloc::{AllocError, Global};
@@ -14,22 +14,15 @@ use std::fmt::Write;
 /// A file that is no longer is a log that is being made.
 const EMPTY: usize = 9;
 
-/// What is printed of a log, and the status that is due.
-#[derive(Drop)]
-pub(crate) struct LogText {
-    pub text: String,
-    pub status: u8,
-}
-
 /// What is printed of a log of these bytes: a line for each record, and one for its end.
 #[tactic(auto, using(crate::proofs::Lines::begun_printed, crate::proofs::Lines::next_printed, crate::proofs::Lines::closed_told, crate::proofs::Lines::broken_told))]
-pub(crate) fn log_text(alloc: Global, bytes: &[u8]) -> Result<LogText, AllocError>
+pub(crate) fn log_text(alloc: Global, bytes: &[u8]) -> Result<Answer, AllocError>
     ensures { IfOk result (λ log. IsTold bytes.now (string_bytes log.text) log.status) }
 {
     let mut text = String::new(alloc);
     if bytes.len() <= EMPTY {
         text.push_str("empty\n")?;
-        return Ok(LogText { text, status: DONE });
+        return Ok(Answer { text, status: DONE });
     }
     if !begins_as_log(bytes) {
         return ended(text, "damaged at ", 0, LOGS_REFUSED);
@@ -48,14 +41,14 @@ pub(crate) fn log_text(alloc: Global, bytes: &[u8]) -> Result<LogText, AllocErro
 }
 
 /// The text with the line of its end behind it.
-fn ended(text: String, end: &str, at: usize, status: u8) -> Result<LogText, AllocError>
+fn ended(text: String, end: &str, at: usize, status: u8) -> Result<Answer, AllocError>
     ensures text { IfOk result (λ log. string_bytes log.text
         ≡ string_bytes text ++ end_line end.now at) }
     ensures status { IfOk result (λ log. log.status ≡ status) }
 {
     let mut text = text;
     writeln!(text, "{end}{at}")?;
-    Ok(LogText { text, status })
+    Ok(Answer { text, status })
 }
 
 /// Appends the place of a record and its line.

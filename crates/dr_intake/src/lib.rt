@@ -1,12 +1,14 @@
 //! What the programs share that read a script: their words, how a script is read from a source or refused,
-//! and the statuses that they end with.
+//! what they answer, and the statuses that they end with.
 #![tactic(auto)]
 
+mod answer;
 mod reading;
 mod script;
 mod status;
 mod words;
 
+pub use answer::{Answer, bytes_or_answer};
 pub use reading::{ReadFault, read_all};
 pub use script::{READ_LIMIT, script_or_refusal};
 pub use status::{

@@ -1,35 +1,10 @@
-use Rattle.std.proofs.Common.{ℕ, List, ◌∙◌, inl, inr, refl, string_bytes, subst}
-use Rattle.dr_io.specs.Sink.{Gains}
-use Rattle.dr_text.specs.Writing.{WroteFront}
+use Rattle.std.proofs.Common.{inr, string_bytes}
 use Rattle.derecho_explain.proofs.top.explain.Goals as goal
 
-pub returns-in-Ok-write_all-clause-told : goal.returns-in-Ok-write_all-clause-told
-returns-in-Ok-write_all-clause-told g c =
-    let held = g.K.Sink.held c.args.sink.now in
-    let holds = g.K.Sink.held c.write_all.new.sink in
-    inr (record {
-      text = string_bytes c.in-Ok.answer.text;
-      due = c.in-Ok.answer.status;
-      answer = c.in-Ok.ensures.answer;
-      wrote = inl (
-        refl,
-        subst (λ (l : List ℕ). Gains held holds l)
-            (c.as_bytes.ensures.value ∙ c.as_str.ensures.value) c.in-Ok-write_all.ensures.ok,
-      );
-    })
-
 pub returns-clause-told : goal.returns-clause-told
-returns-clause-told g c =
-    let held = g.K.Sink.held c.args.sink.now in
-    let holds = g.K.Sink.held c.write_all.new.sink in
-    inr (record {
-      text = string_bytes c.in-Ok.answer.text;
-      due = c.in-Ok.answer.status;
-      answer = c.in-Ok.ensures.answer;
-      wrote = inr (
-        refl,
-        c.in-Err.ensures.cause.failed,
-        subst (λ (l : List ℕ). WroteFront held holds l)
-            (c.as_bytes.ensures.value ∙ c.as_str.ensures.value) c.in-Err.ensures.err,
-      );
-    })
+returns-clause-told g c = inr (record {
+  text = string_bytes c.in-Ok.answer.text;
+  due = c.in-Ok.answer.status;
+  answer = c.in-Ok.ensures.answer;
+  wrote = c.write.ensures.wrote;
+})
