@@ -43,9 +43,9 @@ pub(crate) fn push_leaving(out: &mut String, does: &str, leavers: u16) -> Result
 }
 
 /// Appends how many items of each of the first `members` members are still delivered.
-pub(crate) fn push_trim(out: &mut String, trim: &[u32], members: u8) -> Result<(), AllocError> {
+pub(crate) fn push_trim(out: &mut String, trim: &[u32], members: usize) -> Result<(), AllocError> {
     out.push_str("trim")?;
-    for count in &trim[..trim.len().min(usize::from(members))] {
+    for count in &trim[..trim.len().min(members)] {
         write!(out, " {count}")?;
     }
     Ok(())

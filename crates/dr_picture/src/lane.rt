@@ -5,8 +5,6 @@
 pub(crate) struct Lane {
     /// The view that it is in, if it is in one.
     pub band: Option<Band>,
-    /// How many entries of its history are drawn.
-    pub entries: usize,
     /// Behind which row its entries at the end of a view are to be drawn, if rows are left free for them.
     pub reserved: Option<u32>,
     /// The number of its turn.
@@ -25,11 +23,10 @@ pub(crate) struct Band {
 }
 
 impl Lane {
-    /// The lane of a member before it does anything, with so many entries.
-    pub(crate) fn new(entries: usize) -> Lane {
+    /// The lane of a member before it does anything.
+    pub(crate) fn new() -> Lane {
         Lane {
             band: None,
-            entries,
             reserved: None,
             turn: 0,
             turn_is_told: true,

@@ -3,6 +3,7 @@
 
 mod labels;
 mod lane;
+mod legend;
 mod picture;
 mod shapes;
 mod sheet;

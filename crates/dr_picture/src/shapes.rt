@@ -1,4 +1,7 @@
 //! The marks of a picture, and their colours.
+ghost use Rattle.std.specs.Prelude.{◌≡◌, ◌++◌, OnOk, string_bytes};
+ghost use Rattle.dr_picture.specs.Marks.{filling, mark_text, outline, words_text};
+
 use std::alloc::AllocError;
 use std::fmt::Write;
 
@@ -43,7 +46,9 @@ pub(crate) enum Shape {
 
 impl Shape {
     /// Its outline around a point.
-    fn outline(self) -> &'static str {
+    fn outline(self) -> &'static str
+        ensures { result.now ≡ outline self }
+    {
         match self {
             Shape::Square | Shape::HollowSquare => "m-4.5-4.5h9v9h-9z",
             Shape::Dot => "m-4 0a4 4 0 1 0 8 0a4 4 0 1 0-8 0z",
@@ -53,9 +58,14 @@ impl Shape {
         }
     }
 
-    /// Whether it is drawn by its outline alone.
-    fn is_hollow(self) -> bool {
-        matches!(self, Shape::HollowSquare | Shape::HollowDiamond)
+    /// What it is filled with, in this colour: a hollow one with white.
+    fn filling(self, colour: &str) -> &str
+        ensures { result.now ≡ filling self colour.now }
+    {
+        match self {
+            Shape::HollowSquare | Shape::HollowDiamond => "white",
+            _ => colour,
+        }
     }
 }
 
@@ -75,12 +85,33 @@ pub(crate) fn push_shape(
     shape: Shape,
     at: Point,
     colour: &str,
-) -> Result<(), AllocError> {
+) -> Result<(), AllocError>
+    ensures { OnOk result
+        (string_bytes out.new ≡ string_bytes out.old ++ mark_text shape at colour.now) }
+{
     let Point { x, y } = at;
     let outline = shape.outline();
-    let fill = if shape.is_hollow() { "white" } else { colour };
+    let filling = shape.filling(colour);
     writeln!(
         out,
-        "<path d='M{x} {y}{outline}' fill='{fill}' stroke='{colour}'/>"
+        "<path d='M{x} {y}{outline}' fill='{filling}' stroke='{colour}'/>"
+    )
+}
+
+/// Appends words that begin at a point, in a style.
+pub(crate) fn push_words(
+    out: &mut String,
+    at: Point,
+    style: &str,
+    colour: &str,
+    words: &str,
+) -> Result<(), AllocError>
+    ensures { OnOk result
+        (string_bytes out.new ≡ string_bytes out.old ++ words_text at style.now colour.now words.now) }
+{
+    let Point { x, y } = at;
+    writeln!(
+        out,
+        "<text x='{x}' y='{y}'{style} fill='{colour}'>{words}</text>"
     )
 }

@@ -1,18 +1,25 @@
 //! The sheet that a picture is drawn on.
-use crate::lane::Band;
-use crate::shapes::{GREY, INK, Point, RED, Shape, VIOLET, member_colour, push_shape, view_ground};
+ghost use Rattle.std.specs.Prelude.{◌≡◌, ◌+◌, ◌-◌, ◌++◌, OnOk, codes, nat_eq, string_bytes};
+ghost use Rattle.std.specs.Fmt.{decimal};
+ghost use Rattle.dr_history.specs.History.{IsPrefixOf};
+ghost use Rattle.dr_picture.specs.Marks.{ground_text, join_text, layer_text, mark_text, words_text};
+ghost use Rattle.dr_picture.specs.Sheet.{IsBlank, Keeps, Shows, capped, layers_text, left_of, mark_point, next_row, words_point};
+
+use crate::legend::{push_left_out, push_legend};
+use crate::shapes::{GREY, INK, Point, Shape, push_shape, push_words};
 use std::alloc::{AllocError, Global};
 use std::fmt::Write;
+use std::marker::Model;
 use std::mem::replace;
 
 /// So many rows are drawn at most.
 const MAX_ROWS: u32 = 20_000;
 
 /// The height of a row.
-const ROW: u32 = 16;
+pub(crate) const ROW: u32 = 16;
 
 /// What is left free at the left, at the right and at the top.
-const MARGIN: u32 = 16;
+pub(crate) const MARGIN: u32 = 16;
 
 /// The width that the legend takes.
 const LEAST_WIDTH: u32 = 920;
@@ -44,9 +51,29 @@ pub(crate) struct Sheet {
     left: u32,
 }
 
+impl Model for Sheet {
+    ghost use Rattle.std.specs.Prelude.{string_bytes};
+    ghost use Rattle.dr_picture.specs.Sheet.{Drawn};
+
+    ghost Value = { Drawn };
+
+    ghost view = { λ s. record {
+      grounds = string_bytes s.grounds;
+      joins = string_bytes s.joins;
+      marks = string_bytes s.marks;
+      words = string_bytes s.words;
+      lane = s.lane;
+      width = s.width;
+      row = s.row;
+      left = s.left;
+    } };
+}
+
 impl Sheet {
     /// An empty sheet for so many members.
-    pub(crate) fn new(alloc: Global, members: u8) -> Sheet {
+    pub(crate) fn new(alloc: Global, members: u8) -> Sheet
+        ensures { IsBlank result }
+    {
         let lane = match members {
             0..=3 => 290,
             4 => 220,
@@ -66,19 +93,29 @@ impl Sheet {
     }
 
     /// Whether no more rows may be drawn.
-    pub(crate) fn is_full(&self) -> bool {
+    pub(crate) fn is_full(&self) -> bool
+        ensures { result ≡ nat_eq self.now.left 0 }
+    {
         self.left == 0
     }
 
     /// Goes on to the next row, and answers its middle.
-    pub(crate) fn next_row(&mut self) -> u32 {
+    pub(crate) fn next_row(&mut self) -> u32
+        ensures row { result ≡ self.new.row }
+        ensures moves { self.new ≡ next_row self.old }
+        ensures keeps { Keeps self.old self.new }
+    {
         self.left = self.left.saturating_sub(1);
         self.row = self.row.saturating_add(ROW);
         self.row
     }
 
     /// Leaves so many rows free, and answers the row before them.
-    pub(crate) fn skip_rows(&mut self, count: u32) -> u32 {
+    pub(crate) fn skip_rows(&mut self, count: u32) -> u32
+        ensures row { result ≡ self.old.row }
+        ensures moves { self.new ≡ record self.old { row = self.new.row; left = self.old.left - count } }
+        ensures keeps { Keeps self.old self.new }
+    {
         let before = self.row;
         self.left = self.left.saturating_sub(count);
         self.row = before.saturating_add(ROW.saturating_mul(count));
@@ -86,151 +123,177 @@ impl Sheet {
     }
 
     /// Goes to another row, and answers the one that was drawn last.
-    pub(crate) fn go_to(&mut self, row: u32) -> u32 {
+    pub(crate) fn go_to(&mut self, row: u32) -> u32
+        ensures row { result ≡ self.old.row }
+        ensures moves { self.new ≡ record self.old { row = row } }
+        ensures keeps { Keeps self.old self.new }
+    {
         replace(&mut self.row, row)
     }
 
+    /// The left of a lane.
+    fn left_of(&self, member: u8) -> u32
+        ensures { result ≡ left_of self.now member }
+    {
+        self.lane
+            .saturating_mul(u32::from(member))
+            .saturating_add(MARGIN)
+    }
+
     /// The point in the row drawn last where the marks of a member stand.
-    pub(crate) fn mark_point(&self, member: u8) -> Point {
+    pub(crate) fn mark_point(&self, member: u8) -> Point
+        ensures { result ≡ mark_point self.now member }
+    {
         Point {
             x: self.left_of(member).saturating_add(MARK_INDENT),
             y: self.row,
         }
     }
 
-    /// The left of a lane.
-    fn left_of(&self, member: u8) -> u32 {
-        self.lane
-            .saturating_mul(u32::from(member))
-            .saturating_add(MARGIN)
+    /// The point in a row where words of a member begin, so far behind the left of its lane.
+    fn words_point(&self, member: u8, indent: u32, row: u32) -> Point
+        ensures { result ≡ words_point self.now member indent row }
+    {
+        Point {
+            x: self.left_of(member).saturating_add(indent),
+            y: row.saturating_add(4),
+        }
     }
 
     /// Draws a mark of a member in the row drawn last.
-    pub(crate) fn draw(
-        &mut self,
-        member: u8,
-        shape: Shape,
-        colour: &str,
-    ) -> Result<(), AllocError> {
+    pub(crate) fn draw(&mut self, member: u8, shape: Shape, colour: &str) -> Result<(), AllocError>
+        ensures adds { OnOk result (self.new ≡ record self.old {
+          marks = self.old.marks ++ mark_text shape (mark_point self.old member) colour.now;
+        }) }
+        ensures keeps { OnOk result (Keeps self.old self.new) }
+    {
         let at = self.mark_point(member);
         push_shape(&mut self.marks, shape, at, colour)
     }
 
     /// Writes words of a member into the row drawn last.
-    pub(crate) fn write(
-        &mut self,
-        member: u8,
-        colour: &str,
-        words: &str,
-    ) -> Result<(), AllocError> {
-        let at = self.words_point(member, WORDS_INDENT);
-        push_words(&mut self.words, at, colour, words)
+    pub(crate) fn write(&mut self, member: u8, colour: &str, words: &str) -> Result<(), AllocError>
+        ensures adds { OnOk result (self.new ≡ record self.old {
+          words = self.old.words
+              ++ words_text (words_point self.old member 54 self.old.row) (codes "") colour.now words.now;
+        }) }
+        ensures keeps { OnOk result (Keeps self.old self.new) }
+    {
+        let at = self.words_point(member, WORDS_INDENT, self.row);
+        push_words(&mut self.words, at, "", colour, words)
     }
 
     /// Writes the number of a turn of a member into the row drawn last.
-    pub(crate) fn write_turn(&mut self, member: u8, turn: u32) -> Result<(), AllocError> {
-        let Point { x, y } = self.words_point(member, 6);
+    pub(crate) fn write_turn(&mut self, member: u8, turn: u32) -> Result<(), AllocError>
+        ensures adds { OnOk result (self.new ≡ record self.old {
+          words = self.old.words
+              ++ words_text (words_point self.old member 6 self.old.row) (codes " font-size='9'")
+              (codes "#789") (decimal turn);
+        }) }
+        ensures keeps { OnOk result (Keeps self.old self.new) }
+    {
+        let Point { x, y } = self.words_point(member, 6, self.row);
         writeln!(
             self.words,
             "<text x='{x}' y='{y}' font-size='9' fill='{GREY}'>{turn}</text>"
         )
     }
 
-    /// Writes a heading into the row drawn last, over all lanes or over that of a member.
-    pub(crate) fn write_heading(
-        &mut self,
-        member: Option<u8>,
-        words: &str,
-    ) -> Result<(), AllocError> {
-        let Point { x, y } = self.words_point(member.unwrap_or(0), 0);
-        writeln!(
-            self.words,
-            "<text x='{x}' y='{y}' font-weight='bold' fill='{INK}'>{words}</text>"
-        )
+    /// Writes a heading into the row drawn last, over the lane of a member.
+    pub(crate) fn write_heading(&mut self, member: u8, words: &str) -> Result<(), AllocError>
+        ensures adds { OnOk result (self.new ≡ record self.old {
+          words = self.old.words
+              ++ words_text (words_point self.old member 0 self.old.row) (codes " font-weight='bold'")
+              (codes "#333") words.now;
+        }) }
+        ensures keeps { OnOk result (Keeps self.old self.new) }
+    {
+        let at = self.words_point(member, 0, self.row);
+        push_words(&mut self.words, at, " font-weight='bold'", INK, words)
     }
 
     /// Writes the words of a view of a member into a row.
-    pub(crate) fn write_view(
-        &mut self,
-        member: u8,
-        row: u32,
-        words: &str,
-    ) -> Result<(), AllocError> {
-        let x = self.left_of(member).saturating_add(6);
-        let y = row.saturating_add(4);
-        writeln!(
-            self.words,
-            "<text x='{x}' y='{y}' font-style='italic' fill='{INK}'>{words}</text>"
-        )
-    }
-
-    /// The point in the row drawn last where words of a member begin, so far behind the left of its lane.
-    fn words_point(&self, member: u8, indent: u32) -> Point {
-        Point {
-            x: self.left_of(member).saturating_add(indent),
-            y: self.row.saturating_add(4),
-        }
+    pub(crate) fn write_view(&mut self, member: u8, row: u32, words: &str) -> Result<(), AllocError>
+        ensures adds { OnOk result (self.new ≡ record self.old {
+          words = self.old.words
+              ++ words_text (words_point self.old member 6 row) (codes " font-style='italic'")
+              (codes "#333") words.now;
+        }) }
+        ensures keeps { OnOk result (Keeps self.old self.new) }
+    {
+        let at = self.words_point(member, 6, row);
+        push_words(&mut self.words, at, " font-style='italic'", INK, words)
     }
 
     /// Joins two points by a line.
-    pub(crate) fn join(&mut self, from: Point, to: Point, colour: &str) -> Result<(), AllocError> {
-        let Point { x, y } = from;
-        let Point { x: to_x, y: to_y } = to;
+    pub(crate) fn join(&mut self, one: Point, other: Point, colour: &str) -> Result<(), AllocError>
+        ensures adds { OnOk result (self.new ≡ record self.old {
+          joins = self.old.joins ++ join_text one other colour.now;
+        }) }
+        ensures keeps { OnOk result (Keeps self.old self.new) }
+    {
+        let Point { x, y } = one;
+        let Point { x: to_x, y: to_y } = other;
         writeln!(
             self.joins,
             "<path d='M{x} {y}L{to_x} {to_y}' stroke='{colour}'/>"
         )
     }
 
-    /// Draws the ground of a view of a member down to the row drawn last.
-    pub(crate) fn draw_ground(&mut self, member: u8, band: Band) -> Result<(), AllocError> {
+    /// Draws a ground of this colour in the lane of a member, from one row down to the row drawn last.
+    pub(crate) fn draw_ground(
+        &mut self,
+        member: u8,
+        top: u32,
+        colour: &str,
+    ) -> Result<(), AllocError>
+        ensures adds { OnOk result (self.new ≡ record self.old {
+          grounds = self.old.grounds
+              ++ ground_text (record { x = left_of self.old member; y = top - 8 }) (self.old.lane - 12)
+              (capped (self.old.row - top + 16)) colour.now;
+        }) }
+        ensures keeps { OnOk result (Keeps self.old self.new) }
+    {
         let x = self.left_of(member);
-        let y = band.top.saturating_sub(ROW / 2);
+        let y = top.saturating_sub(ROW / 2);
         let width = self.lane.saturating_sub(GAP);
-        let height = self.row.saturating_sub(band.top).saturating_add(ROW);
-        let ground = view_ground(band.view);
+        let height = self.row.saturating_sub(top).saturating_add(ROW);
         writeln!(
             self.grounds,
-            "<rect x='{x}' y='{y}' width='{width}' height='{height}' fill='{ground}'/>"
+            "<rect x='{x}' y='{y}' width='{width}' height='{height}' fill='{colour}'/>"
         )
     }
 
     /// Appends all that is drawn, with a legend below it, and the words before the last line of a run.
-    pub(crate) fn push_to(&self, out: &mut String) -> Result<(), AllocError> {
+    pub(crate) fn push_to(&self, out: &mut String) -> Result<(), AllocError>
+        ensures { OnOk result (Shows self.now (string_bytes out.old) (string_bytes out.new)) }
+    {
         let width = self.width.max(LEAST_WIDTH).saturating_add(MARGIN * 2);
         let legend = self.row.saturating_add(ROW * 2);
         let last = legend.saturating_add(ROW + 8);
-        let height = last.saturating_add(MARGIN);
-        push_head(out, width, height)?;
+        push_head(out, width, last.saturating_add(MARGIN))?;
+        self.push_layers(out)?;
+        push_foot(out, legend, last, self.is_full())
+    }
+
+    /// Appends the layers. The words are told twice, first with a white seam, so that no line runs through
+    /// them.
+    fn push_layers(&self, out: &mut String) -> Result<(), AllocError>
+        ensures { OnOk result (string_bytes out.new ≡ string_bytes out.old ++ layers_text self.now) }
+    {
         push_layer(out, "stroke='#c9d6e8'", &self.grounds)?;
         push_layer(out, "fill='none' stroke-opacity='0.55'", &self.joins)?;
-        // The words are told twice, first with a white seam, so that no line runs through them.
-        push_layer(
-            out,
-            "stroke='white' stroke-width='3' stroke-opacity='0.8'",
-            &self.words,
-        )?;
+        let seam = "stroke='white' stroke-width='3' stroke-opacity='0.8'";
+        push_layer(out, seam, &self.words)?;
         push_layer(out, "stroke-width='1.5'", &self.marks)?;
-        push_layer(out, "stroke='none'", &self.words)?;
-        push_legend(out, legend)?;
-        if self.is_full() {
-            push_left_out(out, legend)?;
-        }
-        write!(
-            out,
-            "<text x='{MARGIN}' y='{last}' font-weight='bold'>The last line of the run: "
-        )
+        push_layer(out, "stroke='none'", &self.words)
     }
 }
 
-/// Appends words that begin at a point.
-fn push_words(out: &mut String, at: Point, colour: &str, words: &str) -> Result<(), AllocError> {
-    let Point { x, y } = at;
-    writeln!(out, "<text x='{x}' y='{y}' fill='{colour}'>{words}</text>")
-}
-
 /// Appends how a picture of this size begins.
-fn push_head(out: &mut String, width: u32, height: u32) -> Result<(), AllocError> {
+fn push_head(out: &mut String, width: u32, height: u32) -> Result<(), AllocError>
+    ensures { OnOk result (IsPrefixOf (string_bytes out.old) (string_bytes out.new)) }
+{
     out.push_str("<svg xmlns='http://www.w3.org/2000/svg' version='1.1' ")?;
     write!(out, "width='{width}' height='{height}' ")?;
     out.push_str("font-family='sans-serif' font-size='11'>\n")?;
@@ -239,73 +302,26 @@ fn push_head(out: &mut String, width: u32, height: u32) -> Result<(), AllocError
 }
 
 /// Appends a layer with what holds for all that is drawn on it.
-fn push_layer(out: &mut String, look: &str, drawn: &String) -> Result<(), AllocError> {
+fn push_layer(out: &mut String, look: &str, drawn: &String) -> Result<(), AllocError>
+    ensures { OnOk result (string_bytes out.new
+        ≡ string_bytes out.old ++ layer_text look.now (string_bytes drawn.now)) }
+{
     writeln!(out, "<g {look}>")?;
     out.push_str(drawn.as_str())?;
     out.push_str("</g>\n")
 }
 
-/// Appends, above the legend, that the rest of a run isn't drawn.
-fn push_left_out(out: &mut String, legend: u32) -> Result<(), AllocError> {
-    let at = Point {
-        x: MARGIN,
-        y: legend.saturating_sub(ROW),
-    };
-    push_words(out, at, RED, "The rest of the run is left out.")
-}
-
-/// Appends what the marks mean, in a row.
-fn push_legend(out: &mut String, row: u32) -> Result<(), AllocError> {
-    let colour = member_colour(0);
-    push_key(
+/// Appends what stands below the layers: a legend in this row, above it where the rest of a run isn't drawn,
+/// and below it the words before the last line.
+fn push_foot(out: &mut String, legend: u32, last: u32, is_full: bool) -> Result<(), AllocError>
+    ensures { OnOk result (IsPrefixOf (string_bytes out.old) (string_bytes out.new)) }
+{
+    push_legend(out, legend)?;
+    if is_full {
+        push_left_out(out, legend.saturating_sub(ROW))?;
+    }
+    write!(
         out,
-        Shape::Square,
-        Point { x: 24, y: row },
-        colour,
-        "puts a message",
-    )?;
-    push_key(
-        out,
-        Shape::HollowSquare,
-        Point { x: 142, y: row },
-        colour,
-        "puts a null",
-    )?;
-    push_key(
-        out,
-        Shape::Dot,
-        Point { x: 234, y: row },
-        colour,
-        "delivers, in the colour of the sender; a line joins the same entry",
-    )?;
-    push_key(
-        out,
-        Shape::Bar,
-        Point { x: 612, y: row },
-        INK,
-        "entries that are durable",
-    )?;
-    push_key(
-        out,
-        Shape::HollowDiamond,
-        Point { x: 784, y: row },
-        VIOLET,
-        "a change of the view",
+        "<text x='{MARGIN}' y='{last}' font-weight='bold'>The last line of the run: "
     )
-}
-
-/// Appends what a mark means.
-fn push_key(
-    out: &mut String,
-    shape: Shape,
-    at: Point,
-    colour: &str,
-    words: &str,
-) -> Result<(), AllocError> {
-    push_shape(out, shape, at, colour)?;
-    let words_at = Point {
-        x: at.x.saturating_add(10),
-        y: at.y.saturating_add(4),
-    };
-    push_words(out, words_at, INK, words)
 }

@@ -1,13 +1,12 @@
 //! A chart of a run: a column for each member, and a row for each of its turns with news.
-ghost use Rattle.std.specs.Prelude.{◌≡◌, None, true};
-ghost use Rattle.dr_program.specs.Acts.{may};
+ghost use Rattle.std.specs.Prelude.{◌≡◌, None};
 ghost use Rattle.dr_program.specs.Form.{IsRunningMember};
 
+use crate::deeds::news_of;
 use crate::news::News;
+use crate::turn::Turn;
 use crate::waits::push_waits;
-use dr_machine::{Act, Step};
 use dr_member::Member;
-use dr_replica::Replica;
 use std::alloc::{AllocError, Global};
 use std::fmt::Write;
 
@@ -21,8 +20,8 @@ pub struct Chart {
     text: String,
     /// The words of a row.
     words: String,
-    /// The news of the turn that each member is in.
-    news: Vec<News>,
+    /// The turn that each member is in.
+    turns: Vec<Turn>,
     /// How many turns without news have ended since the last row.
     quiet: u64,
     /// Whether each member takes whole turns, with no deed of another one in them.
@@ -40,14 +39,14 @@ impl Chart {
     ///
     /// Want of memory alone.
     pub fn new(alloc: Global, members: u8, whole: bool) -> Result<Chart, AllocError> {
-        let mut news = Vec::new(alloc);
+        let mut turns = Vec::new(alloc);
         for _ in 0..members {
-            news.push(News::new(alloc))?;
+            turns.push(Turn::new(alloc))?;
         }
         Ok(Chart {
             text: String::new(alloc),
             words: String::new(alloc),
-            news,
+            turns,
             quiet: 0,
             whole,
             last: None,
@@ -74,8 +73,8 @@ impl Chart {
         writeln!(self.text, "age {age} start {entries}")?;
         self.text.push_str("turn")?;
         let mut behind = 0;
-        for (number, news) in self.news.iter_mut().enumerate() {
-            news.begin(0);
+        for (number, turn) in self.turns.iter_mut().enumerate() {
+            turn.begin(0);
             let pad = if number == 0 { MARGIN - 4 } else { behind };
             push_blanks(&mut self.text, pad)?;
             write!(self.text, "member {number}")?;
@@ -99,13 +98,9 @@ impl Chart {
             _ => {}
         }
         self.last = Some(me);
-        match member.step() {
-            Step::Do(act) => self.note(member.replica(), act),
-            Step::LogVote { .. } => match self.news.get_mut(usize::from(me)) {
-                Some(news) => news.vote(),
-                None => Ok(()),
-            },
-            _ => Ok(()),
+        match news_of(member) {
+            Some(news) => self.note(me, news),
+            None => Ok(()),
         }
     }
 
@@ -122,40 +117,36 @@ impl Chart {
         Ok(())
     }
 
-    /// Takes note of an act that a member is about to do. A turn ends with its end, or as the next one
-    /// begins.
-    fn note(&mut self, replica: &Replica, act: Act) -> Result<(), AllocError>
-        requires { may replica.now act ≡ true }
-    {
-        let me = replica.me();
-        if act == Act::Beat {
+    /// Takes note of news of a member. A turn ends as the next one begins, or as the member ends.
+    fn note(&mut self, me: u8, news: News<'_>) -> Result<(), AllocError> {
+        if let News::Turn(_) = news {
             self.end_turn(me)?;
         }
-        if let Some(news) = self.news.get_mut(usize::from(me)) {
-            news.note(replica, act)?;
+        if let Some(turn) = self.turns.get_mut(usize::from(me)) {
+            turn.note(news)?;
         }
-        match act {
-            Act::Halt { .. } | Act::Crash { .. } => self.end_turn(me),
+        match news {
+            News::End(_) => self.end_turn(me),
             _ => Ok(()),
         }
     }
 
     /// Draws the row of the turn that a member is in, where it has news.
     fn end_turn(&mut self, me: u8) -> Result<(), AllocError> {
-        let Some(news) = self.news.get_mut(usize::from(me)) else {
+        let Some(turn) = self.turns.get_mut(usize::from(me)) else {
             return Ok(());
         };
-        let turn = news.turn();
-        if news.is_none() {
-            news.begin(0);
-            self.quiet = self.quiet.saturating_add(u64::from(turn > 0));
+        let number = turn.number();
+        if turn.is_quiet() {
+            turn.begin(0);
+            self.quiet = self.quiet.saturating_add(u64::from(number > 0));
             return Ok(());
         }
         self.words.clear();
-        news.push_to(&mut self.words)?;
-        news.begin(0);
+        turn.push_to(&mut self.words)?;
+        turn.begin(0);
         self.tell_quiet()?;
-        push_row(&mut self.text, self.width, me, turn, self.words.as_str())
+        push_row(&mut self.text, self.width, me, number, self.words.as_str())
     }
 
     /// Tells how many turns without news have ended.

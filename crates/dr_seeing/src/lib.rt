@@ -1,14 +1,17 @@
-//! What can be told of a run as it goes on: the line of each deed, and a text that is written piece by piece.
+//! What can be told of a run as it goes on: the line of each deed and its news, a chart, and a text that is
+//! written piece by piece.
 #![tactic(auto)]
 
-mod acts;
 mod chart;
+mod deeds;
 mod lines;
 mod news;
 mod output;
+mod turn;
 mod values;
 mod waits;
 
 pub use chart::Chart;
-pub use lines::push_line;
+pub use deeds::{news_of, push_line};
+pub use news::News;
 pub use output::{Output, Trouble};

@@ -6,7 +6,8 @@ ghost use Rattle.dr_text.specs.Report.{last_text};
 ghost use Rattle.dr_seeing.specs.Lines.{age_line, line_of};
 ghost use Rattle.dr_seeing.specs.Output.{HasTold, IsFinished, Tells, Written};
 
-use crate::lines::{push_age, push_line};
+use crate::deeds::push_line;
+use crate::lines::push_age;
 use dr_io::Sink;
 use dr_member::Member;
 use dr_text::{Last, push_last, write_all};

@@ -1,14 +1,18 @@
 //! What a member waited for until its turns were spent.
+ghost use Rattle.std.specs.Prelude.{◌≡◌, ◌<◌, ◌≤◌, true};
+
 use dr_entry::End;
 use dr_member::Member;
 use dr_replica::Replica;
 use dr_text::{push_end, push_mask};
-use dr_words::{DONE_COLUMN, LOGGED_COLUMN, RECEIVED_COLUMN};
+use dr_words::{
+    DONE_COLUMN, LOGGED_COLUMN, Mask, RECEIVED_COLUMN, SUSPECTED_COLUMN, unpack_accept,
+};
 use std::alloc::AllocError;
 use std::fmt::Write;
 
 /// Appends a line for each thing that a member waits for and each member that it waits for, where its turns
-/// were spent: by what it has seen of that member, and by how that one has ended.
+/// were spent: by what it has seen of that member, by what is true of that one, and by how it has ended.
 pub(crate) fn push_waits(
     out: &mut String,
     member: &Member,
@@ -19,7 +23,7 @@ pub(crate) fn push_waits(
     };
     let replica = member.replica();
     if replica.is_wedged() {
-        return push_change(out, replica);
+        return push_change(out, replica, members);
     }
     if replica.own(DONE_COLUMN) == 1 {
         return push_missing(
@@ -63,16 +67,28 @@ pub(crate) fn push_waits(
     }
 }
 
-/// Appends that a member waits for the item of the next place to be put.
+/// Appends that a member waits for the item of the next place to be put: how many items it has of the member
+/// that is to put it, and how many that one has put.
 fn push_put(out: &mut String, replica: &Replica, members: &[Member]) -> Result<(), AllocError> {
     let me = replica.me();
     let sender = replica.next_sender();
     let place = replica.next_place();
     write!(out, "member {me} waits for: member {sender}")?;
-    if let Some(other) = members.get(usize::from(sender)) {
-        push_fate(out, other.end())?;
+    let Some(other) = members.get(usize::from(sender)) else {
+        return writeln!(out, " to put what stands at place {place}");
+    };
+    push_fate(out, other.end())?;
+    if sender >= replica.shape().members || sender >= other.replica().shape().members {
+        return writeln!(out, " to put what stands at place {place}");
     }
-    writeln!(out, " to put what stands at place {place}")
+    let taken = replica.count(sender);
+    let put = other.replica().count(sender);
+    let seen = if taken < put { "be seen to " } else { "" };
+    write!(
+        out,
+        " to {seen}put what stands at place {place} (taken: {taken}, put: {put}"
+    )?;
+    push_view(out, replica, other)
 }
 
 /// What members are waited for to have.
@@ -86,6 +102,19 @@ enum Kind {
     Done,
 }
 
+impl Kind {
+    /// The column whose word tells it.
+    fn column(self) -> usize
+        ensures { result ≤ 4 }
+    {
+        match self {
+            Kind::Received => RECEIVED_COLUMN,
+            Kind::Logged => LOGGED_COLUMN,
+            Kind::Done => DONE_COLUMN,
+        }
+    }
+}
+
 /// What is missing: the words of a column that are no more than this.
 #[derive(Clone, Copy)]
 struct Missing {
@@ -93,15 +122,115 @@ struct Missing {
     least: u64,
 }
 
-/// Appends who is wedged, and whom it suspects.
-fn push_change(out: &mut String, replica: &Replica) -> Result<(), AllocError> {
+/// Appends a line for a member that is wedged, and what of the change of its view is missing: that others
+/// suspect whom it suspects, that the least member that it doesn't suspect proposes, or that others accept.
+fn push_change(out: &mut String, replica: &Replica, members: &[Member]) -> Result<(), AllocError> {
     let me = replica.me();
     write!(
         out,
         "member {me} waits for: the change of its view, as it suspects "
     )?;
     push_mask(out, replica.suspects().bits())?;
-    out.push_str("\n")
+    out.push_str("\n")?;
+    let leader = replica.members().without(replica.suspects()).least();
+    let has_accepted = accepted_tag(replica) != 0;
+    for (number, other) in (0..16u8).zip(members.iter()) {
+        if is_with(replica, number) && !replica.suspects().has(number) {
+            if has_accepted {
+                push_acceptance(out, replica, number, other)?;
+            } else if leader == Some(replica.me()) {
+                push_suspicions(out, replica, number, other)?;
+            } else if leader == Some(number) {
+                push_proposal(out, replica, number, other)?;
+            }
+        }
+    }
+    Ok(())
+}
+
+/// The tag of what a member has accepted in its view, or 0.
+fn accepted_tag(replica: &Replica) -> u8 {
+    let _ = replica.me();
+    unpack_accept(replica.own(replica.shape().leavers_column())).1
+}
+
+/// Whether this is another member of its view.
+fn is_with(replica: &Replica, number: u8) -> bool
+    ensures { result ≡ true → number < replica.now.roster }
+{
+    number < replica.shape().members && replica.members().has(number) && number != replica.me()
+}
+
+/// Appends that a member of the view is to accept what this one has accepted, where that is not seen.
+fn push_acceptance(
+    out: &mut String,
+    replica: &Replica,
+    number: u8,
+    other: &Member,
+) -> Result<(), AllocError>
+    requires { number < replica.now.roster }
+{
+    let me = replica.me();
+    let tag = accepted_tag(replica);
+    let column = replica.shape().leavers_column();
+    if unpack_accept(replica.seen(number, column)).1 == tag {
+        return Ok(());
+    }
+    write!(out, "member {me} waits for: member {number}")?;
+    push_fate(out, other.end())?;
+    let is_there = other.replica().view() == replica.view();
+    if is_there && accepted_tag(other.replica()) != tag {
+        return out.push_str(" to accept the value\n");
+    }
+    out.push_str(" to be seen to accept the value, which it has\n")
+}
+
+/// Appends that a member of the view is to propose a value, or to be seen to have proposed one.
+fn push_proposal(
+    out: &mut String,
+    replica: &Replica,
+    number: u8,
+    other: &Member,
+) -> Result<(), AllocError> {
+    let me = replica.me();
+    write!(out, "member {me} waits for: member {number}")?;
+    push_fate(out, other.end())?;
+    let is_there = other.replica().view() == replica.view();
+    if is_there && accepted_tag(other.replica()) == 0 {
+        return out.push_str(" to propose a value\n");
+    }
+    out.push_str(" to be seen to propose the value that it has\n")
+}
+
+/// Appends that a member of the view is to suspect whom this one suspects, where that is not seen.
+fn push_suspicions(
+    out: &mut String,
+    replica: &Replica,
+    number: u8,
+    other: &Member,
+) -> Result<(), AllocError>
+    requires { number < replica.now.roster }
+{
+    let me = replica.me();
+    let seen = Mask::of((replica.seen(number, SUSPECTED_COLUMN) & 0xffff) as u16);
+    if replica.suspects().without(seen).bits() == 0 {
+        return Ok(());
+    }
+    write!(out, "member {me} waits for: member {number}")?;
+    push_fate(out, other.end())?;
+    out.push_str(" to suspect the same (seen to suspect: ")?;
+    push_members(out, seen.bits())?;
+    out.push_str(", suspects: ")?;
+    push_members(out, other.replica().suspects().bits())?;
+    push_view(out, replica, other)
+}
+
+/// Appends the members of a mask, or that there are none.
+fn push_members(out: &mut String, mask: u16) -> Result<(), AllocError> {
+    if mask == 0 {
+        return out.push_str("-");
+    }
+    push_mask(out, mask)
 }
 
 /// Appends a line for each member of the view of which something is missing.
@@ -111,40 +240,60 @@ fn push_missing(
     members: &[Member],
     missing: Missing,
 ) -> Result<(), AllocError> {
+    let column = missing.kind.column();
     let _ = replica.me();
-    let column = match missing.kind {
-        Kind::Received => RECEIVED_COLUMN,
-        Kind::Logged => LOGGED_COLUMN,
-        Kind::Done => DONE_COLUMN,
-    };
     for (number, other) in (0..16u8).zip(members.iter()) {
-        if number < replica.shape().members && replica.members().has(number) {
+        if is_with(replica, number) {
             let seen = replica.seen(number, column);
-            if seen <= missing.least && number != replica.me() {
-                push_wait(out, replica.me(), number, other, missing, seen)?;
+            if seen <= missing.least {
+                push_wait(out, replica, number, other, missing, seen)?;
             }
         }
     }
     Ok(())
 }
 
-/// Appends the line of one that is waited for.
+/// Appends the line of one that is waited for: what is seen of it, and what it has.
 fn push_wait(
     out: &mut String,
-    me: u8,
+    replica: &Replica,
     number: u8,
     other: &Member,
     missing: Missing,
     seen: u64,
 ) -> Result<(), AllocError> {
+    let me = replica.me();
     write!(out, "member {me} waits for: member {number}")?;
     push_fate(out, other.end())?;
-    let least = missing.least;
+    let wanted = missing.least.saturating_add(1);
+    let (item, entry) = match wanted {
+        1 => ("item", "entry"),
+        _ => ("items", "entries"),
+    };
+    let has = other.replica().own(missing.kind.column());
     match missing.kind {
-        Kind::Received => writeln!(out, " to have received place {least} (seen: {seen})"),
-        Kind::Logged => writeln!(out, " to have logged entry {least} (seen: {seen})"),
-        Kind::Done => out.push_str(" to say that it has everything\n"),
+        Kind::Received => write!(out, " to have received {wanted} {item} in turn")?,
+        Kind::Logged => write!(out, " to have logged {wanted} {entry}")?,
+        Kind::Done if has == 1 => return out.push_str(
+            " to be seen to have everything, which it has\n",
+        ),
+        Kind::Done => return out.push_str(" to have everything\n"),
     }
+    let view = replica.view();
+    match view {
+        0 => write!(out, " (seen: {seen}, has: {has}")?,
+        _ => write!(out, " (seen in view {view}: {seen}, has: {has}")?,
+    }
+    push_view(out, replica, other)
+}
+
+/// Ends a line, with the view that one is in where that is another.
+fn push_view(out: &mut String, replica: &Replica, other: &Member) -> Result<(), AllocError> {
+    let view = other.replica().view();
+    if view == replica.view() {
+        return out.push_str(")\n");
+    }
+    writeln!(out, ", in view {view})")
 }
 
 /// Appends how one that is waited for has ended, where that is not by its turns alone.

@@ -1,5 +1,5 @@
 use Rattle.dr_seeing.proofs.Dues.{act_may}
-use Rattle.dr_seeing.proofs.lines.push_line.Goals as goal
+use Rattle.dr_seeing.proofs.deeds.push_line.Goals as goal
 
 pub push_done-requires : goal.push_done-requires
 push_done-requires c =

@@ -1,7 +1,7 @@
 use Rattle.dr_seeing.proofs.Dues.{act_may}
-use Rattle.dr_seeing.proofs.chart.Chart.see.Goals as goal
+use Rattle.dr_seeing.proofs.deeds.news_of.Goals as goal
 
-pub note-requires : goal.note-requires
-note-requires c =
+pub news_of_act-requires : goal.news_of_act-requires
+news_of_act-requires c =
     act_may c.args.member.now c.replica.result.now c.step.result c.in-Do.act c.requires.form
     c.requires.going c.replica.ensures c.step.ensures c.in-Do.is

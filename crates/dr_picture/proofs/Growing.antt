@@ -1,0 +1,14 @@
+-- How a sheet grows.
+use Rattle.std.proofs.Common.{[], append-nil, arith, refl}
+use Rattle.dr_picture.specs.Sheet.{Drawn, HasGrown}
+
+-- a sheet has grown from itself
+pub grown_same : (d : Drawn) → HasGrown d d
+grown_same d = record {
+  grounds = ([], append-nil d.grounds);
+  joins = ([], append-nil d.joins);
+  marks = ([], append-nil d.marks);
+  words = ([], append-nil d.words);
+  lane = refl;
+  left = omega arith;
+}
