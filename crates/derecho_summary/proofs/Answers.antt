@@ -1,13 +1,14 @@
 -- What is said of a text, by what is read of it, and with which status.
-use Rattle.std.proofs.Common.{◌≡◌, ◌==◌, ◌⊎◌, ◌∙◌, inl, inr, sym, ap, subst, Bool, true, ℕ, zero, suc, List, length, Option, Some, None, [], ◌∷◌, Contains, String, Result, Ok, Err, IfOk, string_bytes, arith}
-use Rattle.std.proofs.lemmas.List.{nil_from_length}
+use Rattle.std.proofs.Common.{◌≡◌, ◌⊎◌, ◌∙◌, inl, inr, sym, ap, subst, ℕ, zero, suc, List, Option, Some, None, [], ◌∷◌, Contains, String, Result, Ok, Err, IfOk, string_bytes, arith}
 use Rattle.std.proofs.lemmas.Option.{none-some, same_Some}
 use Rattle.std.specs.declared.alloc.Global.{Global}
 use Rattle.dr_ages.specs.declared.mode.Mode.TheVariants.{Sim}
 use Rattle.dr_ages.specs.declared.stop.Stop.{Stop}
 use Rattle.dr_entry.specs.declared.end.AgeEnd.{AgeEnd}
-use Rattle.dr_intake.specs.Reading.{WasRead, refusal_in}
-use Rattle.dr_intake.specs.Status.{status_of}
+use Rattle.dr_intake.specs.declared.answer.Answer.{Answer}
+use Rattle.dr_intake.specs.Answer.{no_source, read, unread, usage}
+use Rattle.dr_intake.specs.Reading.{refusal_in}
+use Rattle.dr_intake.specs.Status.{WroteText, status_of}
 use Rattle.dr_outcome.proofs.Runs.{memory_lasts}
 use Rattle.dr_outcome.specs.Last.{last_of}
 use Rattle.dr_outcome.specs.Outcome.{IsRunInMemory}
@@ -16,8 +17,7 @@ use Rattle.dr_script.specs.Reading.{Reading, TooLong, NotJson, Wrong, Reads, rea
 use Rattle.dr_text.specs.declared.last.Last.{Last}
 use Rattle.dr_text.specs.declared.last.Last.TheVariants as lasts
 use Rattle.dr_text.specs.Report.{last_text}
-use Rattle.derecho_summary.specs.declared.top.Answer.{Answer}
-use Rattle.derecho_summary.specs.Answer.{IsAnswer, IsAnswerFor, IsRefusal, IsRunAnswer, no_source, read, usage}
+use Rattle.derecho_summary.specs.Answer.{IsAnswer, IsAnswerFor, IsRefusal, IsRunAnswer}
 
 -- the run behind a last line
 pub run_behind : (script : Script) (ages : List AgeEnd) (stop : Option Stop) (last : Option Last) (line : Last)
@@ -59,19 +59,6 @@ pub refused_if : {E : Type 0} (answer : Result Answer E) (r : Reading) (line : L
 refused_if (Ok a) r line is refused due = refused_answer r line (string_bytes a.text) a.status is refused due
 refused_if (Err e) r line is refused due = tt
 
--- no words are an empty list
-pub none_if : (words : List (String Global)) (empty : Bool) → empty ≡ (length words == 0) → empty ≡ true
-    → words ≡ []
-none_if words empty is said = nil_from_length words (grind (arith, is, said))
-
--- what was read decides the answer of a call without words
-pub read_if : {E : Type 0} (answer : Result Answer E) (words : List (String Global))
-    (old new : Option (List ℕ)) (failed fails : ℕ) (bytes : List ℕ) → words ≡ [] → WasRead old new bytes
-    → IfOk answer (λ a. IsAnswerFor (reading_of bytes) (string_bytes a.text) a.status)
-    → IfOk answer (λ a. IsAnswer words old new failed fails (string_bytes a.text) a.status)
-read_if (Ok a) words old new failed fails bytes none was is = read none bytes was is
-read_if (Err e) words old new failed fails bytes none was is = tt
-
 -- the status of each call is one of these
 abbrev IsKnown : ℕ → Type 0
 IsKnown status = Contains (0 ∷ 2 ∷ 3 ∷ 4 ∷ 5 ∷ 8 ∷ 9 ∷ 10 ∷ []) status
@@ -99,10 +86,20 @@ answer_known (Reads script) text status is =
     subst IsKnown (sym is.due)
     (run_known (status_of is.last) (memory_lasts script Sim is.ages is.stop is.last is.run is.line))
 
-pub due_known : (words : List (String Global)) (old new : Option (List ℕ)) (failed fails : ℕ) (text : List ℕ)
+due_known : (words : List (String Global)) (old new : Option (List ℕ)) (failed fails : ℕ) (text : List ℕ)
     (status : ℕ) → IsAnswer words old new failed fails text status → IsKnown status
 due_known words old new failed fails text status answer = elim answer [
-  | usage some kept said due ↦ (1, omega arith, sym due)
-  | no_source none rose said due ↦ (3, omega arith, sym due)
+  | unread (usage some kept said due) ↦ (1, omega arith, sym due)
+  | unread (no_source none rose said due) ↦ (3, omega arith, sym due)
   | read none bytes was is ↦ answer_known (reading_of bytes) text status is
 ]
+
+-- so is the status that is left by the sink
+pub wrote_known : (words : List (String Global)) (old new : Option (List ℕ)) (failed fails : ℕ)
+    (held holds : Option (List ℕ)) (fell falls : ℕ) (text : List ℕ) (due status : ℕ)
+    → IsAnswer words old new failed fails text due → WroteText held holds fell falls status due text
+    → IsKnown status
+wrote_known words old new failed fails held holds fell falls text due status answer (inl whole) =
+    subst IsKnown (sym whole.0) (due_known words old new failed fails text due answer)
+wrote_known words old new failed fails held holds fell falls text due status answer (inr front) =
+    (4, omega arith, sym front.0)

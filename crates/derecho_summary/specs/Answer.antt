@@ -1,20 +1,18 @@
 -- What a call comes to.
-use Rattle.std.specs.Prelude.{◌≡◌, ◌≢◌, ◌⊎◌, ℕ, List, [], Option, Some, String, codes}
+use Rattle.std.specs.Prelude.{◌≡◌, ℕ, List, Option, Some, String, codes}
 use Rattle.std.specs.declared.alloc.Global.{Global}
 use Rattle.dr_ages.specs.declared.mode.Mode.TheVariants.{Sim}
 use Rattle.dr_ages.specs.declared.stop.Stop.{Stop}
 use Rattle.dr_entry.specs.declared.end.AgeEnd.{AgeEnd}
-use Rattle.dr_intake.specs.Reading.{WasRead, refusal_in}
-use Rattle.dr_intake.specs.Status.{WroteText, status_of}
-use Rattle.dr_io.specs.Faults.{Rose}
-use Rattle.dr_io.specs.Sink.{Gains}
-use Rattle.dr_io.specs.Source.{Loses}
+use Rattle.dr_intake.specs.Answer as intake
+use Rattle.dr_intake.specs.Answer.{ToldBy}
+use Rattle.dr_intake.specs.Reading.{refusal_in}
+use Rattle.dr_intake.specs.Status.{status_of}
 use Rattle.dr_outcome.specs.Last.{last_of}
 use Rattle.dr_outcome.specs.Outcome.{IsRunInMemory}
 use Rattle.dr_script.specs.declared.script.Script.{Script}
-use Rattle.dr_script.specs.Reading.{Reading, TooLong, NotJson, Wrong, Reads, reading_of}
+use Rattle.dr_script.specs.Reading.{Reading, Reads}
 use Rattle.dr_text.specs.declared.last.Last.{Last}
-use Rattle.dr_text.specs.declared.last.Last.TheVariants as lasts
 use Rattle.dr_text.specs.Report.{last_text}
 use Rattle.derecho_summary.specs.Summary.{summary_text}
 
@@ -45,31 +43,12 @@ IsAnswerFor refused text status = IsRefusal refused text status
 abbrev pub usage_text : List ℕ
 usage_text = codes "usage: derecho_summary < SCRIPT\n"
 
--- What a call has to say, and the status that is due, by its words and by what its source had left and then
--- has.
-pub data IsAnswer (words : List (String Global)) (old new : Option (List ℕ)) (failed fails : ℕ)
-    (text : List ℕ) (status : ℕ) : Type 0 where
-  -- there are words, and it takes none
-  usage : words ≢ [] → Loses old new [] → text ≡ usage_text → status ≡ 2
-      → IsAnswer words old new failed fails text status
-  -- the source failed
-  no_source : words ≡ [] → Rose failed fails → text ≡ last_text lasts.SourceFault → status ≡ 4
-      → IsAnswer words old new failed fails text status
-  -- it was read, and what was read decides
-  read : words ≡ [] → (bytes : List ℕ) → WasRead old new bytes → IsAnswerFor (reading_of bytes) text status
-      → IsAnswer words old new failed fails text status
-
--- an answer was written
-pub record ToldAnswer (words : List (String Global)) (old new : Option (List ℕ)) (failed fails : ℕ)
-    (held holds : Option (List ℕ)) (fell falls status : ℕ) : Type 0 where
-  pub text : List ℕ
-  pub due : ℕ
-  pub answer : IsAnswer words old new failed fails text due
-  pub wrote : WroteText held holds fell falls status due text
+-- what a call has to say, and the status that is due, by its words and by what its source had left and then
+-- has
+abbrev pub IsAnswer : List (String Global) → Option (List ℕ) → Option (List ℕ) → ℕ → ℕ → List ℕ → ℕ → Type 0
+IsAnswer = intake.IsAnswer usage_text IsAnswerFor
 
 -- memory was wanting and nothing was written, or an answer was
 abbrev pub Told : List (String Global) → Option (List ℕ) → Option (List ℕ) → ℕ → ℕ → Option (List ℕ)
     → Option (List ℕ) → ℕ → ℕ → ℕ → Type 0
-Told words old new failed fails held holds fell falls status =
-    ((status ≡ 10) × Gains held holds [])
-    ⊎ ToldAnswer words old new failed fails held holds fell falls status
+Told = ToldBy usage_text IsAnswerFor

@@ -1,5 +1,5 @@
 -- The text of a summary.
-use Rattle.std.specs.Prelude.{ℕ, ◌==◌, ◌&&◌, if◌then◌else◌, Bool, true, false, List, [], ◌∷◌, ◌++◌, All, length, map, fold, max, codes}
+use Rattle.std.specs.Prelude.{ℕ, ◌==◌, ◌&&◌, if◌then◌else◌, Bool, true, false, List, [], ◌∷◌, All, length, map, fold, max, codes}
 use Rattle.std.specs.Fmt.{decimal}
 use Rattle.std.specs.List.{concat, enumerate_from, flat_map, list_any}
 use Rattle.dr_enough.specs.Enough.{turns_enough}
@@ -50,13 +50,13 @@ is_calm script = (length script.faults == 0) && is_lockstep script.schedule
 abbrev pub turns_word : ℕ → List ℕ
 turns_word count = if count == 1 then codes "turn" else codes "turns"
 
--- that so many turns would have been enough
+-- that so many turns would have been enough for the same run
 abbrev pub enough_text : ℕ → List ℕ
 enough_text count =
-    concat (decimal count ∷ codes " " ∷ turns_word count ∷ codes " would have been enough\n" ∷ [])
+    concat (decimal count ∷ codes " " ∷ turns_word count ∷ codes " would have been enough for the same run\n" ∷ [])
 
--- how many turns would have been enough: where nobody has spent its own, the most that a member took; else
--- the number that is enough in lockstep without faults, where the script is so
+-- how many turns would have been enough for the same run: where nobody has spent its own, the most that a
+-- member took; else the number that is enough in lockstep without faults, where the script is so
 abbrev pub turns_text : Script → List AgeEnd → List ℕ
 turns_text script ages =
     if some_spent ages then

@@ -9,6 +9,8 @@ mod turns;
 
 use dr_intake::{OUT_OF_MEMORY, words_of};
 use dr_io::{InputSource, OutputSink};
+use dr_progress::{ClockTimer, Progress};
+use std::io::IsTerminal;
 use std::process::ExitCode;
 pub use top::summarize;
 
@@ -19,5 +21,9 @@ fn main(rt: HostRuntime) -> ExitCode {
     };
     let mut source = InputSource::new(rt.stdin());
     let mut sink = OutputSink::new(rt.stdout());
-    ExitCode::from(summarize(&rt, alloc, &words, &mut source, &mut sink))
+    let errors = rt.stderr();
+    let is_terminal = errors.is_terminal();
+    let timer = ClockTimer::new(&rt);
+    let mut progress = Progress::new(alloc, timer, OutputSink::new(errors), is_terminal);
+    ExitCode::from(summarize(&rt, alloc, &words, &mut source, &mut sink, &mut progress))
 }

@@ -10,7 +10,7 @@ use dr_script::{Schedule, Script};
 use std::alloc::AllocError;
 use std::fmt::Write;
 
-/// Appends how many turns would have been enough, as far as that is known.
+/// Appends how many turns would have been enough for the same run, as far as that is known.
 pub(crate) fn push_turns(
     out: &mut String,
     script: &Script,
@@ -29,12 +29,15 @@ pub(crate) fn push_turns(
     Ok(())
 }
 
-/// Appends that so many turns would have been enough.
+/// Appends that so many turns would have been enough for the same run.
 fn push_enough(out: &mut String, turns: u32) -> Result<(), AllocError>
     ensures { OnOk result (string_bytes out.new ≡ string_bytes out.old ++ enough_text turns) }
 {
     let word = if turns == 1 { "turn" } else { "turns" };
-    writeln!(out, "{turns} {word} would have been enough")
+    writeln!(
+        out,
+        "{turns} {word} would have been enough for the same run"
+    )
 }
 
 /// Whether some member has spent its turns.

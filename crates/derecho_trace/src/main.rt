@@ -9,6 +9,8 @@ mod words;
 
 use dr_intake::{OUT_OF_MEMORY, words_of};
 use dr_io::{InputSource, OutputSink};
+use dr_progress::{ClockTimer, Progress};
+use std::io::IsTerminal;
 use std::process::ExitCode;
 pub use top::{Traced, trace};
 
@@ -19,6 +21,10 @@ fn main(rt: HostRuntime) -> ExitCode {
     };
     let mut source = InputSource::new(rt.stdin());
     let sink = OutputSink::new(rt.stdout());
-    let traced = trace(&rt, alloc, &words, &mut source, sink);
+    let errors = rt.stderr();
+    let is_terminal = errors.is_terminal();
+    let timer = ClockTimer::new(&rt);
+    let mut progress = Progress::new(alloc, timer, OutputSink::new(errors), is_terminal);
+    let traced = trace(&rt, alloc, &words, &mut source, sink, &mut progress);
     ExitCode::from(traced.status)
 }

@@ -1,4 +1,5 @@
 ghost use Rattle.std.specs.Prelude.{◌≡◌, ◌⊎◌, ◌∷◌, ◌++◌, ℕ, List, Option, Some, [], Contains};
+ghost use Rattle.dr_progress.specs.Progress.{IsQuiet};
 ghost use Rattle.dr_script.specs.Ranges.{HasRanges};
 ghost use Rattle.dr_script.specs.Reading.{reading_of};
 ghost use Rattle.dr_seeing.specs.Output.{HasTold};
@@ -14,6 +15,7 @@ use dr_intake::{
 };
 use dr_io::{Sink, Source};
 use dr_outcome::watch_in_memory;
+use dr_progress::{Progress, Timer, watch_with_progress};
 use dr_script::{Schedule, Script};
 use dr_seeing::{Chart, Output, Trouble};
 use dr_text::Last;
@@ -37,29 +39,36 @@ pub struct Traced<K: Sink> {
 /// tells the sink what happens, in order. The last line and the status are those of `derecho sim`.
 ///
 /// Without words it is told as a chart; with the word `lines` as a line for each event; with the word `svg` as
-/// a picture, in which the last line stands. A picture is written at the end, and the other texts as the run
-/// goes on. Where memory is wanting, and where a call of the sink fails, a front part of it is written.
-pub fn trace<R: Threads + Sync, S: Source, K: Sink>(
+/// a picture, in which the last line stands. A picture is written at the end, and while it is drawn the
+/// progress says how far it is; the other texts are written as the run goes on. Where memory is wanting, and
+/// where a call of the sink fails, a front part of it is written.
+pub fn trace<R: Threads + Sync, S: Source, K: Sink, T: Timer, E: Sink>(
     rt: &R,
     alloc: Global,
     words: &[String],
     source: &mut S,
     sink: K,
+    progress: &mut Progress<T, E>,
 ) -> Traced<K>
     ensures told { WroteOne
         (IsAnswer words.now (S.left source.old) (S.left source.new)
         (S.faults source.old) (S.faults source.new))
         (K.held sink) (K.held result.sink) (K.faults sink) (K.faults result.sink) result.status }
+    // 2 for words, 3 for a text that is no script, 4 for a read, 5 for a write, 8 for turns that were spent,
+    // 9 for a member without a majority of its view, 10 for memory, and else 0.
+    ensures statuses { Contains (0 ∷ 2 ∷ 3 ∷ 4 ∷ 5 ∷ 8 ∷ 9 ∷ 10 ∷ []) result.status }
     // No fault is hidden.
     ensures read_fault_told { (S.faults source.new ≡ S.faults source.old)
         ⊎ Contains (4 ∷ 10 ∷ 5 ∷ []) result.status }
+    // How far it is is said to a terminal alone, and no sooner than after two seconds.
+    ensures quiet { IsQuiet progress.old progress.new }
 {
     let output = Output::new(alloc, sink);
     let Some(form) = form_of(words) else {
         return usage(output);
     };
     match read_all(alloc, source, READ_LIMIT) {
-        Ok(bytes) => trace_bytes(rt, alloc, form, &bytes, output),
+        Ok(bytes) => trace_bytes(rt, alloc, form, &bytes, output, progress),
         Err(ReadFault::Failed) => end(output, Some(Last::SourceFault)),
         Err(ReadFault::OutOfMemory) => end(output, None),
     }
@@ -76,41 +85,56 @@ fn usage<K: Sink>(output: Output<K>) -> Traced<K>
 }
 
 /// Tells the run of what was read, where it is a script.
-fn trace_bytes<R: Threads + Sync, K: Sink>(
+fn trace_bytes<R: Threads + Sync, K: Sink, T: Timer, E: Sink>(
     rt: &R,
     alloc: Global,
     form: Form,
     bytes: &[u8],
     output: Output<K>,
+    progress: &mut Progress<T, E>,
 ) -> Traced<K>
-    ensures { (held : Option (List ℕ)) (fell : ℕ) → HasTold held fell [] output
+    ensures wrote { (held : Option (List ℕ)) (fell : ℕ) → HasTold held fell [] output
         → WroteOne (IsTracedFor form (reading_of bytes.now)) held (K.held result.sink)
         fell (K.faults result.sink) result.status }
+    ensures quiet { IsQuiet progress.old progress.new }
 {
     match script_or_refusal(alloc, bytes) {
-        Ok(script) => trace_script(rt, alloc, form, &script, output),
+        Ok(script) => trace_script(rt, alloc, form, &script, output, progress),
         Err(line) => end(output, line),
     }
 }
 
 /// Tells the run of a script.
-fn trace_script<R: Threads + Sync, K: Sink>(
+fn trace_script<R: Threads + Sync, K: Sink, T: Timer, E: Sink>(
     rt: &R,
     alloc: Global,
     form: Form,
     script: &Script,
     output: Output<K>,
+    progress: &mut Progress<T, E>,
 ) -> Traced<K>
     requires { HasRanges script.now }
-    ensures { (held : Option (List ℕ)) (fell : ℕ) → HasTold held fell [] output
+    ensures wrote { (held : Option (List ℕ)) (fell : ℕ) → HasTold held fell [] output
         → WroteOne (IsTraced form script.now) held (K.held result.sink)
         fell (K.faults result.sink) result.status }
+    ensures quiet { IsQuiet progress.old progress.new }
 {
     match form {
         Form::Lines => trace_lines(rt, alloc, script, Lines { output }),
-        Form::Chart => trace_chart(rt, alloc, script, output),
-        Form::Picture => trace_picture(rt, alloc, script, output),
+        Form::Chart => match Chart::new(alloc, script.members, is_lockstep(script)) {
+            Ok(chart) => trace_chart(rt, alloc, script, Drawing { output, chart }),
+            Err(_) => end(output, None),
+        },
+        Form::Picture => match Picturing::new(alloc, script.members) {
+            Ok(picturing) => trace_picture(rt, alloc, script, picturing, output, progress),
+            Err(_) => end(output, None),
+        },
     }
+}
+
+/// Whether a script runs by whole turns.
+fn is_lockstep(script: &Script) -> bool {
+    matches!(script.schedule, Schedule::Lockstep)
 }
 
 /// Tells the run of a script, a line for each event.
@@ -135,25 +159,6 @@ fn trace_chart<R: Threads + Sync, K: Sink>(
     rt: &R,
     alloc: Global,
     script: &Script,
-    output: Output<K>,
-) -> Traced<K>
-    requires { HasRanges script.now }
-    ensures { (held : Option (List ℕ)) (fell : ℕ) → HasTold held fell [] output
-        → WroteOne (IsTraced Form.Chart script.now) held (K.held result.sink)
-        fell (K.faults result.sink) result.status }
-{
-    let whole_turns = matches!(script.schedule, Schedule::Lockstep);
-    match Chart::new(alloc, script.members, whole_turns) {
-        Ok(chart) => draw(rt, alloc, script, Drawing { output, chart }),
-        Err(_) => end(output, None),
-    }
-}
-
-/// Draws the run of a script.
-fn draw<R: Threads + Sync, K: Sink>(
-    rt: &R,
-    alloc: Global,
-    script: &Script,
     drawing: Drawing<K>,
 ) -> Traced<K>
     requires { HasRanges script.now }
@@ -166,39 +171,23 @@ fn draw<R: Threads + Sync, K: Sink>(
     end(drawing.output, outcome.last)
 }
 
-/// Tells the run of a script as a picture.
-fn trace_picture<R: Threads + Sync, K: Sink>(
-    rt: &R,
-    alloc: Global,
-    script: &Script,
-    output: Output<K>,
-) -> Traced<K>
-    requires { HasRanges script.now }
-    ensures { (held : Option (List ℕ)) (fell : ℕ) → HasTold held fell [] output
-        → WroteOne (IsTraced Form.Picture script.now) held (K.held result.sink)
-        fell (K.faults result.sink) result.status }
-{
-    match Picturing::new(alloc, script.members) {
-        Ok(picturing) => picture(rt, alloc, script, picturing, output),
-        Err(_) => end(output, None),
-    }
-}
-
 /// Draws the run of a script on a picture, and tells it.
-fn picture<R: Threads + Sync, K: Sink>(
+fn trace_picture<R: Threads + Sync, K: Sink, T: Timer, E: Sink>(
     rt: &R,
     alloc: Global,
     script: &Script,
     picturing: Picturing,
     output: Output<K>,
+    progress: &mut Progress<T, E>,
 ) -> Traced<K>
     requires { HasRanges script.now }
-    ensures { (held : Option (List ℕ)) (fell : ℕ) → HasTold held fell [] output
+    ensures wrote { (held : Option (List ℕ)) (fell : ℕ) → HasTold held fell [] output
         → WroteOne (IsTraced Form.Picture script.now) held (K.held result.sink)
         fell (K.faults result.sink) result.status }
+    ensures quiet { IsQuiet progress.old progress.new }
 {
     let mut picturing = picturing;
-    let outcome = watch_in_memory(rt, alloc, script, &mut picturing);
+    let outcome = watch_with_progress(rt, alloc, script, &mut picturing, progress);
     let Ok(drawn) = picturing.finish(alloc) else {
         return end(output, None);
     };

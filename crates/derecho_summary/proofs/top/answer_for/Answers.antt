@@ -4,14 +4,14 @@ use Rattle.dr_script.specs.Reading.{Reads, reading_of}
 use Rattle.derecho_summary.proofs.Answers.{refused_if, script_if}
 use Rattle.derecho_summary.proofs.top.answer_for.Goals as goal
 
-pub returns-in-Ok : goal.returns-in-Ok
-returns-in-Ok g c =
+pub returns-in-Ok-clause-answer : goal.returns-in-Ok-clause-answer
+returns-in-Ok-clause-answer g c =
     let is : reading_of c.args.bytes.now ≡ Reads c.in-Ok.script = search rules in
     script_if c.answer_to_script.result (reading_of c.args.bytes.now) c.in-Ok.script is
-    c.answer_to_script.ensures
+    c.answer_to_script.ensures.answer
 
-pub returns-in-Err-Some : goal.returns-in-Err-Some
-returns-in-Err-Some g c =
+pub returns-in-Err-Some-clause-answer : goal.returns-in-Err-Some-clause-answer
+returns-in-Err-Some-clause-answer g c =
     let is : refusal_in (reading_of c.args.bytes.now) ≡ Some c.in-Err-Some.line = search rules in
-    refused_if c.answer_to_refusal.result (reading_of c.args.bytes.now) c.in-Err-Some.line is
-    c.answer_to_refusal.ensures.text c.answer_to_refusal.ensures.due
+    refused_if c.of_line.result (reading_of c.args.bytes.now) c.in-Err-Some.line is
+    c.of_line.ensures.text c.of_line.ensures.due

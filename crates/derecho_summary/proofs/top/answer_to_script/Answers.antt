@@ -1,4 +1,4 @@
-use Rattle.std.proofs.Common.{◌≡◌, Some, rules, subst, sym}
+use Rattle.std.proofs.Common.{◌≡◌, Some, rules, subst}
 use Rattle.dr_ages.specs.declared.mode.Mode.TheVariants.{Sim}
 use Rattle.derecho_summary.specs.Summary.{AreAgreed}
 use Rattle.derecho_summary.proofs.Agreed.{agreed_run}
@@ -7,18 +7,18 @@ use Rattle.derecho_summary.proofs.top.answer_to_script.Goals as goal
 
 pub summary_of-requires-clause-agreed : goal.summary_of-requires-clause-agreed
 summary_of-requires-clause-agreed g c =
-    let outcome = c.run_in_memory-ages.result in
+    let outcome = c.watch_with_progress-ages.result in
     let is : outcome.last ≡ Some c.in-Some.last = search rules in
     let run = run_behind c.args.script.now outcome.ages outcome.stop outcome.last c.in-Some.last
-    c.run_in_memory-ages.ensures is in
+    c.watch_with_progress-ages.ensures.ran is in
     subst AreAgreed (search rules) (agreed_run c.args.script.now Sim outcome.ages outcome.stop run.0)
 
-pub returns : goal.returns
-returns g c =
-    let outcome = c.run_in_memory-ages.result in
+pub returns-clause-answer : goal.returns-clause-answer
+returns-clause-answer g c =
+    let outcome = c.watch_with_progress-ages.result in
     let is : outcome.last ≡ Some c.in-Some.last = search rules in
     let run = run_behind c.args.script.now outcome.ages outcome.stop outcome.last c.in-Some.last
-    c.run_in_memory-ages.ensures is in
+    c.watch_with_progress-ages.ensures.ran is in
     record {
       ages = outcome.ages;
       stop = outcome.stop;

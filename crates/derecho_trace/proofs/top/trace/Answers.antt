@@ -1,15 +1,16 @@
-use Rattle.std.proofs.Common.{◌≡◌, ◌∙◌, ℕ, List, [], Some, refl, rules, sym, subst}
+use Rattle.std.proofs.Common.{arith, ◌≡◌, ◌∙◌, ℕ, List, [], Some, refl, rules, sym, subst}
 use Rattle.dr_io.specs.Faults.{Rose}
 use Rattle.dr_script.specs.Reading.{reading_of}
 use Rattle.dr_text.specs.declared.last.Last.TheVariants as lasts
 use Rattle.dr_text.specs.Report.{last_text}
-use Rattle.derecho_trace.specs.Trace.{IsTracedFor, no_memory, no_source, read}
+use Rattle.derecho_trace.specs.Trace.{IsTracedFor, no_memory, no_source, read, usage_text}
 use Rattle.derecho_trace.specs.Words.{asked_by}
+use Rattle.derecho_trace.proofs.Statuses.{traced_known, wrote_known}
 use Rattle.derecho_trace.proofs.top.trace.Goals as goal
 
 pub returns-in-Ok-clause-told : goal.returns-in-Ok-clause-told
 returns-in-Ok-clause-told g c =
-    let wrote = c.trace_bytes.ensures (g.K.Sink.held c.args.sink) (g.K.Sink.faults c.args.sink)
+    let wrote = c.trace_bytes.ensures.wrote (g.K.Sink.held c.args.sink) (g.K.Sink.faults c.args.sink)
     c.new-output.ensures in
     let asked : asked_by c.args.words.now ≡ Some c.in-Some.form = sym c.form_of.ensures ∙ c.in-Some.is in
     record {
@@ -45,3 +46,33 @@ returns-in-Err-OutOfMemory-clause-told g c =
           c.args.sink) []
           c.new-output.ensures;
     }
+
+pub returns-in_default-clause-statuses : goal.returns-in_default-clause-statuses
+returns-in_default-clause-statuses g c =
+    wrote_known (g.K.Sink.held c.args.sink) (g.K.Sink.held c.usage.result.sink) (g.K.Sink.faults c.args.sink)
+    (g.K.Sink.faults c.usage.result.sink) c.usage.result.status 2 usage_text (1, omega arith, refl)
+    (c.usage.ensures (g.K.Sink.held c.args.sink) (g.K.Sink.faults c.args.sink) c.new-output.ensures)
+
+pub returns-in-Ok-clause-statuses : goal.returns-in-Ok-clause-statuses
+returns-in-Ok-clause-statuses g c =
+    let wrote = c.trace_bytes.ensures.wrote (g.K.Sink.held c.args.sink) (g.K.Sink.faults c.args.sink)
+    c.new-output.ensures in
+    let sink = c.trace_bytes.result.sink in
+    wrote_known (g.K.Sink.held c.args.sink) (g.K.Sink.held sink) (g.K.Sink.faults c.args.sink)
+    (g.K.Sink.faults sink) c.trace_bytes.result.status wrote.due wrote.text
+    (traced_known c.in-Some.form (reading_of c.deref.result.now) wrote.text wrote.due wrote.is) wrote.wrote
+
+pub returns-in-Err-Failed-clause-statuses : goal.returns-in-Err-Failed-clause-statuses
+returns-in-Err-Failed-clause-statuses g c =
+    let sink = c.end.result.sink in
+    wrote_known (g.K.Sink.held c.args.sink) (g.K.Sink.held sink) (g.K.Sink.faults c.args.sink)
+    (g.K.Sink.faults sink) c.end.result.status 4 (last_text lasts.SourceFault) (3, omega arith, refl)
+    (c.end.ensures.wrote (g.K.Sink.held c.args.sink) (g.K.Sink.faults c.args.sink) [] c.new-output.ensures)
+
+pub returns-in-Err-OutOfMemory-clause-statuses : goal.returns-in-Err-OutOfMemory-clause-statuses
+returns-in-Err-OutOfMemory-clause-statuses g c =
+    let sink = c.end-in-Err-OutOfMemory.result.sink in
+    wrote_known (g.K.Sink.held c.args.sink) (g.K.Sink.held sink) (g.K.Sink.faults c.args.sink)
+    (g.K.Sink.faults sink) c.end-in-Err-OutOfMemory.result.status 10 [] (7, omega arith, refl)
+    (c.end-in-Err-OutOfMemory.ensures.wrote (g.K.Sink.held c.args.sink) (g.K.Sink.faults c.args.sink) []
+    c.new-output.ensures)

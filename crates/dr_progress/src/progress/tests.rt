@@ -1,0 +1,69 @@
+//! When something is said of a run, and what.
+use crate::line::BLANK;
+use crate::{Progress, SteppedTimer, watch_with_progress};
+use dr_io::MemorySink;
+use dr_script::read_script;
+use dr_sim::Unwatched;
+use std::alloc::Global;
+use std::fmt::Write;
+use std::process::Abort;
+use std::test::Fail;
+use std::thread::Threads;
+
+/// A script whose member 0 waits for the other one, which has crashed, until its turns are spent.
+const STUCK: &[u8] =
+    br#"{"members":2,"window":1,"turns":1000,"patience":0,"ages":1,"messages":[["a"],[]],
+  "faults":[{"age":0,"member":1,"crash":[1,0]}],"schedule":7}"#;
+
+/// Checks in which turns something is said of the run, where each reading of the timer is so much later than
+/// the one before, up to the first that fails, and that no line is left behind it.
+fn check<R: Threads + Sync + Abort>(
+    rt: &R,
+    alloc: Global,
+    is_terminal: bool,
+    step: u64,
+    readings: u64,
+    turns: &[u32],
+) -> Result<(), Fail> {
+    let script = read_script(alloc, STUCK)?;
+    let sink = MemorySink::new(alloc, 4096, &[])?;
+    let timer = SteppedTimer::new(step, readings);
+    let mut progress = Progress::new(alloc, timer, sink, is_terminal);
+    watch_with_progress(rt, alloc, &script, &mut Unwatched, &mut progress);
+    let mut wanted = String::new(alloc);
+    for turn in turns {
+        write!(wanted, "{BLANK}age 0, turn {turn} of at most 1000")?;
+    }
+    if !turns.is_empty() {
+        wanted.push_str(BLANK)?;
+    }
+    assert_eq!(rt; progress.sink.bytes(), wanted.as_bytes());
+    Ok(())
+}
+
+#[test]
+fn says_nothing_before_two_seconds(rt: HostRuntime) -> Result<(), Fail> {
+    check(&rt, rt.alloc(), true, 1, 100, &[])
+}
+
+#[test]
+fn says_nothing_where_there_is_no_terminal(rt: HostRuntime) -> Result<(), Fail> {
+    check(&rt, rt.alloc(), false, 1000, 100, &[])
+}
+
+#[test]
+fn says_a_line_each_second(rt: HostRuntime) -> Result<(), Fail> {
+    check(
+        &rt,
+        rt.alloc(),
+        true,
+        700,
+        100,
+        &[127, 255, 383, 511, 639, 767, 895],
+    )
+}
+
+#[test]
+fn says_nothing_more_once_the_timer_fails(rt: HostRuntime) -> Result<(), Fail> {
+    check(&rt, rt.alloc(), true, 700, 4, &[127])
+}

@@ -1,0 +1,46 @@
+ghost use Rattle.std.specs.Prelude.{◌≡◌, ◌⊎◌, None, []};
+ghost use Rattle.dr_script.specs.Ranges.{HasRanges};
+ghost use Rattle.dr_ages.specs.Watched.{AreWatched};
+ghost use Rattle.dr_ages.specs.declared.mode.Mode.TheVariants.{Sim};
+ghost use Rattle.dr_outcome.specs.Last.{last_of};
+ghost use Rattle.dr_outcome.specs.Outcome.{IsRunInMemory};
+ghost use Rattle.dr_progress.specs.Progress.{IsQuiet};
+
+use crate::beside::Beside;
+use crate::progress::Progress;
+use crate::timer::Timer;
+use dr_io::Sink;
+use dr_outcome::{Outcome, watch_in_memory};
+use dr_script::Script;
+use dr_sim::Watcher;
+use std::alloc::Global;
+use std::thread::Threads;
+
+/// Simulates a script over empty logs in memory, which are gone with the run, before a watcher, and says how
+/// far it is.
+pub fn watch_with_progress<R: Threads + Sync, W: Watcher, T: Timer, K: Sink>(
+    rt: &R,
+    alloc: Global,
+    script: &Script,
+    watcher: &mut W,
+    progress: &mut Progress<T, K>,
+) -> Outcome
+    requires { HasRanges script.now }
+    ensures ran { ((result.ages ≡ []) × (result.stop ≡ None) × (result.last ≡ None))
+        ⊎ (IsRunInMemory script.now Sim result.ages result.stop
+        × (result.last ≡ last_of result.ages result.stop)) }
+    ensures watched { AreWatched W.opens W.sees W.closes Sim script.now 0 result.ages
+        watcher.old watcher.new }
+    // Nothing is said but to a terminal, and not before two seconds have passed.
+    ensures quiet { IsQuiet progress.old progress.new }
+{
+    progress.begin(script.turns);
+    let mut beside = Beside {
+        watcher: &mut *watcher,
+        progress: &mut *progress,
+        turns: 0,
+    };
+    let outcome = watch_in_memory(rt, alloc, script, &mut beside);
+    progress.end();
+    outcome
+}
