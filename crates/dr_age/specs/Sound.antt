@@ -5,7 +5,7 @@ use Rattle.dr_program.specs.Program.{Program}
 use Rattle.dr_program.specs.Reading.{world}
 use Rattle.dr_refine.specs.Programs.{IsProgram}
 
--- a program of the group, in a world that some events lead to
+-- a program of the group, in a world that is reached
 pub record IsSound (g : Group) (p : Program) : Type 0 where
   pub group : IsGroup g
   pub form : IsProgram g p

@@ -38,6 +38,17 @@ pub fn kept_after(script: &Script, start: &Start, events: &[Event], choice: &[Lo
         → Kept (group_of script.now start.now).opening (accounts_in w) (group_of script.now next).opening }
 {}
 
+/// A law: so it is of each world that the group reaches, however late the words come that its members push, and
+/// of whatever stops leave there.
+pub fn kept_wherever_reached(script: &Script, start: &Start, choice: &[LogLists], age: u16)
+    requires group { IsGroup (group_of script.now start.now) }
+    requires later { start.now.age < age }
+    ensures { (w : WorldOf) (next : StartOf) → IsReached (group_of script.now start.now) w
+        → AreLeftIn (group_of script.now start.now) w choice.now
+        → next.age ≡ age → IsLongest (entries_of choice.now) next.entries
+        → Kept (group_of script.now start.now).opening (accounts_in w) (group_of script.now next).opening }
+{}
+
 /// Whether an age keeps what another has delivered durably, as this stands in a world of that one: it is a
 /// later one, what it starts with was delivered, and it starts with all that some member knows to be durable.
 /// It takes no memory.

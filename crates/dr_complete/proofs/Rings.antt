@@ -1,5 +1,5 @@
 -- A ring keeps the pieces of each item that was put, until those of a later one stand in their place.
-use Rattle.std.proofs.Common.{List, [], ap, arith, inl, inr, length, refl, slice_index_or, subst, sym, ℕ, ◌++◌, ◌+◌, ◌<◌, ◌∙◌, ◌∷◌, ◌≡◌, ◌≢◌, ◌≤◌, ◌⊎◌}
+use Rattle.std.proofs.Common.{List, [], ap, arith, inl, inr, length, slice_index_or, subst, sym, ℕ, ◌++◌, ◌+◌, ◌<◌, ◌∙◌, ◌∷◌, ◌≡◌, ◌≢◌, ◌≤◌, ◌⊎◌}
 use Rattle.std.proofs.Math.Seq.{get_or-append_seam}
 use Rattle.std.proofs.lemmas.Bool.{cases_lt}
 use Rattle.std.proofs.lemmas.List.{length_push}
@@ -11,14 +11,14 @@ use Rattle.dr_ring.specs.Slots.{slot_column}
 use Rattle.dr_words.specs.Columns.{recv_column}
 use Rattle.dr_words.specs.Packing.{ring_tag}
 use Rattle.dr_machine.proofs.Presence.{in_roster}
-use Rattle.dr_machine.proofs.Runs.{reached, reached_effect}
+use Rattle.dr_machine.proofs.Runs.{reached}
 use Rattle.dr_machine.specs.Acts.{CanTake, Guard, effect, effect_of}
 use Rattle.dr_machine.specs.Effects.{puts, row_with, stamped}
 use Rattle.dr_machine.specs.Events.{member_of, step_of}
 use Rattle.dr_machine.specs.Group.{Group, IsGroup, roster}
 use Rattle.dr_machine.specs.Guards.{IsRunning}
 use Rattle.dr_machine.specs.Run.{IsReached}
-use Rattle.dr_machine.specs.World.{World, count_of, opening_world}
+use Rattle.dr_machine.specs.World.{World, count_of}
 use Rattle.dr_machine.specs.Writes.{at, at₂, at₃}
 use Rattle.dr_machine.specs.declared.event.Event.{Event}
 use Rattle.dr_machine.specs.declared.step.Step.{Step}
@@ -120,20 +120,15 @@ step_stands g w m step s v k part is can all l needed = by (puts_or_leaves g w m
 
 -- ---- every run
 
--- a world that is reached, and in which rings keep their items
-record Kept (g : Group) (w : World) : Type 0 where
-  pub run : IsReached g w
-  pub rings : RingsKeep g w.past
-
 -- what stands in a ring stays, or makes place for later items
-event_keeps : (g : Group) (w : World) (e : Event) → IsGroup g → Guard g w e → Kept g w
-    → RingsKeep g (effect g w e).past
-event_keeps g w e is can kept s v k part l below needed =
+event_keeps : (g : Group) (w : World) (e : Event) → IsGroup g → IsReached g w → Guard g w e
+    → RingsKeep g w.past → RingsKeep g (effect g w e).past
+event_keeps g w e is run can rings s v k part l below needed =
     by (step_stands g w (member_of e) (step_of e) s v k part is can
     (y.chosen.faithful.sent.all (member_of e) (w.past.view (member_of e))) below needed)
   where
     y : Known g w
-    y = known g w is kept.run
+    y = known g w is run
 
     column : ℕ
     column = slot_column (roster g) g.window k + part
@@ -143,19 +138,11 @@ event_keeps g w e is can kept s v k part l below needed =
     by (inl before) =
         let same = item_kept g w.past.sent (effect g w e).past.sent s v k
         ((past_grew g w e is y can).sent s v) before in
-        let old = kept.rings s v k part l before
-        (subst (λ (x : Item). part < length (pieces x)) same needed) in
+        let old = rings s v k part l before (subst (λ (x : Item). part < length (pieces x)) same needed) in
         omega (arith, old, ((words_grew g w e is y can).own s v column).number)
 
--- rings keep their items in every world that is reached
+-- rings keep their items in every world that is reached: words that arrive change no ring of an owner
 pub rings_keep : (g : Group) (w : World) → IsGroup g → IsReached g w → RingsKeep g w.past
-rings_keep g w is r = (reached g (Kept g) step begun w r).rings
-  where
-    begun : Kept g (opening_world g)
-    begun = record { run = ([], refl); rings = λ s v k part l below needed. absurd (omega (arith, below)) }
-
-    step : (u : World) (e : Event) → Guard g u e → Kept g u → Kept g (effect g u e)
-    step u e can kept = record {
-      run = reached_effect g u e kept.run can;
-      rings = event_keeps g u e is can kept;
-    }
+rings_keep g w is r = reached g (λ u. RingsKeep g u.past)
+    (λ u e run can rings. event_keeps g u e is run can rings) (λ u table rings. rings)
+    (λ s v k part l below needed. absurd (omega (arith, below))) w r

@@ -1,6 +1,7 @@
 -- A member of a sound program takes its next deed over the words of the table.
-use Rattle.std.proofs.Common.{◌≡◌, sym, ap, ◌∙◌, subst, ℕ, ◌<◌, List, length, get_or, slice_index}
-use Rattle.std.specs.Prelude.{None, Some, slice_get, slice_set}
+use Rattle.std.proofs.Common.{◌≡◌, refl, sym, ap, ◌∙◌, subst, ℕ, ◌<◌, All, Contains, List, [], ◌∷◌, ◌++◌, length, get_or, slice_index}
+use Rattle.std.specs.Prelude.{◌-◌, None, Some, drop, slice_get, slice_index_or, slice_range, slice_set}
+use Rattle.std.proofs.lemmas.List.Elements.{All-contains_itself, All-drop, All-push, All-take, All-weaker, Contains-append_left, Contains-append_right, Contains-push}
 use Rattle.std.proofs.lemmas.Option.{slice_get-get_or}
 use Rattle.dr_age.specs.Sound.{IsSound}
 use Rattle.dr_age.proofs.Deeds.{after_append, any_outcome, deed_tells, stored_append}
@@ -10,12 +11,19 @@ use Rattle.dr_machine.specs.Group.{Group}
 use Rattle.dr_member.specs.Deeds.{table_size}
 use Rattle.dr_program.specs.declared.deed.Deed.TheVariants as deeds
 use Rattle.dr_program.specs.declared.outcome.Outcome.TheVariants.{Ok}
-use Rattle.dr_program.specs.Program.{Move, Program, after_deed, next_sight}
+use Rattle.dr_program.specs.Program.{Program, after_deed, next_sight, ok, step_of}
 use Rattle.dr_program.specs.Reading.{step_due, step_of_member}
-use Rattle.dr_program.specs.Running.{Running, after_step, next_deed, next_step}
+use Rattle.dr_program.specs.Running.{Running, after_step, deed, deed_of, next_deed, next_step}
 use Rattle.dr_program.specs.Sight.{MaySee}
-use Rattle.dr_program.specs.Steps.{stored}
+use Rattle.dr_machine.specs.declared.step.Step.{Step}
+use Rattle.dr_machine.specs.declared.step.Step.TheVariants.{Do, Look, Push, Append, LogVote}
+use Rattle.dr_program.specs.Replica.{me}
+use Rattle.dr_rows.specs.Words.{own}
+use Rattle.dr_program.specs.Steps.{index_in, stored}
+use Rattle.dr_program.specs.declared.packet.Packet.{Packet}
+use Rattle.dr_program_laws.proofs.Carried.{carried_among, carried_begins, carried_place, carried_pushes}
 use Rattle.dr_program_laws.proofs.Keeping.{move_kept, sees}
+use Rattle.dr_program_laws.specs.Carried.{IsCarried}
 use Rattle.dr_refine.proofs.Deeds.{step_is}
 use Rattle.dr_words.specs.Layout.{words_of}
 
@@ -49,60 +57,136 @@ may_see g p m r index is there due =
     (sees g p m r t.says.row t.says.column is.group is.form is.reached there
     (ap (step_due r) t.none ∙ ap Some t.says.look))
 
--- what it makes of itself and of the words is sound
-moved_on : (g : Group) (p : Program) (m : ℕ) (r x : Running) (cells : List ℕ) → IsSound g p
-    → slice_get p.members m ≡ Some r → r.replica.end ≡ None
+-- so it is of a program whose words are carried, which is sound
+pub carried_sound : (g : Group) (p : Program) (net : List Packet) → IsCarried g p net → IsSound g p
+carried_sound g p net y = record { group = y.group; form = y.form; reached = (y.before, y.way) }
+
+pub sound_of : (members : List Running) (words : List ℕ) (net : List Packet)
+    → ((g : Group) × IsCarried g (over members words) net) → (g : Group) × IsSound g (over members words)
+sound_of members words net some = (some.0, carried_sound some.0 (over members words) net some.1)
+
+-- what holds of a program after a deed of a member holds of what it makes of itself and of the words
+moved_on : (P : Program → Type 0) (p : Program) (m : ℕ) (r x : Running) (cells : List ℕ)
+    → P (step_of p (ok m)) → slice_get p.members m ≡ Some r → r.replica.end ≡ None
     → x ≡ after_deed (next_sight p.table r) Ok r (next_step r)
     → cells ≡ stored p.table r.replica (next_step r)
-    → IsSound g (record { members = slice_set p.members m x; table = cells })
-moved_on g p m r x cells is there none member words =
-    let e : Move = record { member = m; outcome = Ok } in
-    let kept = move_kept g p e is.group is.form is.reached in
-    let same = step_is p e r there none in
-    subst (IsSound g)
-    (same ∙ sym (λ z. record { members = slice_set p.members m (member z); table = words z }))
-    (record { group = is.group; form = kept.0; reached = kept.1 })
+    → P (record { members = slice_set p.members m x; table = cells })
+moved_on P p m r x cells kept there none member words =
+    subst P (step_is p (ok m) r there none
+    ∙ sym (λ z. record { members = slice_set p.members m (member z); table = words z })) kept
+
+-- it is sound
+pub sound_on : (g : Group) (p : Program) (m : ℕ) → IsSound g p → IsSound g (step_of p (ok m))
+sound_on g p m is =
+    let kept = move_kept g p (ok m) is.group is.form is.reached in
+    record { group = is.group; form = kept.0; reached = kept.1 }
 
 -- so it is at each kind of deed
-pub looks : (g : Group) (p : Program) (m : ℕ) (r x : Running) (index : ℕ) → IsSound g p
-    → slice_get p.members m ≡ Some r → next_deed r ≡ deeds.Look index
+pub looks : (P : Program → Type 0) (p : Program) (m : ℕ) (r x : Running) (index : ℕ)
+    → P (step_of p (ok m)) → slice_get p.members m ≡ Some r → next_deed r ≡ deeds.Look index
     → x ≡ after_step (slice_index p.table index) r
-    → IsSound g (record { members = slice_set p.members m x; table = p.table })
-looks g p m r x index is there due member =
+    → P (record { members = slice_set p.members m x; table = p.table })
+looks P p m r x index is there due member =
     let t = deed_tells p.table r (deeds.Look index) due in
-    moved_on g p m r x p.table is there t.none
+    moved_on P p m r x p.table is there t.none
     (member ∙ ap (λ w. after_step w r) (sym t.says.sees)
     ∙ sym (any_outcome (next_sight p.table r) Ok r (next_step r) (ap is_append t.says.look)))
     (sym (ap (stored p.table r.replica) t.says.look))
 
-pub pushes : (g : Group) (p : Program) (m : ℕ) (r x : Running) (index word : ℕ) → IsSound g p
-    → slice_get p.members m ≡ Some r → next_deed r ≡ deeds.Push index word
+pub pushes : (P : Program → Type 0) (p : Program) (m : ℕ) (r x : Running) (index word : ℕ)
+    → P (step_of p (ok m)) → slice_get p.members m ≡ Some r → next_deed r ≡ deeds.Push index word
     → ((seen : ℕ) → x ≡ after_step seen r)
-    → IsSound g (record { members = slice_set p.members m x; table = slice_set p.table index word })
-pushes g p m r x index word is there due member =
+    → P (record { members = slice_set p.members m x; table = slice_set p.table index word })
+pushes P p m r x index word is there due member =
     let t = deed_tells p.table r (deeds.Push index word) due in
-    moved_on g p m r x (slice_set p.table index word) is there t.none
+    moved_on P p m r x (slice_set p.table index word) is there t.none
     (member (next_sight p.table r)
     ∙ sym (any_outcome (next_sight p.table r) Ok r (next_step r) t.says.other))
     (sym t.says.stores)
 
-pub acts : (g : Group) (p : Program) (m : ℕ) (r x : Running) (index word : ℕ) → IsSound g p
-    → slice_get p.members m ≡ Some r → next_deed r ≡ deeds.Act index word
+pub acts : (P : Program → Type 0) (p : Program) (m : ℕ) (r x : Running) (index word : ℕ)
+    → P (step_of p (ok m)) → slice_get p.members m ≡ Some r → next_deed r ≡ deeds.Act index word
     → ((seen : ℕ) → x ≡ after_step seen r)
-    → IsSound g (record { members = slice_set p.members m x; table = slice_set p.table index word })
-acts g p m r x index word is there due member =
+    → P (record { members = slice_set p.members m x; table = slice_set p.table index word })
+acts P p m r x index word is there due member =
     let t = deed_tells p.table r (deeds.Act index word) due in
-    moved_on g p m r x (slice_set p.table index word) is there t.none
+    moved_on P p m r x (slice_set p.table index word) is there t.none
     (member (next_sight p.table r)
     ∙ sym (any_outcome (next_sight p.table r) Ok r (next_step r) t.says.other))
     (sym t.says.stores)
 
-pub appends : (g : Group) (p : Program) (m : ℕ) (r x : Running) (due : Record) → IsSound g p
-    → slice_get p.members m ≡ Some r → next_deed r ≡ deeds.Append due
+pub appends : (P : Program → Type 0) (p : Program) (m : ℕ) (r x : Running) (due : Record)
+    → P (step_of p (ok m)) → slice_get p.members m ≡ Some r → next_deed r ≡ deeds.Append due
     → ((seen : ℕ) → x ≡ after_step seen r)
-    → IsSound g (record { members = slice_set p.members m x; table = p.table })
-appends g p m r x due is there next member =
+    → P (record { members = slice_set p.members m x; table = p.table })
+appends P p m r x due is there next member =
     let t = deed_tells p.table r (deeds.Append due) next in
-    moved_on g p m r x p.table is there t.none
+    moved_on P p m r x p.table is there t.none
     (member 0 ∙ sym (after_append (next_sight p.table r) Ok r (next_step r) t.says.0))
     (sym (stored_append p.table r.replica (next_step r) t.says.0))
+
+-- ---- over a net
+
+-- a deed that pushes is a push
+push_is : (r : Running) (s : Step) (index word : ℕ) → deed_of r s ≡ deeds.Push index word
+    → (j : ℕ) × (c : ℕ) × (s ≡ Push j c) × (index_in r.replica j (me r.replica) c ≡ index)
+    × (own r.replica.rows c ≡ word)
+push_is r (Do a) index word e = absurd (cc)
+push_is r (Look i c) index word e = absurd (cc)
+push_is r (Push j c) index word e = (j, c, refl, cc e, cc e)
+push_is r Append index word e = absurd (cc)
+push_is r (LogVote v) index word e = absurd (cc)
+
+-- a packet that goes behind the others is on its way with them
+behind : (net : List Packet) (packet : Packet) → All (Contains (packet ∷ net)) (net ++ packet ∷ [])
+behind net packet = All-push (Contains (packet ∷ net)) net packet
+    (All-weaker (Contains net) (Contains (packet ∷ net)) (Contains-append_right (packet ∷ []) net) net
+    (All-contains_itself net))
+    (Contains-append_left (packet ∷ []) net packet (Contains-push [] packet))
+
+-- so are those of a part
+pub among_part : (net : List Packet) (from to : ℕ) → All (Contains net) (slice_range net from to)
+among_part net from to = All-take (Contains net) (to - from) (drop from net)
+    (All-drop (Contains net) from net (All-contains_itself net))
+
+-- a push whose word is on its way
+pub sends : (g : Group) (p : Program) (net : List Packet) (m : ℕ) (r x : Running) (index word : ℕ)
+    → IsCarried g p net → slice_get p.members m ≡ Some r → next_deed r ≡ deeds.Push index word
+    → ((seen : ℕ) → x ≡ after_step seen r)
+    → IsCarried g (record { members = slice_set p.members m x; table = p.table })
+    (net ++ record { index = index; word = word } ∷ [])
+sends g p net m r x index word y there due member =
+    let t = deed_tells p.table r (deeds.Push index word) due in
+    let is = push_is r (next_step r) index word (sym (ap (deed r) t.none) ∙ due) in
+    let same = step_is p (ok m) r there t.none in
+    let after = member (next_sight p.table r)
+    ∙ sym (any_outcome (next_sight p.table r) Ok r (next_step r) t.says.other) in
+    let packet : Packet = record { index = index; word = word } in
+    let q : Program = record { members = slice_set p.members m x; table = p.table } in
+    let sent = carried_pushes g p net m r is.0 is.1 y there (ap (step_due r) t.none ∙ ap Some is.2) in
+    carried_among g q (packet ∷ net) (net ++ packet ∷ [])
+    (subst (λ (q : Program). IsCarried g q (packet ∷ net))
+    (λ z. record {
+      members = (ap (λ (q : Program). q.members) same
+          ∙ ap (slice_set p.members m) (sym after)) z;
+      table = p.table;
+    })
+    (subst (λ (packet : Packet). IsCarried g (record { members = (step_of p (ok m)).members; table = p.table })
+    (packet ∷ net)) (λ z. record { index = is.3 z; word = is.4 z }) sent))
+    (behind net packet)
+
+-- a sound program begins with nothing on its way
+pub begins : (g : Group) (members : List Running) (words : List ℕ) → IsSound g (over members words)
+    → IsCarried g (over members words) []
+begins g members words is = carried_begins g (over members words) is.group is.form is.reached
+
+-- a packet among these goes to a place of the table, where words of them have come before
+pub packet_place : (first words : List ℕ) (packets : List Packet) (n : ℕ) (d : Packet) → n < length packets
+    → ((g : Group) × (members : List Running) × (net : List Packet) × All (Contains net) packets
+    × IsCarried g (over members first) net)
+    → ((g : Group) (members : List Running) (net : List Packet) → All (Contains net) packets
+    → IsCarried g (over members first) net → IsCarried g (over members words) net)
+    → (slice_index_or packets n d).index < length words
+packet_place first words packets n d within some on =
+    carried_place some.0 (over some.1 words) some.2 (slice_index_or packets n d)
+    (on some.0 some.1 some.2 some.3 some.4) (some.3 n d within)

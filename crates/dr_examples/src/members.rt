@@ -13,7 +13,7 @@ use std::alloc::{AllocError, Global};
 use std::io::Print;
 
 /// Two members with one message each.
-const SCRIPT: &[u8] = br#"{"members":2,"window":1,"turns":12,"patience":0,"ages":1,
+pub(crate) const SCRIPT: &[u8] = br#"{"members":2,"window":1,"turns":12,"patience":0,"ages":1,
     "messages":[["a"],["b"]],"faults":[],"schedule":"lockstep"}"#;
 
 /// How many deeds each member takes: more than it has.

@@ -122,7 +122,7 @@ act_grew : (g : Group) (V : Views) (w u : World) (m v : ℕ) → WordsGrew g w u
 act_grew g V w u m v p f = grew_on g w u (stamped_in u m v) (λ i. refl) p (stamp_grew g V u m v f)
 
 -- the words are the same ones
-same_words : (g : Group) (w u : World) → u.past.own ≡ w.past.own → u.table ≡ w.table → u.seen
+pub same_words : (g : Group) (w u : World) → u.past.own ≡ w.past.own → u.table ≡ w.table → u.seen
     ≡ w.seen → WordsGrew g w u
 same_words g w u own table seen = record {
   own = λ m v k. HasGrown_same (roster g) k (w.past.own m v k) (u.past.own m v k) (ap (λ f. f m v k) own);

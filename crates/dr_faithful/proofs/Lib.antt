@@ -18,3 +18,4 @@ pub mod Suspicions
 pub mod Votes
 pub mod Finishes
 pub mod Faithfulness
+pub mod Late

@@ -5,7 +5,8 @@ use Rattle.dr_entry.specs.declared.record.Vote.{Vote}
 use Rattle.dr_machine.specs.Group.{Group, roster}
 use Rattle.dr_machine.specs.Writes.{at₃, at, at₂}
 use Rattle.dr_faithful.proofs.Writes.{at₃_case, at₃_column, at_other, at₂_case}
-use Rattle.dr_faithful.specs.Faithful.{AreAccepts, AreCounts, AreDelivered, AreInForm, AreOld, AreSuspicions, Numbers, Table, AreClosed, AreFresh, IsClosed}
+use Rattle.dr_machine.specs.World.{Table}
+use Rattle.dr_faithful.specs.Faithful.{AreAccepts, AreCounts, AreDelivered, AreInForm, AreOld, AreSuspicions, Numbers, AreClosed, AreFresh, IsClosed}
 use Rattle.dr_faithful.specs.Tells.{Views}
 use Rattle.dr_words.proofs.Order.{HasGrown_refl, HasGrown_trans}
 use Rattle.dr_words.proofs.Accepts.{accept_within}

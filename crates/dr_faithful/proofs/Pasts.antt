@@ -11,13 +11,13 @@ use Rattle.dr_history.specs.Members.{members_of}
 use Rattle.dr_history.specs.Places.{front_of}
 use Rattle.dr_machine.specs.Group.{Group, roster}
 use Rattle.dr_machine.specs.Run.{PastGrew}
-use Rattle.dr_machine.specs.World.{Past, World}
+use Rattle.dr_machine.specs.World.{Past, Table, World}
 use Rattle.dr_words.specs.Columns.{head_column, recv_column}
 use Rattle.dr_words.specs.Packing.{recv_count}
 use Rattle.dr_words.specs.declared.column.TheConstants.{BEAT_COLUMN, LOGGED_COLUMN, DONE_COLUMN, RECEIVED_COLUMN, SUSPECTED_COLUMN}
 use Rattle.dr_faithful.proofs.Lists.{has_all_more, prefix_take}
 use Rattle.dr_faithful.proofs.Pieces.{later}
-use Rattle.dr_faithful.specs.Faithful.{Numbers, Table}
+use Rattle.dr_faithful.specs.Faithful.{Numbers}
 use Rattle.dr_faithful.specs.Tells.{HasAll, Tells, TellsPiece, Views, WordsTell, item_named, item_sent, part_column}
 
 -- ---- prefixes

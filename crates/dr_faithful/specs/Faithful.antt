@@ -22,7 +22,7 @@ use Rattle.dr_machine.specs.Effects.{finished_history}
 use Rattle.dr_machine.specs.Guards.{CanFinish}
 use Rattle.dr_machine.specs.Group.{Group, IsPresent, roster}
 use Rattle.dr_machine.specs.Sending.{IsPut}
-use Rattle.dr_machine.specs.World.{World}
+use Rattle.dr_machine.specs.World.{Table, World}
 use Rattle.dr_faithful.specs.Tells.{Views, WordsTell, item_sent}
 
 -- a number for each member, view, and column or sender: own words, and counts
@@ -32,10 +32,6 @@ Numbers = ℕ → ℕ → ℕ → ℕ
 -- an item for each member, sender and number
 abbrev pub Items : Type 0
 Items = ℕ → ℕ → ℕ → Item
-
--- a word for each view, copy, row and column
-abbrev pub Table : Type 0
-Table = ℕ → ℕ → ℕ → ℕ → ℕ
 
 -- so far every member is there
 pub record IsBeginning (g : Group) : Type 0 where

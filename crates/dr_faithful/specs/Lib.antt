@@ -1,3 +1,4 @@
 pub mod Tells
 pub mod Faithful
 pub mod Chosen
+pub mod Late

@@ -1,13 +1,14 @@
 //! Laws of the worlds whose members are faithful.
-ghost use Rattle.std.specs.Prelude.{◌≡◌, ◌≢◌, ◌<◌, true, ℕ};
+ghost use Rattle.std.specs.Prelude.{◌≡◌, ◌≢◌, ◌<◌, true, ℕ, List, [], ◌∷◌};
 ghost use Rattle.dr_history.specs.Members.{has};
 ghost use Rattle.dr_machine.specs.declared.event.Event.{Event};
 ghost use Rattle.dr_machine.specs.Group.{Group, IsGroup, roster};
 ghost use Rattle.dr_machine.specs.Guards.{unsuspected_of};
-ghost use Rattle.dr_machine.specs.World.{World, opening_world};
+ghost use Rattle.dr_machine.specs.World.{Table, World, opening_world};
 ghost use Rattle.dr_machine.specs.Acts.{Guard, effect};
-ghost use Rattle.dr_machine.specs.Run.{NoLaterItem, PastGrew, WordsGrew};
+ghost use Rattle.dr_machine.specs.Run.{HaveArrived, NoLaterItem, PastGrew, WordsGrew, with_table};
 ghost use Rattle.dr_faithful.specs.Faithful.{AllGoOn, Faithful};
+ghost use Rattle.dr_faithful.specs.Late.{AreBacked};
 ghost use Rattle.dr_faithful.specs.Tells.{SuspicionsTold, Views};
 ghost use Rattle.dr_words.specs.Masks.{IsLeastOf};
 
@@ -19,6 +20,19 @@ pub fn members_are_faithful()
         → ((v m : ℕ) → has (V v) m ≡ true → m < roster g) → Faithful g V (opening_world g) }
     ensures keeps { (g : Group) (V : Views) (w : World) (e : Event) → IsGroup g → AllGoOn g V w
         → Guard g w e → Faithful g V w → Faithful g V (effect g w e) }
+{}
+
+/// Words that arrive late do no harm. What is true of the words on their way is so as the age opens, and each
+/// event keeps it, where the members are faithful; then the arrival of any of them keeps both.
+pub fn late_words_do_no_harm()
+    ensures begins { (g : Group) (V : Views) → AreBacked g V [] (opening_world g) }
+    ensures keeps { (g : Group) (V : Views) (before : List World) (w : World) (e : Event) → IsGroup g
+        → AllGoOn g V w → Guard g w e → Faithful g V w → AreBacked g V before w
+        → AreBacked g V (w ∷ before) (effect g w e) }
+    ensures arrive { (g : Group) (V : Views) (before : List World) (w : World) (table : Table)
+        → Faithful g V w → HaveArrived (w ∷ before) w table → AreBacked g V before w
+        → Faithful g V (with_table w table) × AreBacked g V (w ∷ before) (with_table w table)
+        × WordsGrew g w (with_table w table) }
 {}
 
 /// Where the members are faithful each word tells truly whom its owner suspects, which of its counts are

@@ -8,4 +8,7 @@
 
 mod laws;
 
-pub use laws::{members_are_faithful, no_later_item, pasts_grow, suspicions_are_told, words_grow};
+pub use laws::{
+    late_words_do_no_harm, members_are_faithful, no_later_item, pasts_grow, suspicions_are_told,
+    words_grow,
+};

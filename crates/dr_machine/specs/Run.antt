@@ -1,5 +1,5 @@
--- Runs: what comes of a list of events.
-use Rattle.std.specs.Prelude.{◌≡◌, ◌⊎◌, ℕ, ◌+◌, ◌<◌, ◌≤◌, List, [], ◌∷◌}
+-- Runs: what comes of a list of events, and of events and words that arrive late.
+use Rattle.std.specs.Prelude.{◌≡◌, ◌⊎◌, ℕ, ◌+◌, ◌<◌, ◌≤◌, All, Contains, List, [], ◌∷◌}
 use Rattle.dr_words.specs.declared.column.TheConstants.{PIECES}
 use Rattle.dr_history.specs.Agreement.{Accounts, Agreed}
 use Rattle.dr_history.specs.History.{IsPrefixOf}
@@ -8,7 +8,7 @@ use Rattle.dr_words.specs.Grown.{HasGrown}
 use Rattle.dr_words.specs.Packing.{ring_tag}
 use Rattle.dr_machine.specs.declared.event.Event.{Event}
 use Rattle.dr_machine.specs.Group.{Group, IsPresent, roster}
-use Rattle.dr_machine.specs.World.{Past, World, opening_world, count_of}
+use Rattle.dr_machine.specs.World.{Past, Table, World, opening_world, count_of}
 use Rattle.dr_machine.specs.Guards.{IsOther}
 use Rattle.dr_machine.specs.Acts.{Guard, effect}
 
@@ -21,18 +21,45 @@ abbrev pub Run : Group → World → List Event → World → Type 0
 Run g w [] after = after ≡ w
 Run g w (e ∷ es) after = (mid : World) × Happens g w e mid × Run g mid es after
 
--- the world comes of some events from the opening on
+-- at one of these moments member i was in this view, and this was its own word of the column
+abbrev pub WasOwn : List World → ℕ → ℕ → ℕ → ℕ → Type 0
+WasOwn moments v i c word =
+    (u : World) × Contains moments u × (u.past.view i ≡ v) × (u.past.own i v c ≡ word)
+
+-- a word that may come to the row of member i in a copy: one that was i's own, in the view of that bank, at one
+-- of these moments, or that of another copy (so it is with the beat that i stamps in the bank that it leaves)
+abbrev pub MayArrive : List World → World → ℕ → ℕ → ℕ → ℕ → Type 0
+MayArrive moments w v i c word = WasOwn moments v i c word ⊎ ((k : ℕ) × (w.table v k i c ≡ word))
+
+-- a table to which words have come, however long they were on their way. One that is a smaller number than
+-- the word that stands there is dropped; any may be lost, come more than once, or be overtaken by others
+pub record HaveArrived (moments : List World) (w : World) (table : Table) : Type 0 where
+  pub source : (v j i c : ℕ) → MayArrive moments w v i c (table v j i c)
+  pub rises : (v j i c : ℕ) → w.table v j i c ≤ table v j i c
+
+-- the world with this table
+abbrev pub with_table : World → Table → World
+with_table w table = record w { table = table }
+
+-- a world that comes next of w, behind the worlds before: what an event makes of w, or w with the table to
+-- which words have come
+abbrev pub Follows : Group → List World → World → World → Type 0
+Follows g before w after =
+    ((e : Event) × Guard g w e × (after ≡ effect g w e))
+    ⊎ ((table : Table) × HaveArrived (w ∷ before) w table × (after ≡ with_table w table))
+
+-- the way from the opening to a world: the worlds before it, the last one first
+abbrev pub Way : Group → List World → World → Type 0
+Way g [] w = w ≡ opening_world g
+Way g (u ∷ us) w = Way g us u × Follows g us u w
+
+-- the world is reached: it comes of some events, and of words that arrive, from the opening on
 abbrev pub IsReached : Group → World → Type 0
-IsReached g w = (es : List Event) × Run g (opening_world g) es w
+IsReached g w = (us : List World) × Way g us w
 
--- the world after these events, where this holds of each world that one of them comes upon
-abbrev pub RunWhere : Group → (World → Type 0) → World → List Event → World → Type 0
-RunWhere g P w [] after = after ≡ w
-RunWhere g P w (e ∷ es) after = P w × (mid : World) × Happens g w e mid × RunWhere g P mid es after
-
--- the world comes of some such events from the opening on
+-- the same, where this holds of each world on the way
 abbrev pub IsReachedWhere : Group → (World → Type 0) → World → Type 0
-IsReachedWhere g P w = (es : List Event) × RunWhere g P (opening_world g) es w
+IsReachedWhere g P w = (us : List World) × Way g us w × All P us
 
 -- what each member has done
 abbrev pub accounts_in : World → Accounts

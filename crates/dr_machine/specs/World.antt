@@ -34,6 +34,10 @@ pub record Past : Type 0 where
   -- how many acts it has done
   pub acts : ℕ → ℕ
 
+-- the words of the table, by bank, copy, row and column
+abbrev pub Table : Type 0
+Table = ℕ → ℕ → ℕ → ℕ → ℕ
+
 -- the world, of which the rest belongs to each member's present view, but for turns, ends and the table
 pub record World : Type 0 where
   pub past : Past
@@ -61,7 +65,7 @@ pub record World : Type 0 where
   pub end : ℕ → Option End
   -- the table: the word of a bank, a copy, a row and a column. The bank is a view's number, and a member
   -- reads its own copy
-  pub table : ℕ → ℕ → ℕ → ℕ → ℕ
+  pub table : Table
 
 -- no value
 abbrev pub no_value : Value

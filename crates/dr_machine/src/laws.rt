@@ -4,13 +4,15 @@ ghost use Rattle.dr_entry.specs.declared.record.Value.{Value};
 ghost use Rattle.dr_machine.specs.declared.event.Event.{Event};
 ghost use Rattle.dr_machine.specs.Group.{Group};
 ghost use Rattle.dr_machine.specs.Guards.{CanLogVote};
-ghost use Rattle.dr_machine.specs.World.{World};
-ghost use Rattle.dr_machine.specs.Run.{Run};
+ghost use Rattle.dr_machine.specs.World.{World, opening_world};
+ghost use Rattle.dr_machine.specs.Run.{IsReached, Run};
 
-/// A run may go on where another has ended.
+/// A run may go on where another has ended. One from the opening leads to a world that is reached.
 pub fn runs_follow_one_another()
-    ensures { (g : Group) (w mid after : World) (a b : List Event)
+    ensures follow { (g : Group) (w mid after : World) (a b : List Event)
         → Run g w a mid → Run g mid b after → Run g w (a ++ b) after }
+    ensures reached { (g : Group) (w : World) (es : List Event) → Run g (opening_world g) es w
+        → IsReached g w }
 {}
 
 /// A member that may log a vote may do so for one value: its rows determine it.

@@ -150,7 +150,7 @@ begun_holding g limit m shape told is of within =
     { own = own z; count = count z; item = item z; sent = sent z; log = log z; seen = seen z }
 
 -- no word of the table is set
-empty_table : (g : Group) (n : ℕ) → word_of g (replicate n 0) ≡ (opening_world g).table
+pub empty_table : (g : Group) (n : ℕ) → word_of g (replicate n 0) ≡ (opening_world g).table
 empty_table g n = fun_ext λ v. fun_ext λ j. fun_ext λ i. fun_ext λ c.
     rw (copy_at {X = ℕ} n 0 (word_index_of (roster g) g.window v j i c))
     (both_same ((nat_lt v (banks g) && nat_lt j (roster g))

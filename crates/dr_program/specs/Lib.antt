@@ -8,3 +8,4 @@ pub mod Reading
 pub mod Sight
 pub mod Form
 pub mod Schedule
+pub mod Net

@@ -9,11 +9,13 @@
 mod deed;
 mod laws;
 mod outcome;
+mod packet;
 mod place;
 mod setup;
 
 pub use deed::Deed;
 pub use laws::{deeds_follow_one_another, programs_begin_at_the_opening, turn_law};
 pub use outcome::{LogWhy, Outcome};
+pub use packet::Packet;
 pub use place::{PARTS, Part, Place, TURN};
 pub use setup::{CrashPoint, Setup, Suspicion};

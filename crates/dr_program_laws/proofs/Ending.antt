@@ -24,6 +24,7 @@ use Rattle.dr_machine.specs.World.{World, opening_world}
 use Rattle.dr_machine.proofs.Presence.{is_present}
 use Rattle.dr_program.specs.Running.{Running}
 use Rattle.dr_program.specs.Program.{Program, AllEnded, AreSetups, IsRanFrom, begun_program, end_of}
+use Rattle.dr_program.specs.Net.{IsRanOverNet}
 use Rattle.dr_program.specs.Reading.{world}
 use Rattle.dr_machine.specs.Run.{IsReached}
 use Rattle.dr_refine.specs.Programs.{IsProgram}
@@ -43,7 +44,8 @@ use Rattle.dr_world_laws.proofs.Worlds.{Known, commits, done-durable, done-whole
 use Rattle.dr_program_laws.specs.Causes.{HasCause, IsVotedOut}
 use Rattle.dr_program_laws.specs.Ended.{GoOnWithout, HasEnded, HasReason, HaveEnded, IsComplete, IsInView, IsLeftOut, IsWhole, is_log_end}
 use Rattle.dr_program_laws.proofs.Keeping.{deeds_kept}
-use Rattle.dr_program_laws.proofs.Programs.{AllStand, all_stand}
+use Rattle.dr_program_laws.proofs.Nets.{net_keeps, net_reached}
+use Rattle.dr_program_laws.proofs.Programs.{AllStand, all_stand, begun_stands, move_stands}
 use Rattle.dr_program_laws.proofs.Standing.{IsProper, Stands}
 use Rattle.dr_program_laws.proofs.Worlds.{all_ends, ends_agreed, ends_of, of_there}
 
@@ -433,12 +435,13 @@ has_ended g p limit points m r is all ended v = record {
   reason = has_reason g p limit points m r is all ended v;
 }
 
--- the members of any program that comes of deeds
-pub have_ended : (g : Group) (turns : ℕ) (setups : List Setup) (points : ℕ → List CrashPoint)
-    (p : Program) → IsGroup g → 1 ≤ turns → AreSetups g turns setups
+-- the members of a program in a reached world, each of which stands as its setup lets it
+ended_so : (g : Group) (turns : ℕ) (setups : List Setup) (points : ℕ → List CrashPoint)
+    (p : Program) → IsGroup g → AreSetups g turns setups
     → ((m : ℕ) (s : Setup) → slice_get setups m ≡ Some s → s.crashes ≡ points m)
-    → IsRanFrom (begun_program g setups) p → AllEnded p → HaveEnded g.opening turns points (ends_of p)
-have_ended g turns setups points p is some are planned ran ended m e at =
+    → IsProgram g p × IsReached g (world g p) → AllStand setups p → AllEnded p
+    → HaveEnded g.opening turns points (ends_of p)
+ended_so g turns setups points p is are planned kept stand ended m e at =
     elim (slice_get_cases p.members m).1 [
       | inl here ↦ subst (HasEnded g.opening (ends_of p) turns m (points m))
           (same_Some (end_of here.0) e
@@ -448,12 +451,6 @@ have_ended g turns setups points p is some are planned ran ended m e at =
           (arith, past.0, slice_get_within (ends_of p) m e at, length-map p.members end_of))
     ]
   where
-    kept : IsProgram g p × IsReached g (world g p)
-    kept = deeds_kept g turns setups p is some are ran
-
-    stand : AllStand setups p
-    stand = subst (AllStand setups) (sym ran.1) (all_stand g turns setups ran.0 is some are)
-
     as_wanted : (r : Running) (s : Setup) → slice_get setups m ≡ Some s → Stands s.turns s.crashes r
         → Stands turns (points m) r
     as_wanted r s there v = subst (λ n. Stands n (points m) r) (are.each m s there).turns
@@ -470,6 +467,25 @@ have_ended g turns setups points p is some are planned ran ended m e at =
       | inr past ↦ absurd (omega (arith, past.0, within, are.all, kept.0.all))
     ]
 
+-- those of any program that comes of deeds
+pub have_ended : (g : Group) (turns : ℕ) (setups : List Setup) (points : ℕ → List CrashPoint)
+    (p : Program) → IsGroup g → 1 ≤ turns → AreSetups g turns setups
+    → ((m : ℕ) (s : Setup) → slice_get setups m ≡ Some s → s.crashes ≡ points m)
+    → IsRanFrom (begun_program g setups) p → AllEnded p → HaveEnded g.opening turns points (ends_of p)
+have_ended g turns setups points p is some are planned ran ended =
+    ended_so g turns setups points p is are planned (deeds_kept g turns setups p is some are ran)
+    (subst (AllStand setups) (sym ran.1) (all_stand g turns setups ran.0 is some are)) ended
+
+-- and of any that comes of deeds and of words that come over a net
+pub net_ended : (g : Group) (turns : ℕ) (setups : List Setup) (points : ℕ → List CrashPoint)
+    (p : Program) → IsGroup g → 1 ≤ turns → AreSetups g turns setups
+    → ((m : ℕ) (s : Setup) → slice_get setups m ≡ Some s → s.crashes ≡ points m)
+    → IsRanOverNet g (begun_program g setups) p → AllEnded p → HaveEnded g.opening turns points (ends_of p)
+net_ended g turns setups points p is some are planned (before, way) ended =
+    ended_so g turns setups points p is are planned (net_reached g turns setups p is some are (before, way))
+    (net_keeps g turns setups (AllStand setups) is some are (λ q e form run all. move_stands g setups q e form all)
+    (λ q table all. all) (begun_stands g setups) before p way) ended
+
 -- and each that has ended has its cause
 pub have_causes : (g : Group) (turns : ℕ) (setups : List Setup) (p : Program) (m : ℕ) (r : Running)
     (end : End)
@@ -477,6 +493,14 @@ pub have_causes : (g : Group) (turns : ℕ) (setups : List Setup) (p : Program) 
     → slice_get p.members m ≡ Some r → r.replica.end ≡ Some end → HasCause g (world g p) m end
 have_causes g turns setups p m r end is some are ran there e =
     let kept = deeds_kept g turns setups p is some are ran in
+    has_cause g p m r end (record { group = is; program = kept.0; reached = kept.1; there = there }) e
+
+pub net_causes : (g : Group) (turns : ℕ) (setups : List Setup) (p : Program) (m : ℕ) (r : Running)
+    (end : End)
+    → IsGroup g → 1 ≤ turns → AreSetups g turns setups → IsRanOverNet g (begun_program g setups) p
+    → slice_get p.members m ≡ Some r → r.replica.end ≡ Some end → HasCause g (world g p) m end
+net_causes g turns setups p m r end is some are ran there e =
+    let kept = net_reached g turns setups p is some are ran in
     has_cause g p m r end (record { group = is; program = kept.0; reached = kept.1; there = there }) e
 
 -- the members of a script's program in an age
@@ -497,4 +521,10 @@ pub ran_agreed : (g : Group) (turns : ℕ) (setups : List Setup) (p : Program) �
     → AreSetups g turns setups
     → IsRanFrom (begun_program g setups) p → EndsAgreed g.opening (ends_of p)
 ran_agreed g turns setups p is some are ran = let kept = deeds_kept g turns setups p is some are ran in
+    ends_agreed g p is kept.0 kept.1
+
+pub net_agreed : (g : Group) (turns : ℕ) (setups : List Setup) (p : Program) → IsGroup g → 1 ≤ turns
+    → AreSetups g turns setups
+    → IsRanOverNet g (begun_program g setups) p → EndsAgreed g.opening (ends_of p)
+net_agreed g turns setups p is some are ran = let kept = net_reached g turns setups p is some are ran in
     ends_agreed g p is kept.0 kept.1

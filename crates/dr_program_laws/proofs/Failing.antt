@@ -12,6 +12,7 @@ use Rattle.dr_program.specs.declared.setup.Setup.{Setup}
 use Rattle.dr_program.specs.Acts.{taken}
 use Rattle.dr_program.specs.Form.{IsRunningMember}
 use Rattle.dr_program.specs.Program.{AreSetups, IsRanFrom, Move, Program, after_deed, begun_program, moved_by, next_sight, step_of}
+use Rattle.dr_program.specs.Net.{IsRanOverNet}
 use Rattle.dr_program.specs.Replica.{Replica, value_due}
 use Rattle.dr_program.specs.Running.{Running, after_step, append_or_end, begun_running, broken_off, crashes_now, end_by, judged, next_step, push_or_crash, step_at, took, vote_or_end}
 use Rattle.dr_program.specs.Steps.{IsAppend, stepped}
@@ -25,6 +26,7 @@ use Rattle.dr_turn.proofs.Search.{settle_only}
 use Rattle.dr_program_laws.specs.Failing.{AreFailing, EndsBy, IsFailing, has_log_end}
 use Rattle.dr_turn.proofs.Parts.{is_end, is_verdict, no_end, taken_end, verdict_of}
 use Rattle.dr_program_laws.proofs.Keeping.{begun_reached}
+use Rattle.dr_program_laws.proofs.Nets.{net_keeps}
 use Rattle.dr_program_laws.proofs.Programs.{ran_keeps, replaced_either}
 
 -- ---- one deed
@@ -137,3 +139,10 @@ all_fail g turns setups p m r group some are (es, is) =
     subst AreFailing (sym is) (ran_keeps g AreFailing (begun_program g setups) es group
     (begun_is_program g turns setups group some are) (begun_reached g turns setups group are)
     (move_fails g) (begun_fails g setups)) m r
+
+-- and over a net
+pub net_fails : (g : Group) (turns : ℕ) (setups : List Setup) (p : Program) → IsGroup g → 1 ≤ turns
+    → AreSetups g turns setups → IsRanOverNet g (begun_program g setups) p → AreFailing p
+net_fails g turns setups p group some are (before, way) =
+    net_keeps g turns setups AreFailing group some are (λ q e form run all. move_fails g q e form all)
+    (λ q table all. all) (begun_fails g setups) before p way

@@ -1,5 +1,7 @@
 pub mod Sight
 pub mod Keeping
+pub mod Nets
+pub mod Carried
 pub mod Standing
 mod Deeds
 pub mod Programs

@@ -24,7 +24,7 @@ abbrev pub AllStand : List Setup → Program → Type 0
 AllStand setups p = (m : ℕ) (s : Setup) (r : Running) → slice_get setups m ≡ Some s
     → slice_get p.members m ≡ Some r → Stands s.turns s.crashes r
 
-begun_stands : (g : Group) (setups : List Setup) → AllStand setups (begun_program g setups)
+pub begun_stands : (g : Group) (setups : List Setup) → AllStand setups (begun_program g setups)
 begun_stands g setups m s r there is =
     let same : option_map begun_running (Some s) ≡ Some r = ap (option_map begun_running) (sym there)
     ∙ (sym (slice_get-map begun_running setups m) ∙ is) in
@@ -53,7 +53,7 @@ replaced_stands setups p m x y table all at stands k s r there is =
       | inr other ↦ all k s r there other.1
     ]
 
-move_stands : (g : Group) (setups : List Setup) (p : Program) (e : Move) → IsProgram g p
+pub move_stands : (g : Group) (setups : List Setup) (p : Program) (e : Move) → IsProgram g p
     → AllStand setups p → AllStand setups (step_of p e)
 move_stands g setups p e is all = by (slice_get p.members e.member) refl
   where

@@ -23,6 +23,7 @@ use Rattle.dr_program.specs.declared.place.Part.TheVariants as parts
 use Rattle.dr_program.specs.declared.setup.Setup.{Setup}
 use Rattle.dr_program.specs.declared.setup.Suspicion.{Suspicion}
 use Rattle.dr_program.specs.Program.{AreSetups, IsRanFrom, Move, Program, after_deed, begun_program, end_of, moved_by, next_sight, step_of}
+use Rattle.dr_program.specs.Net.{IsRanOverNet}
 use Rattle.dr_program.specs.Reading.{world}
 use Rattle.dr_program.specs.Replica.{Replica, is_named, is_wedged, may_vote, me, value_due}
 use Rattle.dr_program.specs.Replica as replica
@@ -58,6 +59,7 @@ use Rattle.dr_history.specs.Members.{has}
 use Rattle.dr_program_laws.specs.Trusting.{AreAtEase, AreTrusting, IsAtEase, IsCalm, IsPatient, IsTrusting, MayWait, NoneLeft, SuspectsNobody, has_been_left, is_left_out, to_come}
 use Rattle.dr_program_laws.proofs.Patience.{patient_on}
 use Rattle.dr_program_laws.proofs.Keeping.{begun_reached}
+use Rattle.dr_program_laws.proofs.Nets.{net_keeps}
 use Rattle.dr_program_laws.proofs.Programs.{ran_keeps, replaced_either}
 use Rattle.dr_program_laws.proofs.Quiet.{is_passed, passed_act}
 use Rattle.dr_program_laws.proofs.Worlds.{all_ends, of_there}
@@ -448,6 +450,14 @@ trusting_ran g turns setups p group some are calm (es, same) = subst AreTrusting
     (begun_is_program g turns setups group some are) (begun_reached g turns setups group are)
     (λ q e is so. (step_reached g q e group is so.0, move_trusts g q e group is so.0 so.1))
     (begun_reached g turns setups group are, trusting_begins g turns setups group are calm)).1
+
+-- over a net too, however late the words of others come
+pub net_trusts : (g : Group) (turns : ℕ) (setups : List Setup) (p : Program) → IsGroup g → 1 ≤ turns
+    → AreSetups g turns setups → All IsCalm setups → IsRanOverNet g (begun_program g setups) p → AreTrusting p
+net_trusts g turns setups p group some are calm (before, way) =
+    net_keeps g turns setups AreTrusting group some are
+    (λ q e form run trusting. move_trusts g q e group form run trusting) (λ q table trusting. trusting)
+    (trusting_begins g turns setups group are calm) before p way
 
 -- so none of them ends by suspicion
 none_left : (p : Program) → AreTrusting p → NoneLeft (map end_of p.members)

@@ -5,24 +5,30 @@
 //! the ends of a program's members. `docs/PROOFS.md` shows how.
 #![tactic(auto)]
 
-ghost use Rattle.std.specs.Prelude.{◌≡◌, ℕ, ◌≤◌, All, List, length, map, slice_get, Some};
+ghost use Rattle.std.specs.Prelude.{◌≡◌, ℕ, ◌<◌, ◌≤◌, All, Contains, List, [], ◌∷◌, length, map, max, slice_get, slice_index, slice_set, Some};
 ghost use Rattle.dr_entry.specs.declared.end.End.{End};
 ghost use Rattle.dr_history.specs.Agreement.{EndsAgreed};
-ghost use Rattle.dr_machine.specs.declared.step.Step.TheVariants.{Look};
+ghost use Rattle.dr_machine.specs.declared.step.Step.TheVariants.{Look, Push};
 ghost use Rattle.dr_machine.specs.Group.{Group, IsGroup};
-ghost use Rattle.dr_machine.specs.Run.{IsReached};
+ghost use Rattle.dr_machine.specs.Run.{IsReached, Way};
+ghost use Rattle.dr_program.specs.declared.packet.Packet.{Packet};
 ghost use Rattle.dr_program.specs.declared.setup.CrashPoint.{CrashPoint};
 ghost use Rattle.dr_program.specs.declared.setup.Setup.{Setup};
-ghost use Rattle.dr_program.specs.Program.{AllEnded, AreSetups, IsRanFrom, Move, Program, begun_program, end_of, next_sight, ran, step_of};
+ghost use Rattle.dr_program.specs.Net.{IsRanOverNet, NetWay};
+ghost use Rattle.dr_program.specs.Program.{AllEnded, AreSetups, IsRanFrom, Move, Program, begun_program, end_of, next_sight, ok, ran, step_of};
 ghost use Rattle.dr_program.specs.Reading.{step_of_member, world};
 ghost use Rattle.dr_program.specs.Running.{Running};
 ghost use Rattle.dr_program.specs.Schedule.{IsLockstep, IsSeeded};
 ghost use Rattle.dr_program.specs.Sight.{MaySee};
+ghost use Rattle.dr_program.specs.Replica.{me};
+ghost use Rattle.dr_program.specs.Steps.{index_in};
+ghost use Rattle.dr_rows.specs.Words.{own};
 ghost use Rattle.dr_refine.specs.Programs.{IsProgram};
 ghost use Rattle.dr_restart.specs.declared.start.Start.{Start};
 ghost use Rattle.dr_restart.specs.Groups.{group_of};
 ghost use Rattle.dr_restart.specs.Setups.{IsBegun, crashes_of};
 ghost use Rattle.dr_script.specs.declared.script.Script.{Script};
+ghost use Rattle.dr_program_laws.specs.Carried.{IsCarried};
 ghost use Rattle.dr_program_laws.specs.Causes.{HasCause};
 ghost use Rattle.dr_program_laws.specs.Ended.{HaveEnded};
 ghost use Rattle.dr_program_laws.specs.Failing.{AreFailing, IsFailing};
@@ -41,6 +47,62 @@ pub fn deeds_keep_programs()
         → IsGroup g → IsProgram g p → IsReached g (world g p)
         → slice_get p.members m ≡ Some r → step_of_member r ≡ Some (Look i c)
         → MaySee r (step_of_member r) (next_sight p.table r) }
+{}
+
+/// Members on different machines, between which words are on their way for however long, come more than once, or
+/// never: each machine has the copy of its own member, and a word that comes stands in it where it is no smaller
+/// than the one there. Whatever the members have done, and whatever has come, the program is one of its group,
+/// and the worlds that it was lead to its world; so all that is certain of reached worlds is so of it. Its ends
+/// agree, and its members end as they should, each with a cause. A member whose append has failed ends by that,
+/// and where no setup gives a reason to suspect anybody, nobody is suspected.
+pub fn nets_keep_programs()
+    ensures program { (g : Group) (turns : ℕ) (setups : List Setup) (before : List Program) (p : Program)
+        → IsGroup g → 1 ≤ turns → AreSetups g turns setups
+        → NetWay g (begun_program g setups) before p
+        → IsProgram g p × Way g (map (world g) before) (world g p) }
+    ensures agree { (g : Group) (turns : ℕ) (setups : List Setup) (p : Program)
+        → IsGroup g → 1 ≤ turns → AreSetups g turns setups
+        → IsRanOverNet g (begun_program g setups) p → EndsAgreed g.opening (map end_of p.members) }
+    ensures ends { (g : Group) (turns : ℕ) (setups : List Setup) (points : ℕ → List CrashPoint) (p : Program)
+        → IsGroup g → 1 ≤ turns → AreSetups g turns setups
+        → ((k : ℕ) (s : Setup) → slice_get setups k ≡ Some s → s.crashes ≡ points k)
+        → IsRanOverNet g (begun_program g setups) p → AllEnded p
+        → HaveEnded g.opening turns points (map end_of p.members) }
+    ensures causes { (g : Group) (turns : ℕ) (setups : List Setup) (p : Program) (m : ℕ) (r : Running)
+        (end : End) → IsGroup g → 1 ≤ turns → AreSetups g turns setups
+        → IsRanOverNet g (begun_program g setups) p → slice_get p.members m ≡ Some r
+        → r.replica.end ≡ Some end → HasCause g (world g p) m end }
+    ensures failing { (g : Group) (turns : ℕ) (setups : List Setup) (p : Program)
+        → IsGroup g → 1 ≤ turns → AreSetups g turns setups
+        → IsRanOverNet g (begun_program g setups) p → AreFailing p }
+    ensures trusting { (g : Group) (turns : ℕ) (setups : List Setup) (p : Program)
+        → IsGroup g → 1 ≤ turns → AreSetups g turns setups → All IsCalm setups
+        → IsRanOverNet g (begun_program g setups) p → AreTrusting p }
+{}
+
+/// So it is told to who carries the words, and knows no worlds: a net is a list of packets, each with the place
+/// that its word was pushed to. A program begins with none. Its members take their deeds; the word of a push is
+/// there at once, or goes into a packet; packets are lost, doubled, and put into any order; and the word of one
+/// comes to its place in the table, however late, where no greater one stands. Then it stays one of its group, in
+/// a world that is reached.
+pub fn carried_words_do_no_harm()
+    ensures begins { (g : Group) (p : Program) → IsGroup g → IsProgram g p → IsReached g (world g p)
+        → IsCarried g p [] }
+    ensures moves { (g : Group) (p : Program) (net : List Packet) (e : Move) → IsCarried g p net
+        → IsCarried g (step_of p e) net }
+    ensures pushes { (g : Group) (p : Program) (net : List Packet) (m : ℕ) (r : Running) (j c : ℕ)
+        → IsCarried g p net → slice_get p.members m ≡ Some r → step_of_member r ≡ Some (Push j c)
+        → IsCarried g (record { members = (step_of p (ok m)).members; table = p.table })
+        (record { index = index_in r.replica j (me r.replica) c; word = own r.replica.rows c } ∷ net) }
+    ensures among { (g : Group) (p : Program) (net other : List Packet) → IsCarried g p net
+        → All (Contains net) other → IsCarried g p other }
+    ensures place { (g : Group) (p : Program) (net : List Packet) (packet : Packet) → IsCarried g p net
+        → Contains net packet → packet.index < length p.table }
+    ensures comes { (g : Group) (p : Program) (net : List Packet) (packet : Packet) → IsCarried g p net
+        → Contains net packet → IsCarried g (record {
+          members = p.members;
+          table = slice_set p.table packet.index (max (slice_index p.table packet.index) packet.word);
+        }) net }
 {}
 
 /// The program of an age begins as one of its group, in a world that is reached. Each schedule takes the

@@ -10,8 +10,8 @@ use Rattle.dr_machine.specs.Events.{event_of}
 use Rattle.dr_machine.specs.Events as events
 use Rattle.dr_machine.specs.Group.{Group, IsGroup}
 use Rattle.dr_machine.specs.World.{World}
-use Rattle.dr_machine.specs.Acts.{CanTake, effect_of}
-use Rattle.dr_machine.specs.Run.{Happens, IsReached}
+use Rattle.dr_machine.specs.Acts.{CanTake, Guard, effect, effect_of}
+use Rattle.dr_machine.specs.Run.{Follows, IsReached}
 use Rattle.dr_program.specs.Replica.{Replica}
 use Rattle.dr_program.specs.declared.outcome.Outcome.{Outcome}
 use Rattle.dr_program.specs.Steps.{allows, sight, stored}
@@ -21,7 +21,7 @@ use Rattle.dr_program.specs.Program.{Program, Move, after_deed, comes_to, moved_
 use Rattle.dr_program.specs.Reading.{step_by, step_due, world, world_of}
 use Rattle.dr_program.proofs.Waiting.{free_step}
 use Rattle.dr_machine.proofs.Events.{member_of_event, step_of_event}
-use Rattle.dr_machine.proofs.Runs.{reached_more}
+use Rattle.dr_machine.proofs.Runs.{reached_more, stays_next}
 use Rattle.dr_refine.specs.Programs.{IsMember, IsProgram}
 use Rattle.dr_refine.proofs.Tests.{step_effect, step_guard}
 
@@ -177,32 +177,44 @@ no_step_no_change g p e r there named = by r.replica.end refl named
     by (Some x) ended none = ap (world g) (rest_changes_nothing p e r there (ap is_some ended))
 
 -- a step of a member is an event
-happens_to : (g : Group) (w after : World) (m : ℕ) (s : Step) → CanTake g w m s → after
-    ≡ effect_of g w m s → Happens g w (event_of m s) after
-happens_to g w after m s can e = inl
-    (subst (λ k. CanTake g w k (events.step_of (event_of m s))
+is_event : (g : Group) (w after : World) (m : ℕ) (s : Step) → CanTake g w m s → after
+    ≡ effect_of g w m s → Guard g w (event_of m s) × (after ≡ effect g w (event_of m s))
+is_event g w after m s can e =
+    subst (λ k. CanTake g w k (events.step_of (event_of m s))
     × (after ≡ effect_of g w k (events.step_of (event_of m s))))
     (sym (member_of_event m s))
-    (subst (λ x. CanTake g w m x × (after ≡ effect_of g w m x)) (sym (step_of_event m s)) (can, e)))
+    (subst (λ x. CanTake g w m x × (after ≡ effect_of g w m x)) (sym (step_of_event m s)) (can, e))
 
 -- so what comes of a step that may come is reached, where the world before it is
 pub taken_reached : (g : Group) (w after : World) (m : ℕ) (s : Step) → IsReached g w → CanTake g w m s
     → after ≡ effect_of g w m s → IsReached g after
 taken_reached g w after m s reached can e =
-    reached_more g w after (event_of m s) reached (happens_to g w after m s can e)
+    reached_more g w after (event_of m s) reached (inl (is_event g w after m s can e))
 
--- the world after a move is reached, where the world before it is
-pub step_reached : (g : Group) (p : Program) (e : Move) → IsGroup g → IsProgram g p
-    → IsReached g (world g p) → IsReached g (world g (step_of p e))
-step_reached g p e group is reached = by (slice_get p.members e.member) refl
+-- the world after a move comes next
+pub step_follows : (g : Group) (p : Program) (e : Move) (us : List World) → IsGroup g → IsProgram g p
+    → Follows g us (world g p) (world g (step_of p e))
+step_follows g p e us group is = by (slice_get p.members e.member) refl
   where
+    stays : Follows g us (world g p) (world g p)
+    stays = stays_next g us (world g p)
+
     named : (r : Running) → slice_get p.members e.member ≡ Some r → (x : Option Step)
-        → step_by r e.outcome ≡ x → IsReached g (world g (step_of p e))
-    named r there None none = subst (IsReached g) (sym (no_step_no_change g p e r there none)) reached
+        → step_by r e.outcome ≡ x → Follows g us (world g p) (world g (step_of p e))
+    named r there None none =
+        subst (Follows g us (world g p)) (sym (no_step_no_change g p e r there none)) stays
     named r there (Some s) some =
         let happened = deed_is_step g p e r s group is there some in
-        taken_reached g (world g p) (world g (step_of p e)) e.member s reached happened.0 happened.1
+        let event = is_event g (world g p) (world g (step_of p e)) e.member s happened.0 happened.1 in
+        inl (event_of e.member s, event.0, event.1)
 
-    by : (o : Option Running) → slice_get p.members e.member ≡ o → IsReached g (world g (step_of p e))
-    by None none = subst (λ q. IsReached g (world g q)) (sym (ap (λ x. moved_by p x e) none)) reached
+    by : (o : Option Running) → slice_get p.members e.member ≡ o
+        → Follows g us (world g p) (world g (step_of p e))
+    by None none =
+        subst (λ q. Follows g us (world g p) (world g q)) (sym (ap (λ x. moved_by p x e) none)) stays
     by (Some r) there = named r there (step_by r e.outcome) refl
+
+-- so it is reached, where the world before it is
+pub step_reached : (g : Group) (p : Program) (e : Move) → IsGroup g → IsProgram g p
+    → IsReached g (world g p) → IsReached g (world g (step_of p e))
+step_reached g p e group is (us, way) = (world g p ∷ us, (way, step_follows g p e us group is))

@@ -8,8 +8,8 @@ use Rattle.dr_machine.specs.Acts.{CanTake, effect_of}
 use Rattle.dr_machine.specs.Events.{member_of, step_of}
 use Rattle.dr_machine.specs.Group.{Group}
 use Rattle.dr_machine.specs.Guards.{IsExcluded}
-use Rattle.dr_machine.specs.Run.{IsReached}
-use Rattle.dr_machine.specs.World.{World}
+use Rattle.dr_machine.specs.Run.{IsReached, with_table}
+use Rattle.dr_machine.specs.World.{Table, World}
 use Rattle.dr_machine.specs.declared.step.Step.{Step}
 
 -- an end by exclusion is that of a member that its committed value names
@@ -36,9 +36,15 @@ step_excludes g w m s can old k next e =
     let t = ended_so g w m s k (Excluded next) can e in
     still_so w (effect_of g w m s) k next t.0 (ends_so w k next old t.1)
 
+-- words that arrive end nobody
+arrival_excludes : (w : World) (table : Table) → AreExcludedSo w → AreExcludedSo (with_table w table)
+arrival_excludes w table old k next e =
+    let so = old k next e in
+    record { value = so.value; committed = so.committed; named = so.named; next = so.next }
+
 -- so it is in every world that is reached
 pub excluded_so : (g : Group) (w : World) (m next : ℕ) → IsReached g w → w.end m ≡ Some (Excluded next)
     → IsExcluded w m next
 excluded_so g w m next r =
-    reached g AreExcludedSo (λ u e can y. step_excludes g u (member_of e) (step_of e) can y)
-    (λ k n e. absurd (cc)) w r m next
+    reached g AreExcludedSo (λ u e run can y. step_excludes g u (member_of e) (step_of e) can y)
+    (λ u table y. arrival_excludes u table y) (λ k n e. absurd (cc)) w r m next

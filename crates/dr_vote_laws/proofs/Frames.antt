@@ -5,7 +5,8 @@ use Rattle.dr_entry.specs.declared.record.Vote.{Vote}
 use Rattle.dr_history.specs.Members.{has}
 use Rattle.dr_machine.specs.Group.{Group, roster}
 use Rattle.dr_machine.specs.Votes.{Votes, vote_in}
-use Rattle.dr_faithful.specs.Faithful.{Numbers, Table}
+use Rattle.dr_machine.specs.World.{Table}
+use Rattle.dr_faithful.specs.Faithful.{Numbers}
 use Rattle.dr_faithful.specs.Tells.{Views}
 use Rattle.dr_vote_laws.proofs.Later.{OwnGrew, original_on, tells_on}
 use Rattle.dr_vote_laws.proofs.Logs.{votes_same}

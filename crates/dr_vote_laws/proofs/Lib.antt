@@ -10,6 +10,7 @@ pub mod Logging
 pub mod Moving
 pub mod Opening
 pub mod Steps
+pub mod Late
 pub mod Values
 pub mod Cuts
 pub mod Exclusions

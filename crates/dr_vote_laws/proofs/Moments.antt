@@ -1,27 +1,23 @@
--- Each accept word of the table, and each that was seen, was an own word of its owner at some moment.
-use Rattle.std.proofs.Common.{◌≡◌, ◌⊎◌, refl, inl, inr, ℕ, ◌∷◌, [], ◌++◌, true}
+-- Each accept word of the table, each that was seen, and each that is on its way was an own word of its owner at
+-- some moment.
+use Rattle.std.proofs.Common.{◌≡◌, ◌⊎◌, refl, inl, inr, ℕ, List, [], ◌∷◌, true}
 use Rattle.dr_words.specs.Rewrites.{is_accept_of}
-use Rattle.dr_machine.proofs.Runs.{run_on}
-use Rattle.dr_machine.specs.declared.event.Event.{Event}
+use Rattle.dr_machine.proofs.Runs.{arrived, is_before, is_last, none_was, were_all}
 use Rattle.dr_machine.specs.Group.{Group, roster}
-use Rattle.dr_machine.specs.Run.{Happens, IsReached}
-use Rattle.dr_machine.specs.World.{World, opening_world, own_word}
-use Rattle.dr_faithful.specs.Faithful.{Faithful, Numbers, Table}
+use Rattle.dr_machine.specs.Run.{HaveArrived, WasOwn, with_table}
+use Rattle.dr_machine.specs.World.{Table, World, opening_world, own_word}
+use Rattle.dr_faithful.specs.Faithful.{Faithful, Numbers}
 use Rattle.dr_faithful.specs.Tells.{Views}
 use Rattle.dr_vote_laws.specs.Moments.{AcceptsOfMoments, HadAccepted}
 
 -- ---- moments
 
--- a moment before an event is one before what comes of it
-pub had_on : (g : Group) (w after : World) (e : Event) (i v c word : ℕ) → Happens g w e after
-    → HadAccepted g w i v c word → HadAccepted g after i v c word
-had_on g w after e i v c word happens had = record {
+-- a moment is one of those with one more
+pub had_on : (g : Group) (us : List World) (w : World) (i v c word : ℕ) → HadAccepted g us i v c word
+    → HadAccepted g (w ∷ us) i v c word
+had_on g us w i v c word had = record {
   moment = had.moment;
-  reached = had.reached;
-  since = (
-    had.since.0 ++ e ∷ [],
-    run_on g had.moment w after had.since.0 (e ∷ []) had.since.1 (after, happens, refl),
-  );
+  among = is_before us w had.moment had.among;
   view = had.view;
   own = had.own;
   promise = had.promise;
@@ -30,13 +26,12 @@ had_on g w after e i v c word happens had = record {
 }
 
 -- the present one is such a moment for an own word
-pub has_now : (g : Group) (V : Views) (w : World) (i c : ℕ) → IsReached g w → Faithful g V w
+pub has_now : (g : Group) (V : Views) (us : List World) (w : World) (i c : ℕ) → Faithful g V w
     → is_accept_of (roster g) (V (w.past.view i)) c ≡ true
-    → HadAccepted g w i (w.past.view i) c (own_word w i c)
-has_now g V w i c run f column = record {
+    → HadAccepted g (w ∷ us) i (w.past.view i) c (own_word w i c)
+has_now g V us w i c f column = record {
   moment = w;
-  reached = run;
-  since = ([], refl);
+  among = is_last us w;
   view = refl;
   own = refl;
   promise = f.suspicions.accept i c column;
@@ -44,35 +39,59 @@ has_now g V w i c run f column = record {
   value = f.accepts.valued i c column;
 }
 
--- ---- the words of a world, told of another
+-- ---- the words of a world, told of these moments
 
--- a word is 0, or its owner had it at some moment before w
-abbrev pub IsOfMoment : Group → Views → World → ℕ → ℕ → ℕ → ℕ → Type 0
-IsOfMoment g V w v i c word =
-    is_accept_of (roster g) (V v) c ≡ true → (word ≡ 0) ⊎ HadAccepted g w i v c word
+-- a word is 0, or its owner had it at one of the moments
+abbrev pub IsOfMoment : Group → Views → List World → ℕ → ℕ → ℕ → ℕ → Type 0
+IsOfMoment g V moments v i c word =
+    is_accept_of (roster g) (V v) c ≡ true → (word ≡ 0) ⊎ HadAccepted g moments i v c word
 
 -- so are these words of a table, and these that were seen in these views
-pub record AreOfMoments (g : Group) (V : Views) (w : World) (view : ℕ → ℕ) (table : Table) (seen : Numbers)
-    : Type 0 where
-  pub in_table : (v j i c : ℕ) → IsOfMoment g V w v i c (table v j i c)
-  pub in_seen : (m i c : ℕ) → IsOfMoment g V w (view m) i c (seen m i c)
+pub record AreOfMoments (g : Group) (V : Views) (moments : List World) (view : ℕ → ℕ) (table : Table)
+    (seen : Numbers) : Type 0 where
+  pub in_table : (v j i c : ℕ) → IsOfMoment g V moments v i c (table v j i c)
+  pub in_seen : (m i c : ℕ) → IsOfMoment g V moments (view m) i c (seen m i c)
 
-abbrev pub AreSo : Group → Views → World → Type 0
-AreSo g V w = AreOfMoments g V w w.past.view w.table w.seen
-
-pub all_on : (g : Group) (V : Views) (w after : World) (e : Event) → Happens g w e after
-    → AcceptsOfMoments g V w → AreOfMoments g V after w.past.view w.table w.seen
-all_on g V w after e happens old = record {
-  in_table = λ v j i c column. on i v c (w.table v j i c) (old.in_table v j i c column);
-  in_seen = λ m i c column. on i (w.past.view m) c (w.seen m i c) (old.in_seen m i c column);
-}
+of_more : (g : Group) (V : Views) (us : List World) (w : World) (v i c word : ℕ)
+    → IsOfMoment g V us v i c word → IsOfMoment g V (w ∷ us) v i c word
+of_more g V us w v i c word of column = by (of column)
   where
-    on : (i v c word : ℕ) → (word ≡ 0) ⊎ HadAccepted g w i v c word
-        → (word ≡ 0) ⊎ HadAccepted g after i v c word
-    on i v c word (inl none) = inl none
-    on i v c word (inr had) = inr (had_on g w after e i v c word happens had)
+    by : (word ≡ 0) ⊎ HadAccepted g us i v c word → (word ≡ 0) ⊎ HadAccepted g (w ∷ us) i v c word
+    by (inl none) = inl none
+    by (inr had) = inr (had_on g us w i v c word had)
+
+pub all_on : (g : Group) (V : Views) (us : List World) (w : World) → AcceptsOfMoments g V us w
+    → AreOfMoments g V (w ∷ us) w.past.view w.table w.seen
+all_on g V us w old = record {
+  in_table = λ v j i c. of_more g V us w v i c (w.table v j i c) (old.in_table v j i c);
+  in_seen = λ m i c. of_more g V us w (w.past.view m) i c (w.seen m i c) (old.in_seen m i c);
+}
+
+-- with the present moment, for its own words
+pub own_on : (g : Group) (V : Views) (us : List World) (w : World) → Faithful g V w
+    → AcceptsOfMoments g V us w → (v i c word : ℕ) → WasOwn (w ∷ us) v i c word
+    → IsOfMoment g V (w ∷ us) v i c word
+own_on g V us w f old = were_all us w (IsOfMoment g V (w ∷ us))
+    (λ i c column. inr (has_now g V us w i c f column))
+    (λ v i c word was. of_more g V us w v i c word (old.on_way v i c word was))
 
 -- ---- what is kept
 
-pub accepts_begin : (g : Group) (V : Views) → AcceptsOfMoments g V (opening_world g)
-accepts_begin g V = record { in_table = λ v j i c column. inl refl; in_seen = λ m i c column. inl refl }
+pub accepts_begin : (g : Group) (V : Views) → AcceptsOfMoments g V [] (opening_world g)
+accepts_begin g V = record {
+  in_table = λ v j i c column. inl refl;
+  in_seen = λ m i c column. inl refl;
+  on_way = none_was (IsOfMoment g V []);
+}
+
+-- a word that arrives was its owner's when it was sent
+pub accepts_arrive : (g : Group) (V : Views) (us : List World) (w : World) (table : Table)
+    → HaveArrived (w ∷ us) w table → Faithful g V w → AcceptsOfMoments g V us w
+    → AcceptsOfMoments g V (w ∷ us) (with_table w table)
+accepts_arrive g V us w table come f old =
+    let so = all_on g V us w old in record {
+      in_table = λ v j i c. arrived (w ∷ us) w v i c (table v j i c) (IsOfMoment g V (w ∷ us) v i c)
+          (come.source v j i c) (own_on g V us w f old v i c) (λ k. so.in_table v k i c);
+      in_seen = so.in_seen;
+      on_way = own_on g V us w f old;
+    }

@@ -6,11 +6,11 @@ use Rattle.dr_entry.specs.declared.record.Vote.{Vote}
 use Rattle.dr_machine.specs.Effects.{finishes_by}
 use Rattle.dr_machine.specs.Group.{Group, roster}
 use Rattle.dr_machine.specs.Votes.{HasLogged, HasVoted, MajorityHas, Votes, vote_in}
-use Rattle.dr_machine.specs.World.{World, no_value}
+use Rattle.dr_machine.specs.World.{Table, World, no_value}
 use Rattle.dr_machine.specs.Writes.{at}
 use Rattle.dr_faithful.proofs.Finishes.{finish_grew}
 use Rattle.dr_faithful.proofs.Writes.{at_other, at_same, at₃_column}
-use Rattle.dr_faithful.specs.Faithful.{Faithful, Numbers, Table}
+use Rattle.dr_faithful.specs.Faithful.{Faithful, Numbers}
 use Rattle.dr_faithful.specs.Tells.{Views}
 use Rattle.dr_vote_laws.proofs.Frames.{same_accepts}
 use Rattle.dr_vote_laws.specs.Tells.{TellsVote}

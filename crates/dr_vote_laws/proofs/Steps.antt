@@ -1,6 +1,6 @@
 -- Each event keeps what is true of votes, each accept word one that its owner had, and whoever suspects nobody
 -- without a vote that waits.
-use Rattle.std.proofs.Common.{◌≡◌, None, Option, Some, arith, refl, inl, inr, ℕ, ◌+◌, length}
+use Rattle.std.proofs.Common.{◌≡◌, List, None, Option, Some, arith, refl, inl, inr, ℕ, ◌+◌, ◌∷◌, length}
 use Rattle.dr_entry.specs.declared.record.Value.{Value}
 use Rattle.dr_entry.specs.declared.end.SentItem.TheVariants.{Index, Null}
 use Rattle.dr_machine.specs.Acts.{CanDo, CanTake, Guard, does, effect, effect_of}
@@ -9,7 +9,6 @@ use Rattle.dr_machine.specs.Events.{member_of, step_of}
 use Rattle.dr_machine.specs.Group.{Group, IsGroup, roster}
 use Rattle.dr_machine.specs.Guards.{next_index}
 use Rattle.dr_machine.specs.World.{World, own_word}
-use Rattle.dr_machine.specs.Run.{IsReached}
 use Rattle.dr_machine.specs.declared.event.Event.{Event}
 use Rattle.dr_machine.specs.declared.event.Act.{Act}
 use Rattle.dr_machine.specs.declared.event.Act.TheVariants as acts
@@ -28,8 +27,8 @@ use Rattle.dr_vote_laws.proofs.Moving.{finish_votes}
 use Rattle.dr_vote_laws.proofs.Plain.{look_votes, push_votes, stamp_votes, word_votes}
 use Rattle.dr_vote_laws.proofs.Suspecting.{suspect_votes}
 use Rattle.dr_vote_laws.specs.Voting.{Voting}
-use Rattle.dr_vote_laws.proofs.Moments.{AreOfMoments, AreSo, IsOfMoment, all_on, had_on, has_now}
-use Rattle.dr_vote_laws.specs.Moments.{AcceptsOfMoments, HadAccepted}
+use Rattle.dr_vote_laws.proofs.Moments.{AreOfMoments, IsOfMoment, all_on, has_now, own_on}
+use Rattle.dr_vote_laws.specs.Moments.{AcceptsOfMoments}
 use Rattle.dr_words.proofs.Accepts.{accept_within}
 use Rattle.dr_faithful.proofs.Suspicions.{mask_after, mask_some}
 use Rattle.dr_faithful.proofs.Writes.{at_both, at_case, at₃_case, at₄_case}
@@ -88,51 +87,55 @@ voting_keeps g V w e is well can f old = step_votes g V w (member_of e) (step_of
 -- ---- the words of votes are of moments
 
 -- no act writes the table, but for its stamp, and one alone what was seen: in the next view nothing was
-does_same : (g : Group) (V : Views) (w after : World) (m : ℕ) (a : Act)
-    → AreOfMoments g V after w.past.view w.table w.seen
-    → AreOfMoments g V after (does g w m a).past.view (does g w m a).table (does g w m a).seen
-does_same g V w after m acts.Finish so = record {
+does_same : (g : Group) (V : Views) (w : World) (moments : List World) (m : ℕ) (a : Act)
+    → AreOfMoments g V moments w.past.view w.table w.seen
+    → AreOfMoments g V moments (does g w m a).past.view (does g w m a).table (does g w m a).seen
+does_same g V w moments m acts.Finish so = record {
   in_table = so.in_table;
-  in_seen = at_both (λ k view row. (i c : ℕ) → IsOfMoment g V after view i c (row i c)) w.past.view w.seen m
+  in_seen = at_both (λ k view row. (i c : ℕ) → IsOfMoment g V moments view i c (row i c)) w.past.view w.seen m
       (w.past.view m + 1) (λ i c. 0) so.in_seen (λ i c column. inl refl);
 }
-does_same g V w after m a so = so
+does_same g V w moments m a so = so
 
 -- the beat word is no accept word
-beat_so : (g : Group) (V : Views) (w : World) (v i word : ℕ) → IsOfMoment g V w v i BEAT_COLUMN word
-beat_so g V w v i word column = absurd (omega (arith, accept_within (roster g) (V v) BEAT_COLUMN column))
+beat_so : (g : Group) (V : Views) (moments : List World) (v i word : ℕ)
+    → IsOfMoment g V moments v i BEAT_COLUMN word
+beat_so g V moments v i word column =
+    absurd (omega (arith, accept_within (roster g) (V v) BEAT_COLUMN column))
 
-step_so : (g : Group) (V : Views) (w : World) (m : ℕ) (s : Step) → IsReached g w → Faithful g V w
-    → ((i v c word : ℕ) → HadAccepted g w i v c word → HadAccepted g (effect_of g w m s) i v c word)
-    → AreOfMoments g V (effect_of g w m s) w.past.view w.table w.seen → AreSo g V (effect_of g w m s)
-step_so g V w m (Do a) run f on so =
+step_so : (g : Group) (V : Views) (us : List World) (w : World) (m : ℕ) (s : Step) → Faithful g V w
+    → AreOfMoments g V (w ∷ us) w.past.view w.table w.seen
+    → AreOfMoments g V (w ∷ us) (effect_of g w m s).past.view (effect_of g w m s).table
+    (effect_of g w m s).seen
+step_so g V us w m (Do a) f so =
     let u : World = does g w m a in
-    let did = does_same g V w (effect_of g w m (Do a)) m a so in record {
-      in_table = at₄_case (λ v j i c word. IsOfMoment g V (effect_of g w m (Do a)) v i c word) u.table
+    let did = does_same g V w (w ∷ us) m a so in record {
+      in_table = at₄_case (λ v j i c word. IsOfMoment g V (w ∷ us) v i c word) u.table
           (w.past.view m) m m BEAT_COLUMN (one_more 64 (u.past.acts m)) did.in_table
-          (beat_so g V (effect_of g w m (Do a)) (w.past.view m) m (one_more 64 (u.past.acts m)));
+          (beat_so g V (w ∷ us) (w.past.view m) m (one_more 64 (u.past.acts m)));
       in_seen = did.in_seen;
     }
-step_so g V w m (Look i c) run f on so = record {
+step_so g V us w m (Look i c) f so = record {
   in_table = so.in_table;
-  in_seen = at₃_case (λ k a d word. IsOfMoment g V (effect_of g w m (Look i c)) (w.past.view k) a d word)
+  in_seen = at₃_case (λ k a d word. IsOfMoment g V (w ∷ us) (w.past.view k) a d word)
       w.seen m i c (w.table (w.past.view m) m i c) so.in_seen (so.in_table (w.past.view m) m i c);
 }
-step_so g V w m (Push j c) run f on so = record {
-  in_table = at₄_case (λ v k a d word. IsOfMoment g V (effect_of g w m (Push j c)) v a d word) w.table
+step_so g V us w m (Push j c) f so = record {
+  in_table = at₄_case (λ v k a d word. IsOfMoment g V (w ∷ us) v a d word) w.table
       (w.past.view m) j m c (own_word w m c) so.in_table
-      (λ column. inr (on m (w.past.view m) c (own_word w m c) (has_now g V w m c run f column)));
+      (λ column. inr (has_now g V us w m c f column));
   in_seen = so.in_seen;
 }
-step_so g V w m s run f on so = record { in_table = so.in_table; in_seen = so.in_seen }
+step_so g V us w m s f so = record { in_table = so.in_table; in_seen = so.in_seen }
 
-pub accepts_stay : (g : Group) (V : Views) (w : World) (e : Event) → IsReached g w → Guard g w e
-    → Faithful g V w → AcceptsOfMoments g V w → AcceptsOfMoments g V (effect g w e)
-accepts_stay g V w e run can f old =
-    let so = step_so g V w (member_of e) (step_of e) run f
-    (λ i v c word. had_on g w (effect g w e) e i v c word (inl (can, refl)))
-    (all_on g V w (effect g w e) e (inl (can, refl)) old) in
-    record { in_table = so.in_table; in_seen = so.in_seen }
+pub accepts_stay : (g : Group) (V : Views) (us : List World) (w : World) (e : Event) → Faithful g V w
+    → AcceptsOfMoments g V us w → AcceptsOfMoments g V (w ∷ us) (effect g w e)
+accepts_stay g V us w e f old =
+    let so = step_so g V us w (member_of e) (step_of e) f (all_on g V us w old) in record {
+      in_table = so.in_table;
+      in_seen = so.in_seen;
+      on_way = own_on g V us w f old;
+    }
 
 -- ---- who suspects nobody
 

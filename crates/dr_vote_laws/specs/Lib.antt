@@ -1,3 +1,4 @@
 pub mod Tells
 pub mod Voting
 pub mod Moments
+pub mod Late

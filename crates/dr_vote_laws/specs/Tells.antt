@@ -8,8 +8,8 @@ use Rattle.dr_words.specs.Packing.{accept_promise, accept_tag, accept_value}
 use Rattle.dr_words.specs.Rewrites.{is_accept_of}
 use Rattle.dr_machine.specs.Group.{Group, roster}
 use Rattle.dr_machine.specs.Votes.{HasVoted, Votes}
-use Rattle.dr_machine.specs.World.{World}
-use Rattle.dr_faithful.specs.Faithful.{Numbers, Table}
+use Rattle.dr_machine.specs.World.{Table, World}
+use Rattle.dr_faithful.specs.Faithful.{Numbers}
 use Rattle.dr_faithful.specs.Tells.{Views}
 
 -- the promise and the tag of a member in a view, by its own words: as they are, or as it left the view

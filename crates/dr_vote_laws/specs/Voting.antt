@@ -11,8 +11,8 @@ use Rattle.dr_words.specs.Masks.{IsMajorityOf, IsPartOf}
 use Rattle.dr_words.specs.Packing.{is_final}
 use Rattle.dr_machine.specs.Group.{Group}
 use Rattle.dr_machine.specs.Votes.{HasLogged, HasVoted, IsOf, MajorityHas, Votes, vote_in}
-use Rattle.dr_machine.specs.World.{World}
-use Rattle.dr_faithful.specs.Faithful.{Numbers, Table}
+use Rattle.dr_machine.specs.World.{Table, World}
+use Rattle.dr_faithful.specs.Faithful.{Numbers}
 use Rattle.dr_faithful.specs.Tells.{Views}
 use Rattle.dr_vote_laws.specs.Tells.{WordsTellVotes, promise_in, tag_in}
 

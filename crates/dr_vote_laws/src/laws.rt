@@ -1,5 +1,5 @@
 //! Laws of votes.
-ghost use Rattle.std.specs.Prelude.{◌≡◌, ◌≤◌, ℕ, List, Some};
+ghost use Rattle.std.specs.Prelude.{◌≡◌, ◌≤◌, ℕ, List, [], ◌∷◌, Some};
 ghost use Rattle.dr_entry.specs.declared.end.End.TheVariants.{Excluded};
 ghost use Rattle.dr_entry.specs.declared.record.Value.{Value};
 ghost use Rattle.dr_entry.specs.declared.record.Vote.{Vote};
@@ -7,11 +7,12 @@ ghost use Rattle.dr_machine.specs.declared.event.Event.{Event};
 ghost use Rattle.dr_machine.specs.Acts.{Guard, effect};
 ghost use Rattle.dr_machine.specs.Group.{Group, IsGroup};
 ghost use Rattle.dr_machine.specs.Guards.{IsExcluded};
-ghost use Rattle.dr_machine.specs.Run.{IsReached, PastGrew};
+ghost use Rattle.dr_machine.specs.Run.{HaveArrived, IsReached, PastGrew, with_table};
 ghost use Rattle.dr_machine.specs.Votes.{HasLogged, IsOf, MajorityHas};
-ghost use Rattle.dr_machine.specs.World.{World, opening_world};
+ghost use Rattle.dr_machine.specs.World.{Table, World, opening_world};
 ghost use Rattle.dr_faithful.specs.Faithful.{AllGoOn, Faithful};
 ghost use Rattle.dr_faithful.specs.Tells.{Views};
+ghost use Rattle.dr_vote_laws.specs.Late.{VotesBacked};
 ghost use Rattle.dr_vote_laws.specs.Moments.{AcceptsOfMoments};
 ghost use Rattle.dr_vote_laws.specs.Voting.{IsChosen, IsCut, Voting};
 
@@ -21,6 +22,18 @@ pub fn votes_stay_true()
     ensures begins { (g : Group) (V : Views) → Voting g V (opening_world g) }
     ensures keeps { (g : Group) (V : Views) (w : World) (e : Event) → IsGroup g → AllGoOn g V w
         → Guard g w e → Faithful g V w → Voting g V w → Voting g V (effect g w e) }
+{}
+
+/// Votes that are told late are true still: accept words that are on their way tell what is true of votes as the
+/// age opens, and after each event, and so they do once they arrive.
+pub fn late_votes_do_no_harm()
+    ensures begins { (g : Group) (V : Views) → VotesBacked g V [] (opening_world g) }
+    ensures keeps { (g : Group) (V : Views) (before : List World) (w : World) (e : Event) → IsGroup g
+        → AllGoOn g V w → Guard g w e → Faithful g V w → Voting g V w → VotesBacked g V before w
+        → VotesBacked g V (w ∷ before) (effect g w e) }
+    ensures arrive { (g : Group) (V : Views) (before : List World) (w : World) (table : Table)
+        → HaveArrived (w ∷ before) w table → VotesBacked g V before w → Voting g V w
+        → Voting g V (with_table w table) × VotesBacked g V (w ∷ before) (with_table w table) }
 {}
 
 /// Then the votes of a view agree on one value: votes of one ballot are equal; once more than half of the
@@ -57,11 +70,15 @@ pub fn exclusion_ends_members()
         → IsExcluded w m view }
 {}
 
-/// Each accept word of the table, and each that was seen, is 0 or was its owner's own word at a moment at
-/// which the owner was in that view and had the promise, the tag and the value that the word says. It is so
-/// as the age opens, and each event keeps it, where the members are faithful.
+/// Each accept word of the table, each that was seen, and each that is on its way, is 0 or was its owner's own
+/// word at a moment at which the owner was in that view and had the promise, the tag and the value that the
+/// word says. It is so as the age opens, and each event and each arrival keeps it, where the members are
+/// faithful.
 pub fn accepts_are_of_moments()
-    ensures begins { (g : Group) (V : Views) → AcceptsOfMoments g V (opening_world g) }
-    ensures keeps { (g : Group) (V : Views) (w : World) (e : Event) → IsReached g w → Guard g w e
-        → Faithful g V w → AcceptsOfMoments g V w → AcceptsOfMoments g V (effect g w e) }
+    ensures begins { (g : Group) (V : Views) → AcceptsOfMoments g V [] (opening_world g) }
+    ensures keeps { (g : Group) (V : Views) (before : List World) (w : World) (e : Event) → Faithful g V w
+        → AcceptsOfMoments g V before w → AcceptsOfMoments g V (w ∷ before) (effect g w e) }
+    ensures arrive { (g : Group) (V : Views) (before : List World) (w : World) (table : Table)
+        → HaveArrived (w ∷ before) w table → Faithful g V w → AcceptsOfMoments g V before w
+        → AcceptsOfMoments g V (w ∷ before) (with_table w table) }
 {}

@@ -10,5 +10,6 @@
 mod laws;
 
 pub use laws::{
-    accepts_are_of_moments, exclusion_ends_members, votes_are_cuts, votes_are_one, votes_stay_true,
+    accepts_are_of_moments, exclusion_ends_members, late_votes_do_no_harm, votes_are_cuts,
+    votes_are_one, votes_stay_true,
 };

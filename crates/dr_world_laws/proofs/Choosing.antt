@@ -1,13 +1,15 @@
 -- Every world that is reached is reached by values: whenever somebody commits a value in a view in which
 -- nobody has committed one before, nobody has left the view either, and so the value may be chosen for it,
 -- as far as what came before goes.
-use Rattle.std.proofs.Common.{List, [], ◌∷◌, None, Option, Some, ap, arith, inl, inr, le_refl, refl, subst, suc, sym, zero, ℕ, ◌+◌, ◌<◌, ◌∙◌, ◌≡◌, ◌≢◌, ◌≤◌, ◌⊎◌}
+use Rattle.std.proofs.Common.{All, List, [], ◌∷◌, None, Option, Some, ap, arith, inl, inr, le_refl, refl, subst, suc, sym, zero, ℕ, ◌+◌, ◌<◌, ◌∙◌, ◌≡◌, ◌≢◌, ◌≤◌, ◌⊎◌}
+use Rattle.std.specs.Prelude.{⊤}
 use Rattle.std.proofs.lemmas.Bool.{cases_eq, cases_lt}
+use Rattle.std.proofs.lemmas.List.Elements.{All-cons, All-head, All-nil, All-tail}
 use Rattle.std.proofs.lemmas.Option.{none-some}
 use Rattle.dr_entry.specs.declared.record.Value.{Value}
 use Rattle.dr_machine.proofs.Events.{standing_after}
 use Rattle.dr_machine.proofs.Presence.{in_roster}
-use Rattle.dr_machine.proofs.Runs.{reached, reached_where, reached_where_effect}
+use Rattle.dr_machine.proofs.Runs.{by_way}
 use Rattle.dr_machine.specs.Acts.{CanTake, Guard, effect, effect_of}
 use Rattle.dr_machine.specs.declared.event.Event.{Event}
 use Rattle.dr_machine.specs.declared.step.Step.{Step}
@@ -15,9 +17,9 @@ use Rattle.dr_machine.specs.Effects.{commits as after_commit, finishes}
 use Rattle.dr_machine.specs.Events.{member_of, step_of}
 use Rattle.dr_machine.specs.Group.{Group, IsGroup, IsPresent, roster}
 use Rattle.dr_machine.specs.Guards.{CanCommit}
-use Rattle.dr_machine.specs.Run.{Happens, IsReached, RunWhere}
+use Rattle.dr_machine.specs.Run.{Follows, HaveArrived, Way, with_table}
 use Rattle.dr_machine.specs.Votes.{IsOf, MajorityHas}
-use Rattle.dr_machine.specs.World.{World, no_value, opening_world}
+use Rattle.dr_machine.specs.World.{Table, World, no_value}
 use Rattle.dr_machine.specs.Writes.{at}
 use Rattle.dr_faithful.proofs.Writes.{at_both, at_case, at_other, at_same}
 use Rattle.dr_faithful.specs.Chosen.{AreChosen, Values, views_by}
@@ -155,11 +157,11 @@ step_back g w m s v can = standing_after g w m s
       stays = λ before. before;
     })
 
-happens_back : (g : Group) (w mid : World) (e : Event) (v : ℕ) → Happens g w e mid → AreBefore mid v
+follows_back : (g : Group) (us : List World) (w mid : World) (v : ℕ) → Follows g us w mid → AreBefore mid v
     → AreBefore w v
-happens_back g w mid e v (inl t) b = step_back g w (member_of e) (step_of e) v t.0
-    (subst (λ u. AreBefore u v) t.1 b)
-happens_back g w mid e v (inr t) b = subst (λ u. AreBefore u v) t.1 b
+follows_back g us w mid v (inl (e, can, same)) b = step_back g w (member_of e) (step_of e) v can
+    (subst (λ u. AreBefore u v) same b)
+follows_back g us w mid v (inr (table, come, same)) b = subst (λ u. AreBefore u v) same b
 
 -- the value of such a view may be any one
 value_free : (w : World) (values : Values) (v : ℕ) (x : Value) → AreBefore w v → AreChosen values w
@@ -167,19 +169,20 @@ value_free : (w : World) (values : Values) (v : ℕ) (x : Value) → AreBefore w
 value_free w values v x before chosen k y e = chosen k y e ∙ sym (at_other values v x (w.past.view k)
     (λ same. absurd (none-some y (sym ((before k).none same) ∙ e))))
 
-run_free : (g : Group) (values : Values) (v : ℕ) (x : Value) (w after : World) (es : List Event)
-    → RunWhere g (AreChosen values) w es after → AreBefore after v
-    → RunWhere g (AreChosen (at values v x)) w es after × AreBefore w v
-run_free g values v x w after [] r b = (r, subst (λ u. AreBefore u v) r b)
-run_free g values v x w after (e ∷ es) r b =
-    let rest = run_free g values v x r.1 after es r.3 b in
-    let here = happens_back g w r.1 e v r.2 rest.1 in
-    ((value_free w values v x here r.0, r.1, r.2, rest.0), here)
+way_free : (g : Group) (values : Values) (v : ℕ) (x : Value) (us : List World) (w : World) → Way g us w
+    → All (AreChosen values) us → AreBefore w v → All (AreChosen (at values v x)) us
+way_free g values v x [] w r all b = All-nil (AreChosen (at values v x))
+way_free g values v x (u ∷ us) w r all b =
+    let here = follows_back g us u w v r.1 b in
+    All-cons (AreChosen (at values v x)) u us
+    (value_free u values v x here (All-head (AreChosen values) u us all))
+    (way_free g values v x us u r.0 (All-tail (AreChosen values) u us all) here)
 
-reached_free : (g : Group) (values : Values) (w : World) (v : ℕ) (x : Value) → AreBefore w v
-    → IsReachedBy g values w → IsReachedBy g (at values v x) w
-reached_free g values w v x before r = record {
-  way = (r.way.0, (run_free g values v x (opening_world g) w r.way.0 r.way.1 before).0);
+reached_free : (g : Group) (values : Values) (us : List World) (w : World) (v : ℕ) (x : Value)
+    → AreBefore w v → IsReachedBy g values us w → IsReachedBy g (at values v x) us w
+reached_free g values us w v x before r = record {
+  way = r.way;
+  before = way_free g values v x us w r.way r.before before;
   now = value_free w values v x before r.now;
 }
 
@@ -210,10 +213,10 @@ commits_same g values w m k y chosen can passed =
     chosen_same g values w (w.past.view m) t.0 k (w.value m) y chosen t.1 passed
 
 -- there are values by which a world is reached, and by which its next step goes
-choose : (g : Group) (values : Values) (w : World) (m : ℕ) (s : Step) → IsGroup g → AreIdle g w
-    → IsReachedBy g values w → CanTake g w m s
-    → (more : Values) × IsReachedBy g more w × AreChosen more (effect_of g w m s)
-choose g values w m s is idle r can = standing_after g w m s (λ x. (more : Values) × IsReachedBy g more w
+choose : (g : Group) (values : Values) (us : List World) (w : World) (m : ℕ) (s : Step) → IsGroup g
+    → AreIdle g w → IsReachedBy g values us w → CanTake g w m s
+    → (more : Values) × IsReachedBy g more us w × AreChosen more (effect_of g w m s)
+choose g values us w m s is idle r can = standing_after g w m s (λ x. (more : Values) × IsReachedBy g more us w
     × ((k : ℕ) (y : Value) → x.committed k ≡ Some y → y ≡ more (x.view k))) can (record {
       goes_on = λ can. (
         values,
@@ -234,56 +237,77 @@ choose g values w m s is idle r can = standing_after g w m s (λ x. (more : Valu
         w.committed m (Some (w.value m)) (λ k d. now k) (λ y e. sym (some_same (w.value m) y e) ∙ so)
 
     by : CanCommit g w m → ((k : ℕ) × HasPassed w (w.past.view m) k) ⊎ AreBefore w (w.past.view m)
-        → (more : Values) × IsReachedBy g more w × AreChosen more (after_commit w m)
+        → (more : Values) × IsReachedBy g more us w × AreChosen more (after_commit w m)
     by can (inl t) = (
       values,
       r,
       commit values r.now
-          (commits_same g values w m t.0 (known g values w is r.way) r.now can t.1),
+          (commits_same g values w m t.0 (known g values us w is r.way r.before) r.now can t.1),
     )
     by can (inr before) =
         let more : Values = at values (w.past.view m) (w.value m) in
-        let free = reached_free g values w (w.past.view m) (w.value m) before r in
+        let free = reached_free g values us w (w.past.view m) (w.value m) before r in
         (more, free, commit more free.now (sym (at_same values (w.past.view m) (w.value m))))
 
 -- so every world that is reached is reached by values
-abbrev IsReachedSo : Group → World → Type 0
-IsReachedSo g w = ((values : Values) × IsReachedBy g values w) × AreIdle g w
+abbrev IsReachedSo : Group → List World → World → Type 0
+IsReachedSo g us w = ((values : Values) × IsReachedBy g values us w) × AreIdle g w
 
 -- the values of no view
 abbrev no_values : Values
 no_values v = no_value
 
-step_so : (g : Group) (w : World) (e : Event) → IsGroup g → Guard g w e → IsReachedSo g w
-    → IsReachedSo g (effect g w e)
-step_so g w e is can (r, idle) =
-    let t = choose g r.0 w (member_of e) (step_of e) is idle r.1 can in (
+step_so : (g : Group) (us : List World) (w : World) (e : Event) → IsGroup g → Guard g w e
+    → IsReachedSo g us w → IsReachedSo g (w ∷ us) (effect g w e)
+step_so g us w e is can (r, idle) =
+    let t = choose g r.0 us w (member_of e) (step_of e) is idle r.1 can in (
       (
         t.0,
-        record { way = reached_where_effect g (AreChosen t.0) w e t.1.now t.1.way can; now = t.2 },
+        record {
+          way = (t.1.way, inl (e, can, refl));
+          before = All-cons (AreChosen t.0) w us t.1.now t.1.before;
+          now = t.2;
+        },
       ),
       others_idle g w (member_of e) (step_of e) is can idle,
     )
 
-pub reached_by : (g : Group) (w : World) → IsGroup g → IsReached g w
-    → (values : Values) × IsReachedBy g values w
-reached_by g w is r = (reached g (IsReachedSo g) (λ u e can y. step_so g u e is can y) (
+arrived_so : (g : Group) (us : List World) (w : World) (table : Table) → HaveArrived (w ∷ us) w table
+    → IsReachedSo g us w → IsReachedSo g (w ∷ us) (with_table w table)
+arrived_so g us w table come (r, idle) = (
   (
-    no_values,
+    r.0,
     record {
-      way = ([], refl);
-      now = λ m x e. absurd (none-some x e);
+      way = (r.1.way, inr (table, come, refl));
+      before = All-cons (AreChosen r.0) w us r.1.now r.1.before;
+      now = r.1.now;
     },
   ),
-  λ k l. (refl, refl),
-) w r).0
+  idle,
+)
+
+pub reached_so : (g : Group) (us : List World) (w : World) → IsGroup g → Way g us w → IsReachedSo g us w
+reached_so g us w is r = by_way g (λ u. ⊤) (IsReachedSo g) (λ us u e run all can y. step_so g us u e is can y)
+    (λ us u table run all come y. arrived_so g us u table come y) (
+      (
+        no_values,
+        record {
+          way = refl;
+          before = All-nil (AreChosen no_values);
+          now = λ m x e. absurd (none-some x e);
+        },
+      ),
+      λ k l. (refl, refl),
+    ) us w r (λ k d l. tt)
+
+pub reached_by : (g : Group) (us : List World) (w : World) → IsGroup g → Way g us w
+    → (values : Values) × IsReachedBy g values us w
+reached_by g us w is r = (reached_so g us w is r).0
 
 -- ---- a value that is voted for
 
-pub nobody_else : (g : Group) (values : Values) (w : World) → IsGroup g → IsReachedBy g values w → AreIdle g w
-nobody_else g values w is r = reached_where g (AreChosen values) (AreIdle g)
-    (λ u e chosen can idle. others_idle g u (member_of e) (step_of e) is can idle) (λ k l. (refl, refl)) w
-    r.way
+pub nobody_else : (g : Group) (us : List World) (w : World) → IsGroup g → Way g us w → AreIdle g w
+nobody_else g us w is r = (reached_so g us w is r).1
 
 -- the members of a view are as the values of the views before it have them
 members_stay : (g : Group) (values : Values) (v : ℕ) (x : Value) (u : ℕ) → u ≤ v
@@ -298,21 +322,21 @@ members_stay g values v x (suc u) l =
     ∙ sym (views-next g values u))
 
 -- a world in which more than half of a view has voted for a value is reached by values of which it is one
-pub voted_by : (g : Group) (values : Values) (w : World) (v b : ℕ) (x : Value) → IsGroup g
-    → IsReachedBy g values w → IsChosen (views_by g values) w.past.votes v b x
-    → (more : Values) × IsReachedBy g more w × (more v ≡ x)
+pub voted_by : (g : Group) (values : Values) (us : List World) (w : World) (v b : ℕ) (x : Value) → IsGroup g
+    → IsReachedBy g values us w → IsChosen (views_by g values) w.past.votes v b x
+    → (more : Values) × IsReachedBy g more us w × (more v ≡ x)
     × IsChosen (views_by g more) w.past.votes v b (more v)
-voted_by g values w v b x is r voted = by (passed_or_before g w v (nobody_else g values w is r))
+voted_by g values us w v b x is r voted = by (passed_or_before g w v (nobody_else g us w is r.way))
   where
     by : ((k : ℕ) × HasPassed w v k) ⊎ AreBefore w v
-        → (more : Values) × IsReachedBy g more w × (more v ≡ x)
+        → (more : Values) × IsReachedBy g more us w × (more v ≡ x)
         × IsChosen (views_by g more) w.past.votes v b (more v)
     by (inl t) =
-        let same : x ≡ values v = chosen_same g values w v b t.0 x (known g values w is r.way) r.now voted t.1
+        let same : x ≡ values v = chosen_same g values w v b t.0 x (known g values us w is r.way r.before) r.now voted t.1
         in (values, r, sym same, subst (λ y. IsChosen (views_by g values) w.past.votes v b y) same voted)
     by (inr before) = (
       at values v x,
-      reached_free g values w v x before r,
+      reached_free g values us w v x before r,
       at_same values v x,
       subst (λ y. IsChosen (views_by g (at values v x)) w.past.votes v b y) (sym (at_same values v x))
           (subst (λ mask. MajorityHas w.past.votes mask (λ z. IsOf z v b × (z.value ≡ x)))

@@ -1,5 +1,6 @@
 -- While nobody suspects anybody, nobody commits a value, and everybody stays in the first view.
 use Rattle.std.proofs.Common.{◌++◌, List, None, arith, length, length-append, refl, sym, true, ℕ, ◌+◌, ◌<◌, ◌∙◌, ◌≡◌, ◌≤◌}
+use Rattle.std.proofs.lemmas.List.Elements.{All-head}
 use Rattle.std.proofs.lemmas.Option.{none-some}
 use Rattle.dr_entry.specs.declared.entry.Entry.{Entry}
 use Rattle.dr_entry.specs.declared.entry.Item.{Item}
@@ -7,7 +8,7 @@ use Rattle.dr_entry.specs.declared.entry.Item.TheVariants.{Null, Text}
 use Rattle.dr_history.specs.Members.{has}
 use Rattle.dr_history.specs.Order.{first_entries, messages_from}
 use Rattle.dr_machine.proofs.Events.{progress_after, standing_after}
-use Rattle.dr_machine.proofs.Runs.{reached_where}
+use Rattle.dr_machine.proofs.Runs.{by_way}
 use Rattle.dr_machine.specs.declared.step.Step.{Step}
 use Rattle.dr_machine.specs.Acts.{CanTake, effect_of}
 use Rattle.dr_machine.specs.Effects.{entries_of, sender_at}
@@ -19,6 +20,8 @@ use Rattle.dr_machine.specs.Run.{IsReachedWhere}
 use Rattle.dr_machine.specs.World.{World, item_at_place}
 use Rattle.dr_words.proofs.Bits.{has_ones}
 use Rattle.dr_faithful.proofs.Faithfulness.{faithful_begins, faithful_keeps}
+use Rattle.dr_faithful.proofs.Late.{arrived_keeps, backed_arrived, backed_begins, backed_event}
+use Rattle.dr_faithful.specs.Late.{AreBacked}
 use Rattle.dr_faithful.specs.Faithful.{AllGoOn, Faithful}
 use Rattle.dr_faithful.specs.Tells.{Views}
 use Rattle.dr_world_laws.specs.Ends.{NobodySuspects}
@@ -101,14 +104,22 @@ whole_within g is v m h = grind (arith, has_ones (roster g) m, is.sound.whole, h
 -- members are faithful in the one view
 pub trusting : (g : Group) (w : World) → IsGroup g → IsReachedWhere g NobodySuspects w
     → AreUncommitted g w × Faithful g (whole g) w
-trusting g w is r = reached_where g NobodySuspects (λ u. AreUncommitted g u × Faithful g (whole g) u)
-    (λ u e calm can f. (
-      step_keeps g u (member_of e) (step_of e) can calm f.0,
+trusting g w is r = let y = by_way g NobodySuspects
+    (λ us u. AreUncommitted g u × Faithful g (whole g) u × AreBacked g (whole g) us u)
+    (λ us u e run calm can f. (
+      step_keeps g u (member_of e) (step_of e) can (All-head NobodySuspects u us calm) f.0,
       faithful_keeps g (whole g) u e is (none_go_on g (whole g) u f.0) can f.1,
+      backed_event g (whole g) us u e is (none_go_on g (whole g) u f.0) can f.1 f.2,
+    ))
+    (λ us u table run calm come f. (
+      record { none = f.0.none; first = f.0.first; start = f.0.start; short = f.0.short },
+      arrived_keeps g (whole g) us u table come f.2 f.1,
+      backed_arrived g (whole g) us u table f.1 come f.2,
     )) (
       record { none = λ m. refl; first = λ m. refl; start = λ m. refl; short = λ m. omega arith },
       faithful_begins g (whole g) is refl (whole_within g is),
-    ) w r
+      backed_begins g (whole g),
+    ) r.0 w r.1 r.2 in (y.0, y.1)
 
 pub stays_first : (g : Group) (w : World) (m : ℕ) → IsGroup g → IsReachedWhere g NobodySuspects w
     → (w.past.view m ≡ 0) × (w.committed m ≡ None)

@@ -1,7 +1,8 @@
 -- Members are ended by suspicion only where they are left out.
-use Rattle.std.proofs.Common.{◌⊎◌, inl, inr, ◌≡◌, refl, ap, sym, ◌∙◌, subst, ℕ, ◌<◌, ◌&&◌, not, true}
+use Rattle.std.proofs.Common.{All, List, ◌⊎◌, inl, inr, ◌≡◌, refl, ap, sym, ◌∙◌, subst, ℕ, ◌<◌, ◌&&◌, not, true}
 use Rattle.std.specs.Prelude.{⊤, Option, None, Some}
 use Rattle.std.proofs.lemmas.Bool.{and_parts}
+use Rattle.std.proofs.lemmas.List.Elements.{All-head, All-tail}
 use Rattle.dr_entry.specs.declared.end.End.{End}
 use Rattle.dr_entry.specs.declared.end.End.TheVariants.{Suspected, NoMajority}
 use Rattle.dr_history.specs.Members.{has}
@@ -13,18 +14,18 @@ use Rattle.dr_machine.specs.Acts.{CanTake, effect_of}
 use Rattle.dr_machine.specs.Events.{member_of, step_of}
 use Rattle.dr_machine.specs.Group.{Group, IsGroup, roster}
 use Rattle.dr_machine.specs.Guards.{IsDue, IsFault, IsMinority, IsSuspectedBy}
-use Rattle.dr_machine.specs.Run.{IsReachedWhere, WordsGrew}
-use Rattle.dr_machine.specs.World.{World}
+use Rattle.dr_machine.specs.Run.{Way, WordsGrew, with_table}
+use Rattle.dr_machine.specs.World.{Table, World}
 use Rattle.dr_machine.proofs.Ends.{EndsSo, IsStill, ended_so}
 use Rattle.dr_machine.proofs.Events.{standing}
-use Rattle.dr_machine.proofs.Runs.{reached_where}
+use Rattle.dr_machine.proofs.Runs.{by_way}
 use Rattle.dr_faithful.specs.Chosen.{AreChosen, Values, views_by}
 use Rattle.dr_faithful.specs.Faithful.{Faithful}
 use Rattle.dr_faithful.specs.Tells.{Views}
 use Rattle.dr_faithful.proofs.Faithfulness.{words_on}
 use Rattle.dr_faithful.proofs.Suspicions.{members_small, suspicions_told}
 use Rattle.dr_world_laws.specs.Ends.{IsLeftBy, IsLeftWith}
-use Rattle.dr_world_laws.proofs.Reached.{Known, all-go_on, begins, event-known}
+use Rattle.dr_world_laws.proofs.Reached.{all-go_on, known}
 
 -- an end by suspicion is that of a member that is left out of its view
 abbrev pub IsLeftSo : World → ℕ → Option End → Type 0
@@ -114,15 +115,33 @@ step_leaves g V w m s is f can grew old k l = by ((effect_of g w m s).end k) ref
         let t = ended_so g w m s k end can e in
         stays_so g w (effect_of g w m s) k end grew t.0 (so end t.1)
 
+-- words that arrive leave nobody out, and take nobody back
+arrival_leaves : (w : World) (table : Table) (k : ℕ) (o : Option End) → IsLeftSo w k o
+    → IsLeftSo (with_table w table) k o
+arrival_leaves w table k None old = tt
+arrival_leaves w table k (Some (Suspected by)) old = record {
+  member = old.member;
+  other = old.other;
+  unsuspected = old.unsuspected;
+  suspects = old.suspects;
+}
+arrival_leaves w table k (Some (NoMajority mask)) old = record {
+  unsuspected = old.unsuspected;
+  own = old.own;
+  members = old.members;
+  minority = old.minority;
+}
+arrival_leaves w table k (Some end) old = tt
+
 -- ---- every run
 
 -- so it is in every world that is reached
-pub left_so : (g : Group) (values : Values) (w : World) → IsGroup g
-    → IsReachedWhere g (AreChosen values) w → AreLeftSo g w
-left_so g values w is r = (reached_where g (AreChosen values) (λ u. Known g values u × AreLeftSo g u)
-    (λ u e chosen can y. (
-      event-known g values u e is chosen can y.0,
-      step_leaves g (views_by g values) u (member_of e) (step_of e) is y.0.faithful can
-          (words_on g (views_by g values) u e is (all-go_on g values u is y.0 chosen) can y.0.faithful) y.1,
-    ))
-    (begins g values is, λ m l. tt) w r).1
+pub left_so : (g : Group) (values : Values) (us : List World) (w : World) → IsGroup g → Way g us w
+    → All (AreChosen values) us → AreLeftSo g w
+left_so g values us w is r chosen = by_way g (AreChosen values) (λ us u. AreLeftSo g u)
+    (λ us u e run all can y.
+    let k = known g values us u is run (All-tail (AreChosen values) u us all) in
+    step_leaves g (views_by g values) u (member_of e) (step_of e) is k.faithful can
+    (words_on g (views_by g values) u e is
+    (all-go_on g values u is k (All-head (AreChosen values) u us all)) can k.faithful) y)
+    (λ us u table run all come y m l. arrival_leaves u table m (u.end m) (y m l)) (λ m l. tt) us w r chosen

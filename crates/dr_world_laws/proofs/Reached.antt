@@ -1,7 +1,8 @@
 -- What holds of the histories of every world that is reached.
-use Rattle.std.proofs.Common.{◌≡◌, ◌≢◌, ◌⊎◌, inl, inr, refl, ap, ap₂, sym, ◌∙◌, subst, ℕ, ◌+◌, ◌/◌, ◌%◌, ◌<◌, arith, true, Some, [], length, slice_get, take}
+use Rattle.std.proofs.Common.{All, List, ◌∷◌, ◌≡◌, ◌≢◌, ◌⊎◌, inl, inr, refl, ap, ap₂, sym, ◌∙◌, subst, ℕ, ◌+◌, ◌/◌, ◌%◌, ◌<◌, arith, true, Some, [], length, slice_get, take}
 use Rattle.std.proofs.lemmas.Bool.{cases_eq}
 use Rattle.std.proofs.lemmas.List.{take_all}
+use Rattle.std.proofs.lemmas.List.Elements.{All-head}
 use Rattle.std.proofs.lemmas.Option.{none-some}
 use Rattle.dr_entry.specs.declared.end.SentItem.{SentItem}
 use Rattle.dr_entry.specs.declared.end.SentItem.TheVariants.{Index, Null}
@@ -22,19 +23,23 @@ use Rattle.dr_machine.specs.declared.event.Event.{Event}
 use Rattle.dr_machine.specs.Group.{Group, IsGroup, roster}
 use Rattle.dr_machine.specs.Guards.{CanDeliver, CanFinish}
 use Rattle.dr_machine.specs.Effects.{entries_of}
-use Rattle.dr_machine.specs.World.{World, opening_world, own_word}
+use Rattle.dr_machine.specs.World.{Table, World, opening_world, own_word}
 use Rattle.dr_machine.specs.Acts.{CanTake, Guard, effect, effect_of}
 use Rattle.dr_machine.specs.Events.{member_of, step_of}
 use Rattle.dr_machine.specs.Writes.{at}
 use Rattle.dr_machine.specs.declared.step.Step.{Step}
 use Rattle.dr_machine.proofs.Events.{standing_after}
 use Rattle.dr_machine.proofs.Presence.{in_roster}
-use Rattle.dr_machine.specs.Run.{IsReachedWhere}
-use Rattle.dr_machine.proofs.Runs.{reached_where}
+use Rattle.dr_machine.specs.Run.{HaveArrived, Way, with_table}
+use Rattle.dr_machine.proofs.Runs.{by_way}
 use Rattle.dr_faithful.specs.Faithful.{AllGoOn, Faithful}
 use Rattle.dr_faithful.specs.Chosen.{AreChosen, Values, endings_by, views_by}
 use Rattle.dr_faithful.specs.Tells.{Views, item_named}
 use Rattle.dr_faithful.proofs.Faithfulness.{faithful_begins, faithful_keeps, past_on_event, words_on}
+use Rattle.dr_faithful.proofs.Late.{arrived_keeps, backed_arrived, backed_begins, backed_event}
+use Rattle.dr_faithful.specs.Late.{AreBacked}
+use Rattle.dr_vote_laws.proofs.Late.{arrived_votes, votes_backed, votes_on}
+use Rattle.dr_vote_laws.specs.Late.{VotesBacked}
 use Rattle.dr_vote_laws.proofs.Opening.{begun as voting_begins}
 use Rattle.dr_vote_laws.proofs.Steps.{voting_keeps}
 use Rattle.dr_vote_laws.specs.Voting.{Voting}
@@ -265,8 +270,64 @@ event-known g values w e is chosen can y = record {
           (may-end g values w m is y chosen can);
     }
 
--- and so it is known of each world that is reached by them
-pub known : (g : Group) (values : Values) (w : World) → IsGroup g
-    → IsReachedWhere g (AreChosen values) w → Known g values w
-known g values w is r = reached_where g (AreChosen values) (Known g values)
-    (λ u e chosen can y. event-known g values u e is chosen can y) (begins g values is) w r
+-- what is known of a world and of the words that are on their way in it: those of the worlds before it
+pub record KnownLate (g : Group) (values : Values) (us : List World) (w : World) : Type 0 where
+  pub world : Known g values w
+  pub backed : AreBacked g (views_by g values) us w
+  pub votes : VotesBacked g (views_by g values) us w
+
+-- an event keeps it
+late_event : (g : Group) (values : Values) (us : List World) (w : World) (e : Event) → IsGroup g
+    → AreChosen values w → Guard g w e → KnownLate g values us w
+    → KnownLate g values (w ∷ us) (effect g w e)
+late_event g values us w e is chosen can y =
+    let well = all-go_on g values w is y.world chosen in record {
+      world = event-known g values w e is chosen can y.world;
+      backed = backed_event g (views_by g values) us w e is well can y.world.faithful y.backed;
+      votes = votes_on g (views_by g values) us w e is well can y.world.faithful y.world.voting y.votes;
+    }
+
+-- and so does the arrival of words, as only what is said of the table speaks of them
+arrived-known : (g : Group) (values : Values) (us : List World) (w : World) (table : Table)
+    → HaveArrived (w ∷ us) w table → KnownLate g values us w
+    → KnownLate g values (w ∷ us) (with_table w table)
+arrived-known g values us w table come y = record {
+  world = record {
+    faithful = arrived_keeps g (views_by g values) us w table come y.backed y.world.faithful;
+    laid = record {
+      historic = record {
+        history = y.world.laid.historic.history;
+        goes = y.world.laid.historic.goes;
+        based = y.world.laid.historic.based;
+      };
+      left = λ m v l less. let ended = y.world.laid.left m v l less in
+          record { ended = ended.ended; least = ended.least; covered = ended.covered };
+    };
+    complete = record { durable = y.world.complete.durable; shown = y.world.complete.shown };
+    voting = voted.0;
+    ballots = y.world.ballots;
+    wedged = y.world.wedged;
+  };
+  backed = backed_arrived g (views_by g values) us w table y.world.faithful come y.backed;
+  votes = voted.1;
+}
+  where
+    voted : Voting g (views_by g values) (with_table w table)
+        × VotesBacked g (views_by g values) (w ∷ us) (with_table w table)
+    voted = arrived_votes g (views_by g values) us w table come y.votes y.world.voting
+
+-- so it is known of each world that is reached by them
+pub known-late : (g : Group) (values : Values) (us : List World) (w : World) → IsGroup g → Way g us w
+    → All (AreChosen values) us → KnownLate g values us w
+known-late g values us w is r chosen = by_way g (AreChosen values) (KnownLate g values)
+    (λ us u e run all can y. late_event g values us u e is (All-head (AreChosen values) u us all) can y)
+    (λ us u table run all come y. arrived-known g values us u table come y)
+    (record {
+      world = begins g values is;
+      backed = backed_begins g (views_by g values);
+      votes = votes_backed g (views_by g values);
+    }) us w r chosen
+
+pub known : (g : Group) (values : Values) (us : List World) (w : World) → IsGroup g → Way g us w
+    → All (AreChosen values) us → Known g values w
+known g values us w is r chosen = (known-late g values us w is r chosen).world

@@ -1,6 +1,7 @@
 -- A member that holds all messages has the start, View 0, and the merge of what the start leaves.
-use Rattle.std.proofs.Common.{List, [], ◌∷◌, None, Option, Some, ap, inl, inr, length, refl, slice_get, subst, suc, sym, arith, take, true, zero, ℕ, ◌++◌, ◌+◌, ◌/◌, ◌%◌, ◌<◌, ◌∙◌, ◌≡◌, ◌≢◌, ◌⊎◌}
+use Rattle.std.proofs.Common.{All, List, [], ◌∷◌, None, Option, Some, ap, inl, inr, length, refl, slice_get, subst, suc, sym, arith, take, true, zero, ℕ, ◌++◌, ◌+◌, ◌/◌, ◌%◌, ◌<◌, ◌∙◌, ◌≡◌, ◌≢◌, ◌⊎◌}
 use Rattle.std.specs.Prelude.{option_and_then}
+use Rattle.std.proofs.lemmas.List.Elements.{All-head, All-tail}
 use Rattle.std.proofs.lemmas.Bool.{cases_eq}
 use Rattle.std.proofs.lemmas.Option.{same_Some, slice_get-get_or}
 use Rattle.dr_entry.specs.declared.end.SentItem.{SentItem}
@@ -20,12 +21,12 @@ use Rattle.dr_history_laws.specs.Laid as histories
 use Rattle.dr_history_laws.specs.Laid.{GoesOn, HeldBelow, entry_at, first_view, laid}
 use Rattle.dr_machine.specs.Group.{Group, IsGroup, roster}
 use Rattle.dr_machine.specs.Guards.{HoldsAll, IsRunning}
-use Rattle.dr_machine.proofs.Runs.{reached_where}
+use Rattle.dr_machine.proofs.Runs.{by_way}
 use Rattle.dr_machine.specs.Acts.{CanTake, effect_of}
 use Rattle.dr_machine.specs.declared.step.Step.{Step}
 use Rattle.dr_machine.specs.Effects.{puts, stamped}
 use Rattle.dr_machine.specs.Events.{member_of, step_of}
-use Rattle.dr_machine.specs.Run.{IsReachedWhere}
+use Rattle.dr_machine.specs.Run.{Way}
 use Rattle.dr_machine.specs.World.{World, opening_world}
 use Rattle.dr_machine.specs.Writes.{at₂}
 use Rattle.dr_machine.specs.Sending.{IsPut}
@@ -37,7 +38,7 @@ use Rattle.dr_faithful.specs.Chosen.{AreChosen, Values, endings_by, views_by}
 use Rattle.dr_faithful.specs.Tells.{item_named}
 use Rattle.dr_history_laws.specs.Courses.{course}
 use Rattle.dr_history_laws.proofs.Courses.{head-first}
-use Rattle.dr_world_laws.proofs.Reached.{Known, begins, event-known}
+use Rattle.dr_world_laws.proofs.Reached.{Known, begins, event-known, known}
 use Rattle.dr_history_laws.specs.Remaining.{remaining, to_send}
 use Rattle.dr_world_laws.proofs.SentItems.{first_messages, left_at, left_within, same_entry}
 
@@ -180,22 +181,23 @@ put_stays g values w m step s can y l old = by (puts_or_leaves g w m step can)
         (sym same)
         old
 
-pub put_first : (g : Group) (values : Values) (w : World) (s : ℕ) → IsGroup g
-    → IsReachedWhere g (AreChosen values) w → s < roster g
+pub put_first : (g : Group) (values : Values) (us : List World) (w : World) (s : ℕ) → IsGroup g → Way g us w
+    → All (AreChosen values) us → s < roster g
     → IsPut (length (messages_from s g.opening.start)) (length (messages_of g.opening s)) (w.past.sent s 0)
-put_first g values w s is r l = (reached_where g (AreChosen values)
-    (λ u. Known g values u × IsPutFirst g u s)
-    (λ u e chosen can y.
-    let after = event-known g values u e is chosen can y.0 in
-    (after, put_stays g values u (member_of e) (step_of e) s can after l y.1))
-    (begins g values is, put_now g values (opening_world g) s (begins g values is) l refl) w r).1
+put_first g values us w s is r chosen l = by_way g (AreChosen values) (λ us u. IsPutFirst g u s)
+    (λ us u e run all can y.
+    put_stays g values u (member_of e) (step_of e) s can
+    (event-known g values u e is (All-head (AreChosen values) u us all) can
+    (known g values us u is run (All-tail (AreChosen values) u us all))) l y)
+    (λ us u table run all come y. y) (put_now g values (opening_world g) s (begins g values is) l refl) us w r
+    chosen
 
 -- its history is what the script and the start alone determine
-pub holds-remaining : (g : Group) (values : Values) (w : World) (m : ℕ) → IsGroup g
-    → IsReachedWhere g (AreChosen values) w → Known g values w
+pub holds-remaining : (g : Group) (values : Values) (us : List World) (w : World) (m : ℕ) → IsGroup g
+    → Way g us w → All (AreChosen values) us → Known g values w
     → m < roster g → w.past.view m ≡ 0 → HoldsAll g w m
     → w.past.history m ≡ first_entries g.opening ++ remaining g.opening
-holds-remaining g values w m is r y l first whole =
+holds-remaining g values us w m is r chosen y l first whole =
     history-first g values w m y l first
     ∙ ap (λ es. first_entries o ++ es) (sym same
     ∙ laid-whole o (to_send o) (first_entries o) v (w.next m) (left-goes_on o v)
@@ -221,7 +223,7 @@ holds-remaining g values w m is r y l first whole =
     same = laid-same o w.past.sent (to_send o) v (w.next m) (λ p below.
         let held = value_of (item_at w.past.sent v p) (held-first g values w m y l first p below) in
         same_place o w.past.sent v p held.0.0 held.0.1
-        (put_first g values w held.0.0 is r (sender p held.0.0 held.0.1 held.1)) held.1)
+        (put_first g values us w held.0.0 is r chosen (sender p held.0.0 held.0.1 held.1)) held.1)
 
     all : histories.HoldsAll g.opening (first_view g.opening)
         (first_entries g.opening ++ laid g.opening (to_send g.opening) (first_view g.opening) (w.next m))

@@ -10,6 +10,7 @@ use Rattle.dr_words.specs.Masks.{without}
 use Rattle.dr_words.specs.Packing.{accept_tag}
 use Rattle.dr_words.specs.Rewrites.{is_accept_of}
 use Rattle.dr_machine.specs.Group.{Group, IsGroup, roster}
+use Rattle.dr_machine.specs.Run.{WasOwn}
 use Rattle.dr_machine.specs.Votes.{HasLogged, HasVoted, IsOf, MajorityHas, vote_in}
 use Rattle.dr_machine.specs.World.{Past, World}
 use Rattle.dr_faithful.proofs.Pasts.{tells_nothing}
@@ -28,7 +29,7 @@ use Rattle.dr_world_laws.proofs.Choosing.{nobody_else, voted_by}
 use Rattle.dr_world_laws.proofs.Covering as covering
 use Rattle.dr_world_laws.proofs.HeldViews.{view-held, view-is, view-there}
 use Rattle.dr_world_laws.proofs.Reached as worlds
-use Rattle.dr_world_laws.proofs.Worlds.{Known, accepts_so}
+use Rattle.dr_world_laws.proofs.Worlds.{Known, accepts_so, known_late}
 
 -- ---- views
 
@@ -40,7 +41,7 @@ has-view g w i v is y come = by (cases_lt i (roster g))
     by : (i < roster g) ⊎ (roster g ≤ i) → HasView g w v (views_by g y.values v)
     by (inl l) = (i, l, view-there g y.values w i v y.chosen l come)
     by (inr beyond) =
-        let first = (nobody_else g y.values w is y.by i beyond).0 in (
+        let first = (nobody_else g y.run.0 w is y.run.1 i beyond).0 in (
           0,
           is.some_member,
           view-there g y.values w 0 v y.chosen is.some_member (omega (arith, first, come)),
@@ -116,10 +117,10 @@ voted-cut g w i x is y h = (
 pub voted-covered : (g : Group) (w : World) (v b members : ℕ) (x : Value) → IsGroup g → Known g w
     → HasView g w v members → HaveVotedFor w.past.votes members v b x → IsCovered g w v members x
 voted-covered g w v b members x is y h voted =
-    let t = voted_by g y.values w v b x is y.by
+    let t = voted_by g y.values y.run.0 w v b x is y.by
     (subst (λ mask. MajorityHas w.past.votes mask (λ z. IsOf z v b × (z.value ≡ x)))
     (sym (view-is g y.values w v members is y.chosen h)) voted) in
-    let k = worlds.known g t.0 w is t.1.way in
+    let k = worlds.known g t.0 y.run.0 w is t.1.way t.1.before in
     subst (λ mask. IsCovered g w v mask x) (view-is g t.0 w v members is k h)
     (subst (λ z. IsCovered g w v (views_by g t.0 v) z) t.2 (covering.covered g t.0 w v b is k t.3))
 
@@ -205,19 +206,33 @@ votes-by g V w is y are = record {
     table v j i c column (inr come) = y.chosen.voting.words.in_table v j i c
         (subst (λ mask. is_accept_of (roster g) mask c ≡ true) (agrees g V w i v is y are come) column)
 
-pub moments-by : (g : Group) (V : Views) (w : World) → IsGroup g → Known g w → AreViews g w V
-    → AcceptsOfMoments g V w
+pub moments-by : (g : Group) (V : Views) (w : World) → IsGroup g → (y : Known g w) → AreViews g w V
+    → AcceptsOfMoments g V y.run.0 w
 moments-by g V w is y are = record {
   in_table = λ v j i c column. table v j i c column (cases_lt (w.past.view i) v);
-  in_seen = λ m i c column. (accepts_so g y.values w is y.by).in_seen m i c
+  in_seen = λ m i c column. so.in_seen m i c
       (subst (λ mask. is_accept_of (roster g) mask c ≡ true)
       (agrees g V w m (w.past.view m) is y are (omega arith)) column);
+  on_way = λ v i c word was column. on_way v i c word was column (cases_lt (w.past.view i) v);
 }
   where
+    so : AcceptsOfMoments g (views_by g y.values) y.run.0 w
+    so = accepts_so g y.values y.run.0 w is y.by
+
     table : (v j i c : ℕ) → is_accept_of (roster g) (V v) c ≡ true
         → (w.past.view i < v) ⊎ (v ≤ w.past.view i)
-        → (w.table v j i c ≡ 0) ⊎ HadAccepted g w i v c (w.table v j i c)
+        → (w.table v j i c ≡ 0) ⊎ HadAccepted g y.run.0 i v c (w.table v j i c)
     table v j i c column (inl less) =
         inl (unseen g (views_by g y.values) w v j i c y.chosen.faithful less)
-    table v j i c column (inr come) = (accepts_so g y.values w is y.by).in_table v j i c
+    table v j i c column (inr come) = so.in_table v j i c
+        (subst (λ mask. is_accept_of (roster g) mask c ≡ true) (agrees g V w i v is y are come) column)
+
+    on_way : (v i c word : ℕ) → WasOwn y.run.0 v i c word → is_accept_of (roster g) (V v) c ≡ true
+        → (w.past.view i < v) ⊎ (v ≤ w.past.view i) → (word ≡ 0) ⊎ HadAccepted g y.run.0 i v c word
+    on_way v i c word was column (inl less) = inl (omega (
+      arith,
+      ((known_late g w is y).backed.old v i c word was).number,
+      y.chosen.faithful.fresh.unwritten i v c less,
+    ))
+    on_way v i c word was column (inr come) = so.on_way v i c word was
         (subst (λ mask. is_accept_of (roster g) mask c ≡ true) (agrees g V w i v is y are come) column)

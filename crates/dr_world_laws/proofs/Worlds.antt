@@ -1,5 +1,6 @@
 -- What is known of every world that is reached.
-use Rattle.std.proofs.Common.{[], List, None, refl, arith, ap, length, map, slice_index, subst, sym, false, ℕ, ◌++◌, ◌<◌, ◌∙◌, ◌≡◌, ◌≢◌, ◌≤◌, Some}
+use Rattle.std.proofs.Common.{[], ◌∷◌, ◌⊎◌, Contains, List, None, refl, inl, inr, arith, ap, length, map, slice_index, subst, sym, false, ℕ, ◌++◌, ◌<◌, ◌∙◌, ◌≡◌, ◌≢◌, ◌≤◌, Some}
+use Rattle.std.proofs.lemmas.List.Elements.{All-tail}
 use Rattle.dr_entry.specs.declared.end.End.TheVariants.{Done}
 use Rattle.dr_entry.specs.declared.record.Value.{Value}
 use Rattle.dr_entry.specs.declared.record.Vote.{Vote}
@@ -19,17 +20,18 @@ use Rattle.dr_machine.specs.Effects.{counts_by}
 use Rattle.dr_machine.specs.Events.{member_of, step_of}
 use Rattle.dr_machine.specs.Group.{Group, IsGroup, roster}
 use Rattle.dr_machine.specs.Guards.{CanFinish, HoldsAll, MayChoose, unsuspected_of}
-use Rattle.dr_machine.proofs.Runs.{kept, reached, reached_effect, reached_where}
-use Rattle.dr_machine.specs.Run.{IsReached, NoLaterItem, PastGrew, Run, WordsGrew, WorldAgreed}
+use Rattle.dr_machine.proofs.Runs.{by_way, last_or_before, reached}
+use Rattle.dr_machine.specs.Run.{Follows, IsReached, NoLaterItem, PastGrew, Way, WordsGrew, WorldAgreed}
 use Rattle.dr_machine.specs.Sending.{IsPut}
 use Rattle.dr_machine.specs.Votes.{HasLogged, IsOf, MajorityHas}
 use Rattle.dr_machine.specs.World.{World}
 use Rattle.dr_faithful.proofs.Faithfulness.{all_told, none_later, past_on_event, waits_for, words_on}
+use Rattle.dr_faithful.proofs.Late.{arrived_grew}
 use Rattle.dr_faithful.proofs.Pasts.{past_on, past_same}
 use Rattle.dr_faithful.specs.Chosen.{AreChosen, Values, endings_by, views_by}
 use Rattle.dr_faithful.specs.Faithful.{AllGoOn, Faithful}
 use Rattle.dr_faithful.specs.Tells.{SuspicionsTold}
-use Rattle.dr_vote_laws.proofs.Moments.{accepts_begin}
+use Rattle.dr_vote_laws.proofs.Moments.{accepts_arrive, accepts_begin}
 use Rattle.dr_vote_laws.proofs.Steps.{AreQuiet, accepts_stay, step_quiet}
 use Rattle.dr_vote_laws.proofs.Values as votes
 use Rattle.dr_vote_laws.specs.Moments.{AcceptsOfMoments}
@@ -53,17 +55,27 @@ use Rattle.dr_world_laws.proofs.Remaining as remainders
 pub record Known (g : Group) (w : World) : Type 0 where
   pub run : IsReached g w
   pub values : Values
-  pub by : IsReachedBy g values w
+  pub by : IsReachedBy g values run.0 w
   pub chosen : worlds.Known g values w
 
 pub known : (g : Group) (w : World) → IsGroup g → IsReached g w → Known g w
 known g w is r =
-    let t = reached_by g w is r in record {
+    let t = reached_by g r.0 w is r.1 in record {
       run = r;
       values = t.0;
       by = t.1;
-      chosen = worlds.known g t.0 w is t.1.way;
+      chosen = worlds.known g t.0 r.0 w is t.1.way t.1.before;
     }
+
+-- its way is the one by which it is reached
+pub known_way : (g : Group) (us : List World) (w : World) (is : IsGroup g) (way : Way g us w)
+    → (known g w is (us, way)).run.0 ≡ us
+unfolding known
+known_way g us w is way = refl
+
+-- with what is known of the words that are on their way
+pub known_late : (g : Group) (w : World) → IsGroup g → (y : Known g w) → worlds.KnownLate g y.values y.run.0 w
+known_late g w is y = worlds.known-late g y.values y.run.0 w is y.by.way y.by.before
 
 -- ---- what is told
 
@@ -91,6 +103,23 @@ pub past_grew : (g : Group) (w : World) (e : Event) → IsGroup g → Known g w 
     → PastGrew w.past (effect g w e).past
 past_grew g w e is y can =
     past_on_event g (views_by g y.values) w e is (all_go_on g w is y) can y.chosen.faithful
+
+-- so it is in each world that comes next
+pub words_next : (g : Group) (us : List World) (w after : World) → IsGroup g → Way g us w
+    → Follows g us w after → WordsGrew g w after
+words_next g us w after is way (inl (e, can, same)) =
+    subst (WordsGrew g w) (sym same) (words_grew g w e is (known g w is (us, way)) can)
+words_next g us w after is way (inr (table, come, same)) =
+    let t = reached_by g us w is way in
+    let y = worlds.known-late g t.0 us w is way t.1.before in subst (WordsGrew g w) (sym same)
+    (arrived_grew g (views_by g t.0) us w table y.world.faithful come y.backed)
+
+pub past_next : (g : Group) (us : List World) (w after : World) → IsGroup g → Way g us w
+    → Follows g us w after → PastGrew w.past after.past
+past_next g us w after is way (inl (e, can, same)) =
+    subst (λ (u : World). PastGrew w.past u.past) (sym same) (past_grew g w e is (known g w is (us, way)) can)
+past_next g us w after is way (inr (table, come, same)) =
+    subst (λ (u : World). PastGrew w.past u.past) (sym same) (past_same w.past)
 
 -- no later item stands in the slot of one that is waited for
 pub no_later : (g : Group) (w : World) → IsGroup g → Known g w → NoLaterItem g w
@@ -125,26 +154,44 @@ one_commit g early late m k u v before y grew e d same =
     (omega arith) (omega (arith, same))) one.1)
     (subst (λ n. IsChosen (views_by g y.values) late.past.votes n two.0 v) (sym same) two.1)
 
--- what a world has done, a later one has done too
-pub past_since : (g : Group) (early late : World) (es : List Event) → IsGroup g → IsReached g early
-    → Run g early es late → PastGrew early.past late.past × IsReached g late
-past_since g early late es is r run = kept g (λ w. PastGrew early.past w.past × IsReached g w)
-    (λ w e can old. (
-      past_on early.past w.past (effect g w e).past old.0 (past_grew g w e is (known g w is old.1) can),
-      reached_effect g w e old.1 can,
-    )) early late es run (past_same early.past, r)
+-- what a world has done, a later one on its way has done too
+pub past_since : (g : Group) (us : List World) (early late : World) → IsGroup g → Way g us late
+    → Contains (late ∷ us) early → PastGrew early.past late.past × IsReached g early
+past_since g [] early late is way c = by (last_or_before [] late early c)
+  where
+    by : (late ≡ early) ⊎ Contains [] early → PastGrew early.past late.past × IsReached g early
+    by (inl same) = subst (λ (u : World). PastGrew u.past late.past × IsReached g u) same
+        (past_same late.past, ([], way))
+    by (inr none) = absurd (omega (arith, none.1))
+past_since g (u ∷ us) early late is way c =
+    by (λ before. past_since g us early u is way.0 before) (last_or_before (u ∷ us) late early c)
+  where
+    by : (Contains (u ∷ us) early → PastGrew early.past u.past × IsReached g early)
+        → (late ≡ early) ⊎ Contains (u ∷ us) early → PastGrew early.past late.past × IsReached g early
+    by rest (inl same) = subst (λ (x : World). PastGrew x.past late.past × IsReached g x) same
+        (past_same late.past, (u ∷ us, way))
+    by rest (inr before) =
+        let t = rest before in
+        (past_on early.past u.past late.past t.0 (past_next g us u late is way.0 way.1), t.1)
 
--- each accept word of the table, and each that was seen, was one of its owner at some moment
-pub accepts_so : (g : Group) (values : Values) (w : World) → IsGroup g → IsReachedBy g values w
-    → AcceptsOfMoments g (views_by g values) w
-accepts_so g values w is r = (reached_where g (AreChosen values)
-    (λ u. worlds.Known g values u × AcceptsOfMoments g (views_by g values) u × IsReached g u)
-    (λ u e chosen can y. (
-      worlds.event-known g values u e is chosen can y.0,
-      accepts_stay g (views_by g values) u e y.2 can y.0.faithful y.1,
-      reached_effect g u e y.2 can,
-    ))
-    (worlds.begins g values is, accepts_begin g (views_by g values), ([], refl)) w r.way).1
+-- values that are committed in one view on one way are equal
+pub commit_since : (g : Group) (us : List World) (early late : World) (m k : ℕ) (u v : Value) → IsGroup g
+    → Way g us late → Contains (late ∷ us) early → early.committed m ≡ Some u → late.committed k ≡ Some v
+    → early.past.view m ≡ late.past.view k → u ≡ v
+commit_since g us early late m k u v is way on e d same =
+    let since = past_since g us early late is way on in
+    one_commit g early late m k u v (known g early is since.1) (known g late is (us, way)) since.0 e d same
+
+-- each accept word of the table, each that was seen, and each that is on its way, was one of its owner at some
+-- moment
+pub accepts_so : (g : Group) (values : Values) (us : List World) (w : World) → IsGroup g
+    → IsReachedBy g values us w → AcceptsOfMoments g (views_by g values) us w
+accepts_so g values us w is r = by_way g (AreChosen values) (AcceptsOfMoments g (views_by g values))
+    (λ us u e run all can y. accepts_stay g (views_by g values) us u e
+    (worlds.known g values us u is run (All-tail (AreChosen values) u us all)).faithful y)
+    (λ us u table run all come y. accepts_arrive g (views_by g values) us u table come
+    (worlds.known g values us u is run (All-tail (AreChosen values) u us all)).faithful y)
+    (accepts_begin g (views_by g values)) us w r.way r.before
 
 -- ---- ends of views
 
@@ -204,12 +251,12 @@ goes_first g w is y = subst (GoesOn g.opening w.past.sent (first_entries g.openi
 
 pub put_first : (g : Group) (w : World) (s : ℕ) → IsGroup g → Known g w → s < roster g
     → IsPut (length (messages_from s g.opening.start)) (length (messages_of g.opening s)) (w.past.sent s 0)
-put_first g w s is y l = remainders.put_first g y.values w s is y.by.way l
+put_first g w s is y l = remainders.put_first g y.values y.run.0 w s is y.by.way y.by.before l
 
 pub holds-remaining : (g : Group) (w : World) (m : ℕ) → IsGroup g → Known g w → m < roster g
     → w.past.view m ≡ 0 → HoldsAll g w m → w.past.history m ≡ first_entries g.opening ++ remaining g.opening
 holds-remaining g w m is y l first whole =
-    remainders.holds-remaining g y.values w m is y.by.way y.chosen l first whole
+    remainders.holds-remaining g y.values y.run.0 w m is y.by.way y.by.before y.chosen l first whole
 
 pub holds_messages : (g : Group) (w : World) (m : ℕ) → Known g w → m < roster g
     → HoldsMessages g (w.past.history m)
@@ -217,15 +264,12 @@ holds_messages g w m y l = messages.holds_messages g y.values w m y.chosen l
 
 pub left_so : (g : Group) (w : World) → IsGroup g → Known g w → (m : ℕ) → m < roster g
     → IsLeftSo w m (w.end m)
-left_so g w is y m l = leavings.left_so g y.values w is y.by.way m l
+left_so g w is y m l = leavings.left_so g y.values y.run.0 w is y.by.way y.by.before m l
 
 -- who suspects nobody has no vote that waits, and has committed nothing
 pub quiet : (g : Group) (w : World) (m : ℕ) → IsGroup g → IsReached g w → w.suspects m ≡ 0
     → (w.pending m ≡ None) × (w.committed m ≡ None)
-quiet g w m is r = (reached g (λ u. IsReached g u × AreQuiet u)
-    (λ u e can y. (
-      reached_effect g u e y.0 can,
-      let t = known g u is y.0 in
-          step_quiet g (views_by g t.values) u (member_of e) (step_of e) is (faithful g u t) can y.1,
-    ))
-    (([], refl), λ k calm. (refl, refl)) w r).1 m
+quiet g w m is r = reached g AreQuiet
+    (λ u e run can y. let t = known g u is run in
+    step_quiet g (views_by g t.values) u (member_of e) (step_of e) is (faithful g u t) can y)
+    (λ u table y. y) (λ k calm. (refl, refl)) w r m

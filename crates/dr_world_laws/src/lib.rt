@@ -7,7 +7,7 @@
 //! `docs/PROOFS.md` shows how.
 #![tactic(auto)]
 
-ghost use Rattle.std.specs.Prelude.{◌≡◌, ◌≢◌, ℕ, ◌*◌, ◌+◌, ◌<◌, ◌≤◌, false, List, [], ◌++◌, All, length, None, Some};
+ghost use Rattle.std.specs.Prelude.{◌≡◌, ◌≢◌, ℕ, ◌*◌, ◌+◌, ◌<◌, ◌≤◌, false, List, [], ◌∷◌, ◌++◌, All, Contains, length, None, Some};
 ghost use Rattle.dr_entry.specs.declared.end.End.TheVariants.{Done, Suspected, NoMajority};
 ghost use Rattle.dr_entry.specs.Spelling.{IsValidEntry};
 ghost use Rattle.dr_entry.specs.declared.record.Value.{Value};
@@ -23,8 +23,7 @@ ghost use Rattle.dr_machine.specs.Group.{Group, IsGroup, banks, roster};
 ghost use Rattle.dr_machine.specs.World.{World, opening_world};
 ghost use Rattle.dr_history.specs.declared.opening.Opening.{Opening};
 ghost use Rattle.dr_machine.specs.Guards.{CanFinish, HoldsAll, MayChoose, unsuspected_of};
-ghost use Rattle.dr_machine.specs.Run.{Run, IsReached, IsReachedWhere, NoLaterItem, PastGrew, WordsGrew, WorldAgreed};
-ghost use Rattle.dr_machine.specs.Acts.{Guard, effect};
+ghost use Rattle.dr_machine.specs.Run.{Follows, Run, IsReached, IsReachedWhere, Way, NoLaterItem, PastGrew, WordsGrew, WorldAgreed};
 ghost use Rattle.dr_machine.specs.Effects.{counts_by};
 ghost use Rattle.dr_machine.specs.Votes.{HasLogged, IsOf, MajorityHas};
 ghost use Rattle.dr_words.specs.Masks.{IsLeastOf, without};
@@ -39,7 +38,8 @@ ghost use Rattle.dr_world_laws.specs.Historic.{AreLaid, HoldsMessages, IsMerged}
 ghost use Rattle.dr_world_laws.specs.Views.{AreViews, HasView, IsCovered};
 
 /// In every world that a group reaches its members agree: on their histories, on their logs, and on what
-/// is durable. So they do after every list of events, over any number of views.
+/// is durable, however late the words come that they push. So they do after every list of events, over any
+/// number of views.
 pub fn agreement()
     ensures reached { (g : Group) (w : World) → IsGroup g → IsReached g w → WorldAgreed g w }
     ensures events { (g : Group) (events : List Event) (w : World)
@@ -78,7 +78,11 @@ pub fn one_value()
     ensures committed { (g : Group) (w : World) (m : ℕ) (v : Value) → IsGroup g → IsReached g w
         → w.committed m ≡ Some v
         → (ballot : ℕ) × HaveVotedFor w.past.votes (w.members m) (w.past.view m) ballot v }
-    ensures one { (g : Group) (early late : World) (es : List Event) (m k : ℕ) (u v : Value) → IsGroup g
+    ensures one { (g : Group) (before : List World) (early late : World) (m k : ℕ) (u v : Value)
+        → IsGroup g → Way g before late → Contains (late ∷ before) early
+        → early.committed m ≡ Some u → late.committed k ≡ Some v
+        → early.past.view m ≡ late.past.view k → u ≡ v }
+    ensures events { (g : Group) (early late : World) (es : List Event) (m k : ℕ) (u v : Value) → IsGroup g
         → IsReached g early → Run g early es late
         → early.committed m ≡ Some u → late.committed k ≡ Some v
         → early.past.view m ≡ late.past.view k → u ≡ v }
@@ -94,9 +98,9 @@ pub fn values_are_cuts()
 
 /// In every world that a group reaches each word tells the truth of its owner: of what it has received,
 /// logged and sent, of whom it suspects, and, where it is an accept word, of what it has promised and
-/// voted. Each accept word of the table, and each that was seen, is 0 or was its owner's own word at a
-/// moment at which the owner was in that view and had the promise, the tag and the value that the word
-/// says.
+/// voted. Each accept word of the table, each that was seen, and each that is on its way, is 0 or was its
+/// owner's own word at a moment before, at which the owner was in that view and had the promise, the tag and
+/// the value that the word says.
 pub fn words_tell_the_truth()
     ensures faithful { (g : Group) (w : World) → IsGroup g → IsReached g w
         → (V : Views) × AreViews g w V × Faithful g V w }
@@ -107,17 +111,20 @@ pub fn words_tell_the_truth()
         → w.suspects m ≢ 0 → IsLeastOf (unsuspected_of w m) (w.promise m) }
     ensures votes { (g : Group) (V : Views) (w : World) → IsGroup g → IsReached g w → AreViews g w V
         → VotesTold g V w }
-    ensures moments { (g : Group) (V : Views) (w : World) → IsGroup g → IsReached g w → AreViews g w V
-        → AcceptsOfMoments g V w }
+    ensures moments { (g : Group) (V : Views) (before : List World) (w : World) → IsGroup g → Way g before w
+        → AreViews g w V → AcceptsOfMoments g V before w }
     ensures later { (g : Group) (w : World) → IsGroup g → IsReached g w → NoLaterItem g w }
 {}
 
-/// No event undoes what was done, or makes a word fall, while its member stays in its view.
+/// No event undoes what was done, or makes a word fall, while its member stays in its view. Nor does a word
+/// that arrives late. So each world on the way to another is reached, and the other has done all that it has.
 pub fn nothing_is_undone()
-    ensures words { (g : Group) (w : World) (e : Event) → IsGroup g → IsReached g w → Guard g w e
-        → WordsGrew g w (effect g w e) }
-    ensures past { (g : Group) (w : World) (e : Event) → IsGroup g → IsReached g w → Guard g w e
-        → PastGrew w.past (effect g w e).past }
+    ensures words { (g : Group) (before : List World) (w after : World) → IsGroup g → Way g before w
+        → Follows g before w after → WordsGrew g w after }
+    ensures past { (g : Group) (before : List World) (w after : World) → IsGroup g → Way g before w
+        → Follows g before w after → PastGrew w.past after.past }
+    ensures since { (g : Group) (before : List World) (early late : World) → IsGroup g → Way g before late
+        → Contains (late ∷ before) early → PastGrew early.past late.past × IsReached g early }
 {}
 
 /// Each history goes up to the View that its member is in, and then has the messages of the places that the

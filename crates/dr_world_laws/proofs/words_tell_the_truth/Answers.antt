@@ -1,7 +1,9 @@
+use Rattle.std.proofs.Common.{subst}
 use Rattle.dr_faithful.specs.Chosen.{views_by}
+use Rattle.dr_vote_laws.specs.Moments.{AcceptsOfMoments}
 use Rattle.dr_world_laws.proofs.HeldViews.{view-is}
 use Rattle.dr_world_laws.proofs.Telling.{moments-by, votes-by, words-by}
-use Rattle.dr_world_laws.proofs.Worlds.{known, no_later, told, waits}
+use Rattle.dr_world_laws.proofs.Worlds.{known, known_way, no_later, told, waits}
 use Rattle.dr_world_laws.proofs.words_tell_the_truth.Goals as goal
 
 pub returns : goal.returns
@@ -15,6 +17,7 @@ returns c = record {
   suspicions = λ g w is r. told g w is (known g w is r);
   promise = λ g w m is r l some. waits g w m is (known g w is r) l some;
   votes = λ g V w is r are. votes-by g V w is (known g w is r) are;
-  moments = λ g V w is r are. moments-by g V w is (known g w is r) are;
+  moments = λ g V before w is way are. subst (λ us. AcceptsOfMoments g V us w)
+      (known_way g before w is way) (moments-by g V w is (known g w is (before, way)) are);
   later = λ g w is r. no_later g w is (known g w is r);
 }

@@ -1,5 +1,6 @@
 use Rattle.std.proofs.Common.{arith}
 use Rattle.dr_history_laws.proofs.Keeping.{longest_keeps}
+use Rattle.dr_machine.proofs.Runs.{run_reached}
 use Rattle.dr_machine.specs.Run.{accounts_in}
 use Rattle.dr_restart.specs.Groups.{group_of}
 use Rattle.dr_world_laws.proofs.Worlds.{agreed, known}
@@ -11,5 +12,5 @@ returns c w next run is longest =
     let g = group_of c.args.script.now c.args.start.now in
     longest_keeps g.opening (group_of c.args.script.now next).opening (accounts_in w)
     (entries_of c.args.choice.now)
-    (agreed g w c.requires.group (known g w c.requires.group (c.args.events.now, run)))
+    (agreed g w c.requires.group (known g w c.requires.group (run_reached g w c.args.events.now run)))
     (c.requires.choice w run).entries longest (omega (arith, c.requires.later, is))

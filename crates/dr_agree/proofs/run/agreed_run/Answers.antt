@@ -1,4 +1,5 @@
 use Rattle.std.proofs.Common.{◌∙◌}
+use Rattle.dr_machine.proofs.Runs.{run_reached}
 use Rattle.dr_restart.specs.Groups.{group_of}
 use Rattle.dr_world.specs.Held.{its_world}
 use Rattle.dr_world_laws.proofs.Worlds.{Known, agreed, known, no_later}
@@ -14,7 +15,7 @@ returns c =
     c.args.events.now
     c.in_ok-world.ensures.script c.in_ok-world.ensures.start c.in_ok-world.ensures.opening c.run.ensures.run
     in
-    let y : Known g w = known g w c.requires.group (c.args.events.now, run) in
+    let y : Known g w = known g w c.requires.group (run_reached g w c.args.events.now run) in
     record {
       run = run;
       agreed = agreed g w c.requires.group y;

@@ -1,5 +1,6 @@
 use Rattle.std.proofs.Common.{rules, sym, ◌<◌, length, get_or}
-use Rattle.dr_examples.proofs.Carrying.{acts, appends, inside, looks, may_see, over, pushes, there_is}
+use Rattle.dr_examples.proofs.Carrying.{acts, appends, inside, looks, may_see, over, pushes, sound_on, there_is}
+use Rattle.dr_age.specs.Sound.{IsSound}
 use Rattle.dr_examples.proofs.members.take_deed.Goals as goal
 
 pub looked-requires : goal.looked-requires
@@ -31,32 +32,32 @@ bounds-words-index-in-Act c = inside c.args.members.now c.args.words.now c.args.
 
 pub returns-in-Look : goal.returns-in-Look
 returns-in-Look c = record {
-  sound = λ g is. looks g (over c.args.members.now c.args.words.now) c.args.m
-      (get_or c.args.members.now c.args.m c.index-members-m.result) c.looked.new.self c.in-Look.index is
+  sound = λ g is. looks (IsSound g) (over c.args.members.now c.args.words.now) c.args.m
+      (get_or c.args.members.now c.args.m c.index-members-m.result) c.looked.new.self c.in-Look.index (sound_on g (over c.args.members.now c.args.words.now) c.args.m is)
       (there_is c.args.members.now c.args.m c.index-members-m.result c.requires.within)
       (sym c.in-Look.ensures.deed) c.looked.ensures.after;
 }
 
 pub returns-in-Push : goal.returns-in-Push
 returns-in-Push c = record {
-  sound = λ g is. pushes g (over c.args.members.now c.args.words.now) c.args.m
+  sound = λ g is. pushes (IsSound g) (over c.args.members.now c.args.words.now) c.args.m
       (get_or c.args.members.now c.args.m c.index-members-m.result) c.pushed.new.self c.in-Push.index
-      c.in-Push.word is (there_is c.args.members.now c.args.m c.index-members-m.result c.requires.within)
+      c.in-Push.word (sound_on g (over c.args.members.now c.args.words.now) c.args.m is) (there_is c.args.members.now c.args.m c.index-members-m.result c.requires.within)
       (sym c.in-Push.ensures.deed) c.pushed.ensures.after;
 }
 
 pub returns-in-Act : goal.returns-in-Act
 returns-in-Act c = record {
-  sound = λ g is. acts g (over c.args.members.now c.args.words.now) c.args.m
+  sound = λ g is. acts (IsSound g) (over c.args.members.now c.args.words.now) c.args.m
       (get_or c.args.members.now c.args.m c.index-members-m.result) c.acted.new.self c.in-Act.index
-      c.in-Act.word is (there_is c.args.members.now c.args.m c.index-members-m.result c.requires.within)
+      c.in-Act.word (sound_on g (over c.args.members.now c.args.words.now) c.args.m is) (there_is c.args.members.now c.args.m c.index-members-m.result c.requires.within)
       (sym c.in-Act.ensures.deed) c.acted.ensures.after;
 }
 
 pub returns-in-Append : goal.returns-in-Append
 returns-in-Append c = record {
-  sound = λ g is. appends g (over c.args.members.now c.args.words.now) c.args.m
-      (get_or c.args.members.now c.args.m c.index-members-m.result) c.appended.new.self c.in-Append.field-0 is
+  sound = λ g is. appends (IsSound g) (over c.args.members.now c.args.words.now) c.args.m
+      (get_or c.args.members.now c.args.m c.index-members-m.result) c.appended.new.self c.in-Append.field-0 (sound_on g (over c.args.members.now c.args.words.now) c.args.m is)
       (there_is c.args.members.now c.args.m c.index-members-m.result c.requires.within)
       (sym c.in-Append.ensures.deed) c.appended.ensures.after;
 }

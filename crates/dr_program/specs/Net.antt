@@ -1,0 +1,59 @@
+-- A program over a net: its members are on different machines. Each has its own copy of the table, which it
+-- alone reads; what another member pushes to it comes later, more than once, or never.
+use Rattle.std.specs.Prelude.{◌≡◌, ◌⊎◌, ℕ, ◌<◌, Contains, List, [], ◌∷◌, max, slice_get, slice_index, slice_set, Some}
+use Rattle.dr_rows.specs.Words.{own}
+use Rattle.dr_words.specs.Layout.{word_index_of}
+use Rattle.dr_machine.specs.declared.step.Step.TheVariants.{Push}
+use Rattle.dr_machine.specs.Group.{Group, banks, columns, roster}
+use Rattle.dr_program.specs.Program.{Move, Program, step_of}
+use Rattle.dr_program.specs.Reading.{step_of_member}
+use Rattle.dr_program.specs.Running.{Running}
+
+-- member m of one of these programs was in this view, and this was its own word of the column
+abbrev pub HadWord : List Program → ℕ → ℕ → ℕ → ℕ → Type 0
+HadWord programs m v c word =
+    (p : Program) × Contains programs p × (r : Running) × (slice_get p.members m ≡ Some r)
+    × (r.replica.view ≡ v) × (own r.replica.rows c ≡ word)
+
+-- a member has pushed a word, and it is on its way: no copy has it yet
+pub record IsOnItsWay (p q : Program) : Type 0 where
+  pub move : Move
+  pub member : Running
+  pub there : slice_get p.members move.member ≡ Some member
+  pub to : ℕ
+  pub column : ℕ
+  pub push : step_of_member member ≡ Some (Push to column)
+  pub made : q ≡ record { members = (step_of p move).members; table = p.table }
+
+-- a word that a member had in one of these programs comes to a copy: the greater one of it and the word that
+-- stood there stands there then
+pub record HasCome (g : Group) (programs : List Program) (p q : Program) : Type 0 where
+  pub view : ℕ
+  pub copy : ℕ
+  pub row : ℕ
+  pub column : ℕ
+  pub word : ℕ
+  pub sent : HadWord programs row view column word
+  pub bank : view < banks g
+  pub to : copy < roster g
+  pub from : row < roster g
+  pub cell : column < columns g
+  pub made : let place = word_index_of (roster g) g.window view copy row column in
+      q ≡ record {
+        members = p.members;
+        table = slice_set p.table place (max (slice_index p.table place) word);
+      }
+
+-- a program that comes next, behind these ones, of which p is the last: by a deed, of which a push may be there
+-- at once; by a push that is not there yet; or as a word comes
+abbrev pub Goes : Group → List Program → Program → Program → Type 0
+Goes g before p q = ((e : Move) × (q ≡ step_of p e)) ⊎ (IsOnItsWay p q ⊎ HasCome g (p ∷ before) p q)
+
+-- the programs before this one, the last one first, from that on which begins
+abbrev pub NetWay : Group → Program → List Program → Program → Type 0
+NetWay g begun [] p = p ≡ begun
+NetWay g begun (x ∷ xs) p = NetWay g begun xs x × Goes g xs x p
+
+-- the program comes of some deeds of its members and of words that come
+abbrev pub IsRanOverNet : Group → Program → Program → Type 0
+IsRanOverNet g begun p = (before : List Program) × NetWay g begun before p

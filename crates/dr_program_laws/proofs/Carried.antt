@@ -1,0 +1,203 @@
+-- What the deeds of members and words that come make of a program whose words are carried by a net.
+use Rattle.std.proofs.Common.{◌≡◌, ◌∙◌, ap, arith, refl, subst, sym, true, ℕ, ◌<◌, [], All, Contains, List, ◌∷◌, length, slice_index}
+use Rattle.std.specs.Prelude.{max, slice_get, slice_set, None, Option, Some}
+use Rattle.std.proofs.lemmas.List.Elements.{All-cons, All-contains, All-nil, All-weaker}
+use Rattle.std.proofs.lemmas.Option.{same_Some}
+use Rattle.dr_entry.specs.declared.end.End.{End}
+use Rattle.dr_rows.specs.Words.{own}
+use Rattle.dr_words.proofs.Places.{word_index_within}
+use Rattle.dr_words.specs.Layout.{word_index_of}
+use Rattle.dr_machine.proofs.Runs.{is_before, stays_next}
+use Rattle.dr_machine.specs.declared.step.Step.TheVariants.{Push}
+use Rattle.dr_machine.specs.Group.{Group, IsGroup, banks, columns, roster}
+use Rattle.dr_machine.specs.Run.{Follows, IsReached}
+use Rattle.dr_machine.specs.World.{World}
+use Rattle.dr_program.specs.declared.packet.Packet.{Packet}
+use Rattle.dr_program.specs.Net.{IsOnItsWay}
+use Rattle.dr_program.specs.Program.{Move, Program, ok, step_of}
+use Rattle.dr_program.specs.Reading.{step_due, step_of_member, world}
+use Rattle.dr_program.specs.Replica.{is_other, me}
+use Rattle.dr_program.specs.Running.{Running, next_step}
+use Rattle.dr_program.specs.Steps.{allows, index_in}
+use Rattle.dr_refine.proofs.Deeds.{due_allowed, program_member, replicas, step_follows}
+use Rattle.dr_refine.proofs.Guards.{other_within}
+use Rattle.dr_refine.proofs.Members.{fits, inside}
+use Rattle.dr_refine.proofs.Tests.{cell_test}
+use Rattle.dr_refine.specs.Programs.{IsMember, IsProgram}
+use Rattle.dr_program_laws.proofs.Keeping.{move_kept}
+use Rattle.dr_program_laws.proofs.Nets.{come_follows, own_now, way_stays}
+use Rattle.dr_program_laws.specs.Carried.{IsCarried, WasSent}
+
+-- what was sent was so with one moment more
+sent_more : (g : Group) (us : List World) (w : World) (packet : Packet) → WasSent g us packet
+    → WasSent g (w ∷ us) packet
+sent_more g us w packet y = record {
+  view = y.view;
+  copy = y.copy;
+  row = y.row;
+  column = y.column;
+  bank = y.bank;
+  to = y.to;
+  from = y.from;
+  cell = y.cell;
+  place = y.place;
+  was = (y.was.0, is_before us w y.was.0 y.was.1, y.was.2, y.was.3);
+}
+
+all_sent : (g : Group) (us : List World) (w : World) (net : List Packet) → All (WasSent g us) net
+    → All (WasSent g (w ∷ us)) net
+all_sent g us w net all =
+    All-weaker (WasSent g us) (WasSent g (w ∷ us)) (sent_more g us w) net all
+
+-- a program begins so, and nothing is on its way
+pub carried_begins : (g : Group) (p : Program) → IsGroup g → IsProgram g p → IsReached g (world g p)
+    → IsCarried g p []
+carried_begins g p group form run = record {
+  group = group;
+  form = form;
+  before = run.0;
+  way = run.1;
+  sent = All-nil (WasSent g (world g p ∷ run.0));
+}
+
+-- a deed of a member, of which a push may be there at once, leaves it so
+pub carried_moves : (g : Group) (p : Program) (net : List Packet) (e : Move) → IsCarried g p net
+    → IsCarried g (step_of p e) net
+carried_moves g p net e y = record {
+  group = y.group;
+  form = (move_kept g p e y.group y.form (y.before, y.way)).0;
+  before = world g p ∷ y.before;
+  way = (y.way, step_follows g p e y.before y.group y.form);
+  sent = all_sent g (world g p ∷ y.before) (world g (step_of p e)) net y.sent;
+}
+
+-- a push that is due
+due_push : (r : Running) (j c : ℕ) → step_of_member r ≡ Some (Push j c)
+    → (r.replica.end ≡ None) × (next_step r ≡ Push j c)
+due_push r j c push = by r.replica.end refl push
+  where
+    by : (o : Option End) → r.replica.end ≡ o → step_due r o ≡ Some (Push j c)
+        → (r.replica.end ≡ None) × (next_step r ≡ Push j c)
+    by None e same = (e, same_Some (next_step r) (Push j c) same)
+    by (Some x) e same = absurd (cc)
+
+-- and so does a push whose word goes into a packet
+pub carried_pushes : (g : Group) (p : Program) (net : List Packet) (m : ℕ) (r : Running) (j c : ℕ)
+    → IsCarried g p net → slice_get p.members m ≡ Some r → step_of_member r ≡ Some (Push j c)
+    → IsCarried g (record { members = (step_of p (ok m)).members; table = p.table })
+    (record { index = index_in r.replica j (me r.replica) c; word = own r.replica.rows c } ∷ net)
+carried_pushes g p net m r j c y there push = record {
+  group = y.group;
+  form = record { all = kept.all; form = kept.form; of = kept.of; table = y.form.table };
+  before = world g p ∷ y.before;
+  way = (
+    y.way,
+    subst (Follows g y.before (world g p)) (sym (way_stays g p q y.group y.form on))
+        (stays_next g y.before (world g p)),
+  );
+  sent = All-cons (WasSent g (world g q ∷ world g p ∷ y.before)) packet net
+      (sent_more g (world g p ∷ y.before) (world g q) packet new)
+      (all_sent g (world g p ∷ y.before) (world g q) net y.sent);
+}
+  where
+    q : Program
+    q = record { members = (step_of p (ok m)).members; table = p.table }
+
+    packet : Packet
+    packet = record { index = index_in r.replica j (me r.replica) c; word = own r.replica.rows c }
+
+    kept : IsProgram g (step_of p (ok m))
+    kept = (move_kept g p (ok m) y.group y.form (y.before, y.way)).0
+
+    on : IsOnItsWay p q
+    on = record {
+      move = ok m;
+      member = r;
+      there = there;
+      to = j;
+      column = c;
+      push = push;
+      made = refl;
+    }
+
+    member : IsMember g (replicas p.members) p.table m r.replica
+    member = program_member g p m r y.group y.form there
+
+    cell : (is_other r.replica j ≡ true) × (c < columns g)
+    cell = (cell_test g (replicas p.members) p.table m r.replica j c member).0
+        (subst (λ s. allows r.replica s ≡ true) (due_push r j c push).1
+        (due_allowed r ((y.form.form m r there).due (due_push r j c push).0)))
+
+    new : WasSent g (world g p ∷ y.before) packet
+    new = record {
+      view = r.replica.view;
+      copy = j;
+      row = m;
+      column = c;
+      bank = (fits g (replicas p.members) p.table m r.replica member).bank;
+      to = other_within g (replicas p.members) p.table m r.replica j member cell.0;
+      from = inside g m r.replica.rows r.replica.view (fits g (replicas p.members) p.table m r.replica member);
+      cell = cell.1;
+      place = λ z. word_index_of (member.of.members z) (member.of.window z) r.replica.view j
+          (member.of.number z) c;
+      was = own_now g p m r c y.before there;
+    }
+
+-- packets among those on their way are on their way
+pub carried_among : (g : Group) (p : Program) (net other : List Packet) → IsCarried g p net
+    → All (Contains net) other → IsCarried g p other
+carried_among g p net other y among = record {
+  group = y.group;
+  form = y.form;
+  before = y.before;
+  way = y.way;
+  sent = All-weaker (Contains net) (WasSent g (world g p ∷ y.before))
+      (λ packet c. All-contains (WasSent g (world g p ∷ y.before)) net packet y.sent c) other among;
+}
+
+-- each goes to a place of the table
+pub carried_place : (g : Group) (p : Program) (net : List Packet) (packet : Packet) → IsCarried g p net
+    → Contains net packet → packet.index < length p.table
+carried_place g p net packet y on =
+    let one = All-contains (WasSent g (world g p ∷ y.before)) net packet y.sent on in
+    omega (
+      arith,
+      one.place,
+      y.form.table,
+      word_index_within (roster g) g.window (banks g) one.view one.copy one.row one.column
+          one.bank one.to one.from one.cell,
+    )
+
+-- the word of one that comes leaves it so
+pub carried_comes : (g : Group) (p : Program) (net : List Packet) (packet : Packet) → IsCarried g p net
+    → Contains net packet → IsCarried g (record {
+      members = p.members;
+      table = slice_set p.table packet.index (max (slice_index p.table packet.index) packet.word);
+    }) net
+carried_comes g p net packet y on =
+    subst (λ index. IsCarried g (record {
+      members = p.members;
+      table = slice_set p.table index (max (slice_index p.table index) packet.word);
+    }) net) (sym one.place) (record {
+      group = y.group;
+      form = next.0;
+      before = world g p ∷ y.before;
+      way = (y.way, next.1);
+      sent = all_sent g (world g p ∷ y.before) (world g q) net y.sent;
+    })
+  where
+    one : WasSent g (world g p ∷ y.before) packet
+    one = All-contains (WasSent g (world g p ∷ y.before)) net packet y.sent on
+
+    place : ℕ
+    place = word_index_of (roster g) g.window one.view one.copy one.row one.column
+
+    q : Program
+    q = record {
+      members = p.members;
+      table = slice_set p.table place (max (slice_index p.table place) packet.word);
+    }
+
+    next : IsProgram g q × Follows g y.before (world g p) (world g q)
+    next = come_follows g y.before p one.view one.copy one.row one.column packet.word y.form
+        one.bank one.to one.from one.cell one.was
