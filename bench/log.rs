@@ -1,4 +1,4 @@
-//! The appends and mounts of `dr_bench_log` in plain Rust, over a `Vec<u8>`: the same bytes, the same
+//! The appends and mounts of `dr_bench` in plain Rust, over a `Vec<u8>`: the same bytes, the same
 //! tests of what is read, the same line at the end.
 
 #[path = "log/file.rs"]

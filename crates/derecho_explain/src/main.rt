@@ -17,9 +17,6 @@ use dr_io::{InputSource, OutputSink};
 use std::process::ExitCode;
 pub use top::explain;
 
-#[cfg(test)]
-mod tests;
-
 fn main(rt: HostRuntime) -> ExitCode {
     let alloc = rt.alloc();
     let Ok(words) = words_of(&rt, alloc) else {

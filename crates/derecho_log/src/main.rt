@@ -14,9 +14,6 @@ use std::io;
 use std::process::ExitCode;
 use std::rt::Files;
 
-#[cfg(test)]
-mod tests;
-
 fn main(rt: HostRuntime) -> ExitCode {
     let alloc = rt.alloc();
     let Ok(names) = words_of(&rt, alloc) else {

@@ -7,6 +7,7 @@ pub record IsBounded (g : Group) : Type 0 where
   pub some : 1 ≤ g.members
   pub most : g.members ≤ 16
   pub messages : g.messages ≤ 4096
+  pub size : g.size ≤ 64
   pub minority : 2 * g.suspected < g.members
   pub from : 1 ≤ g.from
   pub timely : g.from ≤ g.turns

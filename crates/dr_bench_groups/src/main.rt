@@ -1,27 +1,50 @@
-//! Runs a group, so that a clock outside can tell its speed.
+//! Runs a group, by its schedule or in threads, so that a clock outside can tell its speed.
 #![tactic(auto)]
 
+ghost use Rattle.dr_script.specs.Ranges.{HasRanges};
+
+mod ends;
 mod members;
+mod pace;
+mod run;
+mod task;
 
-use dr_script::Schedule;
-use members::{Group, MEMBERS, TURNS, members};
+use dr_entry::AgeEnd;
+use dr_pace::{Pace, SnoozePace};
+use dr_script::{Schedule, Script};
+use ends::ends_of;
+use members::{Group, bounded, members, script_of};
+use pace::{FreePace, SpinPace, Sums, TimedPace};
+use run::{in_threads, simulated};
+use std::alloc::{AllocError, Global};
+use std::io;
 use std::process::ExitCode;
-use std::rt::Env;
-use std::{env, io};
-
-/// The seed of seeded groups.
-const SEED: u64 = 7;
-
-/// The turn in which member 0 suspects others, where no word tells it.
-const FROM: u32 = 2;
+use std::thread::Threads;
+use std::time::Clock;
+use task::{Mode, Task, read_task};
 
 fn main(rt: HostRuntime) -> io::Result<ExitCode> {
-    let Some(group) = read_group(&rt)? else {
-        println!(rt;
-            "usage: dr_bench_groups lockstep|seeded MESSAGES [SENDERS [SUSPECTED [TURNS [MEMBERS [FROM]]]]]"
-        )?;
-        return Ok(ExitCode::from(2));
-    };
+    match read_task(&rt)? {
+        Some(Task::Scheduled(group)) => by_schedule(&rt, group),
+        Some(Task::Threads(group, mode, has_times)) => {
+            let script = script_of(rt.alloc(), bounded(group))?;
+            let (age, sums) = ended(&rt, rt.alloc(), mode, has_times, &script)?;
+            print_ends(&rt, &age, sums)
+        }
+        None => {
+            println!(rt;
+                "usage: dr_bench_groups lockstep|seeded MESSAGES [SENDERS [SUSPECTED [TURNS [MEMBERS [FROM]]]]]"
+            )?;
+            println!(rt;
+                "    or dr_bench_groups MEMBERS MESSAGES SIZE sim|free|spin|yield [times]"
+            )?;
+            Ok(ExitCode::from(2))
+        }
+    }
+}
+
+/// Runs a group by its schedule, and prints what came of it.
+fn by_schedule(rt: &HostRuntime, group: Group) -> io::Result<ExitCode> {
     let name = match group.schedule {
         Schedule::Lockstep => "lockstep",
         Schedule::Seed(_) => "seeded",
@@ -33,59 +56,53 @@ fn main(rt: HostRuntime) -> io::Result<ExitCode> {
     Ok(ExitCode::SUCCESS)
 }
 
-/// The group in the words behind the program's name; `None` where they are none. A number that no word tells
-/// is that of the largest group, in which nobody is suspected.
-fn read_group(rt: &(impl Env + AllocGlobal)) -> io::Result<Option<Group>> {
-    let mut words = env::args(rt)?.skip(1);
-    let (Some(schedule), Some(messages)) = (words.next(), words.next()) else {
-        return Ok(None);
-    };
-    let (senders, suspected, turns) = (words.next(), words.next(), words.next());
-    let (members, from, None) = (words.next(), words.next(), words.next()) else {
-        return Ok(None);
-    };
-    let schedule = match schedule.as_str() {
-        "lockstep" => Schedule::Lockstep,
-        "seeded" => Schedule::Seed(SEED),
-        _ => return Ok(None),
-    };
-    let (Some(messages), Some(senders), Some(suspected)) = (
-        large_or(0, Some(messages.as_str())),
-        small_or(MEMBERS, senders.as_deref()),
-        small_or(0, suspected.as_deref()),
-    ) else {
-        return Ok(None);
-    };
-    let (Some(turns), Some(members), Some(from)) = (
-        large_or(TURNS, turns.as_deref()),
-        small_or(MEMBERS, members.as_deref()),
-        large_or(FROM, from.as_deref()),
-    ) else {
-        return Ok(None);
-    };
-    Ok(Some(Group {
-        schedule,
-        members,
-        senders,
-        messages,
-        suspected,
-        from,
-        turns,
-    }))
+/// Prints how an age in threads ended, and the times that are to be told.
+fn print_ends(rt: &HostRuntime, age: &AgeEnd, sums: Option<Sums>) -> io::Result<ExitCode> {
+    let ends = ends_of(age);
+    let (done, agreed, entries) = (ends.done, ends.agreed, ends.entries);
+    println!(rt;
+        "done {done} agreed {agreed} entries {entries} checksum {:016x}",
+        ends.checksum
+    )?;
+    if let Some(sums) = sums {
+        let (turns, least) = (sums.turns, sums.least);
+        let (turning, backing_off) = (sums.turning, sums.backing_off);
+        println!(rt; "turns {turns} turning {turning} least {least} backing-off {backing_off}")?;
+    }
+    Ok(ExitCode::SUCCESS)
 }
 
-/// The number in a word, or this one where there is no word.
-fn small_or(default: u8, word: Option<&str>) -> Option<u8> {
-    match word {
-        Some(word) => word.parse().ok(),
-        None => Some(default),
+/// How the age of a script ended in this mode, with the times that are to be told.
+fn ended<R: Threads + Clock + Sync>(
+    rt: &R,
+    alloc: Global,
+    mode: Mode,
+    has_times: bool,
+    script: &Script,
+) -> Result<(AgeEnd, Option<Sums>), AllocError>
+    requires ranges { HasRanges script.now }
+{
+    match (mode, has_times) {
+        (Mode::Sim, _) => Ok((simulated(alloc, script)?, None)),
+        (Mode::Free, false) => Ok((in_threads(rt, alloc, script, &FreePace)?, None)),
+        (Mode::Spin, false) => Ok((in_threads(rt, alloc, script, &SpinPace)?, None)),
+        (Mode::Yield, false) => Ok((in_threads(rt, alloc, script, &SnoozePace)?, None)),
+        (Mode::Free, true) => timed(rt, alloc, script, FreePace),
+        (Mode::Spin, true) => timed(rt, alloc, script, SpinPace),
+        (Mode::Yield, true) => timed(rt, alloc, script, SnoozePace),
     }
 }
 
-/// The same of larger numbers.
-fn large_or(default: u32, word: Option<&str>) -> Option<u32> {
-    match word {
-        Some(word) => word.parse().ok(),
-        None => Some(default),
-    }
+/// How it ended in threads at this pace, with the times of their turns.
+fn timed<R: Threads + Clock + Sync, P: Pace + Sync + Drop>(
+    rt: &R,
+    alloc: Global,
+    script: &Script,
+    pace: P,
+) -> Result<(AgeEnd, Option<Sums>), AllocError>
+    requires ranges { HasRanges script.now }
+{
+    let pace = TimedPace::new(alloc, rt, pace)?;
+    let age = in_threads(rt, alloc, script, &pace)?;
+    Ok((age, Some(pace.sums())))
 }

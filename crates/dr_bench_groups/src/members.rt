@@ -44,6 +44,8 @@ pub struct Group {
     /// How many members have messages, the first ones, and how many each of these.
     pub senders: u8,
     pub messages: u32,
+    /// The bytes of a message.
+    pub size: usize,
     /// How many members, the last ones, member 0 suspects, and in which turn.
     pub suspected: u8,
     pub from: u32,
@@ -51,7 +53,7 @@ pub struct Group {
     pub turns: u32,
 }
 
-/// Runs a group from its opening to the ends of all members, over logs in memory. Messages have 64 bytes.
+/// Runs a group from its opening to the ends of all members, over logs in memory.
 #[inline(never)]
 pub fn members(alloc: Global, group: Group) -> Result<Tally, AllocError> {
     let script = script_of(alloc, bounded(group))?;
@@ -62,7 +64,7 @@ pub fn members(alloc: Global, group: Group) -> Result<Tally, AllocError> {
 }
 
 /// The group within the bounds of a script, in which those that aren't suspected are a majority.
-fn bounded(group: Group) -> Group
+pub fn bounded(group: Group) -> Group
     ensures { IsBounded result }
 {
     let members = group.members.max(1).min(MEMBERS);
@@ -70,6 +72,7 @@ fn bounded(group: Group) -> Group
     Group {
         members,
         messages: group.messages.min(MOST_MESSAGES),
+        size: group.size.min(MAX_MESSAGE_LENGTH),
         suspected: group.suspected.min((members - 1) / 2),
         from: group.from.max(1).min(turns),
         turns,
@@ -77,7 +80,8 @@ fn bounded(group: Group) -> Group
     }
 }
 
-fn script_of(alloc: Global, group: Group) -> Result<Script, AllocError>
+/// The script of such a group.
+pub fn script_of(alloc: Global, group: Group) -> Result<Script, AllocError>
     requires { IsBounded group }
     ensures { IfOk result HasRanges }
 {
@@ -134,32 +138,39 @@ fn lists_of(alloc: Global, group: Group) -> Result<Vec<Seq<Message>>, AllocError
         } else {
             0
         };
-        lists.push(Seq::of(messages_of(alloc, me, count)?))?;
+        lists.push(Seq::of(messages_of(alloc, me, count, group.size)?))?;
     }
     Ok(lists)
 }
 
 /// The messages of one member.
-fn messages_of(alloc: Global, me: u8, messages: u32) -> Result<Vec<Message>, AllocError>
+fn messages_of(
+    alloc: Global,
+    me: u8,
+    messages: u32,
+    size: usize,
+) -> Result<Vec<Message>, AllocError>
+    requires { size ≤ 64 }
     ensures count { IfOk result (λ list. length list.items ≡ messages) }
     ensures short { IfOk result (λ list. All (λ bytes. length bytes ≤ 64) list.items) }
     ensures bytes { IfOk result (λ list. All (All (λ byte. byte < 256)) list.items) }
 {
     let mut list = Vec::with_capacity(alloc, messages as usize)?;
     for index in 0..messages {
-        list.push(numbered(me, index))?;
+        list.push(numbered(me, index, size))?;
     }
     Ok(list)
 }
 
-/// The message of a member with this index: 64 letters that follow one another, from another one on
-/// each time.
-fn numbered(me: u8, index: u32) -> Message
+/// The message of a member with this index: letters that follow one another, from another one on each
+/// time.
+fn numbered(me: u8, index: u32, size: usize) -> Message
+    requires { size ≤ 64 }
     ensures short { length result ≤ 64 }
     ensures bytes { All (λ byte. byte < 256) result }
 {
     let first = ((31 * u32::from(me) + 7 * (index % 26)) % 26) as usize;
-    message_of(&LETTERS[first..first + MAX_MESSAGE_LENGTH])
+    message_of(&LETTERS[first..first + size])
 }
 
 /// The message of these bytes.
@@ -228,6 +239,6 @@ fn mixed_vote(sum: u64, vote: &Vote) -> u64 {
 }
 
 /// A number made of numbers, in their order.
-fn mixed(sum: u64, word: u64) -> u64 {
+pub fn mixed(sum: u64, word: u64) -> u64 {
     sum.wrapping_mul(31).wrapping_add(word)
 }

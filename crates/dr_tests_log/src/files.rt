@@ -1,7 +1,7 @@
-//! Logs byte by byte.
+//! Logs byte by byte. What is read of others shows `tools/check-examples`.
 use crate::records::{append, has_first};
 use dr_disk::{CalmDisk, Disk};
-use dr_log::{Log, LogFault, MountFault, MountWhy};
+use dr_log::{Log, LogFault, MountFault};
 use std::alloc::Global;
 use std::test::Fail;
 
@@ -75,46 +75,5 @@ fn a_full_log_stays_as_it_is(rt: HostRuntime) -> Result<(), Fail> {
     assert_eq!(rt; append(&mut log, 1)?, Err(LogFault::LogFull { len: 16 }));
     assert!(rt; has_first(alloc, &log, 1)? && log.len() == 16 && !log.failed());
     assert!(rt; reads_as(alloc, log, VIEW)?);
-    Ok(())
-}
-
-#[test]
-fn only_the_gate_1_is_open(rt: HostRuntime) -> Result<(), Fail> {
-    let alloc = rt.alloc();
-    for (gate, count) in [(0, 1), (0x37, 1), (0xff, 1), (1, 2)] {
-        let bytes = joined(alloc, VIEW, gate, MESSAGE)?;
-        let Ok(log) = mount(alloc, bytes.as_slice(), LIMIT)? else {
-            return Err(Fail::from("a log was refused"));
-        };
-        assert!(rt; has_first(alloc, &log, count)?, "the gate {gate}");
-    }
-    Ok(())
-}
-
-#[test]
-fn a_short_file_is_a_new_log(rt: HostRuntime) -> Result<(), Fail> {
-    let alloc = rt.alloc();
-    for bytes in [[0xff; 9].as_slice(), b"DERLOG01\x01", b"DERLOG01\x00\xff"] {
-        let Ok(log) = mount(alloc, bytes, LIMIT)? else {
-            return Err(Fail::from("a short file was refused"));
-        };
-        assert!(rt; has_first(alloc, &log, 0)? && log.len() == 9);
-    }
-    Ok(())
-}
-
-#[test]
-fn damage_is_told_by_its_place(rt: HostRuntime) -> Result<(), Fail> {
-    let alloc = rt.alloc();
-    let open = joined(alloc, VIEW, 1, b"")?;
-    for (bytes, at) in [
-        (b"DERLOG00\x00\x00".as_slice(), 0),
-        (b"DERLOG01\x01\x09", 8),
-        (&VIEW[..15], 15),
-        (open.as_slice(), 15),
-    ] {
-        let why = mount(alloc, bytes, LIMIT)?.err().map(|fault| fault.why);
-        assert_eq!(rt; why, Some(MountWhy::Damaged { at }), "{bytes:?}");
-    }
     Ok(())
 }

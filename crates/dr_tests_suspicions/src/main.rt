@@ -3,10 +3,11 @@
 //! views, then the votes on each log, and the report of the ages. Members may suspect each other, by script
 //! and by patience, and go on in next views.
 //!
-//! The scripts on its standard input were drawn at random, but for the first eight, and what it has to
-//! print was computed for them by another program, apart from this repository. In sixty-seven of them
-//! members come to a second view, in fifteen members of one view vote by several ballots, in twenty-three a
-//! message is sent again, and in the eighth a member learns that it is excluded.
+//! The scripts at the front of its standard input were drawn at random, but for the first eight, and what
+//! it has to print was computed for them by another program, apart from this repository. In sixty-seven of
+//! them members come to a second view, in fifteen members of one view vote by several ballots, in
+//! twenty-three a message is sent again, and in the eighth a member learns that it is excluded. The others
+//! stand behind lines that begin with `#` and say what was worked out for them by hand.
 #![tactic(auto)]
 
 use anyhow::anyhow;
@@ -28,7 +29,12 @@ const LOG_LIMIT: u64 = 1 << 31;
 
 fn main(rt: HostRuntime) -> anyhow::Result<()> {
     for line in BufReader::new(rt.alloc(), rt.reader())?.lines(rt.alloc()) {
-        let (end, disks) = ended(&rt, rt.alloc(), line?.as_bytes())?;
+        let line = line?;
+        if line.as_str().starts_with('#') {
+            println!(rt; "{line}")?;
+            continue;
+        }
+        let (end, disks) = ended(&rt, rt.alloc(), line.as_bytes())?;
         for age in end.ages.as_slice() {
             print_members(&rt, age)?;
         }

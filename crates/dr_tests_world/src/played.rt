@@ -1,0 +1,110 @@
+//! A world, with the events that it was offered.
+use crate::events::event_of;
+use crate::printing::push_world;
+use dr_agree::agreed_run;
+use dr_restart::first_start;
+use dr_script::read_script;
+use dr_words::Shape;
+use dr_world::{Event, World};
+use std::alloc::{AllocError, Global};
+use std::fmt::Write;
+
+/// The world of a script, and all events that it was offered.
+#[derive(Drop)]
+pub(crate) struct Played {
+    script: String,
+    world: World,
+    events: Vec<Event>,
+}
+
+impl Played {
+    /// The world of this script as its first age opens.
+    pub(crate) fn open(alloc: Global, script: &str) -> anyhow::Result<Played> {
+        Ok(Played {
+            script: String::from_str(alloc, script)?,
+            world: run_of(alloc, script, &[])?,
+            events: Vec::new(alloc),
+        })
+    }
+
+    /// What a word with these numbers asks for, where it asks for something.
+    pub(crate) fn answer(
+        &mut self,
+        alloc: Global,
+        name: &str,
+        numbers: &[u8],
+    ) -> anyhow::Result<Option<String>> {
+        let mut said = String::new(alloc);
+        match (name, numbers) {
+            ("world", []) => push_world(&mut said, &self.world)?,
+            ("again", []) => {
+                let world = run_of(alloc, self.script.as_str(), self.events.as_slice())?;
+                push_world(&mut said, &world)?;
+            }
+            ("word", &[m, row, column]) => push_word(&mut said, &self.world, m, row, column)?,
+            ("show", &[from, to, first, end]) => {
+                said.push_str(if self.show(from, to, first, end)? {
+                    ": seen"
+                } else {
+                    ": not seen"
+                })?;
+            }
+            _ => match event_of(name, numbers) {
+                Some(event) => said.push_str(if self.take(event)? {
+                    ": came"
+                } else {
+                    ": may not come"
+                })?,
+                None => return Ok(None),
+            },
+        }
+        Ok(Some(said))
+    }
+
+    /// Offers the world an event; whether it came.
+    fn take(&mut self, event: Event) -> Result<bool, AllocError> {
+        let came = self.world.step(&event);
+        self.events.push(event)?;
+        Ok(came)
+    }
+
+    /// A member pushes its words of these columns to another, which looks at them; whether all this came.
+    fn show(&mut self, from: u8, to: u8, first: u8, end: u8) -> Result<bool, AllocError> {
+        let mut came = true;
+        for column in first..end {
+            let c = usize::from(column);
+            came &= self.take(Event::Push { m: from, j: to, c })?;
+            came &= self.take(Event::Look { m: to, i: from, c })?;
+        }
+        Ok(came)
+    }
+}
+
+/// The world of a script behind these events in its first age.
+fn run_of(alloc: Global, script: &str, events: &[Event]) -> anyhow::Result<World> {
+    let script = read_script(alloc, script.as_bytes())?;
+    let start = first_start(alloc, &script);
+    Ok(agreed_run(alloc, &script, &start, events)?)
+}
+
+/// Appends a word of a member's copy, where there is one.
+fn push_word(
+    out: &mut String,
+    world: &World,
+    m: u8,
+    row: u8,
+    column: u8,
+) -> Result<(), AllocError> {
+    let members = world.members();
+    let shape = Shape {
+        members,
+        window: world.script().window,
+        banks: members,
+    };
+    let column = usize::from(column);
+    if m < members && row < members && column < shape.columns() {
+        let word = world.word(m, row, column);
+        write!(out, ": {word:016x}")?;
+    }
+    Ok(())
+}
