@@ -1,5 +1,5 @@
-//! A group of members in plain Rust, deed by deed: the turns that `dr_machine` defines, to measure
-//! the proved members by.
+//! A group of members in plain Rust: the turns that `dr_machine` defines, to measure the proved members by. It goes
+//! deed by deed, or in lockstep with the looks of a row, and the pushes to a member, taken at once.
 
 #[path = "log/file.rs"]
 #[allow(dead_code)]
@@ -36,6 +36,8 @@ struct Task {
     bytes: u8,
     /// `None` for lockstep.
     seed: Option<u64>,
+    /// In lockstep, rows are taken whole.
+    by_rows: bool,
     turns: u32,
     /// How many members, the last ones, member 0 suspects, and in which turn.
     suspected: usize,
@@ -68,7 +70,7 @@ fn read_task(words: &[String]) -> Option<Task> {
         return None;
     }
     let seed = match words[5].as_str() {
-        "lockstep" => None,
+        "lockstep" | "rows" => None,
         seed => Some(seed.parse().ok()?),
     };
     let members = number(&words[0], 1, 16)?;
@@ -83,6 +85,7 @@ fn read_task(words: &[String]) -> Option<Task> {
         totals: totals.collect(),
         bytes: number(&words[4], 0, MAX_MESSAGE)? as u8,
         seed,
+        by_rows: words[5] == "rows",
         turns: number_or(MOST_TURNS, rest.first(), 1, MOST_TURNS)? as u32,
         suspected: number_or(0, rest.get(1), 0, members - 1)?,
         from: number_or(FROM, rest.get(2), 1, MOST_TURNS)? as u32,
@@ -155,7 +158,7 @@ fn main() -> ExitCode {
     let words: Vec<String> = env::args().skip(1).collect();
     let Some(task) = read_task(&words) else {
         println!(
-            "usage: members MEMBERS WINDOW SENDERS MESSAGES BYTES lockstep|SEED [TURNS [SUSPECTED [FROM]]] [report]"
+            "usage: members MEMBERS WINDOW SENDERS MESSAGES BYTES lockstep|rows|SEED [TURNS [SUSPECTED [FROM]]] [report]"
         );
         return ExitCode::from(2);
     };
@@ -166,7 +169,7 @@ fn main() -> ExitCode {
     let mut group = Group::begin(task.shape, &task.totals, task.bytes, task.turns, suspected);
     let schedule = match task.seed {
         None => {
-            group.run_lockstep();
+            group.run_lockstep(task.by_rows);
             "lockstep"
         }
         Some(seed) => {

@@ -55,6 +55,22 @@ impl Group {
         }
     }
 
+    /// The same, with the looks of a row, or the pushes to a member, taken at once.
+    fn turn_by_rows(&mut self, m: usize) {
+        let member = &mut self.members[m];
+        let log = &mut self.logs[m];
+        loop {
+            let row = member.take_row(&mut self.table);
+            self.deeds += row.unwrap_or_else(|| {
+                step(member, &mut self.table, log);
+                1
+            });
+            if member.is_between_turns() {
+                return;
+            }
+        }
+    }
+
     /// The members that haven't ended, ascending.
     fn living(&self) -> Vec<usize> {
         (0..self.members.len())
@@ -62,12 +78,17 @@ impl Group {
             .collect()
     }
 
-    /// In each round each member without an end takes one whole turn, ascending.
-    pub fn run_lockstep(&mut self) {
+    /// In each round each member without an end takes one whole turn, ascending: deed by deed, or with its rows
+    /// taken whole.
+    pub fn run_lockstep(&mut self, by_rows: bool) {
         let mut living = self.living();
         while !living.is_empty() {
             for m in &living {
-                self.turn(*m);
+                if by_rows {
+                    self.turn_by_rows(*m);
+                } else {
+                    self.turn(*m);
+                }
             }
             living.retain(|m| self.members[*m].end.is_none());
         }

@@ -913,6 +913,30 @@ impl Member {
     }
 }
 
+/// Rows taken whole, over a table at which nobody else looks.
+#[allow(dead_code)]
+impl Member {
+    /// Takes the looks of a row or the pushes to a member, where it stands at them, and counts them.
+    #[inline]
+    pub fn take_row(&mut self, table: &mut [u64]) -> Option<u64> {
+        let columns = self.rows.columns;
+        match self.place {
+            Place::Look { row, .. } => {
+                self.rows.copy_row(row, &table[self.own_copy + row * columns..][..columns]);
+                self.place = self.seek_look(row + 1);
+                Some(columns as u64)
+            }
+            Place::Push { to, .. } => {
+                let own_row = self.bank + to * self.copy_words + self.rows.own_row;
+                let pushes = self.rows.write_row(to, &mut table[own_row..][..columns]);
+                self.place = self.seek_push(to + 1);
+                Some(pushes)
+            }
+            _ => None,
+        }
+    }
+}
+
 fn has(mask: u16, member: usize) -> bool {
     (mask >> member) & 1 == 1
 }

@@ -237,6 +237,30 @@ impl Rows {
     }
 }
 
+/// Whole rows at once, over words that nobody else looks at.
+#[allow(dead_code)]
+impl Rows {
+    /// Looks at all words of a row.
+    pub fn copy_row(&mut self, row: usize, words: &[u64]) {
+        self.row_mut(row).copy_from_slice(words);
+    }
+
+    /// Pushes the own words that have changed to a member's copy of the own row, and counts them.
+    pub fn write_row(&mut self, to: usize, words: &mut [u64]) -> u64 {
+        let own = &self.words[self.own_row..][..self.columns];
+        let sent = &mut self.sent[to * self.columns..][..self.columns];
+        let mut pushes = 0;
+        for ((own, sent), word) in own.iter().zip(sent).zip(words) {
+            if own != sent {
+                *word = *own;
+                *sent = *own;
+                pushes += 1;
+            }
+        }
+        pushes
+    }
+}
+
 /// Whole rows at once, over words that other threads share.
 #[allow(dead_code)]
 impl Rows {

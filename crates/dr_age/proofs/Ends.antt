@@ -1,10 +1,10 @@
 -- The logs of an age: how they begin, and what has come of them where all members have ended.
-use Rattle.std.proofs.Common.{◌≡◌, refl, sym, ap, ◌∙◌, subst, inl, inr, ℕ, ◌+◌, ◌*◌, ◌<◌, ◌≤◌, false, List, [], ◌∷◌, ◌++◌, length, map, take, true≢false, arith, le_trans, length-take}
+use Rattle.std.proofs.Common.{◌≡◌, refl, sym, ap, ◌∙◌, subst, inl, inr, ℕ, ◌+◌, ◌*◌, ◌<◌, ◌≤◌, false, List, [], ◌∷◌, ◌++◌, length, map, drop, drop_at, take, true≢false, arith, le_trans, length-append, length-take}
 use Rattle.std.proofs.Math.Nat.{mul-le-mul}
 use Rattle.std.proofs.lemmas.List.{length-map}
 use Rattle.std.specs.Prelude.{All, IsTrue, Option, None, Some, is_some, option_map, slice_get, slice_index_or, unwrap_or}
 use Rattle.std.proofs.lemmas.Option.{get_or_from_slice_get, same_Some, slice_get-get_or, slice_get-map, slice_get_cases, slice_get_within}
-use Rattle.std.proofs.lemmas.List.Elements.{All-take}
+use Rattle.std.proofs.lemmas.List.Elements.{All-drop, All-take}
 use Rattle.std.proofs.lemmas.List.Sums.{sum_by-append, sum_by-le}
 use Rattle.dr_disk.specs.Disk.{Told}
 use Rattle.dr_entry.specs.declared.end.End.{End}
@@ -20,7 +20,7 @@ use Rattle.dr_entry.specs.Spelling.{IsValidEntry, vote_spelling}
 use Rattle.dr_entry.proofs.Trims.{counts_length}
 use Rattle.dr_history.specs.Order.{first_entries}
 use Rattle.dr_log.specs.State.{LogState}
-use Rattle.dr_log.specs.Standing.{block_length, log_length}
+use Rattle.dr_log.specs.Standing.{block_length, log_length, votes_length}
 use Rattle.dr_log.proofs.Growing.{short_block, short_log_length}
 use Rattle.dr_machine.specs.Group.{Group, IsGroup, roster}
 use Rattle.dr_program.specs.declared.outcome.LogWhy.{LogWhy}
@@ -216,6 +216,13 @@ short_vote v few = omega (
   length-take v.members v.value.trim,
 )
 
+short_votes : (vs : List Vote) → All (λ (v : Vote). v.members ≤ MAX_MEMBERS) vs
+    → votes_length vs ≤ 73 * length vs
+short_votes vs few =
+    let votes = sum_by-le (λ (v : Vote). 1 + length (vote_spelling v)) 73 vs
+    (λ k d l. short_vote (slice_index_or vs k d) (few k d l)) in
+    omega (arith, votes)
+
 -- so a log of some votes, with these entries and votes more, is no longer than this
 pub long_log : (vs : List Vote) (es : List Entry) (ws : List Vote) → All IsValidEntry es
     → All (λ (v : Vote). v.members ≤ MAX_MEMBERS) ws
@@ -223,9 +230,7 @@ pub long_log : (vs : List Vote) (es : List Entry) (ws : List Vote) → All IsVal
 long_log vs es ws valid few =
     let entries = short_log_length es valid in
     let both = sum_by-append (λ (v : Vote). 1 + length (vote_spelling v)) vs ws in
-    let votes = sum_by-le (λ (v : Vote). 1 + length (vote_spelling v)) 73 ws
-    (λ k d l. short_vote (slice_index_or ws k d) (few k d l)) in
-    omega (arith, entries, both, votes)
+    omega (arith, entries, both, short_votes ws few)
 
 -- the votes of a member in the program's world
 votes_there : (g : Group) (p : Program) (m : ℕ) (r : Running) → IsSound g p
@@ -280,13 +285,24 @@ ample_log {D} told count g p m r base log len is there ample at served =
         (WentSo told count base log r.replica.banks r.replica.history r.replica.logged r.replica.votes) at
         served.last
 
-    long : len ≤ log_length [] base.votes + 72 * length log.entries + 73 * length r.replica.votes
+    -- the entries that it has more are valid
+    more_valid : All IsValidEntry served.more.0
+    more_valid = subst (All IsValidEntry)
+        (ap (drop (length base.entries)) (sym served.entries ∙ served.more.1)
+        ∙ drop_at base.entries served.more.0 (length base.entries) refl)
+        (All-drop IsValidEntry (length base.entries) (take r.replica.logged r.replica.history)
+        (All-take IsValidEntry r.replica.logged r.replica.history valid))
+
+    as_long : length log.entries ≡ length base.entries + length served.more.0
+    as_long = ap length served.more.1 ∙ length-append base.entries served.more.0
+
+    long : len ≤ base.length + 72 * length served.more.0 + 73 * length r.replica.votes
     long = omega (
       arith,
-      went.2.length,
-      ap (log_length log.entries) served.voted,
-      long_log base.votes log.entries r.replica.votes (subst (All IsValidEntry) (sym served.entries)
-          (All-take IsValidEntry r.replica.logged r.replica.history valid)) short,
+      went.2.long,
+      served.long,
+      short_log_length served.more.0 more_valid,
+      short_votes r.replica.votes short,
     )
 
     logged : length log.entries ≤ r.replica.logged
@@ -310,12 +326,12 @@ ample_log {D} told count g p m r base log len is there ample at served =
     by (records.Entry e) (inl due) over =
         let block : block_length (records.Entry e) ≤ 72 = subst (λ x. block_length x ≤ 72) (sym due.1)
         (short_block _ (valid r.replica.logged (View 0 0 0) due.0)) in
-        omega (arith, over, block, long, logged, due.0, small, few, ample.limit, served.limit)
+        omega (arith, over, block, long, as_long, logged, due.0, small, few, ample.limit, served.limit)
     by (records.Vote v) (inl due) over = absurd (cc (due.1))
     by (records.Vote v) (inr vote) over =
         let block : block_length (records.Vote v) ≤ 73 = short_vote v vote.0.members in
         let most = mul-le-mul banks vote.0.members in
-        omega (arith, over, block, long, all, vote.1, most, small, ample.limit, served.limit)
+        omega (arith, over, block, long, as_long, all, vote.1, most, small, ample.limit, served.limit)
 
 -- so none is full where all are ample
 pub none_full : {D : Type 0} (told : D → Option Told) (count : D → ℕ) (g : Group)

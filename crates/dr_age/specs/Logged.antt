@@ -1,5 +1,5 @@
 -- The logs of an age: how they are before it, and what has come of each by how its member ended.
-use Rattle.std.specs.Prelude.{◌≡◌, ⊤, ℕ, ◌+◌, ◌*◌, ◌≤◌, false, All, List, [], ◌++◌, length, slice_get, Option, None, Some}
+use Rattle.std.specs.Prelude.{◌≡◌, ⊤, ℕ, ◌+◌, ◌*◌, ◌-◌, ◌≤◌, false, All, List, ◌++◌, length, slice_get, Option, None, Some}
 use Rattle.dr_entry.specs.declared.end.End.{End}
 use Rattle.dr_entry.specs.declared.end.End.TheVariants as ends
 use Rattle.dr_entry.specs.declared.end.MemberEnd.{MemberEnd}
@@ -7,7 +7,6 @@ use Rattle.dr_entry.specs.declared.limits.TheConstants.{MAX_MEMBERS, MAX_MESSAGE
 use Rattle.dr_entry.specs.declared.record.Vote.{Vote}
 use Rattle.dr_disk.specs.Disk.{Told}
 use Rattle.dr_history.specs.Order.{first_entries}
-use Rattle.dr_log.specs.Standing.{log_length}
 use Rattle.dr_log.specs.State.{LogState}
 use Rattle.dr_machine.specs.Group.{Group, roster}
 use Rattle.dr_program.specs.declared.outcome.LogWhy.{LogWhy}
@@ -57,12 +56,12 @@ IsNotFull end = ⊤
 abbrev pub NoneFull : List MemberEnd → Type 0
 NoneFull members = All (λ (e : MemberEnd). IsNotFull e.end) members
 
--- the limit of a log is enough for its votes and for all that an age may bring: 72 bytes for each entry of
--- the start, for each of 16 Views, and for each of 4,096 messages of 16 members, and 73 for each vote more,
--- of which there may be 16 in each view
+-- The limit of a log is enough for what stands on it and for all that an age may bring: 72 bytes for each
+-- entry that it has not yet, of those of the start, 16 Views, and 4,096 messages of each of 16 members, and 73
+-- for each vote more, of which there may be 16 in each view.
 pub record IsAmple {D : Type 0} (g : Group) (log : LogState D) : Type 0 where
-  pub limit : log_length [] log.votes
-      + 72 * (length g.opening.start + MAX_MEMBERS + MAX_MESSAGES * MAX_MEMBERS)
+  pub limit : log.length
+      + 72 * (length g.opening.start + MAX_MEMBERS + MAX_MESSAGES * MAX_MEMBERS - length log.entries)
       + 73 * (MAX_MEMBERS * MAX_MEMBERS) ≤ log.limit
 
 -- a log has the entries and votes of before

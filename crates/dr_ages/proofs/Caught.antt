@@ -1,21 +1,22 @@
 -- Logs that are brought up to a start, one after the other.
-use Rattle.std.proofs.Common.{◌≡◌, refl, sym, ap, ◌∙◌, subst, inl, inr, ℕ, ◌+◌, ◌<◌, ◌≤◌, false, All, List, [], append-nil, length, length-set, length-take, take, drop, le_refl, get_or, arith}
+use Rattle.std.proofs.Common.{◌≡◌, refl, sym, ap, ◌∙◌, subst, inl, inr, ℕ, ◌+◌, ◌<◌, ◌≤◌, false, All, List, [], ◌++◌, append-nil, drop, drop_at, length, length-set, le_refl, get_or, arith}
 use Rattle.std.specs.Prelude.{◌^◌, ◌-◌, Option, None, Some, is_some, option_map, slice_get, slice_set}
 use Rattle.std.proofs.Math.Pow.{pow_mono}
 use Rattle.std.proofs.lemmas.Bool.{cases_eq, cases_lt}
-use Rattle.std.proofs.lemmas.List.{take-append-drop}
 use Rattle.std.proofs.lemmas.Option.{same_Some, slice_get-get_or, slice_get-map}
 use Rattle.dr_disk.specs.Calls.{State}
 use Rattle.dr_disk.specs.Disk.{Told}
 use Rattle.dr_disk.specs.Images.{Goes}
 use Rattle.dr_disk.proofs.Moments.{Goes-last}
 use Rattle.dr_entry.specs.declared.entry.Entry.{Entry}
-use Rattle.dr_gather.specs.CatchingUp.{HasCaughtUp, HasFirst}
+use Rattle.dr_entry.specs.declared.record.Vote.{Vote}
+use Rattle.dr_gather.specs.CatchingUp.{HasStayed, lacked}
 use Rattle.dr_gather.specs.Gathering.{entries_on}
 use Rattle.dr_history.specs.History.{IsPrefixOf}
-use Rattle.dr_history_laws.proofs.Keeping.{prefix_beside, prefix_shorter, prefix_then}
-use Rattle.dr_log.specs.Standing.{LosesNone}
+use Rattle.dr_history_laws.proofs.Keeping.{prefix_then}
+use Rattle.dr_log.specs.Standing.{IsNoneOrAll, LosesNone, entries_length, log_length, votes_length}
 use Rattle.dr_log.specs.State.{LogState}
+use Rattle.dr_log.proofs.Growing.{length_of_both}
 use Rattle.dr_program.proofs.Holdings.{replica_kept, replica_set}
 use Rattle.dr_ages.specs.Opened.{AreCaughtUp, AreLater, IsCaughtUp, IsLater}
 use Rattle.dr_ages.proofs.Staying.{first_kept, later_same, later_then, left_so}
@@ -91,35 +92,51 @@ goes_tells None (Some t) P goes = absurd goes
 goes_tells (Some t) None P goes = absurd goes
 goes_tells (Some s) (Some t) P goes = refl
 
--- a log that has come to some of the entries
-pub caught_on : {D : Type 0} (told : D → Option Told) (faults : D → ℕ) (whole : List Entry)
-    (old new : LogState D) (n : ℕ) → IsPrefixOf old.entries whole → HasCaughtUp told faults whole old new n
-    → IsLater told faults old new
-caught_on told faults whole old new n part is = record {
-  entries = subst (λ (l : List Entry). IsPrefixOf old.entries l) (sym is.entries) (front n is.enough);
-  votes = ([], append-nil old.votes ∙ sym is.votes);
-  tells = goes_tells (told old.disk) (told new.disk) (λ s. HasFirst (length old.entries) whole old.votes) is.moments;
-  later = is.later;
+-- what each image has that stands for these entries and votes, or for more entries too
+none_or_more : {D : Type 0} (old : LogState D) (news es : List Entry) (vs : List Vote) (image : List ℕ)
+    → IsPrefixOf es old.entries → IsPrefixOf vs old.votes → IsNoneOrAll old.entries old.votes news image
+    → LosesNone es vs image
+none_or_more old news es vs image part kept (inl none) = first_kept es old.entries vs old.votes image part kept none
+none_or_more old news es vs image part kept (inr all) =
+    first_kept es (old.entries ++ news) vs old.votes image
+    (prefix_then es old.entries (old.entries ++ news) part (news, refl)) kept all
+
+-- a log whose disk went so has gone on, with what it had
+on_by : {D : Type 0} (told : D → Option Told) (faults : D → ℕ) (news : List Entry) (old new : LogState D)
+    → IsPrefixOf old.entries new.entries → new.votes ≡ old.votes
+    → Goes (told old.disk) (told new.disk) (λ s. IsNoneOrAll old.entries old.votes news)
+    → faults old.disk ≤ faults new.disk → IsLater told faults old new
+on_by told faults news old new part votes moments later = record {
+  entries = part;
+  votes = ([], append-nil old.votes ∙ sym votes);
+  tells = goes_tells (told old.disk) (told new.disk) (λ s. IsNoneOrAll old.entries old.votes news) moments;
+  later = later;
   stays = λ es vs first kept left.
-      left_so (told new.disk) (HasFirst (length old.entries) whole old.votes) (LosesNone es vs)
-      (λ image has. first_kept es (take has.count whole) vs old.votes image
-      (prefix_then es old.entries (take has.count whole) first (front has.count has.enough)) kept has.stands)
-      (Goes-last (told old.disk) (told new.disk) (HasFirst (length old.entries) whole old.votes) is.moments);
+      left_so (told new.disk) (IsNoneOrAll old.entries old.votes news) (LosesNone es vs)
+      (λ image has. none_or_more old news es vs image first kept has)
+      (Goes-last (told old.disk) (told new.disk) (IsNoneOrAll old.entries old.votes news) moments);
 }
-  where
-    -- all that the log had is among so many
-    front : (k : ℕ) → length old.entries ≤ k → IsPrefixOf old.entries (take k whole)
-    front k enough =
-        prefix_beside old.entries (take k whole) whole part (drop k whole, take-append-drop k whole)
-        (omega (arith, enough, length-take k whole, prefix_shorter old.entries whole part))
+
+-- a log that was brought up, and one that was not
+pub caught_on : {D : Type 0} (told : D → Option Told) (faults : D → ℕ) (whole : List Entry)
+    (old new : LogState D) → IsCaughtUp told faults whole old new → IsLater told faults old new
+caught_on told faults whole old new up =
+    on_by told faults (lacked old whole) old new
+    (subst (λ (l : List Entry). IsPrefixOf old.entries l) (sym up.0.entries) up.1) up.0.votes up.0.moments
+    (omega (arith, up.0.calm))
+
+pub stayed_on : {D : Type 0} (told : D → Option Told) (faults : D → ℕ) (whole : List Entry)
+    (old new : LogState D) → HasStayed told faults whole old new → IsLater told faults old new
+stayed_on told faults whole old new is =
+    on_by told faults (lacked old whole) old new ([], append-nil old.entries ∙ sym is.entries) is.votes is.moments
+    is.later
 
 pub caught_later : {D : Type 0} (told : D → Option Told) (faults : D → ℕ) (whole : List Entry)
     (olds news : List (LogState D)) (n : ℕ) → AreCaughtUp told faults whole olds news n
     → AreLater told faults olds news
 caught_later told faults whole olds news n so_far m old new there here = elim (cases_lt m n) [
   | inl below ↦
-      let up = so_far.done m old new below there here in
-      caught_on told faults whole old new (length whole) up.2 up.0
+      caught_on told faults whole old new (so_far.done m old new below there here)
   | inr above ↦ on_still told faults olds m old new there (sym (so_far.others m above) ∙ here)
 ]
 
@@ -137,3 +154,24 @@ later_set told faults olds news k x new later within is = λ m old y there here.
       ∙ here))
       (later_then told faults old (get_or news k x) new before is)
 ]
+
+-- ---- each log is as long as what it has
+
+-- it is so with entries and votes more
+pub grown_long : {D : Type 0} (old new : LogState D) (es : List Entry) (vs : List Vote)
+    → old.length ≡ log_length old.entries old.votes → new.entries ≡ old.entries ++ es
+    → new.votes ≡ old.votes ++ vs → new.length ≡ old.length + (entries_length es + votes_length vs)
+    → new.length ≡ log_length new.entries new.votes
+grown_long old new es vs long entries votes grown =
+    let is : new.length ≡ log_length (old.entries ++ es) (old.votes ++ vs) =
+    omega (arith, long, grown, length_of_both old.entries es old.votes vs) in
+    is ∙ (ap (λ (l : List Entry). log_length l (old.votes ++ vs)) (sym entries) ∙ ap (log_length new.entries) (sym votes))
+
+pub caught_long : {D : Type 0} (told : D → Option Told) (faults : D → ℕ) (whole : List Entry)
+    (old new : LogState D) → old.length ≡ log_length old.entries old.votes
+    → IsCaughtUp told faults whole old new → new.length ≡ log_length new.entries new.votes
+caught_long told faults whole old new long up =
+    let rest : up.1.0 ≡ lacked old whole = sym (drop_at old.entries up.1.0 (length old.entries) refl)
+    ∙ ap (drop (length old.entries)) up.1.1 in
+    grown_long old new up.1.0 [] long (up.0.entries ∙ sym up.1.1) (up.0.votes ∙ sym (append-nil old.votes))
+    (omega (arith, up.0.long, ap entries_length rest))

@@ -1,8 +1,9 @@
 -- Runs over empty disks.
-use Rattle.std.proofs.Common.{◌≡◌, refl, sym, ap, ◌∙◌, subst, ℕ, zero, suc, ◌+◌, ◌*◌, ◌^◌, ◌<◌, ◌≤◌, arith, List, [], ◌∷◌, length, take, length-append, length-take, take_at}
+use Rattle.std.proofs.Common.{◌≡◌, refl, sym, ap, ◌∙◌, subst, ℕ, zero, suc, ◌+◌, ◌*◌, ◌^◌, ◌<◌, ◌≤◌, arith, List, [], ◌∷◌, length, drop, take, length-append, length-drop, length-take, take_at}
 use Rattle.std.specs.Prelude.{All, IsSomeAnd, IsTrue, Option, None, Some, is_some, slice_get}
 use Rattle.std.proofs.Math.Pow.{pow_mono}
-use Rattle.std.proofs.lemmas.List.Elements.{All-append, All-cons, All-nil, All-take}
+use Rattle.std.proofs.lemmas.List.Elements.{All-append, All-cons, All-drop, All-nil, All-take}
+use Rattle.std.proofs.lemmas.List.Sums.{sum_by-le}
 use Rattle.std.proofs.lemmas.Option.{same_Some, slice_get_within}
 use Rattle.dr_disk.specs.Disk.{Told, content_of}
 use Rattle.dr_entry.specs.declared.end.AgeEnd.{AgeEnd}
@@ -10,9 +11,10 @@ use Rattle.dr_entry.specs.declared.entry.Entry.{Entry}
 use Rattle.dr_entry.specs.declared.entry.Entry.TheVariants.{View, Msg}
 use Rattle.dr_entry.specs.declared.limits.TheConstants.{MAX_MEMBERS}
 use Rattle.dr_entry.specs.declared.record.Vote.{Vote}
-use Rattle.dr_entry.specs.Spelling.{IsValidEntry}
+use Rattle.dr_entry.specs.Spelling.{IsValidEntry, entry_spelling}
 use Rattle.dr_gather.specs.Gathering.{IsStartOf}
-use Rattle.dr_gather.proofs.Grouping.{start_group, start_valid}
+use Rattle.dr_gather.proofs.Catching.{part_of_opened}
+use Rattle.dr_gather.proofs.Grouping.{part_of_start, start_group, start_valid}
 use Rattle.dr_history.specs.declared.opening.Opening.{Opening}
 use Rattle.dr_history.specs.Agreement.{accounts_of, sent_by}
 use Rattle.dr_history.specs.History.{GroupView, IsPrefixOf, Sent, view_after, view_of}
@@ -22,9 +24,8 @@ use Rattle.dr_history.specs.Restarting.{IsLongest, next_age}
 use Rattle.dr_history.proofs.ViewLemmas.{view_of-View, view_of-Msg}
 use Rattle.dr_history_laws.proofs.Lengths.{start-few}
 use Rattle.dr_history_laws.proofs.Lists.{IsSomeAnd-at, slice_get-some, take-next}
-use Rattle.dr_log.specs.Standing.{block_length}
+use Rattle.dr_log.specs.Standing.{entries_length}
 use Rattle.dr_log.proofs.Growing.{short_block}
-use Rattle.dr_logged.specs.Served.{next_record}
 use Rattle.dr_restart.specs.declared.start.Start.{Start}
 use Rattle.dr_restart.specs.Groups.{group_of}
 use Rattle.dr_script.specs.declared.script.Script.{Script}
@@ -221,7 +222,7 @@ start_small script lists start ranges small is =
     start-few (group_of script start).opening g.sound small g.some_member g.most_members g.messages
 
 -- what an age begins with is valid
-first_valid : (script : Script) (lists : List (List Entry)) (start : Start) → HasGroupRanges script
+pub first_valid : (script : Script) (lists : List (List Entry)) (start : Start) → HasGroupRanges script
     → IsStartOf script lists start → All IsValidEntry (first_entries (group_of script start).opening)
 first_valid script lists start ranges is =
     All-append IsValidEntry start.entries (View start.age 0 start.members ∷ [])
@@ -239,21 +240,27 @@ full_never script before after m len ranges is votes =
     let whole = first_entries (group_of script is.start).opening in
     let valid = first_valid script is.lists is.start ranges is.starts in
     let few = start_small script is.lists is.start ranges is.small is.starts in
-    let log = long_log [] (take is.count whole) (is.votes m) (All-take IsValidEntry is.count whole valid)
-    (λ k d l. (votes.valid k d l).members) in
-    let block : block_length (next_record whole is.count) ≤ 72 =
-    short_block _ (valid is.count (View 0 0 0) is.more) in
+    let part = part_of_opened is.entries is.start.entries (View is.start.age 0 is.start.members)
+    (part_of_start script is.lists is.start m is.entries is.starts is.has) in
+    let front : take (length is.entries) whole ≡ is.entries =
+    ap (take (length is.entries)) (sym part.1) ∙ take_at is.entries part.0 (length is.entries) refl in
+    let log = long_log [] is.entries (is.votes m) (subst (All IsValidEntry) front
+    (All-take IsValidEntry (length is.entries) whole valid)) (λ k d l. (votes.valid k d l).members) in
+    let rest : entries_length (drop (length is.entries) whole) ≤ length (drop (length is.entries) whole) * 72 =
+    sum_by-le (λ (e : Entry). 1 + length (entry_spelling e)) 72 (drop (length is.entries) whole)
+    (λ k d l. short_block _ (All-drop IsValidEntry (length is.entries) whole valid k d l)) in
     omega (
       arith,
       few,
       log,
-      block,
+      rest,
+      length-drop (length is.entries) whole,
       is.over,
       is.long,
-      is.more,
+      ap length part.1,
+      length-append is.entries part.0,
       votes.few,
       length-append is.start.entries (View is.start.age 0 is.start.members ∷ []),
-      length-take is.count whole,
     )
 
 -- ---- what stops a run

@@ -16,7 +16,7 @@ use Rattle.dr_io.specs.Faults.{Rose}
 use Rattle.dr_log.specs.declared.fault.MountWhy.{MountWhy}
 use Rattle.dr_log.specs.declared.fault.MountWhy.TheVariants as whys
 use Rattle.dr_log.specs.Grammar.{IsDamaged}
-use Rattle.dr_log.specs.Standing.{KeepsRecords, StandsFor}
+use Rattle.dr_log.specs.Standing.{KeepsRecords, StandsFor, log_length}
 use Rattle.dr_log.specs.State.{LogState}
 use Rattle.dr_script.specs.declared.script.Script.{Script}
 use Rattle.dr_yard.specs.Yards.{YardState}
@@ -120,12 +120,14 @@ mounted_more {D} tells faults before logs log k are at is m x here = by (slice_g
 -- a log that was mounted from a disk that was lent
 pub was_mounted : {D : Type 0} (tells : D → Option Told) (faults : D → ℕ) (told : Option Told) (count : ℕ)
     (disk : D) (log : LogState D) → tells disk ≡ told → IfSome (tells disk) ReadsAnImage
-    → IfSome (tells disk) (λ t. StandsFor (content_of t) log.entries log.votes) → log.limit ≡ 2147483648
+    → IfSome (tells disk) (λ t. StandsFor (content_of t) log.entries log.votes)
+    → log.length ≡ log_length log.entries log.votes → log.limit ≡ 2147483648
     → log.failed ≡ false → Goes (tells disk) (tells log.disk) KeepsRecords → count ≤ faults log.disk
     → IsMounted tells faults told count log
-was_mounted {D} tells faults told count disk log same image stands limit whole goes later = record {
+was_mounted {D} tells faults told count disk log same image stands long limit whole goes later = record {
   found = both told (subst (λ (o : Option Told). IfSome o ReadsAnImage) same image)
       (subst (λ (o : Option Told). IfSome o (λ t. StandsFor (content_of t) log.entries log.votes)) same stands);
+  long = long;
   limit = limit;
   whole = whole;
   on = on_alike told (tells log.disk) count (faults log.disk)

@@ -1,9 +1,8 @@
 -- An age that was run over logs that were mounted and brought up to its start.
-use Rattle.std.proofs.Common.{◌≡◌, ◌⊎◌, refl, sym, ap, ◌∙◌, subst, ℕ, ◌+◌, ◌^◌, ◌<◌, inl, inr, arith, List, [], ◌++◌, length, take, get_or, append-nil}
+use Rattle.std.proofs.Common.{◌≡◌, ◌⊎◌, refl, sym, ap, ◌∙◌, subst, ℕ, ◌+◌, ◌^◌, ◌<◌, inl, inr, arith, List, [], ◌∷◌, ◌++◌, length, length-append, take, get_or, append-nil}
 use Rattle.std.specs.Prelude.{All, IfOk, OnErr, Option, None, Some, Result, Ok, Err, is_some, option_map, slice_get}
 use Rattle.std.specs.Option.{option_map_or}
-use Rattle.std.proofs.lemmas.List.{append_cancel_left, take_all}
-use Rattle.std.proofs.lemmas.List.Elements.{All-nil}
+use Rattle.std.proofs.lemmas.List.{append_cancel_left}
 use Rattle.std.proofs.lemmas.Option.{slice_get-get_or, slice_get-map, slice_get_within}
 use Rattle.dr_complete.specs.Time.{HasTime}
 use Rattle.dr_disk.specs.Disk.{Told}
@@ -14,9 +13,9 @@ use Rattle.dr_entry.specs.declared.end.End.{End}
 use Rattle.dr_entry.specs.declared.end.End.TheVariants as ends
 use Rattle.dr_entry.specs.declared.end.MemberEnd.{MemberEnd}
 use Rattle.dr_entry.specs.declared.entry.Entry.{Entry}
+use Rattle.dr_entry.specs.declared.entry.Entry.TheVariants.{View}
 use Rattle.dr_entry.specs.declared.record.Record.{Record}
 use Rattle.dr_entry.specs.declared.record.Vote.{Vote}
-use Rattle.dr_entry.specs.Spelling.{IsValidEntry}
 use Rattle.dr_gather.specs.CatchingUp.{opened_with}
 use Rattle.dr_gather.specs.Gathering.{IsStartOf, entries_on}
 use Rattle.dr_gather.proofs.Catching.{rose_since}
@@ -52,9 +51,9 @@ use Rattle.dr_ages.specs.Left.{HasLeft, IsFullAt}
 use Rattle.dr_ages.specs.Lent.{AreMounted, IsMounted, with_logs}
 use Rattle.dr_ages.specs.Opened.{AreCaughtUp, AreLater, IsCaughtUp, IsLater}
 use Rattle.dr_ages.proofs.Backs.{faults_at, passed_with, told_at}
-use Rattle.dr_ages.proofs.Caught.{caught_later, goes_tells}
+use Rattle.dr_ages.proofs.Caught.{caught_later, caught_long, goes_tells, grown_long}
 use Rattle.dr_ages.proofs.Chain.{passes_none}
-use Rattle.dr_ages.proofs.Fresh.{start_small}
+use Rattle.dr_ages.proofs.Fresh.{first_valid, start_small}
 use Rattle.dr_ages.proofs.Loans.{are_found, votes_at, votes_on}
 use Rattle.dr_ages.proofs.Staying.{fewer_kept, lasts_left, later_then, left_so}
 use Rattle.dr_ages.proofs.Votes.{few_cast}
@@ -71,8 +70,8 @@ are_opened told faults script start olds news lists all caught = record {
       let old = slice_get-some olds k (omega (arith, l, caught.all)) in
       let up = caught.done k old.0 (get_or news k d) (omega (arith, l, caught.all)) old.1 (slice_get-get_or news k d l) in
       record {
-        entries = up.0.entries ∙ take_all (length whole) whole (omega arith);
-        whole = up.1;
+        entries = up.0.entries;
+        whole = up.0.unfailed;
       };
 }
 
@@ -365,10 +364,10 @@ is_age {D} tells faults script mode nth before start olds mids news age w = reco
     opened : (m : ℕ) (e : MemberEnd) → slice_get age.members m ≡ Some e
         → IsPrefixOf whole (take e.logged e.history)
     opened m e at =
-        let x = one m e at in
-        let up : x.mid.entries ≡ whole = x.caught.0.entries ∙ take_all (length whole) whole (omega arith) in (
+        let x = one m e at in (
           x.come.more.0,
-          ap (λ (l : List Entry). l ++ x.come.more.0) (sym up) ∙ (sym x.come.more.1 ∙ x.come.entries),
+          ap (λ (l : List Entry). l ++ x.come.more.0) (sym x.caught.0.entries)
+              ∙ (sym x.come.more.1 ∙ x.come.entries),
         )
 
     votes : (m : ℕ) (e : MemberEnd) (at : slice_get age.members m ≡ Some e)
@@ -377,6 +376,14 @@ is_age {D} tells faults script mode nth before start olds mids news age w = reco
         let x = one m e at in
         x.come.voted
         ∙ ap (λ (vs : List Vote). vs ++ cast m) (x.caught.0.votes ∙ sym (votes_at olds m x.old x.from))
+
+    -- and it is as long as what it has
+    long : (m : ℕ) (e : MemberEnd) (at : slice_get age.members m ≡ Some e)
+        → (one m e at).new.length ≡ log_length (one m e at).new.entries (one m e at).new.votes
+    long m e at =
+        let x = one m e at in
+        let up = caught_long tells faults whole x.old x.mid x.mounted.long x.caught in
+        grown_long x.mid x.new x.come.more.0 (cast m) up x.come.more.1 x.come.voted x.come.long
 
     left : (m : ℕ) (e : MemberEnd) → slice_get age.members m ≡ Some e
         → HasLeft ((with_logs tells faults before news).told m) script.members e (votes_on olds m) (cast m)
@@ -396,7 +403,7 @@ is_age {D} tells faults script mode nth before start olds mids news age w = reco
         (why_ended y)) end x.come.last in
         subst (Rose (before.faults m)) (sym (faults_at tells faults before news m x.new x.to))
         (rose_since (before.faults m) (faults x.mid.disk) (faults x.new.disk)
-        (omega (arith, x.mounted.on.later, x.caught.0.later)) went.2.rose)
+        (omega (arith, x.mounted.on.later, x.caught.0.calm)) went.2.rose)
 
     full : (m : ℕ) (e : MemberEnd) (len : ℕ) → slice_get age.members m ≡ Some e → e.end ≡ ends.LogFull len
         → IsFullAt script.members e (votes_on olds m) (cast m) len
@@ -407,8 +414,8 @@ is_age {D} tells faults script mode nth before start olds mids news age w = reco
         subst (λ (y : End). WentSo tells faults x.mid x.new script.members e.history e.logged (cast m)
         (why_ended y)) end x.come.last in
         record {
-          long = went.2.length ∙ (ap (λ (l : List Entry). log_length l x.new.votes) x.come.entries
-              ∙ ap (log_length (take e.logged e.history)) (votes m e at));
+          long = went.2.long ∙ (long m e at ∙ (ap (λ (l : List Entry). log_length l x.new.votes) x.come.entries
+              ∙ ap (log_length (take e.logged e.history)) (votes m e at)));
           next = went.0;
           due = went.1;
           over = subst (λ (n : ℕ). n < len + block_length went.0)
@@ -422,11 +429,20 @@ is_age {D} tells faults script mode nth before start olds mids news age w = reco
         let up = w.caught.done k old.0 (get_or mids k d) (omega (arith, l, w.caught.all)) old.1
         (slice_get-get_or mids k d l) in
         let votes = few k (omega (arith, l, w.caught.all, w.all)) in
+        let mid = get_or mids k d in
+        let is : mid.length ≡ log_length whole (votes_on olds k) =
+        caught_long tells faults whole old.0 mid (w.mounted k old.0 old.1).long up
+        ∙ (ap (λ (l : List Entry). log_length l mid.votes) up.0.entries
+        ∙ ap (log_length whole) (up.0.votes ∙ sym (votes_at olds k old.0 old.1))) in
         record {
           limit = omega (
             arith,
-            ap (log_length []) (up.0.votes ∙ sym (votes_at olds k old.0 old.1)),
-            long_log [] [] (votes_on olds k) (All-nil IsValidEntry) (λ k d l. (votes.valid k d l).members),
+            is,
+            ap length up.0.entries,
+            length-append start.entries (View start.age 0 start.members ∷ []),
+            long_log [] whole (votes_on olds k)
+                (first_valid script (entries_on olds) start w.ranges.group w.starts)
+                (λ k d l. (votes.valid k d l).members),
             votes.few,
             up.0.limit,
             (w.mounted k old.0 old.1).limit,

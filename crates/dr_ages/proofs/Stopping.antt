@@ -1,5 +1,5 @@
 -- Why the opening of an age stopped.
-use Rattle.std.proofs.Common.{◌≡◌, refl, sym, ap, ◌∙◌, subst, ℕ, ◌+◌, ◌^◌, ◌<◌, List, length, take}
+use Rattle.std.proofs.Common.{◌≡◌, ◌≢◌, refl, sym, ap, ◌∙◌, subst, ℕ, ◌+◌, ◌^◌, ◌<◌, List, length, arith}
 use Rattle.std.specs.Prelude.{IsErrOf, Option, Result, Err, Some, slice_get, slice_set}
 use Rattle.dr_disk.specs.Disk.{Told}
 use Rattle.dr_disk.specs.Images.{IsLeft}
@@ -9,14 +9,13 @@ use Rattle.dr_gather.specs.declared.catching_up.CatchFault.{CatchFault}
 use Rattle.dr_gather.specs.declared.catching_up.CatchFault.TheVariants as catches
 use Rattle.dr_gather.specs.declared.gathering.GatherFault.{GatherFault}
 use Rattle.dr_gather.specs.declared.gathering.GatherFault.TheVariants as gathers
-use Rattle.dr_gather.specs.CatchingUp.{HasCaughtUp, WentSo, opened_with}
+use Rattle.dr_gather.specs.CatchingUp.{FitsOrIsFull, HasStayed, IsLeftAlone, lacked, opened_with}
 use Rattle.dr_gather.specs.Gathering.{AreUsedUp, IsStartOf, entries_on, judged_by}
 use Rattle.dr_gather.proofs.Catching.{rose_since}
 use Rattle.dr_history.specs.Restarting.{AreSound, IsFirstDisagreement, IsFirstForeign}
 use Rattle.dr_io.specs.Faults.{Rose}
-use Rattle.dr_log.specs.Standing.{StandsFor, block_length, log_length}
+use Rattle.dr_log.specs.Standing.{StandsFor, entries_length, log_length}
 use Rattle.dr_log.specs.State.{LogState}
-use Rattle.dr_logged.specs.Served.{next_record}
 use Rattle.dr_program.proofs.Holdings.{replica_set}
 use Rattle.dr_restart.specs.declared.start.Start.{Start}
 use Rattle.dr_script.specs.declared.script.Script.{Script}
@@ -27,6 +26,7 @@ use Rattle.dr_ages.specs.Found.{AreFound}
 use Rattle.dr_ages.specs.Lent.{AreMounted, with_logs}
 use Rattle.dr_ages.specs.Stops.{HasStopped}
 use Rattle.dr_ages.proofs.Backs.{faults_at, told_at}
+use Rattle.dr_ages.proofs.Caught.{entries_at}
 use Rattle.dr_ages.proofs.Loans.{are_found, votes_at, votes_on}
 
 -- the logs make no start
@@ -67,31 +67,36 @@ pub record IsBroughtUp {D : Type 0} (tells : D → Option Told) (faults : D → 
   pub within : k < length news
 
 pub catch_stops : {D : Type 0} (T : Type 0) (tells : D → Option Told) (faults : D → ℕ) (script : Script)
-    (before : YardState) (start : Start) (olds news : List (LogState D)) (k n : ℕ) (old new : LogState D)
+    (before : YardState) (start : Start) (olds news : List (LogState D)) (k : ℕ) (old new : LogState D)
     (fault : CatchFault) (stop : Stop) → IsBroughtUp tells faults script before start olds news k old
-    → HasCaughtUp tells faults (opened_with start start.members) old new n
-    → WentSo tells faults (opened_with start start.members) old new n {T = T} (Err fault)
+    → HasStayed tells faults (opened_with start start.members) old new
+    → (fault ≢ catches.DiskFault → IsLeftAlone tells faults old new)
+    → (IsErrOf {T = T} (Err fault) catches.DiskFault → Rose (faults old.disk) (faults new.disk))
+    → FitsOrIsFull old.limit old.length (entries_length (lacked old (opened_with start start.members))) {T = T}
+    (Err fault)
     → (fault ≡ catches.OutOfMemory → stop ≡ OutOfMemory) → (fault ≡ catches.DiskFault → stop ≡ DiskFault k)
     → ((len : ℕ) → fault ≡ catches.LogFull len → stop ≡ LogFull k len)
     → HasStopped script before (with_logs tells faults before (slice_set news k new)) stop
-catch_stops T tells faults script before start olds news k n old new catches.OutOfMemory stop b up went to_memory
-    to_disk to_full =
+catch_stops T tells faults script before start olds news k old new catches.OutOfMemory stop b stayed alone cause
+    limit to_memory to_disk to_full =
     subst (HasStopped script before (with_logs tells faults before (slice_set news k new))) (sym (to_memory refl)) tt
-catch_stops {D} T tells faults script before start olds news k n old new catches.DiskFault stop b up went to_memory
-    to_disk to_full =
+catch_stops {D} T tells faults script before start olds news k old new catches.DiskFault stop b stayed alone cause
+    limit to_memory to_disk to_full =
     let logs : List (LogState D) = slice_set news k new in
     subst (HasStopped script before (with_logs tells faults before logs)) (sym (to_disk refl)) (record {
       below = b.below;
       rose = subst (Rose (before.faults k))
           (sym (faults_at tells faults before logs k new (replica_set news k new b.within)))
           (rose_since (before.faults k) (faults old.disk) (faults new.disk) (b.mounted k old b.from).on.later
-          went.2);
+          (cause refl));
     })
-catch_stops {D} T tells faults script before start olds news k n old new (catches.LogFull len) stop b up went
-    to_memory to_disk to_full =
+catch_stops {D} T tells faults script before start olds news k old new (catches.LogFull len) stop b stayed alone
+    cause limit to_memory to_disk to_full =
     let logs : List (LogState D) = slice_set news k new in
-    let whole : List Entry = opened_with start start.members in
-    let votes : new.votes ≡ votes_on olds k = up.votes ∙ sym (votes_at olds k old b.from) in
+    let is = b.mounted k old b.from in
+    let votes : votes_on olds k ≡ old.votes = votes_at olds k old b.from in
+    let safe : IsLeft (tells new.disk) (λ image. StandsFor image old.entries old.votes) =
+    rw (← stayed.entries, ← stayed.votes) (alone (λ e. absurd (cc e))).safe in
     subst (HasStopped script before (with_logs tells faults before logs)) (sym (to_full len refl)) (record {
       below = b.below;
       lists = entries_on olds;
@@ -100,15 +105,12 @@ catch_stops {D} T tells faults script before start olds news k n old new (catche
       start = start;
       starts = b.starts;
       small = b.small;
-      count = n;
-      more = went.0;
-      long = went.3 ∙ (ap (λ (es : List Entry). log_length es new.votes) up.entries
-          ∙ ap (log_length (take n whole)) votes);
-      over = subst (λ (most : ℕ). most < len + block_length (next_record whole n))
-          (up.limit ∙ (b.mounted k old b.from).limit) went.4;
-      left = subst (λ (o : Option Told). IsLeft o (λ image. StandsFor image (take n whole) (votes_on olds k)))
+      entries = old.entries;
+      has = entries_at olds k old b.from;
+      long = limit.0 ∙ is.long ∙ ap (log_length old.entries) (sym votes);
+      over = omega (arith, limit.0, limit.1, is.limit);
+      left = subst (λ (o : Option Told). IsLeft o (λ image. StandsFor image old.entries (votes_on olds k)))
           (sym (told_at tells faults before logs k new (replica_set news k new b.within)))
-          (subst (λ (vs : List Vote). IsLeft (tells new.disk) (λ image. StandsFor image (take n whole) vs)) votes
-          (subst (λ (es : List Entry). IsLeft (tells new.disk) (λ image. StandsFor image es new.votes)) up.entries
-          went.2));
+          (subst (λ (vs : List Vote). IsLeft (tells new.disk) (λ image. StandsFor image old.entries vs)) (sym votes)
+          safe);
     })

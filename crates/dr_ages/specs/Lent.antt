@@ -5,6 +5,7 @@ use Rattle.dr_disk.specs.Calls.{Sync}
 use Rattle.dr_disk.specs.Disk.{Told, added}
 use Rattle.dr_entry.specs.declared.limits.TheConstants.{MAX_MEMBERS}
 use Rattle.dr_io.specs.Faults.{Rose}
+use Rattle.dr_log.specs.Standing.{log_length}
 use Rattle.dr_log.specs.State.{LogState}
 use Rattle.dr_yard.specs.Yards.{YardState}
 use Rattle.dr_ages.specs.declared.stop.Stop.{Stop}
@@ -26,6 +27,7 @@ pub record AreLent {Y D : Type 0} (is_lent : Y → ℕ → Bool) (yard_faults : 
 pub record IsMounted {D : Type 0} (tells : D → Option Told) (faults : D → ℕ) (told : Option Told) (count : ℕ)
     (log : LogState D) : Type 0 where
   pub found : IfSome told (ReadsAs log.entries log.votes)
+  pub long : log.length ≡ log_length log.entries log.votes
   pub limit : log.limit ≡ 2147483648
   pub whole : log.failed ≡ false
   pub on : GoesOn told count (tells log.disk) (faults log.disk)

@@ -9,11 +9,10 @@ use Rattle.dr_history.specs.History.{IsPrefixOf}
 use Rattle.dr_log.specs.Standing.{LosesNone}
 use Rattle.dr_log.specs.State.{LogState}
 
--- a log that had the first of these entries has come to all of them, and may go on
+-- a log that had the first of these entries has come to all of them
 abbrev pub IsCaughtUp : {D : Type 0} → (D → Option Told) → (D → ℕ) → List Entry → LogState D → LogState D
     → Type 0
-IsCaughtUp told faults whole old new = HasCaughtUp told faults whole old new (length whole)
-    × (new.failed ≡ false) × IsPrefixOf old.entries whole
+IsCaughtUp told faults whole old new = HasCaughtUp told faults whole old new × IsPrefixOf old.entries whole
 
 -- the first n logs have, and the others are as they were
 pub record AreCaughtUp {D : Type 0} (told : D → Option Told) (faults : D → ℕ) (whole : List Entry)

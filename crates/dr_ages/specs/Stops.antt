@@ -1,5 +1,5 @@
 -- Why an age of a run was not opened.
-use Rattle.std.specs.Prelude.{◌≡◌, ⊤, ℕ, ◌+◌, ◌<◌, ◌^◌, List, length, take, IfSome}
+use Rattle.std.specs.Prelude.{◌≡◌, ⊤, ℕ, ◌+◌, ◌<◌, ◌^◌, List, length, drop, slice_get, Some, IfSome}
 use Rattle.dr_disk.specs.Calls.{Sync}
 use Rattle.dr_disk.specs.Disk.{Told, added, content_of}
 use Rattle.dr_disk.specs.Images.{IsLeft, ReadsAnImage}
@@ -10,8 +10,7 @@ use Rattle.dr_history.specs.Order.{first_entries}
 use Rattle.dr_history.specs.Restarting.{AreSound, IsFirstDisagreement, IsFirstForeign}
 use Rattle.dr_io.specs.Faults.{Rose}
 use Rattle.dr_log.specs.Grammar.{IsDamaged}
-use Rattle.dr_log.specs.Standing.{StandsFor, block_length, log_length}
-use Rattle.dr_logged.specs.Served.{next_record}
+use Rattle.dr_log.specs.Standing.{StandsFor, entries_length, log_length}
 use Rattle.dr_restart.specs.declared.start.Start.{Start}
 use Rattle.dr_restart.specs.Groups.{group_of}
 use Rattle.dr_script.specs.declared.script.Script.{Script}
@@ -25,8 +24,8 @@ pub record HasFailed (n : ℕ) (before after : YardState) (member : ℕ) : Type 
   pub below : member < n
   pub rose : Rose (before.faults member) (after.faults member)
 
--- The logs that are found make a start, and that of a member has so many of the entries that its age begins
--- with: with the next of them it would be longer than a log may be. It outlives a crash.
+-- The logs that are found make a start, and with what it lacks of the entries that its age begins with that of
+-- a member would be longer than a log may be. It is as it was found, and outlives a crash.
 pub record IsTooFull (script : Script) (before after : YardState) (member len : ℕ) : Type 0 where
   pub below : member < script.members
   pub lists : List (List Entry)
@@ -35,12 +34,12 @@ pub record IsTooFull (script : Script) (before after : YardState) (member len : 
   pub start : Start
   pub starts : IsStartOf script lists start
   pub small : start.age < 2 ^ 16
-  pub count : ℕ
-  pub more : count < length (first_entries (group_of script start).opening)
-  pub long : len ≡ log_length (take count (first_entries (group_of script start).opening)) (votes member)
-  pub over : 2147483648 < len + block_length (next_record (first_entries (group_of script start).opening) count)
-  pub left : IsLeft (after.told member)
-      (λ image. StandsFor image (take count (first_entries (group_of script start).opening)) (votes member))
+  pub entries : List Entry
+  pub has : slice_get lists member ≡ Some entries
+  pub long : len ≡ log_length entries (votes member)
+  pub over : 2147483648
+      < len + entries_length (drop (length entries) (first_entries (group_of script start).opening))
+  pub left : IsLeft (after.told member) (λ image. StandsFor image entries (votes member))
 
 -- what a read gives of a disk that tells this is what a crash may leave of it, and damaged at this place
 pub record ReadsDamaged (at : ℕ) (t : Told) : Type 0 where

@@ -8,6 +8,7 @@ use Rattle.dr_restart.specs.declared.start.Start.{Start}
 pub record IsEmpty {D : Type 0} (most : ℕ) (log : LogState D) : Type 0 where
   pub entries : log.entries ≡ []
   pub votes : log.votes ≡ []
+  pub long : log.length ≡ 9
   pub limit : log.limit ≡ most
   pub whole : log.failed ≡ false
 
@@ -15,5 +16,6 @@ pub record IsEmpty {D : Type 0} (most : ℕ) (log : LogState D) : Type 0 where
 pub record IsFresh {D : Type 0} (start : Start) (most : ℕ) (log : LogState D) : Type 0 where
   pub entries : log.entries ≡ View start.age 0 start.members ∷ []
   pub votes : log.votes ≡ []
+  pub long : log.length ≡ 16
   pub limit : log.limit ≡ most
   pub whole : log.failed ≡ false

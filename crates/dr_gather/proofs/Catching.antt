@@ -1,136 +1,178 @@
--- What comes of a log that is brought up to a start, entry by entry.
-use Rattle.std.proofs.Common.{◌≡◌, refl, ap, sym, ◌∙◌, subst, ℕ, ◌+◌, ◌-◌, ◌<◌, ◌≤◌, ◌⊎◌, inl, inr, min, le_trans, arith, List, [], ◌∷◌, ◌++◌, length, take, drop, Option, Some, None, slice_get, append_assoc, take_at, length-append, false, true}
-use Rattle.std.specs.Prelude.{◌^◌, IfSome, IsErrOf, Result, Err}
+-- What comes of a log that is brought up to a start.
+use Rattle.std.proofs.Common.{◌≡◌, refl, ap, sym, ◌∙◌, subst, ℕ, ◌+◌, ◌-◌, ◌≤◌, inl, le_trans, arith, List, [], ◌∷◌, ◌++◌, length, take, drop, Option, Some, None, append_assoc, drop_at, false}
+use Rattle.std.specs.Prelude.{◌≢◌, ◌^◌, IfSome, IsErrOf, Err}
 use Rattle.std.proofs.Math.Nat.{le-min, min-le_left, min-le_right}
-use Rattle.std.proofs.lemmas.Option.{slice_get_within, get_or_from_slice_get}
+use Rattle.std.proofs.lemmas.List.{take_rest}
 use Rattle.dr_entry.specs.declared.entry.Entry.{Entry}
-use Rattle.dr_entry.specs.declared.entry.Entry.TheVariants.{View}
-use Rattle.dr_entry.specs.declared.record.Record.TheVariants as records
-use Rattle.dr_entry.specs.declared.record.Vote.{Vote}
 use Rattle.dr_disk.specs.Disk.{Told, state_of}
+use Rattle.dr_disk.specs.Calls.{State}
 use Rattle.dr_disk.specs.Images.{AllImages, Goes, IsLeft}
-use Rattle.dr_disk.proofs.Moments.{goes_on, stays_at}
+use Rattle.dr_disk.proofs.Moments.{stays_at}
 use Rattle.dr_history.specs.History.{IsPrefixOf}
-use Rattle.dr_history_laws.proofs.Lists.{take-next}
 use Rattle.dr_io.specs.Faults.{Rose}
 use Rattle.dr_log.specs.declared.fault.LogFault.{LogFault}
 use Rattle.dr_log.specs.declared.fault.LogFault.TheVariants as logs
-use Rattle.dr_log.specs.Standing.{IsBeforeOrAfter, StandsFor, block_length, log_length, with_entry, with_vote}
-use Rattle.dr_log.specs.State.{KeepsLimit, LogState, broken_off}
-use Rattle.dr_logged.specs.Served.{IsSafe}
 use Rattle.dr_gather.specs.declared.catching_up.CatchFault.{CatchFault}
 use Rattle.dr_gather.specs.declared.catching_up.CatchFault.TheVariants.{DiskFault, LogFull}
-use Rattle.dr_gather.specs.CatchingUp.{HasCaughtUp, HasFirst, WentSo}
+use Rattle.dr_log.specs.Grouping.{added_all, group}
+use Rattle.dr_log.specs.Standing.{IsNoneOrAll, StandsFor, as_records, entries_length}
+use Rattle.dr_log.specs.State.{KeepsLimit, LogState, appended_all, broken_off_all}
+use Rattle.dr_logged.specs.Served.{IsSafe}
+use Rattle.dr_gather.specs.CatchingUp.{FitsOrIsFull, HasCaughtUp, HasStayed, IsLeftAlone, lacked}
 
--- a log with a part of the entries has come so far, when it has got room
-pub caught_begins : {D : Type 0} (told : D → Option Told) (faults : D → ℕ) (whole : List Entry)
-    (old new : LogState D) → IsPrefixOf old.entries whole → new.entries ≡ old.entries
-    → new.votes ≡ old.votes → new.limit ≡ old.limit → told new.disk ≡ told old.disk
-    → faults new.disk ≡ faults old.disk
-    → IsLeft (told new.disk) (λ image. StandsFor image new.entries new.votes)
-    → HasCaughtUp told faults whole old new (length old.entries)
-caught_begins told faults whole old new part entries votes limit tells calm safe = record {
-  enough = omega arith;
-  most = most;
-  entries = entries ∙ front;
+-- a log that got room, or none, is as before but for its disk and its spares: it tells the same, and what is
+-- on it is safe
+pub record GotRoom {D : Type 0} (told : D → Option Told) (faults : D → ℕ) (old new : LogState D)
+    : Type 0 where
+  pub spare_entries : ℕ
+  pub spare_votes : ℕ
+  pub is : new ≡ record old { disk = new.disk; spare_entries = spare_entries; spare_votes = spare_votes }
+  pub tells : told new.disk ≡ told old.disk
+  pub safe : IsSafe told new
+  pub calm : faults new.disk ≡ faults old.disk
+
+-- so it has stayed, and was left alone
+pub stayed_still : {D : Type 0} (told : D → Option Told) (faults : D → ℕ) (whole : List Entry)
+    (old new : LogState D) → GotRoom told faults old new → HasStayed told faults whole old new
+stayed_still {D} told faults whole old new got = record {
+  entries = entries;
   votes = votes;
-  limit = limit;
-  moments = subst (λ (o : Option Told). Goes o (told new.disk) (λ s. HasFirst n whole old.votes)) tells
-      (stays_at (told new.disk) (λ s. HasFirst n whole old.votes) (keeps (told new.disk) safe));
-  calm = λ whole. calm;
-  later = omega (arith, calm);
+  long = ap (λ (s : LogState D). s.length) got.is;
+  limit = ap (λ (s : LogState D). s.limit) got.is;
+  moments = subst (λ (o : Option Told). Goes (told old.disk) o none_or_all) (sym got.tells)
+      (stays_at (told old.disk) none_or_all (first (told old.disk)
+      (subst (λ (o : Option Told). IsLeft o (λ image. StandsFor image old.entries old.votes)) got.tells
+      (rw (← entries, ← votes) got.safe))));
+  later = omega (arith, got.calm);
 }
   where
-    n : ℕ
-    n = length old.entries
+    entries : new.entries ≡ old.entries
+    entries = ap (λ (s : LogState D). s.entries) got.is
 
-    front : old.entries ≡ take n whole
-    front = sym (ap (take n) (sym part.1) ∙ take_at old.entries part.0 n refl)
+    votes : new.votes ≡ old.votes
+    votes = ap (λ (s : LogState D). s.votes) got.is
 
-    most : n ≤ length whole
-    most = omega (arith, ap length part.1, length-append old.entries part.0)
+    none_or_all : State → List ℕ → Type 0
+    none_or_all s = IsNoneOrAll old.entries old.votes (lacked old whole)
 
-    first : (image : List ℕ) → StandsFor image new.entries new.votes → HasFirst n whole old.votes image
-    first image is = record {
-      count = n;
-      enough = omega arith;
-      most = most;
-      stands = rw (← front, ← entries, ← votes) is;
-    }
+    first : (t : Option Told) → IsLeft t (λ image. StandsFor image old.entries old.votes)
+        → IfSome t (λ t. AllImages (state_of t) (none_or_all (state_of t)))
+    first None safe = tt
+    first (Some t) safe = λ image is. inl (safe image is)
 
-    keeps : (t : Option Told) → IsLeft t (λ image. StandsFor image new.entries new.votes)
-        → IfSome t (λ t. AllImages (state_of t) (HasFirst n whole old.votes))
-    keeps None safe = tt
-    keeps (Some t) safe = λ image is. first image (safe image is)
-
--- what images stand for before and after an append of the next entry
-next_first : {D : Type 0} (told : D → Option Told) (faults : D → ℕ) (whole : List Entry)
-    (old log : LogState D) (n : ℕ) (e : Entry) (image : List ℕ) → HasCaughtUp told faults whole old log n
-    → slice_get whole n ≡ Some e → IsBeforeOrAfter log.entries log.votes (records.Entry e) image
-    → HasFirst (length old.entries) whole old.votes image
-next_first told faults whole old log n e image is at (inl before) = record {
-  count = n;
-  enough = is.enough;
-  most = is.most;
-  stands = rw (← is.entries, ← is.votes) before;
-}
-next_first told faults whole old log n e image is at (inr after) = record {
-  count = n + 1;
-  enough = omega (arith, is.enough);
-  most = omega (arith, slice_get_within whole n e at);
-  stands = rw (take-next whole n e at, ← is.entries, ← is.votes) after;
+pub left_alone : {D : Type 0} (told : D → Option Told) (faults : D → ℕ) (old new : LogState D)
+    → old.failed ≡ false → GotRoom told faults old new → IsLeftAlone told faults old new
+left_alone {D} told faults old new whole got = record {
+  unfailed = ap (λ (s : LogState D). s.failed) got.is ∙ whole;
+  tells = got.tells;
+  safe = got.safe;
+  calm = got.calm;
 }
 
-moments_on : {D : Type 0} (told : D → Option Told) (faults : D → ℕ) (whole : List Entry)
-    (old log new : LogState D) (n : ℕ) (e : Entry) → HasCaughtUp told faults whole old log n
-    → slice_get whole n ≡ Some e
-    → Goes (told log.disk) (told new.disk) (λ s. IsBeforeOrAfter log.entries log.votes (records.Entry e))
-    → Goes (told old.disk) (told new.disk) (λ s. HasFirst (length old.entries) whole old.votes)
-moments_on told faults whole old log new n e is at goes =
-    goes_on (told old.disk) (told log.disk) (told new.disk)
-    (λ s. HasFirst (length old.entries) whole old.votes)
-    (λ s. IsBeforeOrAfter log.entries log.votes (records.Entry e))
-    (λ s. HasFirst (length old.entries) whole old.votes)
-    (λ t image told here. here)
-    (λ first next image here there after. next_first told faults whole old log n e image is at after)
-    is.moments goes
+-- the moments of an append to it
+moments_on : {D : Type 0} (told : D → Option Told) (faults : D → ℕ) (whole news : List Entry)
+    (old log new : LogState D) → GotRoom told faults old log → news ≡ lacked old whole
+    → Goes (told log.disk) (told new.disk) (λ s. IsNoneOrAll log.entries log.votes news)
+    → Goes (told old.disk) (told new.disk) (λ s. IsNoneOrAll old.entries old.votes (lacked old whole))
+moments_on {D} told faults whole news old log new got is goes =
+    rw (
+      ← is,
+      ← got.tells,
+      ← ap (λ (s : LogState D). s.entries) got.is,
+      ← ap (λ (s : LogState D). s.votes) got.is,
+    ) goes
 
--- an entry more
-pub caught_more : {D : Type 0} (told : D → Option Told) (faults : D → ℕ) (whole : List Entry)
-    (old log new : LogState D) (n : ℕ) (e : Entry) → HasCaughtUp told faults whole old log n
-    → slice_get whole n ≡ Some e → new.entries ≡ log.entries ++ e ∷ [] → new.votes ≡ log.votes
-    → new.limit ≡ log.limit
-    → Goes (told log.disk) (told new.disk) (λ s. IsBeforeOrAfter log.entries log.votes (records.Entry e))
-    → log.failed ≡ false → faults new.disk ≡ faults log.disk → HasCaughtUp told faults whole old new (n + 1)
-caught_more told faults whole old log new n e is at entries votes limit goes good calm = record {
-  enough = omega (arith, is.enough);
-  most = omega (arith, slice_get_within whole n e at);
-  entries = entries ∙ (ap (λ (l : List Entry). l ++ e ∷ []) is.entries ∙ sym (take-next whole n e at));
-  votes = votes ∙ is.votes;
-  limit = limit ∙ is.limit;
-  moments = moments_on told faults whole old log new n e is at goes;
-  calm = λ whole. calm ∙ is.calm good;
-  later = omega (arith, is.later, calm);
+-- once what it lacks was appended
+pub caught_all : {D : Type 0} (told : D → Option Told) (faults : D → ℕ) (whole news : List Entry)
+    (old log new : LogState D) → GotRoom told faults old log → old.failed ≡ false
+    → old.entries ++ news ≡ whole → news ≡ lacked old whole → new ≡ appended_all log news new.disk
+    → told new.disk ≡ added_all (group log.length (as_records news)) (told log.disk)
+    → Goes (told log.disk) (told new.disk) (λ s. IsNoneOrAll log.entries log.votes news)
+    → IsSafe told new → faults new.disk ≡ faults log.disk → HasCaughtUp told faults whole old new
+caught_all {D} told faults whole news old log new got good all is made calls goes safe calm = record {
+  entries = ap (λ (s : LogState D). s.entries) made ∙ ap (λ (l : List Entry). l ++ news) entries ∙ all;
+  votes = ap (λ (s : LogState D). s.votes) made ∙ ap (λ (s : LogState D). s.votes) got.is;
+  long = ap (λ (s : LogState D). s.length) made ∙ ap (λ (n : ℕ). n + entries_length news) length_is
+      ∙ ap (λ (l : List Entry). old.length + entries_length l) is;
+  limit = limit ∙ ap (λ (s : LogState D). s.limit) got.is;
+  unfailed = ap (λ (s : LogState D). s.failed) made ∙ ap (λ (s : LogState D). s.failed) got.is ∙ good;
+  calls = calls ∙ ap (added_all (group log.length (as_records news))) got.tells
+      ∙ ap (λ (n : ℕ). added_all (group n (as_records news)) (told old.disk)) length_is
+      ∙ ap (λ (l : List Entry). added_all (group old.length (as_records l)) (told old.disk)) is;
+  moments = moments_on told faults whole news old log new got is goes;
+  safe = safe;
+  calm = calm ∙ got.calm;
+}
+  where
+    entries : log.entries ≡ old.entries
+    entries = ap (λ (s : LogState D). s.entries) got.is
+
+    length_is : log.length ≡ old.length
+    length_is = ap (λ (s : LogState D). s.length) got.is
+
+    limit : new.limit ≡ log.limit
+    limit = ap (λ (s : LogState D). s.limit) made
+
+-- an append of it that was refused, or failed
+pub stayed_all : {D : Type 0} (told : D → Option Told) (faults : D → ℕ) (whole news : List Entry)
+    (old log new : LogState D) → GotRoom told faults old log → news ≡ lacked old whole
+    → new.entries ≡ log.entries → new.votes ≡ log.votes → new.length ≡ log.length → new.limit ≡ log.limit
+    → Goes (told log.disk) (told new.disk) (λ s. IsNoneOrAll log.entries log.votes news)
+    → faults log.disk ≤ faults new.disk → HasStayed told faults whole old new
+stayed_all {D} told faults whole news old log new got is entries votes long limit goes later = record {
+  entries = entries ∙ ap (λ (s : LogState D). s.entries) got.is;
+  votes = votes ∙ ap (λ (s : LogState D). s.votes) got.is;
+  long = long ∙ ap (λ (s : LogState D). s.length) got.is;
+  limit = limit ∙ ap (λ (s : LogState D). s.limit) got.is;
+  moments = moments_on told faults whole news old log new got is goes;
+  later = omega (arith, got.calm, later);
 }
 
--- an append that failed
-pub caught_no_more : {D : Type 0} (told : D → Option Told) (faults : D → ℕ) (whole : List Entry)
-    (old log new : LogState D) (n : ℕ) (e : Entry) → HasCaughtUp told faults whole old log n
-    → slice_get whole n ≡ Some e → new.entries ≡ log.entries → new.votes ≡ log.votes
-    → new.limit ≡ log.limit
-    → Goes (told log.disk) (told new.disk) (λ s. IsBeforeOrAfter log.entries log.votes (records.Entry e))
-    → (new.failed ≡ false → faults new.disk ≡ faults old.disk) → faults log.disk ≤ faults new.disk
-    → HasCaughtUp told faults whole old new n
-caught_no_more told faults whole old log new n e is at entries votes limit goes calm later = record {
-  enough = is.enough;
-  most = is.most;
-  entries = entries ∙ is.entries;
-  votes = votes ∙ is.votes;
-  limit = limit ∙ is.limit;
-  moments = moments_on told faults whole old log new n e is at goes;
-  calm = calm;
-  later = omega (arith, is.later, later);
-}
+-- so by the answer
+pub stopped_stayed : {D : Type 0} (T : Type 0) (told : D → Option Told) (faults : D → ℕ) (whole news : List Entry)
+    (old log new : LogState D) (count : ℕ) (why : LogFault) → GotRoom told faults old log
+    → news ≡ lacked old whole
+    → (IsErrOf {T = T} (Err why) logs.DiskFault → new ≡ broken_off_all log count new.disk)
+    → ((len : ℕ) → IsErrOf {T = T} (Err why) (logs.LogFull len) → new ≡ log)
+    → Goes (told log.disk) (told new.disk) (λ s. IsNoneOrAll log.entries log.votes news)
+    → faults log.disk ≤ faults new.disk → HasStayed told faults whole old new
+stopped_stayed {D} T told faults whole news old log new count logs.DiskFault got is broken full goes later =
+    let same = broken refl in
+    stayed_all told faults whole news old log new got is (ap (λ (s : LogState D). s.entries) same)
+    (ap (λ (s : LogState D). s.votes) same) (ap (λ (s : LogState D). s.length) same)
+    (ap (λ (s : LogState D). s.limit) same) goes later
+stopped_stayed {D} T told faults whole news old log new count (logs.LogFull len) got is broken full goes later =
+    let same = full len refl in
+    stayed_all told faults whole news old log new got is (ap (λ (s : LogState D). s.entries) same)
+    (ap (λ (s : LogState D). s.votes) same) (ap (λ (s : LogState D). s.length) same)
+    (ap (λ (s : LogState D). s.limit) same) goes later
+
+pub full_alone : {D : Type 0} (T : Type 0) (told : D → Option Told) (faults : D → ℕ) (old log new : LogState D)
+    (why : LogFault) (answer : CatchFault) → old.failed ≡ false → GotRoom told faults old log
+    → ((len : ℕ) → IsErrOf {T = T} (Err why) (logs.LogFull len) → new ≡ log)
+    → (why ≡ logs.DiskFault → answer ≡ DiskFault) → answer ≢ DiskFault → IsLeftAlone told faults old new
+full_alone T told faults old log new logs.DiskFault answer good got full disk other = absurd (other (disk refl))
+full_alone T told faults old log new (logs.LogFull len) answer good got full disk other =
+    subst (IsLeftAlone told faults old) (sym (full len refl)) (left_alone told faults old log good got)
+
+-- which refusal of the log's an answer tells
+pub told_disk : (T : Type 0) (why : LogFault) (answer : CatchFault)
+    → ((len : ℕ) → why ≡ logs.LogFull len → answer ≡ LogFull len) → IsErrOf {T = T} (Err answer) DiskFault
+    → why ≡ logs.DiskFault
+told_disk T logs.DiskFault answer over is = refl
+told_disk T (logs.LogFull len) answer over is = let e = over len refl in absurd cc
+
+-- whether the log fits or is full, by that
+pub full_by : {D : Type 0} (T : Type 0) (old log : LogState D) (size : ℕ) (why : LogFault) (answer : CatchFault)
+    → log.length ≡ old.length → log.limit ≡ old.limit
+    → KeepsLimit log.limit log.length size {T = T} (Err why)
+    → (why ≡ logs.DiskFault → answer ≡ DiskFault)
+    → ((len : ℕ) → why ≡ logs.LogFull len → answer ≡ LogFull len)
+    → FitsOrIsFull old.limit old.length size {T = T} (Err answer)
+full_by T old log size logs.DiskFault answer long limit keeps disk over =
+    rw (disk refl) (omega (arith, keeps, long, limit))
+full_by T old log size (logs.LogFull len) answer long limit keeps disk over =
+    rw (over len refl) (keeps.0 ∙ long, omega (arith, keeps.1, long, limit))
 
 -- a count that rose from a later value rose from an earlier one
 pub rose_since : (base old new : ℕ) → base ≤ old → Rose old new → Rose base new
@@ -143,51 +185,22 @@ pub part_of_opened : (es start : List Entry) (v : Entry) → IsPrefixOf es start
 part_of_opened es start v part =
     (part.0 ++ v ∷ [], sym (append_assoc es part.0 (v ∷ [])) ∙ ap (λ (l : List Entry). l ++ v ∷ []) part.1)
 
--- the log by an append that was refused, and by the answer then
-pub stopped : {D : Type 0} (T : Type 0) (told : D → Option Told) (faults : D → ℕ) (whole : List Entry)
-    (old log new : LogState D) (n : ℕ) (e : Entry) (why : LogFault) (answer : CatchFault)
-    → HasCaughtUp told faults whole old log n → slice_get whole n ≡ Some e → log.failed ≡ false
-    → IsSafe told log
-    → (IsErrOf {T = T} (Err why) logs.DiskFault → new ≡ broken_off log (records.Entry e) new.disk)
-    → ((len : ℕ) → IsErrOf {T = T} (Err why) (logs.LogFull len) → new ≡ log)
-    → KeepsLimit log.limit (log_length log.entries log.votes) (block_length (records.Entry e)) {T = T} (Err why)
-    → Goes (told log.disk) (told new.disk) (λ s. IsBeforeOrAfter log.entries log.votes (records.Entry e))
-    → (IsErrOf {T = T} (Err why) logs.DiskFault → Rose (faults log.disk) (faults new.disk))
-    → faults log.disk ≤ faults new.disk
-    → (why ≡ logs.DiskFault → answer ≡ DiskFault) → ((len : ℕ) → why ≡ logs.LogFull len → answer ≡ LogFull len)
-    → (k : ℕ) × HasCaughtUp told faults whole old new k
-    × WentSo told faults whole old new k {T = T} (Err answer)
-stopped {D} T told faults whole old log new n e logs.DiskFault answer is at good safe broken full limit goes cause
-    later disk over =
-    let same = broken refl in
-    let failed : new.failed ≡ true = ap (λ (s : LogState D). s.failed) same in
-    let more : HasCaughtUp told faults whole old new n = caught_no_more told faults whole old log new n e is at
-    (ap (λ (s : LogState D). s.entries) same) (ap (λ (s : LogState D). s.votes) same)
-    (ap (λ (s : LogState D). s.limit) same) goes
-    (λ unfailed. absurd (cc (sym failed ∙ unfailed))) later in (
-      n,
-      more,
-      subst (λ (a : CatchFault). WentSo told faults whole old new n {T = T} (Err a)) (sym (disk refl)) (
-        slice_get_within whole n e at,
-        failed,
-        rose_since (faults old.disk) (faults log.disk) (faults new.disk) is.later (cause refl),
-      ),
-    )
-stopped {D} T told faults whole old log new n e (logs.LogFull len) answer is at good safe broken full limit goes
-    cause later disk over =
-    let same = full len refl in
-    let more : HasCaughtUp told faults whole old new n = caught_no_more told faults whole old log new n e is at
-    (ap (λ (s : LogState D). s.entries) same) (ap (λ (s : LogState D). s.votes) same)
-    (ap (λ (s : LogState D). s.limit) same) goes
-    (λ unfailed. ap (λ (s : LogState D). faults s.disk) same ∙ is.calm good) later in (
-      n,
-      more,
-      subst (λ (a : CatchFault). WentSo told faults whole old new n {T = T} (Err a)) (sym (over len refl)) (
-        slice_get_within whole n e at,
-        ap (λ (s : LogState D). s.failed) same ∙ good,
-        subst (IsSafe told) (sym same) safe,
-        limit.0 ∙ sym (ap (λ (s : LogState D). log_length s.entries s.votes) same),
-        rw (ap (λ (s : LogState D). s.limit) same, get_or_from_slice_get whole n e (View 0 0 0) at)
-            (subst (λ (k : ℕ). log.limit < k + block_length (records.Entry e)) (sym limit.0) limit.1),
-      ),
-    )
+-- what a log lacks of a start, by a slice of it
+pub lacking : (es start have entries : List Entry) → IsPrefixOf es start → have ≡ es → entries ≡ start
+    → es ++ take (length entries - length have) (drop (length have) entries) ≡ start
+lacking es start have entries part mine whole =
+    let rest : take (length start - length es) (drop (length es) start) ≡ part.0 =
+    take_rest start (length es) ∙ ap (drop (length es)) (sym part.1) ∙ drop_at es part.0 (length es) refl in
+    ap (λ (l : List Entry). es ++ take (length entries - length l) (drop (length l) entries)) mine
+    ∙ ap (λ (l : List Entry). es ++ take (length l - length es) (drop (length es) l)) whole
+    ∙ ap (λ (l : List Entry). es ++ l) rest ∙ part.1
+
+pub lacking_all : (es rest start : List Entry) (v w : Entry) → es ++ rest ≡ start → v ≡ w
+    → es ++ (rest ++ v ∷ []) ≡ start ++ w ∷ []
+lacking_all es rest start v w is same =
+    sym (append_assoc es rest (v ∷ [])) ∙ ap (λ (l : List Entry). l ++ v ∷ []) is
+    ∙ ap (λ (x : Entry). start ++ x ∷ []) same
+
+-- so what it lacks of all that the age begins with
+pub lacked_is : (es rest whole : List Entry) → es ++ rest ≡ whole → rest ≡ drop (length es) whole
+lacked_is es rest whole all = sym (drop_at es rest (length es) refl) ∙ ap (drop (length es)) all

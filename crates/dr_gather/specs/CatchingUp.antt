@@ -1,14 +1,13 @@
 -- What comes of a log that is brought up to a start.
-use Rattle.std.specs.Prelude.{◌≡◌, ℕ, ◌+◌, ◌<◌, ◌≤◌, false, true, List, [], ◌∷◌, ◌++◌, length, take, Option, Result, Ok, Err}
+use Rattle.std.specs.Prelude.{◌≡◌, ⊤, ℕ, ◌+◌, ◌<◌, ◌≤◌, false, List, [], ◌∷◌, ◌++◌, length, drop, Option, Result, Ok, Err}
 use Rattle.dr_entry.specs.declared.entry.Entry.{Entry}
 use Rattle.dr_entry.specs.declared.entry.Entry.TheVariants.{View}
-use Rattle.dr_entry.specs.declared.record.Vote.{Vote}
 use Rattle.dr_disk.specs.Disk.{Told}
 use Rattle.dr_disk.specs.Images.{Goes}
-use Rattle.dr_io.specs.Faults.{Rose}
-use Rattle.dr_log.specs.Standing.{StandsFor, block_length, log_length}
+use Rattle.dr_log.specs.Grouping.{added_all, group}
+use Rattle.dr_log.specs.Standing.{IsNoneOrAll, as_records, entries_length}
 use Rattle.dr_log.specs.State.{LogState}
-use Rattle.dr_logged.specs.Served.{IsSafe, next_record}
+use Rattle.dr_logged.specs.Served.{IsSafe}
 use Rattle.dr_restart.specs.declared.start.Start.{Start}
 use Rattle.dr_gather.specs.declared.catching_up.CatchFault.{CatchFault}
 use Rattle.dr_gather.specs.declared.catching_up.CatchFault.TheVariants.{OutOfMemory, DiskFault, LogFull}
@@ -17,36 +16,49 @@ use Rattle.dr_gather.specs.declared.catching_up.CatchFault.TheVariants.{OutOfMem
 abbrev pub opened_with : Start → ℕ → List Entry
 opened_with start members = start.entries ++ View start.age 0 members ∷ []
 
--- bytes stand for the first entries of a list, at least so many, and these votes
-pub record HasFirst (least : ℕ) (whole : List Entry) (votes : List Vote) (image : List ℕ) : Type 0 where
-  pub count : ℕ
-  pub enough : least ≤ count
-  pub most : count ≤ length whole
-  pub stands : StandsFor image (take count whole) votes
+-- what a log lacks of a list whose first entries are its own
+abbrev pub lacked : {D : Type 0} → LogState D → List Entry → List Entry
+lacked log whole = drop (length log.entries) whole
 
--- A log has come to the first n entries of a list, since it was `old`: no fewer than it had, with its votes
--- and its limit. At no moment a crash would have lost what it had, or left what is not of the list.
+-- A log has come to a list whose first entries it had: what it lacked was written behind one gate, and is
+-- safe. At each moment a crash would have left none of it, or all.
 pub record HasCaughtUp {D : Type 0} (told : D → Option Told) (faults : D → ℕ) (whole : List Entry)
-    (old new : LogState D) (n : ℕ) : Type 0 where
-  pub enough : length old.entries ≤ n
-  pub most : n ≤ length whole
-  pub entries : new.entries ≡ take n whole
+    (old new : LogState D) : Type 0 where
+  pub entries : new.entries ≡ whole
   pub votes : new.votes ≡ old.votes
+  pub long : new.length ≡ old.length + entries_length (lacked old whole)
   pub limit : new.limit ≡ old.limit
-  pub moments : Goes (told old.disk) (told new.disk) (λ s. HasFirst (length old.entries) whole old.votes)
-  -- its disk has counted no fault, unless one ended the log
-  pub calm : new.failed ≡ false → faults new.disk ≡ faults old.disk
+  pub unfailed : new.failed ≡ false
+  pub calls : told new.disk ≡ added_all (group old.length (as_records (lacked old whole))) (told old.disk)
+  pub moments : Goes (told old.disk) (told new.disk)
+      (λ s. IsNoneOrAll old.entries old.votes (lacked old whole))
+  pub safe : IsSafe told new
+  pub calm : faults new.disk ≡ faults old.disk
+
+-- A log that was to come to a list has what it had. At each moment a crash would have left none of what it
+-- lacked, or all.
+pub record HasStayed {D : Type 0} (told : D → Option Told) (faults : D → ℕ) (whole : List Entry)
+    (old new : LogState D) : Type 0 where
+  pub entries : new.entries ≡ old.entries
+  pub votes : new.votes ≡ old.votes
+  pub long : new.length ≡ old.length
+  pub limit : new.limit ≡ old.limit
+  pub moments : Goes (told old.disk) (told new.disk)
+      (λ s. IsNoneOrAll old.entries old.votes (lacked old whole))
   pub later : faults old.disk ≤ faults new.disk
 
--- How far it has come by the answer, and whether it has failed. Unless the disk failed, each crash leaves
--- what is on it now.
-abbrev pub WentSo : {D : Type 0} → (D → Option Told) → (D → ℕ) → List Entry → LogState D → LogState D → ℕ
-    → {T : Type 0} → Result T CatchFault → Type 0
-WentSo told faults whole old new n (Ok _) = (n ≡ length whole) × (new.failed ≡ false) × IsSafe told new
-WentSo told faults whole old new n (Err OutOfMemory) =
-    (n ≡ length old.entries) × (new.failed ≡ false) × IsSafe told new
-WentSo told faults whole old new n (Err DiskFault) =
-    (n < length whole) × (new.failed ≡ true) × Rose (faults old.disk) (faults new.disk)
-WentSo told faults whole old new n (Err (LogFull len)) =
-    (n < length whole) × (new.failed ≡ false) × IsSafe told new × (len ≡ log_length new.entries new.votes)
-    × (new.limit < len + block_length (next_record whole n))
+-- no call was made of its disk, and what is on it is safe
+pub record IsLeftAlone {D : Type 0} (told : D → Option Told) (faults : D → ℕ) (old new : LogState D)
+    : Type 0 where
+  pub unfailed : new.failed ≡ false
+  pub tells : told new.disk ≡ told old.disk
+  pub safe : IsSafe told new
+  pub calm : faults new.disk ≡ faults old.disk
+
+-- A log of this length is answered to be full, with its length, exactly where with so many bytes more it would
+-- exceed the limit, unless memory was wanting.
+abbrev pub FitsOrIsFull : ℕ → ℕ → ℕ → {T : Type 0} → Result T CatchFault → Type 0
+FitsOrIsFull limit len size (Ok _) = len + size ≤ limit
+FitsOrIsFull limit len size (Err OutOfMemory) = ⊤
+FitsOrIsFull limit len size (Err DiskFault) = len + size ≤ limit
+FitsOrIsFull limit len size (Err (LogFull at)) = (at ≡ len) × (limit < len + size)

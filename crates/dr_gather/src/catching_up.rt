@@ -1,13 +1,15 @@
 //! Brings a log up to a start.
-ghost use Rattle.std.specs.Prelude.{◌≡◌, ◌<◌, ◌≤◌, ℕ, false, All, Some, length, slice_get};
+ghost use Rattle.std.specs.Prelude.{◌≡◌, ◌≢◌, ◌<◌, ℕ, false, true, All, IfErr, IsErrOf, OnErr, OnOk};
 ghost use Rattle.dr_entry.specs.Spelling.{IsValidEntry};
 ghost use Rattle.dr_history.specs.History.{IsPrefixOf};
+ghost use Rattle.dr_io.specs.Faults.{Rose};
 ghost use Rattle.dr_log.specs.declared.fault.LogFault.TheVariants.{DiskFault, LogFull};
 ghost use Rattle.dr_gather.specs.declared.catching_up.CatchFault.TheVariants as faults;
-ghost use Rattle.dr_gather.specs.CatchingUp.{HasCaughtUp, WentSo, opened_with};
+ghost use Rattle.dr_log.specs.Standing.{entries_length};
+ghost use Rattle.dr_gather.specs.CatchingUp.{FitsOrIsFull, HasCaughtUp, HasStayed, IsLeftAlone, lacked, opened_with};
 
 use dr_disk::Disk;
-use dr_entry::{Entry, Record};
+use dr_entry::Entry;
 use dr_log::{Log, LogFault};
 use dr_restart::Start;
 use dr_words::Mask;
@@ -45,46 +47,40 @@ fn fault_of(fault: LogFault) -> CatchFault
     }
 }
 
-/// Appends what a log lacks of a start's entries, and then View 0 of the age, with these members. It takes
-/// its memory first.
+/// Appends what a log lacks of a start's entries, and then View 0 of the age, with these members, all of them
+/// behind one gate. It takes its memory first.
 ///
 /// # Errors
 ///
-/// Want of memory, a fault of the disk, or a log that would become longer than its limit. The log keeps what
-/// it had, and may have more of the entries.
+/// Want of memory, a fault of the disk, or a log that would become longer than its limit. The log has what it
+/// had; its disk may have all of the new entries where it failed, and never some of them alone.
 pub fn catch_up<D: Disk>(start: &Start, members: Mask, log: &mut Log<D>) -> Result<(), CatchFault>
     requires valid { All IsValidEntry start.now.entries }
     requires some { 0 < members }
     requires part { IsPrefixOf log.old.entries start.now.entries }
     requires whole { log.old.failed ≡ false }
-    ensures { (n : ℕ) × HasCaughtUp D.told D.faults (opened_with start.now members) log.old log.new n
-        × WentSo D.told D.faults (opened_with start.now members) log.old log.new n result }
+    ensures caught { OnOk result
+        (HasCaughtUp D.told D.faults (opened_with start.now members) log.old log.new) }
+    ensures stayed { OnErr result
+        (HasStayed D.told D.faults (opened_with start.now members) log.old log.new) }
+    // Unless the disk failed, nothing was asked of it.
+    ensures left_alone { IfErr result
+        (λ why. why ≢ faults.DiskFault → IsLeftAlone D.told D.faults log.old log.new) }
+    ensures failed { IsErrOf result faults.DiskFault → log.new.failed ≡ true }
+    ensures cause { IsErrOf result faults.DiskFault → Rose (D.faults log.old.disk) (D.faults log.new.disk) }
+    ensures limit { FitsOrIsFull log.old.limit log.old.length
+        (entries_length (lacked log.old (opened_with start.now members))) result }
 {
+    let entries = start.entries.as_slice();
     let have = log.entries().len();
-    let count = start.entries.as_slice().len() + 1;
-    log.reserve(count - have, 0)?;
-    for at in have..count {
-        if let Err(why) = log.append(&Record::Entry(entry_at(start, members, at))) {
-            return Err(fault_of(why));
-        }
-    }
-    Ok(())
-}
-
-/// Entry `at` of the start's, or View 0 behind them.
-fn entry_at(start: &Start, members: Mask, at: usize) -> Entry
-    requires at { at ≤ length start.now.entries }
-    requires valid { All IsValidEntry start.now.entries }
-    requires some { 0 < members }
-    ensures entry { slice_get (opened_with start.now members) at ≡ Some result }
-    ensures valid { IsValidEntry result }
-{
-    match start.entries.as_slice().get(at) {
-        Some(entry) => entry.copy(),
-        None => Entry::View {
-            age: start.age,
-            number: 0,
-            members: members.bits(),
-        },
+    log.reserve(entries.len() - have + 1, 0)?;
+    let view = Entry::View {
+        age: start.age,
+        number: 0,
+        members: members.bits(),
+    };
+    match log.append_entries(&entries[have..], &view) {
+        Ok(()) => Ok(()),
+        Err(why) => Err(fault_of(why)),
     }
 }

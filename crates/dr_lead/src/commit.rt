@@ -1,5 +1,5 @@
-ghost use Rattle.std.specs.Prelude.{◌≡◌, MatchOption};
-ghost use Rattle.dr_words.specs.Masks.{IsPartOf};
+ghost use Rattle.std.specs.Prelude.{◌↔◌, IsTrue, MatchOption};
+ghost use Rattle.dr_words.specs.Masks.{IsMajorityOf};
 ghost use Rattle.dr_lead.specs.Accepts.{Shows};
 ghost use Rattle.dr_lead.specs.Changes.{MayCommit, tagged_members};
 ghost use Rattle.dr_lead.specs.Standings.{IsStanding};
@@ -7,8 +7,9 @@ ghost use Rattle.dr_lead.specs.Standings.{IsStanding};
 use crate::Standing;
 use crate::accepts::{shown, tag};
 use dr_entry::{MAX_MEMBERS, Value};
+use dr_lane::count_equal;
 use dr_rows::Rows;
-use dr_words::Mask;
+use dr_words::unpack_accept;
 
 /// The value that the member commits now: its own, where its tag is that of more than half of the view.
 /// Rows of suspected members count too, as they were last seen.
@@ -20,24 +21,23 @@ pub fn try_commit(rows: &Rows, s: &Standing) -> Option<Value>
         (λ v. MayCommit rows.now s.now × Shows rows.now s.now.members s.now.me v) }
 {
     let own = tag(rows, &s.shape, s.me);
-    if own != 0 && tagged(rows, s, own).is_majority_of(s.members) {
+    if own != 0 && is_tagged_by_most(rows, s, own) {
         Some(shown(rows, &s.shape, s.members, s.me))
     } else {
         None
     }
 }
 
-// The members of the view whose row has this tag.
-fn tagged(rows: &Rows, s: &Standing, own: u8) -> Mask
+// Whether the rows of more than half of the view have this tag.
+fn is_tagged_by_most(rows: &Rows, s: &Standing, own: u8) -> bool
     requires { IsStanding rows.now s.now }
-    ensures value { result ≡ tagged_members rows.now s.now own }
-    ensures part { IsPartOf result s.now.members }
+    ensures { IsTrue result ↔ IsMajorityOf (tagged_members rows.now s.now own) s.now.members }
 {
-    let mut tagged = Mask::empty();
-    for row in 0..MAX_MEMBERS as u8 {
-        if s.members.has(row) && tag(rows, &s.shape, row) == own {
-            tagged = tagged.with(row);
-        }
+    let mut words = [0; MAX_MEMBERS];
+    let count = rows.column_of(s.shape.leavers_column(), s.members.bits(), &mut words);
+    let mut tags = [0; MAX_MEMBERS];
+    for i in 0..count {
+        tags[i] = u64::from(unpack_accept(words[i]).1);
     }
-    tagged
+    2 * count_equal(&tags[..count], u64::from(own)) > count
 }

@@ -2,7 +2,7 @@
 -- records.
 use Rattle.std.proofs.Common.{◌≡◌, ℕ, ◌+◌, ◌*◌, ◌<◌, ◌≤◌, List, All, [], ◌∷◌, ◌++◌, length, inl, inr, ⊎_elim, refl, sym, ap, ◌∙◌, append_assoc, append-nil, arith, length-append}
 use Rattle.std.proofs.lemmas.Bool.{cases_lt}
-use Rattle.std.proofs.lemmas.List.Sums.{sum_by-cons, sum_by-le, sum_by_push}
+use Rattle.std.proofs.lemmas.List.Sums.{sum_by-append, sum_by-cons, sum_by-le, sum_by_push}
 use Rattle.dr_entry.specs.declared.entry.Entry.{Entry}
 use Rattle.dr_entry.specs.declared.entry.Entry.TheVariants.{View, Msg}
 use Rattle.dr_entry.specs.declared.record.Record.{Record}
@@ -10,7 +10,7 @@ use Rattle.dr_entry.specs.declared.record.Record.TheVariants as records
 use Rattle.dr_entry.specs.declared.record.Vote.{Vote}
 use Rattle.dr_entry.specs.Spelling.{IsValid, IsValidEntry, Fits, spelling, entry_spelling, vote_spelling}
 use Rattle.dr_log.specs.Grammar.{blocks, AreSpelled, IsLog, Recovered}
-use Rattle.dr_log.specs.Standing.{StandsFor, entries_in, votes_in, with_entry, with_vote, block_length, log_length}
+use Rattle.dr_log.specs.Standing.{StandsFor, entries_in, votes_in, with_entry, with_vote, block_length, entries_length, log_length, votes_length}
 use Rattle.dr_log.specs.State.{as_entry, as_vote}
 
 -- one block more
@@ -81,6 +81,22 @@ length_of_more es vs (records.Entry entry) =
 length_of_more es vs (records.Vote vote) =
     let longer = sum_by_push (λ (v : Vote). 1 + length (vote_spelling v)) vs vote in
     omega (arith, longer)
+
+-- so do entries more
+pub length_of_entries : (es : List Entry) (vs : List Vote) (news : List Entry)
+    → log_length (es ++ news) vs ≡ log_length es vs + entries_length news
+length_of_entries es vs news =
+    omega (arith, sum_by-append (λ (e : Entry). 1 + length (entry_spelling e)) es news)
+
+-- and votes
+pub length_of_both : (es fs : List Entry) (vs ws : List Vote)
+    → log_length (es ++ fs) (vs ++ ws) ≡ log_length es vs + (entries_length fs + votes_length ws)
+length_of_both es fs vs ws =
+    omega (
+      arith,
+      sum_by-append (λ (e : Entry). 1 + length (entry_spelling e)) es fs,
+      sum_by-append (λ (v : Vote). 1 + length (vote_spelling v)) vs ws,
+    )
 
 -- the same, where the lists are known to be these
 pub longer : (r : Record) (len size : ℕ) (es es' : List Entry) (vs vs' : List Vote)

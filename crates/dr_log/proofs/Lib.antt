@@ -5,3 +5,4 @@ pub mod Lasting
 pub mod Told
 pub mod Reading
 pub mod Mounting
+pub mod Groups

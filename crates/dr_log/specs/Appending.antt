@@ -1,5 +1,5 @@
--- The calls of a disk that a log makes.
-use Rattle.std.specs.Prelude.{◌≡◌, ℕ, ◌-◌, ◌<◌, ◌≤◌, List, [], ◌∷◌, length, Option, IfSome, ◌⊎◌}
+-- The calls of a disk by which a log is mounted.
+use Rattle.std.specs.Prelude.{◌≡◌, ℕ, ◌<◌, ◌≤◌, List, [], ◌∷◌, length, Option, IfSome, ◌⊎◌}
 use Rattle.dr_disk.specs.Calls.{Write, FailedWrite, Cut, FailedCut, Sync}
 use Rattle.dr_disk.specs.Disk.{Told, added, content_of}
 use Rattle.dr_log.specs.Grammar.{magic}
@@ -7,17 +7,6 @@ use Rattle.dr_log.specs.Grammar.{magic}
 -- these bytes were written at this place, and synced
 abbrev pub staged : ℕ → List ℕ → Option Told → Option Told
 staged at bytes told = added Sync (added (Write at bytes) told)
-
--- then the gate before them was opened, and synced
-abbrev pub opened : ℕ → List ℕ → Option Told → Option Told
-opened at bytes told = staged (at - 1) (1 ∷ []) (staged at bytes told)
-
--- some of the calls of `opened`, and then one that failed
-abbrev pub StopsOpening : ℕ → List ℕ → Option Told → Option Told → Type 0
-StopsOpening at bytes old new =
-    ((new ≡ added (FailedWrite at (length bytes)) old) ⊎ (new ≡ added (Write at bytes) old))
-    ⊎ ((new ≡ added (FailedWrite (at - 1) 1) (staged at bytes old))
-    ⊎ (new ≡ added (Write (at - 1) (1 ∷ [])) (staged at bytes old)))
 
 -- an empty log was made
 abbrev pub made : Option Told → Option Told

@@ -5,3 +5,4 @@ pub mod Appending
 pub mod Kept
 pub mod Blocks
 pub mod Parsed
+pub mod Grouping

@@ -1,5 +1,5 @@
 -- What is on a log: its entries and its votes, each kind in order.
-use Rattle.std.specs.Prelude.{◌≡◌, ℕ, ◌+◌, List, [], ◌∷◌, ◌++◌, length, sum_by, ◌⊎◌}
+use Rattle.std.specs.Prelude.{◌≡◌, ℕ, ◌+◌, List, [], ◌∷◌, ◌++◌, length, map, sum_by, ◌⊎◌}
 use Rattle.dr_entry.specs.declared.entry.Entry.{Entry}
 use Rattle.dr_entry.specs.declared.record.Record.{Record}
 use Rattle.dr_entry.specs.declared.record.Record.TheVariants as records
@@ -18,6 +18,10 @@ abbrev pub votes_in : List Record → List Vote
 votes_in [] = []
 votes_in (records.Entry entry ∷ rs) = votes_in rs
 votes_in (records.Vote vote ∷ rs) = vote ∷ votes_in rs
+
+-- these entries as records
+abbrev pub as_records : List Entry → List Record
+as_records = map records.Entry
 
 -- bytes stand for these entries and these votes
 pub record StandsFor (bytes : List ℕ) (es : List Entry) (vs : List Vote) : Type 0 where
@@ -46,6 +50,11 @@ abbrev pub IsBeforeOrAfter : List Entry → List Vote → Record → List ℕ �
 IsBeforeOrAfter entries votes r bytes =
     StandsFor bytes entries votes ⊎ StandsFor bytes (with_entry r entries) (with_vote r votes)
 
+-- bytes stand for these entries and votes, or for these and all of the new entries
+abbrev pub IsNoneOrAll : List Entry → List Vote → List Entry → List ℕ → Type 0
+IsNoneOrAll entries votes news bytes =
+    StandsFor bytes entries votes ⊎ StandsFor bytes (entries ++ news) votes
+
 -- an image stands for what some image of the disk from before stood for
 pub record KeepsRecords (s : State) (image : List ℕ) : Type 0 where
   pub before : List ℕ
@@ -56,8 +65,13 @@ pub record KeepsRecords (s : State) (image : List ℕ) : Type 0 where
 abbrev pub block_length : Record → ℕ
 block_length r = 1 + length (spelling r)
 
--- the length of a log of these: magic, blocks and the closed gate
+-- how many bytes these entries take with their gates, and these votes
+abbrev pub entries_length : List Entry → ℕ
+entries_length = sum_by (λ entry. 1 + length (entry_spelling entry))
+
+abbrev pub votes_length : List Vote → ℕ
+votes_length = sum_by (λ vote. 1 + length (vote_spelling vote))
+
+-- the length of a log on which nothing but these stands: magic, blocks and the closed gate
 abbrev pub log_length : List Entry → List Vote → ℕ
-log_length entries votes =
-    9 + sum_by (λ entry. 1 + length (entry_spelling entry)) entries + sum_by
-    (λ vote. 1 + length (vote_spelling vote)) votes
+log_length entries votes = 9 + entries_length entries + votes_length votes

@@ -1,21 +1,22 @@
 //! A member's log.
 
-ghost use Rattle.std.specs.Prelude.{◌≡◌, ◌≢◌, ◌+◌, ◌*◌, ◌≤◌, ◌++◌, [], ◌∷◌, ℕ, List, max, false, IfOk, IfErr, IfSome, IsErrOf, OnOk, OnErr};
+ghost use Rattle.std.specs.Prelude.{◌≡◌, ◌≢◌, ◌+◌, ◌*◌, ◌≤◌, ◌++◌, [], ◌∷◌, ℕ, List, All, length, max, false, IfOk, IfErr, IfSome, IsErrOf, OnOk, OnErr};
 ghost use Rattle.dr_io.specs.Faults.{Rose};
 ghost use Rattle.dr_disk.specs.Calls.{Sync};
 ghost use Rattle.dr_disk.specs.Disk.{added, content_of};
 ghost use Rattle.dr_disk.specs.Images.{Goes, IsLeft, Lasts, ReadsAnImage};
 ghost use Rattle.dr_entry.specs.declared.entry.Entry.{Entry};
 ghost use Rattle.dr_entry.specs.declared.record.Vote.{Vote};
-ghost use Rattle.dr_entry.specs.Spelling.{IsValid, spelling};
+ghost use Rattle.dr_entry.specs.Spelling.{IsValid, IsValidEntry};
 ghost use Rattle.dr_log.specs.declared.fault.LogFault.TheVariants.{DiskFault, LogFull};
 ghost use Rattle.dr_log.specs.declared.fault.MountWhy.TheVariants as why;
-ghost use Rattle.dr_log.specs.Appending.{IsMounted, opened};
+ghost use Rattle.dr_log.specs.Appending.{IsMounted};
 ghost use Rattle.dr_log.specs.Grammar.{IsDamaged};
-ghost use Rattle.dr_log.specs.Standing.{StandsFor, IsBeforeOrAfter, KeepsRecords, LosesNone, block_length, log_length};
-ghost use Rattle.dr_log.specs.State.{KeepsLimit, appended, broken_off, as_entry, as_vote};
+ghost use Rattle.dr_log.specs.Grouping.{added_all, group};
+ghost use Rattle.dr_log.specs.Standing.{StandsFor, IsBeforeOrAfter, IsNoneOrAll, KeepsRecords, LosesNone, as_records, block_length, entries_length, log_length};
+ghost use Rattle.dr_log.specs.State.{KeepsLimit, appended, appended_all, broken_off, broken_off_all, as_entry, as_vote};
 
-use crate::appending::put_behind;
+use crate::appending::{push_all, put_behind, put_group, size_of};
 use crate::fault::{LogFault, MountFault, MountWhy};
 use crate::making::CLOSED;
 use crate::opening::open;
@@ -56,6 +57,7 @@ impl<D: Disk> Model for Log<D> {
       disk = a.disk;
       entries = a.entries.items;
       votes = a.votes.items;
+      length = a.len;
       limit = a.limit;
       spare_entries = a.spare_entries;
       spare_votes = a.spare_votes;
@@ -84,6 +86,7 @@ impl<D: Disk> Log<D> {
         ensures read { IfOk result (λ _. IfSome (D.told disk) ReadsAnImage) }
         ensures durable { IfOk result (λ log. IsLeft (D.told log.disk)
             (λ image. StandsFor image log.entries log.votes)) }
+        ensures length { IfOk result (λ log. log.length ≡ log_length log.entries log.votes) }
         ensures limit { IfOk result (λ log. log.limit ≡ limit) }
         ensures whole { IfOk result (λ log. log.failed ≡ false) }
         // At any moment a crash leaves what it might have left before, as far as records go.
@@ -166,8 +169,7 @@ impl<D: Disk> Log<D> {
         ensures ok { OnOk result (self.new ≡ appended self.old r.now self.new.disk) }
         ensures fault { IsErrOf result DiskFault → self.new ≡ broken_off self.old r.now self.new.disk }
         ensures full { (len : ℕ) → IsErrOf result (LogFull len) → self.new ≡ self.old }
-        ensures limit { KeepsLimit self.old.limit (log_length self.old.entries self.old.votes)
-            (block_length r.now) result }
+        ensures limit { KeepsLimit self.old.limit self.old.length (block_length r.now) result }
         // At any moment a crash leaves the records from before, or these and the new one.
         ensures any_moment { Goes (D.told self.old.disk) (D.told self.new.disk)
             (λ s. IsBeforeOrAfter self.old.entries self.old.votes r.now) }
@@ -178,8 +180,7 @@ impl<D: Disk> Log<D> {
         ensures durable { OnOk result (IsLeft (D.told self.new.disk)
             (λ image. StandsFor image self.new.entries self.new.votes)) }
         ensures calls { OnOk result (D.told self.new.disk
-            ≡ opened (log_length self.old.entries self.old.votes) (spelling r.now ++ 0 ∷ [])
-            (D.told self.old.disk)) }
+            ≡ added_all (group self.old.length (r.now ∷ [])) (D.told self.old.disk)) }
         // No fault of the disk is hidden.
         ensures calm { OnOk result (D.faults self.new.disk ≡ D.faults self.old.disk) }
         ensures cause { IsErrOf result DiskFault → Rose (D.faults self.old.disk) (D.faults self.new.disk) }
@@ -202,6 +203,57 @@ impl<D: Disk> Log<D> {
         Ok(())
     }
 
+    /// Appends entries, the last of which is given apart, behind one gate: all of them are safe once this has
+    /// answered Ok, and none is on the log before. It takes no memory, a write for each, and then two syncs
+    /// with a write between them.
+    ///
+    /// # Errors
+    ///
+    /// The log would become longer than its limit, and is as before; or a call of the disk failed,
+    /// which ends the log: the disk has all of the entries or none.
+    pub fn append_entries(&mut self, first: &[Entry], last: &Entry) -> Result<(), LogFault>
+        requires valid { All IsValidEntry first.now }
+        requires valid_last { IsValidEntry last.now }
+        requires spares { length first.now + 1 ≤ self.old.spare_entries }
+        requires whole { self.old.failed ≡ false }
+        ensures ok { OnOk result (self.new
+            ≡ appended_all self.old (first.now ++ last.now ∷ []) self.new.disk) }
+        ensures fault { IsErrOf result DiskFault
+            → self.new ≡ broken_off_all self.old (length first.now + 1) self.new.disk }
+        ensures full { (len : ℕ) → IsErrOf result (LogFull len) → self.new ≡ self.old }
+        ensures limit { KeepsLimit self.old.limit self.old.length
+            (entries_length (first.now ++ last.now ∷ [])) result }
+        // At any moment a crash leaves the records from before, or these and all the new ones.
+        ensures any_moment { Goes (D.told self.old.disk) (D.told self.new.disk)
+            (λ s. IsNoneOrAll self.old.entries self.old.votes (first.now ++ last.now ∷ [])) }
+        // What no crash loses at one moment none loses later on.
+        ensures lasting { (entries : List Entry) (votes : List Vote)
+            → Lasts (D.told self.old.disk) (D.told self.new.disk) (LosesNone entries votes) }
+        // Once this has answered Ok, each crash leaves the new ones too.
+        ensures durable { OnOk result (IsLeft (D.told self.new.disk)
+            (λ image. StandsFor image self.new.entries self.new.votes)) }
+        ensures calls { OnOk result (D.told self.new.disk
+            ≡ added_all (group self.old.length (as_records (first.now ++ last.now ∷ [])))
+            (D.told self.old.disk)) }
+        // No fault of the disk is hidden.
+        ensures calm { OnOk result (D.faults self.new.disk ≡ D.faults self.old.disk) }
+        ensures cause { IsErrOf result DiskFault → Rose (D.faults self.old.disk) (D.faults self.new.disk) }
+        ensures faults { D.faults self.old.disk ≤ D.faults self.new.disk }
+    {
+        let size = size_of(first, last);
+        if size > self.limit.saturating_sub(self.len) {
+            return Err(LogFault::LogFull { len: self.len });
+        }
+        self.spare_entries -= first.len() + 1;
+        if put_group(&mut self.disk, self.len, first, last).is_err() {
+            self.failed = true;
+            return Err(LogFault::DiskFault);
+        }
+        push_all(first, last, &mut self.entries).unwrap();
+        self.len += size;
+        Ok(())
+    }
+
     /// The entries, in order.
     pub fn entries(&self) -> &[Entry]
         ensures { result.now ≡ self.now.entries }
@@ -218,7 +270,7 @@ impl<D: Disk> Log<D> {
 
     /// The number of bytes up to the closed gate, with it.
     pub fn len(&self) -> u64
-        ensures { result ≡ log_length self.now.entries self.now.votes }
+        ensures { result ≡ self.now.length }
     {
         self.len
     }

@@ -7,7 +7,7 @@ use Rattle.dr_entry.specs.declared.record.Record.{Record}
 use Rattle.dr_io.specs.Faults.{Rose}
 use Rattle.dr_log.specs.declared.fault.LogFault.{LogFault}
 use Rattle.dr_log.specs.declared.fault.LogFault.TheVariants as faults
-use Rattle.dr_log.specs.Standing.{IsBeforeOrAfter, block_length, log_length}
+use Rattle.dr_log.specs.Standing.{IsBeforeOrAfter, block_length}
 use Rattle.dr_log.specs.State.{KeepsLimit, LogState, appended, as_entry, as_vote, broken_off as log_broken_off}
 use Rattle.dr_program.specs.Running.{Running, broken_off, next_step}
 use Rattle.dr_logged.specs.Appended.{HasAppended, IsAppendDue, record_due, why_of}
@@ -17,13 +17,13 @@ use Rattle.dr_logged.proofs.Serving.{failed_served, full_served, spares, unfaile
 -- a record that is the one due was appended
 pub did_append : {D : Type 0} (told : D → Option Told) (count : D → ℕ) (log new : LogState D)
     (r : Running) (due : Record) → due ≡ record_due r → new ≡ appended log due new.disk
-    → log_length log.entries log.votes + block_length due ≤ log.limit
+    → log.length + block_length due ≤ log.limit
     → Goes (told log.disk) (told new.disk) (λ calls. IsBeforeOrAfter log.entries log.votes due)
     → LosesNothing told log new → IsSafe told new → count new.disk ≡ count log.disk
     → HasAppended told count log new r
 did_append told count log new r due same made fits goes lasting safe calm = record {
   made = subst (λ x. new ≡ appended log x new.disk) same made;
-  fits = subst (λ x. log_length log.entries log.votes + block_length x ≤ log.limit) same fits;
+  fits = subst (λ x. log.length + block_length x ≤ log.limit) same fits;
   goes = subst (λ x. Goes (told log.disk) (told new.disk)
       (λ calls. IsBeforeOrAfter log.entries log.votes x)) same goes;
   lasting = lasting;
@@ -37,7 +37,7 @@ pub did_fail : {D : Type 0} (T : Type 0) (told : D → Option Told) (count : D �
     (r : Running) (due : Record) (fault : LogFault) → IsAppendDue r → due ≡ record_due r
     → (IsErrOf {T = T} (Err fault) faults.DiskFault → new ≡ log_broken_off log due new.disk)
     → ((len : ℕ) → IsErrOf {T = T} (Err fault) (faults.LogFull len) → new ≡ log)
-    → KeepsLimit log.limit (log_length log.entries log.votes) (block_length due) {T = T} (Err fault)
+    → KeepsLimit log.limit log.length (block_length due) {T = T} (Err fault)
     → Goes (told log.disk) (told new.disk) (λ calls. IsBeforeOrAfter log.entries log.votes due)
     → LosesNothing told log new
     → (IsErrOf {T = T} (Err fault) faults.DiskFault → Rose (count log.disk) (count new.disk))

@@ -3,6 +3,8 @@ use Rattle.std.proofs.Common.{◌≡◌, refl, sym, ap, ◌∙◌, subst, ℕ, z
 use Rattle.std.specs.Prelude.{Option, None, Some, slice_index_or, unwrap_or}
 use Rattle.std.specs.Prelude.{◌^◌}
 use Rattle.std.proofs.Math.Nat.{le-min, le-max_left, le-max_right, min-le_left, min-le_right}
+use Rattle.std.proofs.lemmas.List.Sums.{sum_by_push}
+use Rattle.dr_entry.specs.Spelling.{entry_spelling, vote_spelling}
 use Rattle.std.proofs.lemmas.List.{length_push, take-append-drop, take-append-le, take_all, take_more}
 use Rattle.std.proofs.Math.Seq.{take-append_seam}
 use Rattle.dr_entry.specs.declared.entry.Entry.{Entry}
@@ -14,9 +16,8 @@ use Rattle.dr_disk.specs.Disk.{Told}
 use Rattle.dr_disk.specs.Images.{Goes, IsLeft}
 use Rattle.dr_disk.proofs.Moments.{Goes-last, goes_on, lasts_still, lasts_then, stays_at}
 use Rattle.dr_io.specs.Faults.{Rose}
-use Rattle.dr_log.specs.Standing.{IsBeforeOrAfter, LosesNone, StandsFor, block_length, log_length, with_entry, with_vote}
+use Rattle.dr_log.specs.Standing.{IsBeforeOrAfter, LosesNone, StandsFor, block_length, entries_length, votes_length, with_entry, with_vote}
 use Rattle.dr_log.specs.State.{LogState, appended, as_entry, as_vote, broken_off as log_broken_off}
-use Rattle.dr_log.proofs.Growing.{length_of_more}
 use Rattle.dr_log.proofs.Lasting.{none_lost}
 use Rattle.dr_machine.specs.declared.event.Act.{Act}
 use Rattle.dr_program.specs.Acts.{taken}
@@ -109,6 +110,7 @@ come_on told faults base log n h more k vs why within come = record {
   entries = come.entries ∙ sym (take-append-le k h more within);
   more = come.more;
   voted = come.voted;
+  long = come.long;
   limit = come.limit;
   within = come.within;
   last = went_on told faults base log n h more k vs why come.last;
@@ -204,7 +206,7 @@ rose_since base old new later rose =
 record Put {D : Type 0} (told : D → Option Told) (faults : D → ℕ) (base log new : LogState D)
     (due : Record) (history : List Entry) (k : ℕ) (vs : List Vote) : Type 0 where
   made : new ≡ appended log due new.disk
-  fits : log_length log.entries log.votes + block_length due ≤ log.limit
+  fits : log.length + block_length due ≤ log.limit
   goes : Goes (told log.disk) (told new.disk) (λ calls. IsBeforeOrAfter log.entries log.votes due)
   lasting : LosesNothing told log new
   safe : IsSafe told new
@@ -212,6 +214,7 @@ record Put {D : Type 0} (told : D → Option Told) (faults : D → ℕ) (base lo
   entries : with_entry due log.entries ≡ take k history
   more : (es : List Entry) × (with_entry due log.entries ≡ base.entries ++ es)
   voted : with_vote due log.votes ≡ base.votes ++ vs
+  long : log.length + block_length due ≡ base.length + (entries_length more.0 + votes_length vs)
 
 put : {D : Type 0} (told : D → Option Told) (faults : D → ℕ) (base log new : LogState D)
     (n : ℕ) (due : Record) (h history : List Entry) (k l : ℕ) (us vs : List Vote)
@@ -221,15 +224,9 @@ put {D} told faults base log new n due h history k l us vs served p = record {
   entries = entries ∙ p.entries;
   more = (p.more.0, entries ∙ p.more.1);
   voted = votes ∙ p.voted;
+  long = grown ∙ p.long;
   limit = limit ∙ served.limit;
-  within = le_trans (omega (
-    arith,
-    p.fits,
-    limit,
-    ap (λ es. log_length es new.votes) entries,
-    ap (log_length (with_entry due log.entries)) votes,
-    length_of_more log.entries log.votes due,
-  )) (le-max_left new.limit _);
+  within = le_trans (omega (arith, p.fits, limit, grown)) (le-max_left new.limit _);
   last = (ap (λ (x : LogState D). x.failed) p.made ∙ served.last.0, p.safe);
   moments = moments_on told base log new due served.more.0 us served.more.1 served.voted served.moments
       p.goes;
@@ -244,6 +241,9 @@ put {D} told faults base log new n due h history k l us vs served p = record {
     votes : new.votes ≡ with_vote due log.votes
     votes = ap (λ (x : LogState D). x.votes) p.made
 
+    grown : new.length ≡ log.length + block_length due
+    grown = ap (λ (x : LogState D). x.length) p.made
+
     limit : new.limit ≡ log.limit
     limit = ap (λ (x : LogState D). x.limit) p.made
 
@@ -252,7 +252,7 @@ put_step : {D : Type 0} (told : D → Option Told) (faults : D → ℕ)
     (base log new : LogState D) (word : ℕ) (r : Running) (s : Step) → MayLog r s
     → HasCome told faults base log r.replica.banks r.replica.history r.replica.logged r.replica.votes None
     → new ≡ appended log (record_of r s) new.disk
-    → log_length log.entries log.votes + block_length (record_of r s) ≤ log.limit
+    → log.length + block_length (record_of r s) ≤ log.limit
     → Goes (told log.disk) (told new.disk)
     (λ calls. IsBeforeOrAfter log.entries log.votes (record_of r s))
     → LosesNothing told log new → IsSafe told new → faults new.disk ≡ faults log.disk
@@ -275,6 +275,11 @@ put_step told faults base log new word r Append within served made fits goes las
         ap (λ xs. xs ++ e ∷ []) served.more.1 ∙ append_assoc base.entries served.more.0 (e ∷ []),
       );
       voted = served.voted;
+      long = omega (
+        arith,
+        served.long,
+        sum_by_push (λ (x : Entry). 1 + length (entry_spelling x)) served.more.0 e,
+      );
     })
 put_step told faults base log new word r (LogVote v) within served made fits goes lasting safe calm =
     let x : Vote = vote_of r.replica v in
@@ -289,13 +294,18 @@ put_step told faults base log new word r (LogVote v) within served made fits goe
       entries = served.entries;
       more = served.more;
       voted = ap (λ xs. xs ++ x ∷ []) served.voted ∙ append_assoc base.votes r.replica.votes (x ∷ []);
+      long = omega (
+        arith,
+        served.long,
+        sum_by_push (λ (y : Vote). 1 + length (vote_spelling y)) r.replica.votes x,
+      );
     })
 put_step told faults base log new word r s within served made fits goes lasting safe calm = absurd within
 
 pub appended_served : {D : Type 0} (told : D → Option Told) (faults : D → ℕ)
     (base log new : LogState D) (word : ℕ) (r : Running) → MayLog r (next_step r)
     → HasServed told faults base log r → new ≡ appended log (record_due r) new.disk
-    → log_length log.entries log.votes + block_length (record_due r) ≤ log.limit
+    → log.length + block_length (record_due r) ≤ log.limit
     → Goes (told log.disk) (told new.disk)
     (λ calls. IsBeforeOrAfter log.entries log.votes (record_due r))
     → LosesNothing told log new → IsSafe told new → faults new.disk ≡ faults log.disk
@@ -363,10 +373,9 @@ failed_served {D} told faults base log new r may served made goes lasting rose l
   more = (served.more.0, entries ∙ served.more.1);
   voted = votes ∙ served.voted;
   limit = limit ∙ served.limit;
-  within = subst (λ n. n ≤ max new.limit (log_length base.entries base.votes))
-      (sym (λ z. log_length (entries z) (votes z)))
-      (subst (λ n. log_length log.entries log.votes ≤ max n (log_length base.entries base.votes)) (sym limit)
-      served.within);
+  long = grown ∙ served.long;
+  within = subst (λ n. n ≤ max new.limit base.length) (sym grown)
+      (subst (λ n. log.length ≤ max n base.length) (sym limit) served.within);
   last = (
     record_due r,
     next_is r (next_step r) may,
@@ -390,25 +399,29 @@ failed_served {D} told faults base log new r may served made goes lasting rose l
     votes : new.votes ≡ log.votes
     votes = ap (λ (l : LogState D). l.votes) made
 
+    grown : new.length ≡ log.length
+    grown = ap (λ (l : LogState D). l.length) made
+
     limit : new.limit ≡ log.limit
     limit = ap (λ (l : LogState D). l.limit) made
 
 -- an append for which the log has no room
 pub full_served : {D : Type 0} (told : D → Option Told) (faults : D → ℕ) (base log : LogState D)
     (r : Running) (len : ℕ) → MayLog r (next_step r)
-    → HasServed told faults base log r → len ≡ log_length log.entries log.votes
+    → HasServed told faults base log r → len ≡ log.length
     → log.limit < len + block_length (record_due r)
     → HasServed told faults base log (broken_off (whys.LogFull len) r)
 full_served {D} told faults base log r len may served long over = record {
   entries = served.entries;
   more = served.more;
   voted = served.voted;
+  long = served.long;
   limit = served.limit;
   within = served.within;
   last = (
     record_due r,
     next_is r (next_step r) may,
-    record { whole = went.0; safe = went.1; length = long; over = over },
+    record { whole = went.0; safe = went.1; long = long; over = over },
   );
   moments = served.moments;
   lasting = served.lasting;
@@ -443,9 +456,9 @@ begins {D} told faults old new r roomy whole has all empty none = (
     entries = entries ∙ has ∙ sym (take_all r.replica.logged r.replica.history (omega (arith, all)));
     more = ([], entries ∙ sym (append-nil old.entries));
     voted = votes ∙ sym (append-nil old.votes) ∙ ap (λ vs. old.votes ++ vs) (sym empty);
+    long = omega (arith, grown, ap votes_length empty);
     limit = ap (λ (l : LogState D). l.limit) roomy.is;
-    within = subst (λ n. n ≤ max new.limit (log_length old.entries old.votes))
-        (sym (λ z. log_length (entries z) (votes z))) (le-max_right new.limit _);
+    within = subst (λ n. n ≤ max new.limit old.length) (sym grown) (le-max_right new.limit _);
     last = rw none (failed, roomy.safe whole);
     moments = rw roomy.tells (stays_at (told old.disk) (λ calls. LosesNone old.entries old.votes)
         (rw (← roomy.tells) (keeps (told new.disk) (roomy.safe whole))));
@@ -465,6 +478,9 @@ begins {D} told faults old new r roomy whole has all empty none = (
 
     votes : new.votes ≡ old.votes
     votes = ap (λ (l : LogState D). l.votes) roomy.is
+
+    grown : new.length ≡ old.length
+    grown = ap (λ (l : LogState D). l.length) roomy.is
 
     failed : new.failed ≡ false
     failed = ap (λ (l : LogState D). l.failed) roomy.is ∙ whole

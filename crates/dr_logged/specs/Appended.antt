@@ -9,7 +9,7 @@ use Rattle.dr_entry.specs.Spelling.{IsValidVote}
 use Rattle.dr_io.specs.Faults.{Rose}
 use Rattle.dr_log.specs.declared.fault.LogFault.{LogFault}
 use Rattle.dr_log.specs.declared.fault.LogFault.TheVariants as faults
-use Rattle.dr_log.specs.Standing.{IsBeforeOrAfter, block_length, log_length}
+use Rattle.dr_log.specs.Standing.{IsBeforeOrAfter, block_length}
 use Rattle.dr_log.specs.State.{LogState, appended, broken_off}
 use Rattle.dr_machine.specs.declared.step.Step.{Step}
 use Rattle.dr_machine.specs.declared.step.Step.TheVariants.{Append, LogVote}
@@ -50,7 +50,7 @@ record_due r = record_of r (next_step r)
 pub record HasAppended {D : Type 0} (told : D → Option Told) (faults : D → ℕ) (log new : LogState D)
     (r : Running) : Type 0 where
   pub made : new ≡ appended log (record_due r) new.disk
-  pub fits : log_length log.entries log.votes + block_length (record_due r) ≤ log.limit
+  pub fits : log.length + block_length (record_due r) ≤ log.limit
   pub goes : Goes (told log.disk) (told new.disk)
       (λ s. IsBeforeOrAfter log.entries log.votes (record_due r))
   pub lasting : LosesNothing told log new
@@ -69,7 +69,7 @@ pub record HasBroken {D : Type 0} (told : D → Option Told) (faults : D → ℕ
 
 -- the log of this length has no room for it
 pub record IsOver {D : Type 0} (log : LogState D) (len : ℕ) (r : Running) : Type 0 where
-  pub long : len ≡ log_length log.entries log.votes
+  pub long : len ≡ log.length
   pub over : log.limit < len + block_length (record_due r)
 
 -- why an append failed, as its log tells it

@@ -9,7 +9,7 @@ use Rattle.dr_entry.specs.Spelling.{IsValid, IsValidVote}
 use Rattle.dr_io.specs.Faults.{Rose}
 use Rattle.dr_disk.specs.Disk.{Told}
 use Rattle.dr_disk.specs.Images.{Goes, IsLeft, Lasts}
-use Rattle.dr_log.specs.Standing.{IsBeforeOrAfter, LosesNone, StandsFor, block_length, log_length}
+use Rattle.dr_log.specs.Standing.{IsBeforeOrAfter, LosesNone, StandsFor, block_length, entries_length, votes_length}
 use Rattle.dr_log.specs.State.{LogState}
 use Rattle.dr_program.specs.declared.deed.Deed.TheVariants as deeds
 use Rattle.dr_program.specs.declared.outcome.LogWhy.{LogWhy}
@@ -53,7 +53,7 @@ pub record IsFull {D : Type 0} (told : D → Option Told) (log : LogState D) (le
     (next : Record) : Type 0 where
   pub whole : log.failed ≡ false
   pub safe : IsSafe told log
-  pub length : len ≡ log_length log.entries log.votes
+  pub long : len ≡ log.length
   pub over : log.limit < len + block_length next
 
 -- how the last append to a log of so many entries of a history and of these votes has gone, where the table
@@ -75,9 +75,11 @@ pub record HasCome {D : Type 0} (told : D → Option Told) (faults : D → ℕ) 
   pub entries : log.entries ≡ take logged history
   pub more : (es : List Entry) × (log.entries ≡ base.entries ++ es)
   pub voted : log.votes ≡ base.votes ++ votes
+  -- it is longer by these
+  pub long : log.length ≡ base.length + (entries_length more.0 + votes_length votes)
   -- it keeps its limit
   pub limit : log.limit ≡ base.limit
-  pub within : log_length log.entries log.votes ≤ max log.limit (log_length base.entries base.votes)
+  pub within : log.length ≤ max log.limit base.length
   -- how its last append went
   pub last : WentSo told faults base log banks history logged votes why
   -- at no moment a crash would have lost what it had, nor what it could not have lost at an earlier one

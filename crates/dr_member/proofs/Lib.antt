@@ -7,4 +7,5 @@ mod Answers
 mod Indices
 mod Moves
 mod Sweeps
+pub mod Alone
 mod Fates

@@ -4,3 +4,4 @@ pub mod Fate
 pub mod Deeds
 pub mod Bases
 pub mod Inside
+pub mod Alone

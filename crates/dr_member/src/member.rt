@@ -1,3 +1,4 @@
+mod alone;
 mod asking;
 mod sweep;
 
@@ -21,9 +22,11 @@ use crate::acts::take_act;
 use crate::bases::Bases;
 use crate::fate::Fate;
 use crate::search::{
-    BEAT, Due, LOOKS, PUSHES, due_at, go, leave_row, next_changed, part_of, settle,
+    BEAT, DELIVERS, Due, LOOKS, PUBLISHES, PUSHES, RECEIVES, REPORTS, SENDS, due_at, go, leave_row,
+    next_changed, part_of, settle,
 };
 use dr_entry::{End, Entry, MemberEnd, Record, Seq, Vote};
+use dr_machine::Act;
 use dr_program::{Deed, LogWhy, Part, Place, Setup};
 use dr_replica::Replica;
 use dr_suspect::Patience;
@@ -177,11 +180,48 @@ impl Member {
         ensures falls { deeds_left self.new < deeds_left self.old }
         ensures keeps { IsStill self.old self.new }
     {
-        if let Due::Act(act) = due_at(&self.replica, &self.fate, self.place) {
-            go(&self.replica.shape(), &mut self.place);
-            take_act(act, &mut self.replica, &mut self.fate, &mut self.bases);
-            settle(&self.replica, &self.fate, &mut self.place);
+        match self.place.part {
+            RECEIVES => self.act(Act::Receive {
+                sender: self.place.row,
+            }),
+            SENDS => self.act(Act::Send),
+            DELIVERS => self.act(Act::Deliver),
+            PUBLISHES => self.act(Act::Publish),
+            REPORTS => self.act(Act::Report),
+            BEAT => self.act(Act::Beat),
+            _ => self.act_at_place(),
         }
+    }
+
+    /// Does the act of a part that comes up rarely. Out of line, it leaves the others small.
+    #[inline(never)]
+    fn act_at_place(&mut self)
+        requires { is_act (next_deed self.old) ≡ true }
+        ensures after { (word : ℕ) → self.new ≡ after_step word self.old }
+        ensures form { IsRunningMember self.new }
+        ensures grown { HasGrownTo self.old self.new }
+        ensures falls { deeds_left self.new < deeds_left self.old }
+        ensures keeps { IsStill self.old self.new }
+    {
+        if let Due::Act(act) = due_at(&self.replica, &self.fate, self.place) {
+            self.act(act);
+        }
+    }
+
+    /// Does this act, which is due. Each call has its own copy of it, in which the act is known.
+    #[inline(always)]
+    fn act(&mut self, act: Act)
+        requires deed { is_act (next_deed self.old) ≡ true }
+        requires step { next_step self.old ≡ Do act }
+        ensures after { (word : ℕ) → self.new ≡ after_step word self.old }
+        ensures form { IsRunningMember self.new }
+        ensures grown { HasGrownTo self.old self.new }
+        ensures falls { deeds_left self.new < deeds_left self.old }
+        ensures keeps { IsStill self.old self.new }
+    {
+        go(&self.replica.shape(), &mut self.place);
+        take_act(act, &mut self.replica, &mut self.fate, &mut self.bases);
+        settle(&self.replica, &self.fate, &mut self.place);
     }
 
     /// Takes note that its log has the record that it appended.

@@ -21,8 +21,19 @@ use dr_program::{LogWhy, PARTS, Part, Place, TURN};
 use dr_replica::Replica;
 use dr_words::Shape;
 
-/// The numbers of the parts of a turn that have the looks and the pushes, and of the part before a turn.
+/// The numbers of the parts of a turn that have the looks and the pushes, of those whose acts come up most, and
+/// of the part before a turn.
 pub(crate) const LOOKS: u8 = 0;
+
+pub(crate) const RECEIVES: u8 = 2;
+
+pub(crate) const SENDS: u8 = 3;
+
+pub(crate) const DELIVERS: u8 = 5;
+
+pub(crate) const PUBLISHES: u8 = 7;
+
+pub(crate) const REPORTS: u8 = 8;
 
 pub(crate) const PUSHES: u8 = 15;
 

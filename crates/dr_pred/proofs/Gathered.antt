@@ -8,41 +8,10 @@ use Rattle.dr_words.specs.Masks.{IsInRoster}
 use Rattle.dr_rows.specs.Words.{Words, seen}
 use Rattle.dr_words.proofs.Ranks.{length-members_below_suc}
 
--- ---- the loop over the members
-
--- no more members stand below a number than the number says
-few_members : (m n : ℕ) → length (members_below m n) ≤ n
-unfolding members_below
-few_members m zero = omega arith
-few_members m (suc n) = by (has m n) (length-members_below_suc m n) (few_members m n)
-  where
-    by : (b : Bool) → length (members_below m (suc n))
-        ≡ length (members_below m n) + (if b then 1 else 0) → length (members_below m n) ≤ n
-        → length (members_below m (suc n)) ≤ suc n
-    by true e l = omega arith
-    by false e l = omega arith
-
--- the words of the members below a number are no more than it says
-pub room : (words : List ℕ) (f : ℕ → ℕ) (m n : ℕ) → words ≡ map f (members_below m n)
-    → length words ≤ n
-room words f m n e = rw (e, length-map) (few_members m n)
-
--- below the number 0 there is no word
-pub none_yet : (f : ℕ → ℕ) (m : ℕ) → map f (members_below m 0) ≡ []
-unfolding members_below
-none_yet f m = refl
-
--- a member adds its word
-pub one_more : (f : ℕ → ℕ) (m n : ℕ) → has m n ≡ true
-    → map f (members_below m (n + 1)) ≡ map f (members_below m n) ++ f n ∷ []
-unfolding members_below
-one_more f m n h = rw add-one (rw h (map-append f (members_below m n) (n ∷ [])))
-
--- a number that is no member adds nothing
-pub no_more : (f : ℕ → ℕ) (m n : ℕ) → has m n ≡ false
-    → map f (members_below m (n + 1)) ≡ map f (members_below m n)
-unfolding members_below
-no_more f m n h = rw add-one (rw h (ap (map f) (append-nil (members_below m n))))
+-- the words of a mask's members, by its bits
+pub by_bits : (f : ℕ → ℕ) (bits m : ℕ) (words : List ℕ) → words ≡ map f (members_of bits) → bits ≡ m
+    → words ≡ map f (members_of m)
+by_bits f bits m words so same = so ∙ ap (λ (n : ℕ). map f (members_of n)) same
 
 -- ---- what the list says of each member
 

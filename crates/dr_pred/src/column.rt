@@ -1,30 +1,13 @@
-ghost use Rattle.std.specs.Prelude.{◌≡◌, ℕ, ◌^◌, ◌<◌, ◌≤◌, ◌↔◌, true, false, map, All, Any, IfSome, IfNone, IsTrue};
-ghost use Rattle.dr_history.specs.Members.{has, members_of};
+ghost use Rattle.std.specs.Prelude.{◌≡◌, ℕ, ◌^◌, ◌<◌, ◌≤◌, ◌↔◌, true, false, All, Any, IfSome, IfNone, IsTrue};
+ghost use Rattle.dr_history.specs.Members.{has};
 ghost use Rattle.dr_words.specs.Masks.{IsInRoster};
 ghost use Rattle.dr_words.specs.Packing.{is_final, accept_promise};
 ghost use Rattle.dr_rows.specs.Words.{seen};
 
-use arrayvec::ArrayVec;
 use dr_entry::MAX_MEMBERS;
 use dr_lane::least;
 use dr_rows::Rows;
 use dr_words::{Mask, unpack_accept, unpack_recv};
-
-/// The words that the rows of these members have in a column, ascending by member.
-#[tactic(auto, using(crate::proofs::Gathered::room, crate::proofs::Gathered::none_yet, crate::proofs::Gathered::one_more, crate::proofs::Gathered::no_more), unfolding(dr_history::specs::Members::members_of))]
-pub(crate) fn words_of(rows: &Rows, members: Mask, column: usize) -> ArrayVec<u64, MAX_MEMBERS>
-    requires roster { IsInRoster rows.now.members members }
-    requires column { column < rows.now.columns }
-    ensures { result.items ≡ map (λ i. seen rows.now i column) (members_of members) }
-{
-    let mut words = ArrayVec::new();
-    for member in 0..MAX_MEMBERS as u8 {
-        if members.has(member) {
-            words.push(rows.seen(member, column));
-        }
-    }
-    words
-}
 
 /// The least of the words that the rows of these members have in a column; `None` where there are no
 /// members.
@@ -38,11 +21,12 @@ pub fn least_word(rows: &Rows, members: Mask, column: usize) -> Option<u64>
         × (least ≡ seen rows.now i column)) }
     ensures none { IfNone result ((i : ℕ) → has members i ≡ false) }
 {
-    let words = words_of(rows, members, column);
-    if words.is_empty() {
+    let mut words = [0; MAX_MEMBERS];
+    let count = rows.column_of(column, members.bits(), &mut words);
+    if count == 0 {
         None
     } else {
-        Some(least(words.as_slice()))
+        Some(least(&words[..count]))
     }
 }
 

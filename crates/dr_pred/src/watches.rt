@@ -6,7 +6,7 @@ ghost use Rattle.dr_words.specs.Packing.{is_final};
 ghost use Rattle.dr_rows.specs.Words.{seen};
 
 use crate::Watch;
-use crate::column::{all_done, all_final, all_promise, any_suspects, least_word, words_of};
+use crate::column::{all_done, all_final, all_promise, any_suspects, least_word};
 use dr_entry::MAX_MEMBERS;
 use dr_rows::Rows;
 use dr_words::{DONE_COLUMN, LOGGED_COLUMN, Mask, RECEIVED_COLUMN, SUSPECTED_COLUMN, Shape};
@@ -80,8 +80,10 @@ impl AllFinal {
         ensures { IsTrue result ↔ ((i : ℕ) → has self.now.of i ≡ true
             → is_final (seen rows.now i (recv_column sender)) ≡ true) }
     {
-        let words = words_of(rows, self.of, self.shape.recv_column(sender));
-        all_final(words.as_slice())
+        let mut words = [0; MAX_MEMBERS];
+        let column = self.shape.recv_column(sender);
+        let count = rows.column_of(column, self.of.bits(), &mut words);
+        all_final(&words[..count])
     }
 }
 
@@ -131,8 +133,9 @@ impl PromisedAt {
         ensures { IsTrue result ↔ ((i : ℕ) → has self.now.of i ≡ true
             → Promises rows.now self.now.promise i column) }
     {
-        let words = words_of(rows, self.of, column);
-        all_promise(words.as_slice(), self.promise)
+        let mut words = [0; MAX_MEMBERS];
+        let count = rows.column_of(column, self.of.bits(), &mut words);
+        all_promise(&words[..count], self.promise)
     }
 }
 
@@ -195,8 +198,9 @@ impl Watch for SomeSuspect {
     ) };
 
     fn holds(&self, rows: &Rows) -> bool {
-        let words = words_of(rows, self.members, SUSPECTED_COLUMN);
-        any_suspects(words.as_slice(), self.name)
+        let mut words = [0; MAX_MEMBERS];
+        let count = rows.column_of(SUSPECTED_COLUMN, self.members.bits(), &mut words);
+        any_suspects(&words[..count], self.name)
     }
 }
 
@@ -221,7 +225,8 @@ impl Watch for AllDone {
         (grown.grown.words i DONE_COLUMN) (g.0.form i DONE_COLUMN) (holds i member) };
 
     fn holds(&self, rows: &Rows) -> bool {
-        let words = words_of(rows, self.members, DONE_COLUMN);
-        all_done(words.as_slice())
+        let mut words = [0; MAX_MEMBERS];
+        let count = rows.column_of(DONE_COLUMN, self.members.bits(), &mut words);
+        all_done(&words[..count])
     }
 }

@@ -1,6 +1,7 @@
 -- What every member of the view is seen to have received only rises; and what the watches tell of it.
-use Rattle.std.proofs.Common.{◌≡◌, ◌≢◌, ◌↔◌, refl, sym, ap, ◌∙◌, ℕ, ◌+◌, ◌-◌, ◌^◌, ◌<◌, ◌≤◌, Bool, true, false, List, Some, min, nat_lt, le_of_eq, le_trans, arith}
-use Rattle.std.proofs.lemmas.Bool.{ltb-true}
+use Rattle.std.proofs.Common.{◌≡◌, ◌≢◌, ◌↔◌, refl, sym, ap, ◌∙◌, ℕ, ◌+◌, ◌-◌, ◌^◌, ◌<◌, ◌≤◌, Bool, true, false, List, Option, None, Some, zero, suc, min, nat_lt, le_of_eq, le_trans, arith}
+use Rattle.std.specs.Prelude.{IfNone, IfSome}
+use Rattle.std.proofs.lemmas.Bool.{ltb-true, true≢false}
 use Rattle.std.proofs.lemmas.Bool.Decides.{nat_tests}
 use Rattle.dr_entry.specs.declared.entry.Item.{Item}
 use Rattle.dr_entry.specs.declared.end.SentItem.{SentItem}
@@ -17,7 +18,7 @@ use Rattle.dr_form.proofs.Keeps.{put_rises, received_grown}
 use Rattle.dr_form.proofs.Wedging.{suspected_grown}
 use Rattle.dr_form.specs.Puts.{MayPut}
 use Rattle.dr_rows.proofs.Grids.{with_word-column}
-use Rattle.dr_rows.specs.Words.{with_own}
+use Rattle.dr_rows.specs.Words.{seen, with_own}
 use Rattle.dr_words.specs.declared.column.TheConstants.{BEAT_COLUMN, LOGGED_COLUMN, RECEIVED_COLUMN}
 use Rattle.dr_words.specs.Columns.{columns_of}
 use Rattle.dr_words.specs.Grown.{Grown}
@@ -116,6 +117,22 @@ logged_test r more b form next told = same_truth b (nat_lt r.durable (least_seen
     (λ e. told.1 (λ i member.
     let below = ltb-true r.durable (least_seen r LOGGED_COLUMN) e in
     omega (arith, below, next, least_of r LOGGED_COLUMN i (few_members r i form member) member)))
+
+-- the least word of the view's members is the least that is seen
+pub least_by : (r : Replica) (c : ℕ) (o : Option ℕ) (x : ℕ) → HasForm r
+    → IfSome o (λ least. (i : ℕ) → has r.members i ≡ true → least ≤ seen r.rows i c)
+    → IfSome o (λ least. (i : ℕ) × (has r.members i ≡ true) × (least ≡ seen r.rows i c))
+    → IfNone o ((i : ℕ) → has r.members i ≡ false)
+    → ((least : ℕ) → o ≡ Some least → (x ≡ least) × (least < 2 ^ 64)) → x ≡ least_seen r c
+least_by r c None x form below among none is = absurd (true≢false (sym form.present ∙ none (me r)))
+least_by r c (Some zero) x form below among none is =
+    let high = least_of r c among.0 (few_members r among.0 form among.1) among.1 in
+    omega (arith, (is zero refl).0, high, among.2)
+least_by r c (Some (suc least)) x form below among none is =
+    let high = least_of r c among.0 (few_members r among.0 form among.1) among.1 in
+    let low = below_least_seen r c least (omega (arith, (is (suc least) refl).1))
+    (λ i member. omega (arith, below i member)) in
+    omega (arith, (is (suc least) refl).0, high, among.2, low)
 
 -- the rows of a replica are those of a group
 pub is_of_group : (r : Replica) → HasForm r → IsOfGroup r.rows

@@ -1,7 +1,10 @@
 -- The test whether an item can be read.
-use Rattle.std.proofs.Common.{◌≡◌, ℕ, zero, suc, ◌+◌, ◌<◌, ◌≤◌, Bool, true, false, cond, ◌&&◌, nat_le, ◌⊎◌, inl, inr, ◌↔◌, Option, Some, None, IsSome, IsTrue, is_some, refl, sym, ap, subst, ◌∙◌, add-one, arith}
+use Rattle.std.proofs.Common.{◌≡◌, ℕ, zero, suc, ◌+◌, ◌<◌, ◌≤◌, Bool, true, false, cond, ◌&&◌, nat_le, ◌⊎◌, inl, inr, ◌↔◌, Option, Some, None, IsSome, IsTrue, is_some, refl, sym, ap, subst, ◌∙◌, add-one, arith, ◌*◌, ◌-◌, ◌%◌, ◌^◌, ◌==◌, List, get_or, length, bit_or, below_more, w16}
 use Rattle.std.specs.List.{list_all}
+use Rattle.std.specs.Int.{bit_at}
+use Rattle.std.proofs.lemmas.Bool.{cases_lt, eq-eqb, eqb-true}
 use Rattle.std.proofs.lemmas.Bool.Decides.{nat_tests}
+use Rattle.std.proofs.lemmas.Nat.Bits.{bit_at_ones, bit_at_ones_above, bit_at_set_other, bit_at_set_same, same_from_bits}
 use Rattle.dr_entry.specs.declared.limits.TheConstants.{MAX_MESSAGE_LENGTH}
 use Rattle.dr_entry.specs.declared.entry.Item.{Item}
 use Rattle.dr_words.specs.Packing.{ring_tag, ring_low}
@@ -10,7 +13,7 @@ use Rattle.dr_ring.specs.Slots.{IsReady, is_of, item_in}
 use Rattle.dr_ring.proofs.Bodies.{first_words, passes_more, passes_not}
 
 -- where all first words of a body pass a test, each of them does
-each_passes : (p : ℕ → Bool) (slot : ℕ → ℕ) (n part : ℕ)
+pub each_passes : (p : ℕ → Bool) (slot : ℕ → ℕ) (n part : ℕ)
     → list_all p (first_words slot n) ≡ true → part < n → p (slot (1 + part)) ≡ true
 each_passes p slot n part all lt = by (p (slot (1 + part))) refl
   where
@@ -19,7 +22,7 @@ each_passes p slot n part all lt = by (p (slot (1 + part))) refl
     by false e = absurd (cc (sym all ∙ passes_not p slot n part lt e))
 
 -- where each of the first words of a body passes a test, all do
-all_pass : (p : ℕ → Bool) (slot : ℕ → ℕ) (n : ℕ)
+pub all_pass : (p : ℕ → Bool) (slot : ℕ → ℕ) (n : ℕ)
     → ((part : ℕ) → part < n → p (slot (1 + part)) ≡ true)
     → list_all p (first_words slot n) ≡ true
 all_pass p slot zero each = refl
@@ -28,10 +31,10 @@ all_pass p slot (suc n) each =
     ∙ passes_more p slot n (all_pass p slot n (λ part lt. each part (omega arith)))
     (each n (omega arith))
 
-tag_of : (k word : ℕ) → is_of k word ≡ true → ring_tag word ≡ k + 1
+pub tag_of : (k word : ℕ) → is_of k word ≡ true → ring_tag word ≡ k + 1
 tag_of k word e = grind (arith, nat_tests)
 
-of_tag : (k word : ℕ) → ring_tag word ≡ k + 1 → is_of k word ≡ true
+pub of_tag : (k word : ℕ) → ring_tag word ≡ k + 1 → is_of k word ≡ true
 of_tag k word e = grind (arith, nat_tests)
 
 head_of : (low : ℕ) → is_head low ≡ true → (low ≤ MAX_MESSAGE_LENGTH) ⊎ (low ≡ null_mark)
@@ -83,3 +86,52 @@ pub ready_value : (k : ℕ) (slot : ℕ → ℕ) (ready : Bool) → ready ≡ is
 ready_value k slot ready same =
     subst (λ (b : Bool). IsTrue b ↔ IsReady k slot) (sym same)
     (some_tested (item_in k slot) (IsReady k slot) (ready_test k slot))
+
+-- ---- by a mask
+
+same_test : (a b : Bool) → (a ≡ true → b ≡ true) → (b ≡ true → a ≡ true) → a ≡ b
+same_test true b to back = sym (to refl)
+same_test false true to back = back refl
+same_test false false to back = refl
+
+-- the words of a body are there exactly where the mask of those that have the tag is full
+pub full_mask : (k n mask : ℕ) (slot : ℕ → ℕ) (tags : List ℕ) → length tags ≡ n
+    → ((part : ℕ) → part < n → get_or tags part 0 ≡ ring_tag (slot (1 + part)))
+    → ((part : ℕ) → part < length tags → (bit_at mask part ≡ 1) ↔ (get_or tags part 0 ≡ k + 1))
+    → ((i : ℕ) → length tags ≤ i → bit_at mask i ≡ 0)
+    → (mask == 2 ^ n - 1) ≡ list_all (is_of k) (first_words slot n)
+full_mask k n mask slot tags long tag set clear = same_test _ _
+    (λ e. let full : mask ≡ 2 ^ n - 1 = eqb-true mask (2 ^ n - 1) e in
+    all_pass (is_of k) slot n (λ part lt. of_tag k (slot (1 + part))
+    (sym (tag part lt) ∙ (set part (omega (arith, long))).0
+    (ap (λ (m : ℕ). bit_at m part) full ∙ bit_at_ones n part lt))))
+    (λ all. eq-eqb mask (2 ^ n - 1) (same_from_bits mask (2 ^ n - 1)
+    (λ i. elim (cases_lt i n) [
+      | inl lt ↦ (set i (omega (arith, long))).1
+          (tag i lt ∙ tag_of k (slot (1 + i)) (each_passes (is_of k) slot n i all lt))
+          ∙ sym (bit_at_ones n i lt)
+      | inr past ↦ clear i (omega (arith, long)) ∙ sym (bit_at_ones_above n i past)
+    ])))
+
+-- the mask of the items that are there, item by item
+pub record Marks (is : ℕ → Type 0) (mask i : ℕ) : Type 0 where
+  pub set : (j : ℕ) → j < i → (bit_at mask j ≡ 1) ↔ is j
+  pub clear : (j : ℕ) → i ≤ j → bit_at mask j ≡ 0
+
+pub one_marked : (is : ℕ → Type 0) (mask i : ℕ) → i < 16 → is i → Marks is mask i
+    → Marks is (bit_or mask (1 * 2 ^ i % 2 ^ 16)) (i + 1)
+one_marked is mask i within here before = record {
+  set = below_more _ _
+      (λ j h. let e = bit_at_set_other w16 mask i within j (omega arith) in
+      (λ g. (before.set j h).0 (sym e ∙ g), λ g. e ∙ (before.set j h).1 g))
+      (let e = bit_at_set_same w16 mask i within in (λ _. here, λ _. e));
+  clear = λ j h. bit_at_set_other w16 mask i within j (omega arith) ∙ before.clear j (omega arith);
+}
+
+pub one_unmarked : (is : ℕ → Type 0) (mask i : ℕ) → (is i → ⊥) → Marks is mask i
+    → Marks is mask (i + 1)
+one_unmarked is mask i missing before = record {
+  set = below_more _ _ before.set
+      (let e = before.clear i (omega arith) in (λ h. absurd (omega (arith, h, e)), λ h. absurd (missing h)));
+  clear = λ j h. before.clear j (omega arith);
+}

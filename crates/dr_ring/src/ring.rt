@@ -1,6 +1,6 @@
 ghost use Rattle.std.specs.Prelude.{◌≡◌, ℕ, ◌+◌, ◌-◌, ◌*◌, ◌%◌, ◌^◌, ◌<◌, ◌≤◌, ◌↔◌, true, false, IsTrue, IsSome, MatchOption, is_some, map, take};
 ghost use Rattle.std.specs.List.{list_all, range_with_len};
-ghost use Rattle.std.specs.Int.{div_ceil};
+ghost use Rattle.std.specs.Int.{bit_at, div_ceil};
 ghost use Rattle.dr_words.specs.Form.{AllInForm};
 ghost use Rattle.dr_words.specs.Grown.{Grown};
 ghost use Rattle.dr_words.specs.Masks.{IsInRoster};
@@ -11,6 +11,7 @@ ghost use Rattle.dr_ring.specs.Slots.{HasShape, IsFree, is_free, IsReady, is_of,
 ghost use Rattle.dr_ring.specs.Arrival.{Arrives};
 
 use dr_entry::{Item, MAX_MESSAGE_LENGTH, Message};
+use dr_lane::match_mask;
 use dr_rows::Rows;
 use dr_words::{Mask, PIECES, Shape, pack_ring, unpack_recv, unpack_ring};
 
@@ -88,6 +89,25 @@ pub fn is_ready(rows: &Rows, shape: &Shape, row: u8, k: u32) -> bool
             || head as usize <= MAX_MESSAGE_LENGTH && has_body(rows, shape, row, k, head as usize))
 }
 
+/// Which of the items from `k` on can be read from this row, as many as a ring has slots: bit `i`, from
+/// the lowest on, is set exactly where all words were seen that item `k + i` needs.
+pub fn sweep(rows: &Rows, shape: &Shape, row: u8, k: u32) -> u16
+    requires shape { HasShape shape.now rows.now }
+    requires row { row < rows.now.members }
+    requires number { k + shape.now.window < 2 ^ 32 }
+    ensures set { (i : ℕ) → i < shape.now.window
+        → (bit_at result i ≡ 1) ↔ IsReady (k + i) (slot_of shape.now.window rows.now row (k + i)) }
+    ensures clear { (i : ℕ) → shape.now.window ≤ i → bit_at result i ≡ 0 }
+{
+    let mut mask = 0;
+    for i in 0..shape.window {
+        if is_there(rows, shape, row, k + u32::from(i)) {
+            mask |= 1 << i;
+        }
+    }
+    mask
+}
+
 /// Item `k` of the member of this row, where all words that it needs were seen: the head, whose low
 /// half is a length or the mark of a null, and the words of the body that hold the bytes.
 pub fn ready(rows: &Rows, shape: &Shape, row: u8, k: u32) -> Option<Item>
@@ -106,6 +126,22 @@ pub fn ready(rows: &Rows, shape: &Shape, row: u8, k: u32) -> Option<Item>
         return None;
     }
     body_at(rows, shape, row, k, len).map(Item::Text)
+}
+
+// Whether all words were seen that item `k` of the member of this row needs, by the tags of its body at
+// once.
+fn is_there(rows: &Rows, shape: &Shape, row: u8, k: u32) -> bool
+    requires shape { HasShape shape.now rows.now }
+    requires row { row < rows.now.members }
+    ensures ready { IsTrue result ↔ IsReady k (slot_of shape.now.window rows.now row k) }
+    ensures value { result ≡ is_some (item_in k (slot_of shape.now.window rows.now row k)) }
+{
+    let slot = slot_at(shape, k);
+    let word = rows.seen(row, shape.head_column(slot));
+    let (_, head) = unpack_ring(word);
+    is_of(k, word)
+        && (head == NULL_MARK
+            || head as usize <= MAX_MESSAGE_LENGTH && has_tags(rows, shape, row, k, head as usize))
 }
 
 // The slot of item `k`.
@@ -154,6 +190,24 @@ fn has_body(rows: &Rows, shape: &Shape, row: u8, k: u32, len: usize) -> bool
         }
     }
     true
+}
+
+// The same, by all tags at once.
+fn has_tags(rows: &Rows, shape: &Shape, row: u8, k: u32, len: usize) -> bool
+    requires shape { HasShape shape.now rows.now }
+    requires row { row < rows.now.members }
+    requires len { len ≤ MAX_MESSAGE_LENGTH }
+    ensures { result ≡ list_all (is_of k)
+        (map (slot_of shape.now.window rows.now row k) (range_with_len 1 (div_ceil len 4))) }
+{
+    let slot = slot_at(shape, k);
+    let count = len.div_ceil(4);
+    let mut tags = [0; PIECES];
+    for part in 0..count {
+        let (tag, _) = unpack_ring(rows.seen(row, shape.body_column(slot, part as u8)));
+        tags[part] = u64::from(tag);
+    }
+    match_mask(&tags[..count], u64::from(k) + 1) == (1 << count) - 1
 }
 
 // The message of so many bytes in the body, where all words that it needs are of item `k`.

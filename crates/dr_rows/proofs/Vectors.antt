@@ -1,13 +1,13 @@
 -- What the writes to the vectors of `Rows` are to its callers.
-use Rattle.std.proofs.Common.{◌≡◌, ℕ, ◌+◌, ◌-◌, ◌*◌, ◌<◌, ◌≤◌, false, List, drop, length, take, replicate, slice_index_or, sym, ap, subst, ◌∙◌, arith}
-use Rattle.std.proofs.lemmas.List.{get_or_default, length-set, length-replicate}
-use Rattle.std.proofs.lemmas.Nat.{mul-add-lt}
+use Rattle.std.proofs.Common.{◌≡◌, ◌≢◌, ℕ, ◌+◌, ◌*◌, ◌<◌, ◌≤◌, false, List, [], get_or, length, set, replicate, slice_index_or, sym, ap, subst, ◌∙◌, arith}
+use Rattle.std.proofs.lemmas.List.{get_or_default, get_or-replicate, get_or-set_same, length-set, length-replicate}
 use Rattle.std.specs.Vec.{with_item}
 use Rattle.dr_rows.specs.Words.{Words, IsWords, begun, last_pushed, looked, own, pushed, row_of, seen, with_word, word_at}
 use Rattle.dr_rows.specs.Growth.{IsFresh}
-use Rattle.dr_rows.specs.Inside.{IsInside, rows_of, view_of}
+use Rattle.dr_rows.specs.Inside.{IsInside, by_column, by_row, rows_at, view_of}
 use Rattle.dr_rows.specs.declared.rows.Rows.TheInside.{Inside}
-use Rattle.dr_rows.proofs.FlatRows.{rows_of-set, rows_of-zeros, run_is_row, word_at-rows_of}
+use Rattle.dr_rows.proofs.FlatRows.{IsLayout, IsLayout-by_column, IsLayout-by_row, rows_at-set, rows_at-zeros, word_at-rows_at}
+use Rattle.dr_rows.proofs.Grids.{with_word-row}
 use Rattle.dr_rows.proofs.WordsLemmas.{IsFresh-begun, IsWords-begun, IsWords-looked, IsWords-pushed}
 
 -- the own row is one of the rows
@@ -15,33 +15,23 @@ pub present : (a : Inside) (now : Words) → view_of a ≡ now → IsInside a �
 present a now same inside = subst (λ (w : Words). w.me < w.members) same inside.form.present
 
 -- the word that was read at a place is that of its row and its column
-word_read : (members columns : ℕ) (flat : List ℕ) (i c p x : ℕ) → length flat ≡ members * columns
-    → i < members → c < columns → p ≡ i * columns + c → x ≡ slice_index_or flat p x
-    → x ≡ word_at (rows_of members columns flat) i c
-word_read members columns flat i c p x long h g at read =
-    let near = mul-add-lt i columns c members h g in
+word_read : (place : ℕ → ℕ → ℕ) (members columns : ℕ) (flat : List ℕ) (i c p x : ℕ)
+    → IsLayout place members columns → length flat ≡ members * columns
+    → i < members → c < columns → p ≡ place i c → x ≡ slice_index_or flat p x
+    → x ≡ word_at (rows_at place members columns flat) i c
+word_read place members columns flat i c p x layout long h g at read =
+    let near = layout.within i c h g in
     read ∙ get_or_default flat p x 0 (omega (arith, long)) ∙ ap (λ q. slice_index_or flat q 0) at
-    ∙ sym (word_at-rows_of members columns flat i c h g)
+    ∙ sym (word_at-rows_at place members columns flat i c h g)
 
 -- so it is the seen one
 pub seen_read : (a : Inside) (now : Words) (i c p x : ℕ) → view_of a ≡ now → IsInside a
     → i < now.members → c < now.columns
-    → p ≡ i * now.columns + c → x ≡ slice_index_or a.words.items p x → x ≡ seen now i c
+    → p ≡ c * now.members + i → x ≡ slice_index_or a.words.items p x → x ≡ seen now i c
 seen_read a now i c p x same inside = subst (λ (w : Words). i < w.members → c < w.columns
-    → p ≡ i * w.columns + c → x ≡ slice_index_or a.words.items p x → x ≡ seen w i c) same
-    (word_read a.members a.columns a.words.items i c p x inside.words)
-
--- the run from where the own row begins is the own row
-pub own_run : (a : Inside) (now : Words) (flat : List ℕ) → view_of a ≡ now → IsInside a
-    → flat ≡ a.words.items
-    → take (a.own_row + a.columns - a.own_row) (drop a.own_row flat) ≡ row_of now.words now.me
-own_run a now flat same inside is =
-    let long : a.own_row + a.columns - a.own_row ≡ a.columns = omega arith in
-    let begins = inside.own_row in
-    subst (λ (w : Words). take (a.own_row + a.columns - a.own_row) (drop a.own_row flat)
-    ≡ row_of w.words w.me) same
-    (rw (long, begins, is) (run_is_row a.members a.columns a.words.items a.me inside.words
-    inside.form.present))
+    → p ≡ c * w.members + i → x ≡ slice_index_or a.words.items p x → x ≡ seen w i c) same
+    (word_read (by_column a.members) a.members a.columns a.words.items i c p x
+    (IsLayout-by_column a.members a.columns) inside.words)
 
 -- or the one last pushed
 pub last_pushed_read : (a : Inside) (now : Words) (i c p x : ℕ) → view_of a ≡ now → IsInside a
@@ -49,31 +39,80 @@ pub last_pushed_read : (a : Inside) (now : Words) (i c p x : ℕ) → view_of a 
     → p ≡ i * now.columns + c → x ≡ slice_index_or a.sent.items p x → x ≡ last_pushed now i c
 last_pushed_read a now i c p x same inside = subst (λ (w : Words). i < w.members → c < w.columns
     → p ≡ i * w.columns + c → x ≡ slice_index_or a.sent.items p x → x ≡ last_pushed w i c) same
-    (word_read a.members a.columns a.sent.items i c p x inside.sent)
+    (word_read (by_row a.columns) a.members a.columns a.sent.items i c p x
+    (IsLayout-by_row a.members a.columns) inside.sent)
+
+-- the own words are the own row
+pub own_row : (a : Inside) (now : Words) (flat : List ℕ) → view_of a ≡ now → IsInside a
+    → flat ≡ a.own.items → flat ≡ row_of now.words now.me
+own_row a now flat same inside is =
+    is ∙ inside.own ∙ ap (λ (w : Words). row_of w.words w.me) same
+
+-- of which there is one for each column
+pub own_long : (a : Inside) (now : Words) → view_of a ≡ now → IsInside a
+    → length a.own.items ≡ now.columns
+own_long a now same inside =
+    let form = inside.form in
+    ap length inside.own ∙ form.rows.width a.me [] (omega (arith, form.rows.height, form.present))
+    ∙ ap (λ (w : Words). w.columns) same
+
+-- and the one that was read is the own word
+pub own_read : (a : Inside) (now : Words) (c x : ℕ) → view_of a ≡ now → IsInside a
+    → c < now.columns → x ≡ slice_index_or a.own.items c x → x ≡ own now c
+own_read a now c x same inside low read =
+    read ∙ get_or_default a.own.items c x 0 (omega (arith, low, own_long a now same inside))
+    ∙ ap (λ row. get_or row c 0) (own_row a now a.own.items same inside (λ i. a.own.items))
 
 -- a word that was written at its place is a look
 pub looked_written : (a : Inside) (now : Words) (i c p v : ℕ) → view_of a ≡ now → IsInside a
     → i < now.members → c < now.columns
-    → p ≡ i * now.columns + c → view_of (record a { words = with_item a.words p v })
+    → p ≡ c * now.members + i → view_of (record a { words = with_item a.words p v })
     ≡ looked now i c v
 looked_written a now i c p v same inside = subst (λ (w : Words). i < w.members → c < w.columns
-    → p ≡ i * w.columns + c → view_of (record a { words = with_item a.words p v }) ≡ looked w i c v)
+    → p ≡ c * w.members + i → view_of (record a { words = with_item a.words p v }) ≡ looked w i c v)
     same (λ h g at.
     ap (λ q. view_of (record a { words = with_item a.words q v })) at
     ∙ ap (λ rows. record (view_of a) { words = rows })
-    (rows_of-set a.members a.columns a.words.items i c v inside.words h g))
+    (rows_at-set (by_column a.members) a.members a.columns a.words.items i c v
+    (IsLayout-by_column a.members a.columns) inside.words h g))
 
--- a look keeps the form of the vectors
+-- a look at another row keeps the form of the vectors
 pub IsInside-looked : (a : Inside) (now : Words) (i c p v : ℕ) → view_of a ≡ now → IsInside a
-    → i < now.members → c < now.columns
-    → p ≡ i * now.columns + c → IsInside (record a { words = with_item a.words p v })
-IsInside-looked a now i c p v same inside h g at = record {
-  form = subst IsWords (sym (looked_written a now i c p v same inside h g at))
-      (IsWords-looked now i c v (subst IsWords same inside.form) h);
-  own_row = inside.own_row;
-  words = length-set a.words.items p v ∙ inside.words;
-  sent = inside.sent;
-}
+    → i < now.members → c < now.columns → i ≢ now.me
+    → p ≡ c * now.members + i → IsInside (record a { words = with_item a.words p v })
+IsInside-looked a now i c p v same inside h g other at =
+    let written = looked_written a now i c p v same inside h g at in
+    record {
+      form = subst IsWords (sym written) (IsWords-looked now i c v (subst IsWords same inside.form) h);
+      own = own_row a now a.own.items same inside (λ j. a.own.items)
+          ∙ sym (with_word-row now.words i c v now.me (λ e. other (sym e)))
+          ∙ ap (λ (w : Words). row_of w.words w.me) (sym written);
+      words = length-set a.words.items p v ∙ inside.words;
+      sent = inside.sent;
+    }
+
+-- a place by the own number
+pub own_place : (a : Inside) (now : Words) (c p : ℕ) → view_of a ≡ now → p ≡ c * now.members + a.me
+    → p ≡ c * now.members + now.me
+own_place a now c p same at = at ∙ ap (λ (w : Words). c * now.members + w.me) same
+
+-- and so does an own word that was written at both of its places
+pub IsInside-own : (a : Inside) (now : Words) (c p v : ℕ) → view_of a ≡ now → IsInside a
+    → c < now.columns → p ≡ c * now.members + now.me
+    → IsInside (record a { own = with_item a.own c v; words = with_item a.words p v })
+IsInside-own a now c p v same inside g at =
+    let here = present a now same inside in
+    let written = looked_written a now now.me c p v same inside here g at in
+    let form = subst IsWords same inside.form in
+    record {
+      form = subst IsWords (sym written) (IsWords-looked now now.me c v form here);
+      own = ap (λ (row : List ℕ). set row c v) (own_row a now a.own.items same inside (λ j. a.own.items))
+          ∙ sym (get_or-set_same now.words now.me (set (row_of now.words now.me) c v) []
+          (omega (arith, form.rows.height, here)))
+          ∙ ap (λ (w : Words). row_of w.words w.me) (sym written);
+      words = length-set a.words.items p v ∙ inside.words;
+      sent = inside.sent;
+    }
 
 -- the own word that was written at its place is a push
 pub pushed_written : (a : Inside) (now : Words) (j c p v : ℕ) → view_of a ≡ now → IsInside a
@@ -85,9 +124,10 @@ pushed_written a now j c p v same inside = subst (λ (w : Words). j < w.members 
     → view_of (record a { sent = with_item a.sent p v }) ≡ pushed w j c) same (λ h g at word.
     ap (λ q. view_of (record a { sent = with_item a.sent q v })) at
     ∙ ap (λ rows. record (view_of a) { sent = rows })
-    (rows_of-set a.members a.columns a.sent.items j c v inside.sent h g)
-    ∙ ap (λ x. record (view_of a) { sent = with_word (rows_of a.members a.columns a.sent.items) j c x })
-    word)
+    (rows_at-set (by_row a.columns) a.members a.columns a.sent.items j c v
+    (IsLayout-by_row a.members a.columns) inside.sent h g)
+    ∙ ap (λ x. record (view_of a)
+    { sent = with_word (rows_at (by_row a.columns) a.members a.columns a.sent.items) j c x }) word)
 
 -- a push keeps the form of the vectors
 pub IsInside-pushed : (a : Inside) (now : Words) (j c p v : ℕ) → view_of a ≡ now → IsInside a
@@ -96,13 +136,14 @@ pub IsInside-pushed : (a : Inside) (now : Words) (j c p v : ℕ) → view_of a �
 IsInside-pushed a now j c p v same inside h g at word = record {
   form = subst IsWords (sym (pushed_written a now j c p v same inside h g at word))
       (IsWords-pushed now j c (subst IsWords same inside.form) h);
-  own_row = inside.own_row;
+  own = inside.own;
   words = inside.words;
   sent = length-set a.sent.items p v ∙ inside.sent;
 }
 
 -- what is known of the vectors where all is as at the beginning
 pub record IsBlank (a : Inside) : Type 0 where
+  pub own : a.own.items ≡ replicate a.columns 0
   pub words : a.words.items ≡ replicate (a.members * a.columns) 0
   pub sent : a.sent.items ≡ replicate (a.members * a.columns) 0
   pub frozen : a.frozen.items ≡ replicate a.members false
@@ -110,19 +151,21 @@ pub record IsBlank (a : Inside) : Type 0 where
 -- blank vectors mean the words of the beginning
 pub begun_blank : (a : Inside) → IsBlank a → view_of a ≡ begun a.members a.columns a.me
 begun_blank a blank =
-    let rows = rows_of-zeros a.members a.columns in
-    let words = ap (rows_of a.members a.columns) blank.words ∙ rows in
-    let sent = ap (rows_of a.members a.columns) blank.sent ∙ rows in
+    let words = ap (rows_at (by_column a.members) a.members a.columns) blank.words
+    ∙ rows_at-zeros (by_column a.members) a.members a.columns (IsLayout-by_column a.members a.columns) in
+    let sent = ap (rows_at (by_row a.columns) a.members a.columns) blank.sent
+    ∙ rows_at-zeros (by_row a.columns) a.members a.columns (IsLayout-by_row a.members a.columns) in
     let frozen = blank.frozen in
     cc
 
 -- blank vectors have their form, where members and columns are within their limits
 pub IsInside-begun : (a : Inside) → IsBlank a → a.members ≤ 16 → a.columns ≤ 1024
-    → a.me < a.members → a.own_row ≡ a.me * a.columns → IsInside a
-IsInside-begun a blank few narrow present begins = record {
+    → a.me < a.members → IsInside a
+IsInside-begun a blank few narrow present = record {
   form = subst IsWords (sym (begun_blank a blank))
       (IsWords-begun a.members a.columns a.me few narrow present);
-  own_row = begins;
+  own = blank.own ∙ sym (get_or-replicate a.members a.me (replicate a.columns 0) [] present)
+      ∙ ap (λ (w : Words). row_of w.words w.me) (sym (begun_blank a blank));
   words = ap length blank.words ∙ length-replicate (a.members * a.columns) 0;
   sent = ap length blank.sent ∙ length-replicate (a.members * a.columns) 0;
 }

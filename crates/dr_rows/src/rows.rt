@@ -1,6 +1,8 @@
-ghost use Rattle.std.specs.Prelude.{◌≡◌, ◌≢◌, ◌+◌, ◌*◌, ◌<◌, ◌≤◌, false, IfOk};
+ghost use Rattle.std.specs.Prelude.{◌≡◌, ◌≢◌, ℕ, ◌+◌, ◌-◌, ◌*◌, ◌<◌, ◌≤◌, false, true, IfOk, length, map, slice_index, take};
+ghost use Rattle.dr_history.specs.Members.{has, members_of};
 
 use dr_entry::MAX_MEMBERS;
+use dr_history::has;
 use std::alloc::{AllocError, Global};
 use std::marker::Model;
 
@@ -13,9 +15,12 @@ pub struct Rows {
     members: u8,
     columns: usize,
     me: u8,
-    /// Where the own row begins in the vectors.
-    own_row: usize,
+    /// The own words, by column.
+    own: Vec<u64>,
+    /// The words of all rows, also of the own one, column by column, so that a question to many rows
+    /// finds its words side by side.
     words: Vec<u64>,
+    /// What was last pushed to each member, row by row, since pushes go by row.
     sent: Vec<u64>,
     frozen: Vec<bool>,
 }
@@ -33,6 +38,7 @@ impl Model for Rows {
 }
 
 impl Rows {
+    ghost use Rattle.dr_rows.specs.Along.{looked_along, pushed_along};
     ghost use Rattle.dr_rows.specs.Growth.{HasGrown, IsFresh};
     ghost use Rattle.dr_rows.specs.Words.{IsWords, begun, changed, is_frozen, last_pushed, looked, own, pushed, renewed, row_of, seen, with_frozen, with_own};
 
@@ -51,7 +57,7 @@ impl Rows {
             members,
             columns,
             me,
-            own_row: usize::from(me) * columns,
+            own: vec![in alloc; 0; columns]?,
             words: vec![in alloc; 0; places]?,
             sent: vec![in alloc; 0; places]?,
             frozen: vec![in alloc; false; usize::from(members)]?,
@@ -73,14 +79,14 @@ impl Rows {
         requires { column < self.now.columns }
         ensures { result ≡ own self.now column }
     {
-        self.words[self.own_place(column)]
+        self.own[column]
     }
 
     /// The own words, by column.
     pub fn own_words(&self) -> &[u64]
         ensures { result.now ≡ row_of self.now.words self.now.me }
     {
-        &self.words[self.own_row..self.own_row + self.columns]
+        self.own.as_slice()
     }
 
     /// Sets the own word of a column to `word`, which is not smaller.
@@ -92,8 +98,9 @@ impl Rows {
         ensures grown { HasGrown self.old self.new }
         ensures form { IsWords self.new }
     {
-        let place = self.own_place(column);
-        self.words[place] = word;
+        let cell = self.cell(self.me, column);
+        self.own[column] = word;
+        self.words[cell] = word;
     }
 
     /// The word of a column that was last seen of a member, or the own word in the own row.
@@ -103,7 +110,28 @@ impl Rows {
         requires column { column < self.now.columns }
         ensures { result ≡ seen self.now row column }
     {
-        self.words[self.place(row, column)]
+        self.words[self.cell(row, column)]
+    }
+
+    /// Puts the words that the rows of these members have in a column to the front of `into`, ascending
+    /// by member, and answers how many they are.
+    pub fn column_of(&self, column: usize, members: u16, into: &mut [u64; MAX_MEMBERS]) -> usize
+        requires column { column < self.now.columns }
+        requires members { (i : ℕ) → has members i ≡ true → i < self.now.members }
+        ensures words { take result into.new
+            ≡ map (λ i. seen self.now i column) (members_of members) }
+        ensures count { result ≡ length (members_of members) }
+        ensures within { result ≤ MAX_MEMBERS }
+    {
+        let first = column * usize::from(self.members);
+        let mut count = 0;
+        for member in 0..self.members {
+            if has(members, member) {
+                into[count] = self.words[first + usize::from(member)];
+                count += 1;
+            }
+        }
+        count
     }
 
     /// Takes a word that was seen of another member, whose row is not frozen. The word is not
@@ -119,8 +147,8 @@ impl Rows {
         ensures grown { HasGrown self.old self.new }
         ensures form { IsWords self.new }
     {
-        let place = self.place(row, column);
-        self.words[place] = word;
+        let cell = self.cell(row, column);
+        self.words[cell] = word;
     }
 
     /// Freezes the row of another member: no look changes it any more.
@@ -167,12 +195,69 @@ impl Rows {
         self.sent[place] = word;
     }
 
+    /// Takes the words of another member's row, from a column on, as [`Rows::look`] takes one. They stand in
+    /// a table, the one of column 0 at the index `first`.
+    #[inline(always)]
+    pub fn look_row(&mut self, row: u8, from: usize, table: &[u64], first: usize)
+        requires row { row < self.old.members }
+        requires from { from ≤ self.old.columns }
+        requires other { row ≢ self.old.me }
+        requires unfrozen { is_frozen self.old row ≡ false }
+        requires within { first + self.old.columns ≤ length table.now }
+        requires grown { (c : ℕ) → from ≤ c → c < self.old.columns
+            → seen self.old row c ≤ slice_index table.now (first + c) }
+        ensures after { self.new
+            ≡ looked_along row table.now first self.old from (self.old.columns - from) }
+        ensures grown { HasGrown self.old self.new }
+        ensures form { IsWords self.new }
+    {
+        let columns = self.columns;
+        let members = usize::from(self.members);
+        let mut cell = from * members + usize::from(row);
+        let words = self.words.as_mut_slice();
+        for column in from..columns {
+            words[cell] = table[first + column];
+            cell += members;
+        }
+    }
+
+    /// Pushes the own words that have changed, from a column on, to the member `to`, and notes it, as
+    /// [`Rows::pushed`] does for one. In the table the word of column 0 stands at the index `first`. Answers
+    /// how many they were.
+    #[inline(always)]
+    pub fn push_row(&mut self, to: u8, from: usize, table: &mut [u64], first: usize) -> u32
+        requires to { to < self.old.members }
+        requires from { from ≤ self.old.columns }
+        requires within { first + self.old.columns ≤ length table.old }
+        ensures after { let done = pushed_along to first
+            (record { words = self.old; table = table.old; count = 0 }) from (self.old.columns - from) in
+            (self.new ≡ done.words) × (table.new ≡ done.table) × (result ≡ done.count) }
+        ensures grown { HasGrown self.old self.new }
+        ensures form { IsWords self.new }
+    {
+        let columns = self.columns;
+        let row = usize::from(to) * columns;
+        let own = self.own.as_slice();
+        let sent = self.sent.as_mut_slice();
+        let mut count = 0;
+        for column in from..columns {
+            let word = own[column];
+            if word != sent[row + column] {
+                sent[row + column] = word;
+                table[first + column] = word;
+                count += 1;
+            }
+        }
+        count
+    }
+
     /// Makes all words 0 and all rows unfrozen, as at the beginning.
     pub fn renew(&mut self)
         ensures after { self.new ≡ renewed self.old }
         ensures fresh { IsFresh self.new }
         ensures form { IsWords self.new }
     {
+        self.own.fill(0);
         self.words.fill(0);
         self.sent.fill(0);
         self.frozen.fill(false);
@@ -188,7 +273,7 @@ impl Rows {
         self.sent[self.place(to, column)]
     }
 
-    /// The place of a row's column in the vectors, which have the rows one after another.
+    /// The place of a row's column among the pushed words.
     #[inline]
     fn place(&self, row: u8, column: usize) -> usize
         requires row { row < self.now.members }
@@ -199,13 +284,14 @@ impl Rows {
         usize::from(row) * self.columns + column
     }
 
-    /// The place of a column of the own row.
+    /// The place of a row's column among the words.
     #[inline]
-    fn own_place(&self, column: usize) -> usize
-        requires { column < self.now.columns }
-        ensures place { result ≡ self.now.me * self.now.columns + column }
+    fn cell(&self, row: u8, column: usize) -> usize
+        requires row { row < self.now.members }
+        requires column { column < self.now.columns }
+        ensures place { result ≡ column * self.now.members + row }
         ensures within { result < self.now.members * self.now.columns }
     {
-        self.own_row + column
+        column * usize::from(self.members) + usize::from(row)
     }
 }

@@ -1,5 +1,5 @@
 -- Sweeps: what comes of a program, and of a log, by looks and pushes of one member.
-use Rattle.std.proofs.Common.{◌≡◌, refl, sym, ap, ◌∙◌, subst, inl, inr, ℕ, zero, suc, ◌<◌, ◌≤◌, true, false, ◌||◌, List, length, slice_index, length-append, arith}
+use Rattle.std.proofs.Common.{◌≡◌, refl, sym, ap, ◌∙◌, subst, inl, inr, ℕ, zero, suc, ◌<◌, ◌≤◌, true, false, ◌||◌, List, length, length-append, le_of_eq, arith}
 use Rattle.std.specs.Prelude.{Option, None, Some, is_some, slice_get, slice_set}
 use Rattle.std.proofs.lemmas.List.Sums.{sum_by-set}
 use Rattle.std.proofs.lemmas.Option.{slice_get_within}
@@ -10,7 +10,9 @@ use Rattle.dr_logged.specs.Appended.{is_append}
 use Rattle.dr_logged.specs.Served.{HasServed, IsReady}
 use Rattle.dr_logged.proofs.Serving.{grows, other_ready, other_served, settled_same}
 use Rattle.dr_machine.specs.Group.{Group}
+use Rattle.dr_member.specs.Alone.{IsAtSweep, LeadsTo, SeesAlong}
 use Rattle.dr_member.specs.Deeds.{is_look, is_push, table_size}
+use Rattle.dr_member.proofs.Alone.{look_step}
 use Rattle.dr_program.specs.declared.deed.Deed.{Deed}
 use Rattle.dr_program.specs.declared.deed.Deed.TheVariants as deeds
 use Rattle.dr_program.specs.declared.place.Part.{Part}
@@ -26,13 +28,13 @@ use Rattle.dr_program.specs.Turn.{is_beat, part_of}
 use Rattle.dr_program.proofs.Holdings.{replica_set}
 use Rattle.dr_turn.specs.Work.{deeds_left}
 use Rattle.dr_age.specs.Sound.{IsSound}
-use Rattle.dr_age.proofs.Deeds.{at_look, at_push, deed_tells}
-use Rattle.dr_sim.specs.Deeds.{SeesWell, member_after, outcome_by, table_after}
+use Rattle.dr_age.proofs.Deeds.{at_look, at_push}
+use Rattle.dr_sim.specs.Deeds.{member_after, outcome_by, table_after}
 use Rattle.dr_sim.specs.Simulated.{WentWell}
 use Rattle.dr_sim.specs.Sound.{IsAmong, IsSomewhere, all_left, with_member}
-use Rattle.dr_sim.specs.Sweeps.{HasCome, HasGoneOn, HasTaken, IsAtSweep}
+use Rattle.dr_sim.specs.Sweeps.{HasGoneOn}
 use Rattle.dr_sim.specs.Watched.{TakesNoNote, WasTold}
-use Rattle.dr_sim.proofs.Deeds.{IsTaken, look_seen, other_taken}
+use Rattle.dr_sim.proofs.Deeds.{IsTaken, other_taken}
 use Rattle.dr_sim.proofs.Steps.{HasStepped, sees_well, stepped, whole_table}
 use Rattle.dr_sim.proofs.Turns.{HasTurn, IsInTurn, IsUnderWay, more_moves, set_twice, stands, turn_ends, turn_goes_on}
 
@@ -75,20 +77,6 @@ pub swept_taken : (words : List ℕ) (r : Running) → IsSweeping r
     → IsTaken words r (stored words r.replica (next_step r)) (after_step (next_sight words r) r)
 swept_taken words r is = other_taken words r _ _ is.none is.other refl refl
 
--- one deed more
-pub taken_more : (n : ℕ) (words : List ℕ) (r : Running) (cells : List ℕ) (q : Running) (next : List ℕ)
-    (x : Running) → HasTaken n words r cells q → IsAtSweep q → stored cells q.replica (next_step q) ≡ next
-    → after_step (next_sight cells q) q ≡ x → HasTaken (suc n) words r next x
-taken_more zero words r cells q next x (same, is) due to after = (
-  subst IsAtSweep (sym is) due,
-  (
-    (λ z. stored (same z) (is z).replica (next_step (is z))) ∙ to,
-    (λ z. after_step (next_sight (same z) (is z)) (is z)) ∙ after,
-  ),
-)
-taken_more (suc n) words r cells q next x (first, rest) due to after =
-    (first, taken_more n _ _ cells q next x rest due to after)
-
 -- ---- a member of some sound program
 
 -- it is one of a sound program after its next deed too
@@ -108,19 +96,28 @@ somewhere_on r x words cells (g, p, m, is) none taken =
       },
     )
 
--- so a member comes on by one deed more
-pub come_on : (words : List ℕ) (r : Running) (cells : List ℕ) (q : Running) (next : List ℕ) (x : Running)
-    → HasCome words r cells q → IsAtSweep q → stored cells q.replica (next_step q) ≡ next
-    → after_step (next_sight cells q) q ≡ x → HasCome words r next x
-come_on words r cells q next x come due to after =
-    let is = at_sweep q due in
-    let (n, taken) = come.taken in
-    record {
-      somewhere = somewhere_on q x cells next come.somewhere is.none
-          (subst (IsTaken cells q next) after
-          (subst (λ t. IsTaken cells q t (after_step (next_sight cells q) q)) to (swept_taken cells q is)));
-      taken = (suc n, taken_more n words r cells q next x taken due to after);
-    }
+-- so it is wherever looks and pushes lead it
+pub leads_somewhere : (n : ℕ) (words : List ℕ) (r : Running) (cells : List ℕ) (q : Running)
+    → LeadsTo n words r cells q → IsSomewhere r words → IsSomewhere q cells
+leads_somewhere zero words r cells q (same, is) somewhere = subst (IsSomewhere q) same
+    (subst (λ x. IsSomewhere x words) is somewhere)
+leads_somewhere (suc n) words r cells q (due, rest) somewhere =
+    leads_somewhere n _ _ cells q rest
+    (somewhere_on r (after_step (next_sight words r) r) words (stored words r.replica (next_step r)) somewhere
+    (at_sweep r due).none (swept_taken words r (at_sweep r due)))
+
+-- and it may see there what it looks at
+pub sees_along : (words : List ℕ) (r : Running) → IsSomewhere r words → SeesAlong words r
+sees_along words r somewhere n q lead due =
+    let (g, p, m, is) = leads_somewhere n words r words q lead somewhere in
+    subst (λ t. MaySee q (step_of_member q) (next_sight t q)) is.table
+    (sees_well g p m q is.sound is.there q.place.row q.place.column
+    (look_step q (is.sound.form.form m q is.there) due))
+
+-- the table has all words that it may name
+pub whole_words : (words : List ℕ) (r : Running) → IsSomewhere r words → table_size r ≤ length words
+whole_words words r (g, p, m, is) =
+    le_of_eq (whole_table g p m r is.sound is.there ∙ ap length is.table)
 
 -- ---- a turn
 
@@ -188,7 +185,7 @@ module _ {W : Type 0} (sees : W → Running → List ℕ → W → Type 0) (old 
   -- and where it has come by several
   gone_sweeping : (n : ℕ) (words : List ℕ) (r : Running) (cells : List ℕ) (q : Running)
       → IsOnWay sees old now g p m (with_member p m r words) → is_between_turns (Some r) ≡ false
-      → HasTaken n words r cells q → HasGone sees old now g p m q cells
+      → LeadsTo n words r cells q → HasGone sees old now g p m q cells
   gone_sweeping zero words r cells q way amid (same, is) =
       subst (λ x. HasGone sees old now g p m x cells) is (subst (HasGone sees old now g p m r) same (record {
         amid = λ e. way;
@@ -249,7 +246,7 @@ way_on {W} {sees} {old} {mid} new g p m r x y table cells next is way none goes 
     gone : HasGoneOn sees mid new cells x next y → HasGone sees old new g p m y next
     gone (inl (member, stores, seen)) = gone_by new g p m x y cells next within here none
         (record { member = member; table = stores }) seen
-    gone (inr (due, come, same, idle)) = let (n, taken) = come.taken in
+    gone (inr (due, (n, taken), same, idle)) =
         subst (λ w. HasGone sees old w g p m y next) same
         (gone_sweeping sees old mid idle g p m within n cells x next y here (at_sweep x due).amid taken)
 
@@ -257,7 +254,7 @@ way_on {W} {sees} {old} {mid} new g p m r x y table cells next is way none goes 
 
 -- a log stays ready for its member
 swept_ready : {D : Type 0} (log : LogState D) (n : ℕ) (words : List ℕ) (r : Running) (cells : List ℕ)
-    (q : Running) → HasTaken n words r cells q → IsReady log r → IsReady log q
+    (q : Running) → LeadsTo n words r cells q → IsReady log r → IsReady log q
 swept_ready log zero words r cells q (same, is) ready = subst (IsReady log) is ready
 swept_ready log (suc n) words r cells q (due, rest) ready =
     swept_ready log n _ _ cells q rest
@@ -275,7 +272,7 @@ logged_on word r other within =
 
 -- and has served it
 swept_served : {D : Type 0} (told : D → Option Told) (faults : D → ℕ) (base log : LogState D) (n : ℕ)
-    (words : List ℕ) (r : Running) (cells : List ℕ) (q : Running) → HasTaken n words r cells q
+    (words : List ℕ) (r : Running) (cells : List ℕ) (q : Running) → LeadsTo n words r cells q
     → r.replica.logged ≤ length r.replica.history
     → HasServed told faults base log r → HasServed told faults base log q
 swept_served told faults base log zero words r cells q (same, is) within served =
@@ -285,55 +282,19 @@ swept_served told faults base log (suc n) words r cells q (due, rest) within ser
     swept_served told faults base log n _ _ cells q rest (logged_on (next_sight words r) r other within)
     (other_served told faults base log (next_sight words r) r other within served)
 
--- ---- what the table does for a sweep
-
--- the table has the words that the member names
-pub index_within : (r : Running) (words : List ℕ) (index : ℕ) → IsSomewhere r words → index < table_size r
-    → index < length words
-index_within r words index (g, p, m, is) below =
-    subst (λ n. index < n) (whole_table g p m r is.sound is.there ∙ ap length is.table) below
-
--- a member at a look may see the word that stands there
-pub look_sees : (r : Running) (words : List ℕ) (index word : ℕ) → IsSomewhere r words
-    → next_deed r ≡ deeds.Look index → word ≡ slice_index words index → MaySee r (step_of_member r) word
-look_sees r words index word (g, p, m, is) due found =
-    subst (MaySee r (step_of_member r)) (sym found) (look_seen words r index
-    (subst (λ t. SeesWell t r) is.table (sees_well g p m r is.sound is.there)) due)
-
-pub look_comes : (words : List ℕ) (r : Running) (cells : List ℕ) (q : Running) (index word : ℕ)
-    → HasCome words r cells q → next_deed q ≡ deeds.Look index → word ≡ slice_index cells index
-    → HasCome words r cells (after_step word q)
-look_comes words r cells q index word come due found =
-    let t = deed_tells cells q (deeds.Look index) due in
-    come_on words r cells q cells (after_step word q) come (ap (λ d. is_look d || is_push d) due)
-    (ap (stored cells q.replica) t.says.look) (ap (λ w. after_step w q) (t.says.sees ∙ sym found))
-
-pub push_comes : (words : List ℕ) (r : Running) (cells : List ℕ) (q : Running) (index word : ℕ)
-    (next : List ℕ) → HasCome words r cells q → next_deed q ≡ deeds.Push index word
-    → next ≡ slice_set cells index word → HasCome words r next (after_step 0 q)
-push_comes words r cells q index word next come due to =
-    let t = deed_tells cells q (deeds.Push index word) due in
-    come_on words r cells q next (after_step 0 q) come (ap (λ d. is_look d || is_push d) due)
-    (t.says.stores ∙ sym to) (ap (λ w. after_step w q) t.says.sees)
-
--- so it is where the member has come from
+-- so it is where looks and pushes have led it
 pub come_ready : {D : Type 0} (log : LogState D) (words : List ℕ) (r : Running) (cells : List ℕ)
-    (q : Running) → HasCome words r cells q → IsReady log r → IsReady log q
-come_ready log words r cells q come ready = let (n, taken) = come.taken in
-    swept_ready log n words r cells q taken ready
+    (q : Running) → ((n : ℕ) × LeadsTo n words r cells q) → IsReady log r → IsReady log q
+come_ready log words r cells q (n, taken) ready = swept_ready log n words r cells q taken ready
 
 pub come_served : {D : Type 0} (told : D → Option Told) (faults : D → ℕ) (base log : LogState D)
-    (words : List ℕ) (r : Running) (cells : List ℕ) (q : Running) → HasCome words r cells q
+    (words : List ℕ) (r : Running) (cells : List ℕ) (q : Running) → ((n : ℕ) × LeadsTo n words r cells q)
     → r.replica.logged ≤ length r.replica.history
     → HasServed told faults base log r → HasServed told faults base log q
-come_served told faults base log words r cells q come within served = let (n, taken) = come.taken in
+come_served told faults base log words r cells q (n, taken) within served =
     swept_served told faults base log n words r cells q taken within served
 
 -- a running member has logged no more than there is
 pub somewhere_logged : (r : Running) (words : List ℕ) → IsSomewhere r words
     → r.replica.logged ≤ length r.replica.history
 somewhere_logged r words (g, p, m, is) = (is.sound.form.form m r is.there).replica.logged
-
--- no deed was taken yet
-pub come_none : (r : Running) (words : List ℕ) → IsSomewhere r words → HasCome words r words r
-come_none r words somewhere = record { somewhere = somewhere; taken = (0, (refl, refl)) }

@@ -12,7 +12,6 @@ ghost use Rattle.dr_sim.specs.Sound.{IsAmong, IsSomewhere, TookTurn, with_member
 ghost use Rattle.dr_sim.specs.Sweeps.{HasGoneOn};
 ghost use Rattle.dr_sim.specs.Watched.{WasTold};
 
-use crate::sweep::Alone;
 use crate::watcher::Watcher;
 use dr_disk::Disk;
 use dr_log::Log;
@@ -103,8 +102,8 @@ fn take_on<D: Disk, W: Watcher>(
 {
     let noted = watcher.takes_note();
     match member.next() {
-        Deed::Look(_) if !noted => member.look_row(table, &Alone, 0),
-        Deed::Push(_, _) if !noted => member.push_row(table, &Alone, 0),
+        Deed::Look(_) if !noted => member.look_alone(table.as_slice()),
+        Deed::Push(_, _) if !noted => member.push_alone(table.as_mut_slice()),
         _ => take(member, table.as_mut_slice(), log, watcher),
     }
 }

@@ -8,7 +8,6 @@ mod lcg;
 mod lockstep;
 mod seeded;
 mod simulation;
-mod sweep;
 mod watcher;
 
 pub use age::{sim_age, watch_age};

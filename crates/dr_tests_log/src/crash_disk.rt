@@ -17,8 +17,8 @@ pub(crate) struct CrashDisk {
     wanted: [u8; ROOM],
     pub(crate) from: usize,
     pub(crate) to: usize,
-    pub(crate) least: usize,
-    pub(crate) greatest: usize,
+    least: usize,
+    greatest: usize,
 }
 
 impl CrashDisk {
@@ -36,9 +36,22 @@ impl CrashDisk {
         })
     }
 
+    /// Images that a crash may leave, one for each length and each place up to which a write may have come.
+    pub(crate) fn images(&self, alloc: Global) -> Result<Vec<Vec<u8>>, AllocError> {
+        let mut images = Vec::new(alloc);
+        for length in self.least..=self.greatest {
+            for seam in self.from.min(self.to)..=self.to {
+                for rest in [None, Some(0), Some(1), Some(0xff)] {
+                    images.push(self.image(alloc, length, seam, rest)?)?;
+                }
+            }
+        }
+        Ok(images)
+    }
+
     /// What a crash may leave: so many bytes, with those before `seam` as they were to be written,
     /// and all others that may be any as `rest` says, or as they were before where it says nothing.
-    pub(crate) fn image(
+    fn image(
         &self,
         alloc: Global,
         length: usize,

@@ -57,18 +57,12 @@ fn records_in(alloc: Global, bytes: &[u8], appended: usize) -> Result<usize, Fai
 
 /// The least and the greatest number of records on any image that a crash may leave.
 fn records_left(alloc: Global, stopped: &Stopped) -> Result<(usize, usize), Fail> {
-    let disk = &stopped.disk;
     let mut least = usize::MAX;
     let mut greatest = 0;
-    for length in disk.least..=disk.greatest {
-        for seam in disk.from.min(disk.to)..=disk.to {
-            for rest in [None, Some(0), Some(1), Some(0xff)] {
-                let image = disk.image(alloc, length, seam, rest)?;
-                let count = records_in(alloc, image.as_slice(), stopped.appended)?;
-                least = least.min(count);
-                greatest = greatest.max(count);
-            }
-        }
+    for image in stopped.disk.images(alloc)?.as_slice() {
+        let count = records_in(alloc, image.as_slice(), stopped.appended)?;
+        least = least.min(count);
+        greatest = greatest.max(count);
     }
     Ok((least, greatest))
 }

@@ -23,7 +23,7 @@ fn disk_of(alloc: Global, bytes: &[u8]) -> Result<CalmDisk, Fail> {
 }
 
 /// The log in these bytes.
-fn mount(
+pub(crate) fn mount(
     alloc: Global,
     bytes: &[u8],
     limit: u64,

@@ -8,6 +8,8 @@ mod crashes;
 #[cfg(test)]
 mod files;
 #[cfg(test)]
+mod groups;
+#[cfg(test)]
 mod long;
 #[cfg(test)]
 mod records;

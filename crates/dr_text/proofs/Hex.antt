@@ -1,5 +1,6 @@
 -- The kit's words for hexadecimal text, and those of the report.
-use Rattle.std.proofs.Common.{◌≡◌, ℕ, zero, suc, ◌/◌, ◌%◌, ◌<◌, ◌==◌, nat_lt, ◌&&◌, Bool, true, inl, inr, false, List, [], ◌∷◌, slice_index, refl, arith}
+use Rattle.std.proofs.Common.{◌≡◌, ℕ, zero, suc, ◌+◌, ◌*◌, ◌/◌, ◌%◌, ◌<◌, ◌==◌, nat_lt, ◌&&◌, Bool, true, inl, inr, false, List, [], ◌∷◌, ◌++◌, append_assoc, length, set, take, slice_index, refl, sym, ap, ap₂, ◌∙◌, arith}
+use Rattle.std.proofs.lemmas.List.{flat_map_more, length-set, take_more, take_more_set}
 use Rattle.std.specs.Fmt.{digit_glyph}
 use Rattle.std.specs.List.{flat_map}
 use Rattle.std.specs.Str.{IsAscii}
@@ -52,3 +53,20 @@ ascii_from_all (b ∷ bs) h =
 -- the kit's hexadecimal text is ASCII
 pub encoded_ascii : (bytes : List ℕ) → IsAscii (encode_lower bytes)
 encoded_ascii bytes = IsAscii-encode_with lower_digits bytes (ascii_from_all lower_digits refl)
+
+-- the text of one byte more, in two writes
+pub two_more : (into bytes : List ℕ) (i h l : ℕ) → length into ≡ 2 * length bytes → i < length bytes
+    → h ≡ digit_glyph false (slice_index bytes i / 16) → l ≡ digit_glyph false (slice_index bytes i % 16)
+    → take (2 * i) into ≡ flat_map hex_text (take i bytes)
+    → take (2 * (i + 1)) (set (set into (2 * i) h) (2 * i + 1) l) ≡ flat_map hex_text (take (i + 1) bytes)
+two_more into bytes i h l long within high low so =
+    ap (λ n. take n (set (set into (2 * i) h) (2 * i + 1) l)) two
+    ∙ take_more_set (set into (2 * i) h) (2 * i + 1) l (omega (arith, long, length-set into (2 * i) h, within))
+    ∙ ap (λ xs. xs ++ l ∷ []) (take_more_set into (2 * i) h (omega (arith, long, within)) ∙ ap (λ xs. xs ++ h ∷ []) so)
+    ∙ append_assoc (flat_map hex_text (take i bytes)) (h ∷ []) (l ∷ [])
+    ∙ ap₂ (λ (a b : ℕ). flat_map hex_text (take i bytes) ++ a ∷ b ∷ []) high low
+    ∙ flat_map_more hex_text [] (take i bytes) (slice_index bytes i)
+    ∙ ap (flat_map hex_text) (sym (take_more bytes i 0 within))
+  where
+    two : 2 * (i + 1) ≡ 2 * i + 1 + 1
+    two = omega arith

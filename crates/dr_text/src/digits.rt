@@ -1,5 +1,5 @@
-ghost use Rattle.std.specs.Prelude.{◌≡◌, ◌≤◌, ◌++◌, OnOk, string_bytes, length, ◌*◌, IsAscii};
-ghost use Rattle.std.specs.Fmt.{decimal};
+ghost use Rattle.std.specs.Prelude.{◌≡◌, ◌<◌, ◌≤◌, ◌++◌, false, OnOk, string_bytes, length, ◌*◌, IsAscii};
+ghost use Rattle.std.specs.Fmt.{decimal, digit_glyph};
 ghost use Rattle.std.specs.List.{flat_map};
 ghost use Rattle.dr_text.specs.Report.{hex_text};
 
@@ -31,11 +31,29 @@ pub fn push_hex_bytes(out: &mut String, bytes: &[u8]) -> Result<(), AllocError>
     out.push_str(unsafe { std::str::from_utf8_unchecked(digits) })
 }
 
-/// Writes the bytes in hexadecimal.
+/// Writes the bytes in hexadecimal. Written as a loop over numbers, with no table, so that the built program takes
+/// 16 bytes at once.
 fn write_hex(bytes: &[u8], into: &mut [u8])
     requires { length into.old ≡ 2 * length bytes.now }
     ensures text { into.new ≡ flat_map hex_text bytes.now }
     ensures ascii { IsAscii into.new }
 {
-    hex::encode_to_slice(bytes, into).unwrap();
+    for i in 0..bytes.len() {
+        let byte = bytes[i];
+        into[2 * i] = digit(byte / 16);
+        into[2 * i + 1] = digit(byte % 16);
+    }
+}
+
+/// A digit in lower-case hexadecimal.
+#[inline(always)]
+fn digit(number: u8) -> u8
+    requires { number < 16 }
+    ensures { result ≡ digit_glyph false number }
+{
+    if number < 10 {
+        b'0' + number
+    } else {
+        b'a' - 10 + number
+    }
 }

@@ -1,38 +1,33 @@
-use Rattle.std.proofs.Common.{◌≡◌, ◌≢◌, ℕ, ◌+◌, ◌*◌, ◌%◌, ◌^◌, ◌<◌, List, slice_index, bit_or, below_more, subst, sym, ◌∙◌, arith, w64}
-use Rattle.std.proofs.lemmas.Nat.Bits.{bit_at_set_same, bit_at_set_other}
-use Rattle.dr_lane.proofs.match_mask.Invariants.{Marks}
+use Rattle.std.proofs.Common.{◌≡◌, ◌↔◌, ◌==◌, ℕ, List, get_or, map, take, arith, sym, subst, ◌∙◌, ap}
+use Rattle.std.specs.Int.{bit_at}
+use Rattle.std.specs.Simd.Lanes.{mask_l}
+use Rattle.std.proofs.lemmas.Bool.{eq-eqb, ne_eqb}
+use Rattle.std.proofs.lemmas.List.{take_all}
+use Rattle.dr_lane.proofs.Blocks.{bit_clear, bit_marked, block_marked, word_marked, word_unmarked}
 use Rattle.dr_lane.proofs.match_mask.Goals as goal
-use Rattle.dr_lane.proofs.match_mask.Goals.{then-word-to, else-word-to}
+use Rattle.dr_lane.proofs.match_mask.Goals.{then-words-i, else-words-i}
 
--- the next word equals `to`, and its bit is set
-marked : (words : List ℕ) (to mask i : ℕ) → i < 64 → slice_index words i ≡ to
-    → Marks words to mask i
-    → Marks words to (bit_or mask (1 * 2 ^ i % 2 ^ 64)) (i + 1)
-marked words to mask i within same before = record {
-  set = below_more _ _
-      (λ k h. let e = bit_at_set_other w64 mask i within k (omega arith) in grind (arith, before.set k h))
-      (let e = bit_at_set_same w64 mask i within in (λ _. same, λ _. e));
-  clear = λ k h. bit_at_set_other w64 mask i within k (omega arith) ∙ before.clear k (omega arith);
-}
-
--- the next word does not equal `to`, and its bit stays clear
-unmarked : (words : List ℕ) (to mask i : ℕ) → slice_index words i ≢ to → Marks words to mask i
-    → Marks words to mask (i + 1)
-unmarked words to mask i other before = record {
-  set = below_more _ _ before.set
-      (let e = before.clear i (omega arith) in (λ h. absurd (omega arith), λ h. absurd (other h)));
-  clear = λ k h. before.clear k (omega arith);
-}
+pub loop-at-preserved : goal.loop-at-preserved
+loop-at-preserved c = (omega arith,
+  block_marked (λ word. word == c.args.to) c.args.words.now c.loop-at.at c.loop-at.mask c.marks.result
+      (omega arith) c.requires c.loop-at.invariant.1 c.marks.ensures)
 
 pub loop-i-preserved : goal.loop-i-preserved
-loop-i-preserved c =
-    let words = c.args.words.now in
-    let to = c.args.to in
-    let i = c.loop-i.i in
-    let after : ℕ → Type 0 = λ mask. Marks words to mask (i + 1) in
-    elim c.if-word-to.branch [
-      | then-word-to w ↦ subst after (sym w.mask-is)
-          (marked words to c.loop-i.mask i (omega arith) w.if-word-to.true c.loop-i.invariant)
-      | else-word-to w ↦ subst after (sym w.mask-is)
-          (unmarked words to c.loop-i.mask i w.if-word-to.false c.loop-i.invariant)
-    ]
+loop-i-preserved c = (c.loop-i.invariant.0, elim c.if-words-i.branch [
+  | then-words-i w ↦ w.mask-is ∙ word_marked (λ word. word == c.args.to) c.args.words.now c.loop-i.i c.loop-i.mask
+      (omega arith) c.requires c.loop-i.invariant.1 (eq-eqb _ _ w.if-words-i.true)
+  | else-words-i w ↦ w.mask-is ∙ c.loop-i.invariant.1 ∙ word_unmarked (λ word. word == c.args.to) c.args.words.now c.loop-i.i
+      (omega arith) (ne_eqb _ _ w.if-words-i.false)
+])
+
+whole : (c : goal.After-loop-i) → mask_l (map (λ word. word == c.args.to) c.args.words.now) ≡ c.loop-i.mask
+whole c = sym (c.loop-i.invariant.1
+    ∙ ap (λ (xs : List ℕ). mask_l (map (λ word. word == c.args.to) xs)) (take_all c.loop-i.i c.args.words.now (omega arith)))
+
+pub returns-clause-set : goal.returns-clause-set
+returns-clause-set c i room = subst (λ (m : ℕ). (bit_at m i ≡ 1) ↔ (get_or c.args.words.now i 0 ≡ c.args.to)) (whole c)
+    (bit_marked c.args.words.now c.args.to i room)
+
+pub returns-clause-clear : goal.returns-clause-clear
+returns-clause-clear c i past = subst (λ (m : ℕ). bit_at m i ≡ 0) (whole c)
+    (bit_clear c.args.words.now (λ word. word == c.args.to) i past)

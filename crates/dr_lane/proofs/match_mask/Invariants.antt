@@ -1,13 +1,14 @@
-use Rattle.std.proofs.Common.{◌≡◌, ◌↔◌, ℕ, ◌<◌, ◌≤◌, List, slice_index}
-use Rattle.std.specs.Int.{bit_at}
+use Rattle.std.proofs.Common.{◌≡◌, ◌-◌, ◌≤◌, ◌==◌, length, map, take}
+use Rattle.std.specs.Simd.Lanes.{mask_l}
 use Rattle.dr_lane.proofs.match_mask.Given as goal
 
--- of the first i words those that equal `to` are marked, and nothing else is
-abbrev pub Marks : List ℕ → ℕ → ℕ → ℕ → Type 0
-Marks words to mask i = record {
-  set : (k : ℕ) → k < i → (bit_at mask k ≡ 1) ↔ (slice_index words k ≡ to);
-  clear : (k : ℕ) → i ≤ k → bit_at mask k ≡ 0;
-}
+abbrev pub invariant-loop-at : goal.invariant-loop-at
+invariant-loop-at l = (l.at ≤ length l.words)
+    × (l.mask ≡ mask_l (map (λ word. word == l.to) (take l.at l.words)))
+
+abbrev pub decreases-loop-at : goal.decreases-loop-at
+decreases-loop-at l = length l.words - l.at
 
 abbrev pub invariant-loop-i : goal.invariant-loop-i
-invariant-loop-i l = Marks l.words l.to l.mask l.i
+invariant-loop-i l = (l.at ≤ length l.words)
+    × (l.mask ≡ mask_l (map (λ word. word == l.to) (take l.i l.words)))

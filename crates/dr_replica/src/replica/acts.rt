@@ -1,5 +1,5 @@
 //! What a replica does.
-ghost use Rattle.std.specs.Prelude.{◌≡◌, ◌<◌, ◌≤◌, ◌+◌, ◌^◌, None, false, slice_index, true};
+ghost use Rattle.std.specs.Prelude.{◌≡◌, ◌<◌, ◌≤◌, ℕ, ◌+◌, ◌-◌, ◌^◌, None, false, length, slice_index, true};
 ghost use Rattle.dr_history.specs.Members.{has};
 ghost use Rattle.dr_machine.specs.declared.step.Step.TheVariants.{Do};
 ghost use Rattle.dr_program.specs.Form.{HasForm};
@@ -10,6 +10,7 @@ ghost use Rattle.dr_program.specs.Steps.{NoWordFell, is_free};
 ghost use Rattle.dr_replica.specs.Items.{front};
 ghost use Rattle.dr_form.specs.Puts.{MayPut};
 ghost use Rattle.dr_ring.specs.Slots.{HasShape};
+ghost use Rattle.dr_rows.specs.Along.{looked_along, pushed_along};
 ghost use Rattle.dr_rows.specs.Words.{own, seen, with_own};
 ghost use Rattle.dr_words.specs.Columns.{recv_column};
 ghost use Rattle.dr_words.specs.Form.{IsInForm};
@@ -122,6 +123,45 @@ impl Replica {
         ensures form { HasForm self.new }
     {
         self.rows.pushed(to, column);
+    }
+
+    /// It takes the words of a row from a column on, as [`Replica::look`] takes one. They stand in a table, the
+    /// one of column 0 at the index `first`.
+    #[inline(always)]
+    pub fn look_row(&mut self, row: u8, from: usize, table: &[u64], first: usize)
+        requires row { row < self.old.roster }
+        requires other { is_other self.old row ≡ true }
+        requires unsuspected { has self.old.suspects row ≡ false }
+        requires from { from ≤ self.old.rows.columns }
+        requires within { first + self.old.rows.columns ≤ length table.now }
+        requires in_form { (c : ℕ) → from ≤ c → c < self.old.rows.columns
+            → IsInForm self.old.roster c (slice_index table.now (first + c)) }
+        requires grown { (c : ℕ) → from ≤ c → c < self.old.rows.columns
+            → HasGrown self.old.roster c (seen self.old.rows row c) (slice_index table.now (first + c)) }
+        ensures after { let rows = looked_along row table.now first self.old.rows from
+            (self.old.rows.columns - from) in self.new ≡ record self.old { rows = rows } }
+        ensures grown { NoWordFell self.old self.new }
+        ensures form { HasForm self.new }
+    {
+        self.rows.look_row(row, from, table, first);
+    }
+
+    /// Its own words that have changed, from a column on, are pushed to the member `to`, into a table in which
+    /// the one of column 0 stands at the index `first`. Answers how many they were.
+    #[inline(always)]
+    pub fn push_row(&mut self, to: u8, from: usize, table: &mut [u64], first: usize) -> u32
+        requires to { to < self.old.roster }
+        requires from { from ≤ self.old.rows.columns }
+        requires within { first + self.old.rows.columns ≤ length table.old }
+        ensures after { let done = pushed_along to first
+            (record { words = self.old.rows; table = table.old; count = 0 }) from
+            (self.old.rows.columns - from) in
+            (self.new ≡ record self.old { rows = done.words }) × (table.new ≡ done.table)
+            × (result ≡ done.count) }
+        ensures grown { NoWordFell self.old self.new }
+        ensures form { HasForm self.new }
+    {
+        self.rows.push_row(to, from, table, first)
     }
 
     /// Does what an act is for.

@@ -10,7 +10,7 @@ ghost use Rattle.dr_rows.specs.Words.{changed};
 use super::Replica;
 use dr_entry::End;
 use dr_machine::Step;
-use dr_pred::{LoggedFront, ReceivedFront, Watch};
+use dr_pred::{LoggedFront, ReceivedFront, Watch, least_word};
 use dr_ring::{free, is_ready};
 use dr_words::{DONE_COLUMN, LOGGED_COLUMN, RECEIVED_COLUMN};
 
@@ -211,11 +211,7 @@ impl Replica {
         requires { column < self.now.rows.columns }
         ensures { result ≡ least_seen self.now column }
     {
-        let mut least = u64::MAX;
-        for member in self.items.members() {
-            least = least.min(self.rows.seen(*member, column));
-        }
-        least
+        least_word(&self.rows, self.members, column).unwrap_or(u64::MAX)
     }
 
     /// The index of the next message that it puts, where one is left.

@@ -34,7 +34,7 @@ returns-in-Ok-mount-clause-mounted g c =
     let is = c.in-Ok-mount.ensures in
     was_mounted g.Y.Store.Disk.told g.Y.Store.Disk.faults (g.Y.Yard.told c.args.yard.now m)
     (g.Y.Yard.faults c.args.yard.now m) c.in-Ok.disk c.in-Ok-mount.log c.in-Ok.ensures.told is.read is.records
-    is.limit is.whole is.any_moment
+    is.length is.limit is.whole is.any_moment
     (omega (arith, is.faults, c.in-Ok.ensures.count, c.in-Ok.ensures.cause.later))
 
 pub returns-in-Err-clause-on : goal.returns-in-Err-clause-on

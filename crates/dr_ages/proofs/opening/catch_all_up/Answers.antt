@@ -2,13 +2,14 @@ use Rattle.std.proofs.Common.{◌≡◌, ◌∙◌, subst, arith, ℕ, false, ge
 use Rattle.std.specs.Prelude.{Err}
 use Rattle.dr_entry.specs.declared.entry.Entry.TheVariants.{View}
 use Rattle.dr_gather.specs.Gathering.{entries_on}
-use Rattle.dr_gather.specs.CatchingUp.{HasCaughtUp, WentSo, opened_with}
+use Rattle.dr_gather.specs.CatchingUp.{FitsOrIsFull, HasStayed, lacked, opened_with}
 use Rattle.dr_gather.proofs.Catching.{part_of_opened}
 use Rattle.dr_gather.proofs.Grouping.{start_valid, part_of_start}
 use Rattle.dr_history.specs.History.{IsPrefixOf}
+use Rattle.dr_log.specs.Standing.{entries_length}
 use Rattle.dr_log.specs.State.{LogState}
 use Rattle.dr_ages.specs.Opened.{AreCaughtUp, IsCaughtUp}
-use Rattle.dr_ages.proofs.Caught.{all_at, caught_later, caught_on, entries_at, later_set, one_more_caught, some_members, still_there}
+use Rattle.dr_ages.proofs.Caught.{all_at, caught_later, entries_at, later_set, one_more_caught, some_members, stayed_on, still_there}
 use Rattle.dr_ages.proofs.Stopping.{catch_stops}
 use Rattle.dr_ages.proofs.opening.catch_all_up.Goals as goal
 
@@ -46,9 +47,7 @@ loop-m-preserved g c =
     let faults = g.D.Disk.faults in
     let new = c.catch_up.new.log in
     let old : LogState g.row.D.Denot = get_or c.loop-m.logs c.loop-m.m c.index-logs-m.result in
-    let came = c.in_default.ensures in
     let came_whole = opened_with c.args.start.now c.of-members.result in
-    let went : (came.0 ≡ length came_whole) × (new.failed ≡ false) × _ = came.2 in
     let at = still_there told faults (opened_with c.args.start.now c.args.start.now.members) c.args.logs.now
     c.loop-m.logs c.loop-m.m c.index-logs-m.result c.loop-m.invariant
     (omega (arith, c.loop-m-test.true, c.loop-m.invariant.all)) in
@@ -56,8 +55,7 @@ loop-m-preserved g c =
     (entries_on c.args.logs.now) c.args.start.now c.loop-m.m old.entries c.requires.start
     (entries_at c.args.logs.now c.loop-m.m old at) in
     let caught : IsCaughtUp told faults came_whole old new = (
-      subst (λ (n : ℕ). HasCaughtUp told faults came_whole old new n) went.0 came.1,
-      went.1,
+      c.in_default.ensures.caught,
       part_of_opened old.entries c.args.start.now.entries (View c.args.start.now.age 0 c.of-members.result) part,
     ) in
     one_more_caught told faults (opened_with c.args.start.now c.args.start.now.members) c.args.logs.now
@@ -68,22 +66,13 @@ loop-m-preserved g c =
 pub returns-in-Err-clause-later : goal.returns-in-Err-clause-later
 returns-in-Err-clause-later g c =
     let old : LogState g.row.D.Denot = get_or c.loop-m.logs c.loop-m.m c.index-logs-m.result in
-    let came = c.in-Err.ensures in
-    let at = still_there g.D.Disk.told g.D.Disk.faults (opened_with c.args.start.now c.args.start.now.members)
-    c.args.logs.now c.loop-m.logs c.loop-m.m c.index-logs-m.result c.loop-m.invariant
-    (omega (arith, c.loop-m-test.true, c.loop-m.invariant.all)) in
-    let part : IsPrefixOf old.entries c.args.start.now.entries = part_of_start c.args.script.now
-    (entries_on c.args.logs.now) c.args.start.now c.loop-m.m old.entries c.requires.start
-    (entries_at c.args.logs.now c.loop-m.m old at) in
     later_set g.D.Disk.told g.D.Disk.faults c.args.logs.now c.loop-m.logs c.loop-m.m c.index-logs-m.result
     c.catch_up.new.log
     (caught_later g.D.Disk.told g.D.Disk.faults (opened_with c.args.start.now c.args.start.now.members)
     c.args.logs.now c.loop-m.logs c.loop-m.m c.loop-m.invariant)
     (omega (arith, c.loop-m-test.true, c.loop-m.invariant.all))
-    (caught_on g.D.Disk.told g.D.Disk.faults (opened_with c.args.start.now c.of-members.result) old
-    c.catch_up.new.log came.0
-    (part_of_opened old.entries c.args.start.now.entries (View c.args.start.now.age 0 c.of-members.result) part)
-    came.1)
+    (stayed_on g.D.Disk.told g.D.Disk.faults (opened_with c.args.start.now c.of-members.result) old
+    c.catch_up.new.log c.in-Err.ensures.stayed)
 
 pub returns-in-Err-clause-stopped : goal.returns-in-Err-clause-stopped
 returns-in-Err-clause-stopped g c before mounted =
@@ -91,10 +80,9 @@ returns-in-Err-clause-stopped g c before mounted =
     let faults = g.D.Disk.faults in
     let old : LogState g.row.D.Denot = get_or c.loop-m.logs c.loop-m.m c.index-logs-m.result in
     let new = c.catch_up.new.log in
-    let came = c.in-Err.ensures in
     let same = c.of-members.ensures in
     catch_stops (Unit {0}) told faults c.args.script.now before c.args.start.now c.args.logs.now c.loop-m.logs c.loop-m.m
-    came.0 old new c.in-Err.fault c.of_catch.result (record {
+    old new c.in-Err.fault c.of_catch.result (record {
       below = omega (arith, c.loop-m-test.true, c.requires.all);
       all = c.requires.all;
       mounted = mounted;
@@ -105,10 +93,11 @@ returns-in-Err-clause-stopped g c before mounted =
           (omega (arith, c.loop-m-test.true, c.loop-m.invariant.all));
       within = omega (arith, c.loop-m-test.true, c.loop-m.invariant.all);
     })
-    (subst (λ (k : ℕ). HasCaughtUp told faults (opened_with c.args.start.now k) old new came.0) same came.1)
-    (subst (λ (k : ℕ). WentSo told faults (opened_with c.args.start.now k) old new came.0
-    {T = Unit {0}} (Err c.in-Err.fault)) same
-    came.2)
+    (subst (λ (k : ℕ). HasStayed told faults (opened_with c.args.start.now k) old new) same c.in-Err.ensures.stayed)
+    c.in-Err.ensures.left_alone c.in-Err.ensures.cause
+    (subst (λ (k : ℕ). FitsOrIsFull old.limit old.length
+    (entries_length (lacked old (opened_with c.args.start.now k))) {T = Unit {0}} (Err c.in-Err.fault)) same
+    c.in-Err.ensures.limit)
     c.of_catch.ensures.memory c.of_catch.ensures.disk c.of_catch.ensures.full
 
 pub returns-clause-caught : goal.returns-clause-caught

@@ -1,12 +1,12 @@
 use Rattle.std.proofs.Common.{◌≡◌, rules}
-use Rattle.dr_log.specs.Appending.{staged}
-use Rattle.dr_log.proofs.Told.{reaches_staged}
+use Rattle.dr_disk.specs.Calls.{Write}
+use Rattle.dr_disk.specs.Disk.{added}
+use Rattle.dr_log.proofs.Groups.{reaches_before}
 use Rattle.dr_log.proofs.appending.put_behind.Goals as goal
 
-pub write_at-requires-2-clause-inside : goal.write_at-requires-2-clause-inside
-write_at-requires-2-clause-inside g c =
+pub open_gate-requires-clause-inside : goal.open_gate-requires-clause-inside
+open_gate-requires-clause-inside g c κs within =
     let told = g.D.Disk.told in
-    let is : told c.sync.new.self ≡ staged c.args.at c.args.bytes.now (told c.args.disk.now) =
+    let is : told c.write_at.new.self ≡ added (Write c.args.at c.args.bytes.now) (told c.args.disk.now) =
     search rules in
-    reaches_staged (told c.args.disk.now)
-    (told c.sync.new.self) c.args.at c.args.bytes.now is c.requires.inside
+    reaches_before (told c.args.disk.now) (told c.write_at.new.self) c.args.at c.args.bytes.now is c.requires.inside

@@ -1,25 +1,34 @@
-use Rattle.std.proofs.Common.{◌≤◌, ◌∙◌, arith, subst}
+use Rattle.std.proofs.Common.{◌≡◌, ◌≤◌, ℕ, List, map, take, length, ◌∙◌, sym, ap, arith, subst}
 use Rattle.std.specs.List.{All, Contains}
+use Rattle.std.proofs.lemmas.List.{length-map}
+use Rattle.dr_history.specs.Members.{members_of}
 use Rattle.dr_rows.specs.Words.{seen}
-use Rattle.dr_pred.proofs.Gathered.{each_word, some_word, no_member}
+use Rattle.dr_pred.proofs.Gathered.{by_bits, each_word, no_member, some_word}
 use Rattle.dr_pred.proofs.column.least_word.Goals as goal
 
-pub returns-then-is_empty-clause-none : goal.returns-then-is_empty-clause-none
-returns-then-is_empty-clause-none c =
-    no_member (λ i. seen c.args.rows.now i c.args.column) c.args.members c.args.rows.now.members
-    c.words_of-words.result.items
-    c.words_of-words.ensures c.requires.roster c.requires.most (grind arith)
+pub returns-then-count-eq0-clause-none : goal.returns-then-count-eq0-clause-none
+returns-then-count-eq0-clause-none c =
+    let word_of : ℕ → ℕ = λ i. seen c.args.rows.now i c.args.column in
+    no_member word_of c.args.members c.args.rows.now.members
+    (map word_of (members_of c.args.members)) (λ i. map word_of (members_of c.args.members))
+    c.requires.roster c.requires.most
+    (length-map (members_of c.args.members) word_of
+    ∙ ap (λ (m : ℕ). length (members_of m)) (sym c.bits.ensures)
+    ∙ sym c.column_of-count.ensures.count ∙ c.if-count-eq0.true)
 
-pub returns-else-is_empty-clause-below : goal.returns-else-is_empty-clause-below
-returns-else-is_empty-clause-below c =
-    each_word (λ w. c.least.result ≤ w)
-    (λ i. seen c.args.rows.now i c.args.column) c.args.members c.args.rows.now.members
+pub returns-else-count-eq0-clause-below : goal.returns-else-count-eq0-clause-below
+returns-else-count-eq0-clause-below c =
+    let word_of : ℕ → ℕ = λ i. seen c.args.rows.now i c.args.column in
+    each_word (λ w. c.least.result ≤ w) word_of c.args.members c.args.rows.now.members
     c.requires.roster c.requires.most
     (subst (All (λ w. c.least.result ≤ w))
-    (c.as_slice.ensures.value ∙ c.words_of-words.ensures) c.least.ensures.below)
+    (by_bits word_of c.bits.result c.args.members _ c.column_of-count.ensures.words c.bits.ensures)
+    c.least.ensures.below)
 
-pub returns-else-is_empty-clause-among : goal.returns-else-is_empty-clause-among
-returns-else-is_empty-clause-among c =
-    some_word (λ i. seen c.args.rows.now i c.args.column) c.args.members c.least.result
-    (subst (λ xs. Contains xs c.least.result)
-    (c.as_slice.ensures.value ∙ c.words_of-words.ensures) c.least.ensures.among)
+pub returns-else-count-eq0-clause-among : goal.returns-else-count-eq0-clause-among
+returns-else-count-eq0-clause-among c =
+    let word_of : ℕ → ℕ = λ i. seen c.args.rows.now i c.args.column in
+    some_word word_of c.args.members c.least.result
+    (subst (λ (xs : List ℕ). Contains xs c.least.result)
+    (by_bits word_of c.bits.result c.args.members _ c.column_of-count.ensures.words c.bits.ensures)
+    c.least.ensures.among)

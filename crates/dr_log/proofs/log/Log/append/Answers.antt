@@ -1,12 +1,13 @@
-use Rattle.std.proofs.Common.{◌≡◌, ℕ, ◌≤◌, List, [], ◌∷◌, ◌++◌, length, false, ap, subst, ◌∙◌, arith, rules}
+use Rattle.std.proofs.Common.{◌≡◌, ℕ, ◌≤◌, ◌-◌, List, [], ◌∷◌, ◌++◌, length, false, inl, ap, subst, ◌∙◌, arith, rules}
 use Rattle.dr_entry.specs.Spelling.{spelling}
+use Rattle.dr_disk.specs.Calls.{Write}
 use Rattle.dr_disk.specs.Images.{Goes, Lasts}
 use Rattle.dr_disk.proofs.Moments.{lasts_still}
-use Rattle.dr_log.specs.Appending.{opened, StopsOpening}
-use Rattle.dr_log.specs.Standing.{IsBeforeOrAfter, LosesNone, with_entry, with_vote, log_length}
+use Rattle.dr_log.specs.Grouping.{StopsAmong, added_all, group, opening}
+use Rattle.dr_log.specs.Standing.{IsBeforeOrAfter, LosesNone, with_entry, with_vote}
 use Rattle.dr_log.specs.State.{LogState, as_entry, as_vote}
 use Rattle.dr_log.proofs.Growing.{longer, length-with_entry, length-with_vote, one_kind}
-use Rattle.dr_log.proofs.Told.{reaches_end, still_goes, opened_goes, stops_goes, opened_settled_as, images_told, GoesWell}
+use Rattle.dr_log.proofs.Told.{GoesWell, goes_one, group_goes, group_settled, group_stops, images_told, reaches_end, settled_one, still_goes}
 use Rattle.dr_log.proofs.log.Log.append.Given.{Over}
 use Rattle.dr_log.proofs.log.Log.append.Goals as goal
 use Rattle.dr_log.specs.Kept.{IsSettled}
@@ -35,12 +36,13 @@ returns-then-size-saturating_sub-clause-any_moment g c =
     ∙ c.requires.whole in
     subst (λ (s : LogState g.row.D.Denot). Goes (told s.disk) (told s.disk)
     (λ _. IsBeforeOrAfter s.entries s.votes c.args.r.now)) c.self.view_is
-    (still_goes old.entries.items old.votes.items (told old.disk) c.args.r.now
-    (c.self.invariant.settled whole))
+    (still_goes old.entries.items old.votes.items (told old.disk)
+    (IsBeforeOrAfter old.entries.items old.votes.items c.args.r.now) (c.self.invariant.settled whole)
+    (λ image is. inl is))
 
 -- an append that stops has gone well up to there
 stopped : (g : Over) (c : goal.After-self-1 g)
-    → GoesWell c.self.inside.entries.items c.self.inside.votes.items c.args.r.now
+    → GoesWell c.self.inside.entries.items c.self.inside.votes.items (c.args.r.now ∷ [])
     (g.D.Disk.told c.self.inside.disk) (g.D.Disk.told c.put_behind.new.disk)
 stopped g c =
     let told = g.D.Disk.told in
@@ -50,16 +52,20 @@ stopped g c =
     let bytes : c.as_slice.result.now ≡ block_of c.args.r.now =
     c.as_slice.ensures.value ∙ c.push.ensures.items
     ∙ ap (λ (l : List ℕ). l ++ (0 ∷ [])) c.encode.ensures.spelled in
-    let stops : StopsOpening old.len c.as_slice.result.now (told old.disk)
+    let stops : StopsAmong (Write old.len c.as_slice.result.now ∷ opening (old.len - 1)) (told old.disk)
     (told c.put_behind.new.disk) = search rules in
-    stops_goes old.entries.items old.votes.items (told old.disk) (told c.put_behind.new.disk) old.len
-    c.args.r.now (c.self.invariant.settled whole) c.self.invariant.long c.requires.valid c.encode.ensures.fits
-    (subst (λ (l : List ℕ). StopsOpening old.len l (told old.disk) (told c.put_behind.new.disk)) bytes stops)
+    group_stops old.entries.items old.votes.items (told old.disk) (told c.put_behind.new.disk) old.len
+    (c.args.r.now ∷ []) (omega arith) (c.self.invariant.settled whole) c.self.invariant.long
+    ((c.requires.valid, c.encode.ensures.fits), tt)
+    (subst (λ (l : List ℕ). StopsAmong (Write old.len l ∷ opening (old.len - 1)) (told old.disk)
+    (told c.put_behind.new.disk)) bytes stops)
 
 pub returns-then-is_err-clause-any_moment : goal.returns-then-is_err-clause-any_moment
 returns-then-is_err-clause-any_moment g c =
     subst (λ (s : LogState g.row.D.Denot). Goes (g.D.Disk.told s.disk) (g.D.Disk.told c.put_behind.new.disk)
-    (λ _. IsBeforeOrAfter s.entries s.votes c.args.r.now)) c.self.view_is (stopped g c).goes
+    (λ _. IsBeforeOrAfter s.entries s.votes c.args.r.now)) c.self.view_is
+    (goes_one c.self.inside.entries.items c.self.inside.votes.items c.args.r.now
+    (g.D.Disk.told c.self.inside.disk) (g.D.Disk.told c.put_behind.new.disk) (stopped g c))
 
 pub returns-then-size-saturating_sub-clause-lasting : goal.returns-then-size-saturating_sub-clause-lasting
 returns-then-size-saturating_sub-clause-lasting g c =
@@ -72,30 +78,31 @@ returns-then-is_err-clause-lasting g c = λ first kept.
 
 -- one that does not has written the record, and opened its gate
 did : (g : Over) (c : goal.After-self-2-1 g) → g.D.Disk.told c.put_behind.new.disk
-    ≡ opened c.self.inside.len (block_of c.args.r.now) (g.D.Disk.told c.self.inside.disk)
+    ≡ added_all (group c.self.inside.len (c.args.r.now ∷ [])) (g.D.Disk.told c.self.inside.disk)
 did g c =
     let told = g.D.Disk.told in
     let old = c.self.inside in
     let bytes : c.as_slice.result.now ≡ block_of c.args.r.now =
     c.as_slice.ensures.value ∙ c.push.ensures.items
     ∙ ap (λ (l : List ℕ). l ++ (0 ∷ [])) c.encode.ensures.spelled in
-    let written : told c.put_behind.new.disk ≡ opened old.len c.as_slice.result.now (told old.disk) =
+    let written : told c.put_behind.new.disk
+    ≡ added_all (Write old.len c.as_slice.result.now ∷ opening (old.len - 1)) (told old.disk) =
     search rules in
-    written ∙ ap (λ (l : List ℕ). opened old.len l (told old.disk)) bytes
+    written ∙ ap (λ (l : List ℕ). added_all (Write old.len l ∷ opening (old.len - 1)) (told old.disk)) bytes
 
 whole : (g : Over) (c : goal.After-self-2-1 g) → c.self.inside.failed ≡ false
 whole g c = ap (λ (s : LogState g.row.D.Denot). s.failed) c.self.view_is ∙ c.requires.whole
 
 -- so it has gone well
 well : (g : Over) (c : goal.After-self-2-1 g)
-    → GoesWell c.self.inside.entries.items c.self.inside.votes.items c.args.r.now
+    → GoesWell c.self.inside.entries.items c.self.inside.votes.items (c.args.r.now ∷ [])
     (g.D.Disk.told c.self.inside.disk) (g.D.Disk.told c.put_behind.new.disk)
 well g c =
     let told = g.D.Disk.told in
     let old = c.self.inside in
-    opened_goes old.entries.items old.votes.items (told old.disk) (told c.put_behind.new.disk) old.len
-    c.args.r.now (c.self.invariant.settled (whole g c)) c.self.invariant.long c.requires.valid
-    c.encode.ensures.fits (did g c)
+    group_goes old.entries.items old.votes.items (told old.disk) (told c.put_behind.new.disk) old.len
+    (c.args.r.now ∷ []) (omega arith) (c.self.invariant.settled (whole g c)) c.self.invariant.long
+    ((c.requires.valid, c.encode.ensures.fits), tt) (did g c)
 
 entries : (g : Over) (c : goal.After-self-2-1 g)
     → c.sort_in.new.entries.items ≡ with_entry c.args.r.now c.self.inside.entries.items
@@ -112,15 +119,18 @@ settled : (g : Over) (c : goal.After-self-2-1 g)
 settled g c =
     let told = g.D.Disk.told in
     let old = c.self.inside in
-    opened_settled_as old.entries.items c.sort_in.new.entries.items old.votes.items c.sort_in.new.votes.items
-    (told old.disk) (told c.put_behind.new.disk) old.len c.args.r.now
-    (c.self.invariant.settled (whole g c)) c.self.invariant.long c.requires.valid c.encode.ensures.fits
-    (did g c) (entries g c) (votes g c)
+    settled_one old.entries.items c.sort_in.new.entries.items old.votes.items c.sort_in.new.votes.items
+    (told c.put_behind.new.disk) c.args.r.now
+    (group_settled old.entries.items old.votes.items (told old.disk) (told c.put_behind.new.disk) old.len
+    (c.args.r.now ∷ []) (omega arith) (c.self.invariant.settled (whole g c)) c.self.invariant.long
+    ((c.requires.valid, c.encode.ensures.fits), tt) (did g c)) (entries g c) (votes g c)
 
 pub returns-clause-any_moment : goal.returns-clause-any_moment
 returns-clause-any_moment g c =
     subst (λ (s : LogState g.row.D.Denot). Goes (g.D.Disk.told s.disk) (g.D.Disk.told c.put_behind.new.disk)
-    (λ _. IsBeforeOrAfter s.entries s.votes c.args.r.now)) c.self.view_is (well g c).goes
+    (λ _. IsBeforeOrAfter s.entries s.votes c.args.r.now)) c.self.view_is
+    (goes_one c.self.inside.entries.items c.self.inside.votes.items c.args.r.now
+    (g.D.Disk.told c.self.inside.disk) (g.D.Disk.told c.put_behind.new.disk) (well g c))
 
 pub returns-clause-lasting : goal.returns-clause-lasting
 returns-clause-lasting g c = λ first kept.
@@ -133,11 +143,8 @@ returns-clause-durable g c = images_told c.sort_in.new.entries.items c.sort_in.n
 
 pub returns-clause-calls : goal.returns-clause-calls
 returns-clause-calls g c =
-    let told = g.D.Disk.told in
-    subst (λ (s : LogState g.row.D.Denot). told c.put_behind.new.disk
-    ≡ opened (log_length s.entries s.votes) (block_of c.args.r.now) (told s.disk)) c.self.view_is
-    (did g c ∙ ap (λ (n : ℕ). opened n (block_of c.args.r.now) (told c.self.inside.disk))
-    c.self.invariant.long)
+    subst (λ (s : LogState g.row.D.Denot). g.D.Disk.told c.put_behind.new.disk
+    ≡ added_all (group s.length (c.args.r.now ∷ [])) (g.D.Disk.told s.disk)) c.self.view_is (did g c)
 
 pub invariant_of-self-2 : goal.invariant_of-self-2
 invariant_of-self-2 g c =

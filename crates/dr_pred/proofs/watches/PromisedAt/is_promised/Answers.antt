@@ -1,11 +1,11 @@
-use Rattle.std.proofs.Common.{◌≤◌, ◌∙◌, refl, arith}
+use Rattle.std.proofs.Common.{◌≤◌, refl, arith}
 use Rattle.dr_words.specs.Packing.{accept_promise}
-use Rattle.dr_pred.proofs.Gathered.{column_iff}
+use Rattle.dr_pred.proofs.Gathered.{by_bits, column_iff}
 use Rattle.dr_pred.proofs.watches.PromisedAt.is_promised.Goals as goal
 
 pub returns : goal.returns
 returns c = column_iff (λ w. c.args.self.now.promise ≤ accept_promise w) c.args.rows.now
-    c.args.self.now.of c.as_slice.result.now c.args.column _ c.all_promise.result
-    (c.as_slice.ensures.value ∙ c.words_of-words.ensures) refl c.requires.of
+    c.args.self.now.of _ c.args.column _ c.all_promise.result
+    (by_bits _ c.bits.result _ _ c.column_of-count.ensures.words c.bits.ensures) refl c.requires.of
     (omega (arith, c.requires.shape.shape.members, c.args.self.now.shape.most_members))
     c.all_promise.ensures

@@ -5,13 +5,14 @@ use Rattle.dr_rows.proofs.rows.Rows.look.Goals as goal
 
 pub invariant_of-self : goal.invariant_of-self
 invariant_of-self c = IsInside-looked c.self.inside c.args.self.now c.args.row c.args.column
-    c.place-place.result c.args.word
-    c.self.view_is c.self.invariant c.requires.row c.requires.column c.place-place.ensures.place
+    c.cell-cell.result c.args.word
+    c.self.view_is c.self.invariant c.requires.row c.requires.column c.requires.other
+    c.cell-cell.ensures.place
 
 pub returns-clause-after : goal.returns-clause-after
 returns-clause-after c = looked_written c.self.inside c.args.self.now c.args.row c.args.column
-    c.place-place.result c.args.word
-    c.self.view_is c.self.invariant c.requires.row c.requires.column c.place-place.ensures.place
+    c.cell-cell.result c.args.word
+    c.self.view_is c.self.invariant c.requires.row c.requires.column c.cell-cell.ensures.place
 
 pub returns-clause-form : goal.returns-clause-form
 returns-clause-form c = (invariant_of-self c).form

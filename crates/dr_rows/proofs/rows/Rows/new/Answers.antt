@@ -3,33 +3,33 @@ use Rattle.dr_rows.proofs.Vectors.{IsBlank, begun_blank, IsInside-begun, IsFresh
 use Rattle.dr_rows.specs.declared.rows.Rows.TheInside.{Inside}
 use Rattle.dr_rows.proofs.rows.Rows.new.Goals as goal
 
-inside : goal.In_ok-vec-3 → Inside
+inside : goal.In_ok-vec-4 → Inside
 inside c = record {
   members = c.args.members;
   columns = c.args.columns;
   me = c.args.me;
-  own_row = c.from-2.result * c.args.columns;
-  words = c.in_ok-vec.field-0;
-  sent = c.in_ok-vec-2.field-0;
-  frozen = c.in_ok-vec-3.field-0;
+  own = c.in_ok-vec.field-0;
+  words = c.in_ok-vec-2.field-0;
+  sent = c.in_ok-vec-3.field-0;
+  frozen = c.in_ok-vec-4.field-0;
 }
 
-blank : (c : goal.In_ok-vec-3) → IsBlank (inside c)
+blank : (c : goal.In_ok-vec-4) → IsBlank (inside c)
 unfolding inside
 blank c = record {
-  words = c.in_ok-vec.ensures.items_if_clones_equal (λ y h. h)
+  own = c.in_ok-vec.ensures.items_if_clones_equal (λ y h. h);
+  words = c.in_ok-vec-2.ensures.items_if_clones_equal (λ y h. h)
       ∙ ap (λ n. replicate (n * c.args.columns) 0) c.from.ensures;
-  sent = c.in_ok-vec-2.ensures.items_if_clones_equal (λ y h. h)
+  sent = c.in_ok-vec-3.ensures.items_if_clones_equal (λ y h. h)
       ∙ ap (λ n. replicate (n * c.args.columns) 0) c.from.ensures;
-  frozen = c.in_ok-vec-3.ensures.items_if_clones_equal (λ y h. h)
-      ∙ ap (λ n. replicate n false) c.from-3.ensures;
+  frozen = c.in_ok-vec-4.ensures.items_if_clones_equal (λ y h. h)
+      ∙ ap (λ n. replicate n false) c.from-2.ensures;
 }
 
 pub invariant_of-result : goal.invariant_of-result
 unfolding inside
 invariant_of-result c = IsInside-begun (inside c)
     (blank c) c.requires.members c.requires.columns c.requires.me
-    (ap (λ n. n * c.args.columns) c.from-2.ensures)
 
 pub returns-clause-begun : goal.returns-clause-begun
 unfolding inside

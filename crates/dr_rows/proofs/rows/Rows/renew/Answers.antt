@@ -1,26 +1,29 @@
 use Rattle.std.proofs.Common.{ap, ◌∙◌, replicate, false, arith}
+use Rattle.dr_rows.specs.Inside.{view_of}
 use Rattle.dr_rows.specs.Words.{renewed}
-use Rattle.dr_rows.proofs.Vectors.{IsBlank, begun_blank, IsInside-begun, IsFresh-blank}
+use Rattle.dr_rows.proofs.Vectors.{IsBlank, begun_blank, own_long, IsInside-begun, IsFresh-blank}
 use Rattle.dr_rows.specs.declared.rows.Rows.TheInside.{Inside}
 use Rattle.dr_rows.proofs.rows.Rows.renew.Goals as goal
 
-inside : goal.After-fill-3 → Inside
+inside : goal.After-fill-4 → Inside
 inside c = record c.self.inside
-    { words = c.fill.new.self; sent = c.fill-2.new.self; frozen = c.fill-3.new.self }
+    { own = c.fill.new.self; words = c.fill-2.new.self; sent = c.fill-3.new.self; frozen = c.fill-4.new.self }
 
-blank : (c : goal.After-fill-3) → IsBlank (inside c)
+blank : (c : goal.After-fill-4) → IsBlank (inside c)
 unfolding inside
 blank c = record {
-  words = c.fill.ensures.items (λ y h. h) ∙ ap (λ n. replicate n 0) (omega arith);
-  sent = c.fill-2.ensures.items (λ y h. h) ∙ ap (λ n. replicate n 0) (omega arith);
-  frozen = c.fill-3.ensures.items (λ y h. h) ∙ ap (λ n. replicate n false) (omega arith);
+  own = c.fill.ensures.items (λ y h. h) ∙ ap (λ n. replicate n 0) (let long =
+      own_long c.self.inside (view_of c.self.inside) (λ i. view_of c.self.inside) c.self.invariant in omega (arith, long));
+  words = c.fill-2.ensures.items (λ y h. h) ∙ ap (λ n. replicate n 0) (omega arith);
+  sent = c.fill-3.ensures.items (λ y h. h) ∙ ap (λ n. replicate n 0) (omega arith);
+  frozen = c.fill-4.ensures.items (λ y h. h) ∙ ap (λ n. replicate n false) (omega arith);
 }
 
 pub invariant_of-self : goal.invariant_of-self
 unfolding inside
 invariant_of-self c =
     let form = c.self.invariant.form in
-    IsInside-begun (inside c) (blank c) form.few form.narrow form.present c.self.invariant.own_row
+    IsInside-begun (inside c) (blank c) form.few form.narrow form.present
 
 pub returns-clause-after : goal.returns-clause-after
 unfolding inside

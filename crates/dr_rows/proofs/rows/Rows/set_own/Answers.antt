@@ -1,17 +1,19 @@
 use Rattle.std.proofs.Common.{rules, sym, subst}
 use Rattle.dr_rows.specs.Growth.{HasGrown}
-use Rattle.dr_rows.proofs.Vectors.{looked_written, present, IsInside-looked}
+use Rattle.dr_rows.proofs.Vectors.{looked_written, own_place, present, IsInside-own}
 use Rattle.dr_rows.proofs.rows.Rows.set_own.Goals as goal
 
 pub invariant_of-self : goal.invariant_of-self
-invariant_of-self c = IsInside-looked c.self.inside c.args.self.now c.args.self.now.me c.args.column
-    c.own_place-place.result c.args.word
-    c.self.view_is c.self.invariant (present c.self.inside c.args.self.now c.self.view_is c.self.invariant) c.requires.column c.own_place-place.ensures.place
+invariant_of-self c = IsInside-own c.self.inside c.args.self.now c.args.column
+    c.cell-cell.result c.args.word
+    c.self.view_is c.self.invariant c.requires.column (own_place c.self.inside c.args.self.now c.args.column c.cell-cell.result c.self.view_is
+    c.cell-cell.ensures.place)
 
 pub returns-clause-after : goal.returns-clause-after
 returns-clause-after c = looked_written c.self.inside c.args.self.now c.args.self.now.me c.args.column
-    c.own_place-place.result c.args.word
-    c.self.view_is c.self.invariant (present c.self.inside c.args.self.now c.self.view_is c.self.invariant) c.requires.column c.own_place-place.ensures.place
+    c.cell-cell.result c.args.word
+    c.self.view_is c.self.invariant (present c.self.inside c.args.self.now c.self.view_is c.self.invariant) c.requires.column (own_place c.self.inside c.args.self.now c.args.column c.cell-cell.result c.self.view_is
+    c.cell-cell.ensures.place)
 
 pub returns-clause-form : goal.returns-clause-form
 returns-clause-form c = (invariant_of-self c).form

@@ -1,0 +1,56 @@
+use Rattle.std.proofs.Common.{◌≡◌, ◌-◌, ◌<◌, ◌≤◌, refl, sym, ap, ◌∙◌, subst}
+use Rattle.dr_rows.specs.Along.{Pushes, pushed_along}
+use Rattle.dr_rows.specs.Words.{Words}
+use Rattle.dr_rows.proofs.Along.{pushed_stays}
+use Rattle.dr_words.specs.declared.column.TheConstants.{RECEIVED_COLUMN}
+use Rattle.dr_replica.proofs.Along.{pushes_grow, pushes_keep}
+use Rattle.dr_replica.proofs.Received.{grown_received}
+use Rattle.dr_program.specs.Replica.{Replica, least_seen}
+use Rattle.dr_program.specs.Form.{HasForm}
+use Rattle.dr_program.specs.Steps.{NoWordFell}
+use Rattle.dr_replica.specs.Inside.{view_of}
+use Rattle.dr_replica.proofs.Insides.{state_kept}
+use Rattle.dr_replica.proofs.replica.Replica.push_row.Goals as goal
+
+-- the rows after the pushes
+abbrev done : goal.After-slice_known-2-1 → Pushes
+done c = pushed_along c.args.to c.args.first
+    (record { words = c.self.inside.rows; table = c.args.table.now; count = 0 }) c.args.from
+    (c.self.inside.rows.columns - c.args.from)
+
+abbrev new : goal.After-slice_known-2-1 → Replica
+new c = record (view_of c.self.inside) { rows = (done c).words }
+
+there : (c : goal.After-slice_known-2-1) → view_of (record c.self.inside { rows = c.push_row.new.self }) ≡ new c
+there c = ap (λ (w : Words). record (view_of c.self.inside) { rows = w }) c.push_row.ensures.after.0
+
+keeps : (c : goal.After-slice_known-2-1) → HasForm (new c) × NoWordFell (view_of c.self.inside) (new c)
+keeps c =
+    let r = view_of c.self.inside in
+    let start : Pushes = record { words = r.rows; table = c.args.table.now; count = 0 } in (
+      pushes_keep r c.args.to c.args.first start c.args.from (r.rows.columns - c.args.from)
+          (subst (λ (x : Replica). c.args.to < x.roster) (sym c.self.view_is) c.requires.to)
+          c.self.invariant.form,
+      pushes_grow r c.args.to c.args.first start c.args.from (r.rows.columns - c.args.from) refl,
+    )
+
+pub invariant_of-self : goal.invariant_of-self
+invariant_of-self c =
+    let a = c.self.inside in
+    state_kept a c.push_row.new.self a.logged a.durable a.turns a.acts a.end c.self.invariant
+    (ap (λ (w : Words). w.me) (c.push_row.ensures.after.0
+    ∙ pushed_stays c.args.to c.args.first
+    (record { words = a.rows; table = c.args.table.now; count = 0 }) c.args.from
+    (a.rows.columns - c.args.from)))
+    (subst HasForm (sym (there c)) (keeps c).0)
+    (subst (λ (w : Words). least_seen (view_of a) RECEIVED_COLUMN
+    ≤ least_seen (record (view_of a) { rows = w }) RECEIVED_COLUMN) (sym c.push_row.ensures.after.0)
+    (grown_received (view_of a) (new c) a.rows.frozen (new c).rows.frozen refl (keeps c).1))
+
+pub returns-clause-grown : goal.returns-clause-grown
+returns-clause-grown c =
+    subst (λ (x : Replica). NoWordFell x (view_of (record c.self.inside { rows = c.push_row.new.self })))
+    c.self.view_is (subst (NoWordFell (view_of c.self.inside)) (sym (there c)) (keeps c).1)
+
+pub returns-clause-form : goal.returns-clause-form
+returns-clause-form c = subst HasForm (sym (there c)) (keeps c).0
