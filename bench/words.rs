@@ -1,6 +1,7 @@
 //! The loops of `dr_bench` in plain Rust: the same words, the same calls, the same line at the end.
 
 use std::array;
+use std::collections::BTreeMap;
 use std::env;
 use std::process::ExitCode;
 
@@ -9,6 +10,10 @@ const MAX_MESSAGE: usize = 64;
 const NULL_MARK: u32 = u32::MAX;
 /// How many items there are to be put, over and over.
 const ITEMS: usize = 8;
+/// How many commands a store is given, how many values are looked up in it, and how many keys there are.
+const COMMANDS: u32 = 4096;
+const LOOKUPS: u32 = 10_000;
+const KEYS: u32 = 512;
 
 /// How many members a group has, and how many slots a ring.
 struct Shape {
@@ -346,6 +351,102 @@ fn read_items(rows: &Rows, shape: &Shape, received: &mut [Item], rounds: u32) ->
     count
 }
 
+/// A change of a key: from this version on it has the value, or none.
+struct Change {
+    version: u64,
+    value: Option<Vec<u8>>,
+}
+
+/// What commands have made of the values of keys, at each version.
+#[derive(Default)]
+struct Store {
+    changes: BTreeMap<Vec<u8>, Vec<Change>>,
+    version: u64,
+}
+
+impl Store {
+    fn apply(&mut self, message: &Message) {
+        self.version += 1;
+        let Some((key, value)) = command_of(message.bytes()) else {
+            return;
+        };
+        let change = Change {
+            version: self.version,
+            value: value.map(<[u8]>::to_vec),
+        };
+        if let Some(changes) = self.changes.get_mut(key) {
+            changes.push(change);
+        } else {
+            self.changes.insert(key.to_vec(), vec![change]);
+        }
+    }
+
+    fn get_at(&self, key: &[u8], version: u64) -> Option<&[u8]> {
+        let changes = self.changes.get(key)?;
+        let count = changes.partition_point(|change| change.version <= version);
+        changes[..count].last()?.value.as_deref()
+    }
+}
+
+/// The key of a command, and the value that it puts or none where it removes the key.
+fn command_of(bytes: &[u8]) -> Option<(&[u8], Option<&[u8]>)> {
+    let (kind, k, bytes) = match bytes {
+        [kind, k, bytes @ ..] => (*kind, usize::from(*k), bytes),
+        _ => return None,
+    };
+    if !(1..=62).contains(&k) {
+        return None;
+    }
+    match kind {
+        b'P' if k <= bytes.len() => Some((&bytes[..k], Some(&bytes[k..]))),
+        b'D' if k == bytes.len() => Some((bytes, None)),
+        _ => None,
+    }
+}
+
+#[inline(never)]
+fn stores(rounds: u32) -> Tally {
+    let messages: Vec<Message> = (0..COMMANDS).map(command).collect();
+    let mut tally = Tally {
+        count: 0,
+        checksum: 0,
+    };
+    for _ in 0..rounds {
+        let mut store = Store::default();
+        for message in &messages {
+            store.apply(message);
+        }
+        look_up(&store, &mut tally);
+    }
+    tally
+}
+
+fn look_up(store: &Store, tally: &mut Tally) {
+    for number in 0..LOOKUPS {
+        let key = key_of(number.wrapping_mul(11) % KEYS);
+        let version = u64::from(number.wrapping_mul(31) % (COMMANDS + 1));
+        if let Some([first, ..]) = store.get_at(&key, version) {
+            tally.count = tally.count.wrapping_add(1);
+            tally.checksum = mixed(tally.checksum, u64::from(*first));
+        }
+    }
+}
+
+fn command(number: u32) -> Message {
+    let [.., last] = number.to_be_bytes();
+    let mut bytes = [b'a' + last % 26; 34];
+    bytes[1] = 8;
+    bytes[2..10].copy_from_slice(&key_of(number.wrapping_mul(7) % KEYS));
+    let len = if number % 8 == 7 { 10 } else { 34 };
+    bytes[0] = if len == 10 { b'D' } else { b'P' };
+    Message::of(&bytes[..len]).expect("34 bytes are not too many")
+}
+
+fn key_of(number: u32) -> [u8; 8] {
+    let [_, _, high, low] = number.to_be_bytes();
+    [b'k', b'e', b'y', 0, 0, 0, high, low]
+}
+
 fn main() -> ExitCode {
     let words: Vec<String> = env::args().skip(1).collect();
     let [work, rounds] = words.as_slice() else {
@@ -362,6 +463,7 @@ fn main() -> ExitCode {
         "looks" => looks(&shape, rounds),
         "puts" => puts(&shape, rounds),
         "readies" => readies(&shape, rounds),
+        "stores" => stores(rounds),
         _ => return usage(),
     };
     println!("{work}: {} checksum: {:016x}", tally.count, tally.checksum);
@@ -369,6 +471,6 @@ fn main() -> ExitCode {
 }
 
 fn usage() -> ExitCode {
-    println!("usage: words looks|puts|readies ROUNDS");
+    println!("usage: words looks|puts|readies|stores ROUNDS");
     ExitCode::from(2)
 }

@@ -2,3 +2,4 @@ pub mod Beginning
 pub mod Deeds
 pub mod Ends
 pub mod Sound
+pub mod Lasting

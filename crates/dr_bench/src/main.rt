@@ -11,6 +11,7 @@ mod looks;
 mod made;
 mod puts;
 mod readies;
+mod stores;
 mod words;
 
 use bytes::Bytes;
@@ -25,7 +26,7 @@ use std::process::ExitCode;
 use words::{Kind, Logging, Task, Work, read_task};
 
 const USAGE: &str =
-    "usage: dr_bench looks|puts|readies ROUNDS, or append|mount calm|bytes RECORDS ROUNDS, \
+    "usage: dr_bench looks|puts|readies|stores ROUNDS, or append|mount calm|bytes RECORDS ROUNDS, \
     or report MESSAGES ROUNDS";
 
 fn main(rt: HostRuntime) -> io::Result<ExitCode> {
@@ -60,6 +61,7 @@ fn called(alloc: Global, work: Work, rounds: u32) -> Result<(&'static str, Tally
         Work::Looks => Ok(("looks", looks::looks(alloc, rounds)?)),
         Work::Puts => Ok(("puts", puts::puts(alloc, rounds)?)),
         Work::Readies => Ok(("readies", readies::readies(alloc, rounds)?)),
+        Work::Stores => Ok(("stores", stores::stores(alloc, rounds)?)),
     }
 }
 

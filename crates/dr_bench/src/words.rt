@@ -10,6 +10,8 @@ pub enum Work {
     Puts,
     /// Readies of items in the slots of others.
     Readies,
+    /// Commands to a store, and looks at its values.
+    Stores,
 }
 
 /// What a log is put to.
@@ -89,6 +91,7 @@ fn work_of(word: &str) -> Option<Work> {
         "looks" => Some(Work::Looks),
         "puts" => Some(Work::Puts),
         "readies" => Some(Work::Readies),
+        "stores" => Some(Work::Stores),
         _ => None,
     }
 }

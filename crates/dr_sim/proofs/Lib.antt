@@ -9,3 +9,4 @@ mod Turns
 mod Sweeps
 mod Choices
 pub mod Courses
+pub mod Repeats

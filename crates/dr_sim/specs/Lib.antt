@@ -4,3 +4,4 @@ pub mod Sweeps
 pub mod Inside
 pub mod Simulated
 pub mod Watched
+pub mod Repeated

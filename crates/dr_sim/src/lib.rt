@@ -4,6 +4,7 @@
 
 mod age;
 mod deed;
+mod laws;
 mod lcg;
 mod lockstep;
 mod seeded;
@@ -11,6 +12,7 @@ mod simulation;
 mod watcher;
 
 pub use age::{sim_age, watch_age};
+pub use laws::simulations_repeat;
 pub use lcg::Lcg;
 pub use simulation::Simulation;
 pub use watcher::{Unwatched, Watcher};

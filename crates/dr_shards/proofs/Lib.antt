@@ -1,0 +1,5 @@
+pub mod Owning
+pub mod Counting
+pub mod Laying
+pub mod Numbers
+pub mod Agreeing
