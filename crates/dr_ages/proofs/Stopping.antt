@@ -1,5 +1,5 @@
 -- Why the opening of an age stopped.
-use Rattle.std.proofs.Common.{◌≡◌, ◌≢◌, refl, sym, ap, ◌∙◌, subst, ℕ, ◌+◌, ◌^◌, ◌<◌, List, length, arith}
+use Rattle.std.proofs.Common.{◌≡◌, ◌≢◌, refl, sym, ap, ◌∙◌, subst, ℕ, ◌^◌, ◌<◌, List, length, arith}
 use Rattle.std.specs.Prelude.{IsErrOf, Option, Result, Err, Some, slice_get, slice_set}
 use Rattle.dr_disk.specs.Disk.{Told}
 use Rattle.dr_disk.specs.Images.{IsLeft}

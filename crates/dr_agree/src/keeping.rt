@@ -3,7 +3,7 @@ ghost use Rattle.std.specs.Prelude.{◌≡◌, ◌↔◌, ◌<◌, IsTrue, take,
 ghost use Rattle.dr_history.specs.History.{IsPrefixOf};
 ghost use Rattle.dr_history.specs.Restarting.{IsLongest, Kept};
 ghost use Rattle.dr_machine.specs.Group.{IsGroup, IsPresent, roster};
-ghost use Rattle.dr_machine.specs.Run.{IsReached, Run, accounts_in};
+ghost use Rattle.dr_machine.specs.Run.{ComesOfEvents, IsReached, Run, accounts_in};
 ghost use Rattle.dr_machine.specs.World.{World as WorldOf, opening_world};
 ghost use Rattle.dr_restart.specs.declared.start.Start.{Start as StartOf};
 ghost use Rattle.dr_restart.specs.Groups.{group_of};
@@ -94,7 +94,7 @@ fn has_durable(world: &World, entries: &[Entry]) -> bool
 /// The entries that a member knows to be durable.
 fn durable_entries(world: &World, m: u8) -> &[Entry]
     requires group { IsGroup (its_group world.now) }
-    requires reached { IsReached (its_group world.now) (its_world world.now) }
+    requires events { ComesOfEvents (its_group world.now) (its_world world.now) }
     requires member { m < roster (its_group world.now) }
     ensures { result.now
         ≡ take ((its_world world.now).past.durable m) ((its_world world.now).past.history m) }

@@ -4,7 +4,7 @@ use Rattle.std.proofs.lemmas.List.FromFn.{fill_by_all, map-range_with_len_more}
 use Rattle.std.specs.Prelude.{map}
 use Rattle.std.specs.List.{range_with_len}
 use Rattle.dr_program.specs.Schedule.{choice_of, next_state}
-use Rattle.dr_drill.specs.Drill.{letter, message, messages, state_after}
+use Rattle.dr_drill.specs.Drill.{letter, message, messages_of_member, state_after}
 
 pub moved : {X : Type 0} (f : ℕ → X) (a b : ℕ) → a ≡ b → f a ≡ f b
 moved f a b is = ap f is
@@ -52,8 +52,8 @@ message-add x k j = same_map (letter (state_after x (32 * k))) (letter x) (32 * 
     (λ i. letter-add x (32 * k) (32 * j + i)
     ∙ moved (letter x) (32 * k + (32 * j + i)) (32 * (k + j) + i) (omega arith))
 
-pub messages-add : (x m j : ℕ) → messages (state_after x (32 * 400 * m)) j ≡ messages x (m + j)
-unfolding messages
+pub messages-add : (x m j : ℕ) → messages_of_member (state_after x (32 * 400 * m)) j ≡ messages_of_member x (m + j)
+unfolding messages_of_member
 messages-add x m j = same_map (message (state_after x (32 * 400 * m))) (message x) (400 * j) (400 * (m + j))
     400
     (λ k. moved (λ n. message (state_after x n) (400 * j + k)) (32 * 400 * m) (32 * (400 * m)) (omega arith)
@@ -86,14 +86,14 @@ message_more x n = map-range_with_len_more (message x) 0 n n (omega arith)
     ∙ ap (λ m. map (message x) (range_with_len 0 n) ++ m ∷ []) (moved (message x) n (n + 0) (omega arith)
     ∙ sym (message-add x n 0))
 
-pub messages_whole : (x : ℕ) → messages x 0 ≡ map (message x) (range_with_len 0 400)
-unfolding messages
+pub messages_whole : (x : ℕ) → messages_of_member x 0 ≡ map (message x) (range_with_len 0 400)
+unfolding messages_of_member
 messages_whole x = refl
 
 -- and the messages of one more member
 pub messages_more : (x n : ℕ)
-    → map (messages x) (range_with_len 0 (n + 1)) ≡ map (messages x) (range_with_len 0 n) ++ messages
+    → map (messages_of_member x) (range_with_len 0 (n + 1)) ≡ map (messages_of_member x) (range_with_len 0 n) ++ messages_of_member
     (state_after x (32 * 400 * n)) 0 ∷ []
-messages_more x n = map-range_with_len_more (messages x) 0 n n (omega arith)
-    ∙ ap (λ m. map (messages x) (range_with_len 0 n) ++ m ∷ []) (moved (messages x) n (n + 0) (omega arith)
+messages_more x n = map-range_with_len_more (messages_of_member x) 0 n n (omega arith)
+    ∙ ap (λ m. map (messages_of_member x) (range_with_len 0 n) ++ m ∷ []) (moved (messages_of_member x) n (n + 0) (omega arith)
     ∙ sym (messages-add x n 0))

@@ -21,8 +21,8 @@ unfoldable pub message : ℕ → ℕ → List ℕ
 message seed k = map (letter seed) (range_with_len (32 * k) 32)
 
 -- the messages of member m: the next 400
-unfoldable pub messages : ℕ → ℕ → List (List ℕ)
-messages seed m = map (message seed) (range_with_len (400 * m) 400)
+unfoldable pub messages_of_member : ℕ → ℕ → List (List ℕ)
+messages_of_member seed m = map (message seed) (range_with_len (400 * m) 400)
 
 -- the member crashes before it has pushed anything
 abbrev pub early_crash : ℕ → Fault
@@ -36,7 +36,7 @@ drill seed = record {
   turns = 1808;
   patience = 3;
   ages = 1;
-  messages = map (messages seed) (range_with_len 0 5);
+  messages = map (messages_of_member seed) (range_with_len 0 5);
   faults = early_crash 3 ∷ early_crash 4 ∷ [];
   schedule = Lockstep;
 }

@@ -1,7 +1,7 @@
 ghost use Rattle.std.specs.Prelude.{◌≡◌, ◌<◌, ◌≤◌, ◌*◌, IfOk, IsTrue};
 ghost use Rattle.dr_program.specs.Schedule.{next_state};
 ghost use Rattle.dr_script.specs.Ranges.{HasRanges};
-ghost use Rattle.dr_drill.specs.Drill.{drill, early_crash, letter, message, messages, state_after};
+ghost use Rattle.dr_drill.specs.Drill.{drill, early_crash, letter, message, messages_of_member, state_after};
 
 use dr_entry::{Message, Seq};
 use dr_script::{Fault, Schedule, Script, What};
@@ -59,7 +59,7 @@ fn early_crash(member: u8) -> Fault
 
 /// The messages of a member, of the next letters.
 fn messages(alloc: Global, letters: &mut Lcg) -> Result<Seq<Message>, AllocError>
-    ensures messages { IfOk result (λ l. l ≡ messages letters.old 0) }
+    ensures messages { IfOk result (λ l. l ≡ messages_of_member letters.old 0) }
     ensures state { IfOk result (λ _. letters.new ≡ state_after letters.old (32 * 400)) }
 {
     let mut list = Vec::with_capacity(alloc, MESSAGES)?;

@@ -2,8 +2,8 @@
 //! item that is received is the one that was put, and no later item stands in its slot.
 //!
 //! The machine is that of `dr_machine`, where `docs/GROUP.md` explains it. This crate has no code but
-//! its laws, each of one event or one world. That they hold after every list of events is a law of
-//! `dr_world_laws`.
+//! its laws, each of one event, one arrival of words, or one world. That they hold of every reached world is a
+//! law of `dr_world_laws`.
 #![tactic(auto)]
 
 mod laws;

@@ -80,8 +80,8 @@ pub bit_marked : (words : List ℕ) (to i : ℕ) → i < length words
     → (bit_at (mask_l (map (λ word. word == to) words)) i ≡ 1) ↔ (get_or words i 0 ≡ to)
 bit_marked words to i room =
     let is : bit_at (mask_l (map (λ word. word == to) words)) i ≡ cond (get_or words i 0 == to) 1 0
-        = bit_mask_l (map (λ word. word == to) words) i
-        ∙ ap (λ b. cond b 1 0) (get_or-map (λ word. word == to) words i 0 false room) in
+    = bit_mask_l (map (λ word. word == to) words) i
+    ∙ ap (λ b. cond b 1 0) (get_or-map (λ word. word == to) words i 0 false room) in
     elim (cases_eq (get_or words i 0) to) [
       | inl same ↦ (λ h. same, λ h. is ∙ ap (λ b. cond b 1 0) (eq-eqb (get_or words i 0) to same))
       | inr other ↦ (λ h. absurd (omega (arith, h, is ∙ ap (λ b. cond {A = ℕ} b 1 0) (ne_eqb (get_or words i 0) to other))), λ h. absurd (other h))

@@ -270,7 +270,8 @@ impl<D: Disk> Log<D> {
 
     /// The number of bytes up to the closed gate, with it.
     pub fn len(&self) -> u64
-        ensures { result ≡ self.now.length }
+        ensures length { result ≡ self.now.length }
+        ensures spelled { result ≡ log_length self.now.entries self.now.votes }
     {
         self.len
     }

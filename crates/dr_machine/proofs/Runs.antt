@@ -5,7 +5,7 @@ use Rattle.dr_machine.specs.declared.event.Event.{Event}
 use Rattle.dr_machine.specs.Group.{Group}
 use Rattle.dr_machine.specs.World.{Table, World, opening_world, own_word}
 use Rattle.dr_machine.specs.Acts.{Guard, effect}
-use Rattle.dr_machine.specs.Run.{Follows, Happens, HaveArrived, IsReached, MayArrive, Run, WasOwn, Way, with_table}
+use Rattle.dr_machine.specs.Run.{ComesNext, ComesOfEvents, Happens, HaveArrived, IsReached, MayArrive, Run, WasOwn, Way, with_table}
 
 -- a run may go on where another has ended
 pub run_on : (g : Group) (w mid after : World) (a b : List Event) → Run g w a mid → Run g mid b after
@@ -74,7 +74,7 @@ by_way g Q P step arrive begun [] w r all = subst (P []) (sym r) begun
 by_way g Q P step arrive begun (u ∷ us) w r all =
     once (by_way g Q P step arrive begun us u r.0 (All-tail Q u us all)) r.1
   where
-    once : P us u → Follows g us u w → P (u ∷ us) w
+    once : P us u → ComesNext g us u w → P (u ∷ us) w
     once old (inl (e, can, same)) = subst (P (u ∷ us)) (sym same) (step us u e r.0 all can old)
     once old (inr (table, come, same)) =
         subst (P (u ∷ us)) (sym same) (arrive us u table r.0 all come old)
@@ -87,7 +87,7 @@ along : (g : Group) (P : World → Type 0)
 along g P step arrive begun [] w r = subst P (sym r) begun
 along g P step arrive begun (u ∷ us) w r = once (along g P step arrive begun us u r.0) r.1
   where
-    once : P u → Follows g us u w → P w
+    once : P u → ComesNext g us u w → P w
     once old (inl (e, can, same)) = subst P (sym same) (step u e (us, r.0) can old)
     once old (inr (table, come, same)) = subst P (sym same) (arrive u table old)
 
@@ -112,7 +112,7 @@ pub reached_effect : (g : Group) (w : World) (e : Event) → IsReached g w → G
 reached_effect g w e r can = reached_more g w (effect g w e) e r (inl (can, refl))
 
 -- nothing at all may come next, as no word arrives
-pub stays_next : (g : Group) (us : List World) (w : World) → Follows g us w w
+pub stays_next : (g : Group) (us : List World) (w : World) → ComesNext g us w w
 stays_next g us w =
     inr (w.table, record { source = λ v j i c. inr (j, refl); rises = λ v j i c. le_refl (w.table v j i c) }, refl)
 
@@ -148,3 +148,12 @@ run_way g us w after (e ∷ es) way run =
 pub run_reached : (g : Group) (w : World) (es : List Event) → Run g (opening_world g) es w → IsReached g w
 run_reached g w es run =
     let t = run_way g [] (opening_world g) w es refl run in (t.0, t.1)
+
+-- so is one that comes of events, and one event more leads to such a world
+pub events_reached : (g : Group) (w : World) → ComesOfEvents g w → IsReached g w
+events_reached g w (es, run) = run_reached g w es run
+
+pub events_more : (g : Group) (w after : World) (e : Event) → ComesOfEvents g w → Happens g w e after
+    → ComesOfEvents g after
+events_more g w after e (es, run) happens =
+    (es ++ e ∷ [], run_on g (opening_world g) w after es (e ∷ []) run (after, happens, refl))

@@ -21,6 +21,10 @@ abbrev pub Run : Group → World → List Event → World → Type 0
 Run g w [] after = after ≡ w
 Run g w (e ∷ es) after = (mid : World) × Happens g w e mid × Run g mid es after
 
+-- the world comes of some events from the opening on, and of nothing else
+abbrev pub ComesOfEvents : Group → World → Type 0
+ComesOfEvents g w = (es : List Event) × Run g (opening_world g) es w
+
 -- at one of these moments member i was in this view, and this was its own word of the column
 abbrev pub WasOwn : List World → ℕ → ℕ → ℕ → ℕ → Type 0
 WasOwn moments v i c word =
@@ -43,15 +47,15 @@ with_table w table = record w { table = table }
 
 -- a world that comes next of w, behind the worlds before: what an event makes of w, or w with the table to
 -- which words have come
-abbrev pub Follows : Group → List World → World → World → Type 0
-Follows g before w after =
+abbrev pub ComesNext : Group → List World → World → World → Type 0
+ComesNext g before w after =
     ((e : Event) × Guard g w e × (after ≡ effect g w e))
     ⊎ ((table : Table) × HaveArrived (w ∷ before) w table × (after ≡ with_table w table))
 
 -- the way from the opening to a world: the worlds before it, the last one first
 abbrev pub Way : Group → List World → World → Type 0
 Way g [] w = w ≡ opening_world g
-Way g (u ∷ us) w = Way g us u × Follows g us u w
+Way g (u ∷ us) w = Way g us u × ComesNext g us u w
 
 -- the world is reached: it comes of some events, and of words that arrive, from the opening on
 abbrev pub IsReached : Group → World → Type 0

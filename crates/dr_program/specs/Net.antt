@@ -27,7 +27,7 @@ pub record IsOnItsWay (p q : Program) : Type 0 where
 
 -- a word that a member had in one of these programs comes to a copy: the greater one of it and the word that
 -- stood there stands there then
-pub record HasCome (g : Group) (programs : List Program) (p q : Program) : Type 0 where
+pub record WordComes (g : Group) (programs : List Program) (p q : Program) : Type 0 where
   pub view : ℕ
   pub copy : ℕ
   pub row : ℕ
@@ -46,13 +46,13 @@ pub record HasCome (g : Group) (programs : List Program) (p q : Program) : Type 
 
 -- a program that comes next, behind these ones, of which p is the last: by a deed, of which a push may be there
 -- at once; by a push that is not there yet; or as a word comes
-abbrev pub Goes : Group → List Program → Program → Program → Type 0
-Goes g before p q = ((e : Move) × (q ≡ step_of p e)) ⊎ (IsOnItsWay p q ⊎ HasCome g (p ∷ before) p q)
+abbrev pub NetStep : Group → List Program → Program → Program → Type 0
+NetStep g before p q = ((e : Move) × (q ≡ step_of p e)) ⊎ (IsOnItsWay p q ⊎ WordComes g (p ∷ before) p q)
 
 -- the programs before this one, the last one first, from that on which begins
 abbrev pub NetWay : Group → Program → List Program → Program → Type 0
 NetWay g begun [] p = p ≡ begun
-NetWay g begun (x ∷ xs) p = NetWay g begun xs x × Goes g xs x p
+NetWay g begun (x ∷ xs) p = NetWay g begun xs x × NetStep g xs x p
 
 -- the program comes of some deeds of its members and of words that come
 abbrev pub IsRanOverNet : Group → Program → Program → Type 0

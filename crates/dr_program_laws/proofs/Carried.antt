@@ -10,7 +10,7 @@ use Rattle.dr_words.specs.Layout.{word_index_of}
 use Rattle.dr_machine.proofs.Runs.{is_before, stays_next}
 use Rattle.dr_machine.specs.declared.step.Step.TheVariants.{Push}
 use Rattle.dr_machine.specs.Group.{Group, IsGroup, banks, columns, roster}
-use Rattle.dr_machine.specs.Run.{Follows, IsReached}
+use Rattle.dr_machine.specs.Run.{ComesNext, IsReached}
 use Rattle.dr_machine.specs.World.{World}
 use Rattle.dr_program.specs.declared.packet.Packet.{Packet}
 use Rattle.dr_program.specs.Net.{IsOnItsWay}
@@ -92,7 +92,7 @@ carried_pushes g p net m r j c y there push = record {
   before = world g p ∷ y.before;
   way = (
     y.way,
-    subst (Follows g y.before (world g p)) (sym (way_stays g p q y.group y.form on))
+    subst (ComesNext g y.before (world g p)) (sym (way_stays g p q y.group y.form on))
         (stays_next g y.before (world g p)),
   );
   sent = All-cons (WasSent g (world g q ∷ world g p ∷ y.before)) packet net
@@ -198,6 +198,6 @@ carried_comes g p net packet y on =
       table = slice_set p.table place (max (slice_index p.table place) packet.word);
     }
 
-    next : IsProgram g q × Follows g y.before (world g p) (world g q)
+    next : IsProgram g q × ComesNext g y.before (world g p) (world g q)
     next = come_follows g y.before p one.view one.copy one.row one.column packet.word y.form
         one.bank one.to one.from one.cell one.was

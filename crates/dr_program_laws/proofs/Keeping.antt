@@ -6,7 +6,8 @@ use Rattle.dr_entry.specs.declared.end.End.{End}
 use Rattle.dr_words.specs.Form.{IsInForm}
 use Rattle.dr_program.specs.declared.place.Part.TheVariants as parts
 use Rattle.dr_machine.specs.Group.{Group, IsGroup}
-use Rattle.dr_machine.specs.Run.{IsReached}
+use Rattle.dr_machine.proofs.Runs.{events_reached}
+use Rattle.dr_machine.specs.Run.{ComesOfEvents, IsReached}
 use Rattle.dr_program.specs.declared.outcome.Outcome.{Outcome}
 use Rattle.dr_program.specs.declared.setup.Setup.{Setup}
 use Rattle.dr_program.specs.Form.{HasForm, IsRunningMember}
@@ -19,7 +20,7 @@ use Rattle.dr_program.proofs.Opening.{begins_at_the_opening}
 use Rattle.dr_program.proofs.Runs.{after_either}
 use Rattle.dr_program.proofs.Waiting.{free_step}
 use Rattle.dr_refine.specs.Programs.{IsProgram}
-use Rattle.dr_refine.proofs.Deeds.{due_allowed, step_reached}
+use Rattle.dr_refine.proofs.Deeds.{due_allowed, step_events, step_reached}
 use Rattle.dr_refine.proofs.Steps.{begun_is_program, step_kept}
 use Rattle.dr_form.proofs.Steps.{stepped_form}
 use Rattle.dr_turn.proofs.Deeds.{deeds_keep_form}
@@ -89,6 +90,22 @@ deeds_kept g turns setups p group some are (es, is) =
     subst (λ q. IsProgram g q × IsReached g (world g q)) (sym is)
     (run_kept g (begun_program g setups) es group (begun_is_program g turns setups group some are)
     (begun_reached g turns setups group are))
+
+run_events : (g : Group) (p : Program) (es : List Move) → IsGroup g → IsProgram g p
+    → ComesOfEvents g (world g p) → ComesOfEvents g (world g (ran p es))
+unfolding ran
+run_events g p [] group is come = come
+run_events g p (e ∷ es) group is come =
+    run_events g (step_of p e) es group (move_kept g p e group is (events_reached g (world g p) come)).0
+    (step_events g p e group is come)
+
+-- and the world comes of events alone
+pub deeds_events : (g : Group) (turns : ℕ) (setups : List Setup) (p : Program) → IsGroup g → 1 ≤ turns
+    → AreSetups g turns setups → IsRanFrom (begun_program g setups) p → ComesOfEvents g (world g p)
+deeds_events g turns setups p group some are (es, is) =
+    subst (λ q. ComesOfEvents g (world g q)) (sym is)
+    (run_events g (begun_program g setups) es group (begun_is_program g turns setups group some are)
+    ([], begins_at_the_opening g turns setups group are))
 
 -- ---- what members see
 

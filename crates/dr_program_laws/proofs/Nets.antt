@@ -9,13 +9,13 @@ use Rattle.dr_words.specs.Layout.{word_index_of}
 use Rattle.dr_machine.proofs.Runs.{is_last, stays_next}
 use Rattle.dr_machine.specs.declared.step.Step.TheVariants.{Push}
 use Rattle.dr_machine.specs.Group.{Group, IsGroup, banks, columns, roster}
-use Rattle.dr_machine.specs.Run.{Follows, HaveArrived, IsReached, MayArrive, WasOwn, Way, with_table}
+use Rattle.dr_machine.specs.Run.{ComesNext, HaveArrived, IsReached, MayArrive, WasOwn, Way, with_table}
 use Rattle.dr_machine.specs.World.{World, opening_world}
 use Rattle.dr_machine.specs.Writes.{at₄}
 use Rattle.dr_faithful.proofs.Writes.{at₄_case}
 use Rattle.dr_program.proofs.Opening.{begins_at_the_opening}
 use Rattle.dr_program.specs.declared.setup.Setup.{Setup}
-use Rattle.dr_program.specs.Net.{Goes, HadWord, HasCome, IsOnItsWay, IsRanOverNet, NetWay}
+use Rattle.dr_program.specs.Net.{NetStep, HadWord, WordComes, IsOnItsWay, IsRanOverNet, NetWay}
 use Rattle.dr_program.specs.Program.{AreSetups, Move, Program, begun_program, comes_to, step_of}
 use Rattle.dr_program.specs.Reading.{kept_word, in_view, word_of, world}
 use Rattle.dr_program.specs.Running.{Running}
@@ -122,7 +122,7 @@ pub come_follows : (g : Group) (before : List World) (p : Program) (v j i c word
       members = p.members;
       table = slice_set p.table place (max (slice_index p.table place) word);
     } in
-    IsProgram g q × Follows g before (world g p) (world g q)
+    IsProgram g q × ComesNext g before (world g p) (world g q)
 come_follows g before p v j i c word is bank to from cell was = (
   record {
     all = is.all;
@@ -143,19 +143,19 @@ come_follows g before p v j i c word is bank to from cell was = (
 
 -- what comes next of a program is of the group, and is the next world
 goes_on : (g : Group) (before : List Program) (p q : Program) → IsGroup g → IsProgram g p
-    → IsReached g (world g p) → Goes g before p q
-    → IsProgram g q × Follows g (worlds g before) (world g p) (world g q)
+    → IsReached g (world g p) → NetStep g before p q
+    → IsProgram g q × ComesNext g (worlds g before) (world g p) (world g q)
 goes_on g before p q group is run (inl (e, same)) =
-    subst (λ x. IsProgram g x × Follows g (worlds g before) (world g p) (world g x)) (sym same)
+    subst (λ x. IsProgram g x × ComesNext g (worlds g before) (world g p) (world g x)) (sym same)
     ((move_kept g p e group is run).0, step_follows g p e (worlds g before) group is)
 goes_on g before p q group is run (inr (inl on)) = (
   let kept = (move_kept g p on.move group is run).0 in subst (IsProgram g) (sym on.made)
       (record { all = kept.all; form = kept.form; of = kept.of; table = is.table }),
-  subst (Follows g (worlds g before) (world g p)) (sym (way_stays g p q group is on))
+  subst (ComesNext g (worlds g before) (world g p)) (sym (way_stays g p q group is on))
       (stays_next g (worlds g before) (world g p)),
 )
 goes_on g before p q group is run (inr (inr y)) =
-    subst (λ x. IsProgram g x × Follows g (worlds g before) (world g p) (world g x)) (sym y.made)
+    subst (λ x. IsProgram g x × ComesNext g (worlds g before) (world g p) (world g x)) (sym y.made)
     (come_follows g (worlds g before) p y.view y.copy y.row y.column y.word is y.bank y.to y.from y.cell
     (had_own g (p ∷ before) y.row y.view y.column y.word y.sent))
 
@@ -191,7 +191,7 @@ net_keeps g turns setups P group some are keeps same begun (x ∷ xs) p way =
     by (net_kept g turns setups xs x group some are way.0)
     (net_keeps g turns setups P group some are keeps same begun xs x way.0) way.1
   where
-    by : IsProgram g x × Way g (worlds g xs) (world g x) → P x → Goes g xs x p → P p
+    by : IsProgram g x × Way g (worlds g xs) (world g x) → P x → NetStep g xs x p → P p
     by old so (inl (e, made)) = subst P (sym made) (keeps x e old.0 (worlds g xs, old.1) so)
     by old so (inr (inl on)) = subst P (sym on.made)
         (same (step_of x on.move) x.table (keeps x on.move old.0 (worlds g xs, old.1) so))

@@ -10,7 +10,7 @@ ghost use Rattle.dr_entry.specs.declared.end.End.{End};
 ghost use Rattle.dr_history.specs.Agreement.{EndsAgreed};
 ghost use Rattle.dr_machine.specs.declared.step.Step.TheVariants.{Look, Push};
 ghost use Rattle.dr_machine.specs.Group.{Group, IsGroup};
-ghost use Rattle.dr_machine.specs.Run.{IsReached, Way};
+ghost use Rattle.dr_machine.specs.Run.{ComesOfEvents, IsReached, Way};
 ghost use Rattle.dr_program.specs.declared.packet.Packet.{Packet};
 ghost use Rattle.dr_program.specs.declared.setup.CrashPoint.{CrashPoint};
 ghost use Rattle.dr_program.specs.declared.setup.Setup.{Setup};
@@ -35,11 +35,14 @@ ghost use Rattle.dr_program_laws.specs.Failing.{AreFailing, IsFailing};
 ghost use Rattle.dr_program_laws.specs.Trusting.{AreAtEase, AreTrusting, IsCalm, NoneLeft, SuspectsNobody};
 
 /// Deeds keep a program: whatever deeds its members have taken, and in whatever order, it is one of its
-/// group still, in a world that is reached. A look then finds a word that its member may see.
+/// group still, in a world that some events lead to. A look then finds a word that its member may see.
 pub fn deeds_keep_programs()
     ensures deeds { (g : Group) (turns : ℕ) (setups : List Setup) (p : Program)
         → IsGroup g → 1 ≤ turns → AreSetups g turns setups
         → IsRanFrom (begun_program g setups) p → IsProgram g p × IsReached g (world g p) }
+    ensures events { (g : Group) (turns : ℕ) (setups : List Setup) (p : Program)
+        → IsGroup g → 1 ≤ turns → AreSetups g turns setups
+        → IsRanFrom (begun_program g setups) p → ComesOfEvents g (world g p) }
     ensures deed { (g : Group) (p : Program) (e : Move) → IsGroup g → IsProgram g p
         → IsReached g (world g p)
         → IsProgram g (step_of p e) × IsReached g (world g (step_of p e)) }

@@ -1,17 +1,18 @@
 -- The next deed of a running member is a step of the machine.
-use Rattle.std.proofs.Common.{◌≡◌, refl, sym, ap, ◌∙◌, subst, ℕ, zero, suc, ◌||◌, Bool, true, false, inl, if◌then◌else◌, List, [], ◌∷◌, map, arith}
+use Rattle.std.proofs.Common.{◌≡◌, ◌⊎◌, refl, sym, ap, ◌∙◌, subst, ℕ, zero, suc, ◌||◌, Bool, true, false, inl, inr, if◌then◌else◌, List, [], ◌∷◌, map, arith}
 use Rattle.std.specs.Prelude.{Option, Some, None, is_some, slice_get, slice_index_or, slice_set, option_map}
 use Rattle.std.proofs.lemmas.List.{set-get_or}
 use Rattle.std.proofs.lemmas.Option.{get_or_from_slice_get, slice_get-map}
 use Rattle.std.proofs.lemmas.Bool.{and_from, and_parts}
 use Rattle.dr_entry.specs.declared.end.End.{End}
 use Rattle.dr_machine.specs.declared.step.Step.{Step}
+use Rattle.dr_machine.specs.declared.event.Event.{Event}
 use Rattle.dr_machine.specs.Events.{event_of}
 use Rattle.dr_machine.specs.Events as events
 use Rattle.dr_machine.specs.Group.{Group, IsGroup}
 use Rattle.dr_machine.specs.World.{World}
 use Rattle.dr_machine.specs.Acts.{CanTake, Guard, effect, effect_of}
-use Rattle.dr_machine.specs.Run.{Follows, IsReached}
+use Rattle.dr_machine.specs.Run.{ComesNext, ComesOfEvents, IsReached}
 use Rattle.dr_program.specs.Replica.{Replica}
 use Rattle.dr_program.specs.declared.outcome.Outcome.{Outcome}
 use Rattle.dr_program.specs.Steps.{allows, sight, stored}
@@ -21,7 +22,7 @@ use Rattle.dr_program.specs.Program.{Program, Move, after_deed, comes_to, moved_
 use Rattle.dr_program.specs.Reading.{step_by, step_due, world, world_of}
 use Rattle.dr_program.proofs.Waiting.{free_step}
 use Rattle.dr_machine.proofs.Events.{member_of_event, step_of_event}
-use Rattle.dr_machine.proofs.Runs.{reached_more, stays_next}
+use Rattle.dr_machine.proofs.Runs.{events_more, reached_more, stays_next}
 use Rattle.dr_refine.specs.Programs.{IsMember, IsProgram}
 use Rattle.dr_refine.proofs.Tests.{step_effect, step_guard}
 
@@ -191,30 +192,57 @@ pub taken_reached : (g : Group) (w after : World) (m : ℕ) (s : Step) → IsRea
 taken_reached g w after m s reached can e =
     reached_more g w after (event_of m s) reached (inl (is_event g w after m s can e))
 
--- the world after a move comes next
-pub step_follows : (g : Group) (p : Program) (e : Move) (us : List World) → IsGroup g → IsProgram g p
-    → Follows g us (world g p) (world g (step_of p e))
-step_follows g p e us group is = by (slice_get p.members e.member) refl
+-- the world after a move is what an event makes of the one before, or that one still
+pub step_comes : (g : Group) (p : Program) (e : Move) → IsGroup g → IsProgram g p
+    → ((event : Event) × Guard g (world g p) event
+    × (world g (step_of p e) ≡ effect g (world g p) event))
+    ⊎ (world g (step_of p e) ≡ world g p)
+step_comes g p e group is = by (slice_get p.members e.member) refl
   where
-    stays : Follows g us (world g p) (world g p)
-    stays = stays_next g us (world g p)
-
     named : (r : Running) → slice_get p.members e.member ≡ Some r → (x : Option Step)
-        → step_by r e.outcome ≡ x → Follows g us (world g p) (world g (step_of p e))
-    named r there None none =
-        subst (Follows g us (world g p)) (sym (no_step_no_change g p e r there none)) stays
+        → step_by r e.outcome ≡ x
+        → ((event : Event) × Guard g (world g p) event
+        × (world g (step_of p e) ≡ effect g (world g p) event))
+        ⊎ (world g (step_of p e) ≡ world g p)
+    named r there None none = inr (no_step_no_change g p e r there none)
     named r there (Some s) some =
         let happened = deed_is_step g p e r s group is there some in
         let event = is_event g (world g p) (world g (step_of p e)) e.member s happened.0 happened.1 in
         inl (event_of e.member s, event.0, event.1)
 
     by : (o : Option Running) → slice_get p.members e.member ≡ o
-        → Follows g us (world g p) (world g (step_of p e))
-    by None none =
-        subst (λ q. Follows g us (world g p) (world g q)) (sym (ap (λ x. moved_by p x e) none)) stays
+        → ((event : Event) × Guard g (world g p) event
+        × (world g (step_of p e) ≡ effect g (world g p) event))
+        ⊎ (world g (step_of p e) ≡ world g p)
+    by None none = inr (ap (λ x. world g (moved_by p x e)) none)
     by (Some r) there = named r there (step_by r e.outcome) refl
 
--- so it is reached, where the world before it is
+-- so it comes next
+pub step_follows : (g : Group) (p : Program) (e : Move) (us : List World) → IsGroup g → IsProgram g p
+    → ComesNext g us (world g p) (world g (step_of p e))
+step_follows g p e us group is = by (step_comes g p e group is)
+  where
+    by : ((event : Event) × Guard g (world g p) event
+        × (world g (step_of p e) ≡ effect g (world g p) event))
+        ⊎ (world g (step_of p e) ≡ world g p)
+        → ComesNext g us (world g p) (world g (step_of p e))
+    by (inl event) = inl event
+    by (inr same) = subst (ComesNext g us (world g p)) (sym same) (stays_next g us (world g p))
+
+-- it is reached, where the world before it is
 pub step_reached : (g : Group) (p : Program) (e : Move) → IsGroup g → IsProgram g p
     → IsReached g (world g p) → IsReached g (world g (step_of p e))
 step_reached g p e group is (us, way) = (world g p ∷ us, (way, step_follows g p e us group is))
+
+-- and comes of events, where that one does
+pub step_events : (g : Group) (p : Program) (e : Move) → IsGroup g → IsProgram g p
+    → ComesOfEvents g (world g p) → ComesOfEvents g (world g (step_of p e))
+step_events g p e group is come = by (step_comes g p e group is)
+  where
+    by : ((event : Event) × Guard g (world g p) event
+        × (world g (step_of p e) ≡ effect g (world g p) event))
+        ⊎ (world g (step_of p e) ≡ world g p)
+        → ComesOfEvents g (world g (step_of p e))
+    by (inl event) =
+        events_more g (world g p) (world g (step_of p e)) event.0 come (inl (event.1, event.2))
+    by (inr same) = subst (ComesOfEvents g) (sym same) come

@@ -1,5 +1,5 @@
 -- The test whether an item can be read.
-use Rattle.std.proofs.Common.{◌≡◌, ℕ, zero, suc, ◌+◌, ◌<◌, ◌≤◌, Bool, true, false, cond, ◌&&◌, nat_le, ◌⊎◌, inl, inr, ◌↔◌, Option, Some, None, IsSome, IsTrue, is_some, refl, sym, ap, subst, ◌∙◌, add-one, arith, ◌*◌, ◌-◌, ◌%◌, ◌^◌, ◌==◌, List, get_or, length, bit_or, below_more, w16}
+use Rattle.std.proofs.Common.{◌≡◌, ℕ, zero, suc, ◌+◌, ◌<◌, ◌≤◌, Bool, true, false, cond, ◌&&◌, nat_le, ◌⊎◌, inl, inr, ◌↔◌, Option, Some, None, IsSome, IsTrue, is_some, refl, sym, ap, subst, ◌∙◌, add-one, arith, ◌*◌, ◌-◌, ◌%◌, ◌^◌, ◌==◌, List, get_or, length, bit_or, below_more, w16, map}
 use Rattle.std.specs.List.{list_all}
 use Rattle.std.specs.Int.{bit_at}
 use Rattle.std.proofs.lemmas.Bool.{cases_lt, eq-eqb, eqb-true}
@@ -8,7 +8,7 @@ use Rattle.std.proofs.lemmas.Nat.Bits.{bit_at_ones, bit_at_ones_above, bit_at_se
 use Rattle.dr_entry.specs.declared.limits.TheConstants.{MAX_MESSAGE_LENGTH}
 use Rattle.dr_entry.specs.declared.entry.Item.{Item}
 use Rattle.dr_words.specs.Packing.{ring_tag, ring_low}
-use Rattle.dr_ring.specs.Pieces.{null_mark, is_head, body_len}
+use Rattle.dr_ring.specs.Pieces.{null_mark, is_head, body_len, item_of}
 use Rattle.dr_ring.specs.Slots.{IsReady, is_of, item_in}
 use Rattle.dr_ring.proofs.Bodies.{first_words, passes_more, passes_not}
 
@@ -56,6 +56,18 @@ some_three true true false x s = absurd (cc)
 some_three true false c x s = absurd (cc)
 some_three false b c x s = absurd (cc)
 
+-- an item that is there is what its pieces say
+pub item_there : (k : ℕ) (slot : ℕ → ℕ) → IsReady k slot
+    → let head = ring_low (slot 0) in
+    item_in k slot ≡ Some (item_of head (map ring_low (first_words slot (body_len head))))
+item_there k slot r =
+    let a : is_of k (slot 0) ≡ true = of_tag k (slot 0) r.head in
+    let b : is_head (ring_low (slot 0)) ≡ true = of_head (ring_low (slot 0)) r.length_or_null in
+    let c : list_all (is_of k) (first_words slot (body_len (ring_low (slot 0))))
+    ≡ true = all_pass (is_of k) slot (body_len (ring_low (slot 0)))
+    (λ part lt. of_tag k (slot (1 + part)) (r.body part lt)) in
+    rw (a, b, c) refl
+
 -- the item is there exactly where the words that it needs are
 pub ready_test : (k : ℕ) (slot : ℕ → ℕ) → IsSome (item_in k slot) ↔ IsReady k slot
 ready_test k slot = (
@@ -67,13 +79,7 @@ ready_test k slot = (
         body = λ part lt. tag_of k (slot (1 + part))
             (each_passes (is_of k) slot (body_len (ring_low (slot 0))) part t.2 lt);
       },
-  λ r.
-      let a : is_of k (slot 0) ≡ true = of_tag k (slot 0) r.head in
-      let b : is_head (ring_low (slot 0)) ≡ true = of_head (ring_low (slot 0)) r.length_or_null in
-      let c : list_all (is_of k) (first_words slot (body_len (ring_low (slot 0))))
-      ≡ true = all_pass (is_of k) slot (body_len (ring_low (slot 0)))
-      (λ part lt. of_tag k (slot (1 + part)) (r.body part lt)) in
-      rw (a, b, c) refl,
+  λ r. ap is_some (item_there k slot r),
 )
 
 some_tested : {A : Type 0} (o : Option A) (P : Type 0) → (IsSome o ↔ P) → IsTrue (is_some o) ↔ P

@@ -7,4 +7,4 @@
 
 mod ring;
 
-pub use ring::{free, is_ready, put, ready, sweep};
+pub use ring::{free, is_ready, put, ready, sweep, taken};

@@ -1,4 +1,4 @@
-ghost use Rattle.std.specs.Prelude.{◌≡◌, ℕ, ◌+◌, ◌-◌, ◌*◌, ◌%◌, ◌^◌, ◌<◌, ◌≤◌, ◌↔◌, true, false, IsTrue, IsSome, MatchOption, is_some, map, take};
+ghost use Rattle.std.specs.Prelude.{◌≡◌, ℕ, ◌+◌, ◌-◌, ◌*◌, ◌%◌, ◌^◌, ◌<◌, ◌≤◌, ◌↔◌, true, false, IsTrue, IsSome, Some, is_some, map, take};
 ghost use Rattle.std.specs.List.{list_all, range_with_len};
 ghost use Rattle.std.specs.Int.{bit_at, div_ceil};
 ghost use Rattle.dr_words.specs.Form.{AllInForm};
@@ -116,16 +116,27 @@ pub fn ready(rows: &Rows, shape: &Shape, row: u8, k: u32) -> Option<Item>
     ensures ready { IsSome result ↔ IsReady k (slot_of shape.now.window rows.now row k) }
     ensures item { result ≡ item_in k (slot_of shape.now.window rows.now row k) }
 {
+    if is_ready(rows, shape, row, k) {
+        Some(taken(rows, shape, row, k))
+    } else {
+        None
+    }
+}
+
+/// Item `k` of the member of this row, whose words are known to have been seen: what [`ready`] answers,
+/// without a test of their tags.
+pub fn taken(rows: &Rows, shape: &Shape, row: u8, k: u32) -> Item
+    requires shape { HasShape shape.now rows.now }
+    requires row { row < rows.now.members }
+    requires ready { IsReady k (slot_of shape.now.window rows.now row k) }
+    ensures item { item_in k (slot_of shape.now.window rows.now row k) ≡ Some result }
+{
     let slot = slot_at(shape, k);
-    let head = piece_at(rows, row, shape.head_column(slot), k)?;
+    let (_, head) = unpack_ring(rows.seen(row, shape.head_column(slot)));
     if head == NULL_MARK {
-        return Some(Item::Null);
+        return Item::Null;
     }
-    let len = head as usize;
-    if len > MAX_MESSAGE_LENGTH {
-        return None;
-    }
-    body_at(rows, shape, row, k, len).map(Item::Text)
+    Item::Text(body_at(rows, shape, row, k, head as usize))
 }
 
 // Whether all words were seen that item `k` of the member of this row needs, by the tags of its body at
@@ -151,19 +162,6 @@ fn slot_at(shape: &Shape, k: u32) -> u8
     ensures within { result < shape.now.window }
 {
     (k % u32::from(shape.window)) as u8
-}
-
-// The piece of item `k` in a word, where it is of that item.
-fn piece_at(rows: &Rows, row: u8, column: usize, k: u32) -> Option<u32>
-    requires row { row < rows.now.members }
-    requires column { column < rows.now.columns }
-    ensures { let word = seen rows.now row column in
-        MatchOption result (is_of k word ≡ false)
-        (λ piece. (is_of k word ≡ true) × (piece ≡ ring_low word)) }
-{
-    let word = rows.seen(row, column);
-    let (_, piece) = unpack_ring(word);
-    is_of(k, word).then_some(piece)
 }
 
 // Whether a word of a ring is of item `k`.
@@ -210,24 +208,21 @@ fn has_tags(rows: &Rows, shape: &Shape, row: u8, k: u32, len: usize) -> bool
     match_mask(&tags[..count], u64::from(k) + 1) == (1 << count) - 1
 }
 
-// The message of so many bytes in the body, where all words that it needs are of item `k`.
-fn body_at(rows: &Rows, shape: &Shape, row: u8, k: u32, len: usize) -> Option<Message>
+// The message of so many bytes in the body of item `k`.
+fn body_at(rows: &Rows, shape: &Shape, row: u8, k: u32, len: usize) -> Message
     requires shape { HasShape shape.now rows.now }
     requires row { row < rows.now.members }
     requires len { len ≤ MAX_MESSAGE_LENGTH }
-    ensures { let body = map (slot_of shape.now.window rows.now row k) (range_with_len 1 (div_ceil len 4)) in
-        MatchOption result
-        (list_all (is_of k) body ≡ false)
-        (λ message. (list_all (is_of k) body ≡ true)
-        × (message ≡ take len (bytes_of (map ring_low body)))) }
+    ensures { result ≡ take len (bytes_of (map ring_low
+        (map (slot_of shape.now.window rows.now row k) (range_with_len 1 (div_ceil len 4))))) }
 {
     let slot = slot_at(shape, k);
     let mut bytes = [0; MAX_MESSAGE_LENGTH];
     for part in 0..len.div_ceil(4) {
-        let piece = piece_at(rows, row, shape.body_column(slot, part as u8), k)?;
+        let (_, piece) = unpack_ring(rows.seen(row, shape.body_column(slot, part as u8)));
         bytes[4 * part..4 * part + 4].copy_from_slice(&piece.to_be_bytes());
     }
-    Message::of(&bytes[..len])
+    Message::of(&bytes[..len]).unwrap()
 }
 
 // The bytes from `4 * part` on as a number; behind the end they are 0.

@@ -139,7 +139,7 @@ opened script start h k same likewise is all begun words zeros =
         group = is;
         members = begun_members g script.turns begun.0 is told;
         table = length-replicate (words_of (roster g) g.window (banks g)) 0;
-        reached = ([], begun_world g script.turns begun.0 is told);
+        events = ([], begun_world g script.turns begun.0 is told);
       },
       begun_world g script.turns begun.0 is told,
     )

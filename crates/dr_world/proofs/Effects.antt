@@ -11,6 +11,7 @@ use Rattle.dr_machine.specs.declared.event.Event.{Event}
 use Rattle.dr_machine.specs.declared.step.Step.{Step}
 use Rattle.dr_machine.specs.declared.step.Step.TheVariants.{Do}
 use Rattle.dr_machine.specs.Events.{member_of, step_of}
+use Rattle.dr_machine.proofs.Runs.{events_reached}
 use Rattle.dr_machine.specs.Group.{Group, roster, columns}
 use Rattle.dr_machine.specs.World.{World}
 use Rattle.dr_machine.specs.Acts.{effect}
@@ -106,7 +107,7 @@ sight h m r i c is there cell = record {
     apart = ((other_member g h.replicas h.table m r i member).0 tests.0).other
 
     so : Known (its_group h) (its_world h)
-    so = known g w is.group is.reached
+    so = known g w is.group (events_reached g w is.events)
 
     told : Faithful (its_group h) (views_by (its_group h) so.values) (its_world h)
     told = faithful g w so

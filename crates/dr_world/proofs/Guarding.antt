@@ -5,6 +5,7 @@ use Rattle.std.specs.Prelude.{Some, slice_get}
 use Rattle.dr_machine.specs.declared.event.Event.{Event}
 use Rattle.dr_machine.specs.Events.{member_of, step_of}
 use Rattle.dr_machine.proofs.Presence.{in_roster}
+use Rattle.dr_machine.proofs.Runs.{events_reached}
 use Rattle.dr_machine.specs.Group.{Group, IsGroup, roster}
 use Rattle.dr_machine.specs.World.{World}
 use Rattle.dr_machine.specs.Acts.{Guard}
@@ -41,7 +42,8 @@ take_test h e r is there =
       λ can. law.1 (
         can,
         has_room (its_group h) h.replicas h.table (member_of e) r (step_of e)
-            (is_member h (member_of e) r is there) (is.members.room (member_of e) r there) is.reached can,
+            (is_member h (member_of e) r is there) (is.members.room (member_of e) r there)
+            (events_reached (its_group h) (its_world h) is.events) can,
       ),
     )
 

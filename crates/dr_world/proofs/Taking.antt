@@ -14,7 +14,7 @@ use Rattle.dr_machine.specs.Acts.{Guard, effect}
 use Rattle.dr_machine.specs.Run.{Happens, Run, WordsGrew}
 use Rattle.dr_program.specs.Replica.{Replica, greatest}
 use Rattle.dr_program.specs.Form.{HasForm, IsOf}
-use Rattle.dr_machine.proofs.Runs.{reached_more, run_on}
+use Rattle.dr_machine.proofs.Runs.{events_more, events_reached, run_on}
 use Rattle.dr_program.proofs.Fixed.{Told, told, step_told, of_told}
 use Rattle.dr_program.proofs.Holdings.{replica_set, replica_kept}
 use Rattle.dr_world_laws.proofs.Worlds.{known, words_grew}
@@ -108,7 +108,7 @@ taken_held h e r is there may form = record {
       (stepped_over (stored h.table r (step_of e)) r (step_of e)) is.members there form
       (step_told (sight (stored h.table r (step_of e)) r (step_of e)) r (step_of e));
   table = stored_length h.table r (step_of e) ∙ is.table;
-  reached = reached_more (its_group h) (its_world h) (its_world (after h e r)) e is.reached
+  events = events_more (its_group h) (its_world h) (its_world (after h e r)) e is.events
       (inl (taken_happens h e r is there may));
 }
 
@@ -131,7 +131,8 @@ pub taken_grew : (h : Held) (e : Event) (r : Replica) → IsHeld h → slice_get
 taken_grew h e r is there may =
     let happens = taken_happens h e r is there may in
     subst (WordsGrew (its_group h) (its_world h)) (sym happens.1)
-    (words_grew (its_group h) (its_world h) e is.group (known (its_group h) (its_world h) is.group is.reached)
+    (words_grew (its_group h) (its_world h) e is.group (known (its_group h) (its_world h) is.group
+    (events_reached (its_group h) (its_world h) is.events))
     happens.0)
 
 -- ---- as the program finds them

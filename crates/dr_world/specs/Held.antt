@@ -8,7 +8,7 @@ use Rattle.dr_machine.specs.World.{World}
 use Rattle.dr_program.specs.Replica.{Replica, greatest}
 use Rattle.dr_program.specs.Reading.{world_of}
 use Rattle.dr_program.specs.Form.{HasForm, IsOf}
-use Rattle.dr_machine.specs.Run.{IsReached}
+use Rattle.dr_machine.specs.Run.{ComesOfEvents}
 use Rattle.dr_refine.specs.Programs.{IsTable}
 
 -- a script and the start of an age, a replica for each member, and the words of the table
@@ -39,4 +39,4 @@ pub record IsHeld (h : Held) : Type 0 where
   pub group : IsGroup (its_group h)
   pub members : AreMembers (its_group h) h.replicas
   pub table : IsTable (its_group h) h.table
-  pub reached : IsReached (its_group h) (its_world h)
+  pub events : ComesOfEvents (its_group h) (its_world h)

@@ -1,7 +1,7 @@
 ghost use Rattle.std.specs.Prelude.{◌≡◌, ◌↔◌, ◌<◌, IfOk, IsTrue, Some, false, slice_get};
 ghost use Rattle.dr_machine.specs.Group.{IsGroup, columns, roster};
 ghost use Rattle.dr_machine.specs.Acts.{Guard};
-ghost use Rattle.dr_machine.specs.Run.{Happens, IsReached, Run, WordsGrew};
+ghost use Rattle.dr_machine.specs.Run.{ComesOfEvents, Happens, Run, WordsGrew};
 ghost use Rattle.dr_machine.specs.World.{count_of, opening_world};
 ghost use Rattle.dr_script.specs.Ranges.{HasGroupRanges};
 ghost use Rattle.dr_restart.specs.Groups.{group_of};
@@ -110,7 +110,7 @@ impl World {
     pub fn members(&self) -> u8
         ensures members { result ≡ roster (its_group self.now) }
         ensures group { IsGroup (its_group self.now) }
-        ensures reached { IsReached (its_group self.now) (its_world self.now) }
+        ensures events { ComesOfEvents (its_group self.now) (its_world self.now) }
     {
         self.replicas.len() as u8
     }

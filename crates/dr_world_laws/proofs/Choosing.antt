@@ -17,7 +17,7 @@ use Rattle.dr_machine.specs.Effects.{commits as after_commit, finishes}
 use Rattle.dr_machine.specs.Events.{member_of, step_of}
 use Rattle.dr_machine.specs.Group.{Group, IsGroup, IsPresent, roster}
 use Rattle.dr_machine.specs.Guards.{CanCommit}
-use Rattle.dr_machine.specs.Run.{Follows, HaveArrived, Way, with_table}
+use Rattle.dr_machine.specs.Run.{ComesNext, HaveArrived, Way, with_table}
 use Rattle.dr_machine.specs.Votes.{IsOf, MajorityHas}
 use Rattle.dr_machine.specs.World.{Table, World, no_value}
 use Rattle.dr_machine.specs.Writes.{at}
@@ -157,7 +157,7 @@ step_back g w m s v can = standing_after g w m s
       stays = λ before. before;
     })
 
-follows_back : (g : Group) (us : List World) (w mid : World) (v : ℕ) → Follows g us w mid → AreBefore mid v
+follows_back : (g : Group) (us : List World) (w mid : World) (v : ℕ) → ComesNext g us w mid → AreBefore mid v
     → AreBefore w v
 follows_back g us w mid v (inl (e, can, same)) b = step_back g w (member_of e) (step_of e) v can
     (subst (λ u. AreBefore u v) same b)

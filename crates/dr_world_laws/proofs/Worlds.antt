@@ -21,7 +21,7 @@ use Rattle.dr_machine.specs.Events.{member_of, step_of}
 use Rattle.dr_machine.specs.Group.{Group, IsGroup, roster}
 use Rattle.dr_machine.specs.Guards.{CanFinish, HoldsAll, MayChoose, unsuspected_of}
 use Rattle.dr_machine.proofs.Runs.{by_way, last_or_before, reached}
-use Rattle.dr_machine.specs.Run.{Follows, IsReached, NoLaterItem, PastGrew, Way, WordsGrew, WorldAgreed}
+use Rattle.dr_machine.specs.Run.{ComesNext, IsReached, NoLaterItem, PastGrew, Way, WordsGrew, WorldAgreed}
 use Rattle.dr_machine.specs.Sending.{IsPut}
 use Rattle.dr_machine.specs.Votes.{HasLogged, IsOf, MajorityHas}
 use Rattle.dr_machine.specs.World.{World}
@@ -106,7 +106,7 @@ past_grew g w e is y can =
 
 -- so it is in each world that comes next
 pub words_next : (g : Group) (us : List World) (w after : World) → IsGroup g → Way g us w
-    → Follows g us w after → WordsGrew g w after
+    → ComesNext g us w after → WordsGrew g w after
 words_next g us w after is way (inl (e, can, same)) =
     subst (WordsGrew g w) (sym same) (words_grew g w e is (known g w is (us, way)) can)
 words_next g us w after is way (inr (table, come, same)) =
@@ -115,7 +115,7 @@ words_next g us w after is way (inr (table, come, same)) =
     (arrived_grew g (views_by g t.0) us w table y.world.faithful come y.backed)
 
 pub past_next : (g : Group) (us : List World) (w after : World) → IsGroup g → Way g us w
-    → Follows g us w after → PastGrew w.past after.past
+    → ComesNext g us w after → PastGrew w.past after.past
 past_next g us w after is way (inl (e, can, same)) =
     subst (λ (u : World). PastGrew w.past u.past) (sym same) (past_grew g w e is (known g w is (us, way)) can)
 past_next g us w after is way (inr (table, come, same)) =

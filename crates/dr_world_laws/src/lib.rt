@@ -23,7 +23,7 @@ ghost use Rattle.dr_machine.specs.Group.{Group, IsGroup, banks, roster};
 ghost use Rattle.dr_machine.specs.World.{World, opening_world};
 ghost use Rattle.dr_history.specs.declared.opening.Opening.{Opening};
 ghost use Rattle.dr_machine.specs.Guards.{CanFinish, HoldsAll, MayChoose, unsuspected_of};
-ghost use Rattle.dr_machine.specs.Run.{Follows, Run, IsReached, IsReachedWhere, Way, NoLaterItem, PastGrew, WordsGrew, WorldAgreed};
+ghost use Rattle.dr_machine.specs.Run.{ComesNext, Run, IsReached, IsReachedWhere, Way, NoLaterItem, PastGrew, WordsGrew, WorldAgreed};
 ghost use Rattle.dr_machine.specs.Effects.{counts_by};
 ghost use Rattle.dr_machine.specs.Votes.{HasLogged, IsOf, MajorityHas};
 ghost use Rattle.dr_words.specs.Masks.{IsLeastOf, without};
@@ -120,9 +120,9 @@ pub fn words_tell_the_truth()
 /// that arrives late. So each world on the way to another is reached, and the other has done all that it has.
 pub fn nothing_is_undone()
     ensures words { (g : Group) (before : List World) (w after : World) → IsGroup g → Way g before w
-        → Follows g before w after → WordsGrew g w after }
+        → ComesNext g before w after → WordsGrew g w after }
     ensures past { (g : Group) (before : List World) (w after : World) → IsGroup g → Way g before w
-        → Follows g before w after → PastGrew w.past after.past }
+        → ComesNext g before w after → PastGrew w.past after.past }
     ensures since { (g : Group) (before : List World) (early late : World) → IsGroup g → Way g before late
         → Contains (late ∷ before) early → PastGrew early.past late.past × IsReached g early }
 {}

@@ -14,7 +14,7 @@ loop-at-preserved c =
     let before = c.loop-at.invariant in
     let after = c.lower-lanes.ensures in
     let block : (j : ℕ) → j < 4 → get_or (chunk at 4 words) j 0 ≡ get_or words (at + j) 0
-        = λ j h. get_or-chunk at 4 words j 0 h in
+    = λ j h. get_or-chunk at 4 words j 0 h in
     let lane = λ (j : ℕ). get_or c.loop-at.lanes j 0 in
     let other = λ (j : ℕ). get_or (chunk at 4 words) j 0 in
     record {
@@ -46,8 +46,12 @@ loop-i-init c =
           (λ j h. before.among j (omega (arith, before.long))) least.among;
       below = λ k d h.
           let b = before.below k h in
-          omega (arith, least.below b.0 0 (omega (arith, before.long, b.1)), b.2,
-          get_or_default words k d 0 (omega (arith, h, before.within)));
+          omega (
+            arith,
+            least.below b.0 0 (omega (arith, before.long, b.1)),
+            b.2,
+            get_or_default words k d 0 (omega (arith, h, before.within)),
+          );
     }
 
 pub loop-i-preserved : goal.loop-i-preserved

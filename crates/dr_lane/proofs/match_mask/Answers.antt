@@ -8,17 +8,22 @@ use Rattle.dr_lane.proofs.match_mask.Goals as goal
 use Rattle.dr_lane.proofs.match_mask.Goals.{then-words-i, else-words-i}
 
 pub loop-at-preserved : goal.loop-at-preserved
-loop-at-preserved c = (omega arith,
+loop-at-preserved c = (
+  omega arith,
   block_marked (λ word. word == c.args.to) c.args.words.now c.loop-at.at c.loop-at.mask c.marks.result
-      (omega arith) c.requires c.loop-at.invariant.1 c.marks.ensures)
+      (omega arith) c.requires c.loop-at.invariant.1 c.marks.ensures,
+)
 
 pub loop-i-preserved : goal.loop-i-preserved
-loop-i-preserved c = (c.loop-i.invariant.0, elim c.if-words-i.branch [
-  | then-words-i w ↦ w.mask-is ∙ word_marked (λ word. word == c.args.to) c.args.words.now c.loop-i.i c.loop-i.mask
-      (omega arith) c.requires c.loop-i.invariant.1 (eq-eqb _ _ w.if-words-i.true)
-  | else-words-i w ↦ w.mask-is ∙ c.loop-i.invariant.1 ∙ word_unmarked (λ word. word == c.args.to) c.args.words.now c.loop-i.i
-      (omega arith) (ne_eqb _ _ w.if-words-i.false)
-])
+loop-i-preserved c = (
+  c.loop-i.invariant.0,
+  elim c.if-words-i.branch [
+    | then-words-i w ↦ w.mask-is ∙ word_marked (λ word. word == c.args.to) c.args.words.now c.loop-i.i c.loop-i.mask
+        (omega arith) c.requires c.loop-i.invariant.1 (eq-eqb _ _ w.if-words-i.true)
+    | else-words-i w ↦ w.mask-is ∙ c.loop-i.invariant.1 ∙ word_unmarked (λ word. word == c.args.to) c.args.words.now c.loop-i.i
+        (omega arith) (ne_eqb _ _ w.if-words-i.false)
+  ],
+)
 
 whole : (c : goal.After-loop-i) → mask_l (map (λ word. word == c.args.to) c.args.words.now) ≡ c.loop-i.mask
 whole c = sym (c.loop-i.invariant.1

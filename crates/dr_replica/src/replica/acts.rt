@@ -22,7 +22,7 @@ use crate::items::Items;
 use crate::wedge::Wedge;
 use dr_entry::{End, Item, SentItem};
 use dr_machine::Act;
-use dr_ring::{put, ready};
+use dr_ring::{put, taken};
 use dr_rows::Rows;
 use dr_words::{BEAT_COLUMN, DONE_COLUMN, LOGGED_COLUMN, RECEIVED_COLUMN, Shape, pack_recv};
 
@@ -210,7 +210,7 @@ impl Replica {
         ensures { self.new ≡ received self.old sender }
     {
         let count = self.items.count(sender);
-        let item = ready(&self.rows, &self.shape, sender, count).unwrap();
+        let item = taken(&self.rows, &self.shape, sender, count);
         self.items.take(sender, item);
         show_items(&mut self.rows, &self.shape, &self.items, sender);
     }

@@ -1,9 +1,10 @@
 //! What a replica may do.
-ghost use Rattle.std.specs.Prelude.{◌≡◌, ◌<◌, ◌&&◌, length, nat_lt, not};
+ghost use Rattle.std.specs.Int.{bit_at};
+ghost use Rattle.std.specs.Prelude.{◌≡◌, ℕ, ◌+◌, ◌<◌, ◌≤◌, ◌↔◌, ◌&&◌, length, nat_lt, not};
 ghost use Rattle.dr_history.specs.Members.{has};
-ghost use Rattle.dr_program.specs.Replica.{all_done, count, has_majority, holds_all, is_due, is_other, is_wedged, least_seen, me, may_append, may_deliver, may_mark, may_null, may_publish, may_receive, may_report, may_send, may_suspect, next_index};
+ghost use Rattle.dr_program.specs.Replica.{all_done, count, greatest, has_majority, holds_all, is_due, is_other, is_wedged, least_seen, me, may_append, may_deliver, may_mark, may_null, may_publish, may_receive, may_report, may_send, may_suspect, next_index};
 ghost use Rattle.dr_program.specs.Steps.{allows, has_cell};
-ghost use Rattle.dr_ring.specs.Slots.{is_free};
+ghost use Rattle.dr_ring.specs.Slots.{IsReady, is_free, slot_of};
 ghost use Rattle.dr_words.specs.declared.column.TheConstants.{RECEIVED_COLUMN};
 ghost use Rattle.dr_rows.specs.Words.{changed};
 
@@ -11,7 +12,7 @@ use super::Replica;
 use dr_entry::End;
 use dr_machine::Step;
 use dr_pred::{LoggedFront, ReceivedFront, Watch, least_word};
-use dr_ring::{free, is_ready};
+use dr_ring::{free, is_ready, sweep};
 use dr_words::{DONE_COLUMN, LOGGED_COLUMN, RECEIVED_COLUMN};
 
 impl Replica {
@@ -69,8 +70,30 @@ impl Replica {
         ensures { result ≡ may_receive self.now sender }
     {
         let count = self.items.count(sender);
-        let takes = !self.is_wedged() && self.items.has_room(sender);
-        takes && self.is_other(sender) && is_ready(&self.rows, &self.shape, sender, count)
+        self.takes_from(sender) && is_ready(&self.rows, &self.shape, sender, count)
+    }
+
+    /// Whether it takes the next item of the sender once all words of it are seen: it isn't wedged, and the
+    /// sender is another member of its view that has not yet sent as many as anyone has messages.
+    #[inline]
+    pub fn takes_from(&self, sender: u8) -> bool
+        requires { sender < self.now.roster }
+        ensures { result ≡ (not (is_wedged self.now) && (nat_lt (count self.now sender) (greatest self.now.totals)
+            && is_other self.now sender)) }
+    {
+        !self.is_wedged() && self.items.has_room(sender) && self.is_other(sender)
+    }
+
+    /// Which of the next items of the sender are there, as many as a ring has slots: bit `i`, from the lowest
+    /// on, is set exactly where all words were seen that the one behind `i` others needs.
+    pub fn ready_items(&self, sender: u8) -> u16
+        requires { sender < self.now.roster }
+        ensures set { (i : ℕ) → i < self.now.window → (bit_at result i ≡ 1)
+            ↔ IsReady (count self.now sender + i)
+            (slot_of self.now.window self.now.rows sender (count self.now sender + i)) }
+        ensures clear { (i : ℕ) → self.now.window ≤ i → bit_at result i ≡ 0 }
+    {
+        sweep(&self.rows, &self.shape, sender, self.items.count(sender))
     }
 
     /// Whether it isn't wedged, has a message left, and the slot of its next item is free.

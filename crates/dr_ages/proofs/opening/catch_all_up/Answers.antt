@@ -1,4 +1,4 @@
-use Rattle.std.proofs.Common.{◌≡◌, ◌∙◌, subst, arith, ℕ, false, get_or, length}
+use Rattle.std.proofs.Common.{◌∙◌, subst, arith, ℕ, get_or}
 use Rattle.std.specs.Prelude.{Err}
 use Rattle.dr_entry.specs.declared.entry.Entry.TheVariants.{View}
 use Rattle.dr_gather.specs.Gathering.{entries_on}

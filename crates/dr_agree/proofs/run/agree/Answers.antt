@@ -1,4 +1,5 @@
 use Rattle.std.proofs.Common.{◌<◌, refl, arith}
+use Rattle.dr_machine.proofs.Runs.{events_reached}
 use Rattle.dr_machine.specs.Group.{roster}
 use Rattle.dr_world.specs.Held.{its_group, its_world}
 use Rattle.dr_world_laws.proofs.Worlds.{agreed, known}
@@ -26,6 +27,6 @@ returns c =
     let g = its_group c.args.world.now in
     let w = its_world c.args.world.now in (
       λ _. agreed g w c.members-members.ensures.group
-          (known g w c.members-members.ensures.group c.members-members.ensures.reached),
+          (known g w c.members-members.ensures.group (events_reached g w c.members-members.ensures.events)),
       λ _. refl,
     )

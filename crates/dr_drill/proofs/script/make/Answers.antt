@@ -2,7 +2,7 @@ use Rattle.std.proofs.Common.{◌≡◌, ◌+◌, ◌*◌, ◌++◌, ◌∷◌, 
 use Rattle.dr_script.specs.Ranges.{HasRanges}
 use Rattle.dr_script.specs.declared.script.Script.{Script}
 use Rattle.dr_script.specs.declared.script.Schedule.TheVariants.{Lockstep}
-use Rattle.dr_drill.specs.Drill.{drill, messages, state_after}
+use Rattle.dr_drill.specs.Drill.{drill, messages_of_member, state_after}
 use Rattle.dr_drill.proofs.Letters.{messages_more, moved, state_after-none, state_more}
 use Rattle.dr_drill.proofs.Ranges.{drill_ranges}
 use Rattle.dr_drill.proofs.script.make.Goals as goal
@@ -16,8 +16,8 @@ loop-preserved c =
       c.in_ok-messages.ensures.state ∙ state_more x c.loop.letters (32 * 400 * n) (32 * 400) inv.0
           ∙ moved (state_after x) (32 * 400 * n + 32 * 400) (32 * 400 * (n + 1)) (omega arith),
       c.in_ok-push.ensures.items ∙ ap (λ m. c.loop.lists.items ++ m ∷ []) (c.in_ok-messages.ensures.messages
-          ∙ ap (λ y. messages y 0) inv.0)
-          ∙ ap (λ ms. ms ++ messages (state_after x (32 * 400 * n)) 0 ∷ []) inv.1 ∙ sym (messages_more x n),
+          ∙ ap (λ y. messages_of_member y 0) inv.0)
+          ∙ ap (λ ms. ms ++ messages_of_member (state_after x (32 * 400 * n)) 0 ∷ []) inv.1 ∙ sym (messages_more x n),
     )
 
 pub returns-clause-ranges : goal.returns-clause-ranges

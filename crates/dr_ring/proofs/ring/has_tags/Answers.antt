@@ -1,5 +1,5 @@
-use Rattle.std.proofs.Common.{◌≡◌, ◌≤◌, ◌<◌, ◌+◌, ◌*◌, ◌-◌, ◌^◌, ◌%◌, ◌==◌, ℕ, Bool, get_or, length, set, take, ◌↔◌, ap, sym, subst, ◌∙◌, inl, inr, arith}
-use Rattle.std.specs.Int.{bit_at, div_ceil}
+use Rattle.std.proofs.Common.{◌≡◌, ◌≤◌, ◌+◌, ◌*◌, ◌-◌, ◌^◌, ◌%◌, ◌==◌, ℕ, get_or, set, take, ◌↔◌, ap, sym, subst, ◌∙◌, inl, inr, arith}
+use Rattle.std.specs.Int.{bit_at}
 use Rattle.std.specs.List.{list_all}
 use Rattle.std.proofs.lemmas.Bool.{cases_lt}
 use Rattle.std.proofs.lemmas.List.{get_or-set_other, get_or-set_same, get_or-take, length-set, length-take-le}

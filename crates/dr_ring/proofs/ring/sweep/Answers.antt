@@ -1,4 +1,4 @@
-use Rattle.std.proofs.Common.{◌≡◌, ◌<◌, ◌+◌, ℕ, false, subst, sym, ap, ap₂, ◌∙◌, arith, rules}
+use Rattle.std.proofs.Common.{◌+◌, ℕ, subst, sym, ◌∙◌, arith}
 use Rattle.std.proofs.lemmas.Bool.{true≢false}
 use Rattle.dr_ring.specs.Slots.{IsReady, slot_of}
 use Rattle.dr_ring.proofs.Readiness.{Marks, one_marked, one_unmarked}

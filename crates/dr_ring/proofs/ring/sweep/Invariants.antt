@@ -1,4 +1,4 @@
-use Rattle.std.proofs.Common.{ℕ, ◌+◌}
+use Rattle.std.proofs.Common.{◌+◌}
 use Rattle.dr_ring.specs.Slots.{IsReady, slot_of}
 use Rattle.dr_ring.proofs.Readiness.{Marks}
 use Rattle.dr_ring.proofs.ring.sweep.Given as goal

@@ -9,7 +9,8 @@ use Rattle.dr_form.proofs.Keeps.{open_recv, received_form}
 use Rattle.dr_replica.proofs.Received.{received_received}
 use Rattle.dr_words.specs.declared.column.TheConstants.{RECEIVED_COLUMN}
 use Rattle.dr_replica.proofs.Insides.{may_of}
-use Rattle.dr_replica.proofs.Exchanges.{front_after, received_after, items_kept}
+use Rattle.dr_replica.proofs.Exchanges.{front_after, item_waits, received_after, items_kept}
+use Rattle.dr_ring.specs.Slots.{IsReady, slot_of}
 use Rattle.dr_replica.proofs.replica.Replica.receive.Goals as goal
 
 pub show_items-requires-clause-recv : goal.show_items-requires-clause-recv
@@ -29,18 +30,26 @@ show_items-requires-clause-recv c =
 
 pub show_items-requires-clause-received : goal.show_items-requires-clause-received
 show_items-requires-clause-received c =
-    front_after c.self.inside c.take.new.self c.args.sender c.unwrap-item.result c.self.invariant
+    front_after c.self.inside c.take.new.self c.args.sender c.taken-item.result c.self.invariant
     (subst (λ (r : Replica). c.args.sender < r.roster) (sym c.self.view_is) c.requires.sender)
     c.take.ensures
+
+pub taken-item-requires-clause-ready : goal.taken-item-requires-clause-ready
+taken-item-requires-clause-ready c =
+    let r : Replica = view_of c.self.inside in
+    let may : may_receive r c.args.sender ≡ true = may_of (λ (q : Replica). may_receive q c.args.sender) r
+    c.args.self.now c.self.view_is c.requires.may in
+    subst (λ (k : ℕ). IsReady k (slot_of r.window r.rows c.args.sender k)) (sym c.count-count.ensures.count)
+    (item_waits r c.args.sender may)
 
 there : (c : goal.After-show_items)
     → view_of (record c.self.inside { rows = c.show_items.new.rows; items = c.take.new.self })
     ≡ received (view_of c.self.inside) c.args.sender
 there c =
     received_after c.self.inside c.show_items.new.rows c.take.new.self c.args.sender c.count-count.result
-    c.ready.result c.unwrap-item.result c.self.invariant
+    c.taken-item.result c.self.invariant
     (subst (λ (r : Replica). c.args.sender < r.roster) (sym c.self.view_is) c.requires.sender)
-    c.count-count.ensures.count c.ready.ensures.item c.unwrap-item.ensures c.take.ensures
+    c.count-count.ensures.count c.taken-item.ensures.item c.take.ensures
     c.show_items.ensures
 
 may : (c : goal.After-show_items) → may_receive (view_of c.self.inside) c.args.sender ≡ true
@@ -49,7 +58,7 @@ may c = may_of (λ (r : Replica). may_receive r c.args.sender)
 
 pub invariant_of-self : goal.invariant_of-self
 invariant_of-self c =
-    items_kept c.self.inside c.show_items.new.rows c.take.new.self c.args.sender c.unwrap-item.result
+    items_kept c.self.inside c.show_items.new.rows c.take.new.self c.args.sender c.taken-item.result
     c.self.inside.sent c.self.invariant c.take.ensures c.self.invariant.sent
     (ap (λ (r : Replica). r.rows.me) (there c))
     (subst HasForm (sym (there c))
