@@ -1,32 +1,25 @@
 -- Why the status of a call is what it is, and what its clauses say in each case.
-use Rattle.std.proofs.Common.{◌≡◌, ◌⊎◌, refl, sym, ap, ap₂, ◌∙◌, subst, inl, inr, ℕ, ◌<◌, ◌≤◌, Bool, true, false, true≢false, IsTrue, arith, List, [], ◌∷◌, Contains, Option, None, Some, is_some, IsSomeAnd, if◌then◌else◌, String}
+use Rattle.std.proofs.Common.{◌≡◌, ◌⊎◌, refl, sym, ap, ap₂, ◌∙◌, subst, inl, inr, ℕ, zero, suc, ◌<◌, ◌≤◌, Bool, true, false, true≢false, IsTrue, arith, List, [], ◌∷◌, Contains, Option, None, Some, IfSome, is_some, if◌then◌else◌, String}
+use Rattle.std.specs.Prelude.{MatchOption}
 use Rattle.std.specs.declared.alloc.Global.{Global}
-use Rattle.std.proofs.lemmas.Bool.{cases_Bool, or_parts}
-use Rattle.std.proofs.lemmas.Option.{same_Some}
-use Rattle.dr_ages.specs.declared.mode.Mode.{Mode}
-use Rattle.dr_ages.specs.declared.mode.Mode.TheVariants.{Sim}
-use Rattle.dr_ages.specs.declared.stop.Stop.{Stop}
-use Rattle.dr_ages.specs.Ages.{AreAges}
-use Rattle.dr_complete.specs.Time.{HasTime}
-use Rattle.dr_entry.specs.declared.end.AgeEnd.{AgeEnd}
-use Rattle.dr_io.specs.Faults.{Rose}
-use Rattle.dr_program_laws.specs.Trusting.{SuspectsNobody}
-use Rattle.dr_script.specs.declared.script.Script.{Script}
-use Rattle.dr_script.specs.Reading.{Reading, reading_of, TooLong as TooLongText, NotJson as NoJsonText, Wrong, Reads}
-use Rattle.dr_text.specs.declared.last.Last.{Last}
-use Rattle.dr_text.specs.declared.last.Last.TheVariants as lasts
-use Rattle.dr_yard.specs.Yards.{YardState, empty_yard}
-use Rattle.dr_outcome.specs.declared.last.Kind.TheVariants.{DiskFault, LogFull, NoMajority, Spent}
-use Rattle.dr_outcome.specs.Last.{first_end, first_told, is_memory, last_by, refusal_of, some_end, some_so, stopped_by}
-use Rattle.dr_outcome.specs.Outcome.{HasRun, IsRunInMemory, RanNothing}
-use Rattle.derecho.specs.Outcome.{Course, no_memory, no_command, no_source, read, Exactly, IsRunOver, Wrote, WroteOrNot}
+use Rattle.std.proofs.lemmas.Option.{none-some}
+use Rattle.dr_intake.specs.Answer.{done, no_memory, no_source, usage}
 use Rattle.dr_intake.specs.Status.{status_of}
-use Rattle.dr_intake.specs.Reading.{IsNoScript, IsScript, WasRead}
-use Rattle.derecho.specs.Words.{IsCommand, asked_by}
+use Rattle.dr_io.specs.Faults.{Rose}
+use Rattle.dr_io.specs.Sink.{Gains}
+use Rattle.dr_text.specs.declared.last.Last.{Last}
+use Rattle.dr_yard.specs.Yards.{YardState}
+use Rattle.dr_outcome.specs.declared.last.Kind.TheVariants.{DiskFault, LogFull, NoMajority, Spent}
+use Rattle.dr_outcome.specs.declared.outcome.Outcome.{Outcome}
+use Rattle.dr_outcome.specs.Last.{first_end, first_told, last_by, last_of, refusal_of, some_end, some_so}
+use Rattle.dr_outcome.specs.Outcome.{HasDone, by_run, outcome_text, unrun}
 use Rattle.dr_outcome.proofs.Lasts.{end_so, refusal_status, told_so}
-use Rattle.dr_outcome.proofs.Runs.{memory_accepts, memory_has_room, memory_holds, none_spent, none_split}
+use Rattle.dr_outcome.proofs.Due.{contains_more, line_behind}
+use Rattle.derecho.specs.declared.words.Command.{Command}
+use Rattle.derecho.specs.Outcome.{Course, Does, Exactly, IsWritten, WroteOrNot}
+use Rattle.derecho.specs.Words.{IsCommand, asked_by, ends_of, reads, statuses_of, told_by}
 
--- a call: its words, its source and its yard before and after, and what it ran
+-- a call: its words, its source and its yard before and after, and what it came to
 pub record Call : Type 0 where
   pub words : List (String Global)
   pub old : Option (List ℕ)
@@ -35,193 +28,180 @@ pub record Call : Type 0 where
   pub fails : ℕ
   pub before : YardState
   pub after : YardState
-  pub ages : List AgeEnd
-  pub stop : Option Stop
+  pub outcome : Outcome
 
-abbrev pub IsCourse : Call → Option Last → Type 0
-IsCourse c last = Course c.words c.old c.new c.failed c.fails c.before c.after c.ages c.stop last
-
--- a script was read, and run with all the memory that it needed
-pub record Ran (c : Call) : Type 0 where
-  pub mode : Mode
-  pub folder : Option (List ℕ)
-  pub asked : asked_by c.words ≡ Some (mode, folder)
-  pub script : Script
-  pub is : IsScript c.old c.new script
-  pub run : HasRun mode folder script c.before c.after c.ages c.stop
-  pub ample : is_memory c.stop ≡ false
+abbrev pub IsCourse : Call → Type 0
+IsCourse c = Course c.words c.old c.new c.failed c.fails c.before c.after c.outcome
 
 -- nothing that a status tells has come
-pub record IsQuiet (c : Call) : Type 0 where
-  pub disk : some_so DiskFault c.ages c.stop ≡ false
-  pub logs : is_some (refusal_of c.stop) ≡ false
-  pub full : some_so LogFull c.ages c.stop ≡ false
-  pub turns : some_end Spent c.ages ≡ false
-  pub split : some_end NoMajority c.ages ≡ false
+pub record IsQuiet (o : Outcome) : Type 0 where
+  pub disk : some_so DiskFault o.ages o.stop ≡ false
+  pub logs : is_some (refusal_of o.stop) ≡ false
+  pub full : some_so LogFull o.ages o.stop ≡ false
+  pub turns : some_end Spent o.ages ≡ false
+  pub split : some_end NoMajority o.ages ≡ false
 
 -- the status behind the ages of a run, by the first of these that has come
-pub data Rank (c : Call) (status : ℕ) : Type 0 where
-  by_disk : status ≡ 6 → some_so DiskFault c.ages c.stop ≡ true → Rank c status
-  by_logs : status ≡ 7 → some_so DiskFault c.ages c.stop ≡ false → is_some (refusal_of c.stop) ≡ true
-      → Rank c status
-  by_full : status ≡ 11 → some_so DiskFault c.ages c.stop ≡ false → is_some (refusal_of c.stop) ≡ false
-      → some_so LogFull c.ages c.stop ≡ true → Rank c status
-  by_turns : status ≡ 8 → some_so DiskFault c.ages c.stop ≡ false → is_some (refusal_of c.stop) ≡ false
-      → some_so LogFull c.ages c.stop ≡ false → some_end Spent c.ages ≡ true → Rank c status
-  by_split : status ≡ 9 → some_so DiskFault c.ages c.stop ≡ false → is_some (refusal_of c.stop) ≡ false
-      → some_so LogFull c.ages c.stop ≡ false → some_end Spent c.ages ≡ false
-      → some_end NoMajority c.ages ≡ true → Rank c status
-  by_none : status ≡ 0 → IsQuiet c → Rank c status
+pub data Rank (o : Outcome) (status : ℕ) : Type 0 where
+  by_disk : status ≡ 6 → some_so DiskFault o.ages o.stop ≡ true → Rank o status
+  by_logs : status ≡ 7 → some_so DiskFault o.ages o.stop ≡ false → is_some (refusal_of o.stop) ≡ true
+      → Rank o status
+  by_full : status ≡ 11 → some_so DiskFault o.ages o.stop ≡ false → is_some (refusal_of o.stop) ≡ false
+      → some_so LogFull o.ages o.stop ≡ true → Rank o status
+  by_turns : status ≡ 8 → some_so DiskFault o.ages o.stop ≡ false → is_some (refusal_of o.stop) ≡ false
+      → some_so LogFull o.ages o.stop ≡ false → some_end Spent o.ages ≡ true → Rank o status
+  by_split : status ≡ 9 → some_so DiskFault o.ages o.stop ≡ false → is_some (refusal_of o.stop) ≡ false
+      → some_so LogFull o.ages o.stop ≡ false → some_end Spent o.ages ≡ false
+      → some_end NoMajority o.ages ≡ true → Rank o status
+  by_none : status ≡ 0 → IsQuiet o → Rank o status
 
 -- the status comes before all others
 abbrev IsEarly : ℕ → Type 0
 IsEarly status = (status ≡ 10) ⊎ (status ≡ 5)
 
+-- the status of a last line behind which nothing was run
+abbrev IsUnrun : ℕ → Type 0
+IsUnrun status = Contains (0 ∷ 3 ∷ 12 ∷ 13 ∷ []) status
+
 -- why the status is what it is
 pub data Standing (c : Call) (status : ℕ) : Type 0 where
   early : IsEarly status → Standing c status
-  bad_words : status ≡ 2 → (IsCommand c.words → ⊥) → IsQuiet c → Standing c status
-  bad_source : status ≡ 4 → IsCommand c.words → Rose c.failed c.fails → IsQuiet c → Standing c status
-  bad_script : status ≡ 3 → IsCommand c.words → IsNoScript c.old c.new → IsQuiet c → Standing c status
-  has_run : Ran c → Rank c status → Standing c status
+  bad_words : status ≡ 2 → asked_by c.words ≡ None → IsQuiet c.outcome → Standing c status
+  bad_source : status ≡ 4 → (k : Command) → asked_by c.words ≡ Some k → IsTrue (reads k)
+      → Rose c.failed c.fails → IsQuiet c.outcome → Standing c status
+  has_run : (k : Command) → asked_by c.words ≡ Some k → Contains (ends_of k) status → Rank c.outcome status
+      → Standing c status
+  has_not : (k : Command) → asked_by c.words ≡ Some k → Contains (ends_of k) status → IsUnrun status
+      → IsQuiet c.outcome → Standing c status
 
-quiet : (c : Call) → RanNothing c.before c.after c.ages c.stop → IsQuiet c
-quiet c nothing = record {
-  disk = ap₂ (some_so DiskFault) nothing.none nothing.unstopped;
-  logs = ap (λ stop. is_some (refusal_of stop)) nothing.unstopped;
-  full = ap₂ (some_so LogFull) nothing.none nothing.unstopped;
-  turns = ap (some_end Spent) nothing.none;
-  split = ap (some_end NoMajority) nothing.none;
+quiet : (o : Outcome) → o.ages ≡ [] → o.stop ≡ None → IsQuiet o
+quiet o none unstopped = record {
+  disk = ap₂ (some_so DiskFault) none unstopped;
+  logs = ap (λ stop. is_some (refusal_of stop)) unstopped;
+  full = ap₂ (some_so LogFull) none unstopped;
+  turns = ap (some_end Spent) none;
+  split = ap (some_end NoMajority) none;
 }
 
--- the status behind a last line, and behind none
-said : (held holds : Option (List ℕ)) (fell falls status : ℕ) (ages : List AgeEnd) (last : Option Last)
-    (line : Last) → WroteOrNot held holds fell falls status ages last → last ≡ Some line
-    → IsEarly status ⊎ (status ≡ status_of line)
-said held holds fell falls status ages last line (inl gave) is = inl (inl gave.0)
-said held holds fell falls status ages last line (inr wrote) is =
-    elim (subst (λ o. IsSomeAnd o (Wrote held holds fell falls status ages)) is wrote) [
-      | inl whole ↦ inr whole.0
-      | inr part ↦ inl (inr part.0)
-    ]
+-- the status behind what was written, of a last line, and of none
+status_by : (held holds : Option (List ℕ)) (fell falls status due : ℕ) (text : List ℕ)
+    → IsWritten held holds fell falls status due text → IsEarly status ⊎ (status ≡ due)
+status_by held holds fell falls status due text (inl gave) = inl (inl gave.0)
+status_by held holds fell falls status due text (inr (inl whole)) = inr whole.0
+status_by held holds fell falls status due text (inr (inr part)) = inl (inr part.0)
 
-unsaid : (held holds : Option (List ℕ)) (fell falls status : ℕ) (ages : List AgeEnd) (last : Option Last)
-    → WroteOrNot held holds fell falls status ages last → last ≡ None → IsEarly status
-unsaid held holds fell falls status ages last (inl gave) is = inl gave.0
-unsaid held holds fell falls status ages last (inr wrote) is =
-    absurd (subst (λ o. IsSomeAnd o (Wrote held holds fell falls status ages)) is wrote)
+-- what is written of an outcome with this last line
+abbrev Writes : Option (List ℕ) → Option (List ℕ) → ℕ → ℕ → ℕ → Outcome → Option Last → Type 0
+Writes held holds fell falls status o last =
+    MatchOption last ((status ≡ 10) × Gains held holds [])
+    (λ line. IsWritten held holds fell falls status (status_of line) (outcome_text o line))
+
+said : (held holds : Option (List ℕ)) (fell falls status : ℕ) (o : Outcome) (line : Last)
+    → WroteOrNot held holds fell falls status o → o.last ≡ Some line
+    → IsEarly status ⊎ (status ≡ status_of line)
+said held holds fell falls status o line wrote is =
+    status_by held holds fell falls status (status_of line) (outcome_text o line)
+    (subst (Writes held holds fell falls status o) is wrote)
+
+unsaid : (held holds : Option (List ℕ)) (fell falls status : ℕ) (o : Outcome)
+    → WroteOrNot held holds fell falls status o → o.last ≡ None → IsEarly status
+unsaid held holds fell falls status o wrote is =
+    inl (subst (Writes held holds fell falls status o) is wrote).0
 
 -- the first of what a status tells decides
-rank_by : (c : Call) (status : ℕ) (disk : Option ℕ) (logs : Option Last) (full turns split : Option ℕ)
-    → first_told DiskFault c.ages c.stop ≡ disk → refusal_of c.stop ≡ logs
-    → first_told LogFull c.ages c.stop ≡ full → first_end Spent c.ages ≡ turns
-    → first_end NoMajority c.ages ≡ split
-    → status ≡ status_of (last_by disk logs full turns split) → Rank c status
-rank_by c status (Some m) logs full turns split d l f t p is =
-    by_disk is (sym (told_so DiskFault c.ages c.stop) ∙ ap is_some d)
-rank_by c status None (Some line) full turns split d l f t p is =
-    by_logs (is ∙ refusal_status c.stop line l) (sym (told_so DiskFault c.ages c.stop) ∙ ap is_some d)
+rank_by : (o : Outcome) (status : ℕ) (disk : Option ℕ) (logs : Option Last) (full turns split : Option ℕ)
+    → first_told DiskFault o.ages o.stop ≡ disk → refusal_of o.stop ≡ logs
+    → first_told LogFull o.ages o.stop ≡ full → first_end Spent o.ages ≡ turns
+    → first_end NoMajority o.ages ≡ split
+    → status ≡ status_of (last_by disk logs full turns split) → Rank o status
+rank_by o status (Some m) logs full turns split d l f t p is =
+    by_disk is (sym (told_so DiskFault o.ages o.stop) ∙ ap is_some d)
+rank_by o status None (Some line) full turns split d l f t p is =
+    by_logs (is ∙ refusal_status o.stop line l) (sym (told_so DiskFault o.ages o.stop) ∙ ap is_some d)
     (ap is_some l)
-rank_by c status None None (Some m) turns split d l f t p is =
-    by_full is (sym (told_so DiskFault c.ages c.stop) ∙ ap is_some d) (ap is_some l)
-    (sym (told_so LogFull c.ages c.stop) ∙ ap is_some f)
-rank_by c status None None None (Some m) split d l f t p is =
-    by_turns is (sym (told_so DiskFault c.ages c.stop) ∙ ap is_some d) (ap is_some l)
-    (sym (told_so LogFull c.ages c.stop) ∙ ap is_some f) (sym (end_so Spent c.ages) ∙ ap is_some t)
-rank_by c status None None None None (Some m) d l f t p is =
-    by_split is (sym (told_so DiskFault c.ages c.stop) ∙ ap is_some d) (ap is_some l)
-    (sym (told_so LogFull c.ages c.stop) ∙ ap is_some f) (sym (end_so Spent c.ages) ∙ ap is_some t)
-    (sym (end_so NoMajority c.ages) ∙ ap is_some p)
-rank_by c status None None None None None d l f t p is = by_none is (record {
-  disk = sym (told_so DiskFault c.ages c.stop) ∙ ap is_some d;
+rank_by o status None None (Some m) turns split d l f t p is =
+    by_full is (sym (told_so DiskFault o.ages o.stop) ∙ ap is_some d) (ap is_some l)
+    (sym (told_so LogFull o.ages o.stop) ∙ ap is_some f)
+rank_by o status None None None (Some m) split d l f t p is =
+    by_turns is (sym (told_so DiskFault o.ages o.stop) ∙ ap is_some d) (ap is_some l)
+    (sym (told_so LogFull o.ages o.stop) ∙ ap is_some f) (sym (end_so Spent o.ages) ∙ ap is_some t)
+rank_by o status None None None None (Some m) d l f t p is =
+    by_split is (sym (told_so DiskFault o.ages o.stop) ∙ ap is_some d) (ap is_some l)
+    (sym (told_so LogFull o.ages o.stop) ∙ ap is_some f) (sym (end_so Spent o.ages) ∙ ap is_some t)
+    (sym (end_so NoMajority o.ages) ∙ ap is_some p)
+rank_by o status None None None None None d l f t p is = by_none is (record {
+  disk = sym (told_so DiskFault o.ages o.stop) ∙ ap is_some d;
   logs = ap is_some l;
-  full = sym (told_so LogFull c.ages c.stop) ∙ ap is_some f;
-  turns = sym (end_so Spent c.ages) ∙ ap is_some t;
-  split = sym (end_so NoMajority c.ages) ∙ ap is_some p;
+  full = sym (told_so LogFull o.ages o.stop) ∙ ap is_some f;
+  turns = sym (end_so Spent o.ages) ∙ ap is_some t;
+  split = sym (end_so NoMajority o.ages) ∙ ap is_some p;
 })
 
--- whether what is read of a text is a script
-abbrev is_script : Reading → Bool
-is_script (Reads s) = true
-is_script r = false
+-- the status behind the ages of a run
+run_rank : (o : Outcome) (status : ℕ) (line : Last) → last_of o.ages o.stop ≡ Some line
+    → status ≡ status_of line → Rank o status
+run_rank o status line is due =
+    rank_by o status (first_told DiskFault o.ages o.stop) (refusal_of o.stop)
+    (first_told LogFull o.ages o.stop)
+    (first_end Spent o.ages) (first_end NoMajority o.ages) refl refl refl refl refl
+    (due ∙ sym (ap status_of (line_behind o.ages o.stop line is).1))
 
--- a call whose text is no script
-refused_standing : (c : Call) (held holds : Option (List ℕ)) (fell falls status : ℕ) (last : Option Last)
-    (line : Last) → status_of line ≡ 3 → IsCommand c.words → (bytes : List ℕ) → WasRead c.old c.new bytes
-    → is_script (reading_of bytes) ≡ false
-    → RanNothing c.before c.after c.ages c.stop × (last ≡ Some line)
-    → WroteOrNot held holds fell falls status c.ages last → Standing c status
-refused_standing c held holds fell falls status last line three known bytes was other (nothing, is) wrote =
-    elim (said held holds fell falls status c.ages last line wrote is) [
+-- a command that did what it does, and whose last line is written
+done_standing : (c : Call) (held holds : Option (List ℕ)) (fell falls status : ℕ) (k : Command)
+    (bytes : List ℕ) → asked_by c.words ≡ Some k
+    → HasDone (Does k bytes) (ends_of k) c.before c.after c.outcome
+    → WroteOrNot held holds fell falls status c.outcome → (last : Option Last) → c.outcome.last ≡ last
+    → Standing c status
+done_standing c held holds fell falls status k bytes asked has wrote None is =
+    early (unsaid held holds fell falls status c.outcome wrote is)
+done_standing c held holds fell falls status k bytes asked has wrote (Some line) is =
+    elim (said held holds fell falls status c.outcome line wrote is) [
       | inl first ↦ early first
-      | inr due ↦ bad_script (due ∙ three) known
-          (bytes, was, λ s both. true≢false (sym (ap is_script both) ∙ other)) (quiet c nothing)
-    ]
-
--- a call whose script was read
-read_standing : (c : Call) (held holds : Option (List ℕ)) (fell falls status : ℕ) (last : Option Last)
-    (mode : Mode) (folder : Option (List ℕ)) → asked_by c.words ≡ Some (mode, folder) → (bytes : List ℕ)
-    → WasRead c.old c.new bytes → (r : Reading) → reading_of bytes ≡ r
-    → IsRunOver mode folder r c.before c.after c.ages c.stop last
-    → WroteOrNot held holds fell falls status c.ages last → Standing c status
-read_standing c held holds fell falls status last mode folder asked bytes was TooLongText is over wrote =
-    refused_standing c held holds fell falls status last lasts.TooLong refl (ap is_some asked) bytes was
-    (ap is_script is) over wrote
-read_standing c held holds fell falls status last mode folder asked bytes was NoJsonText is over wrote =
-    refused_standing c held holds fell falls status last lasts.NotJson refl (ap is_some asked) bytes was
-    (ap is_script is) over wrote
-read_standing c held holds fell falls status last mode folder asked bytes was
-    (Wrong rule path) is over wrote =
-    refused_standing c held holds fell falls status last (lasts.Rule rule path) refl (ap is_some asked) bytes
-    was (ap is_script is) over wrote
-read_standing c held holds fell falls status last mode folder asked bytes was (Reads script) is
-    (ran, line) wrote =
-    elim (cases_Bool (is_memory c.stop)) [
-      | inl wanting ↦ early (unsaid held holds fell falls status c.ages last wrote
-          (line ∙ ap (λ b. if b then None else Some told) wanting))
-      | inr ample ↦
-          elim (said held holds fell falls status c.ages last told wrote
-          (line ∙ ap (λ b. if b then None else Some told) ample)) [
-            | inl first ↦ early first
-            | inr due ↦ has_run
-                (record {
-                  mode = mode;
-                  folder = folder;
-                  asked = asked;
-                  script = script;
-                  is = (bytes, was, is);
-                  run = ran;
-                  ample = ample;
-                })
-                (rank_by c status (first_told DiskFault c.ages c.stop) (refusal_of c.stop)
-                (first_told LogFull c.ages c.stop) (first_end Spent c.ages) (first_end NoMajority c.ages) refl
-                refl refl refl refl due)
+      | inr due ↦
+          let known : Contains (ends_of k) status =
+          subst (Contains (ends_of k)) (sym due)
+          (subst (λ (l : Option Last). IfSome l (λ x. Contains (ends_of k) (status_of x))) is has.known) in
+          elim has.due [
+            | by_run told ↦ has_run k asked known (run_rank c.outcome status line (sym told ∙ is) due)
+            | unrun none unstopped tells ↦ has_not k asked known
+                (subst IsUnrun (sym due)
+                (subst (λ (l : Option Last). IfSome l (λ x. IsUnrun (status_of x))) is tells))
+                (quiet c.outcome none unstopped)
           ]
     ]
-  where
-    told : Last
-    told = last_by (first_told DiskFault c.ages c.stop) (refusal_of c.stop) (first_told LogFull c.ages c.stop)
-        (first_end Spent c.ages) (first_end NoMajority c.ages)
 
 -- a call that has been written
-pub standing_of : (c : Call) (held holds : Option (List ℕ)) (fell falls status : ℕ) (last : Option Last)
-    → IsCourse c last → WroteOrNot held holds fell falls status c.ages last → Standing c status
-standing_of c held holds fell falls status last course wrote = elim course [
-  | no_memory nothing is ↦ early (unsaid held holds fell falls status c.ages last wrote is)
-  | no_command other kept nothing is ↦
-      elim (said held holds fell falls status c.ages last _ wrote is) [
+pub standing_of : (c : Call) (held holds : Option (List ℕ)) (fell falls status : ℕ) → IsCourse c
+    → WroteOrNot held holds fell falls status c.outcome → Standing c status
+standing_of c held holds fell falls status course wrote = elim course [
+  | usage none kept alone ↦
+      elim (said held holds fell falls status c.outcome _ wrote alone.line) [
         | inl first ↦ early first
-        | inr due ↦ bad_words due other (quiet c nothing)
+        | inr due ↦ bad_words due none (quiet c.outcome alone.none alone.unstopped)
       ]
-  | no_source known rose nothing is ↦
-      elim (said held holds fell falls status c.ages last _ wrote is) [
+  | no_source k asked reading rose alone ↦
+      elim (said held holds fell falls status c.outcome _ wrote alone.line) [
         | inl first ↦ early first
-        | inr due ↦ bad_source due known rose (quiet c nothing)
+        | inr due ↦ bad_source due k asked reading rose (quiet c.outcome alone.none alone.unstopped)
       ]
-  | read mode folder asked bytes was over ↦
-      read_standing c held holds fell falls status last mode folder asked bytes was
-      (reading_of bytes) refl over
-      wrote
+  | no_memory k asked alone ↦ early (unsaid held holds fell falls status c.outcome wrote alone.line)
+  | done k asked bytes was has ↦
+      done_standing c held holds fell falls status k bytes asked has wrote c.outcome.last refl
+]
+
+-- a status behind which nothing was run is no other
+unrun_status : (status : ℕ) → IsUnrun status → ((status ≡ 0) ⊎ (status ≡ 3)) ⊎ (12 ≤ status)
+unrun_status status (zero, below, is) = inl (inl (sym is))
+unrun_status status (suc zero, below, is) = inl (inr (sym is))
+unrun_status status (suc (suc zero), below, is) = inr (omega (arith, is))
+unrun_status status (suc (suc (suc zero)), below, is) = inr (omega (arith, is))
+unrun_status status (suc (suc (suc (suc i))), below, is) = absurd (omega (arith, below))
+
+-- so it is none of those that tell of words, of a source and of a run
+not_unrun : (status : ℕ) → IsUnrun status → (status ≡ 0 → ⊥) → (status ≡ 3 → ⊥) → status < 12 → ⊥
+not_unrun status is zeroth third low = elim (unrun_status status is) [
+  | inl few ↦ elim few [ inl e ↦ zeroth e | inr e ↦ third e ]
+  | inr high ↦ omega (arith, low, high)
 ]
 
 in_early : (rest : List ℕ) (status : ℕ) → IsEarly status → Contains (10 ∷ 5 ∷ rest) status
@@ -234,8 +214,8 @@ late due status is ten five (inl e) = ten (sym is ∙ e)
 late due status is ten five (inr e) = five (sym is ∙ e)
 
 -- a status behind the ages is none of those without ages
-ranked : (c : Call) (status : ℕ) → Rank c status → 1 ≤ status → status ≤ 5 → ⊥
-ranked c status rank low high = elim rank [
+ranked : (o : Outcome) (status : ℕ) → Rank o status → 1 ≤ status → status ≤ 5 → ⊥
+ranked o status rank low high = elim rank [
   | by_disk e disk ↦ omega (arith, high, e)
   | by_logs e disk logs ↦ omega (arith, high, e)
   | by_full e disk logs full ↦ omega (arith, high, e)
@@ -245,26 +225,29 @@ ranked c status rank low high = elim rank [
 ]
 
 -- a high status tells of a run
-run_of : (c : Call) (due status : ℕ) → status ≡ due → 5 < due → (due ≡ 10 → ⊥) → Standing c status
-    → Ran c × Rank c status
-run_of c due status is above ten standing = elim standing [
+rank_of : (c : Call) (due status : ℕ) → status ≡ due → 5 < due → due < 12 → (due ≡ 10 → ⊥) → Standing c status
+    → Rank c.outcome status
+rank_of c due status is above below ten standing = elim standing [
   | early e ↦ absurd (late due status is ten (λ five. omega (arith, above, five)) e)
-  | bad_words e other calm ↦ absurd (omega (arith, above, is, e))
-  | bad_source e known rose calm ↦ absurd (omega (arith, above, is, e))
-  | bad_script e known bad calm ↦ absurd (omega (arith, above, is, e))
-  | has_run ran rank ↦ (ran, rank)
+  | bad_words e none calm ↦ absurd (omega (arith, above, is, e))
+  | bad_source e k asked reading rose calm ↦ absurd (omega (arith, above, is, e))
+  | has_run k asked known rank ↦ rank
+  | has_not k asked known few calm ↦
+      absurd (not_unrun status few (λ e. omega (arith, above, is, e)) (λ e. omega (arith, above, is, e))
+      (omega (arith, is, below)))
 ]
 
 -- what has come is told, unless something earlier is
 unless_of : (c : Call) (status due : ℕ) (rest : List ℕ) (test : Bool) → test ≡ true
-    → (IsQuiet c → test ≡ false) → (Rank c status → (status ≡ due) ⊎ Contains (10 ∷ 5 ∷ rest) status)
+    → (IsQuiet c.outcome → test ≡ false)
+    → (Rank c.outcome status → (status ≡ due) ⊎ Contains (10 ∷ 5 ∷ rest) status)
     → Standing c status → (status ≡ due) ⊎ Contains (10 ∷ 5 ∷ rest) status
 unless_of c status due rest test came silent ranks standing = elim standing [
   | early e ↦ inr (in_early rest status e)
-  | bad_words e other calm ↦ absurd (true≢false (sym came ∙ silent calm))
-  | bad_source e known rose calm ↦ absurd (true≢false (sym came ∙ silent calm))
-  | bad_script e known bad calm ↦ absurd (true≢false (sym came ∙ silent calm))
-  | has_run ran rank ↦ ranks rank
+  | bad_words e none calm ↦ absurd (true≢false (sym came ∙ silent calm))
+  | bad_source e k asked reading rose calm ↦ absurd (true≢false (sym came ∙ silent calm))
+  | has_run k asked known rank ↦ ranks rank
+  | has_not k asked known few calm ↦ absurd (true≢false (sym came ∙ silent calm))
 ]
 
 pub usage_of : {c : Call} {status : ℕ} → Standing c status
@@ -272,33 +255,27 @@ pub usage_of : {c : Call} {status : ℕ} → Standing c status
 usage_of {c} {status} standing = record {
   only = λ is. elim standing [
     | early e ↦ absurd (late 2 status is (λ e. omega (arith, e)) (λ e. omega (arith, e)) e)
-    | bad_words e other calm ↦ other
-    | bad_source e known rose calm ↦ absurd (omega (arith, is, e))
-    | bad_script e known bad calm ↦ absurd (omega (arith, is, e))
-    | has_run ran rank ↦ absurd (ranked c status rank (omega (arith, is)) (omega (arith, is)))
+    | bad_words e none calm ↦ λ known. true≢false (sym known ∙ ap is_some none)
+    | bad_source e k asked reading rose calm ↦ absurd (omega (arith, is, e))
+    | has_run k asked known rank ↦
+        absurd (ranked c.outcome status rank (omega (arith, is)) (omega (arith, is)))
+    | has_not k asked known few calm ↦
+        absurd (not_unrun status few (λ e. omega (arith, is, e)) (λ e. omega (arith, is, e))
+        (omega (arith, is)))
   ];
   unless = λ other. elim standing [
     | early e ↦ inr (in_early [] status e)
-    | bad_words e not calm ↦ inl e
-    | bad_source e known rose calm ↦ absurd (other known)
-    | bad_script e known bad calm ↦ absurd (other known)
-    | has_run ran rank ↦ absurd (other (ap is_some ran.asked))
+    | bad_words e none calm ↦ inl e
+    | bad_source e k asked reading rose calm ↦ absurd (other (ap is_some asked))
+    | has_run k asked known rank ↦ absurd (other (ap is_some asked))
+    | has_not k asked known few calm ↦ absurd (other (ap is_some asked))
   ];
 }
 
-pub refused_of : {c : Call} {status : ℕ} → Standing c status → status ≡ 3 → IsNoScript c.old c.new
-refused_of {c} {status} standing is = elim standing [
-  | early e ↦ absurd (late 3 status is (λ e. omega (arith, e)) (λ e. omega (arith, e)) e)
-  | bad_words e other calm ↦ absurd (omega (arith, is, e))
-  | bad_source e known rose calm ↦ absurd (omega (arith, is, e))
-  | bad_script e known bad calm ↦ bad
-  | has_run ran rank ↦ absurd (ranked c status rank (omega (arith, is)) (omega (arith, is)))
-]
-
 pub disk_fault_of : {c : Call} {status : ℕ} → Standing c status
-    → Exactly status 6 (10 ∷ 5 ∷ []) (IsTrue (some_so DiskFault c.ages c.stop))
+    → Exactly status 6 (10 ∷ 5 ∷ []) (IsTrue (some_so DiskFault c.outcome.ages c.outcome.stop))
 disk_fault_of {c} {status} standing = record {
-  only = λ is. elim (run_of c 6 status is (omega arith) (λ e. omega (arith, e)) standing).1 [
+  only = λ is. elim (rank_of c 6 status is (omega arith) (omega arith) (λ e. omega (arith, e)) standing) [
     | by_disk e disk ↦ disk
     | by_logs e disk logs ↦ absurd (omega (arith, is, e))
     | by_full e disk logs full ↦ absurd (omega (arith, is, e))
@@ -306,7 +283,8 @@ disk_fault_of {c} {status} standing = record {
     | by_split e disk logs full turns split ↦ absurd (omega (arith, is, e))
     | by_none e calm ↦ absurd (omega (arith, is, e))
   ];
-  unless = λ came. unless_of c status 6 [] (some_so DiskFault c.ages c.stop) came (λ calm. calm.disk)
+  unless = λ came. unless_of c status 6 [] (some_so DiskFault c.outcome.ages c.outcome.stop) came
+      (λ calm. calm.disk)
       (λ rank. elim rank [
         | by_disk e disk ↦ inl e
         | by_logs e disk logs ↦ absurd (true≢false (sym came ∙ disk))
@@ -318,9 +296,9 @@ disk_fault_of {c} {status} standing = record {
 }
 
 pub logs_refused_of : {c : Call} {status : ℕ} → Standing c status
-    → Exactly status 7 (10 ∷ 5 ∷ 6 ∷ []) (IsTrue (is_some (refusal_of c.stop)))
+    → Exactly status 7 (10 ∷ 5 ∷ 6 ∷ []) (IsTrue (is_some (refusal_of c.outcome.stop)))
 logs_refused_of {c} {status} standing = record {
-  only = λ is. elim (run_of c 7 status is (omega arith) (λ e. omega (arith, e)) standing).1 [
+  only = λ is. elim (rank_of c 7 status is (omega arith) (omega arith) (λ e. omega (arith, e)) standing) [
     | by_disk e disk ↦ absurd (omega (arith, is, e))
     | by_logs e disk logs ↦ logs
     | by_full e disk logs full ↦ absurd (omega (arith, is, e))
@@ -328,7 +306,8 @@ logs_refused_of {c} {status} standing = record {
     | by_split e disk logs full turns split ↦ absurd (omega (arith, is, e))
     | by_none e calm ↦ absurd (omega (arith, is, e))
   ];
-  unless = λ came. unless_of c status 7 (6 ∷ []) (is_some (refusal_of c.stop)) came (λ calm. calm.logs)
+  unless = λ came. unless_of c status 7 (6 ∷ []) (is_some (refusal_of c.outcome.stop)) came
+      (λ calm. calm.logs)
       (λ rank. elim rank [
         | by_disk e disk ↦ inr (2, omega arith, sym e)
         | by_logs e disk logs ↦ inl e
@@ -340,9 +319,9 @@ logs_refused_of {c} {status} standing = record {
 }
 
 pub log_full_of : {c : Call} {status : ℕ} → Standing c status
-    → Exactly status 11 (10 ∷ 5 ∷ 6 ∷ 7 ∷ []) (IsTrue (some_so LogFull c.ages c.stop))
+    → Exactly status 11 (10 ∷ 5 ∷ 6 ∷ 7 ∷ []) (IsTrue (some_so LogFull c.outcome.ages c.outcome.stop))
 log_full_of {c} {status} standing = record {
-  only = λ is. elim (run_of c 11 status is (omega arith) (λ e. omega (arith, e)) standing).1 [
+  only = λ is. elim (rank_of c 11 status is (omega arith) (omega arith) (λ e. omega (arith, e)) standing) [
     | by_disk e disk ↦ absurd (omega (arith, is, e))
     | by_logs e disk logs ↦ absurd (omega (arith, is, e))
     | by_full e disk logs full ↦ full
@@ -350,7 +329,7 @@ log_full_of {c} {status} standing = record {
     | by_split e disk logs full turns split ↦ absurd (omega (arith, is, e))
     | by_none e calm ↦ absurd (omega (arith, is, e))
   ];
-  unless = λ came. unless_of c status 11 (6 ∷ 7 ∷ []) (some_so LogFull c.ages c.stop) came
+  unless = λ came. unless_of c status 11 (6 ∷ 7 ∷ []) (some_so LogFull c.outcome.ages c.outcome.stop) came
       (λ calm. calm.full)
       (λ rank. elim rank [
         | by_disk e disk ↦ inr (2, omega arith, sym e)
@@ -363,9 +342,9 @@ log_full_of {c} {status} standing = record {
 }
 
 pub unfinished_of : {c : Call} {status : ℕ} → Standing c status
-    → Exactly status 8 (10 ∷ 5 ∷ 6 ∷ 7 ∷ 11 ∷ []) (IsTrue (some_end Spent c.ages))
+    → Exactly status 8 (10 ∷ 5 ∷ 6 ∷ 7 ∷ 11 ∷ []) (IsTrue (some_end Spent c.outcome.ages))
 unfinished_of {c} {status} standing = record {
-  only = λ is. elim (run_of c 8 status is (omega arith) (λ e. omega (arith, e)) standing).1 [
+  only = λ is. elim (rank_of c 8 status is (omega arith) (omega arith) (λ e. omega (arith, e)) standing) [
     | by_disk e disk ↦ absurd (omega (arith, is, e))
     | by_logs e disk logs ↦ absurd (omega (arith, is, e))
     | by_full e disk logs full ↦ absurd (omega (arith, is, e))
@@ -373,7 +352,8 @@ unfinished_of {c} {status} standing = record {
     | by_split e disk logs full turns split ↦ absurd (omega (arith, is, e))
     | by_none e calm ↦ absurd (omega (arith, is, e))
   ];
-  unless = λ came. unless_of c status 8 (6 ∷ 7 ∷ 11 ∷ []) (some_end Spent c.ages) came (λ calm. calm.turns)
+  unless = λ came. unless_of c status 8 (6 ∷ 7 ∷ 11 ∷ []) (some_end Spent c.outcome.ages) came
+      (λ calm. calm.turns)
       (λ rank. elim rank [
         | by_disk e disk ↦ inr (2, omega arith, sym e)
         | by_logs e disk logs ↦ inr (3, omega arith, sym e)
@@ -385,9 +365,9 @@ unfinished_of {c} {status} standing = record {
 }
 
 pub no_majority_of : {c : Call} {status : ℕ} → Standing c status
-    → Exactly status 9 (10 ∷ 5 ∷ 6 ∷ 7 ∷ 11 ∷ 8 ∷ []) (IsTrue (some_end NoMajority c.ages))
+    → Exactly status 9 (10 ∷ 5 ∷ 6 ∷ 7 ∷ 11 ∷ 8 ∷ []) (IsTrue (some_end NoMajority c.outcome.ages))
 no_majority_of {c} {status} standing = record {
-  only = λ is. elim (run_of c 9 status is (omega arith) (λ e. omega (arith, e)) standing).1 [
+  only = λ is. elim (rank_of c 9 status is (omega arith) (omega arith) (λ e. omega (arith, e)) standing) [
     | by_disk e disk ↦ absurd (omega (arith, is, e))
     | by_logs e disk logs ↦ absurd (omega (arith, is, e))
     | by_full e disk logs full ↦ absurd (omega (arith, is, e))
@@ -395,7 +375,7 @@ no_majority_of {c} {status} standing = record {
     | by_split e disk logs full turns split ↦ split
     | by_none e calm ↦ absurd (omega (arith, is, e))
   ];
-  unless = λ came. unless_of c status 9 (6 ∷ 7 ∷ 11 ∷ 8 ∷ []) (some_end NoMajority c.ages) came
+  unless = λ came. unless_of c status 9 (6 ∷ 7 ∷ 11 ∷ 8 ∷ []) (some_end NoMajority c.outcome.ages) came
       (λ calm. calm.split)
       (λ rank. elim rank [
         | by_disk e disk ↦ inr (2, omega arith, sym e)
@@ -407,110 +387,50 @@ no_majority_of {c} {status} standing = record {
       ]) standing;
 }
 
--- the ages of a run, over whatever disks
-ages_of : (mode : Mode) (folder : Option (List ℕ)) (script : Script) (before after : YardState) (ages : List AgeEnd)
-    (stop : Option Stop) → HasRun mode folder script before after ages stop
-    → (from : YardState) × (to : YardState) × AreAges script mode 0 from ages to
-ages_of mode (Some name) script before after ages stop run = (before, run.last, run.course)
-ages_of mode None script before after ages stop run = (empty_yard, run.1.run.last, run.1.run.course)
-
--- a script whose members spend their turns gives them too little time
-pub untimely_of : {c : Call} {status : ℕ} → Standing c status → (folder : Option (List ℕ))
-    → asked_by c.words ≡ Some (Sim, folder) → status ≡ 8
-    → (s : Script) × IsScript c.old c.new s × (HasTime s → ⊥)
-untimely_of {c} {status} standing folder asked is =
-    let has = run_of c 8 status is (omega arith) (λ e. omega (arith, e)) standing in
-    let ran = has.0 in
-    let course = ages_of ran.mode ran.folder ran.script c.before c.after c.ages c.stop ran.run in
-    elim has.1 [
-      | by_disk e disk ↦ absurd (omega (arith, is, e))
-      | by_logs e disk logs ↦ absurd (omega (arith, is, e))
-      | by_full e disk logs full ↦ absurd (omega (arith, is, e))
-      | by_turns e disk logs full turns ↦ (
-        ran.script,
-        ran.is,
-        λ time. true≢false (sym turns ∙ none_spent ran.script ran.mode 0 course.0 course.1 c.ages course.2
-            (ap (λ (p : Mode × Option (List ℕ)). p.0)
-            (same_Some (ran.mode, ran.folder) (Sim, folder) (sym ran.asked ∙ asked))) time
-            (or_parts (some_end DiskFault c.ages) (is_some (stopped_by DiskFault c.stop)) disk).0
-            (or_parts (some_end LogFull c.ages) (is_some (stopped_by LogFull c.stop)) full).0),
-      )
-      | by_split e disk logs full turns split ↦ absurd (omega (arith, is, e))
-      | by_none e calm ↦ absurd (omega (arith, is, e))
-    ]
-
--- a script whose members are left without a majority has them suspect others
-pub untrusting_of : {c : Call} {status : ℕ} → Standing c status → status ≡ 9
-    → (s : Script) × IsScript c.old c.new s × (SuspectsNobody s → ⊥)
-untrusting_of {c} {status} standing is =
-    let has = run_of c 9 status is (omega arith) (λ e. omega (arith, e)) standing in
-    let ran = has.0 in
-    let course = ages_of ran.mode ran.folder ran.script c.before c.after c.ages c.stop ran.run in
-    elim has.1 [
-      | by_disk e disk ↦ absurd (omega (arith, is, e))
-      | by_logs e disk logs ↦ absurd (omega (arith, is, e))
-      | by_full e disk logs full ↦ absurd (omega (arith, is, e))
-      | by_turns e disk logs full turns ↦ absurd (omega (arith, is, e))
-      | by_split e disk logs full turns split ↦ (
-        ran.script,
-        ran.is,
-        λ trusting. true≢false (sym split
-            ∙ none_split ran.script ran.mode 0 course.0 course.1 c.ages course.2 trusting),
-      )
-      | by_none e calm ↦ absurd (omega (arith, is, e))
-    ]
-
--- the status of each call is one of these
-pub status_known : {c : Call} {status : ℕ} → Standing c status
-    → Contains (0 ∷ 2 ∷ 3 ∷ 4 ∷ 5 ∷ 6 ∷ 7 ∷ 8 ∷ 9 ∷ 10 ∷ 11 ∷ []) status
-status_known {c} {status} standing = elim standing [
-  | early e ↦ elim e [ inl e ↦ (9, omega arith, sym e) | inr e ↦ (4, omega arith, sym e) ]
-  | bad_words e other calm ↦ (1, omega arith, sym e)
-  | bad_source e known rose calm ↦ (3, omega arith, sym e)
-  | bad_script e known bad calm ↦ (2, omega arith, sym e)
-  | has_run ran rank ↦ elim rank [
-    | by_disk e disk ↦ (5, omega arith, sym e)
-    | by_logs e disk logs ↦ (6, omega arith, sym e)
-    | by_full e disk logs full ↦ (10, omega arith, sym e)
-    | by_turns e disk logs full turns ↦ (7, omega arith, sym e)
-    | by_split e disk logs full turns split ↦ (8, omega arith, sym e)
-    | by_none e calm ↦ (0, omega arith, sym e)
-  ]
+-- a source that was not read had failed
+pub read_fault_of : {c : Call} {status : ℕ} → Standing c status → status ≡ 4 → Rose c.failed c.fails
+read_fault_of {c} {status} standing is = elim standing [
+  | early e ↦ absurd (late 4 status is (λ e. omega (arith, e)) (λ e. omega (arith, e)) e)
+  | bad_words e none calm ↦ absurd (omega (arith, is, e))
+  | bad_source e k asked reading rose calm ↦ rose
+  | has_run k asked known rank ↦ absurd (ranked c.outcome status rank (omega (arith, is)) (omega (arith, is)))
+  | has_not k asked known few calm ↦
+      absurd (not_unrun status few (λ e. omega (arith, is, e)) (λ e. omega (arith, is, e))
+      (omega (arith, is)))
 ]
 
--- and one of these where the words name no folder
-pub memory_status : {c : Call} {status : ℕ} → Standing c status → (mode : Mode)
-    → asked_by c.words ≡ Some (mode, None) → Contains (0 ∷ 3 ∷ 4 ∷ 5 ∷ 8 ∷ 9 ∷ 10 ∷ []) status
-memory_status {c} {status} standing mode asked = elim standing [
-  | early e ↦ elim e [ inl e ↦ (6, omega arith, sym e) | inr e ↦ (3, omega arith, sym e) ]
-  | bad_words e other calm ↦ absurd (other (ap is_some asked))
-  | bad_source e known rose calm ↦ (2, omega arith, sym e)
-  | bad_script e known bad calm ↦ (1, omega arith, sym e)
-  | has_run ran rank ↦ elim rank [
-    | by_disk e disk ↦
-        absurd (true≢false (sym disk ∙ memory_holds ran.script ran.mode c.ages c.stop (in_memory ran) ran.ample))
-    | by_logs e disk logs ↦
-        absurd (true≢false (sym logs ∙ memory_accepts ran.script ran.mode c.ages c.stop (in_memory ran)))
-    | by_full e disk logs full ↦
-        absurd (true≢false (sym full ∙ memory_has_room ran.script ran.mode c.ages c.stop (in_memory ran)))
-    | by_turns e disk logs full turns ↦ (4, omega arith, sym e)
-    | by_split e disk logs full turns split ↦ (5, omega arith, sym e)
-    | by_none e calm ↦ (0, omega arith, sym e)
-  ]
-]
+-- the status of each call is one of those that its words allow
+of_command : (k : Command) (asked : Option Command) → asked ≡ Some k → (status : ℕ)
+    → Contains (ends_of k) status → Contains (statuses_of asked) status
+of_command k asked is status known =
+    subst (λ a. Contains (statuses_of a) status) (sym is)
+    (contains_more 10 (5 ∷ told_by (Some k)) status
+    (contains_more 5 (told_by (Some k)) status (by (reads k))))
   where
-    in_memory : (ran : Ran c) → IsRunInMemory ran.script ran.mode c.ages c.stop
-    in_memory ran =
-        (subst (λ folder. HasRun ran.mode folder ran.script c.before c.after c.ages c.stop)
-        (ap (λ (p : Mode × Option (List ℕ)). p.1)
-        (same_Some (ran.mode, ran.folder) (mode, None) (sym ran.asked ∙ asked))) ran.run).1
+    by : (b : Bool) → Contains (if b then 4 ∷ ends_of k else ends_of k) status
+    by true = contains_more 4 (ends_of k) status known
+    by false = known
+
+pub status_known : {c : Call} {status : ℕ} → Standing c status
+    → Contains (statuses_of (asked_by c.words)) status
+status_known {c} {status} standing = elim standing [
+  | early e ↦ in_early (told_by (asked_by c.words)) status e
+  | bad_words e none calm ↦
+      subst (λ a. Contains (statuses_of a) status) (sym none) (2, omega arith, sym e)
+  | bad_source e k asked reading rose calm ↦
+      subst (λ a. Contains (statuses_of a) status) (sym asked)
+      (subst (λ (b : Bool). Contains (10 ∷ 5 ∷ (if b then 4 ∷ ends_of k else ends_of k)) status) (sym reading)
+      (2, omega arith, sym e))
+  | has_run k asked known rank ↦ of_command k (asked_by c.words) asked status known
+  | has_not k asked known few calm ↦ of_command k (asked_by c.words) asked status known
+]
 
 -- a source that failed is told by the status, unless an earlier one is
-pub fault_told : (held holds : Option (List ℕ)) (fell falls status : ℕ) (ages : List AgeEnd)
-    (last : Option Last) (line : Last) → last ≡ Some line → status_of line ≡ 4
-    → WroteOrNot held holds fell falls status ages last → Contains (4 ∷ 10 ∷ 5 ∷ []) status
-fault_told held holds fell falls status ages last line is four wrote =
-    elim (said held holds fell falls status ages last line wrote is) [
+pub fault_told : (held holds : Option (List ℕ)) (fell falls status : ℕ) (o : Outcome) (line : Last)
+    → o.last ≡ Some line → status_of line ≡ 4 → WroteOrNot held holds fell falls status o
+    → Contains (4 ∷ 10 ∷ 5 ∷ []) status
+fault_told held holds fell falls status o line is four wrote =
+    elim (said held holds fell falls status o line wrote is) [
       | inl first ↦ elim first [ inl e ↦ (1, omega arith, sym e) | inr e ↦ (2, omega arith, sym e) ]
       | inr due ↦ (0, omega arith, sym (due ∙ four))
     ]

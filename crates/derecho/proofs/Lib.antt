@@ -1,2 +1,2 @@
-pub mod Refused
+pub mod Fronts
 pub mod Course

@@ -11,6 +11,7 @@ use dr_pace::SnoozePace;
 use dr_yard::FileYard;
 use std::process::ExitCode;
 pub use top::{Ended, derecho};
+pub use words::Command;
 
 #[cfg(test)]
 mod tests;

@@ -1,30 +1,26 @@
-ghost use Rattle.std.specs.Prelude.{◌≡◌, ◌≢◌, ◌<◌, ◌⊎◌, ℕ, List, [], ◌∷◌, Option, Some, None, Contains, IsTrue, false, is_some};
-ghost use Rattle.dr_ages.specs.declared.mode.Mode.{Mode};
-ghost use Rattle.dr_ages.specs.declared.mode.Mode.TheVariants.{Sim};
-ghost use Rattle.dr_intake.specs.Reading.{IsNoScript, IsScript};
-ghost use Rattle.dr_complete.specs.Time.{HasTime};
+ghost use Rattle.std.specs.Prelude.{◌≡◌, ◌<◌, ◌⊎◌, ◌++◌, ℕ, [], ◌∷◌, Contains, IfOk, IsTrue, false, is_some, string_bytes};
 ghost use Rattle.dr_entry.specs.declared.limits.TheConstants.{MAX_MEMBERS};
+ghost use Rattle.dr_intake.specs.Status.{status_of};
 ghost use Rattle.dr_io.specs.Faults.{Rose};
 ghost use Rattle.dr_io.specs.Sink.{Gains};
-ghost use Rattle.dr_program_laws.specs.Trusting.{SuspectsNobody};
-ghost use Rattle.dr_script.specs.declared.script.Script.{Script};
-ghost use Rattle.dr_text.specs.declared.last.Last.{Last};
+ghost use Rattle.dr_text.specs.Report.{last_text, report_text};
 ghost use Rattle.dr_yard.specs.Yards.{state_by};
 ghost use Rattle.dr_outcome.specs.declared.last.Kind.TheVariants.{DiskFault, LogFull, NoMajority, Spent};
+ghost use Rattle.dr_outcome.specs.declared.outcome.Outcome.{Outcome as OutcomeOf};
 ghost use Rattle.dr_outcome.specs.Last.{refusal_of, some_end, some_so};
-ghost use Rattle.derecho.specs.Outcome.{Course, Exactly, WroteOrNot};
-ghost use Rattle.derecho.specs.Words.{IsCommand, asked_by};
+ghost use Rattle.derecho.specs.Outcome.{Course, Exactly, IsWritten, WroteOrNot};
+ghost use Rattle.derecho.specs.Words.{IsCommand, asked_by, statuses_of};
 
 use crate::outcome::outcome_of;
 use dr_ages::Stop;
 use dr_entry::{AgeEnd, Seq};
-use dr_intake::{OUT_OF_MEMORY, WRITE_FAULT, status_of};
+use dr_intake::{Answer, OUT_OF_MEMORY, WRITE_FAULT, status_of};
 use dr_io::{Sink, Source};
-use dr_outcome::Outcome;
+use dr_outcome::{Body, Outcome};
 use dr_pace::Pace;
-use dr_text::{Last, Report};
+use dr_text::{Last, Report, push_last};
 use dr_yard::Yard;
-use std::alloc::Global;
+use std::alloc::{AllocError, Global};
 use std::thread::Threads;
 
 /// How a call ended: its status, the ages that ran to their end, and what ended the run in the age behind
@@ -56,25 +52,26 @@ pub fn derecho<R: Threads + Sync, S: Source, K: Sink, Y: Yard, P: Pace + Sync>(
     requires here { (m : ℕ) → m < MAX_MEMBERS → Y.is_lent yard.old m ≡ false }
     ensures here { (m : ℕ) → m < MAX_MEMBERS → Y.is_lent yard.new m ≡ false }
 
-    // What was read, what was run, and what was written: the report of just these ages. Where a script was
+    // What was read, what was run, and what was written: `Does` says it of each command. Where a script was
     // run, `IsRunOf` says of its ages that each is a run of the script's program, by its schedule or in
     // threads, that its members agree, when they are complete, and that it keeps all that was durable in the
-    // ages before.
-    ensures course { (last : Option Last)
+    // ages before; and `HasPlayed` why the last line is what it is.
+    ensures course { (o : OutcomeOf)
         × Course words.now (S.left source.old) (S.left source.new)
         (S.faults source.old) (S.faults source.new) (state_by Y.told Y.faults yard.old)
-        (state_by Y.told Y.faults yard.new) result.ages result.stop last
+        (state_by Y.told Y.faults yard.new) o
         × WroteOrNot (K.held sink.old) (K.held sink.new)
-        (K.faults sink.old) (K.faults sink.new) result.status result.ages last }
+        (K.faults sink.old) (K.faults sink.new) result.status o
+        × (result.ages ≡ o.ages) × (result.stop ≡ o.stop) }
     ensures given_up { result.status ≡ 10 → Gains (K.held sink.old) (K.held sink.new) [] }
 
-    // Where each status comes: 2 for words, 3 for a script, 4 for a read, 5 for a write, 6 for a disk, 7 for
-    // logs, 8 for turns that were spent, 9 for a member without a majority of its view, 10 for memory, 11 for
-    // a full log, and else 0. Where several apply, the first of 10, 5, 2, 4, 3, 6, 7, 11, 8, 9 is taken. Over
-    // disks in memory 6, 7 and 11 don't come.
-    ensures statuses { Contains (0 ∷ 2 ∷ 3 ∷ 4 ∷ 5 ∷ 6 ∷ 7 ∷ 8 ∷ 9 ∷ 10 ∷ 11 ∷ []) result.status }
+    // Where each status comes: 2 for words, 3 for what was read, 4 for a read, 5 for a write, 6 for a disk,
+    // 7 for logs, 8 for turns that were spent, 9 for a member without a majority of its view, 10 for memory,
+    // 11 for a full log, and else 0. Where several apply, the first of 10, 5, 2, 4, 3, 6, 7, 11, 8, 9 is taken.
+    // The table `ends_of` says which of them a command may come to: over disks in memory 6, 7 and 11 don't
+    // come.
+    ensures statuses { Contains (statuses_of (asked_by words.now)) result.status }
     ensures usage { Exactly result.status 2 (10 ∷ 5 ∷ []) (¬ IsCommand words.now) }
-    ensures refused { result.status ≡ 3 → IsNoScript (S.left source.old) (S.left source.new) }
     ensures read_fault { result.status ≡ 4 → Rose (S.faults source.old) (S.faults source.new) }
     ensures write_fault { result.status ≡ 5 → Rose (K.faults sink.old) (K.faults sink.new) }
     ensures read_fault_told { (S.faults source.new ≡ S.faults source.old)
@@ -90,15 +87,6 @@ pub fn derecho<R: Threads + Sync, S: Source, K: Sink, Y: Yard, P: Pace + Sync>(
         (IsTrue (some_end Spent result.ages)) }
     ensures no_majority { Exactly result.status 9 (10 ∷ 5 ∷ 6 ∷ 7 ∷ 11 ∷ 8 ∷ [])
         (IsTrue (some_end NoMajority result.ages)) }
-    // A simulation that spends the turns of a member had too few of them. Of threads nothing is said.
-    ensures untimely { (folder : Option (List ℕ)) → asked_by words.now ≡ Some (Sim, folder)
-        → result.status ≡ 8
-        → (s : Script) × IsScript (S.left source.old) (S.left source.new) s × ¬ HasTime s }
-    // A member without a majority had a reason to suspect others.
-    ensures untrusting { result.status ≡ 9
-        → (s : Script) × IsScript (S.left source.old) (S.left source.new) s × ¬ SuspectsNobody s }
-    ensures in_memory { (mode : Mode) → asked_by words.now ≡ Some (mode, None)
-        → Contains (0 ∷ 3 ∷ 4 ∷ 5 ∷ 8 ∷ 9 ∷ 10 ∷ []) result.status }
 {
     let outcome = outcome_of(rt, alloc, words, source, yard, pace);
     let status = tell(alloc, &outcome, sink);
@@ -109,20 +97,54 @@ pub fn derecho<R: Threads + Sync, S: Source, K: Sink, Y: Yard, P: Pace + Sync>(
     }
 }
 
-/// Writes the report of what a call has come to, and answers the status.
+/// Writes the text of what a call has come to, and answers the status.
 fn tell<K: Sink>(alloc: Global, outcome: &Outcome, sink: &mut K) -> u8
     ensures wrote { WroteOrNot (K.held sink.old) (K.held sink.new)
-        (K.faults sink.old) (K.faults sink.new) result outcome.now.ages outcome.now.last }
+        (K.faults sink.old) (K.faults sink.new) result outcome.now }
     ensures told { (K.faults sink.new ≡ K.faults sink.old) ⊎ (result ≡ 5) }
 {
     let Some(last) = &outcome.last else {
         return OUT_OF_MEMORY;
     };
-    let Ok(text) = Report::of(alloc, outcome.ages.as_slice(), last) else {
+    match &outcome.body {
+        Body::Report => tell_report(alloc, outcome.ages.as_slice(), last, sink),
+        Body::Text(text) => tell_text(alloc, text.as_str(), last, sink),
+    }
+}
+
+/// Writes the report of these ages.
+fn tell_report<K: Sink>(alloc: Global, ages: &[AgeEnd], last: &Last, sink: &mut K) -> u8
+    ensures wrote { IsWritten (K.held sink.old) (K.held sink.new) (K.faults sink.old) (K.faults sink.new)
+        result (status_of last.now) (report_text ages.now last.now) }
+    ensures told { (K.faults sink.new ≡ K.faults sink.old) ⊎ (result ≡ 5) }
+{
+    let Ok(text) = Report::of(alloc, ages, last) else {
         return OUT_OF_MEMORY;
     };
     match text.write_to(sink) {
         Ok(()) => status_of(last),
         Err(_) => WRITE_FAULT,
     }
+}
+
+/// Writes a text, with the last line behind it.
+fn tell_text<K: Sink>(alloc: Global, text: &str, last: &Last, sink: &mut K) -> u8
+    ensures wrote { IsWritten (K.held sink.old) (K.held sink.new) (K.faults sink.old) (K.faults sink.new)
+        result (status_of last.now) (text.now ++ last_text last.now) }
+    ensures told { (K.faults sink.new ≡ K.faults sink.old) ⊎ (result ≡ 5) }
+{
+    let Ok(text) = with_last(alloc, text, last) else {
+        return OUT_OF_MEMORY;
+    };
+    let status = status_of(last);
+    Answer { text, status }.write(sink)
+}
+
+/// A text with the last line behind it.
+fn with_last(alloc: Global, text: &str, last: &Last) -> Result<String, AllocError>
+    ensures { IfOk result (λ whole. string_bytes whole ≡ text.now ++ last_text last.now) }
+{
+    let mut whole = String::from_str(alloc, text)?;
+    push_last(&mut whole, last)?;
+    Ok(whole)
 }

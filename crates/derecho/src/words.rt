@@ -1,57 +1,76 @@
 ghost use Rattle.std.specs.Prelude.{◌≡◌, map, option_map, string_bytes};
-ghost use Rattle.derecho.specs.Words.{command_of, folder_behind, folder_word, mode_of};
+ghost use Rattle.derecho.specs.Words.{behind, command_of, option_of, own_word, play_of, value_in};
 
 use dr_ages::Mode;
+use dr_outcome::Play;
 
 /// What the words of a call ask for.
 #[derive(Debug, Drop)]
-pub(crate) struct Command<'a> {
-    pub mode: Mode,
-    /// The folder of the logs. Without one they are kept in memory.
-    pub folder: Option<&'a str>,
+pub enum Command<'a> {
+    /// To play the script on the source.
+    Play(Play<'a>),
 }
 
 /// What the words ask for, where they are those of a command.
 pub(crate) fn command_of(words: &[String]) -> Option<Command<'_>>
-    ensures { option_map (λ c. (c.mode, option_map (λ f. f.now) c.folder)) result
-        ≡ command_of (map string_bytes words.now) }
+    ensures { result ≡ command_of (map string_bytes words.now) }
 {
-    let (word, folder) = match words {
-        [word] => (word, None),
-        [word, option] => (word, Some(folder_behind(option.as_str())?)),
-        [word, option, folder] if option.as_str() == "--logs" => {
-            (word, Some(folder_word(folder.as_str())?))
-        }
-        _ => return None,
+    let [word, rest @ ..] = words else {
+        return None;
     };
-    let mode = mode_of(word.as_str())?;
-    Some(Command { mode, folder })
-}
-
-/// The mode that a word names.
-fn mode_of(word: &str) -> Option<Mode>
-    ensures { result ≡ mode_of word.now }
-{
-    match word {
-        "sim" => Some(Mode::Sim),
-        "run" => Some(Mode::Run),
+    match word.as_str() {
+        "sim" => play_of(Mode::Sim, rest),
+        "run" => play_of(Mode::Run, rest),
         _ => None,
     }
 }
 
-/// The folder that a word of its own names: one that is not empty and does not begin with a dash.
-fn folder_word(word: &str) -> Option<&str>
-    ensures { option_map (λ f. f.now) result ≡ folder_word word.now }
+/// What the words behind a mode ask for.
+fn play_of(mode: Mode, words: &[String]) -> Option<Command<'_>>
+    ensures { result ≡ play_of mode (map string_bytes words.now) }
+{
+    let (folder, rest) = option_of("--logs", words)?;
+    rest.is_empty()
+        .then_some(Command::Play(Play { mode, folder }))
+}
+
+/// The value of the option with this name, if the words begin with one, and the words behind it. Nothing
+/// where the option has no value.
+fn option_of<'a>(name: &str, words: &'a [String]) -> Option<(Option<&'a str>, &'a [String])>
+    ensures { option_map
+        (λ found. (option_map (λ value. value.now) found.0, map string_bytes found.1.now)) result
+        ≡ option_of name.now (map string_bytes words.now) }
+{
+    match words {
+        [word, value, rest @ ..] if word.as_str() == name => {
+            Some((Some(own_word(value.as_str())?), rest))
+        }
+        [word, rest @ ..] => match value_in(name, word.as_str()) {
+            Some(value) => Some((Some(value), rest)),
+            None => Some((None, words)),
+        },
+        [] => Some((None, words)),
+    }
+}
+
+/// The value that a word of its own is: one that is not empty and does not begin with a dash.
+fn own_word(word: &str) -> Option<&str>
+    ensures { option_map (λ value. value.now) result ≡ own_word word.now }
 {
     (!word.is_empty() && !word.starts_with('-')).then_some(word)
 }
 
-/// The folder that `--logs=` names: one that is not empty.
-fn folder_behind(word: &str) -> Option<&str>
-    ensures { option_map (λ f. f.now) result ≡ folder_behind word.now }
+/// What stands in a word behind the name and `=`, where that is something.
+fn value_in<'a>(name: &str, word: &'a str) -> Option<&'a str>
+    ensures { option_map (λ value. value.now) result ≡ value_in name.now word.now }
 {
-    match word.strip_prefix("--logs=") {
-        Some(folder) if !folder.is_empty() => Some(folder),
-        _ => None,
-    }
+    let value = behind("=", behind(name, word)?)?;
+    (!value.is_empty()).then_some(value)
+}
+
+/// What stands behind this front of a word, where the word begins with it.
+fn behind<'a>(front: &str, word: &'a str) -> Option<&'a str>
+    ensures { option_map (λ rest. rest.now) result ≡ behind front.now word.now }
+{
+    word.strip_prefix(front)
 }

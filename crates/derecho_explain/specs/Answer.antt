@@ -5,8 +5,7 @@ use Rattle.std.specs.List.{concat}
 use Rattle.std.specs.Option.{option_map_or}
 use Rattle.std.specs.declared.alloc.Global.{Global}
 use Rattle.dr_enough.specs.Enough.{turns_enough}
-use Rattle.dr_intake.specs.Answer as intake
-use Rattle.dr_intake.specs.Answer.{ToldBy}
+use Rattle.dr_intake.specs.Answer.{IsAnswerBy, Said, ToldBy}
 use Rattle.dr_intake.specs.Reading.{refusal_in}
 use Rattle.dr_intake.specs.Status.{status_of}
 use Rattle.dr_script.specs.declared.script.Script.{Script}
@@ -43,10 +42,10 @@ usage_text = codes "usage: derecho_explain < SCRIPT\n"
 
 -- what a call has to say, and the status that is due, by its words and by what its source had left and then
 -- has
-abbrev pub IsAnswer : List (String Global) → Option (List ℕ) → Option (List ℕ) → ℕ → ℕ → List ℕ → ℕ → Type 0
-IsAnswer = intake.IsAnswer usage_text IsAnswerFor
+abbrev pub IsAnswer : List (String Global) → Option (List ℕ) → Option (List ℕ) → ℕ → ℕ → Said → Type 0
+IsAnswer = IsAnswerBy usage_text (λ reading text status. IsAnswerFor reading text status)
 
 -- memory was wanting and nothing was written, or an answer was
 abbrev pub Told : List (String Global) → Option (List ℕ) → Option (List ℕ) → ℕ → ℕ → Option (List ℕ)
     → Option (List ℕ) → ℕ → ℕ → ℕ → Type 0
-Told = ToldBy usage_text IsAnswerFor
+Told words old new failed fails = ToldBy (IsAnswer words old new failed fails)

@@ -46,14 +46,13 @@ fn answer_to<S: Source>(
     source: &mut S,
 ) -> Result<Answer, AllocError>
     ensures answer { IfOk result (λ a. IsAnswer words.now (S.left source.old) (S.left source.new)
-        (S.faults source.old) (S.faults source.new) (string_bytes a.text) a.status) }
+        (S.faults source.old) (S.faults source.new) (string_bytes a.text, a.status)) }
     ensures told { IfOk result
         (λ a. (S.faults source.new ≡ S.faults source.old) ⊎ (a.status ≡ 4)) }
 {
     match bytes_or_answer(alloc, "usage: derecho_explain < SCRIPT\n", words, source) {
         Ok(bytes) => answer_for(alloc, &bytes),
-        Err(Some(answer)) => Ok(answer),
-        Err(None) => Err(AllocError),
+        Err(answer) => answer.ok_or(AllocError),
     }
 }
 

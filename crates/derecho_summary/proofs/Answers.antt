@@ -6,7 +6,7 @@ use Rattle.dr_ages.specs.declared.mode.Mode.TheVariants.{Sim}
 use Rattle.dr_ages.specs.declared.stop.Stop.{Stop}
 use Rattle.dr_entry.specs.declared.end.AgeEnd.{AgeEnd}
 use Rattle.dr_intake.specs.declared.answer.Answer.{Answer}
-use Rattle.dr_intake.specs.Answer.{no_source, read, unread, usage}
+use Rattle.dr_intake.specs.Answer.{done, no_memory, no_source, usage}
 use Rattle.dr_intake.specs.Reading.{refusal_in}
 use Rattle.dr_intake.specs.Status.{WroteText, status_of}
 use Rattle.dr_outcome.proofs.Runs.{memory_lasts}
@@ -87,17 +87,18 @@ answer_known (Reads script) text status is =
     (run_known (status_of is.last) (memory_lasts script Sim is.ages is.stop is.last is.run is.line))
 
 due_known : (words : List (String Global)) (old new : Option (List ℕ)) (failed fails : ℕ) (text : List ℕ)
-    (status : ℕ) → IsAnswer words old new failed fails text status → IsKnown status
+    (status : ℕ) → IsAnswer words old new failed fails (text, status) → IsKnown status
 due_known words old new failed fails text status answer = elim answer [
-  | unread (usage some kept said due) ↦ (1, omega arith, sym due)
-  | unread (no_source none rose said due) ↦ (3, omega arith, sym due)
-  | read none bytes was is ↦ answer_known (reading_of bytes) text status is
+  | usage none kept said ↦ (1, omega arith, sym said.1)
+  | no_source k asked reads rose said ↦ (3, omega arith, sym said.1)
+  | no_memory k asked said ↦ absurd said
+  | done k asked bytes was is ↦ answer_known (reading_of bytes) text status is
 ]
 
 -- so is the status that is left by the sink
 pub wrote_known : (words : List (String Global)) (old new : Option (List ℕ)) (failed fails : ℕ)
     (held holds : Option (List ℕ)) (fell falls : ℕ) (text : List ℕ) (due status : ℕ)
-    → IsAnswer words old new failed fails text due → WroteText held holds fell falls status due text
+    → IsAnswer words old new failed fails (text, due) → WroteText held holds fell falls status due text
     → IsKnown status
 wrote_known words old new failed fails held holds fell falls text due status answer (inl whole) =
     subst IsKnown (sym whole.0) (due_known words old new failed fails text due answer)

@@ -56,15 +56,14 @@ fn answer_to<R: Threads + Sync, S: Source, T: Timer, E: Sink>(
     progress: &mut Progress<T, E>,
 ) -> Result<Answer, AllocError>
     ensures answer { IfOk result (λ a. IsAnswer words.now (S.left source.old) (S.left source.new)
-        (S.faults source.old) (S.faults source.new) (string_bytes a.text) a.status) }
+        (S.faults source.old) (S.faults source.new) (string_bytes a.text, a.status)) }
     ensures told { IfOk result
         (λ a. (S.faults source.new ≡ S.faults source.old) ⊎ (a.status ≡ 4)) }
     ensures quiet { IsQuiet progress.old progress.new }
 {
     match bytes_or_answer(alloc, "usage: derecho_summary < SCRIPT\n", words, source) {
         Ok(bytes) => answer_for(rt, alloc, &bytes, progress),
-        Err(Some(answer)) => Ok(answer),
-        Err(None) => Err(AllocError),
+        Err(answer) => answer.ok_or(AllocError),
     }
 }
 

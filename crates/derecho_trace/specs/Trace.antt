@@ -1,15 +1,15 @@
 -- What is told of a run, and what a call comes to.
-use Rattle.std.specs.Prelude.{◌≡◌, ◌⊎◌, ⊤, ℕ, ◌+◌, List, [], ◌∷◌, ◌++◌, length, slice_get, codes, Option, None, Some, String}
+use Rattle.std.specs.Prelude.{◌≡◌, ◌⊎◌, ⊤, ℕ, true, MatchOption, ◌+◌, List, [], ◌∷◌, ◌++◌, length, slice_get, codes, Option, None, Some, String}
 use Rattle.std.specs.Option.{option_map_or}
 use Rattle.std.specs.declared.alloc.Global.{Global}
 use Rattle.dr_ages.specs.declared.mode.Mode.TheVariants.{Sim}
 use Rattle.dr_ages.specs.declared.stop.Stop.{Stop}
 use Rattle.dr_ages.specs.Ages.{start_of}
 use Rattle.dr_entry.specs.declared.end.AgeEnd.{AgeEnd}
-use Rattle.dr_intake.specs.Reading.{WasRead, refusal_in}
+use Rattle.dr_intake.specs.Answer as intake
+use Rattle.dr_intake.specs.Answer.{IsLine, Said}
+use Rattle.dr_intake.specs.Reading.{refusal_in}
 use Rattle.dr_intake.specs.Status.{WroteText, status_of}
-use Rattle.dr_io.specs.Faults.{Rose}
-use Rattle.dr_io.specs.Source.{Loses}
 use Rattle.dr_outcome.specs.Last.{last_of}
 use Rattle.dr_outcome.specs.Outcome.{IsRunInMemory}
 use Rattle.dr_program.specs.Program.{Move, Program, step_of}
@@ -19,7 +19,6 @@ use Rattle.dr_script.specs.Reading.{Reading, Reads, reading_of}
 use Rattle.dr_seeing.specs.Lines.{age_line, line_of}
 use Rattle.dr_sim.specs.Simulated.{IsSimulated}
 use Rattle.dr_text.specs.declared.last.Last.{Last}
-use Rattle.dr_text.specs.declared.last.Last.TheVariants as lasts
 use Rattle.dr_text.specs.Report.{last_text}
 use Rattle.dr_text.specs.Writing.{WroteFront}
 use Rattle.derecho_trace.specs.Words.{asked_by}
@@ -91,23 +90,13 @@ IsTracedFor form refused text due =
 abbrev pub usage_text : List ℕ
 usage_text = codes "usage: derecho_trace [lines|svg] < SCRIPT\n"
 
--- What a call is to write, and the status that is due, by its words and by what its source had left and then
--- has.
-pub data IsAnswer (words : List (String Global)) (old new : Option (List ℕ)) (failed fails : ℕ)
-    (text : List ℕ) (due : ℕ) : Type 0 where
-  -- the words name no form
-  usage : asked_by words ≡ None → Loses old new [] → text ≡ usage_text → due ≡ 2
-      → IsAnswer words old new failed fails text due
-  -- the source failed
-  no_source : (form : Form) → asked_by words ≡ Some form → Rose failed fails
-      → text ≡ last_text lasts.SourceFault
-      → due ≡ 4 → IsAnswer words old new failed fails text due
-  -- memory was wanting as it was read
-  no_memory : (form : Form) → asked_by words ≡ Some form → IsWanting text due
-      → IsAnswer words old new failed fails text due
-  -- it was read, and what was read decides
-  read : (form : Form) → asked_by words ≡ Some form → (bytes : List ℕ) → WasRead old new bytes
-      → IsTracedFor form (reading_of bytes) text due → IsAnswer words old new failed fails text due
+-- What a call is to write, and the status that is due, by the form that its words ask for, and by what its
+-- source had left and then has.
+abbrev pub IsAnswer : List (String Global) → Option (List ℕ) → Option (List ℕ) → ℕ → ℕ → Said → Type 0
+IsAnswer words =
+    intake.IsAnswer (λ form. true)
+    (λ line said. MatchOption line (IsWanting said.0 said.1) (λ l. IsLine usage_text l said))
+    (λ form bytes said. IsTracedFor form (reading_of bytes) said.0 said.1) (asked_by words)
 
 -- the text was written, with the status that is due, or a front part of it, where the sink failed, with
 -- status 5, or memory was wanting, with status 10

@@ -51,8 +51,8 @@ pub fn trace<R: Threads + Sync, S: Source, K: Sink, T: Timer, E: Sink>(
     progress: &mut Progress<T, E>,
 ) -> Traced<K>
     ensures told { WroteOne
-        (IsAnswer words.now (S.left source.old) (S.left source.new)
-        (S.faults source.old) (S.faults source.new))
+        (λ text due. IsAnswer words.now (S.left source.old) (S.left source.new)
+        (S.faults source.old) (S.faults source.new) (text, due))
         (K.held sink) (K.held result.sink) (K.faults sink) (K.faults result.sink) result.status }
     // 2 for words, 3 for a text that is no script, 4 for a read, 5 for a write, 8 for turns that were spent,
     // 9 for a member without a majority of its view, 10 for memory, and else 0.

@@ -1,48 +1,80 @@
--- What comes of a call of a program that takes no words, reads a script and says something of it.
--- Such a program is given by how it is called, and by what it says of what was read.
-use Rattle.std.specs.Prelude.{◌≡◌, ◌≢◌, ◌⊎◌, ℕ, List, [], Option, String}
+-- What comes of a call of a program that looks at its words, reads its source and says something.
+-- Such a program is given by the command that its words ask for, by which commands read, and by what each
+-- makes of what was read for it.
+use Rattle.std.specs.Prelude.{◌≡◌, ◌⊎◌, ⊤, ℕ, Bool, true, false, IsTrue, List, [], ◌∷◌, Option, None, Some, IsSomeAnd, String}
 use Rattle.std.specs.declared.alloc.Global.{Global}
 use Rattle.dr_io.specs.Faults.{Rose}
 use Rattle.dr_io.specs.Sink.{Gains}
 use Rattle.dr_io.specs.Source.{Loses}
 use Rattle.dr_script.specs.Reading.{Reading, reading_of}
+use Rattle.dr_text.specs.declared.last.Last.{Last}
 use Rattle.dr_text.specs.declared.last.Last.TheVariants as lasts
 use Rattle.dr_text.specs.Report.{last_text}
 use Rattle.dr_intake.specs.Reading.{WasRead}
-use Rattle.dr_intake.specs.Status.{WroteText}
+use Rattle.dr_intake.specs.Status.{WroteText, status_of}
 
--- what is said where no script is read, and the status that is due, by the words of the call and by what its
--- source had left and then has
-pub data IsUnread (usage_text : List ℕ) (words : List (String Global)) (old new : Option (List ℕ))
-    (failed fails : ℕ) (text : List ℕ) (status : ℕ) : Type 0 where
-  -- there are words, and it takes none
-  usage : words ≢ [] → Loses old new [] → text ≡ usage_text → status ≡ 2
-      → IsUnread usage_text words old new failed fails text status
+-- what was read for a command: what was left, as far as a script goes, or nothing, where it does not read
+abbrev pub WasReadFor : Bool → Option (List ℕ) → Option (List ℕ) → List ℕ → Type 0
+WasReadFor true old new bytes = WasRead old new bytes
+WasReadFor false old new bytes = Loses old new [] × (bytes ≡ [])
+
+-- What a call comes to, by the command that its words ask for, and by what its source had left and then has.
+-- `Alone` says of an answer that it is this last line and nothing more.
+pub data IsAnswer {C A : Type 0} (reads : C → Bool) (Alone : Option Last → A → Type 0)
+    (Does : C → List ℕ → A → Type 0) (asked : Option C) (old new : Option (List ℕ)) (failed fails : ℕ)
+    (answer : A) : Type 0 where
+  -- the words are no command
+  usage : asked ≡ None → Loses old new [] → Alone (Some lasts.Usage) answer
+      → IsAnswer reads Alone Does asked old new failed fails answer
   -- the source failed
-  no_source : words ≡ [] → Rose failed fails → text ≡ last_text lasts.SourceFault → status ≡ 4
-      → IsUnread usage_text words old new failed fails text status
+  no_source : (command : C) → asked ≡ Some command → IsTrue (reads command) → Rose failed fails
+      → Alone (Some lasts.SourceFault) answer
+      → IsAnswer reads Alone Does asked old new failed fails answer
+  -- memory was wanting before the command could do anything
+  no_memory : (command : C) → asked ≡ Some command → Alone None answer
+      → IsAnswer reads Alone Does asked old new failed fails answer
+  -- it did what it does
+  done : (command : C) → asked ≡ Some command → (bytes : List ℕ)
+      → WasReadFor (reads command) old new bytes → Does command bytes answer
+      → IsAnswer reads Alone Does asked old new failed fails answer
 
--- what a call has to say, and the status that is due
-pub data IsAnswer (usage_text : List ℕ) (Says : Reading → List ℕ → ℕ → Type 0) (words : List (String Global))
-    (old new : Option (List ℕ)) (failed fails : ℕ) (text : List ℕ) (status : ℕ) : Type 0 where
-  unread : IsUnread usage_text words old new failed fails text status
-      → IsAnswer usage_text Says words old new failed fails text status
-  -- it was read, and what was read decides
-  read : words ≡ [] → (bytes : List ℕ) → WasRead old new bytes → Says (reading_of bytes) text status
-      → IsAnswer usage_text Says words old new failed fails text status
+-- a text, and the status that is due
+abbrev pub Said : Type 0
+Said = List ℕ × ℕ
+
+-- this last line is said, with its status: of words that are no command, how the program is called
+abbrev pub IsLine : List ℕ → Last → Said → Type 0
+IsLine usage_text lasts.Usage said = (said.0 ≡ usage_text) × (said.1 ≡ 2)
+IsLine usage_text line said = (said.0 ≡ last_text line) × (said.1 ≡ status_of line)
 
 -- an answer was written
-pub record WroteAnswer (usage_text : List ℕ) (Says : Reading → List ℕ → ℕ → Type 0)
-    (words : List (String Global)) (old new : Option (List ℕ)) (failed fails : ℕ)
-    (held holds : Option (List ℕ)) (fell falls status : ℕ) : Type 0 where
+pub record WroteAnswer (Is : Said → Type 0) (held holds : Option (List ℕ)) (fell falls status : ℕ) :
+    Type 0 where
   pub text : List ℕ
   pub due : ℕ
-  pub answer : IsAnswer usage_text Says words old new failed fails text due
+  pub answer : Is (text, due)
   pub wrote : WroteText held holds fell falls status due text
 
 -- memory was wanting and nothing was written, or an answer was
-abbrev pub ToldBy : List ℕ → (Reading → List ℕ → ℕ → Type 0) → List (String Global) → Option (List ℕ)
-    → Option (List ℕ) → ℕ → ℕ → Option (List ℕ) → Option (List ℕ) → ℕ → ℕ → ℕ → Type 0
-ToldBy usage_text Says words old new failed fails held holds fell falls status =
-    ((status ≡ 10) × Gains held holds [])
-    ⊎ WroteAnswer usage_text Says words old new failed fails held holds fell falls status
+abbrev pub ToldBy : (Said → Type 0) → Option (List ℕ) → Option (List ℕ) → ℕ → ℕ → ℕ → Type 0
+ToldBy Is held holds fell falls status =
+    ((status ≡ 10) × Gains held holds []) ⊎ WroteAnswer Is held holds fell falls status
+
+-- ---- programs that take no words, and say something of what their source has
+
+-- the one command that no words ask for
+abbrev pub wordless : List (String Global) → Option ⊤
+wordless [] = Some tt
+wordless (word ∷ words) = None
+
+-- what such a call has to say, by what it says of what was read
+abbrev pub IsAnswerBy : List ℕ → (Reading → List ℕ → ℕ → Type 0) → List (String Global) → Option (List ℕ)
+    → Option (List ℕ) → ℕ → ℕ → Said → Type 0
+IsAnswerBy usage_text Says words =
+    IsAnswer (λ command. true) (λ line said. IsSomeAnd line (λ l. IsLine usage_text l said))
+    (λ command bytes said. Says (reading_of bytes) said.0 said.1) (wordless words)
+
+-- what it says where no script is read
+abbrev pub IsUnread : List ℕ → List (String Global) → Option (List ℕ) → Option (List ℕ) → ℕ → ℕ → Said
+    → Type 0
+IsUnread usage_text = IsAnswerBy usage_text (λ reading text status. ⊥)

@@ -18,10 +18,18 @@ status_of (lasts.DiskFault member) = 6
 status_of (lasts.Damaged member at) = 7
 status_of (lasts.Foreign member place) = 7
 status_of (lasts.Disagree a b place) = 7
+status_of (lasts.NoQuorum view have need) = 7
 status_of lasts.AgesUsedUp = 7
 status_of lasts.Unfinished = 8
 status_of lasts.NoMajority = 9
 status_of (lasts.LogFull member) = 11
+status_of (lasts.NoShard shards members) = 12
+status_of (lasts.ManyAges ages) = 12
+status_of (lasts.Crosses fault) = 12
+status_of lasts.NotCheck = 3
+status_of (lasts.NoReport line) = 3
+status_of lasts.Right = 0
+status_of (lasts.Wrong clause line) = 13
 
 -- the whole text was written, with the status that is due, or a front part of it, where the sink failed
 abbrev pub WroteText : Option (List ℕ) → Option (List ℕ) → ℕ → ℕ → ℕ → ℕ → List ℕ → Type 0

@@ -69,7 +69,7 @@ pub fn bytes_or_answer<S: Source>(
     ensures calm { IfOk result (λ _. S.faults source.new ≡ S.faults source.old) }
     ensures answer { (a : AnswerOf) → IsErrOf result (Some a) → IsUnread usage.now words.now
         (S.left source.old) (S.left source.new) (S.faults source.old) (S.faults source.new)
-        (string_bytes a.text) a.status }
+        (string_bytes a.text, a.status) }
     ensures told { (a : AnswerOf) → IsErrOf result (Some a)
         → (S.faults source.new ≡ S.faults source.old) ⊎ (a.status ≡ 4) }
 {

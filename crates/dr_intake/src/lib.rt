@@ -12,7 +12,7 @@ pub use answer::{Answer, bytes_or_answer};
 pub use reading::{ReadFault, read_all};
 pub use script::{READ_LIMIT, script_or_refusal};
 pub use status::{
-    DISK_FAULT, DONE, LOG_FULL, LOGS_REFUSED, NO_MAJORITY, OUT_OF_MEMORY, READ_FAULT,
-    SCRIPT_REFUSED, UNFINISHED, USAGE, WRITE_FAULT, status_of,
+    CHECK_FAILED, DISK_FAULT, DONE, LAYOUT_REFUSED, LOG_FULL, LOGS_REFUSED, NO_MAJORITY,
+    OUT_OF_MEMORY, READ_FAULT, SCRIPT_REFUSED, UNFINISHED, USAGE, WRITE_FAULT, status_of,
 };
 pub use words::words_of;

@@ -9,7 +9,7 @@ pub const DONE: u8 = 0;
 /// The words are not those of a command.
 pub const USAGE: u8 = 2;
 
-/// What was read is not a script.
+/// What was read is not a script, or not what is to be checked.
 pub const SCRIPT_REFUSED: u8 = 3;
 
 /// The source failed.
@@ -36,21 +36,35 @@ pub const OUT_OF_MEMORY: u8 = 10;
 /// A log would have grown beyond its limit.
 pub const LOG_FULL: u8 = 11;
 
+/// The script is not one that is laid out in so many shards.
+pub const LAYOUT_REFUSED: u8 = 12;
+
+/// The report that was checked is not right.
+pub const CHECK_FAILED: u8 = 13;
+
 /// The status of a last line.
 pub fn status_of(last: &Last) -> u8
     ensures { result ≡ status_of last.now }
 {
     match last {
-        Last::Done => DONE,
+        Last::Done | Last::Right => DONE,
         Last::Usage => USAGE,
-        Last::TooLong | Last::NotJson | Last::Rule { .. } => SCRIPT_REFUSED,
+        Last::TooLong
+        | Last::NotJson
+        | Last::Rule { .. }
+        | Last::NotCheck
+        | Last::NoReport { .. } => SCRIPT_REFUSED,
         Last::SourceFault => READ_FAULT,
         Last::DiskFault { .. } => DISK_FAULT,
-        Last::Damaged { .. } | Last::Foreign { .. } | Last::Disagree { .. } | Last::AgesUsedUp => {
-            LOGS_REFUSED
-        }
+        Last::Damaged { .. }
+        | Last::Foreign { .. }
+        | Last::NoQuorum { .. }
+        | Last::Disagree { .. }
+        | Last::AgesUsedUp => LOGS_REFUSED,
         Last::Unfinished => UNFINISHED,
         Last::NoMajority => NO_MAJORITY,
         Last::LogFull { .. } => LOG_FULL,
+        Last::NoShard { .. } | Last::ManyAges { .. } | Last::Crosses { .. } => LAYOUT_REFUSED,
+        Last::Wrong { .. } => CHECK_FAILED,
     }
 }

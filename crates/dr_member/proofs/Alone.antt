@@ -29,6 +29,7 @@ use Rattle.dr_turn.specs.Work.{IsStill, deeds_left}
 use Rattle.dr_member.specs.declared.bases.Bases.{Bases}
 use Rattle.dr_member.specs.declared.fate.Fate.{Fate}
 use Rattle.dr_member.specs.Fate.{IsTimely, is_push_now}
+use Rattle.dr_member.specs.Ready.{KeepsReady}
 use Rattle.dr_member.specs.Search.{next_row, standing}
 use Rattle.dr_member.specs.Alone.{IsAtSweep, LeadsTo, SeesAlong}
 use Rattle.dr_member.specs.Deeds.{is_look, is_push, table_size}
@@ -242,8 +243,9 @@ pub record IsBehindRow (table : List ℕ) (from : Running) (a : Inside) (cells :
   pub place : IsIn q.roster (columns_of q.roster q.window) a.place
   pub underway : IsUnderway (standing q fate (next_row q.roster a.place))
   pub timely : IsTimely fate q.turns
-  pub left : (p : Place) → standing q fate p ≡ settled (standing q fate (next_row q.roster a.place))
-      → HasComeAlone table from cells (record a { replica = q; place = p; fate = fate })
+  pub left : (p : Place) (ready : ℕ)
+      → standing q fate p ≡ settled (standing q fate (next_row q.roster a.place)) → KeepsReady q p ready
+      → HasComeAlone table from cells (record a { replica = q; place = p; fate = fate; ready = ready })
 
 pub looks_done : (table : List ℕ) (from : Running) (first : ℕ) (a : Inside) (q : Replica) (w : Waits)
     → IsLooking table from first a
@@ -257,8 +259,8 @@ looks_done table from first a q w is e waits = record {
       (ap (λ (r : Replica). r.window) e) (omega arith);
   underway = look_left b.replica q b.fate b.place v w l past;
   timely = looked_row_timely b q a.place.row last v w at.on.inside l.after;
-  left = λ p settles.
-      let end = looks_end from b q p (first + last) v w at.on l past settles in record {
+  left = λ p ready settles keeps.
+      let end = looks_end from b q p (first + last) v ready w at.on l past settles keeps in record {
         inside = end.inside;
         taken = (
           n + 1,
@@ -484,16 +486,22 @@ module _ (table : List ℕ) (from : Running) (first : ℕ) (a : Inside) (is : Is
         (push_left b.replica q b.fate b.place n column l past);
     timely = subst (λ f. IsTimely (counted f n) q.turns) to.fate
         (pushed_timely b.replica q b.fate b.place n column l);
-    left = λ p settles.
+    left = λ p ready settles keeps.
         let back : standing q (counted b.fate n) p
         ≡ settled (standing q (counted b.fate n) (next_row q.roster b.place)) =
         ap (λ f. standing q (counted f n) p) to.fate ∙ settles
         ∙ (λ z. settled (standing q (counted (sym to.fate z) n) (next_row q.roster (sym to.place z)))) in
         let answer = pushed_behind (view_of b) b.replica q b.fate b.place p n column 0 refl l past back in
-        let end = pushes_end from b q p _ _ n column to.on l answer in
-        let same : record b { replica = q; place = p; fate = counted b.fate n }
-        ≡ record a { replica = q; place = p; fate = counted a.fate n } =
-        (λ z. record { replica = q; place = p; fate = counted (to.fate z) n; bases = to.bases z }) in
+        let end = pushes_end from b q p _ _ n column ready to.on l answer keeps in
+        let same : record b { replica = q; place = p; fate = counted b.fate n; ready = ready }
+        ≡ record a { replica = q; place = p; fate = counted a.fate n; ready = ready } =
+        (λ z. record {
+          replica = q;
+          place = p;
+          fate = counted (to.fate z) n;
+          bases = to.bases z;
+          ready = ready;
+        }) in
         subst (HasComeAlone table from s.table) same (record {
           inside = end.inside;
           taken = leads_behind _ answer;

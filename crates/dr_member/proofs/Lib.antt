@@ -5,6 +5,7 @@ mod Dues
 mod Judging
 mod Answers
 mod Indices
+mod Ready
 mod Moves
 mod Sweeps
 pub mod Alone

@@ -29,6 +29,7 @@ use Rattle.dr_member.specs.declared.member.Member.TheInside.{Inside}
 use Rattle.dr_member.specs.Deeds.{is_act, is_append, is_push}
 use Rattle.dr_member.specs.Fate.{IsTimely}
 use Rattle.dr_member.specs.Inside.{IsInside, view_of}
+use Rattle.dr_member.specs.Ready.{KeepsReady}
 use Rattle.dr_member.specs.Search.{next_row, standing}
 use Rattle.dr_member.proofs.Fates.{IsFateBy, fate_told}
 use Rattle.dr_member.proofs.Answers.{IsAnswer, IsFateAfter, IsTaken, answer_at, fate_stays, is_answer, is_done, look_applies, push_applies, pushes_searched, stays}
@@ -315,16 +316,17 @@ pushed_timely replica q fate p n t l =
 -- ---- the code's fields after a step
 
 -- a step within its view leaves the member in good order inside
-pub inside_after : (a : Inside) (q x : Replica) (fate : Fate) (place : Place) → IsInside a → q ≡ x
-    → footing x ≡ footing a.replica → IsRunningMember (standing q fate place) → IsTimely fate q.turns
-    → fate.limit ≡ a.fate.limit
-    → IsInside (record { replica = q; place = place; fate = fate; bases = a.bases })
-inside_after a q x fate place is e stays form timely limit =
+pub inside_after : (a : Inside) (q x : Replica) (fate : Fate) (place : Place) (ready : ℕ) → IsInside a
+    → q ≡ x → footing x ≡ footing a.replica → IsRunningMember (standing q fate place)
+    → IsTimely fate q.turns → fate.limit ≡ a.fate.limit → KeepsReady q place ready
+    → IsInside (record { replica = q; place = place; fate = fate; bases = a.bases; ready = ready })
+inside_after a q x fate place ready is e stays form timely limit keeps =
     record {
       form = form;
       fate = timely;
       limit = omega (arith, limit, is.limit);
       bases = bases_stay a.bases a.replica q x e stays is.bases;
+      ready = keeps;
     }
 
 -- and its fate timely, where no turn begins

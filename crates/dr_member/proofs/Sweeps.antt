@@ -23,10 +23,12 @@ use Rattle.dr_turn.specs.Work.{IsStill, deeds_left}
 use Rattle.dr_member.specs.Deeds.{is_look, is_push}
 use Rattle.dr_member.specs.declared.member.Member.TheInside.{Inside}
 use Rattle.dr_member.specs.Inside.{IsInside, view_of}
+use Rattle.dr_member.specs.Ready.{KeepsReady}
 use Rattle.dr_member.specs.Search.{next_row, standing}
 use Rattle.dr_member.proofs.Answers.{IsAnswer}
 use Rattle.dr_member.proofs.Dues.{at_look, look_due, may_look, push_due}
 use Rattle.dr_member.proofs.Indices.{IsIndex, columns_after, is_index, me_within}
+use Rattle.dr_member.proofs.Ready.{elsewhere}
 use Rattle.dr_member.proofs.Moves.{IsLooked, IsPushed, IsWaited, counted, inside_after, is_looked, is_pushed, looked_past, looked_row_timely, looked_within, pushed_timely, pushed_within, stays_timely, waited}
 
 -- the member inside has come from another one, and this deed is due to it
@@ -239,8 +241,8 @@ pub look_on : (from : Running) (a : Inside) (q : Replica) (first word : ℕ)
     × IsAnswer word (view_of a) (standing q a.fate (record a.place { column = a.place.column + 1 }))
 look_on from a q first word is l within = (
   row_on (deeds.Look (first + a.place.column)) from a is word _ b
-      (inside_after a q _ a.fate b.place is.inside l.after refl answer.form
-      (stays_timely a q _ is.inside l.after refl) refl)
+      (inside_after a q _ a.fate b.place a.ready is.inside l.after refl answer.form
+      (stays_timely a q _ is.inside l.after refl) refl (elsewhere q b.place parts.Look a.ready l.due.at refl))
       answer (ap (λ (r : Replica). r.roster) l.after) l.grown due,
   answer,
 )
@@ -276,8 +278,9 @@ pub push_on : (from : Running) (a : Inside) (q : Replica) (first n t : ℕ)
     × IsAnswer 0 (view_of a) (standing q (counted a.fate n) (record a.place { column = t }))
 push_on from a q first n t is l within changes later = (
   row_on (deeds.Push (first + a.place.column) (own a.replica.rows a.place.column)) from a is 0 _ b
-      (inside_after a q _ b.fate b.place is.inside l.after refl answer.form
-      (pushed_timely a.replica q a.fate a.place n t l) refl)
+      (inside_after a q _ b.fate b.place a.ready is.inside l.after refl answer.form
+      (pushed_timely a.replica q a.fate a.place n t l) refl
+      (elsewhere q b.place parts.Push a.ready l.due.at refl))
       answer (ap (λ (r : Replica). r.roster) l.after) l.grown due,
   answer,
 )
@@ -321,16 +324,18 @@ was_waited a q row word w is l past same waits = record {
 }
 
 -- after a look at the last column
-pub looks_end : (from : Running) (a : Inside) (q : Replica) (s : Place) (sum word : ℕ) (w : Waits)
+pub looks_end : (from : Running) (a : Inside) (q : Replica) (s : Place) (sum word ready : ℕ) (w : Waits)
     → IsOnRow (deeds.Look sum) from a → IsLooked a.replica q a.fate a.place word
     → IsWaited q a.fate a.place w
     → standing q (waited a.fate w) s ≡ settled (standing q (waited a.fate w) (next_row q.roster a.place))
-    → HasLeft word from (view_of a) (record a { replica = q; place = s; fate = waited a.fate w })
-looks_end from a q s sum word w is l past e =
+    → KeepsReady q s ready
+    → HasLeft word from (view_of a)
+    (record a { replica = q; place = s; fate = waited a.fate w; ready = ready })
+looks_end from a q s sum word ready w is l past e keeps =
     let answer : IsAnswer word (view_of a) (standing q (waited a.fate w) s) =
     looked_past (view_of a) a.replica q a.fate a.place s word w refl l past e in record {
-      inside = inside_after a q _ (waited a.fate w) s is.inside l.after refl answer.form
-          (looked_row_timely a q a.place.row a.place.column word w is.inside l.after) refl;
+      inside = inside_after a q _ (waited a.fate w) s ready is.inside l.after refl answer.form
+          (looked_row_timely a q a.place.row a.place.column word w is.inside l.after) refl keeps;
       answer = answer;
       grown = row_grown (deeds.Look sum) from a is q l.grown;
       falls = row_falls (deeds.Look sum) from a is word _ answer;
@@ -338,13 +343,14 @@ looks_end from a q s sum word w is l past e =
     }
 
 -- after a push behind which no column has changed, or the member crashes at the next one
-pub pushes_end : (from : Running) (a : Inside) (q : Replica) (s : Place) (sum word n t : ℕ)
+pub pushes_end : (from : Running) (a : Inside) (q : Replica) (s : Place) (sum word n t ready : ℕ)
     → IsOnRow (deeds.Push sum word) from a → IsPushed a.replica q a.fate a.place n t
-    → IsAnswer 0 (view_of a) (standing q (counted a.fate n) s)
-    → HasLeft 0 from (view_of a) (record a { replica = q; place = s; fate = counted a.fate n })
-pushes_end from a q s sum word n t is l answer = record {
-  inside = inside_after a q _ (counted a.fate n) s is.inside l.after refl answer.form
-      (pushed_timely a.replica q a.fate a.place n t l) refl;
+    → IsAnswer 0 (view_of a) (standing q (counted a.fate n) s) → KeepsReady q s ready
+    → HasLeft 0 from (view_of a)
+    (record a { replica = q; place = s; fate = counted a.fate n; ready = ready })
+pushes_end from a q s sum word n t ready is l answer keeps = record {
+  inside = inside_after a q _ (counted a.fate n) s ready is.inside l.after refl answer.form
+      (pushed_timely a.replica q a.fate a.place n t l) refl keeps;
   answer = answer;
   grown = row_grown (deeds.Push sum word) from a is q l.grown;
   falls = row_falls (deeds.Push sum word) from a is 0 _ answer;

@@ -4,6 +4,7 @@ use Rattle.dr_program.specs.Running.{Running}
 use Rattle.dr_program.specs.Form.{IsRunningMember}
 use Rattle.dr_member.specs.Bases.{AreBases}
 use Rattle.dr_member.specs.Fate.{IsTimely}
+use Rattle.dr_member.specs.Ready.{KeepsReady}
 use Rattle.dr_member.specs.Search.{standing}
 use Rattle.dr_member.specs.declared.member.Member.TheInside.{Inside}
 
@@ -15,3 +16,4 @@ pub record IsInside (a : Inside) : Type 0 where
   pub fate : IsTimely a.fate a.replica.turns
   pub limit : a.fate.limit < 2 ^ 32
   pub bases : AreBases a.bases a.replica
+  pub ready : KeepsReady a.replica a.place a.ready

@@ -49,6 +49,8 @@ pub struct Member {
     place: Place,
     fate: Fate,
     bases: Bases,
+    /// Which of the next items are there of the member whose items it receives where it stands, bit by bit.
+    ready: u16,
 }
 
 impl Model for Member {
@@ -90,6 +92,7 @@ impl Member {
             },
             fate,
             bases,
+            ready: 0,
         })
     }
 
@@ -140,7 +143,7 @@ impl Member {
         } else {
             self.replica.look(row, column, word);
             self.replica.wait_for(&mut self.fate.waits, row);
-            leave_row(&self.replica, &self.fate, &mut self.place);
+            leave_row(&self.replica, &self.fate, &mut self.place, &mut self.ready);
         }
     }
 
@@ -165,7 +168,7 @@ impl Member {
         if next < columns {
             self.place.column = next;
         } else {
-            leave_row(&self.replica, &self.fate, &mut self.place);
+            leave_row(&self.replica, &self.fate, &mut self.place, &mut self.ready);
         }
     }
 
@@ -220,8 +223,14 @@ impl Member {
         ensures keeps { IsStill self.old self.new }
     {
         go(&self.replica.shape(), &mut self.place);
-        take_act(act, &mut self.replica, &mut self.fate, &mut self.bases);
-        settle(&self.replica, &self.fate, &mut self.place);
+        take_act(
+            act,
+            &mut self.replica,
+            &mut self.fate,
+            &mut self.bases,
+            &mut self.ready,
+        );
+        settle(&self.replica, &self.fate, &mut self.place, &mut self.ready);
     }
 
     /// Takes note that its log has the record that it appended.
@@ -380,7 +389,7 @@ impl Member {
         go(&self.replica.shape(), &mut self.place);
         let value = self.replica.value_due();
         self.replica.vote(value);
-        settle(&self.replica, &self.fate, &mut self.place);
+        settle(&self.replica, &self.fate, &mut self.place, &mut self.ready);
     }
 
     /// The deed that is due at a push: the push, or the end of a member that crashes just before it.

@@ -10,6 +10,7 @@ ghost use Rattle.dr_words.specs.Columns.{columns_of};
 ghost use Rattle.dr_rows.specs.Words.{changed};
 ghost use Rattle.dr_turn.specs.Search.{IsUnderway};
 ghost use Rattle.dr_member.specs.Fate.{IsTimely};
+ghost use Rattle.dr_member.specs.Ready.{KeepsReady};
 ghost use Rattle.dr_member.specs.declared.search.Due.TheVariants as dues;
 ghost use Rattle.dr_member.specs.Search.{IsFirstDue, IsIdleTo, is_calm, next_row, standing, step_by};
 
@@ -42,10 +43,13 @@ pub(crate) const BEAT: u8 = PARTS as u8 - 1;
 /// Goes on to the first place of the turn, from this one on, at which there is something to do. Stays,
 /// where the member has ended. Where nothing of a vote is due, it goes past the parts of votes at once.
 #[inline(always)]
-pub(crate) fn settle(replica: &Replica, fate: &Fate, place: &mut Place)
+pub(crate) fn settle(replica: &Replica, fate: &Fate, place: &mut Place, ready: &mut u16)
     requires underway { IsUnderway (standing replica.now fate.now place.old) }
     requires fate { IsTimely fate.now replica.now.turns }
-    ensures { standing replica.now fate.now place.new ≡ settled (standing replica.now fate.now place.old) }
+    requires ready { KeepsReady replica.now place.old ready.old }
+    ensures place { standing replica.now fate.now place.new
+        ≡ settled (standing replica.now fate.now place.old) }
+    ensures ready { KeepsReady replica.now place.new ready.new }
 {
     if replica.end().is_some() {
         return;
@@ -54,11 +58,11 @@ pub(crate) fn settle(replica: &Replica, fate: &Fate, place: &mut Place)
         match *part_of(*place) {
             Part::Vote if is_calm(replica, fate) => place.part = PUSHES,
             _ => {
-                if let Some(column) = first_due(replica, fate, *place) {
+                if let Some(column) = first_due(replica, fate, *place, *ready) {
                     place.column = column;
                     return;
                 }
-                next_row(&replica.shape(), place);
+                enter_row(replica, place, ready);
             }
         }
     }
@@ -76,22 +80,41 @@ fn is_calm(replica: &Replica, fate: &Fate) -> bool
 /// Goes on from what comes after the row to the first place at which there is something to do. Out of
 /// line, it leaves looks and pushes a small loop.
 #[inline(never)]
-pub(crate) fn leave_row(replica: &Replica, fate: &Fate, place: &mut Place)
+pub(crate) fn leave_row(replica: &Replica, fate: &Fate, place: &mut Place, ready: &mut u16)
     requires place { IsIn replica.now.roster (columns_of replica.now.roster replica.now.window) place.old }
     requires underway { IsUnderway (standing replica.now fate.now (next_row replica.now.roster place.old)) }
     requires fate { IsTimely fate.now replica.now.turns }
-    ensures { standing replica.now fate.now place.new
+    ensures place { standing replica.now fate.now place.new
         ≡ settled (standing replica.now fate.now (next_row replica.now.roster place.old)) }
+    ensures ready { KeepsReady replica.now place.new ready.new }
+{
+    enter_row(replica, place, ready);
+    settle(replica, fate, place, ready);
+}
+
+/// Goes on to what comes after the row. Where items of another member are received there, it sweeps the ring
+/// of that one, once for all of them.
+#[inline(always)]
+fn enter_row(replica: &Replica, place: &mut Place, ready: &mut u16)
+    requires place { IsIn replica.now.roster (columns_of replica.now.roster replica.now.window) place.old }
+    requires next { IsIn replica.now.roster (columns_of replica.now.roster replica.now.window)
+        (next_row replica.now.roster place.old) }
+    ensures place { place.new ≡ next_row replica.now.roster place.old }
+    ensures ready { KeepsReady replica.now place.new ready.new }
 {
     next_row(&replica.shape(), place);
-    settle(replica, fate, place);
+    match *part_of(*place) {
+        Part::Receive if replica.is_other(place.row) => *ready = replica.ready_items(place.row),
+        _ => {}
+    }
 }
 
 /// The first column of the row, from this place on, at which there is something to do.
 #[inline(always)]
-fn first_due(replica: &Replica, fate: &Fate, place: Place) -> Option<usize>
+fn first_due(replica: &Replica, fate: &Fate, place: Place, ready: u16) -> Option<usize>
     requires underway { IsUnderway (standing replica.now fate.now place) }
     requires fate { IsTimely fate.now replica.now.turns }
+    requires ready { KeepsReady replica.now place ready }
     ensures { MatchOption result
         (IsIdleTo (standing replica.now fate.now place) place
         (columns_in (columns_of replica.now.roster replica.now.window) (part_of place)))
@@ -103,22 +126,23 @@ fn first_due(replica: &Replica, fate: &Fate, place: Place) -> Option<usize>
             let next = next_changed(replica, columns, place.row, place.column);
             if next < columns { Some(next) } else { None }
         }
-        _ => applies(replica, fate, place).then_some(place.column),
+        _ => applies(replica, fate, place, ready).then_some(place.column),
     }
 }
 
 /// Whether there is something to do at a place.
 #[inline(always)]
-fn applies(replica: &Replica, fate: &Fate, place: Place) -> bool
+fn applies(replica: &Replica, fate: &Fate, place: Place, ready: u16) -> bool
     requires underway { IsUnderway (standing replica.now fate.now place) }
     requires fate { IsTimely fate.now replica.now.turns }
+    requires ready { KeepsReady replica.now place ready }
     ensures { result ≡ applies (standing replica.now fate.now place) place }
 {
     let Place { row, column, .. } = place;
     match *part_of(place) {
         Part::Look => replica.is_other(row) && !replica.is_suspected(row),
         Part::Judge => may_judge(replica, fate),
-        Part::Receive => replica.may_receive(row),
+        Part::Receive => replica.takes_from(row) && ready & 1 == 1,
         Part::Do(act) => replica.may(act),
         Part::Append => fate.failed.is_some() || replica.may_append(),
         Part::Vote => fate.failed.is_some() || replica.votes(),

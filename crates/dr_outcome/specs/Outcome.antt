@@ -1,17 +1,47 @@
--- What was run.
-use Rattle.std.specs.Prelude.{◌≡◌, ℕ, List, [], Option, Some, None}
+-- What was run, and what is said of it.
+use Rattle.std.specs.Prelude.{◌≡◌, ◌≢◌, ℕ, List, [], ◌∷◌, ◌++◌, Option, Some, None, Contains, IfSome}
+use Rattle.std.specs.List.{flat_map}
 use Rattle.dr_ages.specs.declared.mode.Mode.{Mode}
+use Rattle.dr_ages.specs.declared.mode.Mode.TheVariants.{Sim}
 use Rattle.dr_ages.specs.declared.stop.Stop.{Stop}
 use Rattle.dr_ages.specs.Runs.{IsRunOf}
+use Rattle.dr_complete.specs.Time.{HasTime}
 use Rattle.dr_entry.specs.declared.end.AgeEnd.{AgeEnd}
+use Rattle.dr_intake.specs.Reading.{refusal_in}
+use Rattle.dr_intake.specs.Status.{status_of}
+use Rattle.dr_program_laws.specs.Trusting.{SuspectsNobody}
 use Rattle.dr_script.specs.declared.script.Script.{Script}
+use Rattle.dr_script.specs.Reading.{Reading, Reads, reading_of}
+use Rattle.dr_text.specs.declared.last.Last.{Last}
+use Rattle.dr_text.specs.declared.last.Last.TheVariants as lasts
+use Rattle.dr_text.specs.Report.{age_text, last_text}
 use Rattle.dr_yard.specs.Yards.{YardState, empty_yard}
+use Rattle.dr_outcome.specs.Last.{last_of}
+use Rattle.dr_outcome.specs.Playing.{Playing}
+use Rattle.dr_outcome.specs.declared.outcome.Body.{Body}
+use Rattle.dr_outcome.specs.declared.outcome.Body.TheVariants as bodies
+use Rattle.dr_outcome.specs.declared.outcome.Outcome.{Outcome}
 
--- no age was run, and the yard is as it was
-pub record RanNothing (before after : YardState) (ages : List AgeEnd) (stop : Option Stop) : Type 0 where
-  pub none : ages ≡ []
-  pub unstopped : stop ≡ None
+-- ---- the text of an outcome
+
+-- what is said of the ages that ran: their report, or a text of its own
+abbrev pub body_text : Body → List AgeEnd → List ℕ
+body_text bodies.Report ages = flat_map age_text ages
+body_text (bodies.Text text) ages = text
+
+-- the whole text, with this last line
+abbrev pub outcome_text : Outcome → Last → List ℕ
+outcome_text o last = body_text o.body o.ages ++ last_text last
+
+-- ---- what was run
+
+-- no age was run, the yard is as it was, and nothing is said but this last line, if there is one
+pub record SaysOnly (last : Option Last) (before after : YardState) (o : Outcome) : Type 0 where
+  pub none : o.ages ≡ []
+  pub unstopped : o.stop ≡ None
   pub untouched : after ≡ before
+  pub bare : IfSome last (λ line. body_text o.body o.ages ≡ [])
+  pub line : o.last ≡ last
 
 -- the ages of a run over empty disks, none of which counts a fault
 pub record IsRunInMemory (script : Script) (mode : Mode) (ages : List AgeEnd) (stop : Option Stop) : Type 0 where
@@ -19,9 +49,48 @@ pub record IsRunInMemory (script : Script) (mode : Mode) (ages : List AgeEnd) (s
   pub calm : (m : ℕ) → after.faults m ≡ 0
   pub run : IsRunOf script mode empty_yard after ages stop
 
--- the ages of a run over the disks of the yard, where the words name a folder, and else over disks in memory,
--- and then the yard is as it was
+-- the ages of a run over the disks of the yard, where a folder is named, and else over disks in memory, and
+-- then the yard is as it was
 abbrev pub HasRun : Mode → Option (List ℕ) → Script → YardState → YardState → List AgeEnd → Option Stop
     → Type 0
 HasRun mode (Some folder) script before after ages stop = IsRunOf script mode before after ages stop
 HasRun mode None script before after ages stop = (after ≡ before) × IsRunInMemory script mode ages stop
+
+-- a script was played, and the last line tells how its run ended
+pub record HasPlayed (play : Playing) (script : Script) (before after : YardState) (o : Outcome) : Type 0 where
+  pub run : HasRun play.mode play.folder script before after o.ages o.stop
+  pub line : o.last ≡ last_of o.ages o.stop
+  -- no script is refused
+  pub accepted : IfSome o.last (λ line. status_of line ≢ 3)
+  -- a simulation that spends the turns of a member had too few of them; of threads nothing is said
+  pub untimely : play.mode ≡ Sim → o.last ≡ Some lasts.Unfinished → HasTime script → ⊥
+  -- a member without a majority had a reason to suspect others
+  pub untrusting : o.last ≡ Some lasts.NoMajority → SuspectsNobody script → ⊥
+
+-- ---- what comes of a command
+
+-- what comes of a text, by what is read of it: of one that is no script the line by which it is refused
+abbrev pub OfScript : (Script → Outcome → Type 0) → Reading → YardState → YardState → Outcome → Type 0
+OfScript Of (Reads script) before after o = Of script o
+OfScript Of refused before after o = SaysOnly (refusal_in refused) before after o
+
+-- the text is a script, which was played, and the report of its ages is said, or it is refused
+abbrev pub Plays : Playing → List ℕ → YardState → YardState → Outcome → Type 0
+Plays play bytes before after o =
+    OfScript (λ script result. HasPlayed play script before after result × (result.body ≡ bodies.Report))
+    (reading_of bytes) before after o
+
+-- the last line is that of the ages that ran, and of what ended the run; or nothing was run, and it tells of
+-- no run
+pub data IsDue (o : Outcome) : Type 0 where
+  by_run : o.last ≡ last_of o.ages o.stop → IsDue o
+  unrun : o.ages ≡ [] → o.stop ≡ None
+      → IfSome o.last (λ line. Contains (0 ∷ 3 ∷ 12 ∷ 13 ∷ []) (status_of line)) → IsDue o
+
+-- a command came to this: it did what it does, and the last line, if there is one, is due, with one of these
+-- statuses
+pub record HasDone (Is : YardState → YardState → Outcome → Type 0) (ends : List ℕ) (before after : YardState)
+    (o : Outcome) : Type 0 where
+  pub does : Is before after o
+  pub due : IsDue o
+  pub known : IfSome o.last (λ line. Contains ends (status_of line))

@@ -1,10 +1,15 @@
-//! What a run of a script comes to: its ages, what ended it before its last one, and the last line.
+//! What a call comes to that runs scripts: the ages, what ended the run before its last one, what is said of
+//! them, and the last line.
 #![tactic(auto)]
 
 mod last;
+mod outcome;
+mod playing;
 mod running;
 mod watching;
 
 pub use last::{Kind, last_of};
-pub use running::{Outcome, run_in_memory, run_script, without_ages};
+pub use outcome::{Body, Outcome, Play, without_ages};
+pub use playing::{play_script, play_text, simulate, simulate_text};
+pub use running::run_in_memory;
 pub use watching::watch_in_memory;

@@ -9,7 +9,7 @@ ghost use Rattle.dr_outcome.specs.Last.{last_of};
 ghost use Rattle.dr_outcome.specs.Outcome.{IsRunInMemory};
 
 use crate::last::last_of;
-use crate::running::{Outcome, without_ages};
+use crate::outcome::{Body, Outcome, without_ages};
 use dr_ages::{AgesEnd, Mode, watch_ages};
 use dr_pace::SnoozePace;
 use dr_script::Script;
@@ -59,5 +59,10 @@ fn watch_over<R: Threads + Sync, Y: Yard, W: Watcher>(
     let pace = &SnoozePace;
     let AgesEnd { ages, stop } = watch_ages(rt, alloc, script, Mode::Sim, "", yard, pace, watcher);
     let last = last_of(ages.as_slice(), stop);
-    Outcome { ages, stop, last }
+    Outcome {
+        ages,
+        stop,
+        body: Body::Report,
+        last,
+    }
 }

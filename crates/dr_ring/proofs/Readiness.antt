@@ -7,9 +7,12 @@ use Rattle.std.proofs.lemmas.Bool.Decides.{nat_tests}
 use Rattle.std.proofs.lemmas.Nat.Bits.{bit_at_ones, bit_at_ones_above, bit_at_set_other, bit_at_set_same, same_from_bits}
 use Rattle.dr_entry.specs.declared.limits.TheConstants.{MAX_MESSAGE_LENGTH}
 use Rattle.dr_entry.specs.declared.entry.Item.{Item}
+use native.Mathlib.Nat.{add-mod_left}
+use Rattle.dr_rows.specs.Words.{Words, seen}
+use Rattle.dr_words.specs.Columns.{head_column}
 use Rattle.dr_words.specs.Packing.{ring_tag, ring_low}
 use Rattle.dr_ring.specs.Pieces.{null_mark, is_head, body_len, item_of}
-use Rattle.dr_ring.specs.Slots.{IsReady, is_of, item_in}
+use Rattle.dr_ring.specs.Slots.{IsReady, is_of, item_in, slot_of}
 use Rattle.dr_ring.proofs.Bodies.{first_words, passes_more, passes_not}
 
 -- where all first words of a body pass a test, each of them does
@@ -93,9 +96,19 @@ ready_value k slot ready same =
     subst (λ (b : Bool). IsTrue b ↔ IsReady k slot) (sym same)
     (some_tested (item_in k slot) (IsReady k slot) (ready_test k slot))
 
+-- an item whose slot holds the one a window before it is not there yet
+pub not_yet : (window : ℕ) (w : Words) (row k : ℕ) → 1 ≤ window → IsReady k (slot_of window w row k)
+    → IsReady (k + window) (slot_of window w row (k + window)) → ⊥
+not_yet window w row k some here there =
+    let number : (k + window) % window ≡ k % window =
+    ap (λ (n : ℕ). n % window) (omega arith) ∙ add-mod_left window k in
+    let head : slot_of window w row (k + window) 0 ≡ slot_of window w row k 0 =
+    ap (λ (n : ℕ). seen w row (head_column w.members n + 0)) number in
+    absurd (omega (arith, here.head, there.head, ap ring_tag head, some))
+
 -- ---- by a mask
 
-same_test : (a b : Bool) → (a ≡ true → b ≡ true) → (b ≡ true → a ≡ true) → a ≡ b
+pub same_test : (a b : Bool) → (a ≡ true → b ≡ true) → (b ≡ true → a ≡ true) → a ≡ b
 same_test true b to back = sym (to refl)
 same_test false true to back = back refl
 same_test false false to back = refl

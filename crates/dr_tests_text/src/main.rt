@@ -5,7 +5,7 @@
 use anyhow::anyhow;
 use dr_entry::{AgeEnd, End, Entry, MemberEnd, Message, Seq, Text};
 use dr_io::OutputSink;
-use dr_text::{Last, Report};
+use dr_text::{Clause, Last, Report};
 use std::alloc::{AllocError, Global};
 
 fn main(rt: HostRuntime) -> anyhow::Result<()> {
@@ -119,7 +119,7 @@ fn each_end(alloc: Global) -> Result<AgeEnd, AllocError> {
 }
 
 /// Each last line that there is.
-fn each_last_line(alloc: Global) -> Result<[Last; 14], AllocError> {
+fn each_last_line(alloc: Global) -> Result<[Last; 23], AllocError> {
     let path = Text::of(String::from_str(alloc, "/messages/2/0")?);
     Ok([
         Last::Done,
@@ -142,9 +142,32 @@ fn each_last_line(alloc: Global) -> Result<[Last; 14], AllocError> {
             b: 12,
             place: 4,
         },
+        Last::NoQuorum {
+            view: None,
+            have: 1,
+            need: 2,
+        },
+        Last::NoQuorum {
+            view: Some(0),
+            have: 1,
+            need: 2,
+        },
         Last::AgesUsedUp,
         Last::Unfinished,
         Last::NoMajority,
         Last::LogFull { member: 10 },
+        Last::NoShard {
+            shards: 5,
+            members: 4,
+        },
+        Last::ManyAges { ages: 2 },
+        Last::Crosses { fault: 0 },
+        Last::NotCheck,
+        Last::NoReport { line: 17 },
+        Last::Right,
+        Last::Wrong {
+            clause: Clause::Bytes,
+            line: 15,
+        },
     ])
 }

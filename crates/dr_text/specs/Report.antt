@@ -1,5 +1,5 @@
 -- The text of a report. Every line ends with one line feed, and numbers are decimal without leading zeros.
-use Rattle.std.specs.Prelude.{ℕ, ◌/◌, ◌%◌, false, List, [], ◌∷◌, ◌++◌, length, drop, codes}
+use Rattle.std.specs.Prelude.{ℕ, ◌/◌, ◌%◌, false, List, [], ◌∷◌, ◌++◌, length, drop, codes, Option, None, Some}
 use Rattle.std.specs.Fmt.{decimal, digit_glyph}
 use Rattle.std.specs.List.{concat, enumerate_from, flat_map, join_by}
 use Rattle.dr_entry.specs.declared.entry.Entry.{Entry}
@@ -9,6 +9,8 @@ use Rattle.dr_entry.specs.declared.end.End.TheVariants.{Done, Crashed, Suspected
 use Rattle.dr_entry.specs.declared.end.MemberEnd.{MemberEnd}
 use Rattle.dr_entry.specs.declared.end.AgeEnd.{AgeEnd}
 use Rattle.dr_history.specs.Members.{members_of}
+use Rattle.dr_text.specs.declared.last.Clause.{Clause}
+use Rattle.dr_text.specs.declared.last.Clause.TheVariants as clauses
 use Rattle.dr_text.specs.declared.last.Last.{Last}
 use Rattle.dr_text.specs.declared.last.Last.TheVariants as lasts
 
@@ -79,6 +81,22 @@ abbrev pub rule_text : ℕ → List ℕ → List ℕ
 rule_text rule path = concat (codes "refused: rule " ∷ decimal rule ∷ codes " at " ∷ path
     ∷ codes "\n" ∷ [])
 
+-- whose majority wants logs: that of the roster, or of a view
+abbrev pub whole_text : Option ℕ → List ℕ
+whole_text None = codes "roster"
+whole_text (Some view) = codes "view " ++ decimal view
+
+-- the word for what is asked of a report
+abbrev pub clause_word : Clause → List ℕ
+clause_word clauses.Start = codes "start"
+clause_word clauses.View = codes "view"
+clause_word clauses.Sender = codes "sender"
+clause_word clauses.Index = codes "index"
+clause_word clauses.Bytes = codes "bytes"
+clause_word clauses.Prefix = codes "prefix"
+clause_word clauses.Durable = codes "durable"
+clause_word clauses.Kept = codes "kept"
+
 -- the last line
 abbrev pub last_text : Last → List ℕ
 last_text lasts.Done = codes "ok\n"
@@ -101,11 +119,27 @@ last_text (lasts.Disagree a b place) =
     concat
     (codes "refused: logs of members " ∷ decimal a ∷ codes " and " ∷ decimal b
     ∷ codes " disagree at entry " ∷ decimal place ∷ codes "\n" ∷ [])
+last_text (lasts.NoQuorum view have need) =
+    concat
+    (codes "refused: quorum of " ∷ whole_text view ∷ codes " has " ∷ decimal have ∷ codes " of "
+    ∷ decimal need ∷ codes "\n" ∷ [])
 last_text lasts.AgesUsedUp = codes "refused: ages used up\n"
 last_text lasts.Unfinished = codes "unfinished\n"
 last_text lasts.NoMajority = codes "no majority\n"
 last_text (lasts.LogFull member) =
     concat (codes "fault: log full of member " ∷ decimal member ∷ codes "\n" ∷ [])
+last_text (lasts.NoShard shards members) =
+    concat
+    (codes "refused: " ∷ decimal shards ∷ codes " shards of " ∷ decimal members ∷ codes " members\n" ∷ [])
+last_text (lasts.ManyAges ages) = concat (codes "refused: " ∷ decimal ages ∷ codes " ages\n" ∷ [])
+last_text (lasts.Crosses fault) =
+    concat (codes "refused: fault " ∷ decimal fault ∷ codes " crosses shards\n" ∷ [])
+last_text lasts.NotCheck = codes "refused: not a check\n"
+last_text (lasts.NoReport line) =
+    concat (codes "refused: no report at line " ∷ decimal line ∷ codes "\n" ∷ [])
+last_text lasts.Right = codes "yes\n"
+last_text (lasts.Wrong clause line) =
+    concat (codes "no: " ∷ clause_word clause ∷ codes " at line " ∷ decimal line ∷ codes "\n" ∷ [])
 
 -- the whole text: the ages, and one last line
 abbrev pub report_text : List AgeEnd → Last → List ℕ

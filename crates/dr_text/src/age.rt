@@ -147,14 +147,30 @@ fn push_member(
 fn line_of(alloc: Global, number: usize, member: &MemberEnd) -> Result<String, AllocError>
     ensures { IfOk result (λ line. string_bytes line ≡ member_line number member.now) }
 {
+    let mut line = String::new(alloc);
+    push_member_line(&mut line, number, member)?;
+    Ok(line)
+}
+
+/// Appends the line of a member with this number: how it ended, without its entries.
+///
+/// # Errors
+///
+/// Want of memory alone.
+pub fn push_member_line(
+    out: &mut String,
+    number: usize,
+    member: &MemberEnd,
+) -> Result<(), AllocError>
+    ensures { OnOk result (string_bytes out.new
+        ≡ string_bytes out.old ++ member_line number member.now) }
+{
     let count = member.history.as_slice().len();
     let logged = member.logged;
     let durable = member.durable;
-    let mut line = String::new(alloc);
-    write!(line, "member {number} ")?;
-    push_end(&mut line, member.end)?;
-    writeln!(line, " history {count} logged {logged} durable {durable}")?;
-    Ok(line)
+    write!(out, "member {number} ")?;
+    push_end(out, member.end)?;
+    writeln!(out, " history {count} logged {logged} durable {durable}")
 }
 
 /// The lines of these entries.

@@ -11,7 +11,7 @@ use crate::search::leave_row;
 use dr_program::Place;
 
 impl Member {
-    /// Takes its looks from this one to the last one of the row, at a table that stays as it is meanwhile.
+    /// Takes its look, and others of the row behind it in one go, at a table that stays as it is meanwhile.
     #[inline(always)]
     pub fn look_alone(&mut self, table: &[u64])
         requires deed { is_look (next_deed self.old) ≡ true }
@@ -27,11 +27,10 @@ impl Member {
         let first = self.look_index(row, 0);
         self.replica.look_row(row, column, table, first);
         self.replica.wait_for(&mut self.fate.waits, row);
-        leave_row(&self.replica, &self.fate, &mut self.place);
+        leave_row(&self.replica, &self.fate, &mut self.place, &mut self.ready);
     }
 
-    /// Takes its pushes from this one to the last one of the row; in a turn in which it crashes, this one
-    /// alone.
+    /// Takes its push, and others of the row behind it in one go; in a turn in which it crashes, this one alone.
     #[inline(always)]
     pub fn push_alone(&mut self, table: &mut [u64])
         requires deed { is_push (next_deed self.old) ≡ true }
@@ -55,6 +54,6 @@ impl Member {
         }
         let count = self.replica.push_row(to, column, table, first);
         self.fate.pushes = self.fate.pushes.saturating_add(count);
-        leave_row(&self.replica, &self.fate, &mut self.place);
+        leave_row(&self.replica, &self.fate, &mut self.place, &mut self.ready);
     }
 }

@@ -122,7 +122,7 @@ impl Member {
             }
         }
         self.replica.wait_for(&mut self.fate.waits, row);
-        leave_row(&self.replica, &self.fate, &mut self.place);
+        leave_row(&self.replica, &self.fate, &mut self.place, &mut self.ready);
     }
 
     /// Takes its pushes from this one to the last one of the row, or to the one before which it crashes.
@@ -159,7 +159,7 @@ impl Member {
             self.fate.pushes = self.fate.pushes.saturating_add(1);
             column = next_changed(&self.replica, columns, to, column + 1);
             if column >= columns {
-                leave_row(&self.replica, &self.fate, &mut self.place);
+                leave_row(&self.replica, &self.fate, &mut self.place, &mut self.ready);
                 return;
             }
             if self.fate.crashes_now() {

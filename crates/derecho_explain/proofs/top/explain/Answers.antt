@@ -1,4 +1,4 @@
-use Rattle.std.proofs.Common.{inr, string_bytes}
+use Rattle.std.proofs.Common.{◌∙◌, arith, inl, inr, string_bytes, sym}
 use Rattle.derecho_explain.proofs.top.explain.Goals as goal
 
 pub returns-clause-told : goal.returns-clause-told
@@ -8,3 +8,12 @@ returns-clause-told g c = inr (record {
   answer = c.in-Ok.ensures.answer;
   wrote = c.write.ensures.wrote;
 })
+
+pub returns-clause-read_fault_told : goal.returns-clause-read_fault_told
+returns-clause-read_fault_told g c = elim c.in-Ok.ensures.told [
+  | inl calm ↦ inl calm
+  | inr four ↦ inr (elim c.write.ensures.wrote [
+    | inl whole ↦ (0, omega arith, sym (whole.0 ∙ four))
+    | inr front ↦ (2, omega arith, sym front.0)
+  ])
+]

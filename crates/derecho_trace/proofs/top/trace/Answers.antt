@@ -3,7 +3,8 @@ use Rattle.dr_io.specs.Faults.{Rose}
 use Rattle.dr_script.specs.Reading.{reading_of}
 use Rattle.dr_text.specs.declared.last.Last.TheVariants as lasts
 use Rattle.dr_text.specs.Report.{last_text}
-use Rattle.derecho_trace.specs.Trace.{IsTracedFor, no_memory, no_source, read, usage_text}
+use Rattle.dr_intake.specs.Answer.{done, no_memory, no_source}
+use Rattle.derecho_trace.specs.Trace.{IsTracedFor, usage_text}
 use Rattle.derecho_trace.specs.Words.{asked_by}
 use Rattle.derecho_trace.proofs.Statuses.{traced_known, wrote_known}
 use Rattle.derecho_trace.proofs.top.trace.Goals as goal
@@ -16,7 +17,7 @@ returns-in-Ok-clause-told g c =
     record {
       text = wrote.text;
       due = wrote.due;
-      is = read c.in-Some.form asked c.in-Ok.bytes.items c.in-Ok.ensures.bytes
+      is = done c.in-Some.form asked c.in-Ok.bytes.items c.in-Ok.ensures.bytes
           (subst (λ (l : List ℕ). IsTracedFor c.in-Some.form (reading_of l) wrote.text wrote.due)
           c.deref.ensures.value wrote.is);
       wrote = wrote.wrote;
@@ -30,7 +31,7 @@ returns-in-Err-Failed-clause-told g c =
     record {
       text = last_text lasts.SourceFault;
       due = 4;
-      is = no_source c.in-Some.form asked rose refl refl;
+      is = no_source c.in-Some.form asked refl rose (refl, refl);
       wrote = c.end.ensures.wrote (g.K.Sink.held c.args.sink) (g.K.Sink.faults c.args.sink) []
           c.new-output.ensures;
     }

@@ -9,24 +9,35 @@ use Rattle.dr_member.proofs.Passing.{GoesBy, first_found, row_passed}
 use Rattle.dr_member.proofs.Votes.{votes_passed}
 use Rattle.dr_member.proofs.search.settle.Goals as goal
 
-goes : (c : goal.After-next_row)
+goes : (c : goal.After-enter_row)
     → GoesBy (standing c.args.replica.now c.args.fate.now c.loop-place.place)
-    (standing c.args.replica.now c.args.fate.now c.next_row.new.place)
+    (standing c.args.replica.now c.args.fate.now c.enter_row.new.place)
 goes c =
     let r = standing c.args.replica.now c.args.fate.now c.loop-place.place in
     subst (λ (x : Place). GoesBy r (standing c.args.replica.now c.args.fate.now x))
-    (sym (c.next_row.ensures ∙ ap (λ n. next_row n c.loop-place.place) c.shape.ensures.members))
+    (sym c.enter_row.ensures.place)
     (row_passed r c.loop-place.invariant.underway c.loop-place.invariant.none c.in_default-first_due.ensures)
 
-pub returns-then-is_some : goal.returns-then-is_some
-returns-then-is_some c =
+pub returns-then-is_some-clause-ready : goal.returns-then-is_some-clause-ready
+returns-then-is_some-clause-ready c = c.requires.ready
+
+pub returns-in-Some-clause-ready : goal.returns-in-Some-clause-ready
+returns-in-Some-clause-ready c = c.loop-place.invariant.ready
+
+pub enter_row-requires-clause-next : goal.enter_row-requires-clause-next
+enter_row-requires-clause-next c =
+    (row_passed (standing c.args.replica.now c.args.fate.now c.loop-place.place) c.loop-place.invariant.underway
+    c.loop-place.invariant.none c.in_default-first_due.ensures).underway.place
+
+pub returns-then-is_some-clause-place : goal.returns-then-is_some-clause-place
+returns-then-is_some-clause-place c =
     let r = standing c.args.replica.now c.args.fate.now c.args.place.now in
     sym (settled_here r
     (stops_end r.replica.end (applies r r.place) (sym (c.is_some.ensures ∙ ap is_some c.end.ensures)
     ∙ c.if-is_some.true)))
 
-pub returns-in-Some : goal.returns-in-Some
-returns-in-Some c =
+pub returns-in-Some-clause-place : goal.returns-in-Some-clause-place
+returns-in-Some-clause-place c =
     first_found (standing c.args.replica.now c.args.fate.now c.loop-place.place) c.in-Some.column
     c.loop-place.invariant.underway c.loop-place.invariant.none c.in-Some.ensures
     ∙ c.loop-place.invariant.same
@@ -39,6 +50,7 @@ loop-place-preserved c = record {
   same = (goes c).same ∙ c.loop-place.invariant.same;
   underway = (goes c).underway;
   none = c.loop-place.invariant.none;
+  ready = c.enter_row.ensures.ready;
 }
 
 past : (c : goal.After-place-1)
@@ -56,4 +68,5 @@ loop-place-preserved-then-is_calm c = record {
   same = (past c).same ∙ c.loop-place.invariant.same;
   underway = (past c).underway;
   none = c.loop-place.invariant.none;
+  ready = λ at. absurd (cc at);
 }

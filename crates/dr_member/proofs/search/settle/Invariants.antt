@@ -1,6 +1,7 @@
 use Rattle.std.proofs.Common.{◌≡◌, None}
 use Rattle.dr_program.specs.Running.{members, columns, settled}
 use Rattle.dr_turn.specs.Search.{IsUnderway, left}
+use Rattle.dr_member.specs.Ready.{KeepsReady}
 use Rattle.dr_member.specs.Search.{standing}
 use Rattle.dr_member.proofs.search.settle.Given as goal
 
@@ -13,4 +14,5 @@ invariant-loop-place l = record {
   same : settled (standing l.replica l.fate l.place) ≡ settled (standing l.replica l.fate l.fn.place);
   underway : IsUnderway (standing l.replica l.fate l.place);
   none : l.replica.end ≡ None;
+  ready : KeepsReady l.replica l.place l.ready;
 }

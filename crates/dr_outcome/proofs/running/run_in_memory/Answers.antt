@@ -3,9 +3,10 @@ use Rattle.dr_yard.specs.Places.{place_told}
 use Rattle.dr_outcome.proofs.Runs.{in_memory}
 use Rattle.dr_outcome.proofs.running.run_in_memory.Goals as goal
 
-pub returns-in-Ok : goal.returns-in-Ok
-returns-in-Ok g c = inr (
-  in_memory c.args.script.now c.args.mode c.run_over.result.ages c.run_over.result.stop (place_told c.in-Ok.yard)
+pub returns-in-Ok-clause-ran : goal.returns-in-Ok-clause-ran
+returns-in-Ok-clause-ran g c = inr (
+  in_memory c.args.script.now c.args.mode c.run_over.result.ages c.run_over.result.stop
+      (place_told c.in-Ok.yard)
       (record { told = place_told c.run_over.new.yard; faults = λ m. 0 }) c.in-Ok.ensures.empty (λ m. refl)
       c.run_over.ensures.run,
   c.run_over.ensures.last,

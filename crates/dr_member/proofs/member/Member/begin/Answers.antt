@@ -26,4 +26,5 @@ invariant_of-result c =
           (record { crash = refl; ahead = λ push e. omega arith }));
       limit = c.begin-fate.ensures.small;
       bases = c.of-bases.ensures;
+      ready = λ at. absurd (cc at);
     }

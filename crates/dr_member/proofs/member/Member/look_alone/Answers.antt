@@ -55,7 +55,7 @@ look_row-requires-clause-grown c = λ d l h. (asked c).grown d l (omega (
 ))
 
 -- it stands behind the row
-behind : (c : goal.After-leave_row-arg-3-1) → IsBehindRow c.args.table.now c.args.self.now c.self.inside c.args.table.now
+behind : (c : goal.After-leave_row-arg-4-1) → IsBehindRow c.args.table.now c.args.self.now c.self.inside c.args.table.now
     c.look_row.new.self (waited c.self.inside.fate c.wait_for.new.patience)
 behind c = looks_done c.args.table.now c.args.self.now c.look_index-first.result c.self.inside
     c.look_row.new.self c.wait_for.new.patience
@@ -82,6 +82,7 @@ left : (c : goal.After-leave_row) → HasComeAlone c.args.table.now c.args.self.
       replica = c.look_row.new.self;
       place = c.leave_row.new.place;
       fate = waited c.self.inside.fate c.wait_for.new.patience;
+      ready = c.leave_row.new.ready;
     })
 left c =
     (looks_done c.args.table.now c.args.self.now c.look_index-first.result c.self.inside
@@ -92,7 +93,8 @@ left c =
       due = c.requires.deed;
       begins = c.look_index-first.ensures.index;
       sees = c.requires.sight;
-    }) c.look_row.ensures.after c.wait_for.ensures.after).left c.leave_row.new.place c.leave_row.ensures
+    }) c.look_row.ensures.after c.wait_for.ensures.after).left c.leave_row.new.place c.leave_row.new.ready
+    c.leave_row.ensures.place c.leave_row.ensures.ready
 
 pub invariant_of-self : goal.invariant_of-self
 invariant_of-self c = (left c).inside

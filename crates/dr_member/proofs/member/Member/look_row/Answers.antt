@@ -130,6 +130,7 @@ left : (g : Over) (c : goal.After-leave_row g)
       replica = c.look.new.self;
       place = c.leave_row.new.place;
       fate = waited c.loop-column.self-inside.fate c.wait_for.new.patience;
+      ready = c.leave_row.new.ready;
     })
 left g c =
     let a = at_column c.loop-column.self-inside c.loop-column.column in
@@ -137,11 +138,11 @@ left g c =
     let l = saw a c.look.new.self _ c.look-word.result is.inside c.look-word.ensures.sees
     c.loop-column.invariant.row c.look.ensures.after c.look.ensures.form c.look.ensures.grown in
     looks_end c.args.self.now a c.look.new.self c.leave_row.new.place _ c.look-word.result
-    c.wait_for.new.patience is l
+    c.leave_row.new.ready c.wait_for.new.patience is l
     (was_waited a c.look.new.self _ c.look-word.result c.wait_for.new.patience is.inside l
     (omega (arith, c.if-column-columns.true, c.loop-column.invariant.columns)) c.loop-column.invariant.row
     c.wait_for.ensures.after)
-    c.leave_row.ensures
+    c.leave_row.ensures.place c.leave_row.ensures.ready
 
 pub invariant_of-self : goal.invariant_of-self
 invariant_of-self g c = (left g c).inside

@@ -3,6 +3,8 @@ use Rattle.dr_words.specs.Columns.{columns_of}
 use Rattle.dr_member.specs.Search.{standing}
 use Rattle.dr_member.proofs.Answers.{IsAnswer}
 use Rattle.dr_member.proofs.Indices.{columns_after}
+use Rattle.dr_member.proofs.Ready.{elsewhere}
+use Rattle.dr_program.specs.declared.place.Part.TheVariants as parts
 use Rattle.dr_member.proofs.Moves.{IsLooked, IsWaited, inside_after, is_looked, look_due_at, look_left, looked_past, looked_row_timely, looked_within, stays_timely, waited}
 use Rattle.dr_member.proofs.member.Member.looked.Goals as goal
 
@@ -25,14 +27,14 @@ within c = looked_within c.args.self.now c.self.inside.replica c.look.new.self c
       columns_after c.self.inside c.look.new.self _ c.self.invariant c.look.ensures.after refl,
     )
 
-known_past : (c : goal.After-leave_row-arg-else-next-self-2-1)
+known_past : (c : goal.After-leave_row-arg-else-next-self-3-1)
     → IsLooked c.self.inside.replica c.look-else-next-self.new.self c.self.inside.fate c.self.inside.place
     c.args.word
 known_past c = is_looked c.args.self.now c.self.inside c.look-else-next-self.new.self c.args.word
     c.self.view_is c.self.invariant c.requires c.look-else-next-self.ensures.after
     c.look-else-next-self.ensures.form c.look-else-next-self.ensures.grown
 
-outer : (c : goal.After-leave_row-arg-else-next-self-2-1)
+outer : (c : goal.After-leave_row-arg-else-next-self-3-1)
     → IsWaited c.look-else-next-self.new.self c.self.inside.fate c.self.inside.place
     c.wait_for.new.patience
 outer c = record {
@@ -51,7 +53,7 @@ past : (c : goal.After-leave_row)
     c.leave_row.new.place)
 past c = looked_past c.args.self.now c.self.inside.replica c.look-else-next-self.new.self c.self.inside.fate
     c.self.inside.place c.leave_row.new.place c.args.word c.wait_for.new.patience c.self.view_is
-    (known_past c.before) (outer c.before) c.leave_row.ensures
+    (known_past c.before) (outer c.before) c.leave_row.ensures.place
 
 pub look-requires-clause-in_form : goal.look-requires-clause-in_form
 look-requires-clause-in_form c =
@@ -85,17 +87,20 @@ leave_row-requires-clause-fate c =
 
 pub invariant_of-self : goal.invariant_of-self
 invariant_of-self c = inside_after c.self.inside c.look.new.self _ c.self.inside.fate
-    (record c.self.inside.place { column = c.self.inside.place.column + 1 }) c.self.invariant
-    c.look.ensures.after refl (within c).form
+    (record c.self.inside.place { column = c.self.inside.place.column + 1 }) c.self.inside.ready
+    c.self.invariant c.look.ensures.after refl (within c).form
     (stays_timely c.self.inside c.look.new.self _ c.self.invariant c.look.ensures.after refl) refl
+    (elsewhere c.look.new.self (record c.self.inside.place { column = c.self.inside.place.column + 1 })
+    parts.Look c.self.inside.ready (known c).due.at refl)
 
 pub invariant_of-self-else-next-self : goal.invariant_of-self-else-next-self
 invariant_of-self-else-next-self c =
     inside_after c.self.inside c.look-else-next-self.new.self _
-    (waited c.self.inside.fate c.wait_for.new.patience) c.leave_row.new.place c.self.invariant
-    c.look-else-next-self.ensures.after refl (past c).form
+    (waited c.self.inside.fate c.wait_for.new.patience) c.leave_row.new.place c.leave_row.new.ready
+    c.self.invariant c.look-else-next-self.ensures.after refl (past c).form
     (looked_row_timely c.self.inside c.look-else-next-self.new.self _ _ c.args.word
     c.wait_for.new.patience c.self.invariant c.look-else-next-self.ensures.after) refl
+    c.leave_row.ensures.ready
 
 pub returns-then-next-self-clause-after : goal.returns-then-next-self-clause-after
 returns-then-next-self-clause-after c = (within c).after

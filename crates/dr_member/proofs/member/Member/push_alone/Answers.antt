@@ -56,11 +56,13 @@ left : (c : goal.After-leave_row) → HasComeAlone c.args.table.now c.args.self.
       replica = c.push_row-count.new.self;
       place = c.leave_row.new.place;
       fate = counted c.self.inside.fate c.saturating_add-self-inside.result;
+      ready = c.leave_row.new.ready;
     })
 left c = subst (λ cells. HasComeAlone c.args.table.now c.args.self.now cells (record c.self.inside {
   replica = c.push_row-count.new.self;
   place = c.leave_row.new.place;
   fate = counted c.self.inside.fate c.saturating_add-self-inside.result;
+  ready = c.leave_row.new.ready;
 })) (sym c.push_row-count.ensures.after.1)
     ((pushes_done c.args.table.now c.args.self.now c.push_index-first.result c.self.inside
     c.push_row-count.new.self c.saturating_add-self-inside.result
@@ -73,7 +75,7 @@ left c = subst (λ cells. HasComeAlone c.args.table.now c.args.self.now cells (r
     }) c.push_row-count.ensures.after.0
     (c.saturating_add-self-inside.ensures
     ∙ ap (λ n. min (c.self.inside.fate.pushes + n) (2 ^ 32 - 1)) c.push_row-count.ensures.after.2)).left
-    c.leave_row.new.place c.leave_row.ensures)
+    c.leave_row.new.place c.leave_row.new.ready c.leave_row.ensures.place c.leave_row.ensures.ready)
 
 pub invariant_of-self : goal.invariant_of-self
 invariant_of-self c = (left c).inside

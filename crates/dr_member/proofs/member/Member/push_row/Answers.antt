@@ -6,6 +6,8 @@ use Rattle.dr_member.specs.Inside.{view_of}
 use Rattle.dr_member.specs.Search.{standing}
 use Rattle.dr_member.proofs.Answers.{IsAnswer}
 use Rattle.dr_member.proofs.Indices.{columns_after}
+use Rattle.dr_member.proofs.Ready.{elsewhere}
+use Rattle.dr_program.specs.declared.place.Part.TheVariants as parts
 use Rattle.dr_member.proofs.Moves.{IsPushed, counted, push_left, pushed_behind, pushed_timely, pushed_within}
 use Rattle.dr_member.proofs.Sweeps.{HasLeft, IsOnRow, at_column, push_index, push_on, push_row_stays, pushed_from, pushes_begin, pushes_end, wrote}
 use Rattle.dr_member.proofs.member.Member.push_row.Given.{Over}
@@ -142,6 +144,7 @@ left : (g : Over) (c : goal.After-leave_row g)
       replica = c.push-in-loop-column.new.self;
       place = c.leave_row.new.place;
       fate = counted c.loop-column.self-inside.fate c.saturating_add-self-inside.result;
+      ready = c.leave_row.new.ready;
     })
 left g c =
     let a = at_column c.loop-column.self-inside c.loop-column.column in
@@ -161,9 +164,9 @@ left g c =
           c.push-in-loop-column.ensures.after refl,
     ) in
     pushes_end c.args.self.now a c.push-in-loop-column.new.self c.leave_row.new.place _ _ _ _
-    c.loop-column.invariant.on l
+    c.leave_row.new.ready c.loop-column.invariant.on l
     (pushed_behind (view_of a) a.replica c.push-in-loop-column.new.self a.fate a.place c.leave_row.new.place
-    _ _ 0 refl l outer c.leave_row.ensures)
+    _ _ 0 refl l outer c.leave_row.ensures.place) c.leave_row.ensures.ready
 
 -- before its crash it stands at the next one
 crashes : (g : Over) (c : goal.After-self-then-crashes_now-1 g)
@@ -190,10 +193,12 @@ crashes g c =
       columns_after a c.push-in-loop-column.new.self _ c.loop-column.invariant.on.inside
           c.push-in-loop-column.ensures.after refl,
     ) in
-    pushes_end c.args.self.now a c.push-in-loop-column.new.self _ _ _ _ _ c.loop-column.invariant.on l
+    pushes_end c.args.self.now a c.push-in-loop-column.new.self _ _ _ _ _ a.ready c.loop-column.invariant.on l
     (pushed_within (view_of a) a.replica c.push-in-loop-column.new.self a.fate a.place _ _ 0 refl l inner
     (ap (λ i. changed c.push-in-loop-column.new.self.rows i c.next_changed-column.result)
     c.loop-column.invariant.row ∙ c.next_changed-column.ensures.changed inner))
+    (elsewhere c.push-in-loop-column.new.self (record a.place { column = c.next_changed-column.result })
+    parts.Push a.ready l.due.at refl)
 
 pub invariant_of-self : goal.invariant_of-self
 invariant_of-self g c = (left g c).inside

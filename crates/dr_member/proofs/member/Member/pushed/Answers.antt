@@ -3,6 +3,8 @@ use Rattle.dr_words.specs.Columns.{columns_of}
 use Rattle.dr_member.specs.Search.{standing}
 use Rattle.dr_member.proofs.Answers.{IsAnswer}
 use Rattle.dr_member.proofs.Indices.{columns_after}
+use Rattle.dr_member.proofs.Ready.{elsewhere}
+use Rattle.dr_program.specs.declared.place.Part.TheVariants as parts
 use Rattle.dr_member.proofs.Moves.{IsPushed, counted, inside_after, is_pushed, push_left, pushed_behind, pushed_timely, pushed_within}
 use Rattle.dr_member.proofs.member.Member.pushed.Goals as goal
 
@@ -33,7 +35,7 @@ next c word =
       columns_after c.self.inside c.push.new.self _ c.self.invariant c.push.ensures.after refl,
     )
 
-known_past : (c : goal.After-leave_row-arg-else-next-columns-2-1)
+known_past : (c : goal.After-leave_row-arg-else-next-columns-3-1)
     → IsPushed c.self.inside.replica c.push.new.self c.self.inside.fate c.self.inside.place
     c.saturating_add-self-inside.result c.next_changed-next.result
 known_past c =
@@ -43,7 +45,7 @@ known_past c =
     c.next_changed-next.ensures.unchanged c.next_changed-next.ensures.from
     c.next_changed-next.ensures.within
 
-outer : (c : goal.After-leave_row-arg-else-next-columns-2-1)
+outer : (c : goal.After-leave_row-arg-else-next-columns-3-1)
     → columns_of c.push.new.self.roster c.push.new.self.window ≤ c.next_changed-next.result
 outer c = omega (
   arith,
@@ -58,7 +60,7 @@ past : (c : goal.After-leave_row) (word : ℕ)
 past c word =
     pushed_behind c.args.self.now c.self.inside.replica c.push.new.self c.self.inside.fate
     c.self.inside.place c.leave_row.new.place c.saturating_add-self-inside.result c.next_changed-next.result
-    word c.self.view_is (known_past c.before) (outer c.before) c.leave_row.ensures
+    word c.self.view_is (known_past c.before) (outer c.before) c.leave_row.ensures.place
 
 pub next_changed-next-requires-clause-columns : goal.next_changed-next-requires-clause-columns
 next_changed-next-requires-clause-columns c =
@@ -79,20 +81,22 @@ pub invariant_of-self : goal.invariant_of-self
 invariant_of-self c =
     inside_after c.self.inside c.push.new.self _
     (counted c.self.inside.fate c.saturating_add-self-inside.result)
-    (record c.self.inside.place { column = c.next_changed-next.result }) c.self.invariant
-    c.push.ensures.after refl (next c 0).form
+    (record c.self.inside.place { column = c.next_changed-next.result }) c.self.inside.ready
+    c.self.invariant c.push.ensures.after refl (next c 0).form
     (pushed_timely c.self.inside.replica c.push.new.self c.self.inside.fate c.self.inside.place
     c.saturating_add-self-inside.result c.next_changed-next.result
     (known c)) refl
+    (elsewhere c.push.new.self (record c.self.inside.place { column = c.next_changed-next.result })
+    parts.Push c.self.inside.ready (known c).due.at refl)
 
 pub invariant_of-self-else-next-columns : goal.invariant_of-self-else-next-columns
 invariant_of-self-else-next-columns c =
     inside_after c.self.inside c.push.new.self _
-    (counted c.self.inside.fate c.saturating_add-self-inside.result) c.leave_row.new.place c.self.invariant
-    c.push.ensures.after refl (past c 0).form
+    (counted c.self.inside.fate c.saturating_add-self-inside.result) c.leave_row.new.place
+    c.leave_row.new.ready c.self.invariant c.push.ensures.after refl (past c 0).form
     (pushed_timely c.self.inside.replica c.push.new.self c.self.inside.fate c.self.inside.place
     c.saturating_add-self-inside.result c.next_changed-next.result
-    (known_past c.before)) refl
+    (known_past c.before)) refl c.leave_row.ensures.ready
 
 pub returns-then-next-columns-clause-after : goal.returns-then-next-columns-clause-after
 returns-then-next-columns-clause-after c = λ word. (next c word).after

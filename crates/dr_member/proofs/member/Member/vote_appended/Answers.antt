@@ -3,7 +3,9 @@ use Rattle.dr_entry.specs.declared.record.Value.{Value}
 use Rattle.dr_program.specs.Replica.{may_vote, voted}
 use Rattle.dr_words.specs.Columns.{columns_of}
 use Rattle.dr_program.specs.Turn.{part_of}
-use Rattle.dr_program.specs.Running.{goes}
+use Rattle.dr_program.specs.Running.{Running, goes}
+use Rattle.dr_program.specs.declared.place.Part.TheVariants as parts
+use Rattle.dr_member.proofs.Ready.{gone_elsewhere}
 use Rattle.dr_member.specs.Inside.{view_of}
 use Rattle.dr_member.specs.Search.{standing}
 use Rattle.dr_member.proofs.Answers.{IsAnswer, IsTaken, answer_at, is_answer, is_done}
@@ -11,7 +13,7 @@ use Rattle.dr_member.proofs.Moves.{append_taken, inside_after, stays_timely, vot
 use Rattle.dr_member.proofs.member.Member.vote_appended.Goals as goal
 
 -- the vote was taken
-known : (c : goal.After-settle-arg-3-1) (word : ℕ)
+known : (c : goal.After-settle-arg-4-1) (word : ℕ)
     → IsTaken word (view_of c.self.inside) c.vote.new.self c.self.inside.fate c.go.new.place
 known c word = append_taken word c.args.self.now c.self.inside c.vote.new.self c.go.new.place c.self.view_is
     c.self.invariant c.requires.due
@@ -28,10 +30,20 @@ answer : (c : goal.After-settle) (word : ℕ)
     → IsAnswer word c.args.self.now
     (standing c.vote.new.self c.self.inside.fate c.settle.new.place)
 answer c word = answer_at word _ c.args.self.now _ c.self.view_is
-    (is_answer word _ _ _ _ c.settle.new.place (known c.before word) c.settle.ensures)
+    (is_answer word _ _ _ _ c.settle.new.place (known c.before word) c.settle.ensures.place)
 
 pub settle-requires-clause-underway : goal.settle-requires-clause-underway
 settle-requires-clause-underway c = (is_done 0 _ _ _ _ (known c 0)).underway
+
+pub settle-requires-clause-ready : goal.settle-requires-clause-ready
+settle-requires-clause-ready c =
+    gone_elsewhere c.self.inside.replica.roster _ c.vote.new.self c.self.inside.place c.go.new.place parts.Vote
+    c.self.inside.ready c.self.invariant.form.place
+    (ap (λ (x : Running). part_of x.place) c.self.view_is ∙ c.requires.at) refl
+    (c.go.ensures
+    ∙ (λ z. goes (c.shape.ensures.members z)
+    (columns_of (c.shape.ensures.members z) (c.shape.ensures.window z))
+    (part_of c.self.inside.place) c.self.inside.place))
 
 pub value_due-value-requires : goal.value_due-value-requires
 value_due-value-requires c = record {
@@ -52,9 +64,10 @@ vote-requires-clause-free c =
 
 pub invariant_of-self : goal.invariant_of-self
 invariant_of-self c =
-    inside_after c.self.inside c.vote.new.self _ c.self.inside.fate c.settle.new.place c.self.invariant
-    c.vote.ensures.after refl (answer c 0).form
+    inside_after c.self.inside c.vote.new.self _ c.self.inside.fate c.settle.new.place c.settle.new.ready
+    c.self.invariant c.vote.ensures.after refl (answer c 0).form
     (stays_timely c.self.inside c.vote.new.self _ c.self.invariant c.vote.ensures.after refl) refl
+    c.settle.ensures.ready
 
 pub returns-clause-after : goal.returns-clause-after
 returns-clause-after c = λ word. (answer c word).after

@@ -1,0 +1,74 @@
+ghost use Rattle.std.specs.Prelude.{◌≡◌, None, []};
+ghost use Rattle.dr_yard.specs.Yards.{YardState};
+ghost use Rattle.dr_outcome.specs.Outcome.{SaysOnly};
+ghost use Rattle.dr_outcome.specs.declared.outcome.Body.TheVariants.{Report};
+
+use dr_ages::{Mode, Stop};
+use dr_entry::{AgeEnd, Seq, Text};
+use dr_text::Last;
+use std::alloc::Global;
+use std::marker::Model;
+
+/// How a script is played.
+#[derive(Debug, Drop)]
+pub struct Play<'a> {
+    pub mode: Mode,
+    /// The folder of the logs. Without one they are empty at first, and kept in memory.
+    pub folder: Option<&'a str>,
+}
+
+impl<'a> Model for Play<'a> {
+    ghost use Rattle.std.specs.Prelude.{option_map};
+    ghost use Rattle.dr_outcome.specs.Playing.{Playing};
+
+    ghost Value = { Playing };
+
+    ghost view = { λ p. record { mode = p.mode; folder = option_map (λ f. f.now) p.folder } };
+}
+
+/// What is said of the ages that ran, before the last line.
+#[derive(Debug, Drop)]
+pub enum Body {
+    /// Their report.
+    Report,
+    /// A text of the command's own.
+    Text(Text),
+}
+
+/// What a call comes to before it is written: its ages, what ended the run before its last age, what is said
+/// of the ages, and what the last line says. Where memory was wanting there is no last line.
+#[derive(Debug, Drop)]
+pub struct Outcome {
+    pub ages: Seq<AgeEnd>,
+    pub stop: Option<Stop>,
+    pub body: Body,
+    pub last: Option<Last>,
+}
+
+impl Outcome {
+    /// The same, with a text that is said in place of the report.
+    pub fn saying(self, text: Text) -> Outcome
+        ensures { result ≡ record self { body = Body.Text text } }
+    {
+        Outcome {
+            body: Body::Text(text),
+            ..self
+        }
+    }
+}
+
+/// What a call comes to in which nothing is run.
+pub fn without_ages(alloc: Global, last: Option<Last>) -> Outcome
+    ensures alone { (yard : YardState) → SaysOnly last yard yard result }
+    ensures ages { result.ages ≡ [] }
+    ensures stop { result.stop ≡ None }
+    ensures body { result.body ≡ Report }
+    ensures last { result.last ≡ last }
+{
+    Outcome {
+        ages: Seq::of(Vec::new(alloc)),
+        stop: None,
+        body: Body::Report,
+        last,
+    }
+}
