@@ -2,7 +2,6 @@
 use Rattle.std.proofs.Common.{◌≡◌, ◌⊎◌, refl, sym, ap, ap₂, ◌∙◌, subst, inl, inr, ℕ, zero, suc, ◌<◌, ◌≤◌, Bool, true, false, true≢false, IsTrue, arith, List, [], ◌∷◌, Contains, Option, None, Some, IfSome, is_some, if◌then◌else◌, String}
 use Rattle.std.specs.Prelude.{MatchOption}
 use Rattle.std.specs.declared.alloc.Global.{Global}
-use Rattle.std.proofs.lemmas.Option.{none-some}
 use Rattle.dr_intake.specs.Answer.{done, no_memory, no_source, usage}
 use Rattle.dr_intake.specs.Status.{status_of}
 use Rattle.dr_io.specs.Faults.{Rose}

@@ -1,5 +1,5 @@
 -- What a front of a word leaves of it.
-use Rattle.std.proofs.Common.{◌≡◌, ℕ, refl, ap, sym, ◌∙◌, subst, inl, inr, Bool, true, false, if◌then◌else◌, List, length, take, drop, ◌++◌, option_map, Bor, Option, None, Some}
+use Rattle.std.proofs.Common.{◌≡◌, ℕ, ap, sym, ◌∙◌, inl, inr, true, if◌then◌else◌, List, length, take, drop, ◌++◌, option_map, Bor, Option, None, Some}
 use Rattle.std.specs.Prelude.{MatchOption, bytes_eq}
 use Rattle.std.proofs.lemmas.Bool.{cases_Bool}
 use Rattle.std.proofs.lemmas.Slice.Eq.{bytes_eq-Decides}

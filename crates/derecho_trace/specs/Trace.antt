@@ -1,5 +1,5 @@
 -- What is told of a run, and what a call comes to.
-use Rattle.std.specs.Prelude.{◌≡◌, ◌⊎◌, ⊤, ℕ, true, MatchOption, ◌+◌, List, [], ◌∷◌, ◌++◌, length, slice_get, codes, Option, None, Some, String}
+use Rattle.std.specs.Prelude.{◌≡◌, ◌⊎◌, ⊤, ℕ, true, MatchOption, ◌+◌, List, [], ◌∷◌, ◌++◌, length, slice_get, codes, Option, String}
 use Rattle.std.specs.Option.{option_map_or}
 use Rattle.std.specs.declared.alloc.Global.{Global}
 use Rattle.dr_ages.specs.declared.mode.Mode.TheVariants.{Sim}

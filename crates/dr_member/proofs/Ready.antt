@@ -1,5 +1,5 @@
 -- Which of the next items of another member are there: the mask behind each deed.
-use Rattle.std.proofs.Common.{◌≡◌, ◌≢◌, refl, sym, ap, ◌∙◌, subst, inl, inr, ℕ, suc, ◌+◌, ◌-◌, ◌*◌, ◌/◌, ◌<◌, ◌≤◌, ◌==◌, ◌&&◌, ◌↔◌, not, Bool, true, false, if◌then◌else◌, nat_lt, length, bit_and, map, slice_index, slice_set, arith}
+use Rattle.std.proofs.Common.{◌≡◌, ◌≢◌, refl, sym, ap, ◌∙◌, subst, inl, inr, ℕ, ◌+◌, ◌-◌, ◌*◌, ◌/◌, ◌<◌, ◌≤◌, ◌==◌, ◌&&◌, ◌↔◌, not, Bool, true, false, if◌then◌else◌, nat_lt, length, bit_and, map, slice_index, slice_set, arith}
 use Rattle.std.specs.Prelude.{is_some, slice_index_or}
 use Rattle.std.specs.Int.{bit_at}
 use Rattle.std.proofs.lemmas.Bool.{and_parts, cases_lt, eq-eqb, eqb-true}
@@ -128,7 +128,8 @@ low_bit : (r : Replica) (s mask : ℕ) → 1 ≤ r.window → TellsReady r s mas
 low_bit r s mask some tells =
     let slot = slot_of r.window r.rows s in
     let set : (bit_at mask 0 ≡ 1) ↔ IsReady (count r s) (slot (count r s)) =
-    subst (λ (k : ℕ). (bit_at mask 0 ≡ 1) ↔ IsReady k (slot k)) (omega arith) (tells.set 0 (omega (arith, some))) in
+    subst (λ (k : ℕ). (bit_at mask 0 ≡ 1) ↔ IsReady k (slot k)) (omega arith)
+    (tells.set 0 (omega (arith, some))) in
     let test = ready_test (count r s) (slot (count r s)) in
     let low : bit_and mask 1 ≡ bit_at mask 0 * 1 = and_pow mask 0 in
     same_test _ _
@@ -208,7 +209,8 @@ act_keeps a q act from ready is due allowed after gone moved here other_now =
     subst (λ (p : Place). TellsReady q p.row ready) (sym there)
     (subst (λ (x : Replica). TellsReady x row ready) (sym (after ∙ ap (taken a.replica) receive))
     (subst (TellsReady (acted (received a.replica row)) row) (sym (moved row receive))
-    (received_tells a.replica row a.ready is.form.replica within apart (waits row may_it) (is.ready at other))))
+    (received_tells a.replica row a.ready is.form.replica within apart (waits row may_it)
+    (is.ready at other))))
   where
     row : ℕ
     row = a.place.row

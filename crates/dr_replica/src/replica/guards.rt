@@ -78,8 +78,8 @@ impl Replica {
     #[inline]
     pub fn takes_from(&self, sender: u8) -> bool
         requires { sender < self.now.roster }
-        ensures { result ≡ (not (is_wedged self.now) && (nat_lt (count self.now sender) (greatest self.now.totals)
-            && is_other self.now sender)) }
+        ensures { result ≡ (not (is_wedged self.now)
+            && (nat_lt (count self.now sender) (greatest self.now.totals) && is_other self.now sender)) }
     {
         !self.is_wedged() && self.items.has_room(sender) && self.is_other(sender)
     }

@@ -3,7 +3,7 @@ use Rattle.std.proofs.lemmas.Result.{IfOk-weaker}
 use Rattle.dr_intake.specs.declared.answer.Answer.{Answer}
 use Rattle.dr_intake.specs.Answer.{done, wordless}
 use Rattle.dr_intake.proofs.Answers.{answer_of_unread, if_some}
-use Rattle.dr_script.specs.Reading.{Reading, reading_of}
+use Rattle.dr_script.specs.Reading.{reading_of}
 use Rattle.derecho_explain.specs.Answer.{IsAnswer, IsAnswerFor, usage_text}
 use Rattle.derecho_explain.proofs.top.answer_to.Goals as goal
 

@@ -4,7 +4,7 @@ use Rattle.dr_program.specs.declared.place.Place.{Place}
 use Rattle.dr_program.specs.Running.{applies}
 use Rattle.dr_turn.proofs.Staying.{settled_here, stops_end}
 use Rattle.dr_member.specs.declared.search.TheConstants.{PUSHES}
-use Rattle.dr_member.specs.Search.{next_row, standing}
+use Rattle.dr_member.specs.Search.{standing}
 use Rattle.dr_member.proofs.Passing.{GoesBy, first_found, row_passed}
 use Rattle.dr_member.proofs.Votes.{votes_passed}
 use Rattle.dr_member.proofs.search.settle.Goals as goal
@@ -26,8 +26,8 @@ returns-in-Some-clause-ready c = c.loop-place.invariant.ready
 
 pub enter_row-requires-clause-next : goal.enter_row-requires-clause-next
 enter_row-requires-clause-next c =
-    (row_passed (standing c.args.replica.now c.args.fate.now c.loop-place.place) c.loop-place.invariant.underway
-    c.loop-place.invariant.none c.in_default-first_due.ensures).underway.place
+    (row_passed (standing c.args.replica.now c.args.fate.now c.loop-place.place)
+    c.loop-place.invariant.underway c.loop-place.invariant.none c.in_default-first_due.ensures).underway.place
 
 pub returns-then-is_some-clause-place : goal.returns-then-is_some-clause-place
 returns-then-is_some-clause-place c =

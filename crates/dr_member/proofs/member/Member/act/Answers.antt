@@ -59,8 +59,8 @@ settle-requires-clause-underway c = (is_done 0 _ _ _ _ (known c 0)).underway
 
 pub settle-requires-clause-ready : goal.settle-requires-clause-ready
 settle-requires-clause-ready c =
-    act_keeps c.self.inside c.take_act.new.replica c.args.act c.go.new.place c.take_act.new.ready c.self.invariant
-    (ap next_step c.self.view_is ∙ c.requires.step)
+    act_keeps c.self.inside c.take_act.new.replica c.args.act c.go.new.place c.take_act.new.ready
+    c.self.invariant (ap next_step c.self.view_is ∙ c.requires.step)
     (act_allowed c.args.self.now c.self.inside c.args.act c.self.view_is c.self.invariant c.requires.deed
     (ap next_step c.self.view_is ∙ c.requires.step))
     c.take_act.ensures.after

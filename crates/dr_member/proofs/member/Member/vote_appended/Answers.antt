@@ -37,8 +37,8 @@ settle-requires-clause-underway c = (is_done 0 _ _ _ _ (known c 0)).underway
 
 pub settle-requires-clause-ready : goal.settle-requires-clause-ready
 settle-requires-clause-ready c =
-    gone_elsewhere c.self.inside.replica.roster _ c.vote.new.self c.self.inside.place c.go.new.place parts.Vote
-    c.self.inside.ready c.self.invariant.form.place
+    gone_elsewhere c.self.inside.replica.roster _ c.vote.new.self c.self.inside.place c.go.new.place
+    parts.Vote c.self.inside.ready c.self.invariant.form.place
     (ap (λ (x : Running). part_of x.place) c.self.view_is ∙ c.requires.at) refl
     (c.go.ensures
     ∙ (λ z. goes (c.shape.ensures.members z)
