@@ -6,14 +6,16 @@ use Rattle.dr_intake.specs.Status.{WroteText, status_of}
 use Rattle.dr_io.specs.Sink.{Gains}
 use Rattle.dr_outcome.specs.Outcome.{HasDone, Plays, SaysOnly, outcome_text}
 use Rattle.dr_outcome.specs.declared.outcome.Outcome.{Outcome}
+use Rattle.dr_stored.specs.Stored.{Stores}
 use Rattle.dr_yard.specs.Yards.{YardState}
 use Rattle.derecho.specs.declared.words.Command.{Command}
-use Rattle.derecho.specs.declared.words.Command.TheVariants.{Play}
+use Rattle.derecho.specs.declared.words.Command.TheVariants.{Play, Store}
 use Rattle.derecho.specs.Words.{asked_by, ends_of, reads}
 
 -- what each command makes of what was read for it, by how the yard was and then is
 abbrev pub Does : Command → List ℕ → YardState → YardState → Outcome → Type 0
 Does (Play play) = Plays play
+Does (Store key version) = Stores key version
 
 -- What a call with these words comes to before it is written, by what its source had left and then has, how
 -- many of its calls had failed and then have, and how the yard was and then is.

@@ -1,12 +1,14 @@
 -- What the words of a call ask for.
-use Rattle.std.specs.Prelude.{ℕ, ◌==◌, if◌then◌else◌, Bool, true, IsTrue, List, [], ◌∷◌, length, take, drop, map, codes, bytes_eq, Option, None, Some, is_some, option_map, String, string_bytes}
+use Rattle.std.specs.Prelude.{ℕ, ◌^◌, ◌==◌, nat_lt, if◌then◌else◌, Bool, true, IsTrue, List, [], ◌∷◌, length, take, drop, map, codes, bytes_eq, Option, None, Some, is_some, option_map, String, string_bytes}
 use Rattle.std.specs.Option.{option_and_then}
 use Rattle.std.specs.declared.alloc.Global.{Global}
 use Rattle.dr_ages.specs.declared.mode.Mode.{Mode}
 use Rattle.dr_ages.specs.declared.mode.Mode.TheVariants.{Sim, Run}
+use Rattle.dr_literals.specs.Literals.{key_word, number_word}
 use Rattle.dr_outcome.specs.Playing.{play_ends}
+use Rattle.dr_stored.specs.Stored.{store_ends}
 use Rattle.derecho.specs.declared.words.Command.{Command}
-use Rattle.derecho.specs.declared.words.Command.TheVariants.{Play}
+use Rattle.derecho.specs.declared.words.Command.TheVariants.{Play, Store}
 
 -- ---- options, each in two spellings: `--NAME VALUE` and `--NAME=VALUE`
 
@@ -53,13 +55,23 @@ played mode folder (word ∷ rest) = None
 abbrev pub play_of : Mode → List (List ℕ) → Option Command
 play_of mode words = option_and_then (λ found. played mode found.0 found.1) (option_of (codes "--logs") words)
 
+-- to ask for a key at a version, which is below 2^32: no word is left
+abbrev pub asked_at : Option (List ℕ) → Option ℕ → List (List ℕ) → Option Command
+asked_at (Some key) (Some version) [] = if nat_lt version (2 ^ 32) then Some (Store key version) else None
+asked_at key version rest = None
+
+-- to ask for the key in hexadecimal, at the version in decimal
+abbrev pub store_of : List (List ℕ) → Option Command
+store_of (key ∷ version ∷ rest) = asked_at (key_word key) (number_word version) rest
+store_of words = None
+
 -- ---- the table of words: the word that names a command, and what the words behind it ask for
 
 abbrev pub Row : Type 0
 Row = List ℕ × (List (List ℕ) → Option Command)
 
 abbrev pub table : List Row
-table = (codes "sim", play_of Sim) ∷ (codes "run", play_of Run) ∷ []
+table = (codes "sim", play_of Sim) ∷ (codes "run", play_of Run) ∷ (codes "store", store_of) ∷ []
 
 -- what the row of this word says of the words behind it, if there is one
 abbrev pub look_up : List Row → List ℕ → List (List ℕ) → Option Command
@@ -84,10 +96,12 @@ IsCommand words = IsTrue (is_some (asked_by words))
 -- whether it reads the source
 abbrev pub reads : Command → Bool
 reads (Play play) = true
+reads (Store key version) = true
 
 -- the statuses of the last lines that it may come to
 abbrev pub ends_of : Command → List ℕ
 ends_of (Play play) = play_ends play
+ends_of (Store key version) = store_ends
 
 -- the statuses that a call may have besides want of memory and a fault of the sink
 abbrev pub told_by : Option Command → List ℕ

@@ -13,6 +13,7 @@ use dr_intake::{READ_LIMIT, ReadFault, read_all};
 use dr_io::Source;
 use dr_outcome::{Outcome, play_text, without_ages};
 use dr_pace::Pace;
+use dr_stored::ask_stores;
 use dr_text::Last;
 use dr_yard::Yard;
 use std::alloc::Global;
@@ -59,7 +60,7 @@ fn read_for<S: Source>(
         → S.faults source.new ≡ S.faults source.old }
 {
     match command {
-        Command::Play(_) => read_all(alloc, source, READ_LIMIT),
+        Command::Play(_) | Command::Store { .. } => read_all(alloc, source, READ_LIMIT),
     }
 }
 
@@ -81,5 +82,6 @@ fn do_command<R: Threads + Sync, Y: Yard, P: Pace + Sync>(
 {
     match command {
         Command::Play(play) => play_text(rt, alloc, bytes, play, yard, pace),
+        Command::Store { key, version } => ask_stores(rt, alloc, bytes, key.bytes(), *version),
     }
 }

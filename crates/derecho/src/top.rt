@@ -39,7 +39,9 @@ pub struct Ended {
 /// with `run` all at once, each in a thread of its own, which calls the pace after each of its turns. With
 /// `--logs F` or `--logs=F` each member keeps its log on a disk of the yard, in the folder `F`, and the first
 /// age begins with what is there. Without it each keeps its log on a disk in memory, which is gone when the
-/// run has ended. The status says how that went: see the constants of `dr_intake`.
+/// run has ended. With `store` the script is simulated over logs in memory, and in place of the report stands
+/// what each member stores under a key, at a version. The status says how that went: see the constants of
+/// `dr_intake`.
 pub fn derecho<R: Threads + Sync, S: Source, K: Sink, Y: Yard, P: Pace + Sync>(
     rt: &R,
     alloc: Global,

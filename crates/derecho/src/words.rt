@@ -1,14 +1,21 @@
 ghost use Rattle.std.specs.Prelude.{◌≡◌, map, option_map, string_bytes};
-ghost use Rattle.derecho.specs.Words.{behind, command_of, option_of, own_word, play_of, value_in};
+ghost use Rattle.derecho.specs.Words.{behind, command_of, option_of, own_word, play_of, store_of, value_in};
 
 use dr_ages::Mode;
+use dr_entry::Message;
+use dr_literals::{key_word, number_word};
 use dr_outcome::Play;
+
+/// What a version has to be below.
+const VERSION_LIMIT: u64 = 1 << 32;
 
 /// What the words of a call ask for.
 #[derive(Debug, Drop)]
 pub enum Command<'a> {
     /// To play the script on the source.
     Play(Play<'a>),
+    /// To simulate the script on the source, and say what the members store under a key, at a version.
+    Store { key: Message, version: u64 },
 }
 
 /// What the words ask for, where they are those of a command.
@@ -21,6 +28,7 @@ pub(crate) fn command_of(words: &[String]) -> Option<Command<'_>>
     match word.as_str() {
         "sim" => play_of(Mode::Sim, rest),
         "run" => play_of(Mode::Run, rest),
+        "store" => store_of(rest),
         _ => None,
     }
 }
@@ -32,6 +40,21 @@ fn play_of(mode: Mode, words: &[String]) -> Option<Command<'_>>
     let (folder, rest) = option_of("--logs", words)?;
     rest.is_empty()
         .then_some(Command::Play(Play { mode, folder }))
+}
+
+/// What the words behind `store` ask for: a key in hexadecimal, and a version in decimal.
+fn store_of(words: &[String]) -> Option<Command<'_>>
+    ensures { result ≡ store_of (map string_bytes words.now) }
+{
+    let [key, version, rest @ ..] = words else {
+        return None;
+    };
+    let key = key_word(key.as_str())?;
+    let version = number_word(version.as_str())?;
+    if !rest.is_empty() {
+        return None;
+    }
+    (version < VERSION_LIMIT).then_some(Command::Store { key, version })
 }
 
 /// The value of the option with this name, if the words begin with one, and the words behind it. Nothing
