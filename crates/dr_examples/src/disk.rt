@@ -3,11 +3,12 @@ use dr_disk::{CalmDisk, Disk};
 use dr_io::Failed;
 use std::alloc::{AllocError, Global};
 
-/// A disk in memory that counts its syncs.
+/// A disk in memory that counts its syncs, and the calls that read its bytes.
 #[derive(Drop)]
 pub struct CountedDisk {
     disk: CalmDisk,
     syncs: u64,
+    reads: u64,
 }
 
 impl CountedDisk {
@@ -16,12 +17,18 @@ impl CountedDisk {
         CountedDisk {
             disk: CalmDisk::new(alloc),
             syncs: 0,
+            reads: 0,
         }
     }
 
     /// How many syncs it has counted.
     pub fn syncs(&self) -> u64 {
         self.syncs
+    }
+
+    /// How many calls of `read_at` it has counted.
+    pub fn reads(&self) -> u64 {
+        self.reads
     }
 }
 
@@ -46,6 +53,7 @@ impl Disk for CountedDisk {
     }
 
     fn read_at(&mut self, at: u64, into: &mut [u8]) -> Result<usize, Failed> {
+        self.reads = self.reads.saturating_add(1);
         self.disk.read_at(at, into)
     }
 

@@ -13,7 +13,8 @@ use std::io::Print;
 /// The most bytes that the log may come to.
 const LIMIT: u64 = 4096;
 
-/// A record goes on a log. Prints how many syncs it took, and what the next to mount the disk finds.
+/// A record goes on a log. Prints how many syncs it took, what the next to mount the disk finds, and by how
+/// many reads.
 pub fn show_log(rt: &impl Print, alloc: Global) -> anyhow::Result<()> {
     let mut log = mounted(alloc, CountedDisk::new(alloc))?;
     log.reserve(1, 0)?;
@@ -22,9 +23,11 @@ pub fn show_log(rt: &impl Print, alloc: Global) -> anyhow::Result<()> {
     // Whatever a crash leaves from here on has the record.
     let disk = log.unmount();
     println!(rt; "  syncs: {}", disk.syncs())?;
-    for entry in mounted(alloc, disk)?.entries() {
+    let log = mounted(alloc, disk)?;
+    for entry in log.entries() {
         println!(rt; "  {entry:?}")?;
     }
+    println!(rt; "  reads: {}", log.unmount().reads())?;
     Ok(())
 }
 

@@ -10,10 +10,10 @@ use std::process::Abort;
 use std::test::Fail;
 use std::thread::Threads;
 
-/// A script whose member 0 waits for the other one, which has crashed, until its turns are spent.
+/// A script whose members 1 and 2 wait for the first one, which has crashed, until their turns are spent.
 const STUCK: &[u8] =
-    br#"{"members":2,"window":1,"turns":1000,"patience":0,"ages":1,"messages":[["a"],[]],
-  "faults":[{"age":0,"member":1,"crash":[1,0]}],"schedule":7}"#;
+    br#"{"members":3,"window":1,"turns":1000,"patience":0,"ages":1,"messages":[[],["a"],[]],
+  "faults":[{"age":0,"member":0,"crash":[1,0]}],"schedule":"lockstep"}"#;
 
 /// Checks in which turns something is said of the run, where each reading of the timer is so much later than
 /// the one before, up to the first that fails, and that no line is left behind it.
@@ -59,11 +59,13 @@ fn says_a_line_each_second(rt: HostRuntime) -> Result<(), Fail> {
         true,
         700,
         100,
-        &[127, 255, 383, 511, 639, 767, 895],
+        &[
+            63, 127, 191, 255, 319, 383, 447, 511, 575, 639, 703, 767, 831, 895, 959,
+        ],
     )
 }
 
 #[test]
 fn says_nothing_more_once_the_timer_fails(rt: HostRuntime) -> Result<(), Fail> {
-    check(&rt, rt.alloc(), true, 700, 4, &[127])
+    check(&rt, rt.alloc(), true, 700, 4, &[63])
 }
