@@ -1,6 +1,8 @@
 -- The numbers by which a member finds words of the table: the indices that they give, and that deeds within a
 -- view keep them.
-use Rattle.std.proofs.Common.{◌≡◌, sym, ap, subst, ◌∙◌, ℕ, ◌+◌, ◌*◌, ◌^◌, ◌<◌, ◌≤◌, arith}
+use Rattle.std.proofs.Common.{◌≡◌, sym, ap, subst, ◌∙◌, ℕ, ◌+◌, ◌*◌, ◌^◌, ◌<◌, ◌≤◌, List, length, set, slice_index, inl, inr, arith}
+use Rattle.std.proofs.lemmas.Bool.{cases_lt}
+use Rattle.std.proofs.lemmas.List.{get_or-set_other, get_or-set_same, length-set}
 use Rattle.std.proofs.lemmas.Nat.{mul-le}
 use Rattle.dr_words.specs.Columns.{columns_of}
 use Rattle.dr_words.specs.Layout.{word_index_of}
@@ -11,16 +13,11 @@ use Rattle.dr_program.specs.Steps.{index_in}
 use Rattle.dr_program.specs.Form.{HasForm}
 use Rattle.dr_member.specs.declared.bases.Bases.{Bases}
 use Rattle.dr_member.specs.declared.member.Member.TheInside.{Inside}
-use Rattle.dr_member.specs.Bases.{bases_of, AreBases}
+use Rattle.dr_member.specs.Bases.{AreBases, AreBasesOf}
 use Rattle.dr_member.specs.Deeds.{table_size}
 use Rattle.dr_member.specs.Inside.{IsInside, view_of}
 
 -- ---- the indices
-
--- bases of a roster and a window hold their count of columns
-columns_kept : (b : Bases) (n w v m : ℕ) → b ≡ bases_of n w v m → b.columns ≡ columns_of n w
-unfolding bases_of
-columns_kept b n w v m e = ap (λ (x : Bases). x.columns) e
 
 -- an index of a table, below the greatest that there is
 below : (n w v copy row column : ℕ) → n ≤ 16 → w ≤ 8 → v < 2 ^ 8 → copy < n → row < n
@@ -32,15 +29,9 @@ below n w v copy row column few slots small p q r =
     let table = mul-le (256 * n * n) (columns_of n w) 65536 174 banks (omega arith) in
     omega (arith, within, table)
 
-look_sum : (n w v m i c : ℕ)
-    → (bases_of n w v m).own_copy + i * (bases_of n w v m).columns + c ≡ word_index_of n w v m i c
-unfolding bases_of
-look_sum n w v m i c = omega arith
-
-push_sum : (n w v m j c : ℕ)
-    → (bases_of n w v m).own_row + j * (bases_of n w v m).copy_words + c ≡ word_index_of n w v j m c
-unfolding bases_of
-push_sum n w v m j c = omega arith
+-- a word stands so many columns behind the first of its row
+behind_first : (n w v copy row c : ℕ) → word_index_of n w v copy row 0 + c ≡ word_index_of n w v copy row c
+behind_first n w v copy row c = omega arith
 
 -- a sum is the index of a word of the member's bank
 pub record IsIndex (r : Running) (sum copy row column : ℕ) : Type 0 where
@@ -76,56 +67,72 @@ me_within a is = omega (arith, is.form.replica.rows.present, is.form.replica.mem
 
 -- a look reads the table at the member's own copy of that row's word
 pub look_at : (now : Running) (a : Inside) (i c : ℕ) → view_of a ≡ now → IsInside a → i < members now
-    → c < columns now → IsIndex now (a.bases.own_copy + i * a.bases.columns + c) (me now.replica) i c
+    → c < columns now → IsIndex now (slice_index a.bases.looks i + c) (me now.replica) i c
 look_at now a i c view is row column =
-    index_at now a (a.bases.own_copy + i * a.bases.columns + c) (λ r. me r.replica) (λ r. i) c view is
-    (me_within a is) (subst (λ (r : Running). i < members r) (sym view) row) column
-    (ap (λ (b : Bases). b.own_copy + i * b.columns + c) is.bases.are
-    ∙ look_sum a.replica.roster a.replica.window a.replica.view (me a.replica) i c)
+    let within : i < a.replica.roster = subst (λ (r : Running). i < members r) (sym view) row in
+    index_at now a (slice_index a.bases.looks i + c) (λ r. me r.replica) (λ r. i) c view is
+    (me_within a is) within column
+    (ap (λ n. n + c) (is.bases.are.looks i within)
+    ∙ behind_first a.replica.roster a.replica.window a.replica.view (me a.replica) i c)
 
 -- a push writes the table at the row's copy of the member's own word
 pub push_at : (now : Running) (a : Inside) (j c : ℕ) → view_of a ≡ now → IsInside a → j < members now
-    → c < columns now → IsIndex now (a.bases.own_row + j * a.bases.copy_words + c) j (me now.replica) c
+    → c < columns now → IsIndex now (slice_index a.bases.pushes j + c) j (me now.replica) c
 push_at now a j c view is row column =
-    index_at now a (a.bases.own_row + j * a.bases.copy_words + c) (λ r. j) (λ r. me r.replica) c view is
-    (subst (λ (r : Running). j < members r) (sym view) row) (me_within a is) column
-    (ap (λ (b : Bases). b.own_row + j * b.copy_words + c) is.bases.are
-    ∙ push_sum a.replica.roster a.replica.window a.replica.view (me a.replica) j c)
+    let within : j < a.replica.roster = subst (λ (r : Running). j < members r) (sym view) row in
+    index_at now a (slice_index a.bases.pushes j + c) (λ r. j) (λ r. me r.replica) c view is
+    within (me_within a is) column
+    (ap (λ n. n + c) (is.bases.are.pushes j within)
+    ∙ behind_first a.replica.roster a.replica.window a.replica.view j (me a.replica) c)
 
 -- ---- the beginning
 
-bases : ℕ → ℕ → ℕ → ℕ → Bases
-bases columns copy_words own_copy own_row = record {
-  columns = columns;
-  copy_words = copy_words;
-  own_copy =
-      own_copy;
-  own_row = own_row;
-}
+-- the first words of the rows of some members are noted
+pub record AreNoted (n w v m others : ℕ) (mine theirs : List ℕ) : Type 0 where
+  pub long_looks : length mine ≡ 16
+  pub long_pushes : length theirs ≡ 16
+  pub looks : (i : ℕ) → i < others → slice_index mine i ≡ word_index_of n w v m i 0
+  pub pushes : (j : ℕ) → j < others → slice_index theirs j ≡ word_index_of n w v j m 0
 
-are_made : (n w v m k f l o p : ℕ) → k ≡ columns_of n w → f ≡ n → l ≡ columns_of n w
-    → o ≡ word_index_of n w v m 0 0 → p ≡ word_index_of n w v 0 m 0
-    → bases k (f * l) o p ≡ bases_of n w v m
-unfolding bases bases_of
-are_made n w v m k f l o p a b d e h =
-    ap (λ (x : ℕ). bases x (f * l) o p) a ∙ ap (λ (x : ℕ). bases (columns_of n w) (x * l) o p) b
-    ∙ ap (λ (x : ℕ). bases (columns_of n w) (n * x) o p) d
-    ∙ ap (λ (x : ℕ). bases (columns_of n w) (n * columns_of n w) x p) e
-    ∙ ap (λ (x : ℕ). bases (columns_of n w) (n * columns_of n w) (word_index_of n w v m 0 0) x) h
+-- one more number in a list
+one_more : (list : List ℕ) (f : ℕ → ℕ) (k x : ℕ) → k < length list → x ≡ f k
+    → ((i : ℕ) → i < k → slice_index list i ≡ f i) → (i : ℕ) → i < k + 1
+    → slice_index (set list k x) i ≡ f i
+one_more list f k x within is before i lt = elim (cases_lt i k) [
+  | inl early ↦ get_or-set_other list k i x 0 (λ e. absurd (omega (arith, early, e))) ∙ before i early
+  | inr late ↦
+      let here : i ≡ k = omega (arith, lt, late) in
+      ap (λ (j : ℕ). slice_index (set list k x) j) here ∙ get_or-set_same list k x 0 within ∙ is
+      ∙ ap f (sym here)
+]
+
+-- and those of one more, which stand at its number
+pub noted_more : (n w v m k i j x y : ℕ) (mine theirs : List ℕ) → k < 16 → AreNoted n w v m k mine theirs
+    → i ≡ k → j ≡ k → x ≡ word_index_of n w v m k 0 → y ≡ word_index_of n w v k m 0
+    → AreNoted n w v m (k + 1) (set mine i x) (set theirs j y)
+noted_more n w v m k i j x y mine theirs few before here there is also =
+    subst (λ (s : ℕ × ℕ). AreNoted n w v m (k + 1) (set mine s.0 x) (set theirs s.1 y))
+    (λ z. (sym here z, sym there z)) (record {
+      long_looks = length-set mine k x ∙ before.long_looks;
+      long_pushes = length-set theirs k y ∙ before.long_pushes;
+      looks = one_more mine (λ i. word_index_of n w v m i 0) k x (omega (arith, few, before.long_looks)) is
+          before.looks;
+      pushes = one_more theirs (λ j. word_index_of n w v j m 0) k y (omega (arith, few, before.long_pushes))
+          also before.pushes;
+    })
 
 -- bases made of the replica's sizes are the replica's
-pub made : (r : Replica) (n w v m k f l o p : ℕ) → n ≡ r.roster → w ≡ r.window → v ≡ r.view
-    → m ≡ me r
-    → v < 2 ^ 8
-    → k ≡ columns_of n w → f ≡ n → l ≡ columns_of n w → o ≡ word_index_of n w v m 0 0
-    → p ≡ word_index_of n w v 0 m 0
-    → AreBases (record { columns = k; copy_words = f * l; own_copy = o; own_row = p }) r
-unfolding bases
-made r n w v m k f l o p en ew ev em small a b d e h = record {
-  are = are_made n w v m k f l o p a b d e h ∙ ap (λ (x : ℕ). bases_of x w v m) en
-      ∙ ap (λ (x : ℕ). bases_of r.roster x v m) ew
-      ∙ ap (λ (x : ℕ). bases_of r.roster r.window x m) ev
-      ∙ ap (λ (x : ℕ). bases_of r.roster r.window r.view x) em;
+pub made : (r : Replica) (n w v m k others : ℕ) (looks pushes : List ℕ) → n ≡ r.roster → w ≡ r.window
+    → v ≡ r.view → m ≡ me r → v < 2 ^ 8 → k ≡ columns_of n w → n ≤ others
+    → AreNoted n w v m others looks pushes
+    → AreBases (record { columns = k; looks = looks; pushes = pushes }) r
+made r n w v m k others looks pushes en ew ev em small columns all noted = record {
+  are = subst (λ (s : ℕ × ℕ × ℕ × ℕ). AreBasesOf (record { columns = k; looks = looks; pushes = pushes })
+      s.0 s.1 s.2 s.3) (λ z. (en z, ew z, ev z, em z)) (record {
+        columns = columns;
+        looks = λ i lt. noted.looks i (omega (arith, lt, all));
+        pushes = λ j lt. noted.pushes j (omega (arith, lt, all));
+      });
   small = subst (λ (x : ℕ). x < 2 ^ 8) ev small;
 }
 
@@ -140,7 +147,7 @@ pub bases_stay : (b : Bases) (r q x : Replica) → q ≡ x → footing x ≡ foo
 bases_stay b r q x e stays f =
     let same : footing r ≡ footing q = sym (ap footing e ∙ stays) in
     record {
-      are = f.are ∙ (λ z. bases_of (same z).0 (same z).1 (same z).2 (same z).3);
+      are = subst (λ (s : ℕ × ℕ × ℕ × ℕ). AreBasesOf b s.0 s.1 s.2 s.3) same f.are;
       small = subst (λ (v : ℕ). v < 2 ^ 8) (λ z. (same z).2) f.small;
     }
 
@@ -148,5 +155,4 @@ bases_stay b r q x e stays f =
 pub columns_after : (a : Inside) (q x : Replica) → IsInside a → q ≡ x → footing x ≡ footing a.replica
     → a.bases.columns ≡ columns_of q.roster q.window
 columns_after a q x is e stays =
-    columns_kept a.bases q.roster q.window q.view (me q)
-    (bases_stay a.bases a.replica q x e stays is.bases).are
+    (bases_stay a.bases a.replica q x e stays is.bases).are.columns

@@ -1,6 +1,7 @@
 //! The numbers by which a member finds words of the table.
 ghost use Rattle.dr_member.specs.Bases.{AreBases};
 
+use dr_entry::MAX_MEMBERS;
 use dr_replica::Replica;
 
 /// Where a member finds words of the table. While it is in its view, these numbers stay as they are.
@@ -8,12 +9,10 @@ use dr_replica::Replica;
 pub(crate) struct Bases {
     /// The columns of a row.
     pub columns: usize,
-    /// The words of a copy.
-    pub copy_words: usize,
-    /// The index of the first word of the member's own copy.
-    pub own_copy: usize,
-    /// The index of the first word of the member's row in the first copy of its bank.
-    pub own_row: usize,
+    /// By member, the index of the first word of its row in the member's own copy.
+    pub looks: [usize; MAX_MEMBERS],
+    /// By member, the index of the first word of the member's own row in its copy.
+    pub pushes: [usize; MAX_MEMBERS],
 }
 
 impl Bases {
@@ -24,11 +23,16 @@ impl Bases {
         let me = replica.me();
         let view = replica.view();
         let shape = replica.shape();
+        let mut looks = [0; MAX_MEMBERS];
+        let mut pushes = [0; MAX_MEMBERS];
+        for other in 0..shape.members {
+            looks[usize::from(other)] = shape.word_index(view, me, other, 0);
+            pushes[usize::from(other)] = shape.word_index(view, other, me, 0);
+        }
         Bases {
             columns: shape.columns(),
-            copy_words: usize::from(shape.members) * shape.columns(),
-            own_copy: shape.word_index(view, me, 0, 0),
-            own_row: shape.word_index(view, 0, me, 0),
+            looks,
+            pushes,
         }
     }
 }

@@ -417,7 +417,7 @@ impl Member {
         ensures index { result ≡ index_in self.now.replica (me self.now.replica) row column }
         ensures within { result < table_size self.now }
     {
-        index_behind(self.bases.own_copy, row, self.bases.columns, column)
+        self.bases.looks[usize::from(row)] + column
     }
 
     /// The index in the table of the member's word of a column, in the copy of the member `to`.
@@ -428,15 +428,6 @@ impl Member {
         ensures index { result ≡ index_in self.now.replica to (me self.now.replica) column }
         ensures within { result < table_size self.now }
     {
-        index_behind(self.bases.own_row, to, self.bases.copy_words, column)
+        self.bases.pushes[usize::from(to)] + column
     }
-}
-
-/// The index of a word, so many strides and a column behind another one.
-#[inline(always)]
-fn index_behind(first: usize, strides: u8, stride: usize, column: usize) -> usize
-    requires { first + strides * stride + column < 2 ^ 64 }
-    ensures { result ≡ first + strides * stride + column }
-{
-    first + usize::from(strides) * stride + column
 }

@@ -1,10 +1,9 @@
 -- The test whether an item can be read.
-use Rattle.std.proofs.Common.{◌≡◌, ℕ, zero, suc, ◌+◌, ◌<◌, ◌≤◌, Bool, true, false, cond, ◌&&◌, nat_le, ◌⊎◌, inl, inr, ◌↔◌, Option, Some, None, IsSome, IsTrue, is_some, refl, sym, ap, subst, ◌∙◌, add-one, arith, ◌*◌, ◌-◌, ◌%◌, ◌^◌, ◌==◌, List, get_or, length, bit_or, below_more, w16, map}
+use Rattle.std.proofs.Common.{◌≡◌, ℕ, zero, suc, ◌+◌, ◌<◌, ◌≤◌, Bool, true, false, cond, ◌&&◌, nat_le, ◌⊎◌, inl, inr, ◌↔◌, Option, Some, None, IsSome, IsTrue, is_some, refl, sym, ap, subst, ◌∙◌, add-one, arith, ◌*◌, ◌%◌, ◌^◌, bit_or, below_more, w16, map}
 use Rattle.std.specs.List.{list_all}
 use Rattle.std.specs.Int.{bit_at}
-use Rattle.std.proofs.lemmas.Bool.{cases_lt, eq-eqb, eqb-true}
 use Rattle.std.proofs.lemmas.Bool.Decides.{nat_tests}
-use Rattle.std.proofs.lemmas.Nat.Bits.{bit_at_ones, bit_at_ones_above, bit_at_set_other, bit_at_set_same, same_from_bits}
+use Rattle.std.proofs.lemmas.Nat.Bits.{bit_at_set_other, bit_at_set_same}
 use Rattle.dr_entry.specs.declared.limits.TheConstants.{MAX_MESSAGE_LENGTH}
 use Rattle.dr_entry.specs.declared.entry.Item.{Item}
 use native.Mathlib.Nat.{add-mod_left}
@@ -112,25 +111,6 @@ pub same_test : (a b : Bool) → (a ≡ true → b ≡ true) → (b ≡ true →
 same_test true b to back = sym (to refl)
 same_test false true to back = back refl
 same_test false false to back = refl
-
--- the words of a body are there exactly where the mask of those that have the tag is full
-pub full_mask : (k n mask : ℕ) (slot : ℕ → ℕ) (tags : List ℕ) → length tags ≡ n
-    → ((part : ℕ) → part < n → get_or tags part 0 ≡ ring_tag (slot (1 + part)))
-    → ((part : ℕ) → part < length tags → (bit_at mask part ≡ 1) ↔ (get_or tags part 0 ≡ k + 1))
-    → ((i : ℕ) → length tags ≤ i → bit_at mask i ≡ 0)
-    → (mask == 2 ^ n - 1) ≡ list_all (is_of k) (first_words slot n)
-full_mask k n mask slot tags long tag set clear = same_test _ _
-    (λ e. let full : mask ≡ 2 ^ n - 1 = eqb-true mask (2 ^ n - 1) e in
-    all_pass (is_of k) slot n (λ part lt. of_tag k (slot (1 + part))
-    (sym (tag part lt) ∙ (set part (omega (arith, long))).0
-    (ap (λ (m : ℕ). bit_at m part) full ∙ bit_at_ones n part lt))))
-    (λ all. eq-eqb mask (2 ^ n - 1) (same_from_bits mask (2 ^ n - 1)
-    (λ i. elim (cases_lt i n) [
-      | inl lt ↦ (set i (omega (arith, long))).1
-          (tag i lt ∙ tag_of k (slot (1 + i)) (each_passes (is_of k) slot n i all lt))
-          ∙ sym (bit_at_ones n i lt)
-      | inr past ↦ clear i (omega (arith, long)) ∙ sym (bit_at_ones_above n i past)
-    ])))
 
 -- the mask of the items that are there, item by item
 pub record Marks (is : ℕ → Type 0) (mask i : ℕ) : Type 0 where

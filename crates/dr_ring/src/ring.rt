@@ -11,7 +11,6 @@ ghost use Rattle.dr_ring.specs.Slots.{HasShape, IsFree, is_free, IsReady, is_of,
 ghost use Rattle.dr_ring.specs.Arrival.{Arrives};
 
 use dr_entry::{Item, MAX_MESSAGE_LENGTH, Message};
-use dr_lane::match_mask;
 use dr_rows::Rows;
 use dr_words::{Mask, PIECES, Shape, pack_ring, unpack_recv, unpack_ring};
 
@@ -101,7 +100,7 @@ pub fn sweep(rows: &Rows, shape: &Shape, row: u8, k: u32) -> u16
 {
     let mut mask = 0;
     for i in 0..shape.window {
-        if is_there(rows, shape, row, k + u32::from(i)) {
+        if is_ready(rows, shape, row, k + u32::from(i)) {
             mask |= 1 << i;
         }
     }
@@ -139,22 +138,6 @@ pub fn taken(rows: &Rows, shape: &Shape, row: u8, k: u32) -> Item
     Item::Text(body_at(rows, shape, row, k, head as usize))
 }
 
-// Whether all words were seen that item `k` of the member of this row needs, by the tags of its body at
-// once.
-fn is_there(rows: &Rows, shape: &Shape, row: u8, k: u32) -> bool
-    requires shape { HasShape shape.now rows.now }
-    requires row { row < rows.now.members }
-    ensures ready { IsTrue result ↔ IsReady k (slot_of shape.now.window rows.now row k) }
-    ensures value { result ≡ is_some (item_in k (slot_of shape.now.window rows.now row k)) }
-{
-    let slot = slot_at(shape, k);
-    let word = rows.seen(row, shape.head_column(slot));
-    let (_, head) = unpack_ring(word);
-    is_of(k, word)
-        && (head == NULL_MARK
-            || head as usize <= MAX_MESSAGE_LENGTH && has_tags(rows, shape, row, k, head as usize))
-}
-
 // The slot of item `k`.
 #[inline]
 fn slot_at(shape: &Shape, k: u32) -> u8
@@ -181,31 +164,13 @@ fn has_body(rows: &Rows, shape: &Shape, row: u8, k: u32, len: usize) -> bool
     ensures { result ≡ list_all (is_of k)
         (map (slot_of shape.now.window rows.now row k) (range_with_len 1 (div_ceil len 4))) }
 {
-    let slot = slot_at(shape, k);
+    let body = shape.body_column(slot_at(shape, k), 0);
     for part in 0..len.div_ceil(4) {
-        if !is_of(k, rows.seen(row, shape.body_column(slot, part as u8))) {
+        if !is_of(k, rows.seen(row, body + part)) {
             return false;
         }
     }
     true
-}
-
-// The same, by all tags at once.
-fn has_tags(rows: &Rows, shape: &Shape, row: u8, k: u32, len: usize) -> bool
-    requires shape { HasShape shape.now rows.now }
-    requires row { row < rows.now.members }
-    requires len { len ≤ MAX_MESSAGE_LENGTH }
-    ensures { result ≡ list_all (is_of k)
-        (map (slot_of shape.now.window rows.now row k) (range_with_len 1 (div_ceil len 4))) }
-{
-    let slot = slot_at(shape, k);
-    let count = len.div_ceil(4);
-    let mut tags = [0; PIECES];
-    for part in 0..count {
-        let (tag, _) = unpack_ring(rows.seen(row, shape.body_column(slot, part as u8)));
-        tags[part] = u64::from(tag);
-    }
-    match_mask(&tags[..count], u64::from(k) + 1) == (1 << count) - 1
 }
 
 // The message of so many bytes in the body of item `k`.
@@ -216,10 +181,10 @@ fn body_at(rows: &Rows, shape: &Shape, row: u8, k: u32, len: usize) -> Message
     ensures { result ≡ take len (bytes_of (map ring_low
         (map (slot_of shape.now.window rows.now row k) (range_with_len 1 (div_ceil len 4))))) }
 {
-    let slot = slot_at(shape, k);
+    let body = shape.body_column(slot_at(shape, k), 0);
     let mut bytes = [0; MAX_MESSAGE_LENGTH];
     for part in 0..len.div_ceil(4) {
-        let (_, piece) = unpack_ring(rows.seen(row, shape.body_column(slot, part as u8)));
+        let (_, piece) = unpack_ring(rows.seen(row, body + part));
         bytes[4 * part..4 * part + 4].copy_from_slice(&piece.to_be_bytes());
     }
     Message::of(&bytes[..len]).unwrap()

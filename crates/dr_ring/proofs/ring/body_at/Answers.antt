@@ -9,8 +9,8 @@ pub loop-part-preserved : goal.loop-part-preserved
 loop-part-preserved c =
     let slot = slot_of c.args.shape.now.window c.args.rows.now c.args.row c.args.k in
     let there = seen_body c.args.shape.now.window c.args.rows.now c.args.row c.args.k c.loop-part.part
-    c.args.shape.now.members c.slot_at-slot.result c.body_column.result c.requires.shape.members
-    c.slot_at-slot.ensures.value (search rules) in
+    c.args.shape.now.members c.slot_at.result (c.body_column-body.result + c.loop-part.part)
+    c.requires.shape.members c.slot_at.ensures.value (omega (arith, c.body_column-body.ensures.value)) in
     let piece : c.unpack_ring-piece.result.1 ≡ ring_low (slot (1 + c.loop-part.part)) = search rules in
     bytes_more slot c.loop-part.part _ c.loop-part.bytes c.copy_from_slice.new.self (omega arith)
     (search rules) c.loop-part.invariant
