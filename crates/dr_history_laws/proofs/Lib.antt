@@ -1,6 +1,7 @@
 pub mod Counting
 pub mod Courses
 pub mod Cutting
+pub mod Differing
 pub mod Following
 pub mod Indices
 pub mod LaidLemmas

@@ -1,2 +1,7 @@
 pub mod Groups
 pub mod Setups
+pub mod OnLogs
+pub mod Left
+pub mod Choosing
+pub mod Trying
+pub mod Refusing

@@ -3,10 +3,12 @@
 
 mod copies;
 mod laws;
+mod lists;
 mod setup;
 mod start;
 
 pub use copies::{copy_entries, copy_messages};
 pub use laws::setups_are_of_the_group;
+pub use lists::{AgeVote, Attempt, LogLists};
 pub use setup::{setup_of, shape_of};
 pub use start::{Start, first_start};

@@ -1,0 +1,17 @@
+mod Beginning
+mod Chosen
+mod Ended
+mod Extra
+mod Grown
+mod Handing
+mod Keeping
+mod LastViews
+mod Lists
+mod Longest
+mod Missing
+mod OnLogs
+mod OneValue
+mod Paths
+mod Refusals
+mod Sounding
+mod Tried

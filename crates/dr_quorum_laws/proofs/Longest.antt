@@ -1,0 +1,126 @@
+-- Where no log is missing, and all are fronts of one list, the longest of all is chosen.
+use Rattle.std.proofs.Common.{◌≡◌, refl, ap, sym, ◌∙◌, ◌⊎◌, inl, inr, subst, ℕ, ◌<◌, ◌≤◌, arith, true, List, [], ◌∷◌, length, Contains, None, Some, slice_get, IsSomeAnd, take_at}
+use Rattle.std.proofs.lemmas.Option.{none-some, same_Some, slice_get_within}
+use Rattle.dr_entry.specs.declared.entry.Entry.{Entry}
+use Rattle.dr_entry.specs.declared.entry.Entry.TheVariants.{View, Msg}
+use Rattle.dr_history.specs.declared.opening.Opening.{Opening}
+use Rattle.dr_history.specs.History.{GroupView, IsPrefixOf, view_after, view_of}
+use Rattle.dr_history.specs.Members.{has, members_of}
+use Rattle.dr_history.specs.Restarting.{AreAllAlong, AreAlong, IsLongest}
+use Rattle.dr_history.specs.Soundness.{whole_roster}
+use Rattle.dr_history_laws.proofs.Keeping.{prefix_shorter}
+use Rattle.dr_restart.specs.declared.lists.LogLists.{LogLists}
+use Rattle.dr_restart.specs.declared.start.Start.{Start}
+use Rattle.dr_restart.specs.Choosing.{AreOfHolders, AreOfNobody, EndsInAge, IsChosenStart, of_set}
+use Rattle.dr_restart.specs.Left.{entries_on_logs}
+use Rattle.dr_restart.specs.OnLogs.{AllStandOnLog, Messages}
+use Rattle.dr_restart.proofs.Listed.{listed, log-listed}
+use Rattle.dr_quorum_laws.proofs.Handing.{log-of_set, quorum-some, set-log}
+use Rattle.dr_quorum_laws.proofs.LastViews.{last-view, view-come, view-late}
+use Rattle.dr_quorum_laws.proofs.Lists.{prefix-in}
+
+-- ---- logs without a View
+
+some-after : (es : List Entry) (v : GroupView) → view_after (Some v) es ≡ None → ⊥
+unfolding view_after
+some-after [] v e = none-some v (sym e)
+some-after (View a n m ∷ es) v e = some-after es (record { age = a; number = n; members = members_of m }) e
+some-after (Msg s i b ∷ es) v e = some-after es v e
+
+first-view : (a n m : ℕ) (es : List Entry) → view_of (View a n m ∷ es) ≡ None → ⊥
+unfolding view_after
+first-view a n m es e = some-after es (record { age = a; number = n; members = members_of m }) e
+
+no_view : view_of [] ≡ None
+unfolding view_after
+no_view = refl
+
+-- a log without a View has nothing
+nothing-without : (messages : Messages) (es : List Entry) → AllStandOnLog messages es → view_of es ≡ None → es ≡ []
+nothing-without messages [] stand e = refl
+nothing-without messages (View a n m ∷ es) stand e = absurd (first-view a n m es e)
+nothing-without messages (Msg s i b ∷ es) stand e = absurd (subst (λ z. IsSomeAnd z (λ v. Contains v.members s))
+    (ap view_of (take_at [] (Msg s i b ∷ es) 0 refl) ∙ no_view) (stand 0 (Msg s i b) refl).0)
+
+-- ---- the longest
+
+-- what goes on from a list ends in a view that is no earlier
+ends-later : (messages : Messages) (f g : List Entry) (v : GroupView) → AllStandOnLog messages g
+    → IsPrefixOf f g → view_of f ≡ Some v → (u : GroupView) × (view_of g ≡ Some u) × (v.age ≤ u.age)
+ends-later messages f g v stand p e =
+    let last = last-view f v e in
+    let c : Contains g (View v.age v.number last.0) = prefix-in f g (View v.age v.number last.0) p last.1 in
+    let t = view-come messages g v.age v.number last.0 stand c in
+    (t.0, t.1, view-late messages g v.age v.number last.0 t.0 stand c t.1)
+
+pub longest-chosen : (o : Opening) (logs : List LogLists) (set : ℕ) (start : Start)
+    → IsChosenStart o (of_set logs set) start → ((m : ℕ) → m < length logs → has set m ≡ true)
+    → AreAllAlong (entries_on_logs logs) → IsLongest (entries_on_logs logs) start.entries
+longest-chosen o logs set start c all along = by c.entries
+  where
+    handed : (m : ℕ) (log : LogLists) → slice_get logs m ≡ Some log → of_set logs set m ≡ Some log
+    handed m log at = log-of_set logs set m log (all m (slice_get_within logs m log at)) at
+
+    holders : AreOfHolders o (of_set logs set) start.entries → IsLongest (entries_on_logs logs) start.entries
+    holders h = record {
+      place = h.held.0;
+      one = mine;
+      longest = λ m l at. shorter m l at (apart m h.held.0);
+    }
+      where
+        apart : (i j : ℕ) → (i < j) ⊎ ((i ≡ j) ⊎ (j < i))
+        apart i j = grind arith
+
+        mine : slice_get (entries_on_logs logs) h.held.0 ≡ Some start.entries
+        mine = listed logs h.held.0 h.held.1 (set-log logs set h.held.0 h.held.1 h.held.2).1
+            ∙ ap Some (sym h.held.4)
+
+        longer : (m : ℕ) (l : List Entry) → slice_get (entries_on_logs logs) m ≡ Some l
+            → IsPrefixOf start.entries l → length l ≤ length start.entries
+        longer m l at p =
+            let t = log-listed logs m l at in
+            let here = handed m t.0 t.1 in
+            let u = ends-later o.messages h.held.1.entries t.0.entries h.held.3.0 (c.sound m t.0 here)
+            (subst (λ es. IsPrefixOf es t.0.entries) h.held.4 (subst (IsPrefixOf start.entries) (sym t.2) p))
+            h.held.3.1 in
+            let most = h.last.greatest m u.0.age t.0 here (u.0, u.1, refl) in
+            let same : u.0.age ≡ h.age = omega (arith, u.2, most, h.held.3.2) in
+            h.longest l (m, t.0, here, subst (EndsInAge t.0) same (u.0, u.1, refl), sym t.2)
+
+        ways : (m : ℕ) (l : List Entry) → slice_get (entries_on_logs logs) m ≡ Some l
+            → IsPrefixOf l start.entries ⊎ IsPrefixOf start.entries l → length l ≤ length start.entries
+        ways m l at (inl p) = prefix_shorter l start.entries p
+        ways m l at (inr p) = longer m l at p
+
+        turned : (f g : List Entry) → AreAlong f g → AreAlong g f
+        turned f g (inl p) = inr p
+        turned f g (inr p) = inl p
+
+        shorter : (m : ℕ) (l : List Entry) → slice_get (entries_on_logs logs) m ≡ Some l
+            → (m < h.held.0) ⊎ ((m ≡ h.held.0) ⊎ (h.held.0 < m)) → length l ≤ length start.entries
+        shorter m l at (inl less) = ways m l at (along m h.held.0 l start.entries less at mine)
+        shorter m l at (inr (inl same)) = omega (
+          arith,
+          ap length (same_Some l start.entries (sym at ∙ (ap (slice_get (entries_on_logs logs)) same ∙ mine))),
+        )
+        shorter m l at (inr (inr more)) =
+            ways m l at (turned start.entries l (along h.held.0 m start.entries l more mine at))
+
+    nobody : AreOfNobody (of_set logs set) start.entries → IsLongest (entries_on_logs logs) start.entries
+    nobody n = record {
+      place = t.0;
+      one = listed logs t.0 t.2 (set-log logs set t.0 t.2 t.3).1 ∙ ap Some (none t.0 t.2 t.3 ∙ sym n.none);
+      longest = λ m l at. let x = log-listed logs m l at in
+          omega (arith, ap length (sym x.2 ∙ none m x.0 (handed m x.0 x.1)));
+    }
+      where
+        t : (m : ℕ) × (has (whole_roster o) m ≡ true) × (log : LogLists) × (of_set logs set m ≡ Some log)
+        t = quorum-some (of_set logs set) (whole_roster o) c.quorum
+
+        none : (m : ℕ) (log : LogLists) → of_set logs set m ≡ Some log → log.entries ≡ []
+        none m log here = nothing-without o.messages log.entries (c.sound m log here) (n.nobody m log here)
+
+    by : AreOfHolders o (of_set logs set) start.entries ⊎ AreOfNobody (of_set logs set) start.entries
+        → IsLongest (entries_on_logs logs) start.entries
+    by (inl h) = holders h
+    by (inr n) = nobody n

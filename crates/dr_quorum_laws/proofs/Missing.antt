@@ -1,0 +1,170 @@
+-- Logs that hold have nothing foreign, and those that a further try lacks are of ages before it.
+use Rattle.std.proofs.Common.{◌≡◌, refl, ap, sym, ◌∙◌, ◌⊎◌, inl, inr, subst, ℕ, ◌+◌, ◌-◌, ◌<◌, ◌≤◌, arith, false, List, [], ◌∷◌, ◌++◌, length, length-append, length-take, take, drop, Contains, Some, slice_get, append_assoc, take-append-drop, take_at}
+use Rattle.std.proofs.lemmas.Bool.{cases_lt}
+use Rattle.std.proofs.lemmas.Option.{same_Some, slice_get_within}
+use Rattle.dr_entry.specs.declared.entry.Entry.{Entry}
+use Rattle.dr_entry.specs.declared.record.Vote.{Vote}
+use Rattle.dr_history.specs.declared.opening.Opening.{Opening}
+use Rattle.dr_history.specs.Members.{has}
+use Rattle.dr_history_laws.proofs.Lists.{slice_get-left, slice_get-push_cases, slice_get-seam, slice_get-some, take-next, take-prefix}
+use Rattle.dr_machine.proofs.Presence.{is_present}
+use Rattle.dr_machine.specs.Group.{Group, IsGroup, IsPresent}
+use Rattle.dr_machine.specs.World.{World}
+use Rattle.dr_restart.specs.declared.lists.Attempt.{Attempt}
+use Rattle.dr_restart.specs.declared.lists.LogLists.{LogLists}
+use Rattle.dr_restart.specs.declared.start.Start.{Start}
+use Rattle.dr_restart.specs.Groups.{group_of}
+use Rattle.dr_restart.specs.Left.{IsLeftByOther}
+use Rattle.dr_restart.specs.OnLogs.{AllStandOnLog, MayStandOnLog, StartsSoundly}
+use Rattle.dr_restart.specs.Trying.{IsTry, first_view_of, opened_by}
+use Rattle.dr_script.specs.declared.script.Script.{Script}
+use Rattle.dr_world_laws.proofs.Worlds.{Known}
+use Rattle.dr_quorum_laws.specs.Holding.{AreSoundTries, GoesOnFrom, HoldSince, IsKeptBy, IsOfAgeOrEarlier, IsOpenedTry}
+use Rattle.dr_quorum_laws.proofs.Chosen.{chosen-keeps}
+use Rattle.dr_quorum_laws.proofs.Ended.{stands}
+use Rattle.dr_quorum_laws.proofs.Grown.{ages-below}
+use Rattle.dr_quorum_laws.proofs.Handing.{Since, was-left}
+use Rattle.dr_quorum_laws.proofs.OnLogs.{part-on_log, stand-on_log}
+use Rattle.dr_quorum_laws.proofs.Sounding.{choice-sound}
+
+-- ---- the starts of tries
+
+pub try-sound : (o : Opening) (before after : List LogLists) (tries : List Attempt) (try : Attempt)
+    → AreSoundTries o tries → IsTry o before after try → AreSoundTries o (tries ++ try ∷ [])
+try-sound o before after tries try sounds t k one at = by (slice_get-push_cases tries try one k at)
+  where
+    by : ((k < length tries) × (slice_get tries k ≡ Some one)) ⊎ ((k ≡ length tries) × (try ≡ one))
+        → StartsSoundly (opened_by o one.start)
+    by (inl (l, old)) = sounds k one old
+    by (inr (l, same)) = subst (λ (a : Attempt). StartsSoundly (opened_by o a.start)) same
+        (choice-sound o _ try.start t.choice)
+
+-- ---- what holds may stand
+
+-- a list around one of its elements
+around : {X : Type 0} (xs : List X) (k : ℕ) (x : X) → slice_get xs k ≡ Some x
+    → xs ≡ take k xs ++ x ∷ drop (k + 1) xs
+around xs k x at = sym (take-append-drop (k + 1) xs)
+    ∙ (ap (λ l. l ++ drop (k + 1) xs) (take-next xs k x at) ∙ append_assoc (take k xs) (x ∷ []) (drop (k + 1) xs))
+
+-- entries that go on from a front of the history with Views of opened tries
+goes-stand : (g : Group) (w : World) (choice logs : List LogLists) (tries : List Attempt) (m : ℕ)
+    (log : LogLists) (front : List Entry) → IsGroup g → Known g w → (held : HoldSince g w choice tries logs)
+    → AreSoundTries g.opening tries → slice_get logs m ≡ Some log
+    → GoesOnFrom held.history tries front log.entries → AllStandOnLog g.opening.messages log.entries
+goes-stand g w choice logs tries m log front is y held sounds at goes i e here = by (cases_lt i (length front))
+  where
+    history : AllStandOnLog g.opening.messages held.history
+    history = subst (AllStandOnLog g.opening.messages) held.longest.one.2
+        (stand-on_log g.opening (w.past.history held.longest.one.0) is.some_member
+        (stands g w held.longest.one.0 is y held.longest.one.1))
+
+    whole : log.entries ≡ front ++ goes.views
+    whole = goes.is
+
+    before : i < length front → MayStandOnLog g.opening.messages (take i log.entries) e
+    before l = subst (λ es. MayStandOnLog g.opening.messages es e)
+        (sym (take-prefix front log.entries i (goes.views, sym goes.is) (omega (arith, l))))
+        (part-on_log g.opening.messages front held.history goes.delivered history i e
+        (sym (slice_get-left front goes.views i l) ∙ (ap (λ es. slice_get es i) (sym goes.is) ∙ here)))
+
+    behind : length front ≤ i → MayStandOnLog g.opening.messages (take i log.entries) e
+    behind l = at-view (slice_get-some goes.views (i - length front) (omega (
+      arith,
+      l,
+      slice_get_within log.entries i e here,
+      ap length whole,
+      length-append front goes.views,
+    )))
+      where
+        at-view : (x : Entry) × (slice_get goes.views (i - length front) ≡ Some x)
+            → MayStandOnLog g.opening.messages (take i log.entries) e
+        at-view (x, there) =
+            subst (MayStandOnLog g.opening.messages (take i log.entries)) (sym t.2 ∙ same)
+            (subst (λ es. MayStandOnLog g.opening.messages es (first_view_of t.0.start))
+            (sym (held.started t.0 m log (front ++ take k goes.views) (drop (k + 1) goes.views) t.1 at
+            (split ∙ ap (λ z. (front ++ take k goes.views) ++ z ∷ drop (k + 1) goes.views) t.2)) ∙ sym start)
+            (sound.members, inl (record { later = sound.later; first = refl })))
+          where
+            k : ℕ
+            k = i - length front
+
+            split : log.entries ≡ (front ++ take (i - length front) goes.views)
+                ++ x ∷ drop (i - length front + 1) goes.views
+            split = goes.is ∙ (ap (λ vs. front ++ vs) (around goes.views (i - length front) x there)
+                ∙ sym (append_assoc front (take (i - length front) goes.views)
+                (x ∷ drop (i - length front + 1) goes.views)))
+
+            place : length (front ++ take (i - length front) goes.views) ≡ i
+            place = omega (
+              arith,
+              l,
+              length-append front (take (i - length front) goes.views),
+              length-take (i - length front) goes.views,
+              slice_get_within goes.views (i - length front) x there,
+            )
+
+            same : x ≡ e
+            same = same_Some x e (sym (slice_get-seam (front ++ take (i - length front) goes.views) x
+                (drop (i - length front + 1) goes.views))
+                ∙ (ap (slice_get ((front ++ take (i - length front) goes.views)
+                ++ x ∷ drop (i - length front + 1) goes.views)) place
+                ∙ (ap (λ es. slice_get es i) (sym split) ∙ here)))
+
+            start : take i log.entries ≡ front ++ take (i - length front) goes.views
+            start = ap (take i) split ∙ take_at (front ++ take (i - length front) goes.views)
+                (x ∷ drop (i - length front + 1) goes.views) i place
+
+            t : (try : Attempt) × IsOpenedTry tries try × (x ≡ first_view_of try.start)
+            t = goes.opened (i - length front) x there
+
+            sound : StartsSoundly (opened_by g.opening t.0.start)
+            sound = sounds t.1.0 t.0 t.1.1
+
+    by : (i < length front) ⊎ (length front ≤ i) → MayStandOnLog g.opening.messages (take i log.entries) e
+    by (inl l) = before l
+    by (inr l) = behind l
+
+pub held-stand : (g : Group) (w : World) (choice logs : List LogLists) (tries : List Attempt) (m : ℕ)
+    (log : LogLists) → IsGroup g → Known g w → HoldSince g w choice tries logs → AreSoundTries g.opening tries
+    → slice_get logs m ≡ Some log → AllStandOnLog g.opening.messages log.entries
+held-stand g w choice logs tries m log is y held sounds at = by (held.grown m log at)
+  where
+    by : IsOfAgeOrEarlier g held.history tries log → AllStandOnLog g.opening.messages log.entries
+    by (inl t) = goes-stand g w choice logs tries m log t.1 is y held sounds at t.2
+    by (inr t) = t.0
+
+-- ---- the logs that a further try lacks
+
+-- the votes on a log that holds are of the age that has ended, or of earlier ones
+votes-below : (g : Group) (w : World) (choice logs : List LogLists) (tries : List Attempt) (m : ℕ)
+    (log : LogLists) (x : Vote) → Since g w choice tries logs → slice_get logs m ≡ Some log
+    → Contains log.votes x → x.age ≤ g.opening.age
+votes-below g w choice logs tries m log x s at c =
+    let there : IsPresent g m =
+    is_present g m s.group (omega (arith, slice_get_within logs m log at, s.held.all)) in
+    let was = was-left g w choice m s.group s.left there in
+    was.2.votes x (subst (λ l. Contains l x) (s.held.votes m was.0 log there was.1 at) c)
+
+pub others-left : (script : Script) (start : Start) (w : World) (choice before after : List LogLists)
+    (tries : List Attempt) (try : Attempt) (m : ℕ) (log : LogLists)
+    → Since (group_of script start) w choice tries before → AreSoundTries (group_of script start).opening tries
+    → IsTry (group_of script start).opening before after try → has try.set m ≡ false
+    → slice_get after m ≡ Some log → IsLeftByOther (group_of script try.start) log
+others-left script start w choice before after tries try m log s sounds t none at = record {
+  stands = held-stand (group_of script start) w choice before tries m log s.group s.known s.held sounds here;
+  earlier = record {
+    views = λ a n k c. ages-below (group_of script start) w choice before tries s try.start kept m log a n k here c;
+    votes = λ x c. omega (
+      arith,
+      votes-below (group_of script start) w choice before tries m log x s here c,
+      kept.later,
+    );
+  };
+}
+  where
+    here : slice_get before m ≡ Some log
+    here = sym (t.others m none) ∙ at
+
+    kept : IsKeptBy (group_of script start) w s.held.history tries try.start
+    kept = chosen-keeps (group_of script start) w choice before tries try.set try.start s t.choice

@@ -1,0 +1,303 @@
+-- All votes that were left are of one world: that in which each member has logged the vote that it may have
+-- begun to log. So they agree on one value.
+use Rattle.std.proofs.Common.{◌≡◌, ◌≢◌, refl, ap, sym, ◌∙◌, ◌⊎◌, inl, inr, subst, ℕ, zero, suc, ◌<◌, ◌≤◌, ◌==◌, arith, Bool, true, false, List, [], Contains, Option, None, Some, slice_get}
+use Rattle.std.proofs.lemmas.Bool.{cases_lt}
+use Rattle.std.proofs.lemmas.Option.{none-some, slice_get_within}
+use Rattle.std.proofs.lemmas.List.Elements.{Contains-push_cases}
+use Rattle.std.specs.Option.{option_map_or}
+use Rattle.dr_entry.specs.declared.record.Value.{Value}
+use Rattle.dr_entry.specs.declared.record.Vote.{Vote}
+use Rattle.dr_faithful.proofs.Writes.{at_other}
+use Rattle.dr_faithful.specs.Chosen.{AreChosen, Values, views_by}
+use Rattle.dr_history.specs.Members.{has}
+use Rattle.dr_machine.specs.declared.event.Event.TheVariants.{LogVote}
+use Rattle.dr_machine.specs.Effects.{logs_vote, vote_for}
+use Rattle.dr_machine.specs.Group.{Group, IsGroup, IsPresent, roster}
+use Rattle.dr_machine.specs.Guards.{CanLogVote}
+use Rattle.dr_machine.specs.Votes.{HasLogged, IsOf, MajorityHas}
+use Rattle.dr_machine.specs.World.{World}
+use Rattle.dr_restart.specs.declared.lists.LogLists.{LogLists}
+use Rattle.dr_vote_laws.proofs.Logs.{logged_new, logged_stays}
+use Rattle.dr_vote_laws.proofs.Values.{majority_stays, same_ballot}
+use Rattle.dr_vote_laws.specs.Voting.{HaveVotedFor}
+use Rattle.dr_world_laws.proofs.HeldViews.{view-is}
+use Rattle.dr_world_laws.proofs.Reached as worlds
+use Rattle.dr_world_laws.proofs.Reached.{event-known}
+use Rattle.dr_world_laws.proofs.Telling.{has-present}
+use Rattle.dr_world_laws.proofs.Worlds.{Known, commits}
+use Rattle.dr_world_laws.specs.Views.{HasView}
+use Rattle.dr_restart.specs.Left.{AreLeft, AreLeftOf, MayLogVote, votes_of_age, votes_on_logs, without_ends}
+use Rattle.dr_quorum_laws.proofs.Ended.{view-present}
+use Rattle.dr_quorum_laws.proofs.Extra.{endless-known}
+use Rattle.dr_quorum_laws.proofs.Handing.{left-vote, logged-left, was-left}
+use Rattle.dr_quorum_laws.proofs.Lists.{filter-in, in-filter, in-nothing, in-read, read-in}
+
+-- a vote of one member takes no vote from another
+vote-apart : (g : Group) (u : World) (m n : ℕ) (v z : Value) → m ≢ n → CanLogVote g u m v
+    → CanLogVote g (logs_vote g u n z) m v
+vote-apart g u m n v z apart can = record {
+  may = record {
+    alive = record { present = can.may.alive.present; running = can.may.alive.running };
+    idle = at_other u.pending n (Some (vote_for g u n z)) m apart ∙ can.may.idle;
+  };
+  wedged = can.wedged;
+  uncommitted = can.uncommitted;
+  logged = can.logged;
+  whole = can.whole;
+  allowed = can.allowed;
+}
+
+-- a world in which the members below a number have logged what they may have begun to log
+record HaveLogged (g : Group) (values : Values) (w : World) (logs : List LogLists) (n : ℕ) : Type 0 where
+  world : World
+  known : worlds.Known g values world
+  chosen : AreChosen values world
+  logged : (i : ℕ) (x : Vote) → i < n → HasLogged (votes_on_logs g logs) i x → HasLogged world.past.votes i x
+  may : (i : ℕ) (v : Value) → n ≤ i → CanLogVote g (without_ends w) i v → CanLogVote g world i v
+  same : (i : ℕ) (v : Value) → vote_for g world i v ≡ vote_for g w i v
+  before : (i : ℕ) (x : Vote) → HasLogged w.past.votes i x → HasLogged world.past.votes i x
+
+-- a vote that was left is one of the age on the log
+vote-left : (g : Group) (logs : List LogLists) (i : ℕ) (x : Vote) → HasLogged (votes_on_logs g logs) i x
+    → (log : LogLists) × (slice_get logs i ≡ Some log) × Contains log.votes x × (x.age ≡ g.opening.age)
+vote-left g logs i x h = by (slice_get logs i) refl
+    (in-read (votes_on_logs g logs i) h.0 x h.1)
+  where
+    equal : (a b : ℕ) → (a == b) ≡ true → a ≡ b
+    equal a b e = grind (arith, e)
+
+    by : (o : Option LogLists) → slice_get logs i ≡ o
+        → Contains (option_map_or (λ log. votes_of_age g.opening.age log.votes) (slice_get logs i) []) x
+        → (log : LogLists) × (slice_get logs i ≡ Some log) × Contains log.votes x × (x.age ≡ g.opening.age)
+    by None e c = absurd (in-nothing x (subst
+        (λ o. Contains (option_map_or (λ log. votes_of_age g.opening.age log.votes) o []) x) e c))
+    by (Some log) e c =
+        let t = filter-in (λ z. z.age == g.opening.age) log.votes x (subst
+        (λ o. Contains (option_map_or (λ log. votes_of_age g.opening.age log.votes) o []) x) e c) in
+        (log, e, t.0, equal x.age g.opening.age t.1)
+
+-- and the other way round
+left-on : (g : Group) (logs : List LogLists) (i : ℕ) (log : LogLists) (x : Vote) → slice_get logs i ≡ Some log
+    → Contains log.votes x → x.age ≡ g.opening.age → HasLogged (votes_on_logs g logs) i x
+left-on g logs i log x at c e = read-in (votes_on_logs g logs i) x (subst
+    (λ o. Contains (option_map_or (λ l. votes_of_age g.opening.age l.votes) o []) x) (sym at)
+    (in-filter (λ z. z.age == g.opening.age) log.votes x (same x.age g.opening.age e) c))
+  where
+    same : (a b : ℕ) → a ≡ b → (a == b) ≡ true
+    same a b e = grind (arith, e)
+
+-- a member that is not there has left none
+absent-none : (g : Group) (w : World) (logs : List LogLists) (i : ℕ) (x : Vote) → AreLeft g w logs
+    → ¬ IsPresent g i → HasLogged (votes_on_logs g logs) i x → ⊥
+absent-none g w logs i x left absent h =
+    let t = vote-left g logs i x h in
+    omega (arith, (left.others i t.0 absent t.1).earlier.votes x t.2, t.3)
+
+-- what a member has left is what it had logged, or what it may have begun to log
+present-left : (g : Group) (w : World) (logs : List LogLists) (i : ℕ) (x : Vote) → AreLeft g w logs
+    → IsPresent g i → HasLogged (votes_on_logs g logs) i x → HasLogged w.past.votes i x ⊎ MayLogVote g w i x
+present-left g w logs i x left there h =
+    let t = vote-left g logs i x h in
+    left-vote g w i t.0 x (left.members i t.0 there t.1) t.2 t.3
+
+-- of a member, all such are one vote: the last one
+one-left : (g : Group) (w : World) (logs : List LogLists) (i : ℕ) → AreLeft g w logs → IsPresent g i
+    → ((x : Vote) → HasLogged (votes_on_logs g logs) i x → HasLogged w.past.votes i x)
+    ⊎ ((z : Vote) × MayLogVote g w i z
+    × ((x : Vote) → HasLogged (votes_on_logs g logs) i x → HasLogged w.past.votes i x ⊎ (z ≡ x)))
+one-left g w logs i left there = by (was-left-log (slice_get logs i) refl)
+  where
+    none : slice_get logs i ≡ None → (x : Vote) → HasLogged (votes_on_logs g logs) i x → HasLogged w.past.votes i x
+    none e x h = let t = vote-left g logs i x h in absurd (none-some t.0 (sym e ∙ t.1))
+
+    was-left-log : (o : Option LogLists) → slice_get logs i ≡ o
+        → (slice_get logs i ≡ None) ⊎ ((log : LogLists) × (slice_get logs i ≡ Some log))
+    was-left-log None e = inl e
+    was-left-log (Some log) e = inr (log, e)
+
+    kinds : (log : LogLists) → slice_get logs i ≡ Some log
+        → AreLeftOf g w i log.entries (votes_of_age g.opening.age log.votes)
+        → ((x : Vote) → HasLogged (votes_on_logs g logs) i x → HasLogged w.past.votes i x)
+        ⊎ ((z : Vote) × MayLogVote g w i z
+        × ((x : Vote) → HasLogged (votes_on_logs g logs) i x → HasLogged w.past.votes i x ⊎ (z ≡ x)))
+    kinds log e left = of left
+      where
+        on : (x : Vote) → HasLogged (votes_on_logs g logs) i x → Contains (votes_of_age g.opening.age log.votes) x
+        on x h = subst (λ o. Contains (option_map_or (λ l. votes_of_age g.opening.age l.votes) o []) x) e
+            (in-read (votes_on_logs g logs i) h.0 x h.1)
+
+        of : AreLeftOf g w i log.entries (votes_of_age g.opening.age log.votes)
+            → ((x : Vote) → HasLogged (votes_on_logs g logs) i x → HasLogged w.past.votes i x)
+            ⊎ ((z : Vote) × MayLogVote g w i z
+            × ((x : Vote) → HasLogged (votes_on_logs g logs) i x → HasLogged w.past.votes i x ⊎ (z ≡ x)))
+        of (inl (entries, same)) = inl (λ x h. read-in (w.past.votes i) x
+            (subst (λ l. Contains l x) same (on x h)))
+        of (inr (inl (entry, entries, p, same))) = inl (λ x h. read-in (w.past.votes i) x
+            (subst (λ l. Contains l x) same (on x h)))
+        of (inr (inr (z, entries, more, may))) = inr (
+          z,
+          may,
+          λ x h.
+              last x z (Contains-push_cases (w.past.votes i) z x
+              (subst (λ l. Contains l x) more (on x h))),
+        )
+          where
+            last : (x z : Vote) → Contains (w.past.votes i) x ⊎ (z ≡ x) → HasLogged w.past.votes i x ⊎ (z ≡ x)
+            last x z (inl c) = inl (read-in (w.past.votes i) x c)
+            last x z (inr e) = inr e
+
+    by : (slice_get logs i ≡ None) ⊎ ((log : LogLists) × (slice_get logs i ≡ Some log))
+        → ((x : Vote) → HasLogged (votes_on_logs g logs) i x → HasLogged w.past.votes i x)
+        ⊎ ((z : Vote) × MayLogVote g w i z
+        × ((x : Vote) → HasLogged (votes_on_logs g logs) i x → HasLogged w.past.votes i x ⊎ (z ≡ x)))
+    by (inl e) = inl (none e)
+    by (inr (log, e)) = kinds log e (left.members i log there e).left
+
+-- one member more
+next-logged : (g : Group) (values : Values) (w : World) (logs : List LogLists) (n : ℕ) → IsGroup g
+    → AreLeft g w logs → HaveLogged g values w logs n → HaveLogged g values w logs (suc n)
+next-logged g values w logs n is left old = by (has g.opening.present n) refl
+  where
+    u : World
+    u = old.world
+
+    below : (P : Vote → ℕ → Type 0) (x : Vote) (i : ℕ) → i < suc n → (i < n → P x i) → (i ≡ n → P x i) → P x i
+    below P x i l one other = case (cases_lt i n)
+      where
+        case : (i < n) ⊎ (n ≤ i) → P x i
+        case (inl less) = one less
+        case (inr more) = other (omega (arith, l, more))
+
+    stays : ((x : Vote) → HasLogged (votes_on_logs g logs) n x → HasLogged old.world.past.votes n x)
+        → HaveLogged g values w logs (suc n)
+    stays all = record {
+      world = old.world;
+      known = old.known;
+      chosen = old.chosen;
+      logged = λ i x l h. below (λ x i. HasLogged old.world.past.votes i x) x i l (λ less. old.logged i x less h)
+          (λ e. subst (λ j. HasLogged old.world.past.votes j x) (sym e)
+          (all x (subst (λ j. HasLogged (votes_on_logs g logs) j x) e h)));
+      may = λ i v l can. old.may i v (omega (arith, l)) can;
+      same = old.same;
+      before = old.before;
+    }
+
+    more : (z : Vote) → MayLogVote g w n z
+        → ((x : Vote) → HasLogged (votes_on_logs g logs) n x → HasLogged w.past.votes n x ⊎ (z ≡ x))
+        → HaveLogged g values w logs (suc n)
+    more z (v, can, e) all = record {
+      world = logs_vote g old.world n v;
+      known = event-known g values old.world (LogVote n v) is old.chosen now old.known;
+      chosen = old.chosen;
+      logged = λ i x l h. below (λ x i. HasLogged (logs_vote g old.world n v).past.votes i x) x i l
+          (λ less. stay i x (old.logged i x less h))
+          (λ j. subst (λ k. HasLogged (logs_vote g old.world n v).past.votes k x) (sym j)
+          (new x (all x (subst (λ k. HasLogged (votes_on_logs g logs) k x) j h))));
+      may = λ i u l may. vote-apart g old.world i n u v (λ same. absurd (omega (arith, l, same)))
+          (old.may i u (omega (arith, l)) may);
+      same = old.same;
+      before = λ i x h. stay i x (old.before i x h);
+    }
+      where
+        now : CanLogVote g old.world n v
+        now = old.may n v (omega arith) can
+
+        stay : (i : ℕ) (x : Vote) → HasLogged old.world.past.votes i x
+            → HasLogged (logs_vote g old.world n v).past.votes i x
+        stay i x h = logged_stays old.world.past.votes n (vote_for g old.world n v) i x h
+
+        new : (x : Vote) → HasLogged w.past.votes n x ⊎ (z ≡ x)
+            → HasLogged (logs_vote g old.world n v).past.votes n x
+        new x (inl h) = stay n x (old.before n x h)
+        new x (inr same) = subst (HasLogged (logs_vote g old.world n v).past.votes n)
+            (old.same n v ∙ sym e ∙ same)
+            (logged_new old.world.past.votes n (vote_for g old.world n v))
+
+    there : ((x : Vote) → HasLogged (votes_on_logs g logs) n x → HasLogged w.past.votes n x)
+        ⊎ ((z : Vote) × MayLogVote g w n z
+        × ((x : Vote) → HasLogged (votes_on_logs g logs) n x → HasLogged w.past.votes n x ⊎ (z ≡ x)))
+        → HaveLogged g values w logs (suc n)
+    there (inl all) = stays (λ x h. old.before n x (all x h))
+    there (inr (z, may, all)) = more z may all
+
+    by : (b : Bool) → has g.opening.present n ≡ b → HaveLogged g values w logs (suc n)
+    by false e = stays (λ x h. absurd (absent-none g w logs n x left (λ there. absurd (cc (there, e))) h))
+    by true e = there (one-left g w logs n left e)
+
+logged-below : (g : Group) (values : Values) (w : World) (logs : List LogLists) → IsGroup g
+    → AreChosen values w → worlds.Known g values w → AreLeft g w logs → (n : ℕ) → HaveLogged g values w logs n
+logged-below g values w logs is chosen y left zero = record {
+  world = without_ends w;
+  known = endless-known g values w y;
+  chosen = chosen;
+  logged = λ i x l h. absurd (omega (arith, l));
+  may = λ i v l can. can;
+  same = λ i v. refl;
+  before = λ i x h. h;
+}
+logged-below g values w logs is chosen y left (suc n) =
+    next-logged g values w logs n is left (logged-below g values w logs is chosen y left n)
+
+-- the world of all
+all-logged : (g : Group) (w : World) (logs : List LogLists) → IsGroup g → (y : Known g w) → AreLeft g w logs
+    → HaveLogged g y.values w logs (roster g)
+all-logged g w logs is y left = logged-below g y.values w logs is y.by.now y.chosen left (roster g)
+
+logged-there : (g : Group) (w : World) (logs : List LogLists) (is : IsGroup g) (y : Known g w)
+    (left : AreLeft g w logs) (i : ℕ) (x : Vote) → HasLogged (votes_on_logs g logs) i x
+    → HasLogged (all-logged g w logs is y left).world.past.votes i x
+logged-there g w logs is y left i x h =
+    let t = vote-left g logs i x h in
+    (all-logged g w logs is y left).logged i x (omega (arith, slice_get_within logs i t.0 t.1, left.all)) h
+
+-- ---- the laws
+
+pub left-ballot : (g : Group) (w : World) (logs : List LogLists) (i j : ℕ) (x z : Vote) → IsGroup g → Known g w
+    → AreLeft g w logs → HasLogged (votes_on_logs g logs) i x → HasLogged (votes_on_logs g logs) j z
+    → IsOf z x.view x.ballot → x ≡ z
+left-ballot g w logs i j x z is y left h k of =
+    same_ballot g (views_by g y.values) (all-logged g w logs is y left).world i j x z
+    (all-logged g w logs is y left).known.voting (logged-there g w logs is y left i x h)
+    (logged-there g w logs is y left j z k) of
+
+pub left-majority : (g : Group) (w : World) (logs : List LogLists) (i j members : ℕ) (x z : Vote) → IsGroup g
+    → Known g w → AreLeft g w logs → HasView g w x.view members → HasLogged (votes_on_logs g logs) i x
+    → HasLogged (votes_on_logs g logs) j z
+    → MajorityHas (votes_on_logs g logs) members (λ a. IsOf a x.view x.ballot)
+    → z.view ≡ x.view → x.ballot ≤ z.ballot → z.value ≡ x.value
+left-majority g w logs i j members x z is y left held h k most view above =
+    majority_stays g (views_by g y.values) (all-logged g w logs is y left).world i j x z
+    (all-logged g w logs is y left).known.voting (logged-there g w logs is y left i x h)
+    (logged-there g w logs is y left j z k)
+    (subst (λ mask. MajorityHas (all-logged g w logs is y left).world.past.votes mask
+    (λ a. IsOf a x.view x.ballot)) (sym (view-is g y.values w x.view members is y.chosen held)) there) view above
+  where
+    there : MajorityHas (all-logged g w logs is y left).world.past.votes members (λ a. IsOf a x.view x.ballot)
+    there = record {
+      mask = most.mask;
+      part = most.part;
+      majority = most.majority;
+      each = λ m e. let t = most.each m e in (t.0, logged-there g w logs is y left m t.0 t.1, t.2);
+    }
+
+pub left-committed : (g : Group) (w : World) (logs : List LogLists) (m : ℕ) (v : Value) → IsGroup g → Known g w
+    → AreLeft g w logs → w.committed m ≡ Some v
+    → (ballot : ℕ) × HaveVotedFor (votes_on_logs g logs) (w.members m) (w.past.view m) ballot v
+left-committed g w logs m v is y left e =
+    let t = commits g w m v y e in (
+      t.0,
+      record {
+        mask = t.1.mask;
+        part = t.1.part;
+        majority = t.1.majority;
+        each = λ i h. let one = t.1.each i h in (one.0, there i one.0 (t.1.part i h) one.1, one.2);
+      },
+    )
+  where
+    there : (i : ℕ) (x : Vote) → has (w.members m) i ≡ true → HasLogged w.past.votes i x
+        → HasLogged (votes_on_logs g logs) i x
+    there i x h logged =
+        let present = view-present g w (w.past.view m) (w.members m) i is y (has-present g w m is y) h in
+        let was = was-left g w logs i is left present in
+        left-on g logs i was.0 x was.1 (logged-left g w i was.0 x was.2 logged)
+        (ap (λ (z : Vote). z.age) (y.chosen.voting.valid.own i x logged))

@@ -1,0 +1,71 @@
+-- A start that logs make is one that an age may start with.
+use Rattle.std.proofs.Common.{◌≡◌, ap, sym, ◌∙◌, ◌⊎◌, inl, inr, subst, ℕ, ◌<◌, nat_lt, arith, true, length, Contains, slice_get}
+use Rattle.std.proofs.lemmas.Option.{none-some}
+use Rattle.dr_entry.specs.declared.entry.Entry.TheVariants.{View}
+use Rattle.dr_history.specs.declared.opening.Opening.{Opening}
+use Rattle.dr_history.specs.History.{GroupView, view_of}
+use Rattle.dr_history.specs.Members.{has}
+use Rattle.dr_history.specs.Soundness.{whole_roster}
+use Rattle.std.specs.Prelude.{Some}
+use Rattle.dr_restart.specs.declared.lists.LogLists.{LogLists}
+use Rattle.dr_restart.specs.declared.start.Start.{Start}
+use Rattle.dr_restart.specs.Choosing.{AreOfHolders, AreOfNobody, Handed, IsChosenStart, handed_of}
+use Rattle.dr_restart.specs.OnLogs.{AllStandOnLog, StartsSoundly}
+use Rattle.dr_restart.specs.Trying.{opened_by}
+use Rattle.dr_words.proofs.Bits.{has_ones, has_zero}
+use Rattle.dr_quorum_laws.proofs.Handing.{handed-part, quorum-meets}
+use Rattle.dr_quorum_laws.proofs.LastViews.{last-view}
+
+-- all entries of the start may stand
+start-stands : (o : Opening) (h : Handed) (start : Start) → IsChosenStart o h start
+    → AllStandOnLog o.messages start.entries
+start-stands o h start c = by c.entries
+  where
+    by : AreOfHolders o h start.entries ⊎ AreOfNobody h start.entries → AllStandOnLog o.messages start.entries
+    by (inl held) = subst (AllStandOnLog o.messages) (sym held.held.4) (c.sound held.held.0 held.held.1 held.held.2)
+    by (inr nobody) = λ i e at. absurd (none-some e (ap (λ es. slice_get es i) (sym nobody.none) ∙ at))
+
+-- its last View is of an earlier age
+start-later : (o : Opening) (h : Handed) (start : Start) (v : GroupView) → IsChosenStart o h start
+    → view_of start.entries ≡ Some v → v.age < start.age
+start-later o h start v c e = by c.entries (last-view start.entries v e)
+  where
+    by : AreOfHolders o h start.entries ⊎ AreOfNobody h start.entries
+        → (members : ℕ) × Contains start.entries (View v.age v.number members) → v.age < start.age
+    by (inl held) (members, there) = c.age.above held.held.0 v.age held.held.1 held.held.2
+        (inl (v.number, members, subst (λ es. Contains es (View v.age v.number members)) held.held.4 there))
+    by (inr nobody) (members, there) = absurd (omega (arith, there.1, ap length nobody.none))
+
+-- its members are of the roster, and somebody is
+start-members : (o : Opening) (h : Handed) (start : Start) (m : ℕ) → IsChosenStart o h start
+    → has start.members m ≡ true → m < length o.messages
+start-members o h start m c e = by (has_ones (length o.messages) m)
+    (handed-part h (whole_roster o) m (subst (λ mask. has mask m ≡ true) c.members e))
+  where
+    by : has (whole_roster o) m ≡ nat_lt m (length o.messages) → has (whole_roster o) m ≡ true
+        → m < length o.messages
+    by is there = grind (arith, is, there)
+
+start-some : (o : Opening) (h : Handed) (start : Start) → IsChosenStart o h start → 0 < start.members
+start-some o h start c = nonzero start.members t.0 (subst (λ mask. has mask t.0 ≡ true) (sym c.members) t.2)
+  where
+    t : (m : ℕ) × (has (whole_roster o) m ≡ true) × (has (handed_of h (whole_roster o)) m ≡ true)
+        × (log : LogLists) × (h m ≡ Some log)
+    t = quorum-meets h (whole_roster o) (handed_of h (whole_roster o)) c.quorum (handed-part h (whole_roster o))
+        c.quorum
+
+    nonzero : (mask i : ℕ) → has mask i ≡ true → 0 < mask
+    nonzero mask i h = grind (arith, h, has_zero i)
+
+pub choice-sound : (o : Opening) (h : Handed) (start : Start) → IsChosenStart o h start
+    → StartsSoundly (opened_by o start)
+choice-sound o h start c = record {
+  entries = start-stands o h start c;
+  later = λ v e. start-later o h start v c e;
+  members = record {
+    some = start-some o h start c;
+    within = λ m e. start-members o h start m c e;
+  };
+  part = λ m e. subst (λ mask. has mask m ≡ true) (sym c.present) e;
+  present = λ m e. start-members o h start m c (subst (λ mask. has mask m ≡ true) c.present e);
+}

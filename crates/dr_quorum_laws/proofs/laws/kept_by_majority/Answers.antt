@@ -1,0 +1,11 @@
+use Rattle.dr_restart.specs.Groups.{group_of}
+use Rattle.dr_world_laws.proofs.Worlds.{known}
+use Rattle.dr_quorum_laws.proofs.Keeping.{majority-keeps, since-held}
+use Rattle.dr_quorum_laws.proofs.laws.kept_by_majority.Goals as goal
+
+pub returns : goal.returns
+returns c w chosen run left held choice =
+    let g = group_of c.args.script.now c.args.start.now in
+    majority-keeps g w c.args.choice.now c.args.logs.now c.args.tries.now c.args.handed chosen
+    (since-held g w c.args.choice.now c.args.logs.now c.args.tries.now c.requires.group
+    (known g w c.requires.group run) c.requires.majority left held) choice

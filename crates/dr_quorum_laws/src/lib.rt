@@ -1,0 +1,14 @@
+//! The law of restarts from a majority: whatever logs are missing, an age that starts with what the others
+//! make keeps all that was durable in the one before, through any list of tries to open it.
+//!
+//! It speaks of lists of entries and of votes, and knows no disk. What logs make a start is `IsChosenStart`
+//! of `dr_restart`, what stops leave of an age is `AreLeft`, and what a try makes of logs is `IsTry` there.
+//! `HoldSince` has what any tries may make of the logs that were left. No program restarts so yet.
+#![tactic(auto)]
+
+mod laws;
+
+pub use laws::{
+    all_logs_give_the_longest, choices_are_one, choices_are_sound, held_by_try, kept_after_choice,
+    kept_by_majority, missing_logs_are_of_earlier_ages, votes_left_are_one,
+};
