@@ -1,0 +1,365 @@
+-- A report of ages that agree and are kept breaks no clause.
+use Rattle.std.proofs.Common.{◌≡◌, ◌⊎◌, inl, inr, refl, sym, ap, ◌∙◌, subst, ℕ, zero, suc, ◌+◌, ◌-◌, ◌*◌, ◌^◌, ◌<◌, ◌≤◌, arith, true, List, [], length, filter, take, All, Contains, None, Some, slice_get}
+use Rattle.std.specs.Prelude.{Option, IfSome, IsSomeAnd}
+use Rattle.std.specs.List.{Any}
+use Rattle.std.specs.Option.{option_map_or}
+use Rattle.std.proofs.lemmas.Bool.{ltb-true}
+use Rattle.std.proofs.lemmas.List.{length-take, take_all}
+use Rattle.std.proofs.lemmas.List.Elements.{All-weaker}
+use Rattle.std.proofs.lemmas.Option.{same_Some, slice_get_within}
+use Rattle.dr_entry.specs.declared.end.AgeEnd.{AgeEnd}
+use Rattle.dr_entry.specs.declared.end.MemberEnd.{MemberEnd}
+use Rattle.dr_entry.specs.declared.entry.Entry.{Entry}
+use Rattle.dr_entry.specs.declared.entry.Entry.TheVariants.{View, Msg}
+use Rattle.dr_history.specs.Agreement.{accounts_of, sent_by}
+use Rattle.dr_history.specs.History.{GroupView, IsPrefixOf, view_of}
+use Rattle.dr_history.specs.Members.{has, members_of}
+use Rattle.dr_history.specs.Order.{InOrder, MayFollow}
+use Rattle.dr_history.specs.Restarting.{AllStand, Kept}
+use Rattle.dr_history.specs.Soundness.{IsPresentIn, MayStand}
+use Rattle.dr_history_laws.proofs.Lists.{IsSomeAnd-at, slice_get-prefix, slice_get-some}
+use Rattle.dr_history_laws.proofs.Standing.{history-stands}
+use Rattle.dr_script.specs.declared.script.Script.{Script}
+use Rattle.dr_script.specs.Ranges.{HasGroupRanges}
+use Rattle.dr_words.proofs.Bits.{has_ones}
+use Rattle.dr_text.specs.declared.last.Clause.{Clause}
+use Rattle.dr_text.specs.declared.last.Clause.TheVariants as clauses
+use Rattle.dr_check.specs.declared.report.Report.{Report}
+use Rattle.dr_check.specs.declared.report.ReportAge.{ReportAge}
+use Rattle.dr_check.specs.declared.report.ReportMember.{ReportMember}
+use Rattle.dr_check.specs.Clauses.{AgeItself, MemberItself, EntryItself, AreLogged, TakesPart, KeepsBytes, KeepsIndex, KeepsPrefix, KeepsSender, HasDelivered, HasSame, IsDurableView, IsKeptIn, log_of, IsLate, WasNamed, KeepsStart, KeepsView, KeepsDurable, KeepsAge, MayComeNext, MayStart, IsFirstView, FollowsView, logged_by}
+use Rattle.dr_check.specs.Firsts.{AllKeep}
+use Rattle.dr_check.specs.Flaws.{IsRight, own_entries}
+use Rattle.dr_check.specs.Values.{KeepEachOther, HasAge, HasMember, HasValues, IsAgreed, KeepsMajorities, whole_opening}
+use Rattle.dr_check.proofs.Roster.{may_start, named_below, roster_below, some_of}
+use Rattle.dr_check.proofs.LastViews.{first_at, last_view_at, view_age}
+use Rattle.dr_check.proofs.Places.{all_at, all_below, all_from_places, any_at, if_some}
+use Rattle.dr_check.proofs.Zips.{behind_at, zip_at, zip_to}
+
+-- two entries at a place, where one list is a prefix of the other, are the same
+same_at : (g h : List Entry) (i : ℕ) (x y : Entry) → IsPrefixOf g h ⊎ IsPrefixOf h g → slice_get g i ≡ Some x
+    → slice_get h i ≡ Some y → x ≡ y
+same_at g h i x y (inl p) in_g in_h = same_Some x y (sym (slice_get-prefix g h i x p in_g) ∙ in_h)
+same_at g h i x y (inr p) in_g in_h = same_Some x y (sym in_g ∙ slice_get-prefix h g i y p in_h)
+
+-- whoever is below the size of the roster is there
+pub is_present : (script : Script) (a : AgeEnd) (s : ℕ) → s < script.members
+    → IsPresentIn (whole_opening script a) s
+is_present script a s below = has_ones script.members s ∙ grind (arith, below)
+
+-- a message that may stand keeps what is said of messages
+message_keeps : (script : Script) (a : AgeEnd) (before : List Entry) (e : Entry)
+    → MayStand (whole_opening script a) before e
+    → KeepsSender before e × KeepsIndex before e × KeepsBytes script e
+message_keeps script a before (View g k m) stands = (tt, tt, tt)
+message_keeps script a before (Msg s k b) stands = stands
+
+-- one age of a report
+module _ (script : Script) (a : AgeEnd) (ra : ReportAge) (ranges : HasGroupRanges script)
+    (good : IsAgreed script a) (values : HasAge a ra) where
+  -- whose history this is
+  history_of : (i : ℕ) (e : MemberEnd) → slice_get a.members i ≡ Some e
+      → (accounts_of a.members i).history ≡ e.history
+  history_of i e at = ap (λ z. option_map_or (λ (e : MemberEnd). e.history) z []) at
+
+  below : (i : ℕ) (e : MemberEnd) → slice_get a.members i ≡ Some e → i < script.members
+  below i e at = omega (arith, slice_get_within a.members i e at, good.all)
+
+  is_here : (i : ℕ) (e : MemberEnd) → slice_get a.members i ≡ Some e → IsPresentIn (whole_opening script a) i
+  is_here i e at = is_present script a i (below i e at)
+
+  order : (i : ℕ) (e : MemberEnd) → slice_get a.members i ≡ Some e
+      → InOrder (whole_opening script a) (sent_by (accounts_of a.members)) e.history
+  order i e at =
+      subst (InOrder (whole_opening script a) (sent_by (accounts_of a.members))) (history_of i e at)
+      (good.agreed.agreed.ordered i (is_here i e at))
+
+  stand : (i : ℕ) (e : MemberEnd) → slice_get a.members i ≡ Some e
+      → AllStand (whole_opening script a) e.history
+  stand i e at =
+      history-stands (whole_opening script a) (sent_by (accounts_of a.members)) e.history good.sound
+      (order i e at)
+
+  -- each member of the report is one of the age
+  end_of : (i : ℕ) (m : ReportMember) → slice_get ra.members i ≡ Some m
+      → (e : MemberEnd) × (slice_get a.members i ≡ Some e) × HasMember e m
+  end_of i m at = zip_at HasMember a.members ra.members values.members i m at
+
+  there : (s : ℕ) → s < script.members → TakesPart ra s
+  there s less =
+      let e = slice_get-some a.members s (omega (arith, less, good.all)) in
+      let m = zip_to HasMember a.members ra.members values.members s e.0 e.1 in
+      subst (λ r. IsSomeAnd r (λ (x : ReportMember). x.present ≡ true)) (sym m.1) m.2.present
+
+  starts : length ra.start ≡ length a.start
+  starts = ap length values.start
+
+  -- ---- the clauses on the age itself
+
+  keeps_start : KeepsStart script ra
+  keeps_start = record {
+    entries = subst (λ (es : List Entry). AllKeep (λ i e. MayStart script (take i es) e) es)
+        (sym values.start)
+        (λ i e at. may_start script (whole_opening script a) a.start refl ranges.lists ranges.some_member
+        good.sound.entries i e (slice_get_within a.start i e at) at);
+    later = λ v is. subst (λ (n : ℕ). v.age < n) (sym values.age)
+        (good.sound.later v (sym (ap view_of values.start) ∙ is));
+  }
+
+  -- ---- those on a member
+
+  module _ (i : ℕ) (m : ReportMember) (e : MemberEnd) (at : slice_get a.members i ≡ Some e)
+      (same : HasMember e m) where
+    first : slice_get e.history (length a.start) ≡ Some (View a.age 0 (2 ^ script.members - 1))
+    first = first_at (whole_opening script a) (sent_by (accounts_of a.members)) e.history (order i e at)
+
+    has_own : length ra.start < length m.history
+    has_own =
+        let within = slice_get_within e.history (length a.start) (View a.age 0 (2 ^ script.members - 1))
+        first in
+        omega (arith, within, starts, ap length same.history)
+
+    -- ---- those on an entry
+
+    module _ (j : ℕ) (x : Entry) (spot : slice_get e.history j ≡ Some x) where
+      keeps_messages : KeepsSender (take j m.history) x × KeepsIndex (take j m.history) x
+          × KeepsBytes script x
+      keeps_messages =
+          subst (λ (h : List Entry). KeepsSender (take j h) x × KeepsIndex (take j h) x × KeepsBytes script x)
+          (sym same.history) (message_keeps script a (take j e.history) x (stand i e at j x spot))
+
+      is_first : j ≡ length ra.start → IsFirstView ra x
+      is_first is =
+          let one : View a.age 0 (2 ^ script.members - 1) ≡ x =
+          same_Some _ x (sym first ∙ (ap (slice_get e.history) (sym (is ∙ starts)) ∙ spot)) in
+          subst (IsFirstView ra) one (
+            sym values.age,
+            refl,
+            All-weaker (λ s. s < script.members) (TakesPart ra) there (members_of (2 ^ script.members - 1))
+                (roster_below script.members),
+          )
+
+      goes_on : (y : Entry) → slice_get e.history j ≡ Some y → length ra.start < j
+          → FollowsView script ra m j y
+      goes_on (Msg s k b) spot less = tt
+      goes_on (View g k mask) spot less =
+          let behind : length a.start < j = omega (arith, less, starts) in
+          let u = some_of (λ v. MayFollow v g k mask) (view_of (take j e.history))
+          ((order i e at).views j g k mask behind spot) in
+          let majority = IsSomeAnd-at (view_of (take j e.history))
+          (λ v. length v.members < 2 * length (filter (has mask) v.members)) u.0 u.1
+          (all_at (λ (e : MemberEnd). KeepsMajorities a.start e.history) a.members i e good.majorities at
+          j g k mask behind spot) in
+          let now : view_of (take j m.history) ≡ Some u.0 =
+          ap (λ (h : List Entry). view_of (take j h)) same.history ∙ u.1 in
+          let next : MayComeNext script ra m j u.0 g k mask = record {
+            same_age = u.2.same_age;
+            next_number = u.2.next_number;
+            other = λ is. absurd (omega (arith, u.2.fewer, ap length is));
+            roster = named_below (whole_opening script a) script.members e.history ranges.lists
+                (stand i e at) j g k mask
+                (slice_get_within e.history j (View g k mask) spot) spot;
+            majority = majority;
+            newcomers = All-weaker (Contains u.0.members)
+                (λ s. Contains u.0.members s ⊎ (IsLate ra m s × (WasNamed ra (take j m.history) s → ⊥)))
+                (λ s c. inl c) (members_of mask) u.2.part;
+          } in
+          subst (λ r. IsSomeAnd r (λ v. MayComeNext script ra m j v g k mask)) (sym now) next
+
+      keeps_view : KeepsView script ra m j x
+      keeps_view = record { first = is_first; later = goes_on x spot }
+
+      has_same : (k : ℕ) (other : ReportMember) → slice_get ra.members k ≡ Some other → (y : Entry)
+          → slice_get other.history j ≡ Some y → y ≡ x
+      has_same k other other_at y y_at =
+          let f = end_of k other other_at in
+          let along = good.agreed.agreed.prefix k i (is_here k f.0 f.1) (is_here i e at) in
+          let one : IsPrefixOf f.0.history e.history ⊎ IsPrefixOf e.history f.0.history =
+          subst (λ (h : List Entry). IsPrefixOf f.0.history h ⊎ IsPrefixOf h f.0.history) (history_of i e at)
+          (subst (λ (g : List Entry). IsPrefixOf g (accounts_of a.members i).history
+          ⊎ IsPrefixOf (accounts_of a.members i).history g) (history_of k f.0 f.1) along) in
+          same_at f.0.history e.history j y x one
+          (subst (λ (h : List Entry). slice_get h j ≡ Some y) f.2.history y_at) spot
+
+      keeps_prefix : (n : ℕ) → KeepsPrefix ra n j x
+      keeps_prefix n =
+          all_below (HasSame j x) ra.members n
+          (λ k other other_at present. if_some (slice_get other.history j) (λ y. y ≡ x)
+          (has_same k other other_at))
+
+    -- ---- what is durable
+
+    log_short : (s : ℕ) → length (accounts_of a.members s).log ≤ logged_by ra s
+    log_short s = by (slice_get a.members s) refl
+      where
+        logs : Option MemberEnd → List Entry
+        logs z = option_map_or (λ (e : MemberEnd). take e.logged e.history) z []
+
+        by : (z : Option MemberEnd) → slice_get a.members s ≡ z
+            → length (accounts_of a.members s).log ≤ logged_by ra s
+        by None none =
+            let empty : length (accounts_of a.members s).log ≡ 0 = ap (λ z. length (logs z)) none in
+            omega (arith, empty)
+        by (Some f) one =
+            let n = zip_to HasMember a.members ra.members values.members s f one in
+            let log : length (accounts_of a.members s).log ≡ length (take f.logged f.history) =
+            ap (λ z. length (logs z)) one in
+            let told : logged_by ra s ≡ f.logged = ap log_of n.1 ∙ n.2.logged in
+            omega (arith, log, told, length-take f.logged f.history)
+
+    knows : (v : GroupView) × (view_of e.history ≡ Some v) × AreLogged ra m v.members
+    knows =
+        let u = some_of (λ v. Contains v.members i
+        × All (λ j. (accounts_of a.members i).durable ≤ length (accounts_of a.members j).log) v.members)
+        (view_of (accounts_of a.members i).history) (good.agreed.agreed.durable i (is_here i e at)) in
+        let durable : (accounts_of a.members i).durable ≡ m.durable =
+        ap (λ z. option_map_or (λ (e : MemberEnd). e.durable) z 0) at ∙ sym same.durable in (
+          u.0,
+          sym (ap view_of (history_of i e at)) ∙ u.1,
+          All-weaker (λ j. (accounts_of a.members i).durable ≤ length (accounts_of a.members j).log)
+              (λ s. m.durable ≤ logged_by ra s) (λ s less. omega (arith, less, durable, log_short s))
+              u.0.members u.2.1,
+        )
+
+    of_age : knows.0.age ≡ ra.age
+    of_age =
+        let h = e.history in
+        let within = slice_get_within h (length a.start) (View a.age 0 (2 ^ script.members - 1)) first in
+        view_age (whole_opening script a) (sent_by (accounts_of a.members)) h (order i e at) (length h) within
+        (omega arith) knows.0 (ap view_of (take_all (length h) h (omega arith)) ∙ knows.1)
+        ∙ sym values.age
+
+    keeps_durable : KeepsDurable ra m
+    keeps_durable =
+        let v = knows.0 in
+        let spot = last_view_at e.history v knows.1 in
+        let told = all_at (λ (f : MemberEnd). f.logged ≤ length f.history) a.members i e good.agreed.told at
+        in
+        record {
+          told = omega (arith, told, same.logged, ap length same.history);
+          some = any_at (IsDurableView ra m) m.history spot.0 (View ra.age v.number spot.1)
+              (ap (λ (h : List Entry). slice_get h spot.0) same.history
+              ∙ (spot.2 ∙ ap (λ (n : ℕ). Some (View n v.number spot.1)) of_age))
+              (refl, subst (AreLogged ra m) (sym spot.3) knows.2);
+          last = λ nobody. subst (λ r. IsSomeAnd r (λ w. (w.age ≡ ra.age) × AreLogged ra m w.members))
+              (sym (ap view_of same.history ∙ knows.1)) (of_age, knows.2);
+        }
+
+-- an age keeps what the one before it had
+keeps_age : (script : Script) (p a : AgeEnd) (rp ra : ReportAge) → HasGroupRanges script → IsAgreed script p
+    → HasAge p rp → HasAge a ra
+    → Kept (whole_opening script p) (accounts_of p.members) (whole_opening script a) → KeepsAge rp ra
+keeps_age script p a rp ra ranges good before after kept = record {
+  later = omega (arith, kept.later, before.age, after.age);
+  delivered = delivered;
+  durable = durable;
+}
+  where
+    inside : (i : ℕ) → IsPresentIn (whole_opening script p) i → i < length p.members
+    inside i here = omega (
+      arith,
+      good.all,
+      ltb-true i script.members (sym (has_ones script.members i)
+          ∙ here),
+    )
+
+    delivered : Any (HasDelivered ra) rp.members
+    delivered =
+        let i = kept.delivered.0 in
+        let e = slice_get-some p.members i (inside i kept.delivered.1) in
+        let m = zip_to HasMember p.members rp.members before.members i e.0 e.1 in
+        any_at (HasDelivered ra) rp.members i m.0 m.1 (
+          m.2.present,
+          subst (λ (h : List Entry). IsPrefixOf ra.start h)
+              (history_of script p rp ranges good before i e.0 e.1 ∙ sym m.2.history)
+              (subst (λ (es : List Entry). IsPrefixOf es (accounts_of p.members i).history) (sym after.start)
+              kept.delivered.2),
+        )
+
+    kept_in : (i : ℕ) (m : ReportMember) → slice_get rp.members i ≡ Some m → IsKeptIn ra m
+    kept_in i m at present =
+        let e = end_of script p rp ranges good before i m at in
+        let known : (accounts_of p.members i).durable ≡ m.durable =
+        ap (λ z. option_map_or (λ (e : MemberEnd). e.durable) z 0) e.1 ∙ sym e.2.durable in
+        let history : (accounts_of p.members i).history ≡ m.history =
+        history_of script p rp ranges good before i e.0 e.1 ∙ sym e.2.history in
+        subst (λ (es : List Entry). IsPrefixOf (take m.durable m.history) es) (sym after.start)
+        (subst (λ (h : List Entry). IsPrefixOf (take m.durable h) a.start) history
+        (subst (λ (n : ℕ). IsPrefixOf (take n (accounts_of p.members i).history) a.start) known
+        (kept.durable i (is_here script p rp ranges good before i e.0 e.1))))
+
+    durable : All (IsKeptIn ra) rp.members
+    durable = all_from_places (IsKeptIn ra) rp.members kept_in
+
+-- the whole report
+pub passes : (script : Script) (ages : List AgeEnd) (r : Report) → HasGroupRanges script → HasValues ages r
+    → All (IsAgreed script) ages → KeepEachOther script ages → IsRight script r
+passes script ages r ranges values good kept c i ra at = (
+  itself c i at,
+  λ n m spot present. let e = end_of script a.0 ra ranges fine a.2 n m spot in (
+    member c n m e.0 e.1 e.2,
+    λ k x own. entry c n m e.0 e.1 e.2 k x own,
+  ),
+)
+  where
+    a : (a : AgeEnd) × (slice_get ages i ≡ Some a) × HasAge a ra
+    a = zip_at HasAge ages r.ages values i ra at
+
+    fine : IsAgreed script a.0
+    fine = all_at (IsAgreed script) ages i a.0 good a.1
+
+    after : (j : ℕ) → slice_get r.ages (suc j) ≡ Some ra
+        → IfSome (slice_get r.ages j) (λ before. KeepsAge before ra)
+    after j here = by (slice_get r.ages j) refl
+      where
+        by : (z : Option ReportAge) → slice_get r.ages j ≡ z → IfSome z (λ before. KeepsAge before ra)
+        by None none = tt
+        by (Some rp) was =
+            let p = zip_at HasAge ages r.ages values j rp was in
+            let b = zip_at HasAge ages r.ages values (suc j) ra here in
+            keeps_age script p.0 b.0 rp ra ranges (all_at (IsAgreed script) ages j p.0 good p.1) p.2 b.2
+            (kept j p.0 b.0 p.1 b.1)
+
+    itself : (c : Clause) (i : ℕ) → slice_get r.ages i ≡ Some ra → AgeItself c script r.ages i ra
+    itself clauses.Start i here = keeps_start script a.0 ra ranges fine a.2
+    itself clauses.View i here = tt
+    itself clauses.Sender i here = tt
+    itself clauses.Index i here = tt
+    itself clauses.Bytes i here = tt
+    itself clauses.Prefix i here = tt
+    itself clauses.Durable i here = tt
+    itself clauses.Kept zero here = tt
+    itself clauses.Kept (suc j) here = after j here
+
+    member : (c : Clause) (n : ℕ) (m : ReportMember) (e : MemberEnd) → slice_get a.0.members n ≡ Some e
+        → HasMember e m → MemberItself c ra m
+    member clauses.Start n m e at same = tt
+    member clauses.View n m e at same = has_own script a.0 ra ranges fine a.2 n m e at same
+    member clauses.Sender n m e at same = tt
+    member clauses.Index n m e at same = tt
+    member clauses.Bytes n m e at same = tt
+    member clauses.Prefix n m e at same = tt
+    member clauses.Durable n m e at same = keeps_durable script a.0 ra ranges fine a.2 n m e at same
+    member clauses.Kept n m e at same = tt
+
+    entry : (c : Clause) (n : ℕ) (m : ReportMember) (e : MemberEnd) → slice_get a.0.members n ≡ Some e
+        → HasMember e m → (k : ℕ) (x : Entry) → slice_get (own_entries ra m) k ≡ Some x
+        → EntryItself c script ra n m (length ra.start + k) x
+    entry c n m e at same k x own = by c
+      where
+        j : ℕ
+        j = length ra.start + k
+
+        spot : slice_get e.history j ≡ Some x
+        spot = subst (λ (h : List Entry). slice_get h j ≡ Some x) same.history
+            (behind_at (length ra.start) m.history k x own)
+
+        by : (c : Clause) → EntryItself c script ra n m j x
+        by clauses.Start = tt
+        by clauses.View = keeps_view script a.0 ra ranges fine a.2 n m e at same j x spot
+        by clauses.Sender = (keeps_messages script a.0 ra ranges fine a.2 n m e at same j x spot).0
+        by clauses.Index = (keeps_messages script a.0 ra ranges fine a.2 n m e at same j x spot).1
+        by clauses.Bytes = (keeps_messages script a.0 ra ranges fine a.2 n m e at same j x spot).2
+        by clauses.Prefix = keeps_prefix script a.0 ra ranges fine a.2 n m e at same j x spot n
+        by clauses.Durable = tt
+        by clauses.Kept = tt

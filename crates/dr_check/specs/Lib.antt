@@ -1,0 +1,12 @@
+pub mod Firsts
+pub mod Clauses
+pub mod Flaws
+pub mod Past
+pub mod Values
+pub mod Lines
+pub mod Grammar
+pub mod Course
+pub mod Progress
+pub mod Fields
+pub mod Lasts
+pub mod Agreeing
