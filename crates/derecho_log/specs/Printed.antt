@@ -4,15 +4,15 @@ use Rattle.dr_intake.specs.Reading.{WasReadTo}
 use Rattle.dr_intake.specs.Status.{WroteText}
 use Rattle.dr_io.specs.Faults.{Rose}
 use Rattle.dr_io.specs.Sink.{Gains}
-use Rattle.derecho_log.specs.Text.{IsTold}
+use Rattle.derecho_log.specs.Text.{IsSaid}
 
--- these bytes were read, and what is told of them was written
+-- these bytes were read, at most one more than a log has, and what is said of them was written
 pub record PrintedLog (old new held holds : Option (List ℕ)) (fell falls status : ℕ) : Type 0 where
   pub bytes : List ℕ
-  pub was_read : WasReadTo 18446744073709551615 old new bytes
+  pub was_read : WasReadTo 2147483649 old new bytes
   pub text : List ℕ
   pub due : ℕ
-  pub told : IsTold bytes text due
+  pub told : IsSaid bytes text due
   pub wrote : WroteText held holds fell falls status due text
 
 -- What comes of a call, by what its source had left and then has, what its sink held and then holds, and how

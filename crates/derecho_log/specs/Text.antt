@@ -1,64 +1,95 @@
 -- What is printed of a log.
-use Rattle.std.specs.Prelude.{◌≡◌, ◌≢◌, ℕ, ◌+◌, ◌<◌, ◌≤◌, List, [], ◌∷◌, ◌++◌, length, take, codes, ◌==◌, if◌then◌else◌}
+use Rattle.std.specs.Prelude.{◌≡◌, ◌≢◌, ◌⊎◌, ℕ, ◌+◌, ◌-◌, ◌<◌, ◌≤◌, List, [], ◌∷◌, ◌++◌, length, take, codes, ◌==◌, if◌then◌else◌}
 use Rattle.std.specs.Fmt.{decimal}
-use Rattle.std.specs.List.{concat, flat_map}
+use Rattle.std.specs.List.{concat, enumerate_from, flat_map}
 use Rattle.dr_entry.specs.declared.record.Record.{Record}
 use Rattle.dr_entry.specs.declared.record.Record.TheVariants as records
 use Rattle.dr_entry.specs.declared.record.Vote.{Vote}
 use Rattle.dr_log.specs.Grammar.{BreaksAt, IsLog, blocks, magic}
 use Rattle.dr_log.specs.Standing.{block_length}
-use Rattle.dr_text.specs.Report.{entry_text, mask_text}
+use Rattle.dr_text.specs.declared.last.Last.TheVariants as lasts
+use Rattle.dr_text.specs.Report.{entry_text, last_text, mask_text}
 
--- the members that leave, or a dash where there are none
-abbrev pub leavers_text : ℕ → List ℕ
-leavers_text mask = if mask == 0 then codes "-" else mask_text mask
+-- the members that leave, or nobody
+abbrev pub leaving_text : ℕ → List ℕ
+leaving_text mask = if mask == 0 then codes "nobody" else mask_text mask
 
--- a number behind a blank
-abbrev pub count_text : ℕ → List ℕ
-count_text count = concat (codes " " ∷ decimal count ∷ [])
+-- how many items of a member of the roster are taken, with a comma before all but the first
+abbrev pub taken_text : ℕ → ℕ → List ℕ
+taken_text number count = concat
+    ((if number == 0 then codes " " else codes ", ") ∷ decimal count ∷ codes " of " ∷ decimal number ∷ [])
 
--- a vote: its age and view, its ballot, and who leaves
+-- the age and the view of a vote
+abbrev pub place_text : Vote → List ℕ
+place_text v = concat (codes " vote  age " ∷ decimal v.age ∷ codes " view " ∷ decimal v.view ∷ [])
+
+-- its ballot, and who leaves
 abbrev pub ballot_text : Vote → List ℕ
-ballot_text v = concat
-    (codes "  vote " ∷ decimal v.age ∷ codes " " ∷ decimal v.view ∷ codes " ballot " ∷ decimal v.ballot
-    ∷ codes " leavers " ∷ leavers_text v.value.leavers ∷ [])
+ballot_text v =
+    concat (codes " ballot " ∷ decimal v.ballot ∷ codes " leaving " ∷ leaving_text v.value.leavers ∷ [])
 
 -- how many items of each member of the roster are taken
 abbrev pub trim_text : Vote → List ℕ
 trim_text v = concat
-    (codes " trim" ∷ flat_map count_text (take v.members v.value.trim) ∷ codes "\n" ∷ [])
+    (codes "; items" ∷ flat_map (λ t. taken_text t.0 t.1) (enumerate_from 0 (take v.members v.value.trim))
+    ∷ codes "\n" ∷ [])
 
--- the line of a vote
+-- a vote
 abbrev pub vote_text : Vote → List ℕ
-vote_text v = ballot_text v ++ trim_text v
+vote_text v = place_text v ++ (ballot_text v ++ trim_text v)
 
--- the line of a record: that of an entry is the one in a report
-abbrev pub record_text : Record → List ℕ
-record_text (records.Entry entry) = entry_text entry
-record_text (records.Vote vote) = vote_text vote
+-- a record before which this many entries stand: an entry has its number, and then is as in a report
+abbrev pub record_text : ℕ → Record → List ℕ
+record_text number (records.Entry entry) = concat (codes " entry " ∷ decimal number ∷ entry_text entry ∷ [])
+record_text number (records.Vote vote) = vote_text vote
 
--- the lines of records, each behind its place, where the first begins at this one
-abbrev pub records_text : ℕ → List Record → List ℕ
-records_text at [] = []
-records_text at (r ∷ rs) = (decimal at ++ record_text r) ++ records_text (at + block_length r) rs
+-- the line of a record at this place, before which this many entries stand
+abbrev pub record_line : ℕ → ℕ → Record → List ℕ
+record_line at number r = decimal at ++ record_text number r
 
--- the line of the end
-abbrev pub end_line : List ℕ → ℕ → List ℕ
-end_line end at = concat (end ∷ decimal at ∷ codes "\n" ∷ [])
+-- how many entries stand before what is behind a record
+abbrev pub number_behind : ℕ → Record → ℕ
+number_behind number (records.Entry entry) = number + 1
+number_behind number (records.Vote vote) = number
+
+-- the lines of records, where the first begins at this place behind this many entries
+abbrev pub records_text : ℕ → ℕ → List Record → List ℕ
+records_text at number [] = []
+records_text at number (r ∷ rs) =
+    record_line at number r ++ records_text (at + block_length r) (number_behind number r) rs
+
+-- the line of a closed gate, with the number of bytes behind it, where there are any
+abbrev pub closed_line : ℕ → ℕ → List ℕ
+closed_line at rest = if rest == 0 then concat (codes "closed at " ∷ decimal at ∷ codes "\n" ∷ [])
+    else concat (codes "closed at " ∷ decimal at ∷ codes ", bytes behind it: " ∷ decimal rest ∷ codes "\n" ∷ [])
+
+-- the line of the place at which bytes are damaged
+abbrev pub damaged_line : ℕ → List ℕ
+damaged_line at = concat (codes "damaged at " ∷ decimal at ∷ codes "\n" ∷ [])
 
 -- What is printed of bytes, and the status: the records that they are, each at the place where it begins, and
--- the place of the closed gate, or that at which they are damaged.
+-- the place of the closed gate with what stands behind it, or that at which they are damaged.
 pub data IsTold (bytes text : List ℕ) (status : ℕ) : Type 0 where
   -- a log that is being made
   empty : length bytes ≤ 9 → text ≡ codes "empty\n" → status ≡ 0 → IsTold bytes text status
   -- a log of these records
   whole : 9 < length bytes → (rs : List Record) → IsLog bytes rs
-      → text ≡ records_text 9 rs ++ end_line (codes "closed at ") (8 + length (blocks rs)) → status ≡ 0
-      → IsTold bytes text status
+      → text ≡ records_text 9 0 rs
+      ++ closed_line (8 + length (blocks rs)) (length bytes - (9 + length (blocks rs)))
+      → status ≡ 0 → IsTold bytes text status
   -- bytes that don't begin as a log
-  no_log : 9 < length bytes → take 8 bytes ≢ magic → text ≡ end_line (codes "damaged at ") 0 → status ≡ 7
+  no_log : 9 < length bytes → take 8 bytes ≢ magic → text ≡ damaged_line 0 → status ≡ 7
       → IsTold bytes text status
   -- records that break off
   broken : 9 < length bytes → (at : ℕ) (front : BreaksAt bytes at)
-      → text ≡ records_text 9 front.records ++ end_line (codes "damaged at ") at → status ≡ 7
-      → IsTold bytes text status
+      → text ≡ records_text 9 0 front.records ++ damaged_line at → status ≡ 7 → IsTold bytes text status
+
+-- the most bytes that a log has
+abbrev pub most_bytes : ℕ
+most_bytes = 2147483648
+
+-- what is said of bytes: that they are too many for a log, or what they are
+abbrev pub IsSaid : List ℕ → List ℕ → ℕ → Type 0
+IsSaid bytes text status =
+    ((most_bytes < length bytes) × (text ≡ last_text lasts.TooLong) × (status ≡ 3))
+    ⊎ ((length bytes ≤ most_bytes) × IsTold bytes text status)

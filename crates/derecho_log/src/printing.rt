@@ -1,13 +1,14 @@
 ghost use Rattle.std.specs.Prelude.{◌≡◌, ◌⊎◌};
 ghost use Rattle.derecho_log.specs.Printed.{Printed};
 
-use crate::text::log_text;
+use crate::text::{LONGEST_LOG, answer_for};
 use dr_intake::{OUT_OF_MEMORY, READ_FAULT, ReadFault, read_all};
 use dr_io::{Sink, Source};
 use std::alloc::Global;
 
 /// Reads the log that a source has, prints it to the sink, and answers the status: 0 for a log, 7 for one that
-/// is damaged, 4 where the source failed, 5 where the sink failed, 10 where memory was wanting.
+/// is damaged, 3 for more bytes than a log has, 4 where the source failed, 5 where the sink failed, 10 where
+/// memory was wanting.
 pub fn print_log<S: Source, K: Sink>(alloc: Global, source: &mut S, sink: &mut K) -> u8
     ensures printed { Printed (S.left source.old) (S.left source.new)
         (S.faults source.old) (S.faults source.new) (K.held sink.old) (K.held sink.new)
@@ -16,12 +17,12 @@ pub fn print_log<S: Source, K: Sink>(alloc: Global, source: &mut S, sink: &mut K
     ensures read_fault_told { (S.faults source.new ≡ S.faults source.old) ⊎ (result ≡ 4) }
     ensures write_fault_told { (K.faults sink.new ≡ K.faults sink.old) ⊎ (result ≡ 5) }
 {
-    let bytes = match read_all(alloc, source, usize::MAX) {
+    let bytes = match read_all(alloc, source, LONGEST_LOG + 1) {
         Ok(bytes) => bytes,
         Err(ReadFault::Failed) => return READ_FAULT,
         Err(ReadFault::OutOfMemory) => return OUT_OF_MEMORY,
     };
-    let Ok(log) = log_text(alloc, &bytes) else {
+    let Ok(log) = answer_for(alloc, &bytes) else {
         return OUT_OF_MEMORY;
     };
     log.write(sink)

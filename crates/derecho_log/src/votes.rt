@@ -1,32 +1,50 @@
 ghost use Rattle.std.specs.Prelude.{◌≡◌, ◌++◌, OnOk, string_bytes, take};
-ghost use Rattle.std.specs.List.{flat_map};
+ghost use Rattle.std.specs.List.{enumerate_from, flat_map};
 ghost use Rattle.dr_entry.specs.Spelling.{FitsVote, IsValidVote};
-ghost use Rattle.derecho_log.specs.Text.{ballot_text, count_text, leavers_text, trim_text, vote_text};
+ghost use Rattle.derecho_log.specs.Text.{ballot_text, leaving_text, place_text, taken_text, trim_text, vote_text};
 
 use dr_entry::Vote;
 use dr_text::push_mask;
 use std::alloc::AllocError;
 use std::fmt::Write;
 
-/// Appends the line of a vote.
+/// Appends a vote.
 pub(crate) fn push_vote(out: &mut String, vote: &Vote) -> Result<(), AllocError>
     requires valid { IsValidVote vote.now }
     requires fits { FitsVote vote.now }
     ensures { OnOk result (string_bytes out.new ≡ string_bytes out.old ++ vote_text vote.now) }
 {
+    push_place(out, vote)?;
+    push_value(out, vote)
+}
+
+/// Appends the age and the view of a vote.
+fn push_place(out: &mut String, vote: &Vote) -> Result<(), AllocError>
+    ensures { OnOk result (string_bytes out.new ≡ string_bytes out.old ++ place_text vote.now) }
+{
+    let age = vote.age;
+    let view = vote.view;
+    write!(out, " vote  age {age} view {view}")
+}
+
+/// Appends its ballot and what it is for.
+fn push_value(out: &mut String, vote: &Vote) -> Result<(), AllocError>
+    requires valid { IsValidVote vote.now }
+    requires fits { FitsVote vote.now }
+    ensures { OnOk result
+        (string_bytes out.new ≡ string_bytes out.old ++ (ballot_text vote.now ++ trim_text vote.now)) }
+{
     push_ballot(out, vote)?;
     push_trim(out, vote)
 }
 
-/// Appends what stands before the trim of a vote.
+/// Appends the ballot of a vote, and who leaves.
 fn push_ballot(out: &mut String, vote: &Vote) -> Result<(), AllocError>
     ensures { OnOk result (string_bytes out.new ≡ string_bytes out.old ++ ballot_text vote.now) }
 {
-    let age = vote.age;
-    let view = vote.view;
     let ballot = vote.ballot;
-    write!(out, "  vote {age} {view} ballot {ballot} leavers ")?;
-    push_leavers(out, vote.value.leavers)
+    write!(out, " ballot {ballot} leaving ")?;
+    push_leaving(out, vote.value.leavers)
 }
 
 /// Appends the trim of a vote.
@@ -35,8 +53,8 @@ fn push_trim(out: &mut String, vote: &Vote) -> Result<(), AllocError>
     requires fits { FitsVote vote.now }
     ensures { OnOk result (string_bytes out.new ≡ string_bytes out.old ++ trim_text vote.now) }
 {
-    out.push_str(" trim")?;
-    push_counts(out, trims_of(vote))?;
+    out.push_str("; items")?;
+    push_taken(out, trims_of(vote))?;
     out.push_str("\n")
 }
 
@@ -50,24 +68,33 @@ fn trims_of(vote: &Vote) -> &[u32]
     &trim[..usize::from(vote.members)]
 }
 
-/// Appends the members that leave, or a dash where there are none.
-fn push_leavers(out: &mut String, leavers: u16) -> Result<(), AllocError>
-    ensures { OnOk result (string_bytes out.new ≡ string_bytes out.old ++ leavers_text leavers) }
+/// Appends the members that leave, or that nobody does.
+fn push_leaving(out: &mut String, leavers: u16) -> Result<(), AllocError>
+    ensures { OnOk result (string_bytes out.new ≡ string_bytes out.old ++ leaving_text leavers) }
 {
     if leavers == 0 {
-        out.push_str("-")
+        out.push_str("nobody")
     } else {
         push_mask(out, leavers)
     }
 }
 
-/// Appends each of these numbers, with a blank before it.
-fn push_counts(out: &mut String, counts: &[u32]) -> Result<(), AllocError>
-    ensures { OnOk result
-        (string_bytes out.new ≡ string_bytes out.old ++ flat_map count_text counts.now) }
+/// Appends these numbers of items, and of whom they are.
+fn push_taken(out: &mut String, counts: &[u32]) -> Result<(), AllocError>
+    ensures { OnOk result (string_bytes out.new ≡ string_bytes out.old
+        ++ flat_map (λ t. taken_text t.0 t.1) (enumerate_from 0 counts.now)) }
 {
-    for count in counts {
-        write!(out, " {count}")?;
+    for (number, count) in counts.iter().enumerate() {
+        push_taken_of(out, number, count)?;
     }
     Ok(())
+}
+
+fn push_taken_of(out: &mut String, number: usize, count: &u32) -> Result<(), AllocError>
+    ensures { OnOk result
+        (string_bytes out.new ≡ string_bytes out.old ++ taken_text number count.now) }
+{
+    let count = *count;
+    out.push_str(if number == 0 { " " } else { ", " })?;
+    write!(out, "{count} of {number}")
 }

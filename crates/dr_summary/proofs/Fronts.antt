@@ -1,7 +1,7 @@
 -- Members that agree have fronts of the longest history.
-use Rattle.std.proofs.Common.{◌≡◌, refl, sym, ap, ◌∙◌, inl, inr, ℕ, suc, ◌+◌, ◌<◌, ◌≤◌, ◌⊎◌, List, [], ◌∷◌, ◌++◌, length, get_or, slice_get, Some, All, nat_lt, true, false, if◌then◌else◌, arith, append-nil, append_assoc, length-append, subst}
+use Rattle.std.proofs.Common.{◌≡◌, refl, sym, ap, ◌∙◌, inl, inr, ℕ, suc, ◌<◌, ◌≤◌, ◌⊎◌, List, [], ◌∷◌, ◌++◌, length, get_or, All, nat_lt, if◌then◌else◌, arith, append-nil, length-append, subst}
 use Rattle.std.specs.Option.{option_map_or}
-use Rattle.std.proofs.lemmas.Bool.{cases_lt, cases_Bool, ltb-true, ltb-false}
+use Rattle.std.proofs.lemmas.Bool.{cases_Bool, ltb-true, ltb-false}
 use Rattle.std.proofs.lemmas.List.{nil_from_length}
 use Rattle.std.proofs.lemmas.List.Elements.{All-cons, All-nil}
 use Rattle.std.proofs.lemmas.Option.{slice_get-get_or}
@@ -11,7 +11,7 @@ use Rattle.dr_history.specs.declared.opening.Opening.{Opening}
 use Rattle.dr_history.specs.Agreement.{accounts_of}
 use Rattle.dr_history.specs.History.{IsPrefixOf}
 use Rattle.dr_summary.specs.Summary.{HaveAgreed}
-use Rattle.dr_summary.specs.Table.{longer, longest, longest_from}
+use Rattle.dr_summary.specs.Histories.{longer, longest, longest_from}
 
 -- of two lists one of which begins the other, the one that isn't longer begins it
 shorter_begins : {A : Type 0} (xs ys : List A) → IsPrefixOf xs ys ⊎ IsPrefixOf ys xs → length xs ≤ length ys

@@ -1,4 +1,4 @@
 pub mod Texts
 pub mod Fronts
 pub mod Stretch
-pub mod Plain
+pub mod Widths

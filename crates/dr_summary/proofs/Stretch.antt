@@ -1,11 +1,11 @@
 -- Marks that stay for a stretch of rows.
-use Rattle.std.proofs.Common.{◌≡◌, refl, sym, ◌∙◌, ap, subst, inl, inr, ℕ, suc, ◌+◌, ◌<◌, ◌≤◌, Bool, true, false, nat_lt, List, [], ◌∷◌, ◌++◌, All, length, get_or, slice_index_or, take, arith, le_trans}
+use Rattle.std.proofs.Common.{◌≡◌, refl, sym, ◌∙◌, ap, subst, inl, inr, ℕ, suc, ◌+◌, ◌<◌, ◌≤◌, nat_lt, List, [], ◌∷◌, ◌++◌, All, length, get_or, slice_index_or, take, arith, le_trans}
 use Rattle.std.proofs.lemmas.Bool.{cases_Bool, le-ltb, lt-ltb, ltb-false, ltb-true}
 use Rattle.std.proofs.lemmas.List.{take_more}
 use Rattle.std.proofs.lemmas.List.Elements.{All-append, All-cons, All-nil}
 use Rattle.dr_entry.specs.declared.end.MemberEnd.{MemberEnd}
 use Rattle.dr_summary.specs.Marks.{AreMarks, IsMarkUntil}
-use Rattle.dr_summary.specs.Table.{mark_text, marks_text}
+use Rattle.dr_summary.specs.Table.{marks_text}
 
 -- numbers on one side of a limit
 same_side : (limit first last n : ℕ) → (first < limit → last < limit) → first ≤ n → n ≤ last

@@ -1,5 +1,5 @@
+pub mod Histories
 pub mod Table
 pub mod Marks
-pub mod Plain
 pub mod Notes
 pub mod Summary

@@ -7,7 +7,8 @@ use Rattle.dr_history.specs.Agreement.{EndsAgreed}
 use Rattle.dr_history.specs.Soundness.{IsPresentIn}
 use Rattle.dr_script.specs.declared.script.Script.{Script}
 use Rattle.dr_summary.specs.Notes.{ends_text, faults_text, undelivered, undelivered_text}
-use Rattle.dr_summary.specs.Table.{longest, table_text}
+use Rattle.dr_summary.specs.Histories.{longest}
+use Rattle.dr_summary.specs.Table.{table_text}
 
 -- these are the ends of members that agree: all of them took part in an age with this opening
 pub record HaveAgreed (o : Opening) (members : List MemberEnd) : Type 0 where

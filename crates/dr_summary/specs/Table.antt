@@ -1,49 +1,21 @@
 -- The table of an age: one history as rows, the members as columns.
-use Rattle.std.specs.Prelude.{ℕ, ◌+◌, ◌-◌, ◌==◌, ◌&&◌, ◌||◌, not, nat_lt, nat_le, if◌then◌else◌, Bool, List, [], ◌∷◌, ◌++◌, length, drop, replicate, codes}
-use Rattle.std.specs.Char.{is_control}
+use Rattle.std.specs.Prelude.{ℕ, ◌+◌, ◌-◌, nat_lt, nat_le, if◌then◌else◌, List, [], ◌∷◌, ◌++◌, length, drop, replicate, codes}
 use Rattle.std.specs.Fmt.{decimal}
-use Rattle.std.specs.List.{concat, enumerate_from, flat_map, list_any}
-use Rattle.std.specs.Str.{chars, is_utf8}
+use Rattle.std.specs.List.{concat, enumerate_from, flat_map}
+use Rattle.std.specs.Str.{chars}
 use Rattle.dr_entry.specs.declared.entry.Entry.{Entry}
 use Rattle.dr_entry.specs.declared.entry.Entry.TheVariants.{View, Msg}
 use Rattle.dr_entry.specs.declared.end.AgeEnd.{AgeEnd}
 use Rattle.dr_entry.specs.declared.end.End.{End}
 use Rattle.dr_entry.specs.declared.end.End.TheVariants.{Done, Crashed, Suspected, Excluded, NoMajority, DiskFault, LogFull, Spent}
 use Rattle.dr_entry.specs.declared.end.MemberEnd.{MemberEnd}
-use Rattle.dr_text.specs.Report.{hex_text, mask_text}
-
--- the longest history, the first one of these: each member's is a front of it, or all of it
-abbrev pub longer : List Entry → MemberEnd → List Entry
-longer h m = if nat_lt (length h) (length m.history) then m.history else h
-
-abbrev pub longest_from : List Entry → List MemberEnd → List Entry
-longest_from h [] = h
-longest_from h (m ∷ ms) = longest_from (longer h m) ms
-
-abbrev pub longest : List MemberEnd → List Entry
-longest members = longest_from [] members
+use Rattle.dr_quote.specs.Quote.{message_text}
+use Rattle.dr_summary.specs.Histories.{longest}
+use Rattle.dr_text.specs.Report.{mask_text}
 
 -- a text with blanks before it, so that it has at least this length
 abbrev pub behind_blanks : ℕ → List ℕ → List ℕ
 behind_blanks width text = replicate (width - length text) 32 ++ text
-
--- the bytes of a message in quotes, with a backslash before each quote and each backslash
-abbrev pub escaped : ℕ → List ℕ
-escaped byte = if (byte == 34) || (byte == 92) then 92 ∷ byte ∷ [] else byte ∷ []
-
-abbrev pub quoted : List ℕ → List ℕ
-quoted bytes = 34 ∷ (flat_map escaped bytes ++ 34 ∷ [])
-
--- a text can be shown as it is: it is UTF-8, without control characters
-abbrev pub is_clear : List ℕ → Bool
-is_clear text = not (list_any is_control (chars text))
-
-abbrev pub can_be_shown : List ℕ → Bool
-can_be_shown text = is_utf8 text && is_clear text
-
--- a message in quotes where it can be shown so, and else in hexadecimal
-abbrev pub message_text : List ℕ → List ℕ
-message_text bytes = if can_be_shown (quoted bytes) then quoted bytes else flat_map hex_text bytes
 
 -- the rule that a View is
 abbrev pub rule_text : ℕ → ℕ → List ℕ

@@ -1,11 +1,12 @@
 ghost use Rattle.std.specs.Prelude.{◌≡◌, ◌++◌, OnOk, drop, string_bytes};
 ghost use Rattle.dr_history.specs.declared.opening.Opening.{Opening};
 ghost use Rattle.dr_summary.specs.Summary.{HaveAgreed, age_text, notes_text};
-ghost use Rattle.dr_summary.specs.Table.{longest, table_text};
+ghost use Rattle.dr_summary.specs.Histories.{longest};
+ghost use Rattle.dr_summary.specs.Table.{table_text};
 
 use crate::ends::{push_ends, push_head};
 use crate::faults::push_faults;
-use crate::longest::longest;
+use crate::histories::longest;
 use crate::rows::push_rows;
 use crate::undelivered::push_undelivered;
 use dr_entry::{AgeEnd, Entry};

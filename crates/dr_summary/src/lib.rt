@@ -6,12 +6,13 @@ mod age;
 mod columns;
 mod ends;
 mod faults;
+mod histories;
 mod labels;
 mod laws;
-mod longest;
 mod marks;
 mod rows;
 mod undelivered;
 
 pub use age::push_age;
+pub use histories::longest;
 pub use laws::histories_are_fronts;

@@ -1,4 +1,4 @@
-use Rattle.std.proofs.Common.{string_bytes, rules}
+use Rattle.std.proofs.Common.{string_bytes}
 use Rattle.dr_summary.proofs.Texts.{notes_pushed}
 use Rattle.dr_summary.proofs.age.push_notes.Goals as goal
 

@@ -1,4 +1,4 @@
-use Rattle.std.proofs.Common.{string_bytes, arith, rules, refl}
+use Rattle.std.proofs.Common.{string_bytes, arith, rules}
 use Rattle.dr_text.proofs.Numbers.{numbered_texts_more}
 use Rattle.dr_summary.specs.Notes.{fault_in}
 use Rattle.dr_summary.proofs.faults.push_faults.Goals as goal

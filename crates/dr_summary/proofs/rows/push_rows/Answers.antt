@@ -1,4 +1,4 @@
-use Rattle.std.proofs.Common.{◌≡◌, ◌∷◌, [], ◌+◌, ◌++◌, ◌∙◌, ap, arith, codes, string_bytes, sym}
+use Rattle.std.proofs.Common.{◌∷◌, [], ◌+◌, ◌++◌, ◌∙◌, ap, arith, codes, string_bytes, sym}
 use Rattle.std.specs.List.{concat}
 use Rattle.dr_text.proofs.Numbers.{numbered_texts_more}
 use Rattle.dr_summary.specs.Table.{in_column, label_text, row_text}

@@ -1,4 +1,4 @@
-use Rattle.std.proofs.Common.{[], arith, rules}
+use Rattle.std.proofs.Common.{[], rules}
 use Rattle.dr_text.proofs.Numbers.{numbered_texts_more}
 use Rattle.dr_summary.specs.Notes.{undelivered_of}
 use Rattle.dr_summary.proofs.undelivered.undelivered.Goals as goal

@@ -1,7 +1,7 @@
 use Rattle.std.proofs.Common.{◌≡◌, ◌∷◌, take}
 use Rattle.std.specs.List.{flat_map}
-use Rattle.dr_summary.specs.Table.{escaped}
-use Rattle.dr_summary.proofs.labels.quoted.Given as goal
+use Rattle.dr_quote.specs.Quote.{escaped}
+use Rattle.dr_quote.proofs.quoting.quoted.Given as goal
 
 abbrev pub invariant-loop-byte : goal.invariant-loop-byte
 invariant-loop-byte l = l.text.items ≡ 34 ∷ flat_map escaped (take l.byte-index l.bytes)

@@ -1,8 +1,8 @@
 use Rattle.std.proofs.Common.{◌≡◌, ◌++◌, OnOk, codes, rules, string_bytes, subst, sym}
 use Rattle.std.proofs.lemmas.Str.{IsUtf8-from_ascii}
-use Rattle.dr_summary.proofs.Plain.{plain_ascii, plain_message}
-use Rattle.dr_summary.proofs.Texts.{three_pushed}
-use Rattle.dr_summary.proofs.labels.push_plain.Goals as goal
+use Rattle.dr_quote.proofs.Plain.{plain_ascii, plain_message}
+use Rattle.dr_quote.proofs.Texts.{three_pushed}
+use Rattle.dr_quote.proofs.quoting.push_plain.Goals as goal
 
 pub from_utf8_unchecked-requires : goal.from_utf8_unchecked-requires
 from_utf8_unchecked-requires c = IsUtf8-from_ascii c.args.bytes.now (plain_ascii c.args.bytes.now c.requires)

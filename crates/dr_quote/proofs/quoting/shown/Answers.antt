@@ -1,7 +1,7 @@
 use Rattle.std.proofs.Common.{◌≡◌, ◌∙◌, ap, sym, true}
-use Rattle.dr_summary.specs.Table.{is_clear}
-use Rattle.dr_summary.proofs.Texts.{hidden_raw, shown_clear}
-use Rattle.dr_summary.proofs.labels.shown.Goals as goal
+use Rattle.dr_quote.specs.Quote.{is_clear}
+use Rattle.dr_quote.proofs.Texts.{hidden_raw, shown_clear}
+use Rattle.dr_quote.proofs.quoting.shown.Goals as goal
 
 pub returns-in_default : goal.returns-in_default
 returns-in_default c = hidden_raw c.args.bytes.now c.in_default.ensures.cases.0

@@ -1,17 +1,14 @@
 -- Bytes that stand in quotes as they are.
-use Rattle.std.proofs.Common.{◌≡◌, refl, sym, ◌∙◌, ap, ℕ, ◌≤◌, ◌==◌, ◌||◌, Bool, true, false, true≢false, nat_le, List, [], ◌∷◌, ◌++◌, All, length, arith}
-use Rattle.std.specs.Char.{is_control}
+use Rattle.std.proofs.Common.{◌≡◌, refl, ap, ℕ, ◌≤◌, ◌==◌, ◌||◌, true, false, nat_le, List, [], ◌∷◌, ◌++◌, All, arith}
 use Rattle.std.specs.List.{flat_map, list_any}
-use Rattle.std.specs.Bool.{MatchBool}
-use Rattle.std.specs.Str.{IsAscii, IsNotAscii, chars}
-use Rattle.std.proofs.lemmas.Bool.{and_parts, not-true, leb-true, lt-leb, le-leb}
+use Rattle.std.specs.Str.{IsAscii}
+use Rattle.std.proofs.lemmas.Bool.{and_parts, not-true, leb-true, lt-leb}
 use Rattle.std.proofs.lemmas.List.Elements.{All-tail}
 use Rattle.std.proofs.lemmas.List.Folds.{list_any-append}
 use Rattle.std.proofs.lemmas.Str.{IsUtf8-from_ascii, chars-IsAscii, IsAscii-append}
 use Rattle.std.proofs.lemmas.Str.Ascii.{IsAscii-cons, IsAscii-nil}
-use Rattle.dr_summary.specs.Plain.{is_plain}
-use Rattle.dr_summary.specs.Table.{escaped, is_clear, message_text, quoted}
-use Rattle.dr_summary.proofs.Texts.{shown_clear}
+use Rattle.dr_quote.specs.Quote.{escaped, is_clear, is_hidden, is_plain, message_text, quoted}
+use Rattle.dr_quote.proofs.Texts.{shown_clear}
 
 -- each of these bytes stands in quotes as it is
 abbrev ArePlain : List ℕ → Type 0
@@ -43,20 +40,28 @@ plain_escaped [] plain = refl
 plain_escaped (b ∷ bs) plain =
     rw ((plain_parts b (head_plain b bs plain)).2, plain_escaped bs (tail_plain b bs plain)) refl
 
--- none is a control character
-plain_printable : (b : ℕ) → is_plain b ≡ true → is_control b ≡ false
-plain_printable b plain =
+-- each of them can be seen
+plain_seen : (b : ℕ) → is_plain b ≡ true → is_hidden b ≡ false
+plain_seen b plain =
     let parts = plain_parts b plain in
     rw (
       lt-leb b 31 (omega (arith, parts.0)),
       lt-leb 127 b (omega (arith, parts.1)),
-      le-leb 0 b (omega arith),
+      lt-leb 173 b (omega (arith, parts.1)),
+      lt-leb 1564 b (omega (arith, parts.1)),
+      lt-leb 6158 b (omega (arith, parts.1)),
+      lt-leb 8192 b (omega (arith, parts.1)),
+      lt-leb 8232 b (omega (arith, parts.1)),
+      lt-leb 8287 b (omega (arith, parts.1)),
+      lt-leb 12288 b (omega (arith, parts.1)),
+      lt-leb 65279 b (omega (arith, parts.1)),
+      lt-leb 917504 b (omega (arith, parts.1)),
     ) refl
 
-plain_uncontrolled : (bs : List ℕ) → ArePlain bs → list_any is_control bs ≡ false
-plain_uncontrolled [] plain = refl
-plain_uncontrolled (b ∷ bs) plain =
-    rw (plain_printable b (head_plain b bs plain), plain_uncontrolled bs (tail_plain b bs plain)) refl
+all_seen : (bs : List ℕ) → ArePlain bs → list_any is_hidden bs ≡ false
+all_seen [] plain = refl
+all_seen (b ∷ bs) plain =
+    rw (plain_seen b (head_plain b bs plain), all_seen bs (tail_plain b bs plain)) refl
 
 -- such bytes in quotes
 pub plain_quoted : (bs : List ℕ) → ArePlain bs → quoted bs ≡ 34 ∷ (bs ++ 34 ∷ [])
@@ -71,8 +76,8 @@ quotes_clear : (bs : List ℕ) → ArePlain bs → is_clear (34 ∷ (bs ++ 34 �
 quotes_clear bs plain =
     rw (
       chars-IsAscii (34 ∷ (bs ++ 34 ∷ [])) (quotes_ascii bs plain),
-      list_any-append is_control bs (34 ∷ []),
-      plain_uncontrolled bs plain,
+      list_any-append is_hidden bs (34 ∷ []),
+      all_seen bs plain,
     ) refl
 
 -- a message of such bytes
@@ -83,9 +88,3 @@ plain_message bs plain =
       shown_clear (34 ∷ (bs ++ 34 ∷ [])) (IsUtf8-from_ascii _ (quotes_ascii bs plain))
           (quotes_clear bs plain),
     ) refl
-
--- the width of a text that a test found to be ASCII
-pub ascii_width : (r : Bool) (text : List ℕ) (n : ℕ) → MatchBool r (IsAscii text) (IsNotAscii text) → r ≡ true
-    → n ≡ length text → n ≡ length (chars text)
-ascii_width true text n ascii is len = len ∙ ap length (sym (chars-IsAscii text ascii))
-ascii_width false text n other is len = absurd (true≢false (sym is))

@@ -1,10 +1,10 @@
 ghost use Rattle.std.specs.Prelude.{◌≡◌};
-ghost use Rattle.dr_summary.specs.Table.{longest};
+ghost use Rattle.dr_summary.specs.Histories.{longest};
 
 use dr_entry::{Entry, MemberEnd};
 
 /// The longest history, the first one of these, empty where there is no member.
-pub(crate) fn longest(members: &[MemberEnd]) -> &[Entry]
+pub fn longest(members: &[MemberEnd]) -> &[Entry]
     ensures { result.now ≡ longest members.now }
 {
     let mut longest: &[Entry] = &[];
