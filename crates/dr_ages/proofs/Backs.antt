@@ -5,13 +5,15 @@ use Rattle.std.specs.Option.{option_map_or}
 use Rattle.std.proofs.lemmas.Bool.{cases_eq}
 use Rattle.std.proofs.lemmas.Option.{slice_get_cases, slice_get_past, slice_get_within}
 use Rattle.dr_disk.specs.Disk.{Told}
+use Rattle.dr_disk.specs.Images.{Goes}
 use Rattle.dr_history_laws.proofs.Lists.{slice_get-left, slice_get-seam, slice_get-some}
+use Rattle.dr_log.specs.Standing.{KeepsRecords}
 use Rattle.dr_log.specs.State.{LogState}
 use Rattle.dr_yard.specs.Yards.{YardState}
-use Rattle.dr_ages.specs.Lent.{AreMounted, with_logs}
+use Rattle.dr_ages.specs.Lent.{AreMounted, IsAlike, with_logs}
 use Rattle.dr_ages.specs.Opened.{AreLater}
-use Rattle.dr_ages.specs.Passing.{GoesOn, PassOn}
-use Rattle.dr_ages.proofs.Staying.{on_since}
+use Rattle.dr_ages.specs.Passing.{AreKeptSince, GoesOn, IsKeptSince, PassOn}
+use Rattle.dr_ages.proofs.Staying.{kept_since, on_since}
 
 -- nothing stands behind the end of a list
 slice_get_none : {A : Type 0} (xs : List A) (k : ℕ) → slice_get xs k ≡ None → length xs ≤ k
@@ -45,6 +47,12 @@ told_past {D} tells faults yard logs m past =
     ap (λ (o : Option (LogState D)). option_map_or (λ (log : LogState D). tells log.disk) o (yard.told m))
     (slice_get_past logs m past)
 
+pub faults_past : {D : Type 0} (tells : D → Option Told) (faults : D → ℕ) (yard : YardState)
+    (logs : List (LogState D)) (m : ℕ) → length logs ≤ m → (with_logs tells faults yard logs).faults m ≡ yard.faults m
+faults_past {D} tells faults yard logs m past =
+    ap (λ (o : Option (LogState D)). option_map_or (λ (log : LogState D). faults log.disk) o (yard.faults m))
+    (slice_get_past logs m past)
+
 -- logs over the same other disks
 pub same_rest : {D : Type 0} (tells : D → Option Told) (faults : D → ℕ) (one other : YardState)
     (logs : List (LogState D)) (m : ℕ)
@@ -60,6 +68,17 @@ same_rest {D} tells faults one other logs m rest = by (slice_get logs m) refl
         ≡ option_map_or (λ (log : LogState D). faults log.disk) o (other.faults m))
     by None at = rest (slice_get_none logs m at)
     by (Some log) at = (refl, refl)
+
+-- under logs as they were mounted no count has changed
+pub counts_still : {D : Type 0} (tells : D → Option Told) (faults : D → ℕ) (before : YardState)
+    (logs : List (LogState D)) → AreMounted tells faults before logs → (m : ℕ)
+    → (with_logs tells faults before logs).faults m ≡ before.faults m
+counts_still {D} tells faults before logs mounted m = by (slice_get logs m) refl
+  where
+    by : (o : Option (LogState D)) → slice_get logs m ≡ o
+        → option_map_or (λ (log : LogState D). faults log.disk) o (before.faults m) ≡ before.faults m
+    by None at = refl
+    by (Some log) at = (mounted m log at).calm
 
 -- disks of mounted logs that went on since, and others that did too
 pub passed_with : {D : Type 0} (tells : D → Option Told) (faults : D → ℕ) (before yard : YardState)
@@ -107,6 +126,39 @@ passed_back tells faults before mid after olds news mounted later count rest bac
     subst (λ (y : YardState). PassOn before y)
     (sym (same_yard after (with_logs tells faults mid news) (λ m. (back m).0) (λ m. (back m).1)))
     (passed_with tells faults before mid olds news mounted later count rest)
+
+-- so what was on the disks as these logs were mounted is kept
+pub kept_back : {D : Type 0} (tells : D → Option Told) (faults : D → ℕ) (members : ℕ) (before mid after : YardState)
+    (olds news : List (LogState D)) → AreMounted tells faults before olds → AreLater tells faults olds news
+    → length news ≡ length olds
+    → ((m : ℕ) → length olds ≤ m → IsAlike (before.told m) (before.faults m) (mid.told m) (mid.faults m))
+    → AreAllBack tells faults mid after news
+    → AreKeptSince members (length olds) before after
+kept_back {D} tells faults members before mid after olds news mounted later count rest back = record {
+  kept = λ m l.
+      let old = slice_get-some olds m l in
+      let new = slice_get-some news m (omega (arith, l, count)) in
+      subst (IsKeptSince (before.told m)) (sym ((back m).0 ∙ told_at tells faults mid news m new.0 new.1))
+      (kept_since tells faults (before.told m) (before.faults m) old.0 new.0 (mounted m old.0 old.1)
+      (later m old.0 new.0 old.1 new.1));
+  others = λ m past l.
+      subst (λ (o : Option Told). Goes (before.told m) o KeepsRecords)
+      (sym ((back m).0 ∙ told_past tells faults mid news m (omega (arith, past, count)))) (rest m past).moments;
+}
+
+-- where the logs are as they were mounted, a crash would leave what it might have left before them
+pub alike_back : {D : Type 0} (tells : D → Option Told) (faults : D → ℕ) (before mid after : YardState)
+    (logs : List (LogState D)) → AreMounted tells faults before logs
+    → ((m : ℕ) → length logs ≤ m → IsAlike (before.told m) (before.faults m) (mid.told m) (mid.faults m))
+    → AreAllBack tells faults mid after logs
+    → (m : ℕ) → Goes (before.told m) (after.told m) KeepsRecords
+alike_back {D} tells faults before mid after logs mounted rest back m =
+    subst (λ (o : Option Told). Goes (before.told m) o KeepsRecords) (sym (back m).0) (by (slice_get logs m) refl)
+  where
+    by : (o : Option (LogState D)) → slice_get logs m ≡ o
+        → Goes (before.told m) (option_map_or (λ (log : LogState D). tells log.disk) o (mid.told m)) KeepsRecords
+    by None at = (rest m (slice_get_none logs m at)).moments
+    by (Some log) at = (mounted m log at).on.moments
 
 -- a disk that is back has counted no fewer faults than its yard had
 pub later_back : {D : Type 0} (tells : D → Option Told) (faults : D → ℕ) (mid after : YardState)

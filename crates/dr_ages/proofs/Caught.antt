@@ -1,13 +1,12 @@
 -- Logs that are brought up to a start, one after the other.
 use Rattle.std.proofs.Common.{◌≡◌, refl, sym, ap, ◌∙◌, subst, inl, inr, ℕ, ◌+◌, ◌<◌, ◌≤◌, false, All, List, [], ◌++◌, append-nil, drop, drop_at, length, length-set, le_refl, get_or, arith}
-use Rattle.std.specs.Prelude.{◌^◌, ◌-◌, Option, None, Some, is_some, option_map, slice_get, slice_set}
+use Rattle.std.specs.Prelude.{◌^◌, ◌-◌, Option, Some, option_map, slice_get, slice_set}
 use Rattle.std.proofs.Math.Pow.{pow_mono}
 use Rattle.std.proofs.lemmas.Bool.{cases_eq, cases_lt}
 use Rattle.std.proofs.lemmas.Option.{same_Some, slice_get-get_or, slice_get-map}
-use Rattle.dr_disk.specs.Calls.{State}
 use Rattle.dr_disk.specs.Disk.{Told}
 use Rattle.dr_disk.specs.Images.{Goes}
-use Rattle.dr_disk.proofs.Moments.{Goes-last}
+use Rattle.dr_disk.proofs.Moments.{Goes-weaken}
 use Rattle.dr_entry.specs.declared.entry.Entry.{Entry}
 use Rattle.dr_entry.specs.declared.record.Vote.{Vote}
 use Rattle.dr_gather.specs.CatchingUp.{HasStayed, lacked}
@@ -19,7 +18,7 @@ use Rattle.dr_log.specs.State.{LogState}
 use Rattle.dr_log.proofs.Growing.{length_of_both}
 use Rattle.dr_program.proofs.Holdings.{replica_kept, replica_set}
 use Rattle.dr_ages.specs.Opened.{AreCaughtUp, AreLater, IsCaughtUp, IsLater}
-use Rattle.dr_ages.proofs.Staying.{first_kept, later_same, later_then, left_so}
+use Rattle.dr_ages.proofs.Staying.{first_kept, goes_tells, later_same, later_then}
 
 -- before the first
 pub none_caught : {D : Type 0} (told : D → Option Told) (faults : D → ℕ) (whole : List Entry)
@@ -84,14 +83,6 @@ pub on_still : {D : Type 0} (told : D → Option Told) (faults : D → ℕ) (log
 on_still told faults logs m old new there here =
     subst (λ z. IsLater told faults old z) (same_Some old new (sym there ∙ here)) (later_same told faults old)
 
--- what goes so from one moment to another tells at both, or at neither
-pub goes_tells : (before after : Option Told) (P : State → List ℕ → Type 0) → Goes before after P
-    → is_some before ≡ is_some after
-goes_tells None None P goes = refl
-goes_tells None (Some t) P goes = absurd goes
-goes_tells (Some t) None P goes = absurd goes
-goes_tells (Some s) (Some t) P goes = refl
-
 -- what each image has that stands for these entries and votes, or for more entries too
 none_or_more : {D : Type 0} (old : LogState D) (news es : List Entry) (vs : List Vote) (image : List ℕ)
     → IsPrefixOf es old.entries → IsPrefixOf vs old.votes → IsNoneOrAll old.entries old.votes news image
@@ -112,9 +103,8 @@ on_by told faults news old new part votes moments later = record {
   tells = goes_tells (told old.disk) (told new.disk) (λ s. IsNoneOrAll old.entries old.votes news) moments;
   later = later;
   stays = λ es vs first kept left.
-      left_so (told new.disk) (IsNoneOrAll old.entries old.votes news) (LosesNone es vs)
-      (λ image has. none_or_more old news es vs image first kept has)
-      (Goes-last (told old.disk) (told new.disk) (IsNoneOrAll old.entries old.votes news) moments);
+      Goes-weaken (told old.disk) (told new.disk) (λ s. IsNoneOrAll old.entries old.votes news)
+      (λ s. LosesNone es vs) (λ s image has. none_or_more old news es vs image first kept has) moments;
 }
 
 -- a log that was brought up, and one that was not

@@ -1,5 +1,5 @@
 -- Ages that came one after the other.
-use Rattle.std.proofs.Common.{◌≡◌, refl, sym, ap, ◌∙◌, subst, ℕ, zero, suc, ◌+◌, le_refl, arith, List, [], ◌∷◌, ◌++◌, length}
+use Rattle.std.proofs.Common.{◌≡◌, refl, sym, ap, ◌∙◌, subst, ℕ, zero, suc, ◌+◌, le_refl, arith, List, [], ◌∷◌, ◌++◌, drop, length}
 use Rattle.std.specs.Prelude.{IsTrue, Some, slice_get}
 use Rattle.std.proofs.lemmas.Option.{same_Some}
 use Rattle.dr_entry.specs.declared.end.AgeEnd.{AgeEnd}
@@ -7,8 +7,10 @@ use Rattle.dr_script.specs.declared.script.Script.{Script}
 use Rattle.dr_yard.specs.Yards.{AllTell, YardState}
 use Rattle.dr_ages.specs.declared.mode.Mode.{Mode}
 use Rattle.dr_ages.specs.Ages.{AreAges, IsAgeOf}
-use Rattle.dr_ages.specs.Passing.{PassOn}
-use Rattle.dr_ages.proofs.Staying.{on_same, on_then}
+use Rattle.dr_ages.specs.declared.stop.Stop.TheVariants.{OutOfMemory}
+use Rattle.dr_ages.specs.Passing.{AreKeptSince, PassOn}
+use Rattle.dr_ages.specs.Stops.{HasKept}
+use Rattle.dr_ages.proofs.Staying.{alike_same, kept_on, on_same, on_then}
 
 -- ---- how yards pass
 
@@ -28,6 +30,32 @@ pub ages_pass : (script : Script) (mode : Mode) (nth : ℕ) (before : YardState)
 ages_pass script mode nth before [] after are = subst (λ (y : YardState). PassOn before y) are (passes_none before)
 ages_pass script mode nth before (age ∷ ages) after are =
     passes_on before are.0 after are.1.passes (ages_pass script mode (nth + 1) are.0 ages after are.2)
+
+-- ---- what is kept
+
+-- where nothing was mounted
+pub unmounted : (members : ℕ) (yard : YardState) → AreKeptSince members 0 yard yard
+unmounted members yard = record {
+  kept = λ m l. absurd (omega (arith, l));
+  others = λ m past l.
+      (alike_same (yard.told m) (yard.told m) (yard.faults m) (yard.faults m) refl (le_refl (yard.faults m))).moments;
+}
+
+pub none_kept : (script : Script) (yard : YardState) → HasKept script yard yard OutOfMemory
+none_kept script yard = record {
+  mounted = 0;
+  since = unmounted script.members yard;
+  count = tt;
+}
+
+-- what an age has kept is kept while its disks go on
+pub kept_passes : (members : ℕ) (before mid after : YardState) → AreKeptSince members members before mid
+    → PassOn mid after → AreKeptSince members members before after
+kept_passes members before mid after are passes = record {
+  kept = λ m l.
+      kept_on (before.told m) (mid.told m) (after.told m) (mid.faults m) (after.faults m) (are.kept m l) (passes m);
+  others = λ m past l. absurd (omega (arith, past, l));
+}
 
 -- ---- one age more
 
@@ -88,6 +116,22 @@ beside script mode nth before (one ∷ ages) after (suc i) a b are at_a at_b =
       second = r.second;
       passes = passes_on before are.0 r.mid are.1.passes r.passes;
     }
+
+-- the one that ends them, by number
+pub ends_with : (script : Script) (mode : Mode) (nth : ℕ) (before : YardState) (ages : List AgeEnd) (last : YardState)
+    (earlier : List AgeEnd) (age : AgeEnd) → AreAges script mode nth before ages last → ages ≡ earlier ++ age ∷ []
+    → (n : ℕ) × (y : YardState) × IsAgeOf script mode n y last age
+ends_with script mode nth before [] last [] age are is = absurd (cc)
+ends_with script mode nth before [] last (x ∷ earlier) age are is = absurd (cc)
+ends_with script mode nth before (one ∷ []) last [] age are is = (
+  nth,
+  before,
+  subst (IsAgeOf script mode nth before last) (same_Some one age (ap (λ (xs : List AgeEnd). slice_get xs 0) is))
+      (subst (λ (y : YardState). IsAgeOf script mode nth before y one) are.2 are.1),
+)
+ends_with script mode nth before (one ∷ two ∷ ages) last [] age are is = absurd (cc)
+ends_with script mode nth before (one ∷ ages) last (x ∷ earlier) age are is =
+    ends_with script mode (nth + 1) are.0 ages last earlier age are.2 (ap (drop 1) is)
 
 -- the last one
 pub record EndsWith (script : Script) (start after : YardState) : Type 0 where

@@ -1,5 +1,5 @@
--- Runs over empty disks.
-use Rattle.std.proofs.Common.{◌≡◌, refl, sym, ap, ◌∙◌, subst, ℕ, zero, suc, ◌+◌, ◌*◌, ◌^◌, ◌<◌, ◌≤◌, arith, List, [], ◌∷◌, length, drop, take, length-append, length-drop, take_at}
+-- Runs whose logs have room for all that they bring, as those over empty disks.
+use Rattle.std.proofs.Common.{◌≡◌, refl, sym, ap, ◌∙◌, subst, ℕ, zero, suc, ◌+◌, ◌*◌, ◌^◌, ◌<◌, ◌≤◌, arith, List, [], ◌∷◌, ◌++◌, length, take, drop, length-append, length-drop, take_at, drop_at}
 use Rattle.std.specs.Prelude.{All, IsSomeAnd, IsTrue, Option, None, Some, is_some, slice_get}
 use Rattle.std.proofs.Math.Pow.{pow_mono}
 use Rattle.std.proofs.lemmas.List.Elements.{All-append, All-cons, All-drop, All-nil, All-take}
@@ -11,7 +11,7 @@ use Rattle.dr_entry.specs.declared.entry.Entry.{Entry}
 use Rattle.dr_entry.specs.declared.entry.Entry.TheVariants.{View, Msg}
 use Rattle.dr_entry.specs.declared.limits.TheConstants.{MAX_MEMBERS}
 use Rattle.dr_entry.specs.declared.record.Vote.{Vote}
-use Rattle.dr_entry.specs.Spelling.{IsValidEntry, entry_spelling}
+use Rattle.dr_entry.specs.Spelling.{IsValidEntry, IsValidVote, entry_spelling}
 use Rattle.dr_gather.specs.Gathering.{IsStartOf}
 use Rattle.dr_gather.proofs.Catching.{part_of_opened}
 use Rattle.dr_gather.proofs.Grouping.{part_of_start, start_group, start_valid}
@@ -24,8 +24,8 @@ use Rattle.dr_history.specs.Restarting.{IsLongest, next_age}
 use Rattle.dr_history.proofs.ViewLemmas.{view_of-View, view_of-Msg}
 use Rattle.dr_history_laws.proofs.Lengths.{start-few}
 use Rattle.dr_history_laws.proofs.Lists.{IsSomeAnd-at, slice_get-some, take-next}
-use Rattle.dr_log.specs.Standing.{entries_length}
-use Rattle.dr_log.proofs.Growing.{short_block}
+use Rattle.dr_log.specs.Standing.{entries_length, log_length}
+use Rattle.dr_log.proofs.Growing.{short_block, short_log_length}
 use Rattle.dr_restart.specs.declared.start.Start.{Start}
 use Rattle.dr_restart.specs.Groups.{group_of}
 use Rattle.dr_script.specs.declared.script.Script.{Script}
@@ -37,11 +37,13 @@ use Rattle.dr_ages.specs.declared.mode.Mode.{Mode}
 use Rattle.dr_ages.specs.declared.stop.Stop.{Stop}
 use Rattle.dr_ages.specs.declared.stop.Stop.TheVariants.{OutOfMemory, DiskFault, LogFull, Damaged, Disagree, Foreign, AgesUsedUp}
 use Rattle.dr_ages.specs.Ages.{AreAges, IsAgeOf, opening_of}
-use Rattle.dr_ages.specs.Found.{AreFew, AreFound}
+use Rattle.dr_ages.specs.Found.{AreFew, AreFound, AreRoomy}
 use Rattle.dr_ages.specs.Stops.{HasStopped, IsOutside, IsTooFull}
 use Rattle.dr_ages.proofs.Chain.{tell_on}
-use Rattle.dr_ages.proofs.Good.{IsGood, age_leaves_good, empty_found, empty_good, good_never, part_of_history}
+use Rattle.dr_ages.proofs.Fit.{age_leaves_good}
+use Rattle.dr_ages.proofs.Good.{IsGood, empty_found, empty_good, good_never, part_of_history}
 use Rattle.dr_ages.proofs.Keeping.{IsBehind, behind, found_left, longest_begins}
+use Rattle.dr_ages.proofs.Reading.{found_read, longest_once, read_once}
 use Rattle.dr_ages.proofs.Votes.{found_valid}
 
 -- ---- the view of what an age leaves
@@ -104,23 +106,26 @@ no_age : next_age (view_of []) ≡ 0
 unfolding view_after
 no_age = refl
 
--- ---- disks behind so many ages from empty ones
+-- ---- disks behind so many ages from the first
 
-pub record IsFreshAt (script : Script) (k : ℕ) (yard : YardState) : Type 0 where
+-- The logs of disks behind k ages: no more bytes of votes than at first, and what these ages bring, and the next age
+-- has the number behind them.
+pub record IsRoomyAt (script : Script) (bytes first k : ℕ) (yard : YardState) : Type 0 where
   pub tell : AllTell script.members yard
   pub good : IsGood script yard
   pub few : (lists : List (List Entry)) (votes : ℕ → List Vote) → AreFound script.members yard lists votes
-      → (m : ℕ) → m < script.members → length (votes m) ≤ MAX_MEMBERS * MAX_MEMBERS * k
+      → (m : ℕ) → m < script.members → log_length [] (votes m) ≤ bytes + 18688 * k
   pub next : (lists : List (List Entry)) (votes : ℕ → List Vote) → AreFound script.members yard lists votes
-      → (es : List Entry) → IsLongest lists es → next_age (view_of es) ≡ k
+      → (es : List Entry) → IsLongest lists es → next_age (view_of es) ≡ first + k
 
-pub fresh_first : (script : Script) (yard : YardState) → AreEmpty script.members yard → IsFreshAt script 0 yard
+-- empty ones
+pub fresh_first : (script : Script) (yard : YardState) → AreEmpty script.members yard → IsRoomyAt script 9 0 0 yard
 fresh_first script yard empty = record {
   tell = λ m l. tells (yard.told m) (empty m l);
   good = empty_good script yard empty;
   few = λ lists votes found m l.
       let es = slice_get-some lists m (omega (arith, l, found.all)) in
-      omega (arith, ap length (empty_found script yard lists votes m es.0 empty found es.1).1);
+      omega (arith, ap (log_length []) (empty_found script yard lists votes m es.0 empty found es.1).1);
   next = λ lists votes found es longest.
       ap (λ (l : List Entry). next_age (view_of l))
       (empty_found script yard lists votes longest.place es empty found longest.one).0 ∙ no_age;
@@ -131,19 +136,17 @@ fresh_first script yard empty = record {
     tells (Some t) is = refl
 
 -- the age has the number of those before it
-age_number : {mode : Mode} (script : Script) (k nth : ℕ) (before yard : YardState) (age : AgeEnd) → IsFreshAt script k before
-    → IsAgeOf script mode nth before yard age → age.age ≡ k
-age_number script k nth before yard age fresh is =
-    is.starts.restart.next ∙ fresh.next is.lists is.votes is.found age.start is.starts.restart.longest
+age_number : {mode : Mode} (script : Script) (bytes first k nth : ℕ) (before yard : YardState) (age : AgeEnd)
+    → IsRoomyAt script bytes first k before → IsAgeOf script mode nth before yard age → age.age ≡ first + k
+age_number script bytes first k nth before yard age roomy is =
+    is.starts.restart.next ∙ roomy.next is.lists is.votes is.found age.start is.starts.restart.longest
 
 -- the votes on each log are few
-few_at : (script : Script) (k : ℕ) (yard : YardState) (lists : List (List Entry)) (votes : ℕ → List Vote) (m : ℕ)
-    → IsFreshAt script k yard → k < 2 ^ 16 → AreFound script.members yard lists votes → m < script.members
-    → AreFew (votes m)
-few_at script k yard lists votes m fresh small found l = record {
-  valid = found_valid script.members yard lists votes m fresh.tell found l;
-  few = omega (arith, fresh.few lists votes found m l, small);
-}
+few_at : (script : Script) (bytes first k : ℕ) (yard : YardState) (lists : List (List Entry)) (votes : ℕ → List Vote)
+    (m : ℕ) → IsRoomyAt script bytes first k yard → bytes ≤ 536870912 → k ≤ 16
+    → AreFound script.members yard lists votes → m < script.members → AreFew (votes m)
+few_at script bytes first k yard lists votes m roomy short small found l =
+    record { few = omega (arith, roomy.few lists votes found m l, small, short) }
 
 -- the first age starts with nothing
 pub fresh_start : (script : Script) (mode : Mode) (nth : ℕ) (before : YardState) (ages : List AgeEnd) (last : YardState)
@@ -155,62 +158,106 @@ fresh_start script mode nth before (one ∷ ages) last a empty are at =
     ∙ (empty_found script before are.1.lists are.1.votes are.1.starts.restart.longest.place one.start empty
     are.1.found are.1.starts.restart.longest.one).0
 
-fresh_next : (script : Script) (mode : Mode) (k nth : ℕ) (before yard : YardState) (age : AgeEnd) → HasGroupRanges script
-    → IsFreshAt script k before → IsAgeOf script mode nth before yard age → IsFreshAt script (k + 1) yard
-fresh_next script mode k nth before yard age ranges fresh is = record {
+-- the number behind an age, by what it leaves
+pub age_next : (script : Script) (mode : Mode) (nth : ℕ) (before yard : YardState) (age : AgeEnd)
+    (lists : List (List Entry)) (votes : ℕ → List Vote) (es : List Entry) → HasGroupRanges script
+    → IsAgeOf script mode nth before yard age → AllTell script.members yard
+    → AreFound script.members yard lists votes → IsLongest lists es → next_age (view_of es) ≡ age.age + 1
+age_next script mode nth before yard age lists votes es ranges is tell found longest =
+    let after : IsBehind script yard age lists votes =
+    behind script mode nth before yard age ranges is tell lists votes found in
+    let p = part_of_history script yard age lists votes longest.place es after longest.one in
+    next_of_part (opening_of script age) (sent_by (accounts_of age.members)) es
+    (accounts_of age.members longest.place).history (is.agreed.agreed.ordered longest.place p.0)
+    (longest_begins script yard age lists votes es after longest) p.1
+
+-- votes behind which there are some more
+more_votes : (old new more : List Vote) → new ≡ old ++ more → All IsValidVote new
+    → length more ≤ MAX_MEMBERS * MAX_MEMBERS → log_length [] new ≤ log_length [] old + 18688
+more_votes old new more parts valid few =
+    let behind : All IsValidVote more =
+    subst (All IsValidVote) (ap (drop (length old)) parts ∙ drop_at old more (length old) refl)
+    (All-drop IsValidVote (length old) new valid) in
+    omega (
+      arith,
+      ap (log_length []) parts,
+      long_log old [] more (All-nil IsValidEntry) (λ k d l. (behind k d l).members),
+      few,
+    )
+
+roomy_next : (script : Script) (mode : Mode) (bytes first k nth : ℕ) (before yard : YardState) (age : AgeEnd)
+    → HasGroupRanges script → IsRoomyAt script bytes first k before → IsAgeOf script mode nth before yard age
+    → IsRoomyAt script bytes first (k + 1) yard
+roomy_next script mode bytes first k nth before yard age ranges roomy is = record {
   tell = tell;
   good = age_leaves_good script mode nth before yard age ranges is tell;
   few = λ lists votes found m l.
       let e = slice_get-some age.members m (omega (arith, l, is.roster)) in
       let es = slice_get-some lists m (omega (arith, l, found.all)) in
-      let now = (found_left script yard age lists votes m e.0 es.0 (after lists votes found) e.1 es.1).votes in
+      let now = (found_left script yard age lists votes m e.0 es.0
+      (behind script mode nth before yard age ranges is tell lists votes found) e.1 es.1).votes in
       omega (
         arith,
-        ap length now.parts,
-        length-append (is.votes m) now.more,
-        now.few,
-        fresh.few is.lists is.votes is.found m l,
+        more_votes (is.votes m) (votes m) now.more now.parts
+            (found_valid script.members yard lists votes m tell found l) now.few,
+        roomy.few is.lists is.votes is.found m l,
       );
   next = λ lists votes found es longest.
-      let p = part_of_history script yard age lists votes longest.place es (after lists votes found) longest.one in
-      next_of_part (opening_of script age) (sent_by (accounts_of age.members)) es
-      (accounts_of age.members longest.place).history (is.agreed.agreed.ordered longest.place p.0)
-      (longest_begins script yard age lists votes es (after lists votes found) longest) p.1
-      ∙ ap (λ (n : ℕ). n + 1) (age_number script k nth before yard age fresh is);
+      age_next script mode nth before yard age lists votes es ranges is tell found longest
+      ∙ omega (arith, age_number script bytes first k nth before yard age roomy is);
 }
   where
     tell : AllTell script.members yard
-    tell = tell_on script.members before yard is.passes fresh.tell
+    tell = tell_on script.members before yard is.passes roomy.tell
 
-    after : (lists : List (List Entry)) (votes : ℕ → List Vote) → AreFound script.members yard lists votes
-        → IsBehind script yard age lists votes
-    after = behind script mode nth before yard age ranges is tell
+pub roomy_last : (script : Script) (mode : Mode) (bytes first k nth : ℕ) (before : YardState) (ages : List AgeEnd)
+    (last : YardState) → HasGroupRanges script → IsRoomyAt script bytes first k before
+    → AreAges script mode nth before ages last → IsRoomyAt script bytes first (k + length ages) last
+roomy_last script mode bytes first k nth before [] last ranges roomy are =
+    subst (λ (n : ℕ). IsRoomyAt script bytes first n last) (omega arith)
+    (subst (IsRoomyAt script bytes first k) are roomy)
+roomy_last script mode bytes first k nth before (age ∷ ages) last ranges roomy are =
+    subst (λ (n : ℕ). IsRoomyAt script bytes first n last) (omega arith)
+    (roomy_last script mode bytes first (k + 1) (nth + 1) are.0 ages last ranges
+    (roomy_next script mode bytes first k nth before are.0 age ranges roomy are.1) are.2)
 
-pub fresh_last : (script : Script) (mode : Mode) (k nth : ℕ) (before : YardState) (ages : List AgeEnd) (last : YardState)
-    → HasGroupRanges script → IsFreshAt script k before → AreAges script mode nth before ages last
-    → IsFreshAt script (k + length ages) last
-fresh_last script mode k nth before [] last ranges fresh are =
-    subst (λ (n : ℕ). IsFreshAt script n last) (omega arith) (subst (IsFreshAt script k) are fresh)
-fresh_last script mode k nth before (age ∷ ages) last ranges fresh are =
-    subst (λ (n : ℕ). IsFreshAt script n last) (omega arith)
-    (fresh_last script mode (k + 1) (nth + 1) are.0 ages last ranges
-    (fresh_next script mode k nth before are.0 age ranges fresh are.1) are.2)
-
-pub fresh_ages : (script : Script) (mode : Mode) (k nth : ℕ) (before : YardState) (ages : List AgeEnd) (last : YardState)
-    (i : ℕ) (a : AgeEnd) → HasGroupRanges script → IsFreshAt script k before → AreAges script mode nth before ages last
-    → slice_get ages i ≡ Some a → (a.age ≡ k + i) × NoneFull a.members
-fresh_ages script mode k nth before [] last i a ranges fresh are at = absurd (omega (arith, slice_get_within [] i a at))
-fresh_ages script mode k nth before (age ∷ ages) last zero a ranges fresh are at =
-    let number = age_number script k nth before are.0 age fresh are.1 in
-    subst (λ (x : AgeEnd). (x.age ≡ k + 0) × NoneFull x.members) (same_Some age a at) (
+pub roomy_ages : (script : Script) (mode : Mode) (bytes first k nth : ℕ) (before : YardState) (ages : List AgeEnd)
+    (last : YardState) (i : ℕ) (a : AgeEnd) → HasGroupRanges script → bytes ≤ 536870912 → k + length ages ≤ 16
+    → IsRoomyAt script bytes first k before → AreAges script mode nth before ages last
+    → slice_get ages i ≡ Some a → (a.age ≡ first + k + i) × NoneFull a.members
+roomy_ages script mode bytes first k nth before [] last i a ranges short small roomy are at =
+    absurd (omega (arith, slice_get_within [] i a at))
+roomy_ages script mode bytes first k nth before (age ∷ ages) last zero a ranges short small roomy are at =
+    let number = age_number script bytes first k nth before are.0 age roomy are.1 in
+    subst (λ (x : AgeEnd). (x.age ≡ first + k + 0) × NoneFull x.members) (same_Some age a at) (
       omega (arith, number),
-      are.1.ample (λ m l. few_at script k before are.1.lists are.1.votes m fresh
-          (omega (arith, number, are.1.small)) are.1.found l),
+      are.1.ample (λ m l. few_at script bytes first k before are.1.lists are.1.votes m roomy short
+          (omega (arith, small)) are.1.found l),
     )
-fresh_ages script mode k nth before (age ∷ ages) last (suc i) a ranges fresh are at =
-    let r = fresh_ages script mode (k + 1) (nth + 1) are.0 ages last i a ranges
-    (fresh_next script mode k nth before are.0 age ranges fresh are.1) are.2 at in
+roomy_ages script mode bytes first k nth before (age ∷ ages) last (suc i) a ranges short small roomy are at =
+    let r = roomy_ages script mode bytes first (k + 1) (nth + 1) are.0 ages last i a ranges short
+    (omega (arith, small)) (roomy_next script mode bytes first k nth before are.0 age ranges roomy are.1) are.2 at in
     (omega (arith, r.0), r.1)
+
+-- those of a run over fit disks that are roomy
+pub roomy_first : (script : Script) (yard : YardState) (lists : List (List Entry)) (votes : ℕ → List Vote)
+    (es : List Entry) → AllTell script.members yard → IsGood script yard → AreRoomy script yard
+    → AreFound script.members yard lists votes → IsLongest lists es
+    → IsRoomyAt script 536870912 (next_age (view_of es)) 0 yard
+roomy_first script yard lists votes es tell good roomy found longest = record {
+  tell = tell;
+  good = good;
+  few = λ ls vs there m l.
+      let fs = slice_get-some ls m (omega (arith, l, there.all)) in
+      omega (arith, roomy.short ls vs there m fs.0 fs.1);
+  next = λ ls vs there fs most.
+      ap (λ (l : List Entry). next_age (view_of l))
+      (longest_once ls fs es (good.accepted ls vs there).along most
+      (subst (λ (x : List (List Entry)). IsLongest x es)
+      (read_once script.members yard lists ls (found_read script.members yard lists votes tell found)
+      (found_read script.members yard ls vs tell there)) longest))
+      ∙ omega arith;
+}
 
 -- ---- no log is full
 
@@ -244,8 +291,8 @@ full_never script before after m len ranges is votes =
     (part_of_start script is.lists is.start m is.entries is.starts is.has) in
     let front : take (length is.entries) whole ≡ is.entries =
     ap (take (length is.entries)) (sym part.1) ∙ take_at is.entries part.0 (length is.entries) refl in
-    let log = long_log [] is.entries (is.votes m) (subst (All IsValidEntry) front
-    (All-take IsValidEntry (length is.entries) whole valid)) (λ k d l. (votes.valid k d l).members) in
+    let log = short_log_length is.entries (subst (All IsValidEntry) front
+    (All-take IsValidEntry (length is.entries) whole valid)) in
     let rest : entries_length (drop (length is.entries) whole) ≤ length (drop (length is.entries) whole) * 72 =
     sum_by-le (λ (e : Entry). 1 + length (entry_spelling e)) 72 (drop (length is.entries) whole)
     (λ k d l. short_block _ (All-drop IsValidEntry (length is.entries) whole valid k d l)) in
@@ -265,18 +312,19 @@ full_never script before after m len ranges is votes =
 
 -- ---- what stops a run
 
-pub fresh_stop : (script : Script) (k : ℕ) (last after : YardState) (s : Stop) → HasGroupRanges script
-    → IsFreshAt script k last → k < 2 ^ 16 → HasStopped script last after s → IsOutside s
-fresh_stop script k last after OutOfMemory ranges fresh few is = tt
-fresh_stop script k last after (DiskFault m) ranges fresh few is = tt
-fresh_stop script k last after (LogFull m len) ranges fresh few is =
+pub roomy_stop : (script : Script) (bytes first k : ℕ) (last after : YardState) (s : Stop) → HasGroupRanges script
+    → bytes ≤ 536870912 → k ≤ 16 → first + k < 2 ^ 16 → IsRoomyAt script bytes first k last
+    → HasStopped script last after s → IsOutside s
+roomy_stop script bytes first k last after OutOfMemory ranges short small number roomy is = tt
+roomy_stop script bytes first k last after (DiskFault m) ranges short small number roomy is = tt
+roomy_stop script bytes first k last after (LogFull m len) ranges short small number roomy is =
     full_never script last after m len ranges is
-    (few_at script k last is.lists is.votes m fresh few is.found is.below)
-fresh_stop script k last after (Damaged m at) ranges fresh few is =
-    good_never script last after (Damaged m at) fresh.good is tt
-fresh_stop script k last after (Disagree a b p) ranges fresh few is =
-    good_never script last after (Disagree a b p) fresh.good is tt
-fresh_stop script k last after (Foreign m p) ranges fresh few is =
-    good_never script last after (Foreign m p) fresh.good is tt
-fresh_stop script k last after AgesUsedUp ranges fresh few is =
-    omega (arith, few, is.3.last, fresh.next is.0 is.1 is.2 is.3.entries is.3.longest)
+    (few_at script bytes first k last is.lists is.votes m roomy short small is.found is.below)
+roomy_stop script bytes first k last after (Damaged m at) ranges short small number roomy is =
+    good_never script last after (Damaged m at) roomy.good is tt
+roomy_stop script bytes first k last after (Disagree a b p) ranges short small number roomy is =
+    good_never script last after (Disagree a b p) roomy.good is tt
+roomy_stop script bytes first k last after (Foreign m p) ranges short small number roomy is =
+    good_never script last after (Foreign m p) roomy.good is tt
+roomy_stop script bytes first k last after AgesUsedUp ranges short small number roomy is =
+    omega (arith, number, is.3.last, roomy.next is.0 is.1 is.2 is.3.entries is.3.longest)

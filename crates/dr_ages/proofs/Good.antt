@@ -1,6 +1,6 @@
--- Disks whose logs are never refused: empty ones, and those that an age leaves.
-use Rattle.std.proofs.Common.{◌≡◌, refl, sym, ap, ◌∙◌, subst, ℕ, ◌<◌, inl, inr, arith, List, [], ◌++◌, length, take}
-use Rattle.std.specs.Prelude.{IfSome, IsSomeAnd, IsTrue, Option, None, Some, is_some, slice_get}
+-- Disks whose logs are never refused, as they read: empty ones; and what an age leaves.
+use Rattle.std.proofs.Common.{◌≡◌, refl, sym, ap, ◌∙◌, subst, ℕ, ◌<◌, inl, inr, arith, List, [], length}
+use Rattle.std.specs.Prelude.{IfSome, IsSomeAnd, Option, None, Some, slice_get}
 use Rattle.std.specs.Option.{option_map_or}
 use Rattle.std.proofs.lemmas.Option.{slice_get_within}
 use Rattle.dr_disk.specs.Disk.{Told, content_of}
@@ -8,40 +8,28 @@ use Rattle.dr_entry.specs.declared.end.AgeEnd.{AgeEnd}
 use Rattle.dr_entry.specs.declared.end.MemberEnd.{MemberEnd}
 use Rattle.dr_entry.specs.declared.entry.Entry.{Entry}
 use Rattle.dr_entry.specs.declared.record.Vote.{Vote}
-use Rattle.dr_gather.specs.Gathering.{judged_by}
-use Rattle.dr_gather.specs.Parts.{AreFirstPartsOf}
-use Rattle.dr_gather.proofs.Accepting.{ended_along, ended_sound}
+use Rattle.dr_gather.specs.Gathering.{AreAccepted}
+use Rattle.dr_gather.proofs.Accepting.{accepted_none_differ, accepted_none_foreign, none_accepted}
 use Rattle.dr_gather.proofs.Following.{is_there}
-use Rattle.dr_gather.proofs.Grouping.{start_group}
-use Rattle.dr_gather.proofs.Refusing.{disagreement_not_along, foreign_not_sound}
 use Rattle.dr_history.specs.Agreement.{accounts_of}
 use Rattle.dr_history.specs.History.{IsPrefixOf}
-use Rattle.dr_history.specs.Restarting.{AreAllAlong, AreSound}
 use Rattle.dr_history.specs.Soundness.{IsPresentIn}
 use Rattle.dr_history_laws.proofs.Lists.{slice_get-some}
 use Rattle.dr_log.specs.Grammar.{Recovered}
-use Rattle.dr_log.specs.Standing.{entries_in, votes_in, with_entry, with_vote}
-use Rattle.dr_log.proofs.Meaning.{stands_or_damaged}
-use Rattle.dr_machine.specs.Group.{IsGroup, roster}
-use Rattle.dr_restart.specs.Groups.{group_of}
+use Rattle.dr_log.specs.Standing.{entries_in, votes_in}
 use Rattle.dr_script.specs.declared.script.Script.{Script}
-use Rattle.dr_script.specs.Ranges.{HasGroupRanges}
-use Rattle.dr_yard.specs.Yards.{AllTell, AreEmpty, YardState}
-use Rattle.dr_ages.specs.declared.mode.Mode.{Mode}
+use Rattle.dr_yard.specs.Yards.{AreEmpty, YardState}
 use Rattle.dr_ages.specs.declared.stop.Stop.{Stop}
 use Rattle.dr_ages.specs.declared.stop.Stop.TheVariants.{OutOfMemory, DiskFault, LogFull, Damaged, Disagree, Foreign, AgesUsedUp}
-use Rattle.dr_ages.specs.Ages.{IsAgeOf, opening_of, start_of}
+use Rattle.dr_ages.specs.Ages.{opening_of}
 use Rattle.dr_ages.specs.Found.{AreFound, ReadsAs}
-use Rattle.dr_ages.specs.Left.{HasLeft}
 use Rattle.dr_ages.specs.Stops.{HasStopped, IsBadLogs, ReadsDamaged}
-use Rattle.dr_ages.proofs.Keeping.{IsBehind, behind, found_left, left_part}
+use Rattle.dr_ages.proofs.Keeping.{IsBehind, found_left, left_part}
 
--- whatever is found on the disks makes sound lists that are along one another, and no disk is damaged
+-- whatever is found on the disks is accepted, and no disk is damaged
 pub record IsGood (script : Script) (yard : YardState) : Type 0 where
-  pub sound : (lists : List (List Entry)) (votes : ℕ → List Vote) → AreFound script.members yard lists votes
-      → AreSound (judged_by script) lists
-  pub along : (lists : List (List Entry)) (votes : ℕ → List Vote) → AreFound script.members yard lists votes
-      → AreAllAlong lists
+  pub accepted : (lists : List (List Entry)) (votes : ℕ → List Vote) → AreFound script.members yard lists votes
+      → AreAccepted script lists
   pub whole : (m at : ℕ) → m < script.members → IfSome (yard.told m) (ReadsDamaged at) → ⊥
 
 -- so their logs are never refused
@@ -49,9 +37,9 @@ pub good_never : (script : Script) (last after : YardState) (s : Stop) → IsGoo
     → HasStopped script last after s → IsBadLogs s → ⊥
 good_never script last after (Damaged m at) good is bad = good.whole m at is.below is.damaged
 good_never script last after (Disagree a b p) good is bad =
-    disagreement_not_along is.0 a b p is.3.1 (good.along is.0 is.1 is.2)
+    accepted_none_differ script is.0 a b p (good.accepted is.0 is.1 is.2) is.3.1
 good_never script last after (Foreign m p) good is bad =
-    foreign_not_sound (judged_by script) is.0 m p is.3 (good.sound is.0 is.1 is.2)
+    accepted_none_foreign script is.0 m p (good.accepted is.0 is.1 is.2) is.3
 good_never script last after OutOfMemory good is bad = bad
 good_never script last after (DiskFault m) good is bad = bad
 good_never script last after (LogFull m len) good is bad = bad
@@ -81,14 +69,8 @@ empty_found script yard lists votes m es empty found at =
 
 pub empty_good : (script : Script) (yard : YardState) → AreEmpty script.members yard → IsGood script yard
 empty_good script yard empty = record {
-  sound = λ lists votes found m es at i e there.
-      absurd (omega (
-        arith,
-        slice_get_within es i e there,
-        ap length (empty_found script yard lists votes m es empty found at).0,
-      ));
-  along = λ lists votes found a b g h l at_a at_b.
-      inl (h, ap (λ (xs : List Entry). xs ++ h) (empty_found script yard lists votes a g empty found at_a).0);
+  accepted = λ lists votes found.
+      none_accepted script lists (λ m es at. (empty_found script yard lists votes m es empty found at).0);
   whole = λ m at l. none (yard.told m) at (empty m l);
 }
   where
@@ -110,55 +92,3 @@ part_of_history script yard age lists votes m es b at =
       subst (λ (end : Option MemberEnd). IsPrefixOf es (option_map_or (λ (x : MemberEnd). x.history) end []))
           (sym e.1) (left_part e.0 es (found_left script yard age lists votes m e.0 es b e.1 at).entries),
     )
-
-pub age_leaves_good : (script : Script) (mode : Mode) (nth : ℕ) (before yard : YardState) (age : AgeEnd)
-    → HasGroupRanges script → IsAgeOf script mode nth before yard age → AllTell script.members yard
-    → IsGood script yard
-age_leaves_good script mode nth before yard age ranges is tell = record {
-  sound = λ lists votes found.
-      ended_sound script (start_of script age) age.members lists group is.agreed all (parts lists votes found);
-  along = λ lists votes found.
-      ended_along script (start_of script age) age.members lists group is.agreed all (parts lists votes found);
-  whole = whole;
-}
-  where
-    group : IsGroup (group_of script (start_of script age))
-    group = start_group script is.lists (start_of script age) ranges is.small is.starts
-
-    all : length age.members ≡ roster (group_of script (start_of script age))
-    all = is.roster ∙ sym ranges.lists
-
-    after : (lists : List (List Entry)) (votes : ℕ → List Vote) → AreFound script.members yard lists votes
-        → IsBehind script yard age lists votes
-    after = behind script mode nth before yard age ranges is tell
-
-    -- each log has a first part of its member's history
-    parts : (lists : List (List Entry)) (votes : ℕ → List Vote) → AreFound script.members yard lists votes
-        → AreFirstPartsOf age.members lists
-    parts lists votes found m es at =
-        let e = slice_get-some age.members m (omega (arith, slice_get_within lists m es at, found.all, is.roster)) in (
-          m,
-          e.0,
-          e.1,
-          left_part e.0 es
-              (found_left script yard age lists votes m e.0 es (after lists votes found) e.1 at).entries,
-        )
-
-    whole : (m at : ℕ) → m < script.members → IfSome (yard.told m) (ReadsDamaged at) → ⊥
-    whole m at l =
-        let e = slice_get-some age.members m (omega (arith, l, is.roster)) in
-        readable (yard.told m) at script.members e.0 (is.votes m) (is.cast m) (tell m l) (is.left m e.0 e.1)
-      where
-        readable : (t : Option Told) (at banks : ℕ) (e : MemberEnd) (found cast : List Vote)
-            → IsTrue (is_some t) → HasLeft t banks e found cast → IfSome t (ReadsDamaged at) → ⊥
-        readable None at banks e found cast some left reads = absurd (cc)
-        readable (Some t) at banks e found cast some (inl safe) reads =
-            stands_or_damaged (content_of t) (take e.logged e.history) (found ++ cast) at
-            (safe (content_of t) reads.image) reads.damaged
-        readable (Some t) at banks e found cast some (inr broken) reads =
-            elim (broken.left (content_of t) reads.image) [
-              | inl before ↦ stands_or_damaged (content_of t) (take e.logged e.history) (found ++ cast) at before
-                  reads.damaged
-              | inr after ↦ stands_or_damaged (content_of t) (with_entry broken.next (take e.logged e.history))
-                  (with_vote broken.next (found ++ cast)) at after reads.damaged
-            ]

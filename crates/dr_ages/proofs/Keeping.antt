@@ -5,7 +5,8 @@ use Rattle.std.specs.Option.{option_map_or}
 use Rattle.std.proofs.lemmas.List.{take-append-drop, take_more}
 use Rattle.std.proofs.lemmas.Nat.{mul-le}
 use Rattle.std.proofs.lemmas.Option.{slice_get_within}
-use Rattle.dr_disk.specs.Disk.{Told, content_of}
+use Rattle.dr_disk.specs.Disk.{Told, content_of, state_of}
+use Rattle.dr_disk.specs.Images.{IsImage}
 use Rattle.dr_entry.specs.declared.end.AgeEnd.{AgeEnd}
 use Rattle.dr_entry.specs.declared.end.MemberEnd.{MemberEnd}
 use Rattle.dr_entry.specs.declared.entry.Entry.{Entry}
@@ -51,11 +52,11 @@ pub record IsLeftBy (e : MemberEnd) (found : List Vote) (es : List Entry) (vs : 
   pub entries : IsLeftOf e.history e.logged es
   pub votes : HasFewMore found vs
 
-read_left : (o : Option Told) (banks : ℕ) (e : MemberEnd) (es : List Entry) (vs found cast : List Vote)
-    → IsTrue (is_some o) → IfSome o (ReadsAs es vs) → banks ≤ MAX_MEMBERS
-    → length cast ≤ MAX_MEMBERS * MAX_MEMBERS → HasLeft o banks e found cast → IsLeftBy e found es vs
-read_left None banks e es vs found cast some reads most few left = absurd (cc)
-read_left (Some t) banks e es vs found cast some reads most few left = by left
+-- what an image stands for
+pub image_left : (t : Told) (image : List ℕ) (banks : ℕ) (e : MemberEnd) (es : List Entry)
+    (vs found cast : List Vote) → IsImage (state_of t) image → StandsFor image es vs → banks ≤ MAX_MEMBERS
+    → length cast ≤ MAX_MEMBERS * MAX_MEMBERS → HasLeft (Some t) banks e found cast → IsLeftBy e found es vs
+image_left t image banks e es vs found cast is reads most few left = by left
   where
     logged : List Entry
     logged = take e.logged e.history
@@ -64,22 +65,22 @@ read_left (Some t) banks e es vs found cast some reads most few left = by left
     next = get_or e.history e.logged (View 0 0 0)
 
     -- just what is logged
-    same : StandsFor (content_of t) logged (found ++ cast) → IsLeftBy e found es vs
+    same : StandsFor image logged (found ++ cast) → IsLeftBy e found es vs
     same s = record {
-      entries = inl (one_list (content_of t) es logged vs (found ++ cast) reads.stands s);
+      entries = inl (one_list image es logged vs (found ++ cast) reads s);
       votes = record {
         more = cast;
-        parts = one_list_of_votes (content_of t) es logged vs (found ++ cast) reads.stands s;
+        parts = one_list_of_votes image es logged vs (found ++ cast) reads s;
         few = few;
       };
     }
 
     -- with the next entry
-    entry : e.logged < length e.history → StandsFor (content_of t) (logged ++ next ∷ []) (found ++ cast)
+    entry : e.logged < length e.history → StandsFor image (logged ++ next ∷ []) (found ++ cast)
         → IsLeftBy e found es vs
     entry more s =
         let is : es ≡ logged ++ next ∷ [] =
-        one_list (content_of t) es (logged ++ next ∷ []) vs (found ++ cast) reads.stands s in
+        one_list image es (logged ++ next ∷ []) vs (found ++ cast) reads s in
         record {
           entries = inr (
             next,
@@ -93,19 +94,19 @@ read_left (Some t) banks e es vs found cast some reads most few left = by left
           );
           votes = record {
             more = cast;
-            parts = one_list_of_votes (content_of t) es (logged ++ next ∷ []) vs (found ++ cast) reads.stands s;
+            parts = one_list_of_votes image es (logged ++ next ∷ []) vs (found ++ cast) reads s;
             few = few;
           };
         }
 
     -- with a vote
     vote : (v : Vote) → IsVote banks (length cast) (records.Vote v)
-        → StandsFor (content_of t) logged ((found ++ cast) ++ v ∷ []) → IsLeftBy e found es vs
+        → StandsFor image logged ((found ++ cast) ++ v ∷ []) → IsLeftBy e found es vs
     vote v due s = record {
-      entries = inl (one_list (content_of t) es logged vs ((found ++ cast) ++ v ∷ []) reads.stands s);
+      entries = inl (one_list image es logged vs ((found ++ cast) ++ v ∷ []) reads s);
       votes = record {
         more = cast ++ v ∷ [];
-        parts = one_list_of_votes (content_of t) es logged vs ((found ++ cast) ++ v ∷ []) reads.stands s
+        parts = one_list_of_votes image es logged vs ((found ++ cast) ++ v ∷ []) reads s
             ∙ append_assoc found cast (v ∷ []);
         few = omega (
           arith,
@@ -117,19 +118,27 @@ read_left (Some t) banks e es vs found cast some reads most few left = by left
     }
 
     one_more : (r : Record) → IsNext banks e.history e.logged cast r
-        → StandsFor (content_of t) (with_entry r logged) (with_vote r (found ++ cast)) → IsLeftBy e found es vs
+        → StandsFor image (with_entry r logged) (with_vote r (found ++ cast)) → IsLeftBy e found es vs
     one_more r (inl due) s =
-        entry due.0 (subst (λ (r : Record). StandsFor (content_of t) (with_entry r logged)
+        entry due.0 (subst (λ (r : Record). StandsFor image (with_entry r logged)
         (with_vote r (found ++ cast))) due.1 s)
     one_more (records.Entry x) (inr due) s = absurd due
     one_more (records.Vote v) (inr due) s = vote v due s
 
     by : HasLeft (Some t) banks e found cast → IsLeftBy e found es vs
-    by (inl safe) = same (safe (content_of t) reads.image)
-    by (inr broken) = elim (broken.left (content_of t) reads.image) [
+    by (inl safe) = same (safe image is)
+    by (inr broken) = elim (broken.left image is) [
       | inl before ↦ same before
       | inr after ↦ one_more broken.next broken.due after
     ]
+
+-- what a read gives
+read_left : (o : Option Told) (banks : ℕ) (e : MemberEnd) (es : List Entry) (vs found cast : List Vote)
+    → IsTrue (is_some o) → IfSome o (ReadsAs es vs) → banks ≤ MAX_MEMBERS
+    → length cast ≤ MAX_MEMBERS * MAX_MEMBERS → HasLeft o banks e found cast → IsLeftBy e found es vs
+read_left None banks e es vs found cast some reads most few left = absurd (cc)
+read_left (Some t) banks e es vs found cast some reads most few left =
+    image_left t (content_of t) banks e es vs found cast reads.image reads.stands most few left
 
 -- it is a part of the history
 pub left_part : (e : MemberEnd) (es : List Entry) → IsLeftOf e.history e.logged es → IsPrefixOf es e.history

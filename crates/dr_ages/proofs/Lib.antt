@@ -3,11 +3,15 @@ mod Backs
 mod Caught
 mod Chain
 mod Completing
+mod Crashes
+mod Fit
 mod Fresh
 mod Good
 mod Keeping
 mod Loans
 mod Played
+mod Reading
+mod Refusals
 mod Runs
 mod Stopping
 mod Votes

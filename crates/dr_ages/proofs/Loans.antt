@@ -15,9 +15,11 @@ use Rattle.dr_history_laws.proofs.Lists.{slice_get-left, slice_get-push_cases, s
 use Rattle.dr_io.specs.Faults.{Rose}
 use Rattle.dr_log.specs.declared.fault.MountWhy.{MountWhy}
 use Rattle.dr_log.specs.declared.fault.MountWhy.TheVariants as whys
+use Rattle.dr_log.specs.Appending as mounts
 use Rattle.dr_log.specs.Grammar.{IsDamaged}
 use Rattle.dr_log.specs.Standing.{KeepsRecords, StandsFor, log_length}
 use Rattle.dr_log.specs.State.{LogState}
+use Rattle.dr_logged.specs.Served.{IsSafe}
 use Rattle.dr_script.specs.declared.script.Script.{Script}
 use Rattle.dr_yard.specs.Yards.{YardState}
 use Rattle.dr_ages.specs.declared.stop.Stop.{Stop}
@@ -25,9 +27,8 @@ use Rattle.dr_ages.specs.declared.stop.Stop.TheVariants.{OutOfMemory, DiskFault,
 use Rattle.dr_ages.specs.Found.{AreFound, ReadsAs}
 use Rattle.dr_ages.specs.Lent.{AreLent, AreMounted, IsMounted, WasRefused, WereRefused}
 use Rattle.dr_ages.specs.Opened.{AreLater}
-use Rattle.dr_ages.specs.Stops.{HasStopped, ReadsDamaged}
+use Rattle.dr_ages.specs.Stops.{HasMounted, HasStopped, IsBehindMounts, NamesFaults, ReadsDamaged, in_mount}
 use Rattle.dr_ages.proofs.Caught.{entries_at}
-use Rattle.dr_ages.proofs.Staying.{on_alike}
 
 -- below one more number there is that number
 below_more_lent : (k m n : ℕ) → k ≢ m → n ≡ m + 1 → nat_lt k m ≡ nat_lt k n
@@ -120,18 +121,23 @@ mounted_more {D} tells faults before logs log k are at is m x here = by (slice_g
 -- a log that was mounted from a disk that was lent
 pub was_mounted : {D : Type 0} (tells : D → Option Told) (faults : D → ℕ) (told : Option Told) (count : ℕ)
     (disk : D) (log : LogState D) → tells disk ≡ told → IfSome (tells disk) ReadsAnImage
-    → IfSome (tells disk) (λ t. StandsFor (content_of t) log.entries log.votes)
-    → log.length ≡ log_length log.entries log.votes → log.limit ≡ 2147483648
-    → log.failed ≡ false → Goes (tells disk) (tells log.disk) KeepsRecords → count ≤ faults log.disk
-    → IsMounted tells faults told count log
-was_mounted {D} tells faults told count disk log same image stands long limit whole goes later = record {
+    → IfSome (tells disk) (λ t. StandsFor (content_of t) log.entries log.votes) → IsSafe tells log
+    → log.length ≡ log_length log.entries log.votes → log.limit ≡ 2147483648 → log.failed ≡ false
+    → Goes (tells disk) (tells log.disk) KeepsRecords → faults log.disk ≡ count
+    → mounts.IsMounted (tells disk) (tells log.disk) → IsMounted tells faults told count log
+was_mounted {D} tells faults told count disk log same image stands safe long limit whole goes calm calls = record {
   found = both told (subst (λ (o : Option Told). IfSome o ReadsAnImage) same image)
       (subst (λ (o : Option Told). IfSome o (λ t. StandsFor (content_of t) log.entries log.votes)) same stands);
+  safe = safe;
   long = long;
   limit = limit;
   whole = whole;
-  on = on_alike told (tells log.disk) count (faults log.disk)
-      (subst (λ (o : Option Told). Goes o (tells log.disk) KeepsRecords) same goes) later;
+  on = record {
+    moments = subst (λ (o : Option Told). Goes o (tells log.disk) KeepsRecords) same goes;
+    later = omega (arith, calm);
+  };
+  calm = calm;
+  calls = subst (λ (o : Option Told). mounts.IsMounted o (tells log.disk)) same calls;
 }
   where
     both : (o : Option Told) → IfSome o ReadsAnImage
@@ -189,14 +195,15 @@ pub was_refused : (member : ℕ) (told now : Option Told) (before after : ℕ) (
     → ((at : ℕ) → why ≡ whys.Damaged at → IfSome told ReadsAnImage)
     → ((at : ℕ) → why ≡ whys.Damaged at → IfSome told (λ t. IsDamaged (content_of t) at))
     → ((at : ℕ) → why ≡ whys.Damaged at → now ≡ added Sync told)
+    → ((at : ℕ) → why ≡ whys.Damaged at → after ≡ before)
     → WasRefused member told now before after stop
-was_refused member told now before after whys.OutOfMemory stop memory disk bytes rose image damaged kept =
+was_refused member told now before after whys.OutOfMemory stop memory disk bytes rose image damaged kept calm =
     subst (WasRefused member told now before after) (sym (memory refl)) tt
-was_refused member told now before after whys.DiskFault stop memory disk bytes rose image damaged kept =
+was_refused member told now before after whys.DiskFault stop memory disk bytes rose image damaged kept calm =
     subst (WasRefused member told now before after) (sym (disk refl)) (refl, rose refl)
-was_refused member told now before after (whys.Damaged at) stop memory disk bytes rose image damaged kept =
+was_refused member told now before after (whys.Damaged at) stop memory disk bytes rose image damaged kept calm =
     subst (WasRefused member told now before after) (sym (bytes at refl))
-    (refl, both told (image at refl) (damaged at refl), kept at refl)
+    (refl, both told (image at refl) (damaged at refl), kept at refl, calm at refl)
   where
     both : (o : Option Told) → IfSome o ReadsAnImage → IfSome o (λ t. IsDamaged (content_of t) at)
         → IfSome o (ReadsDamaged at)
@@ -207,16 +214,24 @@ pub were_refused : {D : Type 0} (tells : D → Option Told) (faults : D → ℕ)
     (before mid after : YardState) (logs : List (LogState D)) (stop : Stop) → k < n
     → AreMounted tells faults before logs → length logs ≡ k
     → mid.told k ≡ before.told k → mid.faults k ≡ before.faults k
+    → ((j : ℕ) → k < j → (after.told j ≡ before.told j) × (after.faults j ≡ before.faults j))
     → WasRefused k (mid.told k) (after.told k) (mid.faults k) (after.faults k) stop
     → WereRefused n (length logs) before after stop
-were_refused tells faults n k before mid after logs OutOfMemory below are count told same is = tt
-were_refused tells faults n k before mid after logs (DiskFault m) below are count told same is = record {
-  below = omega (arith, is.0, below);
-  rose = subst (λ (j : ℕ). Rose (before.faults j) (after.faults j)) (sym is.0)
-      (subst (λ (x : ℕ). Rose x (after.faults k)) same is.1);
-}
-were_refused tells faults n k before mid after logs (Damaged m at) below are count told same is = (
-  omega (arith, is.0, count),
+were_refused tells faults n k before mid after logs OutOfMemory below are count told same above is = tt
+were_refused tells faults n k before mid after logs (DiskFault m) below are count told same above is = (
+  is.0 ∙ sym count,
+  record {
+    below = omega (arith, is.0, below);
+    rose = subst (λ (j : ℕ). Rose (before.faults j) (after.faults j)) (sym is.0)
+        (subst (λ (x : ℕ). Rose x (after.faults k)) same is.1);
+    lists = entries_on logs;
+    votes = votes_on logs;
+    found = are_found tells faults before logs m are (count ∙ sym is.0);
+    above = λ j l. above j (omega (arith, l, is.0));
+  },
+)
+were_refused tells faults n k before mid after logs (Damaged m at) below are count told same above is = (
+  is.0 ∙ sym count,
   record {
     below = omega (arith, is.0, below);
     damaged = subst (λ (j : ℕ). IfSome (before.told j) (ReadsDamaged at)) (sym is.0)
@@ -226,11 +241,15 @@ were_refused tells faults n k before mid after logs (Damaged m at) below are cou
     votes = votes_on logs;
     found = are_found tells faults before logs m are (count ∙ sym is.0);
   },
+  λ j l. ⊎_elim
+      (λ (e : j ≡ k). ap after.faults e ∙ (is.3 ∙ same) ∙ ap before.faults (sym e))
+      (λ (apart : j ≢ k). (above j (omega (arith, l, count, apart))).1)
+      (cases_eq j k),
 )
-were_refused tells faults n k before mid after logs (LogFull m len) below are count told same is = absurd is
-were_refused tells faults n k before mid after logs (Disagree a b p) below are count told same is = absurd is
-were_refused tells faults n k before mid after logs (Foreign m p) below are count told same is = absurd is
-were_refused tells faults n k before mid after logs AgesUsedUp below are count told same is = absurd is
+were_refused tells faults n k before mid after logs (LogFull m len) below are count told same above is = absurd is
+were_refused tells faults n k before mid after logs (Disagree a b p) below are count told same above is = absurd is
+were_refused tells faults n k before mid after logs (Foreign m p) below are count told same above is = absurd is
+were_refused tells faults n k before mid after logs AgesUsedUp below are count told same above is = absurd is
 
 -- so the next age was not opened, where the disks of the others are as they were then
 pub refused_stop : (script : Script) (k : ℕ) (before mid after : YardState) (stop : Stop)
@@ -238,11 +257,16 @@ pub refused_stop : (script : Script) (k : ℕ) (before mid after : YardState) (s
     → WereRefused script.members k before mid stop → HasStopped script before after stop
 refused_stop script k before mid after OutOfMemory later back is = tt
 refused_stop script k before mid after (DiskFault m) later back is =
-    record { below = is.below; rose = le_trans is.rose (later m) }
+    record {
+      below = is.1.below;
+      rose = le_trans is.1.rose (later m);
+      at = in_mount is.1.lists is.1.votes is.1.found
+          (λ j l. back j (omega (arith, l, is.0)) ∙ (is.1.above j l).0);
+    }
 refused_stop script k before mid after (Damaged m at) later back is = record {
   below = is.1.below;
   damaged = is.1.damaged;
-  kept = back m is.0 ∙ is.1.kept;
+  kept = back m (omega (arith, is.0)) ∙ is.1.kept;
   lists = is.1.lists;
   votes = is.1.votes;
   found = is.1.found;
@@ -251,3 +275,56 @@ refused_stop script k before mid after (LogFull m len) later back is = absurd is
 refused_stop script k before mid after (Disagree a b p) later back is = absurd is
 refused_stop script k before mid after (Foreign m p) later back is = absurd is
 refused_stop script k before mid after AgesUsedUp later back is = absurd is
+
+-- so many were mounted then
+pub refused_mounted : (n k : ℕ) (before after : YardState) (stop : Stop) → WereRefused n k before after stop
+    → HasMounted n k stop
+refused_mounted n k before after OutOfMemory is = tt
+refused_mounted n k before after (DiskFault m) is = inl (sym is.0)
+refused_mounted n k before after (Damaged m at) is = sym is.0
+refused_mounted n k before after (LogFull m len) is = absurd is
+refused_mounted n k before after (Disagree a b p) is = absurd is
+refused_mounted n k before after (Foreign m p) is = absurd is
+refused_mounted n k before after AgesUsedUp is = absurd is
+
+-- and all where what stopped the opening came later
+pub stopped_mounted : (n k : ℕ) (stop : Stop) → k ≡ n → IsBehindMounts stop → HasMounted n k stop
+stopped_mounted n k OutOfMemory all is = tt
+stopped_mounted n k (DiskFault m) all is = inr all
+stopped_mounted n k (Damaged m at) all is = absurd is
+stopped_mounted n k (LogFull m len) all is = all
+stopped_mounted n k (Disagree a b p) all is = all
+stopped_mounted n k (Foreign m p) all is = all
+stopped_mounted n k AgesUsedUp all is = all
+
+-- ---- whose calls failed
+
+-- of a disk that is back under its log as it was mounted none did, and those behind them have counted what they had
+-- once the mounts had stopped
+pub refused_names : (n k : ℕ) (before mid after : YardState) (stop : Stop)
+    → ((m : ℕ) → m < k → after.faults m ≡ before.faults m) → ((m : ℕ) → k ≤ m → after.faults m ≡ mid.faults m)
+    → WereRefused n k before mid stop → NamesFaults stop before after
+refused_names n k before mid after OutOfMemory low high is = tt
+refused_names n k before mid after (DiskFault m) low high is = λ j apart. elim (cases_lt j k) [
+  | inl l ↦ low j l
+  | inr past ↦ high j past ∙ (is.1.above j (omega (arith, past, is.0, apart))).1
+]
+refused_names n k before mid after (Damaged m at) low high is = λ j. elim (cases_lt j k) [
+  | inl l ↦ low j l
+  | inr past ↦ high j past ∙ is.2 j past
+]
+refused_names n k before mid after (LogFull m len) low high is = absurd is
+refused_names n k before mid after (Disagree a b p) low high is = absurd is
+refused_names n k before mid after (Foreign m p) low high is = absurd is
+refused_names n k before mid after AgesUsedUp low high is = absurd is
+
+-- where none did, no stop names one in vain
+pub names_none : (stop : Stop) (before after : YardState) → ((m : ℕ) → after.faults m ≡ before.faults m)
+    → NamesFaults stop before after
+names_none OutOfMemory before after same = tt
+names_none (DiskFault m) before after same = λ j apart. same j
+names_none (LogFull m len) before after same = same
+names_none (Damaged m at) before after same = same
+names_none (Disagree a b p) before after same = same
+names_none (Foreign m p) before after same = same
+names_none AgesUsedUp before after same = same

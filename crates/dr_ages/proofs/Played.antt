@@ -1,13 +1,13 @@
 -- An age that was run over logs that were mounted and brought up to its start.
-use Rattle.std.proofs.Common.{◌≡◌, ◌⊎◌, refl, sym, ap, ◌∙◌, subst, ℕ, ◌+◌, ◌^◌, ◌<◌, inl, inr, arith, List, [], ◌∷◌, ◌++◌, length, length-append, take, get_or, append-nil}
+use Rattle.std.proofs.Common.{◌≡◌, ◌≢◌, ◌⊎◌, refl, sym, ap, ◌∙◌, subst, ℕ, ◌+◌, ◌^◌, ◌<◌, inl, inr, arith, le_refl, List, [], ◌∷◌, ◌++◌, length, length-append, take, get_or, append-nil}
 use Rattle.std.specs.Prelude.{All, IfOk, OnErr, Option, None, Some, Result, Ok, Err, is_some, option_map, slice_get}
 use Rattle.std.specs.Option.{option_map_or}
 use Rattle.std.proofs.lemmas.List.{append_cancel_left}
-use Rattle.std.proofs.lemmas.Option.{slice_get-get_or, slice_get-map, slice_get_within}
+use Rattle.std.proofs.lemmas.Option.{same_Some, slice_get-get_or, slice_get-map, slice_get_within}
 use Rattle.dr_complete.specs.Time.{HasTime}
 use Rattle.dr_disk.specs.Disk.{Told}
 use Rattle.dr_disk.specs.Images.{Goes, IsLeft}
-use Rattle.dr_disk.proofs.Moments.{Goes-last}
+use Rattle.dr_disk.proofs.Moments.{Goes-weaken, stays_at}
 use Rattle.dr_entry.specs.declared.end.AgeEnd.{AgeEnd}
 use Rattle.dr_entry.specs.declared.end.End.{End}
 use Rattle.dr_entry.specs.declared.end.End.TheVariants as ends
@@ -25,6 +25,7 @@ use Rattle.dr_history.specs.History.{IsPrefixOf}
 use Rattle.dr_history.specs.Order.{first_entries}
 use Rattle.dr_history_laws.proofs.Lists.{slice_get-some}
 use Rattle.dr_io.specs.Faults.{Rose}
+use Rattle.dr_log.proofs.Growing.{short_log_length}
 use Rattle.dr_log.specs.Standing.{IsBeforeOrAfter, LosesNone, StandsFor, block_length, log_length}
 use Rattle.dr_log.specs.State.{LogState}
 use Rattle.dr_logged.specs.Served.{BrokeOff, HasCome, IsFull, IsNext, IsSafe, WentSo}
@@ -40,7 +41,6 @@ use Rattle.dr_restart.specs.Setups.{crashes_of}
 use Rattle.dr_script.specs.declared.script.Script.{Script}
 use Rattle.dr_script.specs.Ranges.{HasRanges}
 use Rattle.dr_age.specs.Logged.{AreAsBefore, AreCalm, AreOpened, HaveCome, HaveVoted, IsAmple, NoneFull, NoneStopped, why_ended}
-use Rattle.dr_age.proofs.Ends.{long_log}
 use Rattle.dr_threads.specs.Logs.{AreLonger}
 use Rattle.dr_yard.specs.Yards.{YardState}
 use Rattle.dr_ages.specs.declared.mode.Mode.{Mode}
@@ -50,12 +50,13 @@ use Rattle.dr_ages.specs.Found.{AreFew}
 use Rattle.dr_ages.specs.Left.{HasLeft, IsFullAt}
 use Rattle.dr_ages.specs.Lent.{AreMounted, IsMounted, with_logs}
 use Rattle.dr_ages.specs.Opened.{AreCaughtUp, AreLater, IsCaughtUp, IsLater}
-use Rattle.dr_ages.proofs.Backs.{faults_at, passed_with, told_at}
-use Rattle.dr_ages.proofs.Caught.{caught_later, caught_long, goes_tells, grown_long}
+use Rattle.dr_ages.specs.Passing.{AreKeptSince}
+use Rattle.dr_ages.proofs.Backs.{faults_at, kept_back, passed_with, told_at}
+use Rattle.dr_ages.proofs.Caught.{caught_later, caught_long, grown_long}
 use Rattle.dr_ages.proofs.Chain.{passes_none}
 use Rattle.dr_ages.proofs.Fresh.{first_valid, start_small}
 use Rattle.dr_ages.proofs.Loans.{are_found, votes_at, votes_on}
-use Rattle.dr_ages.proofs.Staying.{fewer_kept, lasts_left, later_then, left_so}
+use Rattle.dr_ages.proofs.Staying.{alike_same, fewer_kept, goes_tells, lasts_goes, later_then}
 use Rattle.dr_ages.proofs.Votes.{few_cast}
 
 -- logs that were all brought up to a start are those with which its age opens
@@ -86,7 +87,7 @@ come_on told faults base log banks history logged votes why come = record {
   tells = goes_tells (told base.disk) (told log.disk) (λ s. LosesNone base.entries base.votes) come.moments;
   later = come.later;
   stays = λ es vs part kept left.
-      lasts_left (told base.disk) (told log.disk) (LosesNone es vs) (come.lasting es vs) left;
+      lasts_goes (told base.disk) (told log.disk) (LosesNone es vs) (come.lasting es vs) left;
 }
 
 pub later_by_come : {D : Type 0} (told : D → Option Told) (faults : D → ℕ) (olds news : List (LogState D))
@@ -107,7 +108,8 @@ later_by_calm told faults olds news kept calm m old new there here =
       votes = ([], append-nil old.votes ∙ sym is.votes);
       tells = ap (λ o. is_some o) (sym still.0);
       later = omega (arith, still.1);
-      stays = λ es vs part had left. subst (λ (o : Option Told). IsLeft o (LosesNone es vs)) (sym still.0) left;
+      stays = λ es vs part had left. subst (λ (o : Option Told). Goes (told old.disk) o (λ s. LosesNone es vs))
+          (sym still.0) (stays_at (told old.disk) (λ s. LosesNone es vs) left);
     }
 
 pub later_by_longer : {D : Type 0} (told : D → Option Told) (faults : D → ℕ) (olds news : List (LogState D))
@@ -132,12 +134,13 @@ later_by_longer told faults olds news longer m old new there here =
         → IsLeft (told old.disk) (LosesNone es vs)
         → (told new.disk ≡ told old.disk)
         ⊎ Goes (told old.disk) (told new.disk) (λ s. LosesNone old.entries old.votes)
-        → IsLeft (told new.disk) (LosesNone es vs)
-    stays es vs part kept left (inl same) = subst (λ (o : Option Told). IsLeft o (LosesNone es vs)) (sym same) left
+        → Goes (told old.disk) (told new.disk) (λ s. LosesNone es vs)
+    stays es vs part kept left (inl same) =
+        subst (λ (o : Option Told). Goes (told old.disk) o (λ s. LosesNone es vs)) (sym same)
+        (stays_at (told old.disk) (λ s. LosesNone es vs) left)
     stays es vs part kept left (inr goes) =
-        left_so (told new.disk) (LosesNone old.entries old.votes) (LosesNone es vs)
-        (λ image. fewer_kept es old.entries vs old.votes image part kept)
-        (Goes-last (told old.disk) (told new.disk) (LosesNone old.entries old.votes) goes)
+        Goes-weaken (told old.disk) (told new.disk) (λ s. LosesNone old.entries old.votes) (λ s. LosesNone es vs)
+        (λ s image. fewer_kept es old.entries vs old.votes image part kept) goes
 
 -- an age ran as its mode says, and the votes on its logs are those of its members
 abbrev pub RanWith : {D : Type 0} → Script → Start → ℕ → AgeEnd → Mode → List (LogState D) → List (LogState D)
@@ -328,6 +331,7 @@ is_age {D} tells faults script mode nth before start olds mids news age w = reco
       (take e.logged e.history)) same (opened m e at);
   left = left;
   failed = failed;
+  calm = calm;
   full = full;
   ample = λ few. w.ample (λ k d l. ample few k d l);
   passes = passed_with tells faults before before olds news w.mounted
@@ -335,6 +339,13 @@ is_age {D} tells faults script mode nth before start olds mids news age w = reco
       (caught_later tells faults (opened_with start start.members) olds mids (length olds) w.caught)
       (later_by_come tells faults mids news age.members w.members w.come)) (w.count ∙ w.caught.all)
       (λ m past. passes_none before m);
+  since = subst (λ (k : ℕ). AreKeptSince script.members k before (with_logs tells faults before news)) w.all
+      (kept_back tells faults script.members before before (with_logs tells faults before news) olds news w.mounted
+      (later_on tells faults olds mids news w.caught.all
+      (caught_later tells faults (opened_with start start.members) olds mids (length olds) w.caught)
+      (later_by_come tells faults mids news age.members w.members w.come)) (w.count ∙ w.caught.all)
+      (λ m past. alike_same (before.told m) (before.told m) (before.faults m) (before.faults m) refl
+      (le_refl (before.faults m))) (λ m. (refl, refl)));
 }
   where
     same : start ≡ start_of script age
@@ -405,6 +416,35 @@ is_age {D} tells faults script mode nth before start olds mids news age w = reco
         (rose_since (before.faults m) (faults x.mid.disk) (faults x.new.disk)
         (omega (arith, x.mounted.on.later, x.caught.0.calm)) went.2.rose)
 
+    -- a member that its disk has not ended was ended by no fault
+    unless_disk : (end : End) → end ≢ ends.DiskFault → why_ended end ≢ Some logs.DiskFault
+    unless_disk ends.DiskFault other = absurd (other refl)
+    unless_disk (ends.LogFull len) other = λ e. absurd (cc e)
+    unless_disk ends.Done other = λ e. absurd (cc e)
+    unless_disk ends.Crashed other = λ e. absurd (cc e)
+    unless_disk (ends.Suspected by) other = λ e. absurd (cc e)
+    unless_disk (ends.Excluded view) other = λ e. absurd (cc e)
+    unless_disk (ends.NoMajority mask) other = λ e. absurd (cc e)
+    unless_disk (ends.Spent turns) other = λ e. absurd (cc e)
+
+    calm : (m : ℕ) → ((e : MemberEnd) → slice_get age.members m ≡ Some e → e.end ≢ ends.DiskFault)
+        → (with_logs tells faults before news).faults m ≡ before.faults m
+    calm m other = by (slice_get news m) refl
+      where
+        by : (o : Option (LogState D)) → slice_get news m ≡ o
+            → option_map_or (λ (log : LogState D). faults log.disk) o (before.faults m) ≡ before.faults m
+        by None at = refl
+        by (Some new) at =
+            let e = slice_get-some age.members m (omega (
+              arith,
+              slice_get_within news m new at,
+              w.count,
+              w.members,
+            )) in
+            let x = one m e.0 e.1 in
+            ap (λ (log : LogState D). faults log.disk) (same_Some new x.new (sym at ∙ x.to))
+            ∙ (x.come.calm (unless_disk e.0.end (other e.0 e.1)) ∙ (x.caught.0.calm ∙ x.mounted.calm))
+
     full : (m : ℕ) (e : MemberEnd) (len : ℕ) → slice_get age.members m ≡ Some e → e.end ≡ ends.LogFull len
         → IsFullAt script.members e (votes_on olds m) (cast m) len
     full m e len at end =
@@ -440,9 +480,7 @@ is_age {D} tells faults script mode nth before start olds mids news age w = reco
             is,
             ap length up.0.entries,
             length-append start.entries (View start.age 0 start.members ∷ []),
-            long_log [] whole (votes_on olds k)
-                (first_valid script (entries_on olds) start w.ranges.group w.starts)
-                (λ k d l. (votes.valid k d l).members),
+            short_log_length whole (first_valid script (entries_on olds) start w.ranges.group w.starts),
             votes.few,
             up.0.limit,
             (w.mounted k old.0 old.1).limit,

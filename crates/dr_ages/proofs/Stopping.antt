@@ -1,6 +1,9 @@
 -- Why the opening of an age stopped.
-use Rattle.std.proofs.Common.{◌≡◌, ◌≢◌, refl, sym, ap, ◌∙◌, subst, ℕ, ◌^◌, ◌<◌, List, length, arith}
-use Rattle.std.specs.Prelude.{IsErrOf, Option, Result, Err, Some, slice_get, slice_set}
+use Rattle.std.proofs.Common.{◌≡◌, ◌≢◌, refl, sym, ap, ◌∙◌, subst, inl, inr, ℕ, ◌^◌, ◌<◌, ◌≤◌, List, length, arith}
+use Rattle.std.specs.Prelude.{IsErrOf, Option, Result, Err, None, Some, slice_get, slice_set}
+use Rattle.std.specs.Option.{option_map_or}
+use Rattle.std.proofs.lemmas.Bool.{cases_eq, cases_lt}
+use Rattle.std.proofs.lemmas.Option.{same_Some, slice_get_within}
 use Rattle.dr_disk.specs.Disk.{Told}
 use Rattle.dr_disk.specs.Images.{IsLeft}
 use Rattle.dr_entry.specs.declared.entry.Entry.{Entry}
@@ -13,10 +16,11 @@ use Rattle.dr_gather.specs.CatchingUp.{FitsOrIsFull, HasStayed, IsLeftAlone, lac
 use Rattle.dr_gather.specs.Gathering.{AreUsedUp, IsStartOf, entries_on, judged_by}
 use Rattle.dr_gather.proofs.Catching.{rose_since}
 use Rattle.dr_history.specs.Restarting.{AreSound, IsFirstDisagreement, IsFirstForeign}
+use Rattle.dr_history_laws.proofs.Lists.{slice_get-some}
 use Rattle.dr_io.specs.Faults.{Rose}
 use Rattle.dr_log.specs.Standing.{StandsFor, entries_length, log_length}
 use Rattle.dr_log.specs.State.{LogState}
-use Rattle.dr_program.proofs.Holdings.{replica_set}
+use Rattle.dr_program.proofs.Holdings.{replica_kept, replica_set}
 use Rattle.dr_restart.specs.declared.start.Start.{Start}
 use Rattle.dr_script.specs.declared.script.Script.{Script}
 use Rattle.dr_yard.specs.Yards.{YardState}
@@ -24,7 +28,8 @@ use Rattle.dr_ages.specs.declared.stop.Stop.{Stop}
 use Rattle.dr_ages.specs.declared.stop.Stop.TheVariants.{OutOfMemory, DiskFault, LogFull, Disagree, Foreign, AgesUsedUp}
 use Rattle.dr_ages.specs.Found.{AreFound}
 use Rattle.dr_ages.specs.Lent.{AreMounted, with_logs}
-use Rattle.dr_ages.specs.Stops.{HasStopped}
+use Rattle.dr_ages.specs.Opened.{AreCaughtUp}
+use Rattle.dr_ages.specs.Stops.{HasStopped, IsBehindMounts, NamesFaults, WereCaughtUp, in_start, whole_length}
 use Rattle.dr_ages.proofs.Backs.{faults_at, told_at}
 use Rattle.dr_ages.proofs.Caught.{entries_at}
 use Rattle.dr_ages.proofs.Loans.{are_found, votes_at, votes_on}
@@ -65,6 +70,40 @@ pub record IsBroughtUp {D : Type 0} (tells : D → Option Told) (faults : D → 
   pub small : start.age < 2 ^ 16
   pub from : slice_get olds k ≡ Some old
   pub within : k < length news
+  pub so_far : AreCaughtUp tells faults (opened_with start start.members) olds news k
+
+-- the first of the logs were brought up to the start
+were_caught : {D : Type 0} (tells : D → Option Told) (faults : D → ℕ) (script : Script) (before : YardState)
+    (start : Start) (olds news : List (LogState D)) (k : ℕ) (old new : LogState D)
+    → IsBroughtUp tells faults script before start olds news k old
+    → WereCaughtUp script (with_logs tells faults before (slice_set news k new)) (entries_on olds) (votes_on olds)
+    start k
+were_caught {D} tells faults script before start olds news k old new b = record {
+  room = λ m es l at.
+      let was = slice_get-some olds m (omega (arith, l, b.below, b.all)) in
+      let is = slice_get-some news m (omega (arith, l, b.within)) in
+      let same : was.0.entries ≡ es = same_Some was.0.entries es (sym (entries_at olds m was.0 was.1) ∙ at) in
+      let up = b.so_far.done m was.0 is.0 l was.1 is.1 in
+      subst (λ (x : List Entry). whole_length script start x (votes_on olds m) ≤ 2147483648) same
+      (subst (λ (vs : List Vote). whole_length script start was.0.entries vs ≤ 2147483648)
+      (sym (votes_at olds m was.0 was.1))
+      (omega (arith, up.2, (b.mounted m was.0 was.1).long, (b.mounted m was.0 was.1).limit)));
+  left = λ m l.
+      let was = slice_get-some olds m (omega (arith, l, b.below, b.all)) in
+      let is = slice_get-some news m (omega (arith, l, b.within)) in
+      let up = b.so_far.done m was.0 is.0 l was.1 is.1 in
+      let here : slice_get (slice_set news k new) m ≡ Some is.0 =
+      replica_kept news k m new (λ e. omega (arith, l, e)) ∙ is.1 in
+      let votes : is.0.votes ≡ votes_on olds m = up.0.votes ∙ sym (votes_at olds m was.0 was.1) in
+      subst (λ (o : Option Told). IsLeft o (λ image. StandsFor image whole (votes_on olds m)))
+      (sym (told_at tells faults before (slice_set news k new) m is.0 here))
+      (subst (λ (vs : List Vote). IsLeft (tells is.0.disk) (λ image. StandsFor image whole vs)) votes
+      (subst (λ (es : List Entry). IsLeft (tells is.0.disk) (λ image. StandsFor image es is.0.votes)) up.0.entries
+      up.0.safe));
+}
+  where
+    whole : List Entry
+    whole = opened_with start start.members
 
 pub catch_stops : {D : Type 0} (T : Type 0) (tells : D → Option Told) (faults : D → ℕ) (script : Script)
     (before : YardState) (start : Start) (olds news : List (LogState D)) (k : ℕ) (old new : LogState D)
@@ -89,6 +128,9 @@ catch_stops {D} T tells faults script before start olds news k old new catches.D
           (sym (faults_at tells faults before logs k new (replica_set news k new b.within)))
           (rose_since (before.faults k) (faults old.disk) (faults new.disk) (b.mounted k old b.from).on.later
           (cause refl));
+      at = in_start (entries_on olds) (votes_on olds) start
+          (are_found tells faults before olds script.members b.mounted b.all) b.starts b.small
+          (were_caught tells faults script before start olds news k old new b);
     })
 catch_stops {D} T tells faults script before start olds news k old new (catches.LogFull len) stop b stayed alone
     cause limit to_memory to_disk to_full =
@@ -108,9 +150,80 @@ catch_stops {D} T tells faults script before start olds news k old new (catches.
       entries = old.entries;
       has = entries_at olds k old b.from;
       long = limit.0 ∙ is.long ∙ ap (log_length old.entries) (sym votes);
-      over = omega (arith, limit.0, limit.1, is.limit);
+      over = subst (λ (vs : List Vote). 2147483648 < whole_length script start old.entries vs) (sym votes)
+          (omega (arith, limit.1, is.long, is.limit));
+      first = were_caught tells faults script before start olds news k old new b;
       left = subst (λ (o : Option Told). IsLeft o (λ image. StandsFor image old.entries (votes_on olds k)))
           (sym (told_at tells faults before logs k new (replica_set news k new b.within)))
           (subst (λ (vs : List Vote). IsLeft (tells new.disk) (λ image. StandsFor image old.entries vs)) (sym votes)
           safe);
     })
+
+-- ---- whose calls failed
+
+-- but for the log at which the opening stopped no count has changed
+pub counts_so_far : {D : Type 0} (tells : D → Option Told) (faults : D → ℕ) (before : YardState) (whole : List Entry)
+    (olds news : List (LogState D)) (k : ℕ) (new : LogState D) → AreMounted tells faults before olds
+    → AreCaughtUp tells faults whole olds news k → (m : ℕ) → m ≢ k
+    → (with_logs tells faults before (slice_set news k new)).faults m ≡ before.faults m
+counts_so_far {D} tells faults before whole olds news k new mounted so_far m apart =
+    by (slice_get (slice_set news k new) m) refl
+  where
+    by : (o : Option (LogState D)) → slice_get (slice_set news k new) m ≡ o
+        → option_map_or (λ (log : LogState D). faults log.disk) o (before.faults m) ≡ before.faults m
+    by None at = refl
+    by (Some log) at =
+        let here : slice_get news m ≡ Some log = sym (replica_kept news k m new apart) ∙ at in
+        let was = slice_get-some olds m (omega (arith, slice_get_within news m log here, so_far.all)) in
+        elim (cases_lt m k) [
+          | inl below ↦
+              (so_far.done m was.0 log below was.1 here).0.calm ∙ (mounted m was.0 was.1).calm
+          | inr above ↦ (mounted m log (sym (so_far.others m above) ∙ here)).calm
+        ]
+
+pub catch_names : {D : Type 0} (tells : D → Option Told) (faults : D → ℕ) (before : YardState) (whole : List Entry)
+    (olds news : List (LogState D)) (k : ℕ) (old new : LogState D) (fault : CatchFault) (stop : Stop)
+    → AreMounted tells faults before olds → AreCaughtUp tells faults whole olds news k → slice_get olds k ≡ Some old
+    → k < length news → (fault ≢ catches.DiskFault → IsLeftAlone tells faults old new)
+    → (fault ≡ catches.OutOfMemory → stop ≡ OutOfMemory) → (fault ≡ catches.DiskFault → stop ≡ DiskFault k)
+    → ((len : ℕ) → fault ≡ catches.LogFull len → stop ≡ LogFull k len)
+    → NamesFaults stop before (with_logs tells faults before (slice_set news k new))
+catch_names tells faults before whole olds news k old new catches.OutOfMemory stop mounted so_far from within alone
+    to_memory to_disk to_full =
+    subst (λ (s : Stop). NamesFaults s before (with_logs tells faults before (slice_set news k new)))
+    (sym (to_memory refl)) tt
+catch_names tells faults before whole olds news k old new catches.DiskFault stop mounted so_far from within alone
+    to_memory to_disk to_full =
+    subst (λ (s : Stop). NamesFaults s before (with_logs tells faults before (slice_set news k new)))
+    (sym (to_disk refl)) (counts_so_far tells faults before whole olds news k new mounted so_far)
+catch_names tells faults before whole olds news k old new (catches.LogFull len) stop mounted so_far from within alone
+    to_memory to_disk to_full =
+    subst (λ (s : Stop). NamesFaults s before (with_logs tells faults before (slice_set news k new)))
+    (sym (to_full len refl)) (λ m. elim (cases_eq m k) [
+      | inl at ↦
+          let still = (alone (λ e. absurd (cc e))).calm in
+          let there = faults_at tells faults before (slice_set news k new) m new
+          (ap (slice_get (slice_set news k new)) at ∙ replica_set news k new within) in
+          there ∙ (still ∙ ((mounted k old from).calm ∙ ap before.faults (sym at)))
+      | inr apart ↦ counts_so_far tells faults before whole olds news k new mounted so_far m apart
+    ])
+
+-- ---- what stops an opening once all disks are mounted
+
+pub gather_behind : (fault : GatherFault) (stop : Stop) → (fault ≡ gathers.OutOfMemory → stop ≡ OutOfMemory)
+    → ((m p : ℕ) → fault ≡ gathers.Foreign m p → stop ≡ Foreign m p)
+    → ((a b p : ℕ) → fault ≡ gathers.Disagree a b p → stop ≡ Disagree a b p)
+    → (fault ≡ gathers.AgesUsedUp → stop ≡ AgesUsedUp) → IsBehindMounts stop
+gather_behind gathers.OutOfMemory stop memory foreign differ up = subst IsBehindMounts (sym (memory refl)) tt
+gather_behind (gathers.Foreign m p) stop memory foreign differ up =
+    subst IsBehindMounts (sym (foreign m p refl)) tt
+gather_behind (gathers.Disagree a b p) stop memory foreign differ up =
+    subst IsBehindMounts (sym (differ a b p refl)) tt
+gather_behind gathers.AgesUsedUp stop memory foreign differ up = subst IsBehindMounts (sym (up refl)) tt
+
+pub catch_behind : (fault : CatchFault) (stop : Stop) (k : ℕ) → (fault ≡ catches.OutOfMemory → stop ≡ OutOfMemory)
+    → (fault ≡ catches.DiskFault → stop ≡ DiskFault k)
+    → ((len : ℕ) → fault ≡ catches.LogFull len → stop ≡ LogFull k len) → IsBehindMounts stop
+catch_behind catches.OutOfMemory stop k memory disk full = subst IsBehindMounts (sym (memory refl)) tt
+catch_behind catches.DiskFault stop k memory disk full = subst IsBehindMounts (sym (disk refl)) tt
+catch_behind (catches.LogFull len) stop k memory disk full = subst IsBehindMounts (sym (full len refl)) tt

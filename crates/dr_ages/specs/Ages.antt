@@ -1,5 +1,5 @@
 -- The ages of a run.
-use Rattle.std.specs.Prelude.{◌≡◌, ℕ, ◌+◌, ◌-◌, ◌*◌, ◌^◌, ◌<◌, ◌≤◌, List, [], ◌∷◌, length, slice_get, take, Some}
+use Rattle.std.specs.Prelude.{◌≡◌, ◌≢◌, ℕ, ◌+◌, ◌-◌, ◌*◌, ◌^◌, ◌<◌, ◌≤◌, List, [], ◌∷◌, length, slice_get, take, Some}
 use Rattle.std.specs.Option.{option_map_or}
 use Rattle.dr_complete.specs.Time.{HasTime}
 use Rattle.dr_entry.specs.declared.end.AgeEnd.{AgeEnd}
@@ -29,7 +29,7 @@ use Rattle.dr_ages.specs.declared.mode.Mode.{Mode}
 use Rattle.dr_ages.specs.declared.mode.Mode.TheVariants.{Sim, Run}
 use Rattle.dr_ages.specs.Found.{AreFew, AreFound}
 use Rattle.dr_ages.specs.Left.{HasLeft, IsFullAt}
-use Rattle.dr_ages.specs.Passing.{PassOn}
+use Rattle.dr_ages.specs.Passing.{AreKeptSince, PassOn}
 
 -- the start that the end of an age tells: the whole roster takes part
 abbrev pub start_of : Script → AgeEnd → Start
@@ -86,15 +86,18 @@ pub record IsAgeOf (script : Script) (mode : Mode) (nth : ℕ) (before after : Y
   -- whatever a crash leaves of each disk is what its member may leave, behind the votes that were found
   pub left : (m : ℕ) (e : MemberEnd) → slice_get age.members m ≡ Some e
       → HasLeft (after.told m) script.members e (votes m) (cast m)
-  -- who ends by its disk has one that failed, and who ends by a full log has one
+  -- who ends by its disk has one that failed, no call of another disk did, and who ends by a full log has one
   pub failed : (m : ℕ) (e : MemberEnd) → slice_get age.members m ≡ Some e → e.end ≡ DiskFault
       → Rose (before.faults m) (after.faults m)
+  pub calm : (m : ℕ) → ((e : MemberEnd) → slice_get age.members m ≡ Some e → e.end ≢ DiskFault)
+      → after.faults m ≡ before.faults m
   pub full : (m : ℕ) (e : MemberEnd) (len : ℕ) → slice_get age.members m ≡ Some e → e.end ≡ LogFull len
       → IsFullAt script.members e (votes m) (cast m) len
   -- logs with few votes have room for all that an age may bring
   pub ample : ((m : ℕ) → m < script.members → AreFew (votes m)) → NoneFull age.members
-  -- no disk has lost anything
+  -- no disk has lost anything, nor would a crash have lost what was on one as the age mounted it
   pub passes : PassOn before after
+  pub since : AreKeptSince script.members script.members before after
 
 -- these ages came one after the other, the first of them as number nth of the run
 abbrev pub AreAges : Script → Mode → ℕ → YardState → List AgeEnd → YardState → Type 0

@@ -3,16 +3,21 @@ use Rattle.std.specs.Prelude.{◌≡◌, ⊤, ℕ, ◌<◌, ◌≤◌, Bool, nat
 use Rattle.std.specs.Option.{option_map_or}
 use Rattle.dr_disk.specs.Calls.{Sync}
 use Rattle.dr_disk.specs.Disk.{Told, added}
+use Rattle.dr_disk.specs.Images.{Goes}
+use Rattle.dr_entry.specs.declared.entry.Entry.{Entry}
 use Rattle.dr_entry.specs.declared.limits.TheConstants.{MAX_MEMBERS}
+use Rattle.dr_entry.specs.declared.record.Vote.{Vote}
 use Rattle.dr_io.specs.Faults.{Rose}
+use Rattle.dr_log.specs.Appending as mounts
+use Rattle.dr_log.specs.Standing.{KeepsRecords}
 use Rattle.dr_log.specs.Standing.{log_length}
 use Rattle.dr_log.specs.State.{LogState}
+use Rattle.dr_logged.specs.Served.{IsSafe}
 use Rattle.dr_yard.specs.Yards.{YardState}
 use Rattle.dr_ages.specs.declared.stop.Stop.{Stop}
 use Rattle.dr_ages.specs.declared.stop.Stop.TheVariants.{OutOfMemory, DiskFault, Damaged}
-use Rattle.dr_ages.specs.Found.{ReadsAs}
-use Rattle.dr_ages.specs.Passing.{GoesOn}
-use Rattle.dr_ages.specs.Stops.{HasDamaged, HasFailed, ReadsDamaged}
+use Rattle.dr_ages.specs.Found.{AreFound, ReadsAs}
+use Rattle.dr_ages.specs.Stops.{HasDamaged, ReadsDamaged}
 
 -- the disks of the first members are lent, and stand under these logs, by number; a disk has counted no fewer
 -- faults than the yard has
@@ -23,14 +28,24 @@ pub record AreLent {Y D : Type 0} (is_lent : Y → ℕ → Bool) (yard_faults : 
   pub counted : (m : ℕ) (log : LogState D) → slice_get logs m ≡ Some log
       → yard_faults yard m ≤ faults log.disk
 
--- a log was mounted from a disk that told so and had counted so many faults: it is what was read
+-- a disk that told so, and had counted so many faults, counts no fewer, and at each moment since a crash
+-- would have left what it might have left before, as far as records go
+pub record IsAlike (told : Option Told) (count : ℕ) (now : Option Told) (faults : ℕ) : Type 0 where
+  pub moments : Goes told now KeepsRecords
+  pub later : count ≤ faults
+
+-- a log was mounted from a disk that told so and had counted so many faults, and counted no other in it: it
+-- is what was read, and safe
 pub record IsMounted {D : Type 0} (tells : D → Option Told) (faults : D → ℕ) (told : Option Told) (count : ℕ)
     (log : LogState D) : Type 0 where
   pub found : IfSome told (ReadsAs log.entries log.votes)
+  pub safe : IsSafe tells log
   pub long : log.length ≡ log_length log.entries log.votes
   pub limit : log.limit ≡ 2147483648
   pub whole : log.failed ≡ false
-  pub on : GoesOn told count (tells log.disk) (faults log.disk)
+  pub on : IsAlike told count (tells log.disk) (faults log.disk)
+  pub calm : faults log.disk ≡ count
+  pub calls : mounts.IsMounted told (tells log.disk)
 
 -- these logs were mounted from the disks of a yard, by number
 abbrev pub AreMounted : {D : Type 0} → (D → Option Told) → (D → ℕ) → YardState → List (LogState D) → Type 0
@@ -50,12 +65,23 @@ abbrev pub WasRefused : ℕ → Option Told → Option Told → ℕ → ℕ → 
 WasRefused member told now before after OutOfMemory = ⊤
 WasRefused member told now before after (DiskFault m) = (m ≡ member) × Rose before after
 WasRefused member told now before after (Damaged m at) =
-    (m ≡ member) × IfSome told (ReadsDamaged at) × (now ≡ added Sync told)
+    (m ≡ member) × IfSome told (ReadsDamaged at) × (now ≡ added Sync told) × (after ≡ before)
 WasRefused member told now before after stop = ⊥
+
+-- the disk of one of the first n members failed as it was to be mounted behind those below it; those above it
+-- are as they were
+pub record IsKeptBack (n : ℕ) (before after : YardState) (member : ℕ) : Type 0 where
+  pub below : member < n
+  pub rose : Rose (before.faults member) (after.faults member)
+  pub lists : List (List Entry)
+  pub votes : ℕ → List Vote
+  pub found : AreFound member before lists votes
+  pub above : (m : ℕ) → member < m → (after.told m ≡ before.told m) × (after.faults m ≡ before.faults m)
 
 -- why the logs of the first n members were not all mounted, but those of the first k
 abbrev pub WereRefused : ℕ → ℕ → YardState → YardState → Stop → Type 0
 WereRefused n k before after OutOfMemory = ⊤
-WereRefused n k before after (DiskFault m) = HasFailed n before after m
-WereRefused n k before after (Damaged m at) = (k ≤ m) × HasDamaged n before after m at
+WereRefused n k before after (DiskFault m) = (m ≡ k) × IsKeptBack n before after m
+WereRefused n k before after (Damaged m at) = (m ≡ k) × HasDamaged n before after m at
+    × ((j : ℕ) → k ≤ j → after.faults j ≡ before.faults j)
 WereRefused n k before after stop = ⊥

@@ -5,5 +5,8 @@ pub mod Found
 pub mod Left
 pub mod Ages
 pub mod Stops
+pub mod Fit
+pub mod Crashed
+pub mod Refused
 pub mod Runs
 pub mod Watched

@@ -1,18 +1,24 @@
 -- What a run of ages is.
-use Rattle.std.specs.Prelude.{◌≡◌, ◌≢◌, ℕ, ◌+◌, ◌<◌, All, List, [], length, slice_get, take, Option, None, Some, IfSome}
+use Rattle.std.specs.Prelude.{◌≡◌, ◌≢◌, ◌⊎◌, ℕ, ◌+◌, ◌<◌, All, List, [], ◌∷◌, ◌++◌, length, slice_get, take, Option, None, Some, IfSome, IsSomeAnd}
+use Rattle.dr_disk.specs.Images.{IsLeft}
 use Rattle.dr_entry.specs.declared.end.AgeEnd.{AgeEnd}
 use Rattle.dr_entry.specs.declared.end.MemberEnd.{MemberEnd}
 use Rattle.dr_history.specs.Agreement.{accounts_of}
 use Rattle.dr_history.specs.History.{IsPrefixOf}
 use Rattle.dr_history.specs.Restarting.{Kept}
+use Rattle.dr_log.specs.Standing.{LosesNone}
 use Rattle.dr_script.specs.declared.script.Script.{Script}
 use Rattle.dr_age.specs.Logged.{NoneFull}
 use Rattle.dr_yard.specs.Yards.{AllTell, AreEmpty, YardState}
 use Rattle.dr_ages.specs.declared.mode.Mode.{Mode}
 use Rattle.dr_ages.specs.declared.stop.Stop.{Stop}
+use Rattle.dr_ages.specs.declared.stop.Stop.TheVariants.{OutOfMemory, AgesUsedUp}
 use Rattle.dr_ages.specs.Ages.{AreAges, opening_of}
-use Rattle.dr_ages.specs.Passing.{PassOn}
-use Rattle.dr_ages.specs.Stops.{HasStopped, IsBadLogs, IsOutside}
+use Rattle.dr_ages.specs.Fit.{AreFit}
+use Rattle.dr_ages.specs.Found.{AreRoomy}
+use Rattle.dr_ages.specs.Passing.{AreKeptSince, PassOn}
+use Rattle.dr_ages.specs.Refused.{IsRefusal}
+use Rattle.dr_ages.specs.Stops.{HasMounted, HasStopped, IsBadLogs, IsOfLogs, IsOutside, NamesFaults}
 
 -- each age keeps the one before it, and begins with all that a member of any earlier one knew to be durable
 pub record AreKept (script : Script) (ages : List AgeEnd) : Type 0 where
@@ -30,12 +36,57 @@ pub record IsFreshRun (ages : List AgeEnd) (stop : Option Stop) : Type 0 where
   pub roomy : All (λ (age : AgeEnd). NoneFull age.members) ages
   pub stopped : IfSome stop IsOutside
 
+-- a run over fit disks: no log is refused, but where no age is left, and unless memory was wanting the disks
+-- are fit behind it
+pub record IsFitRun (script : Script) (after : YardState) (stop : Option Stop) : Type 0 where
+  pub never : IfSome stop (λ s. IsBadLogs s → ⊥)
+  pub fit : stop ≢ Some OutOfMemory → AreFit script after
+
+-- a run over fit disks whose logs leave room for it: no log is full, and what ends the run before its last
+-- age is want of memory or a disk
+pub record IsRoomyRun (ages : List AgeEnd) (stop : Option Stop) : Type 0 where
+  pub roomy : All (λ (age : AgeEnd). NoneFull age.members) ages
+  pub stopped : IfSome stop IsOutside
+
+-- the run was stopped by this, or by want of memory or a disk
+abbrev pub IsStoppedBy : Stop → Option Stop → Type 0
+IsStoppedBy due stop = IsSomeAnd stop (λ s. (s ≡ due) ⊎ IsOutside s)
+
+-- For what the logs of a run were refused, over disks that tell. In the first age it is the first thing for
+-- which they are refused as they read then. In a later age it is that no age is left, behind age 65,535. And
+-- where the logs are to be refused so they are, unless memory was wanting or a disk failed before.
+pub record IsRightlyRefused (script : Script) (before : YardState) (ages : List AgeEnd) (stop : Option Stop)
+    : Type 0 where
+  pub first : ages ≡ [] → IfSome stop (λ s. IsOfLogs s → IsRefusal script before s)
+  pub due : (s : Stop) → IsRefusal script before s → (ages ≡ []) × IsStoppedBy s stop
+  pub later : ages ≢ [] → IfSome stop (λ s. IsOfLogs s → s ≡ AgesUsedUp)
+  pub used_up : (earlier : List AgeEnd) (age : AgeEnd) → ages ≡ earlier ++ age ∷ [] → stop ≡ Some AgesUsedUp
+      → age.age ≡ 65535
+  pub no_more : (earlier : List AgeEnd) (age : AgeEnd) → ages ≡ earlier ++ age ∷ [] → age.age ≡ 65535
+      → (length ages ≡ script.ages) ⊎ IsStoppedBy AgesUsedUp stop
+
+-- What was on the disks as the first age mounted them, so many of them, no crash would have lost at any
+-- moment since then. All were mounted where that age ran.
+pub record IsKeptRun (script : Script) (before after : YardState) (ages : List AgeEnd) (stop : Option Stop)
+    : Type 0 where
+  pub mounted : ℕ
+  pub since : AreKeptSince script.members mounted before after
+  pub all : ages ≢ [] → mounted ≡ script.members
+  pub count : ages ≡ [] → IfSome stop (HasMounted script.members mounted)
+
+-- whatever a crash leaves of a disk behind the last of these ages begins with what its member has logged
+abbrev pub HaveLogged : List AgeEnd → YardState → Type 0
+HaveLogged ages after = (earlier : List AgeEnd) (age : AgeEnd) (m : ℕ) (e : MemberEnd)
+    → ages ≡ earlier ++ age ∷ [] → slice_get age.members m ≡ Some e
+    → IsLeft (after.told m) (LosesNone (take e.logged e.history) [])
+
 -- so many ages ran as the script asks for, or fewer, and this is why the next one was not opened, by which no
--- disk has lost anything
+-- disk has lost anything, and only the one that is named has failed
 abbrev pub HasFinished : Script → YardState → YardState → List AgeEnd → Option Stop → Type 0
 HasFinished script last after ages None = (length ages ≡ script.ages) × (last ≡ after)
 HasFinished script last after ages (Some stop) =
     (length ages < script.ages) × HasStopped script last after stop × PassOn last after
+    × NamesFaults stop last after
 
 -- these are the ages of a run of the script in this mode, over disks that were so before it and are so behind
 -- it, and this is why it ended before its last age, if it did
@@ -50,3 +101,12 @@ pub record IsRunOf (script : Script) (mode : Mode) (before after : YardState) (a
   pub kept : AllTell script.members before → AreKept script ages
   pub never : AllTell script.members before → ages ≢ [] → IfSome stop (λ s. IsBadLogs s → ⊥)
   pub fresh : AreEmpty script.members before → IsFreshRun ages stop
+  -- what was found on the disks, and what was logged in the last age, is kept
+  pub since : IsKeptRun script before after ages stop
+  pub logged : HaveLogged ages after
+  -- and fit disks stay fit
+  pub fit : AreFit script before → IsFitRun script after stop
+  -- all their ages are opened, where the logs leave room for them, unless memory is wanting or a disk fails
+  pub roomy : AreFit script before → AreRoomy script before → IsRoomyRun ages stop
+  -- and logs are refused for what is wrong with them, and for nothing else
+  pub refused : AllTell script.members before → IsRightlyRefused script before ages stop

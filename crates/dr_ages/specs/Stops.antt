@@ -1,5 +1,5 @@
 -- Why an age of a run was not opened.
-use Rattle.std.specs.Prelude.{◌≡◌, ⊤, ℕ, ◌+◌, ◌<◌, ◌^◌, List, length, drop, slice_get, Some, IfSome}
+use Rattle.std.specs.Prelude.{◌≡◌, ◌≢◌, ◌⊎◌, ⊤, ℕ, ◌+◌, ◌<◌, ◌≤◌, ◌^◌, List, length, drop, slice_get, Some, IfSome}
 use Rattle.dr_disk.specs.Calls.{Sync}
 use Rattle.dr_disk.specs.Disk.{Told, added, content_of}
 use Rattle.dr_disk.specs.Images.{IsLeft, ReadsAnImage}
@@ -18,14 +18,42 @@ use Rattle.dr_yard.specs.Yards.{YardState}
 use Rattle.dr_ages.specs.declared.stop.Stop.{Stop}
 use Rattle.dr_ages.specs.declared.stop.Stop.TheVariants.{OutOfMemory, DiskFault, LogFull, Damaged, Disagree, Foreign, AgesUsedUp}
 use Rattle.dr_ages.specs.Found.{AreFound}
+use Rattle.dr_ages.specs.Passing.{AreKeptSince}
 
--- the disk of one of the first n members failed
-pub record HasFailed (n : ℕ) (before after : YardState) (member : ℕ) : Type 0 where
-  pub below : member < n
+-- how long a log of these entries and votes is with all that it lacks of what an age begins with
+abbrev pub whole_length : Script → Start → List Entry → List Vote → ℕ
+whole_length script start es vs =
+    log_length es vs + entries_length (drop (length es) (first_entries (group_of script start).opening))
+
+-- The logs of the first members were brought up to a start: each had room for what it lacked of the entries
+-- that the age begins with, and whatever a crash leaves of its disk has all of these, behind it the votes
+-- that were found.
+pub record WereCaughtUp (script : Script) (after : YardState) (lists : List (List Entry))
+    (votes : ℕ → List Vote) (start : Start) (count : ℕ) : Type 0 where
+  pub room : (m : ℕ) (es : List Entry) → m < count → slice_get lists m ≡ Some es
+      → whole_length script start es (votes m) ≤ 2147483648
+  pub left : (m : ℕ) → m < count → IsLeft (after.told m)
+      (λ image. StandsFor image (first_entries (group_of script start).opening) (votes m))
+
+-- when the disk of a member failed: as it was to be mounted, when the logs of those below it had been, and
+-- the disks of those above it were as before; or as its log was to be brought up to a start, when those of
+-- all below it had been
+pub data FailedAt (script : Script) (before after : YardState) (member : ℕ) : Type 0 where
+  in_mount : (lists : List (List Entry)) (votes : ℕ → List Vote) → AreFound member before lists votes
+      → ((m : ℕ) → member < m → after.told m ≡ before.told m) → FailedAt script before after member
+  in_start : (lists : List (List Entry)) (votes : ℕ → List Vote) (start : Start)
+      → AreFound script.members before lists votes → IsStartOf script lists start → start.age < 2 ^ 16
+      → WereCaughtUp script after lists votes start member → FailedAt script before after member
+
+-- the disk of a member failed
+pub record HasFailed (script : Script) (before after : YardState) (member : ℕ) : Type 0 where
+  pub below : member < script.members
   pub rose : Rose (before.faults member) (after.faults member)
+  pub at : FailedAt script before after member
 
--- The logs that are found make a start, and with what it lacks of the entries that its age begins with that of
--- a member would be longer than a log may be. It is as it was found, and outlives a crash.
+-- The logs that are found make a start, and with what it lacks of the entries that its age begins with that
+-- of a member would be longer than a log may be, the first one so. It is as it was found, and outlives a
+-- crash.
 pub record IsTooFull (script : Script) (before after : YardState) (member len : ℕ) : Type 0 where
   pub below : member < script.members
   pub lists : List (List Entry)
@@ -37,8 +65,8 @@ pub record IsTooFull (script : Script) (before after : YardState) (member len : 
   pub entries : List Entry
   pub has : slice_get lists member ≡ Some entries
   pub long : len ≡ log_length entries (votes member)
-  pub over : 2147483648
-      < len + entries_length (drop (length entries) (first_entries (group_of script start).opening))
+  pub over : 2147483648 < whole_length script start entries (votes member)
+  pub first : WereCaughtUp script after lists votes start member
   pub left : IsLeft (after.told member) (λ image. StandsFor image entries (votes member))
 
 -- what a read gives of a disk that tells this is what a crash may leave of it, and damaged at this place
@@ -64,7 +92,7 @@ AreFoundSo script before P =
 -- why the next age was not opened, over disks that were so before and are so now
 abbrev pub HasStopped : Script → YardState → YardState → Stop → Type 0
 HasStopped script before after OutOfMemory = ⊤
-HasStopped script before after (DiskFault member) = HasFailed script.members before after member
+HasStopped script before after (DiskFault member) = HasFailed script before after member
 HasStopped script before after (LogFull member len) = IsTooFull script before after member len
 HasStopped script before after (Damaged member at) = HasDamaged script.members before after member at
 HasStopped script before after (Disagree a b place) = AreFoundSo script before
@@ -73,12 +101,46 @@ HasStopped script before after (Foreign member place) = AreFoundSo script before
     (λ lists. IsFirstForeign (judged_by script) lists member place)
 HasStopped script before after AgesUsedUp = AreFoundSo script before (AreUsedUp script)
 
+-- which disks' calls failed in an opening that stopped so: that of the member which the stop names, and no
+-- other. Nothing is said where memory was wanting.
+abbrev pub NamesFaults : Stop → YardState → YardState → Type 0
+NamesFaults OutOfMemory before after = ⊤
+NamesFaults (DiskFault member) before after = (m : ℕ) → m ≢ member → after.faults m ≡ before.faults m
+NamesFaults stop before after = (m : ℕ) → after.faults m ≡ before.faults m
+
 -- a stop at logs that are not those of one group
 abbrev pub IsBadLogs : Stop → Type 0
 IsBadLogs (Damaged member at) = ⊤
 IsBadLogs (Disagree a b place) = ⊤
 IsBadLogs (Foreign member place) = ⊤
 IsBadLogs stop = ⊥
+
+-- a stop at logs, whichever it is
+abbrev pub IsOfLogs : Stop → Type 0
+IsOfLogs (Damaged member at) = ⊤
+IsOfLogs (Disagree a b place) = ⊤
+IsOfLogs (Foreign member place) = ⊤
+IsOfLogs AgesUsedUp = ⊤
+IsOfLogs stop = ⊥
+
+-- so many disks of n members were mounted in an opening that stopped so: those below one that was damaged, or
+-- that failed as it was to be mounted, and all where their logs were compared
+abbrev pub HasMounted : ℕ → ℕ → Stop → Type 0
+HasMounted n mounted OutOfMemory = ⊤
+HasMounted n mounted (DiskFault member) = (mounted ≡ member) ⊎ (mounted ≡ n)
+HasMounted n mounted (Damaged member at) = mounted ≡ member
+HasMounted n mounted stop = mounted ≡ n
+
+-- a stop that comes once all disks are mounted
+abbrev pub IsBehindMounts : Stop → Type 0
+IsBehindMounts (Damaged member at) = ⊥
+IsBehindMounts stop = ⊤
+
+-- the disks that were mounted in an opening that stopped so are kept since
+pub record HasKept (script : Script) (before after : YardState) (stop : Stop) : Type 0 where
+  pub mounted : ℕ
+  pub since : AreKeptSince script.members mounted before after
+  pub count : HasMounted script.members mounted stop
 
 -- a stop for want of memory, or by a disk
 abbrev pub IsOutside : Stop → Type 0

@@ -1,5 +1,5 @@
 //! Runs ages one after the other.
-ghost use Rattle.std.specs.Prelude.{◌≡◌, ◌<◌, ℕ, All, IfErr, IfOk, OnErr, false, length};
+ghost use Rattle.std.specs.Prelude.{◌≡◌, ◌≢◌, ◌<◌, ℕ, All, IfErr, IfOk, OnErr, false, length};
 ghost use Rattle.dr_age.specs.Logged.{AreOpened, HaveCome, HaveVoted, IsAmple, NoneFull, NoneStopped};
 ghost use Rattle.dr_complete.specs.Time.{HasTime};
 ghost use Rattle.dr_entry.specs.declared.limits.TheConstants.{MAX_MEMBERS};
@@ -13,13 +13,15 @@ ghost use Rattle.dr_restart.specs.Setups.{crashes_of};
 ghost use Rattle.dr_script.specs.Ranges.{HasRanges};
 ghost use Rattle.dr_yard.specs.Yards.{YardState, state_by};
 ghost use Rattle.dr_ages.specs.Ages.{IsAgeOf, IsPlayed, over_of, start_of};
+ghost use Rattle.dr_ages.specs.Fit.{AreFit};
 ghost use Rattle.dr_ages.specs.Lent.{AreMounted, with_logs};
 ghost use Rattle.dr_ages.specs.Opened.{AreLater};
 ghost use Rattle.dr_ages.specs.Passing.{PassOn};
 ghost use Rattle.dr_ages.specs.Runs.{IsRunOf};
-ghost use Rattle.dr_ages.specs.Stops.{HasStopped};
+ghost use Rattle.dr_ages.specs.Stops.{HasKept, HasStopped, IsBehindMounts, NamesFaults};
 ghost use Rattle.dr_ages.specs.Watched.{AreWatched, HasSeen};
 ghost use Rattle.dr_ages.specs.declared.mode.Mode.TheVariants.{Sim};
+ghost use Rattle.dr_ages.specs.declared.stop.Stop.TheVariants as stops;
 
 use crate::lending::{give_all_back, mount_all};
 use crate::mode::Mode;
@@ -134,6 +136,13 @@ fn run_age<R: Threads + Sync, Y: Yard, P: Pace + Sync, W: Watcher>(
     ensures stopped { IfErr result (HasStopped script.now (state_by Y.told Y.faults yard.old)
         (state_by Y.told Y.faults yard.new)) }
     ensures passes { PassOn (state_by Y.told Y.faults yard.old) (state_by Y.told Y.faults yard.new) }
+    ensures kept { IfErr result (HasKept script.now (state_by Y.told Y.faults yard.old)
+        (state_by Y.told Y.faults yard.new)) }
+    ensures fit { IfErr result (λ stop. stop ≢ stops.OutOfMemory
+        → AreFit script.now (state_by Y.told Y.faults yard.old)
+        → AreFit script.now (state_by Y.told Y.faults yard.new)) }
+    ensures names { IfErr result (λ stop. NamesFaults stop (state_by Y.told Y.faults yard.old)
+        (state_by Y.told Y.faults yard.new)) }
     ensures watched { IfOk result (λ age. HasSeen W.opens W.sees W.closes mode script.now
         (start_of script.now age) nth watcher.old watcher.new age) }
     ensures untold { OnErr result (watcher.new ≡ watcher.old) }
@@ -169,6 +178,13 @@ fn run_over<R: Threads + Sync, D: Disk, P: Pace + Sync, W: Watcher>(
     ensures stopped { IfErr result.0 (λ stop. (before : YardState)
         → AreMounted D.told D.faults before logs.items
         → HasStopped script.now before (with_logs D.told D.faults before result.1.items) stop) }
+    ensures fit { IfErr result.0 (λ stop. (before : YardState) → AreMounted D.told D.faults before logs.items
+        → stop ≢ stops.OutOfMemory → AreFit script.now before
+        → AreFit script.now (with_logs D.told D.faults before result.1.items)) }
+    ensures names { IfErr result.0 (λ stop. (before : YardState)
+        → AreMounted D.told D.faults before logs.items
+        → NamesFaults stop before (with_logs D.told D.faults before result.1.items)) }
+    ensures behind { IfErr result.0 IsBehindMounts }
     ensures later { AreLater D.told D.faults logs.items result.1.items }
     ensures count { length result.1.items ≡ length logs.items }
     ensures watched { IfOk result.0 (λ age. HasSeen W.opens W.sees W.closes mode script.now

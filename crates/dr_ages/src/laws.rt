@@ -1,8 +1,12 @@
-//! Laws of simulated ages.
-ghost use Rattle.std.specs.Prelude.{ℕ};
+//! Laws of ages, and of the disks that they leave.
+ghost use Rattle.std.specs.Prelude.{◌≡◌, ◌<◌, ℕ, List, [], ◌∷◌, ◌++◌, Option, Some, IsSomeAnd, slice_get, take};
 ghost use Rattle.dr_age.specs.Logged.{NoneStopped};
 ghost use Rattle.dr_complete.specs.Time.{HasTime};
+ghost use Rattle.dr_disk.specs.Calls.{at_rest};
+ghost use Rattle.dr_disk.specs.Disk.{state_of};
 ghost use Rattle.dr_entry.specs.declared.end.AgeEnd.{AgeEnd};
+ghost use Rattle.dr_entry.specs.declared.end.MemberEnd.{MemberEnd};
+ghost use Rattle.dr_history.specs.History.{IsPrefixOf};
 ghost use Rattle.dr_machine.specs.Group.{IsGroup};
 ghost use Rattle.dr_program_laws.specs.Ended.{AreComplete};
 ghost use Rattle.dr_restart.specs.declared.start.Start.{Start};
@@ -10,6 +14,12 @@ ghost use Rattle.dr_restart.specs.Groups.{group_of};
 ghost use Rattle.dr_script.specs.declared.script.Script.{Script};
 ghost use Rattle.dr_script.specs.Ranges.{HasRanges};
 ghost use Rattle.dr_sim.specs.Simulated.{IsSimulated};
+ghost use Rattle.dr_yard.specs.Yards.{YardState};
+ghost use Rattle.dr_ages.specs.declared.mode.Mode.{Mode};
+ghost use Rattle.dr_ages.specs.declared.stop.Stop.{Stop};
+ghost use Rattle.dr_ages.specs.Crashed.{HaveCrashed};
+ghost use Rattle.dr_ages.specs.Fit.{AreFit};
+ghost use Rattle.dr_ages.specs.Runs.{IsRunOf};
 
 /// In a simulated age of a script that gives its members time enough, and of which no log failed, all members
 /// are complete.
@@ -17,4 +27,25 @@ pub fn timely_ages_complete()
     ensures { (script : Script) (start : Start) (nth : ℕ) (age : AgeEnd) → IsGroup (group_of script start)
         → HasRanges script → IsSimulated script start nth age → HasTime script → NoneStopped age.members
         → AreComplete (group_of script start).opening age.members }
+{}
+
+/// Disks that were never written are fit for every script. And fit disks are fit behind a crash, whichever of
+/// their images it leaves.
+pub fn fit_disks_outlive_crashes()
+    ensures begins { (script : Script) (yard : YardState)
+        → ((m : ℕ) → m < script.members → IsSomeAnd (yard.told m) (λ t. state_of t ≡ at_rest []))
+        → AreFit script yard }
+    ensures keeps { (script : Script) (before after : YardState) → AreFit script before
+        → HaveCrashed script.members before after → AreFit script after }
+{}
+
+/// A run over disks that a crash has left, behind another run of the script, begins with all that any member
+/// had logged in the last age of that one.
+pub fn runs_outlive_crashes()
+    ensures { (script : Script) (mode other : Mode) (before mid after end : YardState)
+        (earlier ages : List AgeEnd) (age next : AgeEnd) (stop ends : Option Stop) (m : ℕ) (e : MemberEnd)
+        → IsRunOf script mode before mid (earlier ++ age ∷ []) stop → slice_get age.members m ≡ Some e
+        → m < script.members → HaveCrashed script.members mid after
+        → IsRunOf script other after end (next ∷ ages) ends
+        → IsPrefixOf (take e.logged e.history) next.start }
 {}

@@ -2,8 +2,7 @@
 ghost use Rattle.std.specs.Prelude.{◌≡◌, ◌≢◌, ◌<◌, ◌≤◌, ℕ, false, true, length, vec_capacity, OnOk, OnErr, IfOk, IfErr};
 ghost use Rattle.dr_entry.specs.declared.limits.TheConstants.{MAX_MEMBERS};
 ghost use Rattle.dr_yard.specs.Yards.{state_by};
-ghost use Rattle.dr_ages.specs.Lent.{AreLent, AreMounted, IsMounted, WasRefused, WereRefused, with_logs};
-ghost use Rattle.dr_ages.specs.Passing.{GoesOn};
+ghost use Rattle.dr_ages.specs.Lent.{AreLent, AreMounted, IsAlike, IsMounted, WasRefused, WereRefused, with_logs};
 
 use crate::stop::Stop;
 use dr_log::Log;
@@ -13,8 +12,8 @@ use std::alloc::Global;
 /// The most bytes of a log: 2,147,483,648.
 pub const LOG_LIMIT: u64 = 1 << 31;
 
-/// Borrows and mounts the logs of so many members, ascending, up to the first that is refused. That one's disk
-/// is given back.
+/// Borrows and mounts the logs of so many members, ascending, up to the first that is refused. That one's
+/// disk is given back.
 pub(crate) fn mount_all<Y: Yard>(
     alloc: Global,
     folder: &str,
@@ -33,7 +32,7 @@ pub(crate) fn mount_all<Y: Yard>(
     ensures rest { OnOk result ((m : ℕ) → members ≤ m
         → (Y.told yard.new m ≡ Y.told yard.old m) × (Y.faults yard.new m ≡ Y.faults yard.old m)) }
     ensures on { (m : ℕ) → length logs.new.items ≤ m
-        → GoesOn (Y.told yard.old m) (Y.faults yard.old m) (Y.told yard.new m) (Y.faults yard.new m) }
+        → IsAlike (Y.told yard.old m) (Y.faults yard.old m) (Y.told yard.new m) (Y.faults yard.new m) }
     ensures stopped { IfErr result (WereRefused members (length logs.new.items)
         (state_by Y.told Y.faults yard.old) (state_by Y.told Y.faults yard.new)) }
 {
@@ -58,7 +57,7 @@ fn mount<Y: Yard>(
     ensures counted { IfOk result (λ log. Y.faults yard.new member ≤ Y.Store.faults log.disk) }
     ensures mounted { IfOk result (IsMounted Y.Store.told Y.Store.faults
         (Y.told yard.old member) (Y.faults yard.old member)) }
-    ensures on { OnErr result (GoesOn (Y.told yard.old member) (Y.faults yard.old member)
+    ensures on { OnErr result (IsAlike (Y.told yard.old member) (Y.faults yard.old member)
         (Y.told yard.new member) (Y.faults yard.new member)) }
     ensures stopped { IfErr result (WasRefused member (Y.told yard.old member) (Y.told yard.new member)
         (Y.faults yard.old member) (Y.faults yard.new member)) }

@@ -9,7 +9,7 @@ mod opening;
 mod stop;
 
 pub use ages::{AgesEnd, run_ages, watch_ages};
-pub use laws::timely_ages_complete;
+pub use laws::{fit_disks_outlive_crashes, runs_outlive_crashes, timely_ages_complete};
 pub use lending::LOG_LIMIT;
 pub use mode::Mode;
 pub use stop::Stop;

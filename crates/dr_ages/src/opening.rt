@@ -7,9 +7,10 @@ ghost use Rattle.dr_machine.specs.Group.{IsGroup};
 ghost use Rattle.dr_restart.specs.Groups.{group_of};
 ghost use Rattle.dr_script.specs.Ranges.{HasGroupRanges};
 ghost use Rattle.dr_yard.specs.Yards.{YardState};
+ghost use Rattle.dr_ages.specs.Fit.{AreFit};
 ghost use Rattle.dr_ages.specs.Lent.{AreMounted, with_logs};
 ghost use Rattle.dr_ages.specs.Opened.{AreCaughtUp, AreLater};
-ghost use Rattle.dr_ages.specs.Stops.{HasStopped};
+ghost use Rattle.dr_ages.specs.Stops.{HasStopped, IsBehindMounts, NamesFaults};
 
 use crate::stop::Stop;
 use dr_disk::Disk;
@@ -37,6 +38,11 @@ pub(crate) fn open_age<D: Disk>(
     ensures stopped { IfErr result (λ stop. (before : YardState)
         → AreMounted D.told D.faults before logs.old
         → HasStopped script.now before (with_logs D.told D.faults before logs.new) stop) }
+    ensures fit { IfErr result (λ stop. (before : YardState) → AreMounted D.told D.faults before logs.old
+        → AreFit script.now before → AreFit script.now (with_logs D.told D.faults before logs.new)) }
+    ensures names { IfErr result (λ stop. (before : YardState) → AreMounted D.told D.faults before logs.old
+        → NamesFaults stop before (with_logs D.told D.faults before logs.new)) }
+    ensures behind { IfErr result IsBehindMounts }
     ensures later { AreLater D.told D.faults logs.old logs.new }
     ensures count { length logs.new ≡ length logs.old }
 {
@@ -62,6 +68,11 @@ fn catch_all_up<D: Disk>(script: &Script, start: &Start, logs: &mut [Log<D>]) ->
     ensures stopped { IfErr result (λ stop. (before : YardState)
         → AreMounted D.told D.faults before logs.old
         → HasStopped script.now before (with_logs D.told D.faults before logs.new) stop) }
+    ensures fit { IfErr result (λ stop. (before : YardState) → AreMounted D.told D.faults before logs.old
+        → AreFit script.now before → AreFit script.now (with_logs D.told D.faults before logs.new)) }
+    ensures names { IfErr result (λ stop. (before : YardState) → AreMounted D.told D.faults before logs.old
+        → NamesFaults stop before (with_logs D.told D.faults before logs.new)) }
+    ensures behind { IfErr result IsBehindMounts }
     ensures later { AreLater D.told D.faults logs.old logs.new }
     ensures count { length logs.new ≡ length logs.old }
 {

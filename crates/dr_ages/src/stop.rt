@@ -16,7 +16,8 @@ pub enum Stop {
     OutOfMemory,
     /// The disk of this member failed, as it was lent, mounted or brought up to the start.
     DiskFault { member: u8 },
-    /// The log of this member, `len` bytes long, had no room for the next entry that the age begins with.
+    /// The log of this member, `len` bytes long, had no room for what it lacks of the entries that the age
+    /// begins with.
     LogFull { member: u8, len: u64 },
     /// The log of this member is no log, where `at` is 0, or its records break off at the byte `at`.
     Damaged { member: u8, at: u64 },

@@ -1,4 +1,5 @@
 pub mod Steps
 pub mod Moments
 pub mod Images
+mod Filling
 pub mod Ranges

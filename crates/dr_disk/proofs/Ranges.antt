@@ -88,6 +88,20 @@ agree-run : (p : Pending) (calls : List Call) → Agree p
 agree-run p [] a = (a, refl)
 agree-run p (call ∷ calls) a = agree-run (pend p call) calls (agree-step p call a)
 
+settled_agree : Agree (settled [])
+settled_agree = record {
+  between = record { least = omega arith; greatest = omega arith };
+  synced = omega arith;
+  untouched = λ i out. tt;
+  stays = λ i out. refl;
+}
+
+-- no crash leaves less than the least length, which is no more than the greatest
+pub pend_least : (calls : List Call) → (pend_all (settled []) calls).disk.least ≤ (pend_all (settled []) calls).disk.greatest
+pend_least calls =
+    let a = (agree-run (settled []) calls settled_agree).0 in
+    omega (arith, a.between.least, a.between.greatest)
+
 -- what a crash leaves by ranges is an image
 pub image_by_ranges : (calls : List Call) (image : List ℕ) → IsImageByRanges calls image
     → IsImage (run calls) image

@@ -1,9 +1,12 @@
 //! The record of a disk's calls, and what a read gives.
 
-ghost use Rattle.std.specs.Prelude.{◌≡◌, ◌+◌, ◌≤◌, [], ◌∷◌, ◌++◌, OnOk, length, take, drop};
+ghost use Rattle.std.specs.Prelude.{◌≡◌, ◌+◌, ◌≤◌, [], ◌∷◌, ◌++◌, IfOk, OnOk, length, take, drop};
 ghost use Rattle.dr_disk.specs.Calls.{content_after, Write, FailedWrite, Cut, FailedCut, Sync};
+ghost use Rattle.dr_disk.specs.Crashed.{IsFilled};
+ghost use Rattle.dr_disk.specs.Ranges.{pend_all, settled};
 
 use crate::bytes::{copy_front, put};
+use crate::crashed::{count_of, replay};
 use std::alloc::{AllocError, Global};
 use std::marker::Model;
 
@@ -72,6 +75,27 @@ impl Kept {
         ensures { result.now ≡ content_after self.now.calls }
     {
         self.bytes.as_slice()
+    }
+
+    /// What a crash may leave of the disk at most, where all that was not synced holds this byte.
+    pub(crate) fn crashed(&self, alloc: Global, fill: u8) -> Result<Vec<u8>, AllocError>
+        ensures { IfOk result (λ image. IsFilled fill (pend_all (settled []) self.now.calls) image.items) }
+    {
+        let mut now = Vec::new(alloc);
+        let mut image = Vec::new(alloc);
+        let mut from = 0;
+        for step in &self.steps {
+            let count = count_of(*step);
+            replay(
+                *step,
+                &self.text[from..from + count],
+                fill,
+                &mut now,
+                &mut image,
+            )?;
+            from += count;
+        }
+        Ok(image)
     }
 
     /// Copies what there is from `at` on to the front of `into`, and answers how much.

@@ -3,7 +3,8 @@
 ghost use Rattle.std.specs.Prelude.{◌≡◌, ◌≤◌, [], ◌∷◌, ◌++◌, ℕ, List, length, take};
 ghost use Rattle.dr_disk.specs.Calls.{Call, Write, FailedWrite, Cut, FailedCut, Sync, State, step, run, content_after};
 ghost use Rattle.dr_disk.specs.Images.{IsImage};
-ghost use Rattle.dr_disk.specs.Ranges.{IsImageByRanges};
+ghost use Rattle.dr_disk.specs.Crashed.{IsFilled};
+ghost use Rattle.dr_disk.specs.Ranges.{IsImageByRanges, pend_all, settled};
 
 /// A law: what a read gives is one of the images that a crash may leave.
 pub fn content_is_an_image()
@@ -35,4 +36,10 @@ pub fn parts_leave_no_more()
         → IsImage (step s (Cut more)) image → IsImage (step s (Cut to)) image }
     ensures failed_cut { (s : State) (to more : ℕ) (image : List ℕ) → to ≤ more
         → IsImage (step s (Cut more)) image → IsImage (step s (FailedCut to)) image }
+{}
+
+/// A law: what a crash leaves where all that may have changed is filled with one byte is one of the images.
+pub fn filled_is_an_image()
+    ensures { (fill : ℕ) (calls : List Call) (image : List ℕ)
+        → IsFilled fill (pend_all (settled []) calls) image → IsImage (run calls) image }
 {}

@@ -10,6 +10,7 @@
 
 mod bytes;
 mod calm_disk;
+mod crashed;
 mod disk;
 mod kept;
 mod laws;
@@ -18,6 +19,7 @@ mod memory_disk;
 pub use calm_disk::CalmDisk;
 pub use disk::Disk;
 pub use laws::{
-    content_is_an_image, parts_leave_no_more, ranges_leave_no_more, syncs_leave_the_content,
+    content_is_an_image, filled_is_an_image, parts_leave_no_more, ranges_leave_no_more,
+    syncs_leave_the_content,
 };
 pub use memory_disk::MemoryDisk;

@@ -34,8 +34,11 @@ impl Model for MemoryDisk {
 }
 
 impl MemoryDisk {
-    ghost use Rattle.dr_disk.specs.Calls.{content_after};
+    ghost use Rattle.std.specs.Prelude.{None};
+    ghost use Rattle.dr_disk.specs.Calls.{at_rest, content_after, run};
+    ghost use Rattle.dr_disk.specs.Crashed.{IsFilled};
     ghost use Rattle.dr_disk.specs.Memory.{FailsNext, with_fault};
+    ghost use Rattle.dr_disk.specs.Ranges.{pend_all, settled};
     ghost use Rattle.dr_io.specs.Plan.{plan_of};
 
     /// An empty disk. The calls whose numbers, from 1, are in `fails` fail, and all calls after the
@@ -68,6 +71,31 @@ impl MemoryDisk {
         ensures { result ≡ self.now.plan.faults }
     {
         self.plan.faults()
+    }
+
+    /// A disk without faults that reads one image which a crash may leave of this one: as long as may be, and
+    /// all that was written since the last sync, or lies past what that left, holds this byte.
+    ///
+    /// # Errors
+    ///
+    /// Want of memory alone.
+    pub fn crashed(self, alloc: Global, fill: u8) -> Result<MemoryDisk, AllocError>
+        ensures image { IfOk result (λ disk.
+            IsFilled fill (pend_all (settled []) self.calls) (content_after disk.calls)) }
+        ensures rests { IfOk result (λ disk. run disk.calls ≡ at_rest (content_after disk.calls)) }
+        ensures plan { IfOk result (λ disk. disk.plan ≡ plan_of []) }
+        ensures stop { IfOk result (λ disk. disk.stop ≡ None) }
+    {
+        let image = self.kept.crashed(alloc, fill)?;
+        let mut kept = Kept::new(alloc);
+        kept.reserve(2, image.len() as u64)?;
+        kept.write(0, image.as_slice());
+        kept.sync();
+        Ok(MemoryDisk {
+            kept,
+            plan: Plan::new(alloc, &[])?,
+            stop: None,
+        })
     }
 
     /// Counts a fault that is not one of its calls: that of a yard which could not lend it.

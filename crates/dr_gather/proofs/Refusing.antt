@@ -3,8 +3,8 @@ use Rattle.std.proofs.Common.{◌≡◌, sym, ap, ◌∙◌, subst, ℕ, ◌<◌
 use Rattle.std.proofs.lemmas.Option.{same_Some}
 use Rattle.dr_entry.specs.declared.entry.Entry.{Entry}
 use Rattle.dr_history.specs.declared.opening.Opening.{Opening}
-use Rattle.dr_history.specs.Restarting.{AreAllAlong, AreAlong, AreSound, DifferAt, IsEarlierPair, IsFirstDisagreement, IsFirstForeign, IsForeignAt}
-use Rattle.dr_history_laws.proofs.Lists.{slice_get-prefix, slice_get-take}
+use Rattle.dr_history.specs.Restarting.{AreAllAlong, AreSound, DifferAt, IsEarlierPair, IsFirstDisagreement, IsFirstForeign, IsForeignAt}
+use Rattle.dr_history_laws.proofs.Differing.{differ_not_along, one_difference}
 
 apart : (i j : ℕ) → (i < j) ⊎ ((i ≡ j) ⊎ (j < i))
 apart i j = grind arith
@@ -44,31 +44,10 @@ one_foreign o lists m p n q a b = by (apart m n)
         (e, one_place o a.entries p q a.foreign (subst (λ (es : List Entry). IsForeignAt o es q) same b.foreign))
     by (inr (inr l)) = absurd (no_earlier_log o lists n q m p b a l)
 
--- two that differ are not along one another
-differ_not_along : (g h : List Entry) (p : ℕ) → DifferAt g h p → AreAlong g h → ⊥
-differ_not_along g h p d (inl q) =
-    d.apart (same_Some d.one d.other (sym (slice_get-prefix g h p d.one q d.in_one) ∙ d.in_other))
-differ_not_along g h p d (inr q) =
-    d.apart (same_Some d.one d.other (sym d.in_one ∙ slice_get-prefix h g p d.other q d.in_other))
-
 pub disagreement_not_along : (lists : List (List Entry)) (a b p : ℕ) → IsFirstDisagreement lists a b p
     → AreAllAlong lists → ⊥
 disagreement_not_along lists a b p is along =
     differ_not_along is.one is.other p is.differ (along a b is.one is.other is.below is.in_a is.in_b)
-
--- the first place at which two differ is one
-no_earlier_difference : (g h : List Entry) (p q : ℕ) → DifferAt g h p → DifferAt g h q → p < q → ⊥
-no_earlier_difference g h p q a b l =
-    a.apart (same_Some a.one a.other (sym (slice_get-take q g p l ∙ a.in_one)
-    ∙ (ap (λ (xs : List Entry). slice_get xs p) b.same ∙ (slice_get-take q h p l ∙ a.in_other))))
-
-one_difference : (g h : List Entry) (p q : ℕ) → DifferAt g h p → DifferAt g h q → p ≡ q
-one_difference g h p q a b = by (apart p q)
-  where
-    by : (p < q) ⊎ ((p ≡ q) ⊎ (q < p)) → p ≡ q
-    by (inl l) = absurd (no_earlier_difference g h p q a b l)
-    by (inr (inl e)) = e
-    by (inr (inr l)) = absurd (no_earlier_difference g h q p b a l)
 
 no_earlier_pair : (lists : List (List Entry)) (a b p i j q : ℕ) → IsFirstDisagreement lists a b p
     → IsFirstDisagreement lists i j q → IsEarlierPair a b i j → ⊥

@@ -14,6 +14,12 @@ use Rattle.dr_script.specs.declared.script.Script.{Script}
 abbrev pub judged_by : Script → Opening
 judged_by script = (first_group_of script).opening
 
+-- The logs of a group are accepted: each entry may stand where it stands, and of any two logs one is a prefix
+-- of the other. Others are refused.
+pub record AreAccepted (script : Script) (lists : List (List Entry)) : Type 0 where
+  pub sound : AreSound (judged_by script) lists
+  pub along : AreAllAlong lists
+
 -- the entries of each log
 abbrev pub entries_on : {D : Type 0} → List (LogState D) → List (List Entry)
 entries_on logs = map (λ log. log.entries) logs

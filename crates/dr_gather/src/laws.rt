@@ -1,5 +1,5 @@
 //! Laws of what logs make an age start with.
-ghost use Rattle.std.specs.Prelude.{◌≡◌, ◌<◌, ◌^◌, ℕ, List, All, Some, length, slice_get};
+ghost use Rattle.std.specs.Prelude.{◌≡◌, ◌<◌, ◌^◌, ℕ, List, [], All, Some, length, slice_get};
 ghost use Rattle.dr_entry.specs.declared.entry.Entry.{Entry};
 ghost use Rattle.dr_entry.specs.declared.end.MemberEnd.{MemberEnd};
 ghost use Rattle.dr_entry.specs.Spelling.{IsValidEntry};
@@ -13,7 +13,7 @@ ghost use Rattle.dr_restart.specs.Groups.{group_of};
 ghost use Rattle.dr_script.specs.declared.script.Script.{Script};
 ghost use Rattle.dr_script.specs.Ranges.{HasGroupRanges};
 ghost use Rattle.dr_gather.specs.CatchingUp.{opened_with};
-ghost use Rattle.dr_gather.specs.Gathering.{IsStartOf, judged_by};
+ghost use Rattle.dr_gather.specs.Gathering.{AreAccepted, IsStartOf, judged_by};
 ghost use Rattle.dr_gather.specs.Leaving.{LeaveLogs};
 ghost use Rattle.dr_gather.specs.Parts.{AreFirstPartsOf, AreOnTheWay};
 
@@ -52,27 +52,32 @@ pub fn ages_keep()
         → Kept (group_of script start).opening (accounts_of ends) (group_of script next).opening }
 {}
 
-/// Logs that hold first parts of the histories of an age that has ended are refused for nothing: no entry of
-/// them is foreign to the script, and of any two one is a prefix of the other.
-pub fn ended_ages_leave_good_logs()
-    ensures sound { (script : Script) (start : Start) (ends : List MemberEnd) (lists : List (List Entry))
-        → IsGroup (group_of script start) → EndsAgreed (group_of script start).opening ends
-        → length ends ≡ roster (group_of script start) → AreFirstPartsOf ends lists
-        → AreSound (judged_by script) lists }
-    ensures along { (script : Script) (start : Start) (ends : List MemberEnd) (lists : List (List Entry))
-        → IsGroup (group_of script start) → EndsAgreed (group_of script start).opening ends
-        → length ends ≡ roster (group_of script start) → AreFirstPartsOf ends lists
-        → AreAllAlong lists }
+/// Logs are accepted, and then not refused for an entry, where they make a start, and where they have none.
+pub fn accepted_logs_are_not_refused()
+    ensures foreign { (script : Script) (lists : List (List Entry)) (m p : ℕ) → AreAccepted script lists
+        → IsFirstForeign (judged_by script) lists m p → ⊥ }
+    ensures disagree { (script : Script) (lists : List (List Entry)) (a b p : ℕ) → AreAccepted script lists
+        → IsFirstDisagreement lists a b p → ⊥ }
+    ensures start { (script : Script) (lists : List (List Entry)) (start : Start)
+        → IsStartOf script lists start → AreAccepted script lists }
+    ensures none { (script : Script) (lists : List (List Entry))
+        → ((m : ℕ) (es : List Entry) → slice_get lists m ≡ Some es → es ≡ []) → AreAccepted script lists }
 {}
 
-/// Where the opening of an age stops while its logs are brought up to its start, these are refused for
-/// nothing either. And the longest of them begins with that start, so the next age does.
+/// Logs that hold first parts of the histories of an age that has ended are accepted.
+pub fn ended_ages_leave_good_logs()
+    ensures { (script : Script) (start : Start) (ends : List MemberEnd) (lists : List (List Entry))
+        → IsGroup (group_of script start) → EndsAgreed (group_of script start).opening ends
+        → length ends ≡ roster (group_of script start) → AreFirstPartsOf ends lists
+        → AreAccepted script lists }
+{}
+
+/// Where the opening of an age stops while its logs are brought up to its start, these are accepted too. And
+/// the longest of them begins with that start, so the next age does.
 pub fn stopped_openings_leave_good_logs()
-    ensures sound { (script : Script) (lists now : List (List Entry)) (start : Start)
+    ensures accepted { (script : Script) (lists now : List (List Entry)) (start : Start)
         → HasGroupRanges script → start.age < 2 ^ 16 → IsStartOf script lists start
-        → AreOnTheWay (opened_with start start.members) lists now → AreSound (judged_by script) now }
-    ensures along { (lists now : List (List Entry)) (whole : List Entry)
-        → AreOnTheWay whole lists now → AreAllAlong now }
+        → AreOnTheWay (opened_with start start.members) lists now → AreAccepted script now }
     ensures begins { (script : Script) (lists now : List (List Entry)) (start : Start)
         → (longest : List Entry) → IsStartOf script lists start
         → AreOnTheWay (opened_with start start.members) lists now → IsLongest now longest

@@ -11,6 +11,6 @@ mod standing;
 pub use catching_up::{CatchFault, catch_up};
 pub use gathering::{GatherFault, gather};
 pub use laws::{
-    ages_keep, ended_ages_leave_good_logs, refusals_are_one, starts_are_sound,
-    stopped_openings_leave_good_logs,
+    accepted_logs_are_not_refused, ages_keep, ended_ages_leave_good_logs, refusals_are_one,
+    starts_are_sound, stopped_openings_leave_good_logs,
 };

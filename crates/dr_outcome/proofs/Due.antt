@@ -1,11 +1,13 @@
 -- What is certain of a script that was played, and of its last line.
-use Rattle.std.proofs.Common.{◌≡◌, ◌≢◌, ◌⊎◌, refl, sym, ap, ap₂, ◌∙◌, subst, inl, inr, ℕ, suc, true, false, true≢false, arith, List, [], ◌∷◌, Contains, Option, None, Some, IfSome, is_some, if◌then◌else◌}
+use Rattle.std.proofs.Common.{◌≡◌, ◌≢◌, ◌⊎◌, refl, sym, ap, ap₂, ◌∙◌, subst, inl, inr, ℕ, suc, true, false, true≢false, arith, List, [], ◌∷◌, length, Contains, Option, None, Some, IfSome, is_some, if◌then◌else◌}
 use Rattle.std.proofs.lemmas.Bool.{cases_Bool, or_parts}
 use Rattle.std.proofs.lemmas.Option.{none-some, same_Some}
 use Rattle.dr_ages.specs.declared.mode.Mode.{Mode}
 use Rattle.dr_ages.specs.declared.mode.Mode.TheVariants.{Sim}
 use Rattle.dr_ages.specs.declared.stop.Stop.{Stop}
+use Rattle.dr_ages.specs.declared.stop.Stop.TheVariants.{OutOfMemory}
 use Rattle.dr_ages.specs.Ages.{AreAges}
+use Rattle.dr_ages.specs.Fit.{AreFit}
 use Rattle.dr_complete.specs.Time.{HasTime}
 use Rattle.dr_entry.specs.declared.end.AgeEnd.{AgeEnd}
 use Rattle.dr_intake.specs.Reading.{refusal_in}
@@ -20,10 +22,10 @@ use Rattle.dr_outcome.specs.declared.last.Kind.TheVariants.{DiskFault, LogFull, 
 use Rattle.dr_outcome.specs.declared.outcome.Body.TheVariants as bodies
 use Rattle.dr_outcome.specs.declared.outcome.Outcome.{Outcome}
 use Rattle.dr_outcome.specs.Last.{first_end, first_told, is_memory, last_by, last_of, refusal_of, some_end, some_so, stopped_by}
-use Rattle.dr_outcome.specs.Outcome.{HasDone, HasPlayed, HasRun, IsDue, IsRunInMemory, OfScript, Plays, SaysOnly, body_text, by_run, unrun}
+use Rattle.dr_outcome.specs.Outcome.{HasDone, HasPlayed, HasRun, IsDue, IsRunInMemory, LeavesRoom, NoneFailed, OfScript, Plays, SaysOnly, TellsDisks, body_text, by_run, unrun}
 use Rattle.dr_outcome.specs.Playing.{Playing, ends_over, play_ends}
 use Rattle.dr_outcome.proofs.Lasts.{end_so, refusal_status, told_so}
-use Rattle.dr_outcome.proofs.Runs.{memory_lasts, none_spent, none_split}
+use Rattle.dr_outcome.proofs.Runs.{IsWhole, calm_run, memory_lasts, none_spent, none_split, whole_in_memory, whole_lasts, whole_run}
 
 -- the ages of a run, over whatever disks
 ages_of : (mode : Mode) (folder : Option (List ℕ)) (script : Script) (before after : YardState)
@@ -173,6 +175,64 @@ untrusting_by play script before after ages stop run is trusting =
     let course = ages_of play.mode play.folder script before after ages stop run in
     true≢false (sym split ∙ none_split script play.mode 0 course.0 course.1 ages course.2 trusting)
 
+-- where there is a last line, memory was not wanting
+not_wanting : (ages : List AgeEnd) (stop : Option Stop) (line : Last) → last_of ages stop ≡ Some line
+    → stop ≢ Some OutOfMemory
+not_wanting ages stop line is wanting =
+    true≢false (sym (ap is_memory wanting) ∙ (line_behind ages stop line is).0)
+
+-- a disk that failed is told
+tells_disks : (mode : Mode) (folder : Option (List ℕ)) (script : Script) (before after : YardState)
+    (ages : List AgeEnd) (stop : Option Stop) (last : Option Last)
+    → HasRun mode folder script before after ages stop → last ≡ last_of ages stop → TellsDisks before after last
+tells_disks mode folder script before after ages stop None run is = tt
+tells_disks mode None script before after ages stop (Some line) run is =
+    inl (λ m. ap (λ (yard : YardState). yard.faults m) run.0)
+tells_disks mode (Some name) script before after ages stop (Some line) run is =
+    by (first_told DiskFault ages stop) refl
+  where
+    behind : (is_memory stop ≡ false) × (line_of ages stop ≡ line)
+    behind = line_behind ages stop line (sym is)
+
+    by : (disk : Option ℕ) → first_told DiskFault ages stop ≡ disk
+        → NoneFailed before after ⊎ (status_of line ≡ 6)
+    by None none =
+        inl (calm_run script mode before after ages stop run (sym (told_so DiskFault ages stop) ∙ ap is_some none)
+        behind.0)
+    by (Some m) some =
+        let named : line_of ages stop ≡ lasts.DiskFault m = ap (λ d. last_by d (refusal_of stop)
+        (first_told LogFull ages stop) (first_end Spent ages) (first_end NoMajority ages)) some in
+        inr (ap status_of (sym behind.1 ∙ named))
+
+stays_fit : (mode : Mode) (folder : Option (List ℕ)) (script : Script) (before after : YardState)
+    (ages : List AgeEnd) (stop : Option Stop) (last : Option Last)
+    → HasRun mode folder script before after ages stop → last ≡ last_of ages stop → AreFit script before
+    → IfSome last (λ line. AreFit script after)
+stays_fit mode folder script before after ages stop None run is fit = tt
+stays_fit mode (Some name) script before after ages stop (Some line) run is fit =
+    (run.fit fit).fit (not_wanting ages stop line (sym is))
+stays_fit mode None script before after ages stop (Some line) run is fit =
+    subst (AreFit script) (sym run.0) fit
+
+-- a run that has room for all its ages
+whole_of : (mode : Mode) (folder : Option (List ℕ)) (script : Script) (before after : YardState)
+    (ages : List AgeEnd) (stop : Option Stop) → HasRun mode folder script before after ages stop
+    → LeavesRoom folder script before after → is_memory stop ≡ false → IsWhole script ages stop
+whole_of mode (Some name) script before after ages stop run room ample =
+    whole_run script mode before after ages stop run room.0 room.1 room.2 ample
+whole_of mode None script before after ages stop run room ample =
+    whole_in_memory script mode ages stop run.1 ample
+
+all_ages : (play : Playing) (script : Script) (before after : YardState) (ages : List AgeEnd)
+    (stop : Option Stop) (last : Option Last) → HasRun play.mode play.folder script before after ages stop
+    → last ≡ last_of ages stop → LeavesRoom play.folder script before after
+    → IfSome last (λ line. (length ages ≡ script.ages) × Contains (0 ∷ 8 ∷ 9 ∷ []) (status_of line))
+all_ages play script before after ages stop None run is room = tt
+all_ages play script before after ages stop (Some line) run is room =
+    let ample = (line_behind ages stop line (sym is)).0 in
+    let whole = whole_of play.mode play.folder script before after ages stop run room ample in
+    (whole.ages_all, whole_lasts script ages stop line whole ample (sym is))
+
 pub has_played : (play : Playing) (script : Script) (before after : YardState) (o : Outcome)
     → HasRun play.mode play.folder script before after o.ages o.stop → o.last ≡ last_of o.ages o.stop
     → HasPlayed play script before after o
@@ -182,6 +242,9 @@ has_played play script before after o run line = record {
   accepted = accepts o.ages o.stop o.last line;
   untimely = λ sim is. untimely_by play script before after o.ages o.stop run sim (sym line ∙ is);
   untrusting = λ is. untrusting_by play script before after o.ages o.stop run (sym line ∙ is);
+  told = tells_disks play.mode play.folder script before after o.ages o.stop o.last run line;
+  fit = λ fit. stays_fit play.mode play.folder script before after o.ages o.stop o.last run line fit;
+  complete = λ room. all_ages play script before after o.ages o.stop o.last run line room;
 }
 
 -- nothing was run in memory, or the run there is one that was played, and every yard is as it was
@@ -234,6 +297,25 @@ script_ends Of ends before after o each (Reads script) is =
     let has = each script is in
     (has.0, one_more 3 ends o.last has.1)
 
+-- where the yard is as it was no disk has failed
+pub same_tells : (before after : YardState) (last : Option Last) → after ≡ before
+    → TellsDisks before after last
+same_tells before after None same = tt
+same_tells before after (Some line) same = inl (λ m. ap (λ (yard : YardState). yard.faults m) same)
+
+unrun_tells : (before after : YardState) (o : Outcome) (line : Option Last) → SaysOnly line before after o
+    → TellsDisks before after o.last
+unrun_tells before after o line says = same_tells before after o.last says.untouched
+
+script_tells : (Of : Script → Outcome → Type 0) (before after : YardState) (o : Outcome)
+    → ((script : Script) → Of script o → TellsDisks before after o.last) → (r : Reading)
+    → OfScript Of r before after o → TellsDisks before after o.last
+script_tells Of before after o each TooLong says = unrun_tells before after o (Some lasts.TooLong) says
+script_tells Of before after o each NotJson says = unrun_tells before after o (Some lasts.NotJson) says
+script_tells Of before after o each (Wrong rule path) says =
+    unrun_tells before after o (Some (lasts.Rule rule path)) says
+script_tells Of before after o each (Reads script) is = each script is
+
 -- of a script that was played
 pub played_ends : (play : Playing) (script : Script) (before after : YardState) (o : Outcome)
     → HasPlayed play script before after o → EndsIn (ends_over play.folder) o
@@ -261,6 +343,9 @@ play_done play bytes before after o plays =
       does = plays;
       due = has.0;
       known = has.1;
+      told = script_tells
+          (λ script result. HasPlayed play script before after result × (result.body ≡ bodies.Report)) before after o
+          (λ script is. is.0.told) (reading_of bytes) plays;
     }
 
 -- ---- a text that is refused

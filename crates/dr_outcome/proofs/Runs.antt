@@ -1,17 +1,20 @@
 -- What is certain of the ends and of the stop of a run.
-use Rattle.std.proofs.Common.{◌≡◌, refl, sym, ap, subst, ◌∙◌, inl, inr, ℕ, ◌+◌, ◌<◌, ◌≤◌, Bool, true, false, true≢false, arith, List, [], ◌∷◌, length, get_or, All, Contains, Option, None, Some, is_some, if◌then◌else◌}
+use Rattle.std.proofs.Common.{◌≡◌, ◌≢◌, refl, sym, ap, subst, ◌∙◌, inl, inr, ℕ, ◌+◌, ◌<◌, ◌≤◌, Bool, true, false, true≢false, arith, List, [], ◌∷◌, length, slice_get, get_or, All, Contains, Option, None, Some, is_some, IfSome, if◌then◌else◌}
 use Rattle.std.specs.List.{list_any}
 use Rattle.std.proofs.Math.Path.{fun_ext}
 use Rattle.std.proofs.lemmas.Bool.{cases_Bool, or_from, or_parts}
 use Rattle.std.proofs.lemmas.List.Elements.{All-cons, All-nil}
 use Rattle.std.proofs.lemmas.List.Folds.{list_any_at, list_any_none}
-use Rattle.std.proofs.lemmas.Option.{none-some, same_Some, slice_get-get_or}
+use Rattle.std.proofs.lemmas.Option.{none-some, same_Some, slice_get-get_or, slice_get_within}
 use Rattle.dr_ages.specs.declared.mode.Mode.{Mode}
 use Rattle.dr_ages.specs.declared.mode.Mode.TheVariants.{Sim}
 use Rattle.dr_ages.specs.declared.stop.Stop.{Stop}
 use Rattle.dr_ages.specs.declared.stop.Stop.TheVariants as stops
 use Rattle.dr_ages.specs.Ages.{AreAges, opening_of}
-use Rattle.dr_ages.specs.Runs.{IsFreshRun, IsRunOf}
+use Rattle.dr_ages.specs.Fit.{AreFit}
+use Rattle.dr_ages.specs.Found.{AreRoomy}
+use Rattle.dr_ages.specs.Runs.{HasFinished, IsFreshRun, IsRoomyRun, IsRunOf}
+use Rattle.dr_ages.specs.Stops.{IsOutside, NamesFaults}
 use Rattle.dr_complete.specs.Time.{HasTime}
 use Rattle.dr_disk.specs.Calls.{at_rest}
 use Rattle.dr_disk.specs.Disk.{Now, Told}
@@ -24,7 +27,8 @@ use Rattle.dr_history.specs.declared.opening.Opening.{Opening}
 use Rattle.dr_program_laws.specs.Ended.{AreComplete}
 use Rattle.dr_program_laws.specs.Trusting.{NoneLeft, SuspectsNobody, is_left_out}
 use Rattle.dr_script.specs.declared.script.Script.{Script}
-use Rattle.dr_age.specs.Logged.{IsNotFull, why_ended}
+use Rattle.dr_age.specs.Logged.{IsNotFull, NoneFull, why_ended}
+use Rattle.dr_io.specs.Faults.{Rose}
 use Rattle.dr_yard.specs.Yards.{YardState, empty_yard}
 use Rattle.dr_outcome.specs.declared.last.Kind.{Kind}
 use Rattle.dr_outcome.specs.declared.last.Kind.TheVariants.{DiskFault, LogFull, NoMajority, Spent}
@@ -233,8 +237,164 @@ memory_has_room script mode ages stop in_memory =
     (λ j e below. unfull (get_or (get_or ages k d).members j e).end (run.roomy k d within j e below))))
     (unstopped_by_full stop ages run)
 
+-- ---- what disks count
+
+rose_between : (a b c d : ℕ) → a ≤ b → Rose b c → c ≤ d → Rose a d
+rose_between a b c d low rose high = omega (arith, low, rose, high)
+
+-- where no count of faults rose no disk has ended a member
+none_rose : (script : Script) (mode : Mode) (nth : ℕ) (first : ℕ → ℕ) (before after : YardState)
+    (ages : List AgeEnd) → AreAges script mode nth before ages after → ((m : ℕ) → first m ≤ before.faults m)
+    → ((m : ℕ) → m < script.members → Rose (first m) (after.faults m) → ⊥) → some_end DiskFault ages ≡ false
+none_rose script mode nth first before after [] are low calm = refl
+none_rose script mode nth first before after (age ∷ ages) (between, is, rest) low calm =
+    or_from (some_of DiskFault age.members) (some_end DiskFault ages)
+    (list_any_none (λ (m : MemberEnd). is_of DiskFault m.end) age.members here)
+    (none_rose script mode (nth + 1) first between after ages rest (λ m. omega (arith, low m, (is.passes m).later)) calm)
+  where
+    here : All (λ (m : MemberEnd). is_of DiskFault m.end ≡ false) age.members
+    here k d within =
+        let e = get_or age.members k d in
+        elim (cases_Bool (is_of DiskFault e.end)) [
+          | inl failed ↦
+              let rose = is.failed k e (slice_get-get_or age.members k d within) (disk_fault_is e.end failed) in
+              absurd (calm k (omega (arith, within, is.roster)) (rose_between (first k) (before.faults k)
+              (between.faults k) (after.faults k) (low k) rose
+              (later script mode (nth + 1) between after ages rest k)))
+          | inr other ↦ other
+        ]
+
+not_failed : (e : End) → is_of DiskFault e ≡ false → e ≢ ends.DiskFault
+not_failed e none is = true≢false (sym (ap (is_of DiskFault) is) ∙ none)
+
+none_at : (members : List MemberEnd) (m : ℕ) (e : MemberEnd) → some_of DiskFault members ≡ false
+    → slice_get members m ≡ Some e → is_of DiskFault e.end ≡ false
+none_at members m e none at =
+    let within = slice_get_within members m e at in
+    subst (λ (x : MemberEnd). is_of DiskFault x.end ≡ false)
+    (same_Some (get_or members m e) e (sym (slice_get-get_or members m e within) ∙ at))
+    (none_of (λ (x : MemberEnd). is_of DiskFault x.end) members m e none within)
+
+-- where no disk has ended a member none has failed
+calm_ages : (script : Script) (mode : Mode) (nth : ℕ) (before after : YardState) (ages : List AgeEnd)
+    → AreAges script mode nth before ages after → some_end DiskFault ages ≡ false
+    → (m : ℕ) → after.faults m ≡ before.faults m
+calm_ages script mode nth before after [] are none m = ap (λ (yard : YardState). yard.faults m) (sym are)
+calm_ages script mode nth before after (age ∷ ages) (between, is, rest) none m =
+    let parts = or_parts (some_of DiskFault age.members) (some_end DiskFault ages) none in
+    calm_ages script mode (nth + 1) between after ages rest parts.1 m
+    ∙ is.calm m (λ e at. not_failed e.end (none_at age.members m e parts.0 at))
+
+-- and where none has ended the run, unless memory was wanting
+calm_stop : (stop : Stop) (last after : YardState) → NamesFaults stop last after
+    → is_some (stopped_by DiskFault (Some stop)) ≡ false → is_memory (Some stop) ≡ false
+    → (m : ℕ) → after.faults m ≡ last.faults m
+calm_stop stops.OutOfMemory last after names none ample = absurd (true≢false ample)
+calm_stop (stops.DiskFault m) last after names none ample = absurd (true≢false none)
+calm_stop (stops.LogFull m len) last after names none ample = names
+calm_stop (stops.Damaged m at) last after names none ample = names
+calm_stop (stops.Disagree a b p) last after names none ample = names
+calm_stop (stops.Foreign m p) last after names none ample = names
+calm_stop stops.AgesUsedUp last after names none ample = names
+
+pub calm_run : (script : Script) (mode : Mode) (before after : YardState) (ages : List AgeEnd) (stop : Option Stop)
+    → IsRunOf script mode before after ages stop → some_so DiskFault ages stop ≡ false → is_memory stop ≡ false
+    → (m : ℕ) → after.faults m ≡ before.faults m
+calm_run script mode before after ages stop run none ample m =
+    by stop run.finish parts.1 ample m ∙ calm_ages script mode 0 before run.last ages run.course parts.0 m
+  where
+    parts : (some_end DiskFault ages ≡ false) × (is_some (stopped_by DiskFault stop) ≡ false)
+    parts = or_parts (some_end DiskFault ages) (is_some (stopped_by DiskFault stop)) none
+
+    by : (o : Option Stop) → HasFinished script run.last after ages o → is_some (stopped_by DiskFault o) ≡ false
+        → is_memory o ≡ false → (m : ℕ) → after.faults m ≡ run.last.faults m
+    by None end calm ample m = ap (λ (yard : YardState). yard.faults m) (sym end.1)
+    by (Some s) end calm ample m = calm_stop s run.last after end.3 calm ample m
+
+-- ---- runs that have all their ages
+
+-- a run that has all the ages that its script asks for, in which no log stopped a member
+pub record IsWhole (script : Script) (ages : List AgeEnd) (stop : Option Stop) : Type 0 where
+  pub ages_all : length ages ≡ script.ages
+  pub disk : some_so DiskFault ages stop ≡ false
+  pub logs : is_some (refusal_of stop) ≡ false
+  pub full : some_so LogFull ages stop ≡ false
+
+-- one that nothing stopped
+whole_by : (script : Script) (ages : List AgeEnd) (stop : Option Stop) → stop ≡ None → length ages ≡ script.ages
+    → some_end DiskFault ages ≡ false → some_end LogFull ages ≡ false → IsWhole script ages stop
+whole_by script ages stop none all disk full = record {
+  ages_all = all;
+  disk = ap (some_so DiskFault ages) none ∙ or_from (some_end DiskFault ages) false disk refl;
+  logs = ap (λ s. is_some (refusal_of s)) none;
+  full = ap (some_so LogFull ages) none ∙ or_from (some_end LogFull ages) false full refl;
+}
+
+none_full : (ages : List AgeEnd) → All (λ (age : AgeEnd). NoneFull age.members) ages
+    → some_end LogFull ages ≡ false
+none_full ages roomy =
+    list_any_none (λ (age : AgeEnd). some_of LogFull age.members) ages
+    (λ k d within. list_any_none (λ (m : MemberEnd). is_of LogFull m.end) (get_or ages k d).members
+    (λ j e below. unfull (get_or (get_or ages k d).members j e).end (roomy k d within j e below)))
+
+-- fit disks that leave room, of which no call fails
+pub whole_run : (script : Script) (mode : Mode) (before after : YardState) (ages : List AgeEnd) (stop : Option Stop)
+    → IsRunOf script mode before after ages stop → AreFit script before → AreRoomy script before
+    → ((m : ℕ) → m < script.members → Rose (before.faults m) (after.faults m) → ⊥) → is_memory stop ≡ false
+    → IsWhole script ages stop
+whole_run script mode before after ages stop run fit roomy calm ample = by stop refl
+  where
+    r : IsRoomyRun ages stop
+    r = run.roomy fit roomy
+
+    low : (m : ℕ) → before.faults m ≤ run.last.faults m
+    low m = later script mode 0 before run.last ages run.course m
+
+    outside : (s : Stop) → stop ≡ Some s → HasFinished script run.last after ages (Some s) → IsOutside s → ⊥
+    outside stops.OutOfMemory is end out = true≢false (sym (ap is_memory is) ∙ ample)
+    outside (stops.DiskFault m) is end out =
+        calm m end.1.below (rose_between (before.faults m) (run.last.faults m) (after.faults m) (after.faults m)
+        (low m) end.1.rose (omega arith))
+    outside (stops.LogFull m len) is end out = out
+    outside (stops.Damaged m at) is end out = out
+    outside (stops.Disagree a b p) is end out = out
+    outside (stops.Foreign m p) is end out = out
+    outside stops.AgesUsedUp is end out = out
+
+    by : (o : Option Stop) → stop ≡ o → IsWhole script ages stop
+    by None is =
+        let end = subst (HasFinished script run.last after ages) is run.finish in
+        whole_by script ages stop is end.0
+        (none_rose script mode 0 before.faults before run.last ages run.course (λ m. omega arith)
+        (λ m l rose. calm m l (subst (λ (y : YardState). Rose (before.faults m) (y.faults m)) end.1 rose)))
+        (none_full ages r.roomy)
+    by (Some s) is =
+        absurd (outside s is (subst (HasFinished script run.last after ages) is run.finish)
+        (subst (λ (o : Option Stop). IfSome o IsOutside) is r.stopped))
+
+-- empty disks in memory, none of which counts a fault
+pub whole_in_memory : (script : Script) (mode : Mode) (ages : List AgeEnd) (stop : Option Stop)
+    → IsRunInMemory script mode ages stop → is_memory stop ≡ false → IsWhole script ages stop
+whole_in_memory script mode ages stop in_memory ample = record {
+  ages_all = by stop refl in_memory.run.finish (fresh script mode ages stop in_memory).stopped;
+  disk = memory_holds script mode ages stop in_memory ample;
+  logs = memory_accepts script mode ages stop in_memory;
+  full = memory_has_room script mode ages stop in_memory;
+}
+  where
+    by : (o : Option Stop) → stop ≡ o → HasFinished script in_memory.run.last in_memory.after ages o
+        → IfSome o IsOutside → length ages ≡ script.ages
+    by None is end out = end.0
+    by (Some stops.OutOfMemory) is end out = absurd (true≢false (sym (ap is_memory is) ∙ ample))
+    by (Some (stops.DiskFault m)) is end out = absurd (omega (arith, end.1.rose, in_memory.calm m))
+    by (Some (stops.LogFull m len)) is end out = absurd out
+    by (Some (stops.Damaged m at)) is end out = absurd out
+    by (Some (stops.Disagree a b p)) is end out = absurd out
+    by (Some (stops.Foreign m p)) is end out = absurd out
+    by (Some stops.AgesUsedUp) is end out = absurd out
+
 -- a last line that tells of nothing but turns and majorities
-by_parts : (disk : Option ℕ) (logs : Option Last) (full turns split : Option ℕ) (line : Last)
+pub by_parts : (disk : Option ℕ) (logs : Option Last) (full turns split : Option ℕ) (line : Last)
     → is_some disk ≡ false → is_some logs ≡ false → is_some full ≡ false
     → last_by disk logs full turns split ≡ line → Contains (0 ∷ 8 ∷ 9 ∷ []) (status_of line)
 by_parts (Some m) logs full turns split line d l f said = absurd (true≢false d)
@@ -244,6 +404,20 @@ by_parts None None None (Some m) split line d l f said = (1, omega arith, ap sta
 by_parts None None None None (Some m) line d l f said = (2, omega arith, ap status_of said)
 by_parts None None None None None line d l f said = (0, omega arith, ap status_of said)
 
+-- so is that behind a run that has all its ages
+pub whole_lasts : (script : Script) (ages : List AgeEnd) (stop : Option Stop) (line : Last)
+    → IsWhole script ages stop → is_memory stop ≡ false → last_of ages stop ≡ Some line
+    → Contains (0 ∷ 8 ∷ 9 ∷ []) (status_of line)
+whole_lasts script ages stop line whole ample is =
+    by_parts (first_told DiskFault ages stop) (refusal_of stop) (first_told LogFull ages stop)
+    (first_end Spent ages) (first_end NoMajority ages) line (told_so DiskFault ages stop ∙ whole.disk) whole.logs
+    (told_so LogFull ages stop ∙ whole.full)
+    (same_Some told line (sym (ap (λ b. if b then None else Some told) ample) ∙ is))
+  where
+    told : Last
+    told = last_by (first_told DiskFault ages stop) (refusal_of stop) (first_told LogFull ages stop)
+        (first_end Spent ages) (first_end NoMajority ages)
+
 -- the last line behind a run over empty disks that count no fault is one of these
 pub memory_lasts : (script : Script) (mode : Mode) (ages : List AgeEnd) (stop : Option Stop) (line : Last)
     → IsRunInMemory script mode ages stop → last_of ages stop ≡ Some line
@@ -251,12 +425,7 @@ pub memory_lasts : (script : Script) (mode : Mode) (ages : List AgeEnd) (stop : 
 memory_lasts script mode ages stop line run is = elim (cases_Bool (is_memory stop)) [
   | inl wanting ↦ absurd (none-some line (sym (ap (λ b. if b then None else Some told) wanting) ∙ is))
   | inr ample ↦
-      by_parts (first_told DiskFault ages stop) (refusal_of stop) (first_told LogFull ages stop)
-      (first_end Spent ages) (first_end NoMajority ages) line
-      (told_so DiskFault ages stop ∙ memory_holds script mode ages stop run ample)
-      (memory_accepts script mode ages stop run)
-      (told_so LogFull ages stop ∙ memory_has_room script mode ages stop run)
-      (same_Some told line (sym (ap (λ b. if b then None else Some told) ample) ∙ is))
+      whole_lasts script ages stop line (whole_in_memory script mode ages stop run ample) ample is
 ]
   where
     told : Last

@@ -1,14 +1,17 @@
 -- What was run, and what is said of it.
-use Rattle.std.specs.Prelude.{◌≡◌, ◌≢◌, ℕ, List, [], ◌∷◌, ◌++◌, Option, Some, None, Contains, IfSome}
+use Rattle.std.specs.Prelude.{◌≡◌, ◌≢◌, ◌⊎◌, ⊤, ℕ, ◌<◌, List, [], ◌∷◌, ◌++◌, length, Option, Some, None, Contains, IfSome}
 use Rattle.std.specs.List.{flat_map}
 use Rattle.dr_ages.specs.declared.mode.Mode.{Mode}
 use Rattle.dr_ages.specs.declared.mode.Mode.TheVariants.{Sim}
 use Rattle.dr_ages.specs.declared.stop.Stop.{Stop}
+use Rattle.dr_ages.specs.Fit.{AreFit}
+use Rattle.dr_ages.specs.Found.{AreRoomy}
 use Rattle.dr_ages.specs.Runs.{IsRunOf}
 use Rattle.dr_complete.specs.Time.{HasTime}
 use Rattle.dr_entry.specs.declared.end.AgeEnd.{AgeEnd}
 use Rattle.dr_intake.specs.Reading.{refusal_in}
 use Rattle.dr_intake.specs.Status.{status_of}
+use Rattle.dr_io.specs.Faults.{Rose}
 use Rattle.dr_program_laws.specs.Trusting.{SuspectsNobody}
 use Rattle.dr_script.specs.declared.script.Script.{Script}
 use Rattle.dr_script.specs.Reading.{Reading, Reads, reading_of}
@@ -56,6 +59,21 @@ abbrev pub HasRun : Mode → Option (List ℕ) → Script → YardState → Yard
 HasRun mode (Some folder) script before after ages stop = IsRunOf script mode before after ages stop
 HasRun mode None script before after ages stop = (after ≡ before) × IsRunInMemory script mode ages stop
 
+-- a run of the script has room for all its ages: over disks in memory, or over disks of the yard that are fit
+-- and leave room, and of which no call failed
+abbrev pub LeavesRoom : Option (List ℕ) → Script → YardState → YardState → Type 0
+LeavesRoom (Some folder) script before after = AreFit script before × AreRoomy script before
+    × ((m : ℕ) → m < script.members → Rose (before.faults m) (after.faults m) → ⊥)
+LeavesRoom None script before after = ⊤
+
+-- no call of a disk of the yard has failed
+abbrev pub NoneFailed : YardState → YardState → Type 0
+NoneFailed before after = (m : ℕ) → after.faults m ≡ before.faults m
+
+-- a disk of which a call failed is told by the last line, if there is one
+abbrev pub TellsDisks : YardState → YardState → Option Last → Type 0
+TellsDisks before after last = IfSome last (λ line. NoneFailed before after ⊎ (status_of line ≡ 6))
+
 -- a script was played, and the last line tells how its run ended
 pub record HasPlayed (play : Playing) (script : Script) (before after : YardState) (o : Outcome) : Type 0 where
   pub run : HasRun play.mode play.folder script before after o.ages o.stop
@@ -66,6 +84,12 @@ pub record HasPlayed (play : Playing) (script : Script) (before after : YardStat
   pub untimely : play.mode ≡ Sim → o.last ≡ Some lasts.Unfinished → HasTime script → ⊥
   -- a member without a majority had a reason to suspect others
   pub untrusting : o.last ≡ Some lasts.NoMajority → SuspectsNobody script → ⊥
+  -- a disk that failed is told
+  pub told : TellsDisks before after o.last
+  -- unless memory was wanting fit disks stay fit, and a run that has room for all its ages has them
+  pub fit : AreFit script before → IfSome o.last (λ line. AreFit script after)
+  pub complete : LeavesRoom play.folder script before after
+      → IfSome o.last (λ line. (length o.ages ≡ script.ages) × Contains (0 ∷ 8 ∷ 9 ∷ []) (status_of line))
 
 -- ---- what comes of a command
 
@@ -88,9 +112,10 @@ pub data IsDue (o : Outcome) : Type 0 where
       → IfSome o.last (λ line. Contains (0 ∷ 3 ∷ 12 ∷ 13 ∷ []) (status_of line)) → IsDue o
 
 -- a command came to this: it did what it does, and the last line, if there is one, is due, with one of these
--- statuses
+-- statuses, and tells of a disk that failed
 pub record HasDone (Is : YardState → YardState → Outcome → Type 0) (ends : List ℕ) (before after : YardState)
     (o : Outcome) : Type 0 where
   pub does : Is before after o
   pub due : IsDue o
   pub known : IfSome o.last (λ line. Contains ends (status_of line))
+  pub told : TellsDisks before after o.last

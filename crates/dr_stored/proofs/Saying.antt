@@ -42,6 +42,9 @@ stores key version yard o text (Reads script) is (played, report) = (
     accepted = played.accepted;
     untimely = played.untimely;
     untrusting = played.untrusting;
+    told = played.told;
+    fit = played.fit;
+    complete = played.complete;
   },
   ap bodies.Text is,
 )
@@ -60,4 +63,5 @@ values_said key version bytes yard o text is (inr has) = inr (record {
   does = stores key version yard o text (reading_of bytes) is has.does;
   due = due o text has.due;
   known = has.known;
+  told = has.told;
 })

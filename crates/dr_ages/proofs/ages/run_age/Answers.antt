@@ -1,15 +1,20 @@
 use Rattle.std.proofs.Common.{◌≡◌, ◌≤◌, ◌∙◌, refl, subst, ℕ, List, length, get_or, arith}
 use Rattle.std.proofs.lemmas.Option.{slice_get-get_or}
 use Rattle.std.proofs.lemmas.Result.{IfErr-weaker, IfOk-weaker}
+use Rattle.dr_history_laws.proofs.Lists.{slice_get-some}
 use Rattle.dr_log.specs.State.{LogState}
 use Rattle.dr_yard.specs.Yards.{YardState, state_by}
 use Rattle.dr_ages.specs.Ages.{IsAgeOf}
 use Rattle.dr_ages.specs.Lent.{with_logs}
-use Rattle.dr_ages.specs.Stops.{HasStopped}
-use Rattle.dr_ages.proofs.Backs.{AreAllBack, after_is, later_back, passed_back, told_past}
+use Rattle.dr_ages.specs.Fit.{AreFit}
+use Rattle.dr_ages.specs.Passing.{GoesOn}
+use Rattle.dr_ages.specs.Stops.{HasStopped, NamesFaults}
+use Rattle.dr_ages.proofs.Backs.{AreAllBack, after_is, faults_at, faults_past, kept_back, later_back, passed_back, told_past}
 use Rattle.dr_ages.proofs.Caught.{on_still}
-use Rattle.dr_ages.proofs.Chain.{passes_none}
-use Rattle.dr_ages.proofs.Loans.{lent_later, refused_stop}
+use Rattle.dr_ages.proofs.Chain.{none_kept, passes_none}
+use Rattle.dr_ages.proofs.Fit.{mounted_fit}
+use Rattle.dr_ages.proofs.Loans.{lent_later, refused_mounted, refused_names, refused_stop, stopped_mounted}
+use Rattle.dr_ages.proofs.Staying.{on_alike}
 use Rattle.dr_ages.proofs.ages.run_age.Given.{Over}
 use Rattle.dr_ages.proofs.ages.run_age.Goals as goal
 use Rattle.dr_ages.proofs.ages.run_age.Goals.{After-give_all_back, in-Ok-mount_all, in-Err}
@@ -56,6 +61,12 @@ whole_yard : (g : Over) (c : After-give_all_back g) (news : List (LogState g.row
 whole_yard g c news same rest = after_is g.Y.Store.Disk.told g.Y.Store.Disk.faults (before g c) (mid g c)
     (after g c) news rest (back g c news same)
 
+-- the disks of the members whose logs were not mounted go on
+on : (g : Over) (c : After-give_all_back g) (m : ℕ) → length c.mount_all.new.logs.items ≤ m
+    → GoesOn ((before g c).told m) ((before g c).faults m) ((mid g c).told m) ((mid g c).faults m)
+on g c m past = on_alike ((before g c).told m) ((mid g c).told m) ((before g c).faults m) ((mid g c).faults m)
+    (c.mount_all.ensures.on m past)
+
 pub returns-clause-age : goal.returns-clause-age
 returns-clause-age g c = elim c.match-mount_all.branch [
   | in-Ok-mount_all w ↦
@@ -93,12 +104,81 @@ returns-clause-passes g c = elim c.match-mount_all.branch [
       let news = w.run_over.result.1.items in
       passed_back g.Y.Store.Disk.told g.Y.Store.Disk.faults (before g c) (mid g c) (after g c)
       c.mount_all.new.logs.items news c.mount_all.ensures.mounted w.run_over.ensures.later
-      w.run_over.ensures.count c.mount_all.ensures.on (back g c news (rw w.ended-is refl))
+      w.run_over.ensures.count (on g c) (back g c news (rw w.ended-is refl))
   | in-Err w ↦
       let logs = c.mount_all.new.logs.items in
       passed_back g.Y.Store.Disk.told g.Y.Store.Disk.faults (before g c) (mid g c) (after g c) logs logs
       c.mount_all.ensures.mounted (on_still g.Y.Store.Disk.told g.Y.Store.Disk.faults logs) refl
-      c.mount_all.ensures.on (back g c logs (rw w.ended-is refl))
+      (on g c) (back g c logs (rw w.ended-is refl))
+]
+
+-- the disks of all logs were mounted, and kept since
+pub returns-clause-kept : goal.returns-clause-kept
+returns-clause-kept g c = elim c.match-mount_all.branch [
+  | in-Ok-mount_all w ↦
+      let news = w.run_over.result.1.items in
+      rw w.ended-is (IfErr-weaker w.run_over.result.0 _ _ (λ stop so. record {
+        mounted = length c.mount_all.new.logs.items;
+        since = kept_back g.Y.Store.Disk.told g.Y.Store.Disk.faults c.args.script.now.members (before g c) (mid g c)
+            (after g c) c.mount_all.new.logs.items news c.mount_all.ensures.mounted w.run_over.ensures.later
+            w.run_over.ensures.count c.mount_all.ensures.on (back g c news (rw w.ended-is refl));
+        count = stopped_mounted c.args.script.now.members (length c.mount_all.new.logs.items) stop
+            w.in-Ok-mount_all.ensures.all so;
+      }) w.run_over.ensures.behind)
+  | in-Err w ↦
+      let logs = c.mount_all.new.logs.items in
+      rw w.ended-is (record {
+        mounted = length logs;
+        since = kept_back g.Y.Store.Disk.told g.Y.Store.Disk.faults c.args.script.now.members (before g c) (mid g c)
+            (after g c) logs logs c.mount_all.ensures.mounted
+            (on_still g.Y.Store.Disk.told g.Y.Store.Disk.faults logs) refl c.mount_all.ensures.on
+            (back g c logs (rw w.ended-is refl));
+        count = refused_mounted c.args.script.now.members (length logs) (before g c) (mid g c) w.in-Err.stop
+            w.in-Err.ensures.stopped;
+      })
+]
+
+pub returns-in_default-clause-kept : goal.returns-in_default-clause-kept
+returns-in_default-clause-kept g c =
+    none_kept c.args.script.now (state_by g.Y.Yard.told g.Y.Yard.faults c.args.yard.now)
+
+pub returns-clause-fit : goal.returns-clause-fit
+returns-clause-fit g c = elim c.match-mount_all.branch [
+  | in-Ok-mount_all w ↦
+      let is = whole_yard g c w.run_over.result.1.items (rw w.ended-is refl)
+      (λ m past. w.in-Ok-mount_all.ensures.rest m
+      (omega (arith, past, w.run_over.ensures.count, w.in-Ok-mount_all.ensures.all))) in
+      rw w.ended-is (IfErr-weaker w.run_over.result.0 _ _
+      (λ stop so other fit. subst (λ (y : YardState). AreFit c.args.script.now y) is
+      (so (before g c) c.mount_all.ensures.mounted other fit)) w.run_over.ensures.fit)
+  | in-Err w ↦
+      let logs = c.mount_all.new.logs.items in
+      rw w.ended-is (λ other fit. mounted_fit g.Y.Store.Disk.told g.Y.Store.Disk.faults c.args.script.now
+      (before g c) (mid g c) (after g c) logs fit c.mount_all.ensures.mounted c.mount_all.ensures.on
+      (back g c logs (rw w.ended-is refl)))
+]
+
+pub returns-clause-names : goal.returns-clause-names
+returns-clause-names g c = elim c.match-mount_all.branch [
+  | in-Ok-mount_all w ↦
+      let is = whole_yard g c w.run_over.result.1.items (rw w.ended-is refl)
+      (λ m past. w.in-Ok-mount_all.ensures.rest m
+      (omega (arith, past, w.run_over.ensures.count, w.in-Ok-mount_all.ensures.all))) in
+      rw w.ended-is (IfErr-weaker w.run_over.result.0 _ _
+      (λ stop so. subst (λ (y : YardState). NamesFaults stop (before g c) y) is
+      (so (before g c) c.mount_all.ensures.mounted)) w.run_over.ensures.names)
+  | in-Err w ↦
+      let told = g.Y.Store.Disk.told in
+      let faults = g.Y.Store.Disk.faults in
+      let logs = c.mount_all.new.logs.items in
+      let are_back = back g c logs (rw w.ended-is refl) in
+      rw w.ended-is (refused_names c.args.script.now.members (length logs) (before g c) (mid g c) (after g c)
+      w.in-Err.stop
+      (λ m l.
+      let log = slice_get-some logs m l in
+      (are_back m).1 ∙ (faults_at told faults (mid g c) logs m log.0 log.1
+      ∙ (c.mount_all.ensures.mounted m log.0 log.1).calm))
+      (λ m past. (are_back m).1 ∙ faults_past told faults (mid g c) logs m past) w.in-Err.ensures.stopped)
 ]
 
 pub returns-in_default-clause-passes : goal.returns-in_default-clause-passes

@@ -8,9 +8,10 @@ use Rattle.dr_log.specs.State.{LogState}
 use Rattle.dr_restart.specs.declared.start.Start.{Start}
 use Rattle.dr_restart.specs.Groups.{group_of}
 use Rattle.dr_ages.specs.Ages.{over_of}
+use Rattle.dr_ages.specs.Fit.{AreFit}
 use Rattle.dr_ages.specs.Lent.{AreMounted, with_logs}
 use Rattle.dr_ages.specs.Opened.{AreCaughtUp, AreLater}
-use Rattle.dr_ages.specs.Stops.{HasStopped}
+use Rattle.dr_ages.specs.Stops.{HasStopped, NamesFaults}
 use Rattle.dr_ages.specs.Watched.{HasSeen}
 use Rattle.dr_ages.proofs.Played.{are_opened, is_age, later_on, ok_at, same_start}
 use Rattle.dr_ages.proofs.ages.run_over.Given.{Over}
@@ -33,6 +34,24 @@ returns-in-Err-clause-stopped g c before mounted =
     (with_logs told faults before l) c.in-Err.stop)
     (sym (with_items_is c.args.logs c.open_age.new.logs (c.open_age.ensures.count ∙ c.as_mut_slice.ensures.len)))
     (c.in-Err.ensures.stopped before (subst (λ (l : List (LogState g.row.D.Denot)).
+    AreMounted told faults before l) (sym c.as_mut_slice.ensures.value) mounted))
+
+pub returns-in-Err-clause-fit : goal.returns-in-Err-clause-fit
+returns-in-Err-clause-fit g c before mounted unlike fit =
+    let told = g.D.Disk.told in
+    let faults = g.D.Disk.faults in
+    subst (λ (l : List (LogState g.row.D.Denot)). AreFit c.args.script.now (with_logs told faults before l))
+    (sym (with_items_is c.args.logs c.open_age.new.logs (c.open_age.ensures.count ∙ c.as_mut_slice.ensures.len)))
+    (c.in-Err.ensures.fit before (subst (λ (l : List (LogState g.row.D.Denot)).
+    AreMounted told faults before l) (sym c.as_mut_slice.ensures.value) mounted) fit)
+
+pub returns-in-Err-clause-names : goal.returns-in-Err-clause-names
+returns-in-Err-clause-names g c before mounted =
+    let told = g.D.Disk.told in
+    let faults = g.D.Disk.faults in
+    subst (λ (l : List (LogState g.row.D.Denot)). NamesFaults c.in-Err.stop before (with_logs told faults before l))
+    (sym (with_items_is c.args.logs c.open_age.new.logs (c.open_age.ensures.count ∙ c.as_mut_slice.ensures.len)))
+    (c.in-Err.ensures.names before (subst (λ (l : List (LogState g.row.D.Denot)).
     AreMounted told faults before l) (sym c.as_mut_slice.ensures.value) mounted))
 
 pub returns-in-Err-clause-later : goal.returns-in-Err-clause-later

@@ -5,7 +5,7 @@ use Rattle.dr_yard.specs.Yards.{YardState, state_by}
 use Rattle.dr_ages.specs.Ages.{AreAges}
 use Rattle.dr_ages.specs.declared.stop.Stop.TheVariants.{OutOfMemory}
 use Rattle.dr_ages.specs.Runs.{IsRunOf}
-use Rattle.dr_ages.proofs.Chain.{ages_more, passes_none}
+use Rattle.dr_ages.proofs.Chain.{ages_more, none_kept, passes_none}
 use Rattle.dr_ages.specs.Watched.{AreWatched}
 use Rattle.dr_ages.proofs.Runs.{a_run}
 use Rattle.dr_ages.proofs.Watching.{watched_more}
@@ -39,7 +39,8 @@ returns-in_default-clause-run g c =
     subst (λ (ages : List AgeEnd). IsRunOf c.args.script.now c.args.mode before before ages (Some OutOfMemory))
     (sym (c.of.ensures ∙ c.new.ensures.items))
     (a_run c.args.script.now c.args.mode before [] before before (Some OutOfMemory) c.requires.ranges refl
-    (omega (arith, c.requires.ranges.some_age), tt, passes_none before) (passes_none before))
+    (omega (arith, c.requires.ranges.some_age), tt, passes_none before, tt) (passes_none before)
+    (none_kept c.args.script.now before) (λ other fit. fit))
 
 pub returns-in-Err-clause-run : goal.returns-in-Err-clause-run
 returns-in-Err-clause-run g c =
@@ -53,8 +54,9 @@ returns-in-Err-clause-run g c =
       omega (arith, c.loop-nth.invariant.0, c.loop-nth-test.true),
       c.in-Err.ensures.stopped,
       c.run_age.ensures.passes,
+      c.in-Err.ensures.names,
     )
-    c.run_age.ensures.passes)
+    c.run_age.ensures.passes c.in-Err.ensures.kept c.in-Err.ensures.fit)
 
 pub returns-clause-run : goal.returns-clause-run
 returns-clause-run g c =
@@ -63,7 +65,7 @@ returns-clause-run g c =
     subst (λ (ages : List AgeEnd). IsRunOf c.args.script.now c.args.mode before last ages None) (sym c.of-2.ensures)
     (a_run c.args.script.now c.args.mode before c.loop-nth.ages.items last last None c.requires.ranges c.loop-nth.invariant.3
     (omega (arith, c.loop-nth.invariant.0, c.loop-nth-test.false, c.loop-nth.auto.nth-end), refl)
-    (passes_none last))
+    (passes_none last) tt tt)
 
 pub returns-in_default-clause-watched : goal.returns-in_default-clause-watched
 returns-in_default-clause-watched g c =

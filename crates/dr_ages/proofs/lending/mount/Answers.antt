@@ -7,7 +7,7 @@ use Rattle.dr_io.specs.Faults.{Rose}
 use Rattle.dr_log.specs.Grammar.{IsDamaged}
 use Rattle.dr_log.specs.Standing.{KeepsRecords}
 use Rattle.dr_ages.proofs.Loans.{was_mounted, was_refused}
-use Rattle.dr_ages.proofs.Staying.{on_alike, on_same}
+use Rattle.dr_ages.proofs.Staying.{alike_same}
 use Rattle.dr_ages.proofs.lending.mount.Goals as goal
 
 pub returns-in-Err-clause-stopped : goal.returns-in-Err-clause-stopped
@@ -27,6 +27,8 @@ returns-in-Err-clause-stopped g c =
     (c.in-Err.ensures.damaged at e))
     (λ at e. c.give_back.ensures.told
     ∙ (c.in-Err.ensures.left_damaged at e ∙ ap (added Sync) c.in-Ok.ensures.told))
+    (λ at e. c.give_back.ensures.counted ∙ (c.in-Err.ensures.calm_err (λ d. absurd (cc (e, d)))
+    ∙ (c.in-Ok.ensures.count ∙ c.in-Ok.ensures.cause.calm)))
 
 pub returns-in-Ok-mount-clause-mounted : goal.returns-in-Ok-mount-clause-mounted
 returns-in-Ok-mount-clause-mounted g c =
@@ -34,28 +36,29 @@ returns-in-Ok-mount-clause-mounted g c =
     let is = c.in-Ok-mount.ensures in
     was_mounted g.Y.Store.Disk.told g.Y.Store.Disk.faults (g.Y.Yard.told c.args.yard.now m)
     (g.Y.Yard.faults c.args.yard.now m) c.in-Ok.disk c.in-Ok-mount.log c.in-Ok.ensures.told is.read is.records
-    is.length is.limit is.whole is.any_moment
-    (omega (arith, is.faults, c.in-Ok.ensures.count, c.in-Ok.ensures.cause.later))
+    is.durable is.length is.limit is.whole is.any_moment
+    (is.faults ∙ (c.in-Ok.ensures.count ∙ c.in-Ok.ensures.cause.calm)) is.calls
 
 pub returns-in-Err-clause-on : goal.returns-in-Err-clause-on
 returns-in-Err-clause-on g c =
     let m = c.args.member in
     let old : Option Told = g.Y.Yard.told c.args.yard.now m in
     let new : Option Told = g.Y.Yard.told c.give_back.new.self m in
-    on_alike old new (g.Y.Yard.faults c.args.yard.now m) (g.Y.Yard.faults c.give_back.new.self m)
-    (subst (λ (o : Option Told). Goes o new KeepsRecords) c.in-Ok.ensures.told
-    (subst (λ (o : Option Told). Goes (g.Y.Store.Disk.told c.in-Ok.disk) o KeepsRecords)
-    (sym c.give_back.ensures.told) c.in-Err.ensures.any_moment_err))
-    (omega (
-      arith,
-      c.give_back.ensures.counted,
-      c.in-Err.ensures.faults_err,
-      c.in-Ok.ensures.count,
-      c.in-Ok.ensures.cause.later,
-    ))
+    record {
+      moments = subst (λ (o : Option Told). Goes o new KeepsRecords) c.in-Ok.ensures.told
+          (subst (λ (o : Option Told). Goes (g.Y.Store.Disk.told c.in-Ok.disk) o KeepsRecords)
+          (sym c.give_back.ensures.told) c.in-Err.ensures.any_moment_err);
+      later = omega (
+        arith,
+        c.give_back.ensures.counted,
+        c.in-Err.ensures.faults_err,
+        c.in-Ok.ensures.count,
+        c.in-Ok.ensures.cause.later,
+      );
+    }
 
 pub returns-in_default-clause-on : goal.returns-in_default-clause-on
 returns-in_default-clause-on g c =
     let m = c.args.member in
-    on_same (g.Y.Yard.told c.args.yard.now m) (g.Y.Yard.told c.lend.new.self m) (g.Y.Yard.faults c.args.yard.now m)
+    alike_same (g.Y.Yard.told c.args.yard.now m) (g.Y.Yard.told c.lend.new.self m) (g.Y.Yard.faults c.args.yard.now m)
     (g.Y.Yard.faults c.lend.new.self m) c.in_default.ensures.kept.1 c.in_default.ensures.cause.later

@@ -4,10 +4,9 @@ use Rattle.std.specs.Prelude.{Err, Option}
 use Rattle.dr_disk.specs.Disk.{Told}
 use Rattle.dr_log.specs.State.{LogState}
 use Rattle.dr_yard.specs.Yards.{state_by}
-use Rattle.dr_ages.specs.Lent.{AreLent, AreMounted, IsMounted}
-use Rattle.dr_ages.specs.Passing.{GoesOn}
+use Rattle.dr_ages.specs.Lent.{AreLent, AreMounted, IsAlike, IsMounted}
 use Rattle.dr_ages.proofs.Loans.{lent_more, mounted_more, were_refused}
-use Rattle.dr_ages.proofs.Staying.{on_same, on_then}
+use Rattle.dr_ages.proofs.Staying.{alike_same}
 use Rattle.dr_ages.proofs.lending.mount_all.Goals as goal
 
 pub loop-member-preserved : goal.loop-member-preserved
@@ -52,12 +51,15 @@ returns-in_err-log-clause-stopped g c =
     rw answer (were_refused g.Y.Store.Disk.told g.Y.Store.Disk.faults c.args.members k before
     (state_by g.Y.Yard.told g.Y.Yard.faults c.loop-member.yard) after c.loop-member.logs.items c.in_err-log.field-0.0
     (omega (arith, c.loop-member-test.true)) c.loop-member.invariant.3 c.loop-member.invariant.0 same.0 same.1
-    c.in_err-log.ensures.stopped)
+    (λ j l.
+    let o = c.in_err-log.ensures.others j (λ e. absurd (omega (arith, l, e))) in
+    let s = c.loop-member.invariant.4 j (omega (arith, l)) in
+    (o.0 ∙ s.0, o.2 ∙ s.1)) c.in_err-log.ensures.stopped)
 
 pub returns-clause-on : goal.returns-clause-on
 returns-clause-on g c m past =
     let s = c.loop-member.invariant.4 m (omega (arith, past, c.loop-member.invariant.0)) in
-    on_same (g.Y.Yard.told c.args.yard.now m) (g.Y.Yard.told c.loop-member.yard m)
+    alike_same (g.Y.Yard.told c.args.yard.now m) (g.Y.Yard.told c.loop-member.yard m)
     (g.Y.Yard.faults c.args.yard.now m) (g.Y.Yard.faults c.loop-member.yard m) s.0 (omega (arith, s.1))
 
 pub returns-in_err-log-clause-on : goal.returns-in_err-log-clause-on
@@ -71,12 +73,12 @@ returns-in_err-log-clause-on g c m past =
     let same = c.loop-member.invariant.4 m (omega (arith, past, c.loop-member.invariant.0)) in
     elim (cases_eq m k) [
       | inl at ↦
-          on_then (told old m) (told mid m) (told new m) (faults old m) (faults mid m) (faults new m)
-          (on_same (told old m) (told mid m) (faults old m) (faults mid m) same.0 (omega (arith, same.1)))
-          (subst (λ (j : ℕ). GoesOn (told mid j) (faults mid j) (told new j) (faults new j)) (sym at)
-          c.in_err-log.ensures.on)
+          subst (λ (o : Option Told). IsAlike o (faults old m) (told new m) (faults new m)) same.0
+          (subst (λ (n : ℕ). IsAlike (told mid m) n (told new m) (faults new m)) same.1
+          (subst (λ (j : ℕ). IsAlike (told mid j) (faults mid j) (told new j) (faults new j)) (sym at)
+          c.in_err-log.ensures.on))
       | inr apart ↦
           let o = c.in_err-log.ensures.others m apart in
-          on_same (told old m) (told new m) (faults old m) (faults new m) (o.0 ∙ same.0)
+          alike_same (told old m) (told new m) (faults old m) (faults new m) (o.0 ∙ same.0)
           (omega (arith, o.2, same.1))
     ]
