@@ -44,6 +44,7 @@ own script ends is all agreed m d within s i bytes has =
 -- what a run of a shard answers, whatever ran it
 record HasRunWell (script : Script) (age : AgeEnd) : Type 0 where
   all : length age.members ≡ length script.messages
+  roster : length age.members ≡ script.members
   agreed : EndsAgreed (first_group_of script).opening age.members
   ended : HaveEnded (first_group_of script).opening script.turns (crashes_of script.faults 0) age.members
   stored : NoneStopped age.members
@@ -54,6 +55,7 @@ simulated : (script : Script) (age : AgeEnd) → IsGroup (first_group_of script)
 simulated script age is run has = record {
   number = ap (λ (a : AgeEnd). a.age) run.told;
   start = ap (λ (a : AgeEnd). a.start) run.told;
+  roster = has.roster;
   run = run;
   agreed = has.agreed;
   ended = has.ended;
@@ -67,6 +69,7 @@ threaded : (script : Script) (age : AgeEnd) → IsGroup (first_group_of script)
 threaded script age is run has = record {
   number = ap (λ (a : AgeEnd). a.age) run.told;
   start = ap (λ (a : AgeEnd). a.start) run.told;
+  roster = has.roster;
   run = run;
   agreed = has.agreed;
   ended = has.ended;
@@ -78,7 +81,7 @@ threaded script age is run has = record {
 -- that count no fault
 module _ {D : Type 0} (told : D → Option Told) (faults : D → ℕ) (never : (disk : D) → faults disk ≡ 0)
     (script : Script) (start : Start) (first : start ≡ first_start_of script)
-    (is : IsGroup (first_group_of script))
+    (is : IsGroup (first_group_of script)) (lists : length script.messages ≡ script.members)
     (bases logs : List (LogState D)) (all : length bases ≡ length script.messages)
     (as_many : length logs ≡ length bases)
     (ample : All (IsAmple (group_of script start)) bases) where
@@ -89,6 +92,7 @@ module _ {D : Type 0} (told : D → Option Told) (faults : D → ℕ) (never : (
       → (All (IsAmple (group_of script start)) bases → NoneFull age.members) → HasRunWell script age
   well age members agreed ended come room = record {
     all = members ∙ all;
+    roster = members ∙ all ∙ lists;
     agreed = subst (λ (s : Start). EndsAgreed (group_of script s).opening age.members) first agreed;
     ended = subst (λ (s : Start). HaveEnded (group_of script s).opening script.turns
         (crashes_of script.faults 0) age.members) first ended;

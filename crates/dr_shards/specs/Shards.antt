@@ -1,5 +1,5 @@
 -- What comes of the run of a shard.
-use Rattle.std.specs.Prelude.{◌≡◌, ℕ, List, [], ◌∷◌, All, Contains, slice_get, Some}
+use Rattle.std.specs.Prelude.{◌≡◌, ℕ, List, [], ◌∷◌, All, Contains, length, slice_get, Some}
 use Rattle.dr_age.specs.Logged.{NoneStopped}
 use Rattle.dr_age.specs.Run.{IsRun}
 use Rattle.dr_entry.specs.declared.end.AgeEnd.{AgeEnd}
@@ -30,6 +30,7 @@ DeliversOwn script ends =
 pub record IsShardAge (mode : ShardMode) (script : Script) (age : AgeEnd) : Type 0 where
   pub number : age.age ≡ 0
   pub start : age.start ≡ []
+  pub roster : length age.members ≡ script.members
   pub run : IsRunIn mode script age
   pub agreed : EndsAgreed (first_group_of script).opening age.members
   pub ended : HaveEnded (first_group_of script).opening script.turns (crashes_of script.faults 0) age.members

@@ -68,13 +68,69 @@ pub(crate) fn text_of(alloc: Global, age: &AgeEnd) -> Result<AgeText, AllocError
 fn head_of(alloc: Global, age: &AgeEnd) -> Result<String, AllocError>
     ensures { IfOk result (λ head. string_bytes head ≡ age_head age.now) }
 {
+    let mut head = String::new(alloc);
+    push_age_head(&mut head, age)?;
+    Ok(head)
+}
+
+/// Appends the line of an age, and the entries that it started with.
+fn push_age_head(out: &mut String, age: &AgeEnd) -> Result<(), AllocError>
+    ensures { OnOk result (string_bytes out.new ≡ string_bytes out.old ++ age_head age.now) }
+{
     let start = age.start.as_slice();
     let number = age.age;
     let count = start.len();
-    let mut head = String::new(alloc);
-    writeln!(head, "age {number} start {count}")?;
-    push_entries(&mut head, start)?;
-    Ok(head)
+    writeln!(out, "age {number} start {count}")?;
+    push_entries(out, start)
+}
+
+/// Appends the text of an age. As in a report, the lines that members share are made once.
+///
+/// # Errors
+///
+/// Want of memory alone.
+pub fn push_age_text(out: &mut String, alloc: Global, age: &AgeEnd) -> Result<(), AllocError>
+    ensures { OnOk result (string_bytes out.new ≡ string_bytes out.old ++ age_text age.now) }
+{
+    let members = age.members.as_slice();
+    let start = age.start.as_slice().len();
+    let printed = Printed::of(alloc, longest(members, start))?;
+    push_age_head(out, age)?;
+    push_member_texts(out, start, &printed, members)
+}
+
+/// Appends the texts of the members of an age that started with `start` entries, ascending.
+fn push_member_texts(
+    out: &mut String,
+    start: usize,
+    printed: &Printed<'_>,
+    members: &[MemberEnd],
+) -> Result<(), AllocError>
+    ensures { OnOk result
+        (string_bytes out.new ≡ string_bytes out.old ++ members_text start members.now) }
+{
+    for (number, member) in members.iter().enumerate() {
+        push_member_text(out, start, number, printed, member)?;
+    }
+    Ok(())
+}
+
+/// Appends the text of the member numbered `number` of an age that started with `start` entries.
+fn push_member_text(
+    out: &mut String,
+    start: usize,
+    number: usize,
+    printed: &Printed<'_>,
+    member: &MemberEnd,
+) -> Result<(), AllocError>
+    ensures { OnOk result
+        (string_bytes out.new ≡ string_bytes out.old ++ member_text start number member.now) }
+{
+    let entries = own_entries(member, start);
+    let same = printed.count_same(entries);
+    push_member_line(out, number, member)?;
+    out.push_str(printed.first_lines(same))?;
+    push_entries(out, behind(entries, same))
 }
 
 /// The longest list of entries that a member has after the first `start`, empty where none has any.

@@ -112,7 +112,11 @@ fn is_member(mask: u16, number: u8) -> bool
 }
 
 /// Appends a number, with a comma before it where it is not the first.
-fn push_number(out: &mut String, first: bool, number: u8) -> Result<(), AllocError>
+///
+/// # Errors
+///
+/// Want of memory alone.
+pub fn push_number(out: &mut String, first: bool, number: u8) -> Result<(), AllocError>
     ensures { OnOk result (string_bytes out.new
         ≡ string_bytes out.old ++ (if first then [] else codes ",") ++ decimal number) }
 {

@@ -14,10 +14,10 @@ mod printed;
 mod report;
 mod writing;
 
-pub use age::push_member_line;
+pub use age::{push_age_text, push_member_line};
 pub use digits::push_hex_bytes;
 pub use ends::push_end;
-pub use entries::{push_entry, push_mask};
+pub use entries::{push_entry, push_mask, push_number};
 pub use last::{Clause, Last, push_last};
 pub use report::Report;
 pub use writing::write_all;

@@ -12,7 +12,8 @@ returns-in-Sim g c =
     let made = c.in_ok-logs.ensures in
     let group = group_of script c.first_start-start.result in
     subst (λ m. IfOk c.sim_age.result (IsShardAge m script)) (sym c.in-Sim.is)
-    (simulated_as _ _ (λ disk. refl) script c.first_start-start.result first.start first.group _ _
+    (simulated_as _ _ (λ disk. refl) script c.first_start-start.result first.start first.group
+    c.requires.ranges.group.lists _ _
     (ap length c.deref_mut.ensures.value ∙ made.opened.all) e.count
     (subst (All (IsAmple group)) (sym c.deref_mut.ensures.value) made.ample)
     c.sim_age.result e.run e.members e.agreed e.ended e.logged e.ample)
@@ -22,6 +23,7 @@ returns-in-Ok g c =
     let script = c.args.script.now in let first = c.first_start-start.ensures in let e = c.in-Ok.ensures in
     let age = c.in-Ok.age in let made = c.in_ok-logs.ensures in
     subst (λ m. IsShardAge m script age) (sym c.in-Run.is)
-    (threaded_as _ _ (λ disk. refl) script c.first_start-start.result first.start first.group _ _
+    (threaded_as _ _ (λ disk. refl) script c.first_start-start.result first.start first.group
+    c.requires.ranges.group.lists _ _
     made.opened.all e.count made.ample
     age e.run e.members e.agreed e.ended e.logs e.ample)

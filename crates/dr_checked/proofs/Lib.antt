@@ -1,0 +1,3 @@
+pub mod Spelling
+mod Statuses
+mod Coming

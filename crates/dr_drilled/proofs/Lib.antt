@@ -1,0 +1,2 @@
+mod LastViews
+mod Saying

@@ -1,0 +1,3 @@
+mod Listing
+mod Lasts
+mod Coming
