@@ -11,7 +11,7 @@ use Rattle.dr_yard.specs.Yards.{YardState}
 use Rattle.dr_outcome.specs.declared.last.Kind.TheVariants.{DiskFault, LogFull, NoMajority, Spent}
 use Rattle.dr_outcome.specs.declared.outcome.Outcome.{Outcome}
 use Rattle.dr_outcome.specs.Last.{first_end, first_told, last_by, last_of, refusal_of, some_end, some_so}
-use Rattle.dr_outcome.specs.Outcome.{HasDone, by_run, outcome_text, unrun}
+use Rattle.dr_outcome.specs.Outcome.{HasDone, TellsDisks, by_run, outcome_text, unrun}
 use Rattle.dr_outcome.proofs.Lasts.{end_so, refusal_status, told_so}
 use Rattle.dr_outcome.proofs.Due.{contains_more, line_behind}
 use Rattle.derecho.specs.declared.words.Command.{Command}
@@ -187,6 +187,33 @@ standing_of c held holds fell falls status course wrote = elim course [
   | done k asked bytes was has ↦
       done_standing c held holds fell falls status k bytes asked has wrote c.outcome.last refl
 ]
+
+-- a disk that failed is told by the status, unless an earlier one is
+pub disk_told_of : (c : Call) (held holds : Option (List ℕ)) (fell falls status : ℕ) → IsCourse c
+    → WroteOrNot held holds fell falls status c.outcome
+    → ((m : ℕ) → c.after.faults m ≡ c.before.faults m) ⊎ Contains (6 ∷ 10 ∷ 5 ∷ []) status
+disk_told_of c held holds fell falls status course wrote = elim course [
+  | usage none kept alone ↦ inl (λ m. ap (λ (yard : YardState). yard.faults m) alone.untouched)
+  | no_source k asked reading rose alone ↦
+      inl (λ m. ap (λ (yard : YardState). yard.faults m) alone.untouched)
+  | no_memory k asked alone ↦ inl (λ m. ap (λ (yard : YardState). yard.faults m) alone.untouched)
+  | done k asked bytes was has ↦ by c.outcome.last refl has.told
+]
+  where
+    sooner : IsEarly status → Contains (6 ∷ 10 ∷ 5 ∷ []) status
+    sooner (inl is) = (1, omega arith, sym is)
+    sooner (inr is) = (2, omega arith, sym is)
+
+    by : (last : Option Last) → c.outcome.last ≡ last → TellsDisks c.before c.after c.outcome.last
+        → ((m : ℕ) → c.after.faults m ≡ c.before.faults m) ⊎ Contains (6 ∷ 10 ∷ 5 ∷ []) status
+    by None is told = inr (sooner (unsaid held holds fell falls status c.outcome wrote is))
+    by (Some line) is told = elim (said held holds fell falls status c.outcome line wrote is) [
+      | inl first ↦ inr (sooner first)
+      | inr due ↦ elim (subst (TellsDisks c.before c.after) is told) [
+        | inl none ↦ inl none
+        | inr six ↦ inr (0, omega arith, sym (due ∙ six))
+      ]
+    ]
 
 -- a status behind which nothing was run is no other
 unrun_status : (status : ℕ) → IsUnrun status → ((status ≡ 0) ⊎ (status ≡ 3)) ⊎ (12 ≤ status)

@@ -1,3 +1,3 @@
 pub mod Fronts
-pub mod Rows
+pub mod Verbs
 pub mod Course

@@ -1,21 +1,27 @@
 -- What comes of a call: what each command does, the last line, and the status.
 use Rattle.std.specs.Prelude.{◌≡◌, ◌⊎◌, ℕ, List, [], Option, Contains, MatchOption, String}
 use Rattle.std.specs.declared.alloc.Global.{Global}
+use Rattle.dr_checked.specs.Checked.{Checks}
+use Rattle.dr_drilled.specs.Drilled.{Drills}
 use Rattle.dr_intake.specs.Answer.{IsAnswer}
 use Rattle.dr_intake.specs.Status.{WroteText, status_of}
 use Rattle.dr_io.specs.Sink.{Gains}
 use Rattle.dr_outcome.specs.Outcome.{HasDone, Plays, SaysOnly, outcome_text}
 use Rattle.dr_outcome.specs.declared.outcome.Outcome.{Outcome}
+use Rattle.dr_sharded.specs.Sharded.{RunsShards}
 use Rattle.dr_stored.specs.Stored.{Stores}
 use Rattle.dr_yard.specs.Yards.{YardState}
 use Rattle.derecho.specs.declared.words.Command.{Command}
-use Rattle.derecho.specs.declared.words.Command.TheVariants.{Play, Store}
+use Rattle.derecho.specs.declared.words.Command.TheVariants.{Check, Drill, Play, Shards, Store}
 use Rattle.derecho.specs.Words.{asked_by, ends_of, reads}
 
 -- what each command makes of what was read for it, by how the yard was and then is
 abbrev pub Does : Command → List ℕ → YardState → YardState → Outcome → Type 0
 Does (Play play) = Plays play
 Does (Store key version) = Stores key version
+Does (Drill number) = Drills number
+Does (Shards sharding) = RunsShards sharding
+Does Check = Checks
 
 -- What a call with these words comes to before it is written, by what its source had left and then has, how
 -- many of its calls had failed and then have, and how the yard was and then is.

@@ -1,14 +1,21 @@
 -- What the words of a call ask for.
-use Rattle.std.specs.Prelude.{ℕ, ◌^◌, ◌==◌, nat_lt, if◌then◌else◌, Bool, true, IsTrue, List, [], ◌∷◌, length, take, drop, map, codes, bytes_eq, Option, None, Some, is_some, option_map, String, string_bytes}
+use Rattle.std.specs.Prelude.{ℕ, ◌^◌, ◌==◌, nat_lt, if◌then◌else◌, Bool, true, false, IsTrue, List, [], ◌∷◌, length, take, drop, map, codes, bytes_eq, Option, None, Some, is_some, option_map, String, string_bytes}
+use Rattle.std.specs.List.{find}
 use Rattle.std.specs.Option.{option_and_then}
 use Rattle.std.specs.declared.alloc.Global.{Global}
 use Rattle.dr_ages.specs.declared.mode.Mode.{Mode}
 use Rattle.dr_ages.specs.declared.mode.Mode.TheVariants.{Sim, Run}
+use Rattle.dr_checked.specs.Checked.{check_ends}
+use Rattle.dr_drilled.specs.Drilled.{drill_ends}
 use Rattle.dr_literals.specs.Literals.{key_word, number_word}
 use Rattle.dr_outcome.specs.Playing.{play_ends}
+use Rattle.dr_sharded.specs.Sharded.{shards_ends}
+use Rattle.dr_sharded.specs.Words.{sharding_of}
 use Rattle.dr_stored.specs.Stored.{store_ends}
 use Rattle.derecho.specs.declared.words.Command.{Command}
-use Rattle.derecho.specs.declared.words.Command.TheVariants.{Play, Store}
+use Rattle.derecho.specs.declared.words.Command.TheVariants.{Check, Drill, Play, Shards, Store}
+use Rattle.derecho.specs.declared.words.Verb.{Verb}
+use Rattle.derecho.specs.declared.words.Verb.TheVariants as verb
 
 -- ---- options, each in two spellings: `--NAME VALUE` and `--NAME=VALUE`
 
@@ -45,43 +52,67 @@ option_of name (word ∷ value ∷ rest) =
     if bytes_eq word name then option_map (λ v. (Some v, rest)) (own_word value)
     else Some (left_by (value_in name word) word (value ∷ rest))
 
--- ---- commands, by the words behind the one that names them
+-- ---- commands, by the words behind their verb
 
--- to play in this mode, over the logs in a folder if there is one: no word is left
-abbrev pub played : Mode → Option (List ℕ) → List (List ℕ) → Option Command
-played mode folder [] = Some (Play (record { mode = mode; folder = folder }))
-played mode folder (word ∷ rest) = None
+-- what is asked, where no word is left
+abbrev pub with_no_more : Option Command → List (List ℕ) → Option Command
+with_no_more (Some asked) [] = Some asked
+with_no_more asked rest = None
+
+-- to play in a mode, over the logs in a folder if there is one
+abbrev pub played : Mode → Option (List ℕ) → Command
+played mode folder = Play (record { mode = mode; folder = folder })
 
 abbrev pub play_of : Mode → List (List ℕ) → Option Command
-play_of mode words = option_and_then (λ found. played mode found.0 found.1) (option_of (codes "--logs") words)
+play_of mode words =
+    option_and_then (λ found. with_no_more (Some (played mode found.0)) found.1)
+    (option_of (codes "--logs") words)
 
--- to ask for a key at a version, which is below 2^32: no word is left
-abbrev pub asked_at : Option (List ℕ) → Option ℕ → List (List ℕ) → Option Command
-asked_at (Some key) (Some version) [] = if nat_lt version (2 ^ 32) then Some (Store key version) else None
-asked_at key version rest = None
+-- to ask for a key at a version, which is below 2^32
+abbrev pub asked_at : List ℕ → ℕ → Option Command
+asked_at key version = if nat_lt version (2 ^ 32) then Some (Store key version) else None
 
 -- to ask for the key in hexadecimal, at the version in decimal
 abbrev pub store_of : List (List ℕ) → Option Command
-store_of (key ∷ version ∷ rest) = asked_at (key_word key) (number_word version) rest
+store_of (key ∷ version ∷ rest) =
+    with_no_more
+    (option_and_then (λ k. option_and_then (asked_at k) (number_word version)) (key_word key)) rest
 store_of words = None
 
--- ---- the table of words: the word that names a command, and what the words behind it ask for
+-- to run the drill of the number in decimal
+abbrev pub drill_of : List (List ℕ) → Option Command
+drill_of [] = None
+drill_of (number ∷ rest) = with_no_more (option_map Drill (number_word number)) rest
 
-abbrev pub Row : Type 0
-Row = List ℕ × (List (List ℕ) → Option Command)
+-- to run the shards of a script
+abbrev pub shards_of : List (List ℕ) → Option Command
+shards_of words = option_map Shards (sharding_of words)
 
-abbrev pub table : List Row
-table = (codes "sim", play_of Sim) ∷ (codes "run", play_of Run) ∷ (codes "store", store_of) ∷ []
+-- ---- the two tables of words
 
--- what the row of this word says of the words behind it, if there is one
-abbrev pub look_up : List Row → List ℕ → List (List ℕ) → Option Command
-look_up [] word rest = None
-look_up (row ∷ rows) word rest = if bytes_eq word row.0 then row.1 rest else look_up rows word rest
+-- the verbs: the words that name commands
+abbrev pub verbs : List (List ℕ × Verb)
+verbs = (codes "sim", verb.Sim) ∷ (codes "run", verb.Run) ∷ (codes "store", verb.Store)
+    ∷ (codes "drill", verb.Drill) ∷ (codes "shards", verb.Shards)
+    ∷ (codes "check", verb.Check) ∷ []
+
+-- what the words behind a verb ask for
+abbrev pub asked_behind : Verb → List (List ℕ) → Option Command
+asked_behind verb.Sim = play_of Sim
+asked_behind verb.Run = play_of Run
+asked_behind verb.Store = store_of
+asked_behind verb.Drill = drill_of
+asked_behind verb.Shards = shards_of
+asked_behind verb.Check = with_no_more (Some Check)
+
+-- the verb that a word is, by a table of them
+abbrev pub verb_by : List (List ℕ × Verb) → List ℕ → Option Verb
+verb_by table word = option_map (λ row. row.1) (find (λ row. bytes_eq row.0 word) table)
 
 -- what these words ask for, where they are those of a command
 abbrev pub command_of : List (List ℕ) → Option Command
 command_of [] = None
-command_of (word ∷ rest) = look_up table word rest
+command_of (word ∷ rest) = option_and_then (λ named. asked_behind named rest) (verb_by verbs word)
 
 -- the same of the words of a call
 abbrev pub asked_by : List (String Global) → Option Command
@@ -97,11 +128,17 @@ IsCommand words = IsTrue (is_some (asked_by words))
 abbrev pub reads : Command → Bool
 reads (Play play) = true
 reads (Store key version) = true
+reads (Drill number) = false
+reads (Shards sharding) = true
+reads Check = true
 
 -- the statuses of the last lines that it may come to
 abbrev pub ends_of : Command → List ℕ
 ends_of (Play play) = play_ends play
 ends_of (Store key version) = store_ends
+ends_of (Drill number) = drill_ends
+ends_of (Shards sharding) = shards_ends
+ends_of Check = check_ends
 
 -- the statuses that a call may have besides want of memory and a fault of the sink
 abbrev pub told_by : Option Command → List ℕ

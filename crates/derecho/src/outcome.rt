@@ -9,10 +9,13 @@ ghost use Rattle.derecho.specs.Outcome.{Course, Does};
 ghost use Rattle.derecho.specs.Words.{ends_of, reads};
 
 use crate::words::{Command, command_of};
+use dr_checked::check_report;
+use dr_drilled::run_drill;
 use dr_intake::{READ_LIMIT, ReadFault, read_all};
 use dr_io::Source;
 use dr_outcome::{Outcome, play_text, without_ages};
 use dr_pace::Pace;
+use dr_sharded::run_sharded;
 use dr_stored::ask_stores;
 use dr_text::Last;
 use dr_yard::Yard;
@@ -60,7 +63,10 @@ fn read_for<S: Source>(
         → S.faults source.new ≡ S.faults source.old }
 {
     match command {
-        Command::Play(_) | Command::Store { .. } => read_all(alloc, source, READ_LIMIT),
+        Command::Play(_) | Command::Store { .. } | Command::Shards(_) | Command::Check => {
+            read_all(alloc, source, READ_LIMIT)
+        }
+        Command::Drill { .. } => Ok(Vec::new(alloc)),
     }
 }
 
@@ -83,5 +89,8 @@ fn do_command<R: Threads + Sync, Y: Yard, P: Pace + Sync>(
     match command {
         Command::Play(play) => play_text(rt, alloc, bytes, play, yard, pace),
         Command::Store { key, version } => ask_stores(rt, alloc, bytes, key.bytes(), *version),
+        Command::Drill { number } => run_drill(rt, alloc, *number),
+        Command::Shards(sharding) => run_sharded(rt, alloc, bytes, sharding, pace),
+        Command::Check => check_report(alloc, bytes),
     }
 }

@@ -138,17 +138,30 @@ fn ends<Y: Yard>(
     Ok(())
 }
 
-/// A script that is read in pieces is read whole, and a fault in its middle or a full sink is told.
+/// A script that is read in pieces of seven bytes is read whole, and a fault of each of these reads is told,
+/// that of the one that finds the end too. A sink with less room than the text takes as much of it.
 #[test]
 fn faults_of_a_source_and_a_sink_are_told(rt: HostRuntime) -> Result<(), Fail> {
     let alloc = rt.alloc();
     let mut yard = CalmYard::new(alloc)?;
     let one = plain_call(&["sim"], ONE);
     ends(&rt, alloc, one, &mut yard, (0, ONE_TEXT))?;
-    let failing = Call { fails: &[2], ..one };
-    ends(&rt, alloc, failing, &mut yard, (4, b"fault: source\n"))?;
-    let narrow = Call { room: 10, ..one };
-    ends(&rt, alloc, narrow, &mut yard, (5, b"age 0 star"))
+    let three = plain_call(&["sim"], THREE);
+    for read in 1..=THREE.len().div_ceil(7) as u64 + 1 {
+        let fails = [read];
+        let call = Call {
+            fails: &fails,
+            ..three
+        };
+        let mut yard = CalmYard::new(alloc)?;
+        ends(&rt, alloc, call, &mut yard, (4, b"fault: source\n"))?;
+    }
+    for room in 0..THREE_TEXT.len() {
+        let call = Call { room, ..three };
+        let mut yard = CalmYard::new(alloc)?;
+        ends(&rt, alloc, call, &mut yard, (5, &THREE_TEXT[..room]))?;
+    }
+    Ok(())
 }
 
 /// A disk that fails ends its member, and the group goes on from what its logs have. One that can't be lent

@@ -39,9 +39,8 @@ pub struct Ended {
 /// with `run` all at once, each in a thread of its own, which calls the pace after each of its turns. With
 /// `--logs F` or `--logs=F` each member keeps its log on a disk of the yard, in the folder `F`, and the first
 /// age begins with what is there. Without it each keeps its log on a disk in memory, which is gone when the
-/// run has ended. With `store` the script is simulated over logs in memory, and in place of the report stands
-/// what each member stores under a key, at a version. The status says how that went: see the constants of
-/// `dr_intake`.
+/// run has ended. What the other commands do is told of each at [`Command`](crate::Command). The status says
+/// how that went: see the constants of `dr_intake`.
 pub fn derecho<R: Threads + Sync, S: Source, K: Sink, Y: Yard, P: Pace + Sync>(
     rt: &R,
     alloc: Global,
@@ -69,7 +68,8 @@ pub fn derecho<R: Threads + Sync, S: Source, K: Sink, Y: Yard, P: Pace + Sync>(
 
     // Where each status comes: 2 for words, 3 for what was read, 4 for a read, 5 for a write, 6 for a disk,
     // 7 for logs, 8 for turns that were spent, 9 for a member without a majority of its view, 10 for memory,
-    // 11 for a full log, and else 0. Where several apply, the first of 10, 5, 2, 4, 3, 6, 7, 11, 8, 9 is taken.
+    // 11 for a full log, 12 for a layout that is refused, 13 for a report that is wrong, and else 0. Where
+    // several apply, the first of 10, 5, 2, 4, 3, 12, 13, 6, 7, 11, 8, 9 is taken.
     // The table `ends_of` says which of them a command may come to: over disks in memory 6, 7 and 11 don't
     // come.
     ensures statuses { Contains (statuses_of (asked_by words.now)) result.status }
@@ -79,6 +79,8 @@ pub fn derecho<R: Threads + Sync, S: Source, K: Sink, Y: Yard, P: Pace + Sync>(
     ensures read_fault_told { (S.faults source.new ≡ S.faults source.old)
         ⊎ Contains (4 ∷ 10 ∷ 5 ∷ []) result.status }
     ensures write_fault_told { (K.faults sink.new ≡ K.faults sink.old) ⊎ (result.status ≡ 5) }
+    ensures disk_fault_told { ((m : ℕ) → Y.faults yard.new m ≡ Y.faults yard.old m)
+        ⊎ Contains (6 ∷ 10 ∷ 5 ∷ []) result.status }
     ensures disk_fault { Exactly result.status 6 (10 ∷ 5 ∷ [])
         (IsTrue (some_so DiskFault result.ages result.stop)) }
     ensures logs_refused { Exactly result.status 7 (10 ∷ 5 ∷ 6 ∷ [])

@@ -1,10 +1,12 @@
-ghost use Rattle.std.specs.Prelude.{◌≡◌, map, option_map, string_bytes};
-ghost use Rattle.derecho.specs.Words.{behind, command_of, option_of, own_word, play_of, store_of, value_in};
+ghost use Rattle.std.specs.Prelude.{◌≡◌, bytes_eq, map, option_map, string_bytes};
+ghost use Rattle.std.specs.List.{find};
+ghost use Rattle.derecho.specs.Words.{asked_at, asked_behind, behind, command_of, drill_of, option_of, own_word, play_of, shards_of, store_of, value_in, verb_by, verbs, with_no_more};
 
 use dr_ages::Mode;
 use dr_entry::Message;
 use dr_literals::{key_word, number_word};
 use dr_outcome::Play;
+use dr_sharded::{Sharding, sharding_of};
 
 /// What a version has to be below.
 const VERSION_LIMIT: u64 = 1 << 32;
@@ -16,20 +18,75 @@ pub enum Command<'a> {
     Play(Play<'a>),
     /// To simulate the script on the source, and say what the members store under a key, at a version.
     Store { key: Message, version: u64 },
+    /// To simulate the script that this number makes, and say how its members ended.
+    Drill { number: u64 },
+    /// To lay the script on the source out in shards, run each of them, and say what becomes of it.
+    Shards(Sharding),
+    /// To judge the report that stands on the source beside its script.
+    Check,
 }
+
+/// The first word of a command, which says what is to be done.
+#[derive(Clone, Copy, Debug)]
+pub(crate) enum Verb {
+    Sim,
+    Run,
+    Store,
+    Drill,
+    Shards,
+    Check,
+}
+
+/// How each verb is written.
+const VERBS: [(&str, Verb); 6] = [
+    ("sim", Verb::Sim),
+    ("run", Verb::Run),
+    ("store", Verb::Store),
+    ("drill", Verb::Drill),
+    ("shards", Verb::Shards),
+    ("check", Verb::Check),
+];
 
 /// What the words ask for, where they are those of a command.
 pub(crate) fn command_of(words: &[String]) -> Option<Command<'_>>
     ensures { result ≡ command_of (map string_bytes words.now) }
 {
-    let [word, rest @ ..] = words else {
-        return None;
-    };
-    match word.as_str() {
-        "sim" => play_of(Mode::Sim, rest),
-        "run" => play_of(Mode::Run, rest),
-        "store" => store_of(rest),
-        _ => None,
+    let (word, rest) = words.split_first()?;
+    asked_behind(verb_of(word.as_str())?, rest)
+}
+
+/// The verb that a word is.
+fn verb_of(word: &str) -> Option<Verb>
+    ensures { result ≡ verb_by verbs word.now }
+{
+    verb_in(&VERBS, word)
+}
+
+/// The verb that a word is, by this table.
+fn verb_in(table: &[(&str, Verb)], word: &str) -> Option<Verb>
+    ensures { result ≡ verb_by (map (λ row. (row.0.now, row.1)) table.now) word.now }
+{
+    verb_beside(table, word)
+}
+
+/// The verb of the first row that has this word.
+fn verb_beside(table: &[(&str, Verb)], word: &str) -> Option<Verb>
+    ensures { result ≡ option_map (λ row. row.1) (find (λ row. bytes_eq row.0.now word.now) table.now) }
+{
+    table.iter().find(|row| row.0 == word).map(|row| row.1)
+}
+
+/// What the words behind a verb ask for.
+fn asked_behind(verb: Verb, words: &[String]) -> Option<Command<'_>>
+    ensures { result ≡ asked_behind verb (map string_bytes words.now) }
+{
+    match verb {
+        Verb::Sim => play_of(Mode::Sim, words),
+        Verb::Run => play_of(Mode::Run, words),
+        Verb::Store => store_of(words),
+        Verb::Drill => drill_of(words),
+        Verb::Shards => shards_of(words),
+        Verb::Check => with_no_more(Some(Command::Check), words),
     }
 }
 
@@ -46,15 +103,43 @@ fn play_of(mode: Mode, words: &[String]) -> Option<Command<'_>>
 fn store_of(words: &[String]) -> Option<Command<'_>>
     ensures { result ≡ store_of (map string_bytes words.now) }
 {
-    let [key, version, rest @ ..] = words else {
-        return None;
-    };
-    let key = key_word(key.as_str())?;
-    let version = number_word(version.as_str())?;
-    if !rest.is_empty() {
-        return None;
-    }
+    let (key, rest) = words.split_first()?;
+    let (version, rest) = rest.split_first()?;
+    let asked = asked_at(key_word(key.as_str())?, number_word(version.as_str())?);
+    with_no_more(asked, rest)
+}
+
+/// To ask for a key at a version, where that is in range.
+fn asked_at<'a>(key: Message, version: u64) -> Option<Command<'a>>
+    ensures { result ≡ asked_at key version }
+{
     (version < VERSION_LIMIT).then_some(Command::Store { key, version })
+}
+
+/// What the words behind `drill` ask for: a number in decimal.
+fn drill_of(words: &[String]) -> Option<Command<'_>>
+    ensures { result ≡ drill_of (map string_bytes words.now) }
+{
+    let (number, rest) = words.split_first()?;
+    let number = number_word(number.as_str())?;
+    with_no_more(Some(Command::Drill { number }), rest)
+}
+
+/// What the words behind `shards` ask for.
+fn shards_of(words: &[String]) -> Option<Command<'_>>
+    ensures { result ≡ shards_of (map string_bytes words.now) }
+{
+    Some(Command::Shards(sharding_of(words)?))
+}
+
+/// What is asked, where no word is left.
+fn with_no_more<'a>(asked: Option<Command<'a>>, rest: &[String]) -> Option<Command<'a>>
+    ensures { result ≡ with_no_more asked.entry (map string_bytes rest.now) }
+{
+    match rest {
+        [] => asked,
+        [_, ..] => None,
+    }
 }
 
 /// The value of the option with this name, if the words begin with one, and the words behind it. Nothing

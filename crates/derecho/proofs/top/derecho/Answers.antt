@@ -5,7 +5,7 @@ use Rattle.dr_text.specs.declared.last.Last.TheVariants.{SourceFault}
 use Rattle.dr_yard.specs.Yards.{state_by}
 use Rattle.dr_outcome.specs.declared.outcome.Outcome.{Outcome}
 use Rattle.derecho.specs.Outcome.{WroteOrNot}
-use Rattle.derecho.proofs.Course.{Call, IsCourse, Standing, disk_fault_of, fault_told, log_full_of, logs_refused_of, no_majority_of, read_fault_of, standing_of, status_known, unfinished_of, usage_of}
+use Rattle.derecho.proofs.Course.{Call, IsCourse, Standing, disk_fault_of, disk_told_of, fault_told, log_full_of, logs_refused_of, no_majority_of, read_fault_of, standing_of, status_known, unfinished_of, usage_of}
 use Rattle.derecho.proofs.top.derecho.Given as given
 use Rattle.derecho.proofs.top.derecho.Goals as goal
 
@@ -95,6 +95,14 @@ returns-clause-no_majority g c =
     c.args.yard.now c.outcome_of-outcome.new.yard c.outcome_of-outcome.result c.args.sink.now
     c.tell-status.new.sink c.tell-status.result c.outcome_of-outcome.ensures.course
     c.tell-status.ensures.wrote)
+
+pub returns-clause-disk_fault_told : goal.returns-clause-disk_fault_told
+returns-clause-disk_fault_told g c =
+    disk_told_of (call g c.args.words.now c.args.source.now c.outcome_of-outcome.new.source c.args.yard.now
+    c.outcome_of-outcome.new.yard c.outcome_of-outcome.result) (g.K.Sink.held c.args.sink.now)
+    (g.K.Sink.held c.tell-status.new.sink) (g.K.Sink.faults c.args.sink.now)
+    (g.K.Sink.faults c.tell-status.new.sink) c.tell-status.result c.outcome_of-outcome.ensures.course
+    c.tell-status.ensures.wrote
 
 pub returns-clause-read_fault_told : goal.returns-clause-read_fault_told
 returns-clause-read_fault_told g c = elim c.outcome_of-outcome.ensures.told [
