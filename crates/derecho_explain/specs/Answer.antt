@@ -37,15 +37,15 @@ pub record IsAnswerFor (reading : Reading) (text : List ℕ) (status : ℕ) : Ty
   pub due : status ≡ status_in reading
 
 -- how the program is called
-abbrev pub usage_text : List ℕ
-usage_text = codes "usage: derecho_explain < SCRIPT\n"
+abbrev pub explain_usage : List ℕ
+explain_usage = codes "usage: derecho_explain < SCRIPT\n"
 
 -- what a call has to say, and the status that is due, by its words and by what its source had left and then
 -- has
-abbrev pub IsAnswer : List (String Global) → Option (List ℕ) → Option (List ℕ) → ℕ → ℕ → Said → Type 0
-IsAnswer = IsAnswerBy usage_text (λ reading text status. IsAnswerFor reading text status)
+abbrev pub IsExplainAnswer : List (String Global) → Option (List ℕ) → Option (List ℕ) → ℕ → ℕ → Said → Type 0
+IsExplainAnswer = IsAnswerBy explain_usage (λ reading text status. IsAnswerFor reading text status)
 
 -- memory was wanting and nothing was written, or an answer was
-abbrev pub Told : List (String Global) → Option (List ℕ) → Option (List ℕ) → ℕ → ℕ → Option (List ℕ)
+abbrev pub ExplainTold : List (String Global) → Option (List ℕ) → Option (List ℕ) → ℕ → ℕ → Option (List ℕ)
     → Option (List ℕ) → ℕ → ℕ → ℕ → Type 0
-Told words old new failed fails = ToldBy (IsAnswer words old new failed fails)
+ExplainTold words old new failed fails = ToldBy (IsExplainAnswer words old new failed fails)

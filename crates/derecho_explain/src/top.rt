@@ -3,7 +3,7 @@ ghost use Rattle.dr_intake.specs.Status.{status_of};
 ghost use Rattle.dr_script.specs.Ranges.{HasRanges};
 ghost use Rattle.dr_script.specs.Reading.{reading_of};
 ghost use Rattle.dr_text.specs.Report.{last_text};
-ghost use Rattle.derecho_explain.specs.Answer.{BeginsWith, IsAnswer, IsAnswerFor, Told, turns_line};
+ghost use Rattle.derecho_explain.specs.Answer.{BeginsWith, ExplainTold, IsAnswerFor, IsExplainAnswer, turns_line};
 
 use crate::reasons::{reasons_for, words_for};
 use crate::turns::push_turns;
@@ -25,7 +25,7 @@ pub fn explain<S: Source, K: Sink>(
     source: &mut S,
     sink: &mut K,
 ) -> u8
-    ensures told { Told words.now (S.left source.old) (S.left source.new)
+    ensures told { ExplainTold words.now (S.left source.old) (S.left source.new)
         (S.faults source.old) (S.faults source.new) (K.held sink.old) (K.held sink.new)
         (K.faults sink.old) (K.faults sink.new) result }
     // No fault is hidden.
@@ -45,7 +45,7 @@ fn answer_to<S: Source>(
     words: &[String],
     source: &mut S,
 ) -> Result<Answer, AllocError>
-    ensures answer { IfOk result (λ a. IsAnswer words.now (S.left source.old) (S.left source.new)
+    ensures answer { IfOk result (λ a. IsExplainAnswer words.now (S.left source.old) (S.left source.new)
         (S.faults source.old) (S.faults source.new) (string_bytes a.text, a.status)) }
     ensures told { IfOk result
         (λ a. (S.faults source.new ≡ S.faults source.old) ⊎ (a.status ≡ 4)) }

@@ -17,7 +17,7 @@ use Rattle.dr_script.specs.Reading.{Reading, TooLong, NotJson, Wrong, Reads, rea
 use Rattle.dr_text.specs.declared.last.Last.{Last}
 use Rattle.dr_text.specs.declared.last.Last.TheVariants as lasts
 use Rattle.dr_text.specs.Report.{last_text}
-use Rattle.derecho_summary.specs.Answer.{IsAnswer, IsAnswerFor, IsRefusal, IsRunAnswer}
+use Rattle.derecho_summary.specs.Answer.{IsAnswerFor, IsRefusal, IsRunAnswer, IsSummaryAnswer}
 
 -- the run behind a last line
 pub run_behind : (script : Script) (ages : List AgeEnd) (stop : Option Stop) (last : Option Last) (line : Last)
@@ -87,7 +87,7 @@ answer_known (Reads script) text status is =
     (run_known (status_of is.last) (memory_lasts script Sim is.ages is.stop is.last is.run is.line))
 
 due_known : (words : List (String Global)) (old new : Option (List ℕ)) (failed fails : ℕ) (text : List ℕ)
-    (status : ℕ) → IsAnswer words old new failed fails (text, status) → IsKnown status
+    (status : ℕ) → IsSummaryAnswer words old new failed fails (text, status) → IsKnown status
 due_known words old new failed fails text status answer = elim answer [
   | usage none kept said ↦ (1, omega arith, sym said.1)
   | no_source k asked reads rose said ↦ (3, omega arith, sym said.1)
@@ -98,7 +98,7 @@ due_known words old new failed fails text status answer = elim answer [
 -- so is the status that is left by the sink
 pub wrote_known : (words : List (String Global)) (old new : Option (List ℕ)) (failed fails : ℕ)
     (held holds : Option (List ℕ)) (fell falls : ℕ) (text : List ℕ) (due status : ℕ)
-    → IsAnswer words old new failed fails (text, due) → WroteText held holds fell falls status due text
+    → IsSummaryAnswer words old new failed fails (text, due) → WroteText held holds fell falls status due text
     → IsKnown status
 wrote_known words old new failed fails held holds fell falls text due status answer (inl whole) =
     subst IsKnown (sym whole.0) (due_known words old new failed fails text due answer)

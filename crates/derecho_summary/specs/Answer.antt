@@ -39,15 +39,15 @@ IsAnswerFor (Reads script) text status = IsRunAnswer script text status
 IsAnswerFor refused text status = IsRefusal refused text status
 
 -- how it is called
-abbrev pub usage_text : List ℕ
-usage_text = codes "usage: derecho_summary < SCRIPT\n"
+abbrev pub summary_usage : List ℕ
+summary_usage = codes "usage: derecho_summary < SCRIPT\n"
 
 -- what a call has to say, and the status that is due, by its words and by what its source had left and then
 -- has
-abbrev pub IsAnswer : List (String Global) → Option (List ℕ) → Option (List ℕ) → ℕ → ℕ → Said → Type 0
-IsAnswer = IsAnswerBy usage_text IsAnswerFor
+abbrev pub IsSummaryAnswer : List (String Global) → Option (List ℕ) → Option (List ℕ) → ℕ → ℕ → Said → Type 0
+IsSummaryAnswer = IsAnswerBy summary_usage IsAnswerFor
 
 -- memory was wanting and nothing was written, or an answer was
-abbrev pub Told : List (String Global) → Option (List ℕ) → Option (List ℕ) → ℕ → ℕ → Option (List ℕ)
+abbrev pub SummaryTold : List (String Global) → Option (List ℕ) → Option (List ℕ) → ℕ → ℕ → Option (List ℕ)
     → Option (List ℕ) → ℕ → ℕ → ℕ → Type 0
-Told words old new failed fails = ToldBy (IsAnswer words old new failed fails)
+SummaryTold words old new failed fails = ToldBy (IsSummaryAnswer words old new failed fails)

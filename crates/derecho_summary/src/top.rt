@@ -2,7 +2,7 @@ ghost use Rattle.std.specs.Prelude.{◌≡◌, ◌⊎◌, ◌∷◌, [], IfOk, C
 ghost use Rattle.dr_progress.specs.Progress.{IsQuiet};
 ghost use Rattle.dr_script.specs.Ranges.{HasRanges};
 ghost use Rattle.dr_script.specs.Reading.{reading_of};
-ghost use Rattle.derecho_summary.specs.Answer.{IsAnswer, IsAnswerFor, IsRunAnswer, Told};
+ghost use Rattle.derecho_summary.specs.Answer.{IsAnswerFor, IsRunAnswer, IsSummaryAnswer, SummaryTold};
 
 use crate::text::summary_of;
 use dr_intake::{Answer, OUT_OF_MEMORY, bytes_or_answer, script_or_refusal, status_of};
@@ -28,7 +28,7 @@ pub fn summarize<R: Threads + Sync, S: Source, K: Sink, T: Timer, E: Sink>(
     progress: &mut Progress<T, E>,
 ) -> u8
     // What was read, what was run, and what was written: the summary of just these ages, with the last line.
-    ensures told { Told words.now (S.left source.old) (S.left source.new)
+    ensures told { SummaryTold words.now (S.left source.old) (S.left source.new)
         (S.faults source.old) (S.faults source.new) (K.held sink.old) (K.held sink.new)
         (K.faults sink.old) (K.faults sink.new) result }
     // 2 for words, 3 for a text that is no script, 4 for a read, 5 for a write, 8 for turns that were spent,
@@ -55,7 +55,7 @@ fn answer_to<R: Threads + Sync, S: Source, T: Timer, E: Sink>(
     source: &mut S,
     progress: &mut Progress<T, E>,
 ) -> Result<Answer, AllocError>
-    ensures answer { IfOk result (λ a. IsAnswer words.now (S.left source.old) (S.left source.new)
+    ensures answer { IfOk result (λ a. IsSummaryAnswer words.now (S.left source.old) (S.left source.new)
         (S.faults source.old) (S.faults source.new) (string_bytes a.text, a.status)) }
     ensures told { IfOk result
         (λ a. (S.faults source.new ≡ S.faults source.old) ⊎ (a.status ≡ 4)) }

@@ -20,7 +20,7 @@ use Rattle.dr_script.specs.Reading.{Reading, NotJson, Reads, TooLong, Wrong}
 use Rattle.dr_text.specs.declared.last.Last.{Last}
 use Rattle.derecho_trace.specs.declared.words.Form.{Form}
 use Rattle.derecho_trace.specs.declared.words.Form.TheVariants.{Chart, Lines, Picture}
-use Rattle.derecho_trace.specs.Trace.{AreLines, IsToldOf, IsTraced, IsTracedFor, Wrote, WroteOne, deed_line, end_line, end_status, ending, moves_text}
+use Rattle.derecho_trace.specs.Trace.{AreLines, IsToldOf, IsTraced, IsTracedFor, Wrote, WroteOne, deed_line, end_status, ending, moves_text, traced_end_line}
 
 -- what `Lines` does as it is told of an age, of a deed and of the end
 abbrev pub Opens : Written → Start → Written → Type 0
@@ -123,16 +123,16 @@ HasRun script ages stop last =
 abbrev pub Writes : Option (List ℕ) → Option (List ℕ) → ℕ → ℕ → ℕ → Option Last → Written → Type 0
 Writes held holds fell falls status last now =
     (text : List ℕ) → HasTold held fell text now
-    → Wrote held holds fell falls status (end_status last) (text ++ end_line last)
+    → Wrote held holds fell falls status (end_status last) (text ++ traced_end_line last)
 
 wanting_wrote : (form : Form) (script : Script) (last : Option Last) (held holds : Option (List ℕ))
     (fell falls status : ℕ) → last ≡ None
-    → Wrote held holds fell falls status (end_status last) ([] ++ end_line last)
+    → Wrote held holds fell falls status (end_status last) ([] ++ traced_end_line last)
     → WroteOne (IsTraced form script) held holds fell falls status
 wanting_wrote form script last held holds fell falls status none wrote = record {
-  text = end_line last;
+  text = traced_end_line last;
   due = end_status last;
-  is = inl (ap end_line none, ap end_status none);
+  is = inl (ap traced_end_line none, ap end_status none);
   wrote = wrote;
 }
 
@@ -210,22 +210,22 @@ picture_wrote script ages stop last held holds fell falls status told (inr ran) 
 -- what was written of a text that is no script
 pub refused_wrote : (form : Form) (r : Reading) (line : Option Last) (held holds : Option (List ℕ))
     (fell falls status : ℕ) → ((l : Last) → line ≡ Some l → refusal_in r ≡ Some l)
-    → Wrote held holds fell falls status (end_status line) ([] ++ end_line line)
+    → Wrote held holds fell falls status (end_status line) ([] ++ traced_end_line line)
     → WroteOne (IsTracedFor form r) held holds fell falls status
 refused_wrote form r line held holds fell falls status refusal wrote = record {
-  text = end_line line;
+  text = traced_end_line line;
   due = end_status line;
   is = by r line refusal;
   wrote = wrote;
 }
   where
     by : (x : Reading) (o : Option Last) → ((l : Last) → o ≡ Some l → refusal_in x ≡ Some l)
-        → IsTracedFor form x (end_line o) (end_status o)
+        → IsTracedFor form x (traced_end_line o) (end_status o)
     by TooLong None is = inl (refl, refl)
     by NotJson None is = inl (refl, refl)
     by (Wrong rule path) None is = inl (refl, refl)
     by (Reads script) None is = inl (refl, refl)
-    by TooLong (Some l) is = inr (ap end_line (sym (is l refl)), ap end_status (sym (is l refl)))
-    by NotJson (Some l) is = inr (ap end_line (sym (is l refl)), ap end_status (sym (is l refl)))
-    by (Wrong rule path) (Some l) is = inr (ap end_line (sym (is l refl)), ap end_status (sym (is l refl)))
+    by TooLong (Some l) is = inr (ap traced_end_line (sym (is l refl)), ap end_status (sym (is l refl)))
+    by NotJson (Some l) is = inr (ap traced_end_line (sym (is l refl)), ap end_status (sym (is l refl)))
+    by (Wrong rule path) (Some l) is = inr (ap traced_end_line (sym (is l refl)), ap end_status (sym (is l refl)))
     by (Reads script) (Some l) is = absurd (none-some l (is l refl))

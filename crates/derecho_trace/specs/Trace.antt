@@ -51,16 +51,16 @@ IsToldOf Picture script ages text = ⊤
 
 -- behind what is told comes the last line, with its status; where memory was wanting there is none, with
 -- status 10
-abbrev pub end_line : Option Last → List ℕ
-end_line last = option_map_or last_text last []
+abbrev pub traced_end_line : Option Last → List ℕ
+traced_end_line last = option_map_or last_text last []
 
 abbrev pub end_status : Option Last → ℕ
 end_status last = option_map_or status_of last 10
 
 -- how a text of a form ends: with the last line, behind which a picture is closed
 abbrev pub ending : Form → Option Last → List ℕ
-ending Picture last = end_line last ++ codes "</text>\n</svg>\n"
-ending form last = end_line last
+ending Picture last = traced_end_line last ++ codes "</text>\n</svg>\n"
+ending form last = traced_end_line last
 
 -- nothing is told, as memory was wanting for it
 abbrev pub IsWanting : List ℕ → ℕ → Type 0
@@ -84,18 +84,18 @@ IsTraced form script text due = IsWanting text due ⊎ IsRunTraced form script t
 abbrev pub IsTracedFor : Form → Reading → List ℕ → ℕ → Type 0
 IsTracedFor form (Reads script) text due = IsTraced form script text due
 IsTracedFor form refused text due =
-    IsWanting text due ⊎ ((text ≡ end_line (refusal_in refused)) × (due ≡ end_status (refusal_in refused)))
+    IsWanting text due ⊎ ((text ≡ traced_end_line (refusal_in refused)) × (due ≡ end_status (refusal_in refused)))
 
 -- how the program is called
-abbrev pub usage_text : List ℕ
-usage_text = codes "usage: derecho_trace [lines|svg] < SCRIPT\n"
+abbrev pub trace_usage : List ℕ
+trace_usage = codes "usage: derecho_trace [lines|svg] < SCRIPT\n"
 
 -- What a call is to write, and the status that is due, by the form that its words ask for, and by what its
 -- source had left and then has.
-abbrev pub IsAnswer : List (String Global) → Option (List ℕ) → Option (List ℕ) → ℕ → ℕ → Said → Type 0
-IsAnswer words =
+abbrev pub IsTraceAnswer : List (String Global) → Option (List ℕ) → Option (List ℕ) → ℕ → ℕ → Said → Type 0
+IsTraceAnswer words =
     intake.IsAnswer (λ form. true)
-    (λ line said. MatchOption line (IsWanting said.0 said.1) (λ l. IsLine usage_text l said))
+    (λ line said. MatchOption line (IsWanting said.0 said.1) (λ l. IsLine trace_usage l said))
     (λ form bytes said. IsTracedFor form (reading_of bytes) said.0 said.1) (asked_by words)
 
 -- the text was written, with the status that is due, or a front part of it, where the sink failed, with

@@ -3,7 +3,7 @@ ghost use Rattle.dr_progress.specs.Progress.{IsQuiet};
 ghost use Rattle.dr_script.specs.Ranges.{HasRanges};
 ghost use Rattle.dr_script.specs.Reading.{reading_of};
 ghost use Rattle.dr_seeing.specs.Output.{HasTold};
-ghost use Rattle.derecho_trace.specs.Trace.{IsAnswer, IsTraced, IsTracedFor, Wrote, WroteOne, end_line, end_status, ending, usage_text};
+ghost use Rattle.derecho_trace.specs.Trace.{IsTraceAnswer, IsTraced, IsTracedFor, Wrote, WroteOne, end_status, ending, trace_usage, traced_end_line};
 
 use crate::chart::Drawing;
 use crate::lines::Lines;
@@ -51,7 +51,7 @@ pub fn trace<R: Threads + Sync, S: Source, K: Sink, T: Timer, E: Sink>(
     progress: &mut Progress<T, E>,
 ) -> Traced<K>
     ensures told { WroteOne
-        (λ text due. IsAnswer words.now (S.left source.old) (S.left source.new)
+        (λ text due. IsTraceAnswer words.now (S.left source.old) (S.left source.new)
         (S.faults source.old) (S.faults source.new) (text, due))
         (K.held sink) (K.held result.sink) (K.faults sink) (K.faults result.sink) result.status }
     // 2 for words, 3 for a text that is no script, 4 for a read, 5 for a write, 8 for turns that were spent,
@@ -77,7 +77,7 @@ pub fn trace<R: Threads + Sync, S: Source, K: Sink, T: Timer, E: Sink>(
 /// Says how the program is called.
 fn usage<K: Sink>(output: Output<K>) -> Traced<K>
     ensures { (held : Option (List ℕ)) (fell : ℕ) → HasTold held fell [] output
-        → Wrote held (K.held result.sink) fell (K.faults result.sink) result.status 2 usage_text }
+        → Wrote held (K.held result.sink) fell (K.faults result.sink) result.status 2 trace_usage }
 {
     let mut output = output;
     output.tell(USAGE_TEXT);
@@ -214,7 +214,7 @@ fn hang<K: Sink>(output: Output<K>, drawn: &str, last: &Last) -> Traced<K>
 fn end<K: Sink>(output: Output<K>, last: Option<Last>) -> Traced<K>
     ensures wrote { (held : Option (List ℕ)) (fell : ℕ) (text : List ℕ) → HasTold held fell text output
         → Wrote held (K.held result.sink) fell (K.faults result.sink) result.status
-        (end_status last) (text ++ end_line last) }
+        (end_status last) (text ++ traced_end_line last) }
     ensures status { Contains (end_status last ∷ 10 ∷ 5 ∷ []) result.status }
 {
     let mut output = output;

@@ -13,7 +13,7 @@ use Rattle.dr_ring.specs.Slots.{slot_column}
 use Rattle.dr_machine.proofs.Presence.{is_present}
 use Rattle.dr_machine.specs.Group.{Group, columns, roster}
 use Rattle.dr_machine.specs.Guards.{HasRoom, HoldsAll, next_index}
-use Rattle.dr_machine.specs.World.{World, count_of, own_word, shown}
+use Rattle.dr_machine.specs.World.{World, items_received, own_word, shown}
 use Rattle.dr_program.proofs.Holdings.{Holding, held}
 use Rattle.dr_faithful.specs.Chosen.{views_by}
 use Rattle.dr_faithful.specs.Faithful.{Faithful}
@@ -114,7 +114,7 @@ shows_own {g = g} {w = w} {m = m} h i c l inside apart begun = by (cases_eq i m)
 sees_slot : {g : Group} {w : World} {most r m : ℕ} → HasHadTurn g w most r m → (t : ℕ) → t < roster g → t ≢ m
     → SeesSlot g w m t
 sees_slot {g = g} {w = w} {m = m} h t l other part small =
-    let k : ℕ = count_of w m t in
+    let k : ℕ = items_received w m t in
     let column : ℕ = slot_column (roster g) g.window k + part in
     let slot : k % g.window < g.window = mod_below k g.window h.known.group.some_slot in
     h.sees t column l other (omega (arith, slot, small)) (λ e. omega (arith, e))
@@ -134,7 +134,7 @@ has_taken {g = g} {w = w} {m = m} h t l other =
 
 -- room by the counts of the others is a free slot
 slot_is_free : {g : Group} {w : World} {most r m : ℕ} → HasHadTurn g w most r m
-    → Room (roster g) g.window (λ i. w.past.count i 0) m → HasRoom g w m (count_of w m m)
+    → Room (roster g) g.window (λ i. w.past.count i 0) m → HasRoom g w m (items_received w m m)
 slot_is_free {g = g} {w = w} {m = m} h (inl early) =
     inl (omega (arith, count_first h.known m m, early))
 slot_is_free {g = g} {w = w} {m = m} h (inr all) = inr (λ i other.

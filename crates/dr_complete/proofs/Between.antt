@@ -15,7 +15,7 @@ use Rattle.dr_program.specs.Running.{Running}
 use Rattle.dr_program.specs.Schedule.{is_between_turns}
 use Rattle.dr_program.specs.declared.setup.Setup.{Setup}
 use Rattle.dr_refine.proofs.Deeds.{replicas}
-use Rattle.dr_suspect.specs.Waits.{beat_of, count_of}
+use Rattle.dr_suspect.specs.Waits.{beat_of, turns_without_news}
 use Rattle.dr_program_laws.proofs.Programs.{AllStand}
 use Rattle.dr_program_laws.proofs.Trusting.{stay_first}
 use Rattle.dr_world_laws.proofs.Worlds.{known}
@@ -52,7 +52,7 @@ IsUpright end = (end ≡ None) ⊎ (end ≡ Some ends.Done)
 pub record HasWaited (g : Group) (w : World) (m : ℕ) (r : Running) : Type 0 where
   pub limit : (r.waits.limit ≡ 0) ⊎ (3 ≤ r.waits.limit)
   pub beat : (i : ℕ) → i < roster g → i ≢ m → beat_of r.waits i ≡ w.seen m i BEAT_COLUMN
-  pub few : (i : ℕ) → i < roster g → i ≢ m → r.replica.end ≡ None → count_of r.waits i ≤ 1
+  pub few : (i : ℕ) → i < roster g → i ≢ m → r.replica.end ≡ None → turns_without_news r.waits i ≤ 1
 
 -- in a round in which the members below x have had their turn, i has had one since m has
 abbrev pub IsAfter : ℕ → ℕ → ℕ → Type 0
@@ -62,7 +62,7 @@ IsAfter x m i = ((x ≤ m) × ((m < i) ⊎ (i < x))) ⊎ ((m < x) × (m < i) × 
 abbrev pub AreFresh : Group → ℕ → Program → Type 0
 AreFresh g x p = (m i : ℕ) (r : Running) → slice_get p.members m ≡ Some r → i < roster g → i ≢ m
     → IsAfter x m i
-    → (count_of r.waits i ≡ 0) ⊎ ((world g p).seen m i BEAT_COLUMN < (world g p).table 0 m i BEAT_COLUMN)
+    → (turns_without_news r.waits i ≡ 0) ⊎ ((world g p).seen m i BEAT_COLUMN < (world g p).table 0 m i BEAT_COLUMN)
 
 -- the program is between turns: nobody suspects anybody, no append has failed, no member is amid a turn or
 -- has ended but as done, and words stand where they were pushed

@@ -26,7 +26,7 @@ use Rattle.dr_program_laws.proofs.Worlds.{of_there}
 use Rattle.dr_program_laws.specs.Ended.{IsComplete}
 use Rattle.dr_program_laws.specs.Trusting.{IsAtEase}
 use Rattle.dr_complete.specs.Time.{IsLenient}
-use Rattle.dr_suspect.specs.Waits.{beat_of, count_of}
+use Rattle.dr_suspect.specs.Waits.{beat_of, turns_without_news}
 use Rattle.dr_turn_laws.proofs.Steadying.{steady_begins}
 use Rattle.dr_complete.proofs.Along.{along_none}
 use Rattle.dr_complete.proofs.Rounds.{rounds_keep}
@@ -88,10 +88,10 @@ zero_at i = by (cases_lt i 16)
 
 -- it has waited for nobody
 begins_uncounted : (setups : List Setup) (m : ℕ) (r : Running)
-    → slice_get (map begun_running setups) m ≡ Some r → (i : ℕ) → count_of r.waits i ≡ 0
+    → slice_get (map begun_running setups) m ≡ Some r → (i : ℕ) → turns_without_news r.waits i ≡ 0
 begins_uncounted setups m r there i =
     let t = began_by setups m r there in
-    ap (λ (x : Running). count_of x.waits i) (sym t.2) ∙ zero_at i
+    ap (λ (x : Running). turns_without_news x.waits i) (sym t.2) ∙ zero_at i
 
 begins_easy : (setups : List Setup) → All IsLenient setups
     → (m : ℕ) (r : Running) → slice_get (map begun_running setups) m ≡ Some r → IsAtEase r
@@ -122,7 +122,7 @@ begins_waiting g setups calm m r there unseen = record {
   limit = subst (λ (x : Running). (x.waits.limit ≡ 0) ⊎ (3 ≤ x.waits.limit)) t.2
       (patient_at setups m t.0 calm t.1).patience;
   beat = λ i l d. ap (λ (x : Running). beat_of x.waits i) (sym t.2) ∙ zero_at i ∙ sym (unseen i);
-  few = λ i l d going. omega (arith, ap (λ (x : Running). count_of x.waits i) t.2, zero_at i);
+  few = λ i l d going. omega (arith, ap (λ (x : Running). turns_without_news x.waits i) t.2, zero_at i);
 }
   where
     t : (s : Setup) × (slice_get setups m ≡ Some s) × (begun_running s ≡ r)

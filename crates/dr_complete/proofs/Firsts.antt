@@ -7,7 +7,7 @@ use Rattle.dr_faithful.specs.Chosen.{endings_by, views_by}
 use Rattle.dr_faithful.specs.Faithful.{Faithful}
 use Rattle.dr_machine.proofs.Presence.{is_present}
 use Rattle.dr_machine.specs.Group.{Group, IsGroup, roster}
-use Rattle.dr_machine.specs.World.{World, count_of, own_word}
+use Rattle.dr_machine.specs.World.{World, items_received, own_word}
 use Rattle.dr_world_laws.proofs.ChosenViews.{views-first}
 use Rattle.dr_world_laws.proofs.Remaining.{start_messages}
 use Rattle.dr_world_laws.proofs.Worlds.{Known}
@@ -39,7 +39,7 @@ of_members {g = g} y i l = subst (λ mask. has mask i ≡ true) (views-first g y
     ((told y).views.present i (is_present g i y.group l)))
 
 -- what a member has in its view it has in the first one
-pub count_first : {g : Group} {w : World} → IsFirst g w → (m s : ℕ) → count_of w m s ≡ w.past.count m 0 s
+pub count_first : {g : Group} {w : World} → IsFirst g w → (m s : ℕ) → items_received w m s ≡ w.past.count m 0 s
 count_first {w = w} y m s = ap (λ v. w.past.count m v s) (y.view m)
 
 pub own_first : {g : Group} {w : World} → IsFirst g w → (m c : ℕ) → own_word w m c ≡ w.past.own m 0 c

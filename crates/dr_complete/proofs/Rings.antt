@@ -18,7 +18,7 @@ use Rattle.dr_machine.specs.Events.{member_of, step_of}
 use Rattle.dr_machine.specs.Group.{Group, IsGroup, roster}
 use Rattle.dr_machine.specs.Guards.{IsRunning}
 use Rattle.dr_machine.specs.Run.{IsReached}
-use Rattle.dr_machine.specs.World.{World, count_of}
+use Rattle.dr_machine.specs.World.{World, items_received}
 use Rattle.dr_machine.specs.Writes.{at, at₂, at₃}
 use Rattle.dr_machine.specs.declared.event.Event.{Event}
 use Rattle.dr_machine.specs.declared.step.Step.{Step}
@@ -46,11 +46,11 @@ with_put g w m name = stamped (puts g w m name (item_named g m name)) m
 -- their tags are one more than the number of the item
 tag_put : (g : Group) (w : World) (m part : ℕ) (name : SentItem) → m < roster g
     → part < length (pieces (item_named g m name))
-    → count_of w m m + 1 ≤ ring_tag ((with_put g w m name).past.own m (w.past.view m)
-    (slot_column (roster g) g.window (count_of w m m) + part))
+    → items_received w m m + 1 ≤ ring_tag ((with_put g w m name).past.own m (w.past.view m)
+    (slot_column (roster g) g.window (items_received w m m) + part))
 tag_put g w m part name within needed =
     let v : ℕ = w.past.view m in
-    let k : ℕ = count_of w m m in
+    let k : ℕ = items_received w m m in
     let from : ℕ = slot_column (roster g) g.window k in
     let list : List ℕ = pieces (item_named g m name) in
     let row : ℕ → ℕ = row_with (w.past.own m v) from k list in
@@ -69,7 +69,7 @@ Stands g w u s v k part =
 
 -- an item that is put stands so
 put_stands : (g : Group) (w : World) (m s v k part : ℕ) (name : SentItem) → m < roster g
-    → length (w.past.sent m (w.past.view m)) ≡ count_of w m m
+    → length (w.past.sent m (w.past.view m)) ≡ items_received w m m
     → k < length ((with_put g w m name).past.sent s v)
     → part < length (pieces (item_sent g (with_put g w m name).past.sent s v k))
     → Stands g w (with_put g w m name) s v k part
@@ -104,7 +104,7 @@ put_stands g w m s v k part name within all =
 
 -- and so does each other item, as a step puts an item or leaves what is sent
 step_stands : (g : Group) (w : World) (m : ℕ) (step : Step) (s v k part : ℕ) → IsGroup g
-    → CanTake g w m step → length (w.past.sent m (w.past.view m)) ≡ count_of w m m
+    → CanTake g w m step → length (w.past.sent m (w.past.view m)) ≡ items_received w m m
     → k < length ((effect_of g w m step).past.sent s v)
     → part < length (pieces (item_sent g (effect_of g w m step).past.sent s v k))
     → Stands g w (effect_of g w m step) s v k part

@@ -13,7 +13,7 @@ use Rattle.dr_machine.proofs.Presence.{is_present}
 use Rattle.dr_machine.specs.Group.{Group, IsGroup, roster}
 use Rattle.dr_machine.specs.Guards.{IsOther, seen_slot}
 use Rattle.dr_machine.specs.Run.{IsReached}
-use Rattle.dr_machine.specs.World.{World, count_of}
+use Rattle.dr_machine.specs.World.{World, items_received}
 use Rattle.dr_faithful.proofs.Pieces.{piece_of, sent_item}
 use Rattle.dr_faithful.specs.Chosen.{views_by}
 use Rattle.dr_faithful.specs.Faithful.{Faithful}
@@ -48,9 +48,9 @@ ready k item slot is are = record {
 
 -- where the next item was put, a member that sees its slot as it stands sees its pieces there
 sees_pieces : (g : Group) (w : World) (m s : ℕ) → IsGroup g → IsReached g w → m < roster g
-    → IsOther w m s → SeesSlot g w m s → count_of w m s < length (w.past.sent s (w.past.view m))
-    → AreOf (count_of w m s) (item_sent g w.past.sent s (w.past.view m) (count_of w m s))
-    (seen_slot g w m s (count_of w m s))
+    → IsOther w m s → SeesSlot g w m s → items_received w m s < length (w.past.sent s (w.past.view m))
+    → AreOf (items_received w m s) (item_sent g w.past.sent s (w.past.view m) (items_received w m s))
+    (seen_slot g w m s (items_received w m s))
 sees_pieces g w m s is run l other fresh below part needed = (
   tag,
   (piece_of
@@ -64,7 +64,7 @@ sees_pieces g w m s is run l other fresh below part needed = (
     v = w.past.view m
 
     k : ℕ
-    k = count_of w m s
+    k = items_received w m s
 
     y : Known g w
     y = known g w is run
@@ -78,7 +78,7 @@ sees_pieces g w m s is run l other fresh below part needed = (
     few : part < 17
     few = omega (arith, needed, few_pieces (item_sent g w.past.sent s v k) (sent_item g w.past.sent s v k is))
 
-    tag : ring_tag (seen_slot g w m s (count_of w m s) part) ≡ count_of w m s + 1
+    tag : ring_tag (seen_slot g w m s (items_received w m s) part) ≡ items_received w m s + 1
     tag = omega (
       arith,
       ap ring_tag (fresh part few),
@@ -89,9 +89,9 @@ sees_pieces g w m s is run l other fresh below part needed = (
 -- so it has taken all of them
 pub takes_all : (g : Group) (w : World) (m s : ℕ) → IsGroup g → IsReached g w → m < roster g
     → IsOther w m s → SeesSlot g w m s
-    → ¬ IsReady (count_of w m s) (seen_slot g w m s (count_of w m s))
-    → count_of w m s ≡ w.past.count s (w.past.view m) s
-takes_all g w m s is run l other fresh none = by (cases_lt (count_of w m s) (length (w.past.sent s v)))
+    → ¬ IsReady (items_received w m s) (seen_slot g w m s (items_received w m s))
+    → items_received w m s ≡ w.past.count s (w.past.view m) s
+takes_all g w m s is run l other fresh none = by (cases_lt (items_received w m s) (length (w.past.sent s v)))
   where
     v : ℕ
     v = w.past.view m
@@ -102,9 +102,9 @@ takes_all g w m s is run l other fresh none = by (cases_lt (count_of w m s) (len
     f : Faithful g (views_by g y.values) w
     f = y.chosen.faithful
 
-    by : (count_of w m s < length (w.past.sent s v)) ⊎ (length (w.past.sent s v) ≤ count_of w m s)
-        → count_of w m s ≡ w.past.count s (w.past.view m) s
-    by (inl below) = absurd (none (ready (count_of w m s) (item_sent g w.past.sent s v (count_of w m s))
-        (seen_slot g w m s (count_of w m s)) (sent_item g w.past.sent s v (count_of w m s) is)
+    by : (items_received w m s < length (w.past.sent s v)) ⊎ (length (w.past.sent s v) ≤ items_received w m s)
+        → items_received w m s ≡ w.past.count s (w.past.view m) s
+    by (inl below) = absurd (none (ready (items_received w m s) (item_sent g w.past.sent s v (items_received w m s))
+        (seen_slot g w m s (items_received w m s)) (sent_item g w.past.sent s v (items_received w m s) is)
         (sees_pieces g w m s is run l other fresh below)))
     by (inr all) = omega (arith, all, f.sent.all s v, f.items.counted m v s)

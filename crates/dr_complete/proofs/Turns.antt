@@ -23,7 +23,7 @@ use Rattle.dr_program_laws.proofs.Standing.{IsProper}
 use Rattle.dr_program_laws.proofs.Worlds.{of_there}
 use Rattle.dr_program_laws.specs.Failing.{has_log_end}
 use Rattle.dr_turn_laws.specs.Rested.{HasCompared, HasTurned, IsRested}
-use Rattle.dr_suspect.specs.Waits.{beat_of, count_of, next_count}
+use Rattle.dr_suspect.specs.Waits.{beat_of, next_count, turns_without_news}
 use Rattle.dr_program_laws.specs.Trusting.{has_been_left}
 use Rattle.dr_complete.proofs.Between.{AreFresh, ArePushed, HasGone, HasWaited, IsAfter, IsBetween, IsFit, IsGoing, IsUpright, ShowDone, first_of, member_at, same_held}
 use Rattle.dr_complete.proofs.Along.{IsAlong, along_less, along_more, in_view_is, shown_mine, shown_other}
@@ -303,7 +303,7 @@ still_waits {g = g} {limit = limit} {most = most} {r = r} {x = x} {p = p} {q = q
     before = t.before.paused.waits x t.start t.began
 
     fresh_there : (i : ℕ) → i < roster g → i ≢ x → IsGoing g most r x (world g p)
-        → (count_of t.start.waits i ≡ 0)
+        → (turns_without_news t.start.waits i ≡ 0)
         ⊎ ((world g p).seen x i BEAT_COLUMN < (world g p).table 0 x i BEAT_COLUMN)
     fresh_there i l d go = t.before.fresh go.unended x i t.start t.began l d
         (inl (omega arith, sides (cases_lt i x)))
@@ -336,19 +336,19 @@ still_waits {g = g} {limit = limit} {most = most} {r = r} {x = x} {p = p} {q = q
             (end_so t)) t.start v t.began here i l d
 
         by_state : (i : ℕ) → i < roster g → i ≢ x → v.replica.end ≡ None
-            → ShowDone g (world g p) ⊎ IsGoing g most r x (world g p) → count_of v.waits i ≤ 1
+            → ShowDone g (world g p) ⊎ IsGoing g most r x (world g p) → turns_without_news v.waits i ≤ 1
         by_state i l d none (inl shows) =
             absurd (cc (end, none, ends_done t (still_show t shows)))
         by_state i l d none (inr go) = omega (
           arith,
           (compared i l d).count,
-          newly (count_of t.start.waits i) (beat_of t.start.waits i) ((world g q).seen x i BEAT_COLUMN)
+          newly (turns_without_news t.start.waits i) (beat_of t.start.waits i) ((world g q).seen x i BEAT_COLUMN)
               (news (fresh_there i l d go)),
         )
           where
-            news : (count_of t.start.waits i ≡ 0)
+            news : (turns_without_news t.start.waits i ≡ 0)
                 ⊎ ((world g p).seen x i BEAT_COLUMN < (world g p).table 0 x i BEAT_COLUMN)
-                → (count_of t.start.waits i ≡ 0)
+                → (turns_without_news t.start.waits i ≡ 0)
                 ⊎ (beat_of t.start.waits i < (world g q).seen x i BEAT_COLUMN)
             news (inl none) = inl none
             news (inr less) = inr (omega (arith, less, before.beat i l d, sees i l d))
@@ -382,7 +382,7 @@ still_fresh {g = g} {x = x} {p = p} {q = q} t unended m i y there l d since =
 
     -- the beat that x has pushed is higher than what anybody has seen
     risen : m ≢ x → i ≡ x
-        → (count_of y.waits i ≡ 0) ⊎ ((world g q).seen m i BEAT_COLUMN < (world g q).table 0 m i BEAT_COLUMN)
+        → (turns_without_news y.waits i ≡ 0) ⊎ ((world g q).seen m i BEAT_COLUMN < (world g q).table 0 m i BEAT_COLUMN)
     risen other e = rw e (inr (omega (
       arith,
       ap (λ (h : Holding). h.seen x BEAT_COLUMN) (others_same t m other),
@@ -398,7 +398,7 @@ still_fresh {g = g} {x = x} {p = p} {q = q} t unended m i y there l d since =
     )))
 
     by : (m ≡ x) ⊎ (m ≢ x) → (i ≡ x) ⊎ (i ≢ x) → IsAfter (x + 1) m i
-        → (count_of y.waits i ≡ 0) ⊎ ((world g q).seen m i BEAT_COLUMN < (world g q).table 0 m i BEAT_COLUMN)
+        → (turns_without_news y.waits i ≡ 0) ⊎ ((world g q).seen m i BEAT_COLUMN < (world g q).table 0 m i BEAT_COLUMN)
     by (inl e) side (inl early) = absurd (omega (arith, e, early.0))
     by (inl e) side (inr late) = absurd (omega (arith, e, late.1, late.2))
     by (inr other) (inl e) after = risen other e
@@ -411,9 +411,9 @@ still_fresh {g = g} {x = x} {p = p} {q = q} t unended m i y there l d since =
         earlier (inr (low, less, more)) =
             inr (omega (arith, low, other), less, omega (arith, more, apart))
 
-        same : (count_of y.waits i ≡ 0)
+        same : (turns_without_news y.waits i ≡ 0)
             ⊎ ((world g p).seen m i BEAT_COLUMN < (world g p).table 0 m i BEAT_COLUMN)
-            → (count_of y.waits i ≡ 0)
+            → (turns_without_news y.waits i ≡ 0)
             ⊎ ((world g q).seen m i BEAT_COLUMN < (world g q).table 0 m i BEAT_COLUMN)
         same (inl none) = inl none
         same (inr less) = inr (omega (

@@ -8,7 +8,7 @@ use Rattle.dr_words.specs.declared.column.TheConstants.{DONE_COLUMN, PIECES}
 use Rattle.dr_words.specs.Packing.{ring_tag}
 use Rattle.dr_machine.specs.Group.{Group, roster}
 use Rattle.dr_machine.specs.Guards.{seen_slot}
-use Rattle.dr_machine.specs.World.{Past, World, count_of}
+use Rattle.dr_machine.specs.World.{Past, World, items_received}
 use Rattle.dr_faithful.specs.Tells.{item_sent}
 
 -- each member's ring has the pieces of every item that it has put, or pieces of later ones in their place
@@ -20,8 +20,8 @@ RingsKeep g past = (s v k part : ℕ) → s < roster g → k < length (past.sent
 -- m has seen the slot of the next item of s as it stands in the ring of s
 abbrev pub SeesSlot : Group → World → ℕ → ℕ → Type 0
 SeesSlot g w m s = (part : ℕ) → part < PIECES
-    → seen_slot g w m s (count_of w m s) part
-    ≡ w.past.own s (w.past.view m) (slot_column (roster g) g.window (count_of w m s) + part)
+    → seen_slot g w m s (items_received w m s) part
+    ≡ w.past.own s (w.past.view m) (slot_column (roster g) g.window (items_received w m s) + part)
 
 -- every member of a view shows done in it: so its own word says, also once it has left the view
 abbrev pub AllShowDone : World → ℕ → ℕ → Type 0

@@ -13,7 +13,7 @@ ghost use Rattle.dr_history_laws.specs.Remaining.{messages_left, remaining};
 ghost use Rattle.dr_machine.specs.Group.{Group, IsGroup, roster};
 ghost use Rattle.dr_machine.specs.Guards.{IsOther, seen_slot};
 ghost use Rattle.dr_machine.specs.Run.{IsReached};
-ghost use Rattle.dr_machine.specs.World.{World, count_of};
+ghost use Rattle.dr_machine.specs.World.{World, items_received};
 ghost use Rattle.dr_program.specs.declared.setup.Setup.{Setup};
 ghost use Rattle.dr_program.specs.Program.{AllOk, AreSetups, Move, Program, begun_program, end_of};
 ghost use Rattle.dr_program.specs.Schedule.{IsLockstep};
@@ -37,8 +37,8 @@ pub fn rings_keep_their_items()
 pub fn nothing_ready_is_overlooked()
     ensures { (g : Group) (w : World) (m s : ℕ) → IsGroup g → IsReached g w
         → m < roster g → IsOther w m s → SeesSlot g w m s
-        → ¬ IsReady (count_of w m s) (seen_slot g w m s (count_of w m s))
-        → count_of w m s ≡ w.past.count s (w.past.view m) s }
+        → ¬ IsReady (items_received w m s) (seen_slot g w m s (items_received w m s))
+        → items_received w m s ≡ w.past.count s (w.past.view m) s }
 {}
 
 /// In every world that is reached in which some member has ended as done, all members of its view show done

@@ -8,7 +8,7 @@ use Rattle.dr_disk.specs.Images.{IsImage}
 use Rattle.dr_disk.specs.Ranges.{IsUntouched, Pending, Range, pend, pend_all, settled}
 use Rattle.dr_disk.specs.declared.kept.Step.{Step}
 use Rattle.dr_disk.specs.declared.kept.Step.TheVariants as steps
-use Rattle.dr_disk.specs.Steps.{call_of, calls_of, count_of, text_length}
+use Rattle.dr_disk.specs.Steps.{bytes_of_step, call_of, calls_of, text_length}
 use Rattle.dr_disk.proofs.Ranges.{image_by_ranges, pend_least}
 
 -- ---- a range more
@@ -75,11 +75,11 @@ written_inside old at bytes = ⊎_elim
     no_more n l = nothing (drop n old) (omega (arith, length-drop n old, l))
 
 -- the call of a write step
-pub write_of : (s : Step) (at count : ℕ) (bytes : List ℕ) → s ≡ steps.Write at count → count_of s ≡ length bytes
+pub write_of : (s : Step) (at count : ℕ) (bytes : List ℕ) → s ≡ steps.Write at count → bytes_of_step s ≡ length bytes
     → call_of s bytes ≡ Write at bytes
 write_of s at count bytes is whole =
     ap (λ (x : Step). call_of x bytes) is
-    ∙ ap (Write at) (take_all count bytes (omega (arith, ap count_of (sym is), whole)))
+    ∙ ap (Write at) (take_all count bytes (omega (arith, ap bytes_of_step (sym is), whole)))
 
 pub replayed_write : (fill : ℕ) (p : Pending) (at inside end : ℕ) (bytes now image mid new : List ℕ)
     → IsReplayed fill p now image → inside ≡ min (length now) at → end ≡ at + length bytes
@@ -156,12 +156,12 @@ calls_more : (xs : List Step) (s : Step) (text : List ℕ)
 calls_more [] s text = refl
 calls_more (t ∷ xs) s text =
     ap (λ (l : List Call). call_of t text ∷ l)
-    (calls_more xs s (drop (count_of t) text)
-    ∙ ap (λ (l : List ℕ). calls_of xs (drop (count_of t) text) ++ call_of s l ∷ [])
-    (drop-drop (text_length xs) (count_of t) text ∙ ap (λ (n : ℕ). drop n text) (omega arith)))
+    (calls_more xs s (drop (bytes_of_step t) text)
+    ∙ ap (λ (l : List ℕ). calls_of xs (drop (bytes_of_step t) text) ++ call_of s l ∷ [])
+    (drop-drop (text_length xs) (bytes_of_step t) text ∙ ap (λ (n : ℕ). drop n text) (omega arith)))
 
 -- a step takes no more than its own bytes
-own_bytes : (s : Step) (text : List ℕ) → call_of s (take (count_of s) text) ≡ call_of s text
+own_bytes : (s : Step) (text : List ℕ) → call_of s (take (bytes_of_step s) text) ≡ call_of s text
 own_bytes (steps.Write at count) text = ap (Write at) (take_all count (take count text) (short count text))
   where
     short : (n : ℕ) (l : List ℕ) → length (take n l) ≤ n
@@ -175,7 +175,7 @@ pend_more : (p : Pending) (calls : List Call) (call : Call) → pend_all p (call
 pend_more p [] call = refl
 pend_more p (c ∷ calls) call = pend_more (pend p c) calls call
 
-text_length-more : (xs : List Step) (s : Step) → text_length (xs ++ s ∷ []) ≡ text_length xs + count_of s
+text_length-more : (xs : List Step) (s : Step) → text_length (xs ++ s ∷ []) ≡ text_length xs + bytes_of_step s
 text_length-more [] s = omega arith
 text_length-more (t ∷ xs) s = omega (arith, text_length-more xs s)
 
@@ -203,28 +203,28 @@ pub one_more_replayed : (fill : ℕ) (steps : List Step) (text : List ℕ) (from
     (now image now' image' : List ℕ) → IsReplayedTo fill steps text from k now image
     → take (k + 1) steps ≡ take k steps ++ s ∷ []
     → ((p : Pending) → IsReplayed fill p now image
-    → IsReplayed fill (pend p (call_of s (take (count_of s) (drop from text)))) now' image')
-    → IsReplayedTo fill steps text (from + count_of s) (k + 1) now' image'
+    → IsReplayed fill (pend p (call_of s (take (bytes_of_step s) (drop from text)))) now' image')
+    → IsReplayedTo fill steps text (from + bytes_of_step s) (k + 1) now' image'
 one_more_replayed fill steps text from k s now image now' image' is next more = record {
   ends = omega (arith, is.ends, ap text_length next, text_length-more (take k steps) s);
   done =
       let p = pend_all (settled []) (calls_of (take k steps) text) in
       let calls : calls_of (take (k + 1) steps) text ≡ calls_of (take k steps) text
-      ++ call_of s (take (count_of s) (drop from text)) ∷ [] =
+      ++ call_of s (take (bytes_of_step s) (drop from text)) ∷ [] =
       ap (λ (l : List Step). calls_of l text) next
       ∙ (calls_more (take k steps) s text
       ∙ ap (λ (c : Call). calls_of (take k steps) text ++ c ∷ [])
       (ap (λ (n : ℕ). call_of s (drop n text)) (sym is.ends) ∙ sym (own_bytes s (drop from text)))) in
       subst (λ (q : Pending). IsReplayed fill q now' image')
       (sym (ap (pend_all (settled [])) calls
-      ∙ pend_more (settled []) (calls_of (take k steps) text) (call_of s (take (count_of s) (drop from text)))))
+      ∙ pend_more (settled []) (calls_of (take k steps) text) (call_of s (take (bytes_of_step s) (drop from text)))))
       (more p is.done);
 }
 
 -- the bytes of the next step are there
 pub bytes_within : (steps : List Step) (text : List ℕ) (from k : ℕ) (s : Step) → length text ≡ text_length steps
     → from ≡ text_length (take k steps) → take (k + 1) steps ≡ take k steps ++ s ∷ []
-    → from + count_of s ≤ length text
+    → from + bytes_of_step s ≤ length text
 bytes_within steps text from k s whole ends next =
     omega (arith, whole, ends, text_length-more (take k steps) s, ap text_length next, shorter steps (k + 1))
   where

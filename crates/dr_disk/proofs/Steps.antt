@@ -5,11 +5,11 @@ use Rattle.dr_disk.specs.Calls.{Call, State, step, run, content_after}
 use Rattle.dr_disk.specs.declared.kept.Step.{Step}
 use Rattle.dr_disk.specs.declared.kept.Step.TheVariants.{Write, FailedWrite, Cut, FailedCut, Sync}
 use Rattle.dr_disk.specs.Calls as calls
-use Rattle.dr_disk.specs.Steps.{count_of, call_of, text_length, calls_of, IsWhole}
+use Rattle.dr_disk.specs.Steps.{bytes_of_step, call_of, text_length, calls_of, IsWhole}
 use Rattle.dr_disk.proofs.Moments.{run-added}
 
 -- what stands behind its bytes is nothing to a step
-call_of-append : (s : Step) (text more : List ℕ) → count_of s ≤ length text
+call_of-append : (s : Step) (text more : List ℕ) → bytes_of_step s ≤ length text
     → call_of s (text ++ more) ≡ call_of s text
 call_of-append (Write at count) text more l = ap (λ (bytes : List ℕ). calls.Write at bytes)
     (take-append-le count text more l)
@@ -19,7 +19,7 @@ call_of-append (FailedCut to) text more l = refl
 call_of-append Sync text more l = refl
 
 text_length-added : (steps : List Step) (s : Step)
-    → text_length (steps ++ s ∷ []) ≡ text_length steps + count_of s
+    → text_length (steps ++ s ∷ []) ≡ text_length steps + bytes_of_step s
 text_length-added [] s = omega arith
 text_length-added (t ∷ steps) s = omega (arith, text_length-added steps s)
 
@@ -29,10 +29,10 @@ calls_of-added : (steps : List Step) (s : Step) (text more : List ℕ) → lengt
 calls_of-added [] s [] more whole = refl
 calls_of-added [] s (x ∷ text) more whole = absurd (omega (arith, whole))
 calls_of-added (t ∷ steps) s text more whole =
-    let rest = calls_of-added steps s (drop (count_of t) text) more
-    (omega (arith, length-drop (count_of t) text, whole)) in
-    let dropped = drop-append-le (count_of t) text more (omega (arith, whole)) in
-    ap (λ (call : Call). call ∷ calls_of (steps ++ s ∷ []) (drop (count_of t) (text ++ more)))
+    let rest = calls_of-added steps s (drop (bytes_of_step t) text) more
+    (omega (arith, length-drop (bytes_of_step t) text, whole)) in
+    let dropped = drop-append-le (bytes_of_step t) text more (omega (arith, whole)) in
+    ap (λ (call : Call). call ∷ calls_of (steps ++ s ∷ []) (drop (bytes_of_step t) (text ++ more)))
     (call_of-append t text more (omega (arith, whole)))
     ∙ ap (λ (l : List Call). call_of t text ∷ l) (ap (calls_of (steps ++ s ∷ [])) dropped ∙ rest)
 
@@ -47,7 +47,7 @@ calls_after steps steps' text text' bytes s more is pushed extended =
 -- The record after one step more, whose bytes came behind its text, where the bytes that a read
 -- gives are those that the step leaves.
 pub whole_after : (steps steps' : List Step) (text text' bytes new : List ℕ) (s : Step) (more : List ℕ)
-    → IsWhole steps text bytes → count_of s ≡ length more
+    → IsWhole steps text bytes → bytes_of_step s ≡ length more
     → steps' ≡ steps ++ s ∷ [] → text' ≡ text ++ more
     → new ≡ (step (run (calls_of steps text)) (call_of s more)).content → IsWhole steps' text' new
 whole_after steps steps' text text' bytes new s more is count pushed extended left = record {
@@ -60,7 +60,7 @@ whole_after steps steps' text text' bytes new s more is count pushed extended le
 
 -- the same of a step that has no bytes
 pub whole_still : (steps steps' : List Step) (text bytes new : List ℕ) (s : Step)
-    → IsWhole steps text bytes → count_of s ≡ 0
+    → IsWhole steps text bytes → bytes_of_step s ≡ 0
     → steps' ≡ steps ++ s ∷ [] → new ≡ (step (run (calls_of steps text)) (call_of s [])).content
     → IsWhole steps' text new
 whole_still steps steps' text bytes new s is none pushed left =

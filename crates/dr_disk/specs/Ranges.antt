@@ -49,7 +49,7 @@ IsUntouched [] i = ⊤
 IsUntouched (range ∷ ranges) i = ((i < range.at) ⊎ (range.at + range.count ≤ i)) × IsUntouched ranges i
 
 -- Any bytes may stand in a range that was written, and past the end that was synced. All else stays.
-pub record IsLeftBy (p : Pending) (image : List ℕ) : Type 0 where
+pub record IsLeftByWrites (p : Pending) (image : List ℕ) : Type 0 where
   pub no_shorter : p.disk.least ≤ length image
   pub no_longer : length image ≤ p.disk.greatest
   pub stays : (i : ℕ) → i < length image → i < length p.synced → IsUntouched p.ranges i
@@ -57,4 +57,4 @@ pub record IsLeftBy (p : Pending) (image : List ℕ) : Type 0 where
 
 -- a crash may leave these bytes of an empty disk after these calls
 abbrev pub IsImageByRanges : List Call → List ℕ → Type 0
-IsImageByRanges calls image = IsLeftBy (pend_all (settled []) calls) image
+IsImageByRanges calls image = IsLeftByWrites (pend_all (settled []) calls) image

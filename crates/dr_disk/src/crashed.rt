@@ -3,7 +3,7 @@
 ghost use Rattle.std.specs.Prelude.{◌≡◌, ◌<◌, ◌≤◌, ◌⊎◌, ℕ, OnOk, length, max, slice_index};
 ghost use Rattle.dr_disk.specs.Crashed.{IsReplayed};
 ghost use Rattle.dr_disk.specs.Ranges.{Pending, pend};
-ghost use Rattle.dr_disk.specs.Steps.{call_of, count_of};
+ghost use Rattle.dr_disk.specs.Steps.{bytes_of_step, call_of};
 
 use crate::bytes::put;
 use crate::kept::Step;
@@ -11,7 +11,7 @@ use std::alloc::AllocError;
 
 /// How many bytes a step writes.
 pub(crate) fn count_of(step: Step) -> usize
-    ensures { result ≡ count_of step }
+    ensures { result ≡ bytes_of_step step }
 {
     match step {
         Step::Write { count, .. } => count,
@@ -28,7 +28,7 @@ pub(crate) fn replay(
     now: &mut Vec<u8>,
     image: &mut Vec<u8>,
 ) -> Result<(), AllocError>
-    requires { count_of step ≡ length bytes.now }
+    requires { bytes_of_step step ≡ length bytes.now }
     ensures { OnOk result ((p : Pending) → IsReplayed fill p now.old.items image.old.items
         → IsReplayed fill (pend p (call_of step bytes.now)) now.new.items image.new.items) }
 {

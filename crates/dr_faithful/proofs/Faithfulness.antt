@@ -13,7 +13,7 @@ use Rattle.dr_machine.specs.Effects.{appends, logs_vote, puts, stamped, finishes
 use Rattle.dr_machine.specs.Group.{Group, IsGroup, IsPresent, roster}
 use Rattle.dr_machine.specs.Guards.{IsOther, IsRunning, next_index, unsuspected_of}
 use Rattle.dr_machine.specs.Run.{NoLaterItem, PastGrew, WordsGrew}
-use Rattle.dr_machine.specs.World.{World, count_of, no_value, opening_world}
+use Rattle.dr_machine.specs.World.{World, items_received, no_value, opening_world}
 use Rattle.dr_machine.specs.Writes.{at}
 use Rattle.dr_machine.specs.declared.event.Event.{Event}
 use Rattle.dr_machine.specs.declared.event.Act.{Act}
@@ -221,27 +221,27 @@ same_slot n k q some e l = by (cases_lt (k / n) (q / n))
 later_tag : (g : Group) (V : Views) (w : World) (m s part word : ℕ) → IsGroup g → Faithful g V w
     → IsPresent g m → IsOther w m s
     → TellsPiece g (length (w.past.sent s (w.past.view m))) (item_sent g w.past.sent s (w.past.view m))
-    (count_of w m s % g.window) part word
-    → ring_tag word ≤ count_of w m s + 1
+    (items_received w m s % g.window) part word
+    → ring_tag word ≤ items_received w m s + 1
 later_tag g V w m s part word is f l other (inl none) = omega arith
 later_tag g V w m s part word is f l other (inr p) =
     let v : ℕ = w.past.view m in
     let tag = tag_of_piece g (length (w.past.sent s v)) (item_sent g w.past.sent s v)
-    (count_of w m s % g.window) part word
+    (items_received w m s % g.window) part word
     (λ i. sent_item g w.past.sent s v i is) p in
     let window = f.items.window m v s (f.views.present m l)
     (ap (λ k. has k s) (sym (f.views.own m)) ∙ other.member) in
-    let earlier = same_slot g.window (count_of w m s) p.number is.some_slot p.place
+    let earlier = same_slot g.window (items_received w m s) p.number is.some_slot p.place
     (omega (arith, p.put, window, f.sent.all s v)) in
     omega (arith, tag, earlier)
 
 -- no later item stands in the slot of one that is waited for
 pub none_later : (g : Group) (V : Views) (w : World) → IsGroup g → Faithful g V w → NoLaterItem g w
 none_later g V w is f m s part l other p =
-    let slot = mod_below (count_of w m s) g.window is.some_slot in
-    let column : ℕ = part_column g (count_of w m s % g.window) part in (
+    let slot = mod_below (items_received w m s) g.window is.some_slot in
+    let column : ℕ = part_column g (items_received w m s % g.window) part in (
       later_tag g V w m s part _ is f l other
-          ((f.words.table (w.past.view m) m s column).ring (count_of w m s % g.window) part slot p refl),
+          ((f.words.table (w.past.view m) m s column).ring (items_received w m s % g.window) part slot p refl),
       later_tag g V w m s part _ is f l other
-          ((f.words.seen m s column).ring (count_of w m s % g.window) part slot p refl),
+          ((f.words.seen m s column).ring (items_received w m s % g.window) part slot p refl),
     )

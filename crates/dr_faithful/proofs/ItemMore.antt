@@ -8,7 +8,7 @@ use Rattle.dr_history.specs.Places.{front_of}
 use Rattle.dr_machine.proofs.Presence.{in_roster}
 use Rattle.dr_machine.specs.Group.{Group, IsGroup, IsPresent, roster}
 use Rattle.dr_machine.specs.Run.{PastGrew, WordsGrew}
-use Rattle.dr_machine.specs.World.{Past, World, count_of, own_word, view_members}
+use Rattle.dr_machine.specs.World.{Past, World, items_received, own_word, view_members}
 use Rattle.dr_machine.specs.Writes.{at, at₂, at₃}
 use Rattle.dr_faithful.proofs.CountMore.{IsMore, more, more_le, more_or_same, new_count}
 use Rattle.dr_faithful.proofs.Fronts.{front_rises, some_members}
@@ -124,7 +124,7 @@ counted_row row s k front = at (at row (recv_column s) (recv_word (k + 1) false)
 abbrev pub gained : World → ℕ → ℕ → Item → (ℕ → ℕ) → Sent → World
 gained w m s x row sent =
     let v = w.past.view m in
-    let k = count_of w m s in
+    let k = items_received w m s in
     let counts = at (w.past.count m v) s (k + 1) in record w {
       past = record w.past {
         count = at₂ w.past.count m v counts;
@@ -143,8 +143,8 @@ pub record MayGain (g : Group) (V : Views) (w : World) (m s : ℕ) (x : Item) (r
   pub source : IsSource g V w.past.count m (w.past.view m) s
   -- what was put stays, and the item is among it
   pub grew : (a u : ℕ) → IsPrefixOf (w.past.sent a u) (sent a u)
-  pub item : x ≡ item_sent g sent s (w.past.view m) (count_of w m s)
-  pub few : (t : ℕ) × (count_of w m s < length (messages_of g.opening t))
+  pub item : x ≡ item_sent g sent s (w.past.view m) (items_received w m s)
+  pub few : (t : ℕ) × (items_received w m s < length (messages_of g.opening t))
   -- the row is as before but for words of the ring, and these rise
   pub low : (c : ℕ) → c < head_column (roster g) 0 → row c ≡ own_word w m c
   pub high : (c : ℕ) → own_word w m c ≤ row c
@@ -159,7 +159,7 @@ low_or_high n c = grind arith
 
 front_grown : (g : Group) (V : Views) (w : World) (m s : ℕ) → IsGroup g → IsPresent g m
     → Faithful g V w
-    → own_word w m 2 ≤ front_of (map (at (w.past.count m (w.past.view m)) s (count_of w m s + 1))
+    → own_word w m 2 ≤ front_of (map (at (w.past.count m (w.past.view m)) s (items_received w m s + 1))
     (view_members w m))
 front_grown g V w m s is l f =
     let mask : V (w.past.view m) ≡ w.members m = sym (f.views.own m) in
@@ -175,13 +175,13 @@ front_grown g V w m s is l f =
 row_grown : (g : Group) (V : Views) (w : World) (m s : ℕ) (x : Item) (row : ℕ → ℕ) (sent : Sent)
     → IsGroup g → MayGain g V w m s x row sent → Faithful g V w
     → (c : ℕ) → HasGrown (roster g) c (own_word w m c)
-    (counted_row row s (count_of w m s)
-    (front_of (map (at (w.past.count m (w.past.view m)) s (count_of w m s + 1)) (view_members w m))) c)
+    (counted_row row s (items_received w m s)
+    (front_of (map (at (w.past.count m (w.past.view m)) s (items_received w m s + 1)) (view_members w m))) c)
 row_grown g V w m s x row sent is may f =
     at_case (λ c z. HasGrown (roster g) c (own_word w m c) z)
-    (at row (recv_column s) (recv_word (count_of w m s + 1) false)) 2 _
+    (at row (recv_column s) (recv_word (items_received w m s + 1) false)) 2 _
     (λ c d. at_case (λ c z. HasGrown (roster g) c (own_word w m c) z) row (recv_column s)
-    (recv_word (count_of w m s + 1) false) (λ c d. plain c (low_or_high (roster g) c)) recv c)
+    (recv_word (items_received w m s + 1) false) (λ c d. plain c (low_or_high (roster g) c)) recv c)
     (grown_free (roster g) 2 _ _ (inl (omega arith, omega arith)) (front_grown g V w m s is may.present f))
   where
     plain : (c : ℕ) → (c < head_column (roster g) 0) ⊎ (head_column (roster g) 0 ≤ c)
@@ -193,7 +193,7 @@ row_grown g V w m s x row sent is may f =
     within = f.views.within (w.past.view m) s may.sender
 
     recv : HasGrown (roster g) (recv_column s) (own_word w m (recv_column s))
-        (recv_word (count_of w m s + 1) false)
+        (recv_word (items_received w m s + 1) false)
     recv = grown_recv (roster g) s _ _ (f.counts.unfinished m s within may.unwedged)
         (omega (arith, f.counts.recv m (w.past.view m) s within))
 
@@ -223,7 +223,7 @@ open_word k = grind arith
 -- a column that is neither of the ring, nor the received word, nor the recv word of the sender is as before
 row_kept : (g : Group) (V : Views) (w : World) (m s : ℕ) (x : Item) (row : ℕ → ℕ) (sent : Sent)
     (front c : ℕ) → MayGain g V w m s x row sent → c < head_column (roster g) 0 → c ≢ RECEIVED_COLUMN
-    → c ≢ recv_column s → counted_row row s (count_of w m s) front c ≡ own_word w m c
+    → c ≢ recv_column s → counted_row row s (items_received w m s) front c ≡ own_word w m c
 row_kept g V w m s x row sent front c may l d e =
     at_other (at row (recv_column s) _) 2 front c d ∙ at_other row (recv_column s) _ c e ∙ may.low c l
 
@@ -241,10 +241,10 @@ counts_gained g V w m s x row sent may f = record {
 }
   where
     counts : ℕ → ℕ
-    counts = at (w.past.count m (w.past.view m)) s (count_of w m s + 1)
+    counts = at (w.past.count m (w.past.view m)) s (items_received w m s + 1)
 
     new : ℕ → ℕ
-    new = counted_row row s (count_of w m s) (front_of (map counts (view_members w m)))
+    new = counted_row row s (items_received w m s) (front_of (map counts (view_members w m)))
 
     front : new 2 ≡ front_of (map counts (members_of (V (w.past.view m))))
     front = ap (λ k. front_of (map counts (members_of k))) (f.views.own m)
@@ -253,7 +253,7 @@ counts_gained g V w m s x row sent may f = record {
     other b l d = row_kept g V w m s x row sent _ (recv_column b) may (omega arith) (omega arith)
         (omega (arith, d))
 
-    mine : new (recv_column s) ≡ recv_word (count_of w m s + 1) false
+    mine : new (recv_column s) ≡ recv_word (items_received w m s + 1) false
     mine = at_other (at row (recv_column s) _) 2 _ (recv_column s) (omega arith)
         ∙ at_same row (recv_column s) _
 
@@ -264,9 +264,9 @@ counts_gained g V w m s x row sent may f = record {
         by (inl e) =
             subst (λ i. recv_count (new (recv_column i)) ≡ counts i) (sym e)
             (ap recv_count mine ∙ (omega arith)
-            ∙ sym (at_same (w.past.count m (w.past.view m)) s (count_of w m s + 1)))
+            ∙ sym (at_same (w.past.count m (w.past.view m)) s (items_received w m s + 1)))
         by (inr d) = ap recv_count (other b l d) ∙ f.counts.recv m (w.past.view m) b l
-            ∙ sym (at_other (w.past.count m (w.past.view m)) s (count_of w m s + 1) b d)
+            ∙ sym (at_other (w.past.count m (w.past.view m)) s (items_received w m s + 1) b d)
 
     unfinished : (a b : ℕ) → b < roster g → w.suspects a ≡ 0 → (a ≡ m) ⊎ (a ≢ m)
         → is_final (at₂ w.past.own m (w.past.view m) new a (w.past.view a) (recv_column b)) ≡ false
@@ -276,7 +276,7 @@ counts_gained g V w m s x row sent may f = record {
       where
         by : (b ≡ s) ⊎ (b ≢ s) → is_final (new (recv_column b)) ≡ false
         by (inl i) = subst (λ i. is_final (new (recv_column i)) ≡ false) (sym i)
-            (ap is_final mine ∙ open_word (count_of w m s + 1))
+            (ap is_final mine ∙ open_word (items_received w m s + 1))
         by (inr d) = ap is_final (other b l d) ∙ f.counts.unfinished m b l may.unwedged
 
     few : (a u b : ℕ) → IsMore w.past.count m (w.past.view m) s a u b
@@ -304,8 +304,8 @@ suspicions_gained g V w m s x row sent may f = record {
     within = f.views.within (w.past.view m) s may.sender
 
     new : ℕ → ℕ
-    new = counted_row row s (count_of w m s)
-        (front_of (map (at (w.past.count m (w.past.view m)) s (count_of w m s + 1)) (view_members w m)))
+    new = counted_row row s (items_received w m s)
+        (front_of (map (at (w.past.count m (w.past.view m)) s (items_received w m s + 1)) (view_members w m)))
 
     kept : (a c : ℕ) → c < head_column (roster g) 0 → c ≢ 2 → c ≢ recv_column s
         → (gained w m s x row sent).past.own a (w.past.view a) c ≡ own_word w a c
@@ -354,13 +354,13 @@ past_gained g V w m s x row sent may =
 row_tells : (g : Group) (V : Views) (w : World) (m s : ℕ) (x : Item) (row : ℕ → ℕ) (sent : Sent)
     → MayGain g V w m s x row sent → Faithful g V w
     → (c : ℕ) → Tells g V (gained w m s x row sent).past m (w.past.view m) c
-    (counted_row row s (count_of w m s)
-    (front_of (map (at (w.past.count m (w.past.view m)) s (count_of w m s + 1)) (view_members w m))) c)
+    (counted_row row s (items_received w m s)
+    (front_of (map (at (w.past.count m (w.past.view m)) s (items_received w m s + 1)) (view_members w m))) c)
 row_tells g V w m s x row sent may f =
     at_case (λ c z. Tells g V new m v c z)
-    (at row (recv_column s) (recv_word (count_of w m s + 1) false)) RECEIVED_COLUMN front
+    (at row (recv_column s) (recv_word (items_received w m s + 1) false)) RECEIVED_COLUMN front
     (λ c d. at_case (λ c z. Tells g V new m v c z) row (recv_column s)
-    (recv_word (count_of w m s + 1) false) (λ c d. plain c (low_or_high (roster g) c)) recv c)
+    (recv_word (items_received w m s + 1) false) (λ c d. plain c (low_or_high (roster g) c)) recv c)
     (tells_received g V new m v front (le_of_eq received))
   where
     v : ℕ
@@ -370,12 +370,12 @@ row_tells g V w m s x row sent may f =
     new = (gained w m s x row sent).past
 
     front : ℕ
-    front = front_of (map (at (w.past.count m (w.past.view m)) s (count_of w m s + 1)) (view_members w m))
+    front = front_of (map (at (w.past.count m (w.past.view m)) s (items_received w m s + 1)) (view_members w m))
 
     counts : more w.past.count m (w.past.view m) s m (w.past.view m)
-        ≡ at (w.past.count m (w.past.view m)) s (count_of w m s + 1)
+        ≡ at (w.past.count m (w.past.view m)) s (items_received w m s + 1)
     counts = at₂_read w.past.count m (w.past.view m)
-        (at (w.past.count m (w.past.view m)) s (count_of w m s + 1))
+        (at (w.past.count m (w.past.view m)) s (items_received w m s + 1))
 
     received : front ≡ front_of (map (more w.past.count m (w.past.view m) s m (w.past.view m))
         (members_of (V (w.past.view m))))
@@ -385,8 +385,8 @@ row_tells g V w m s x row sent may f =
         (members_of k))) (f.views.own m)
 
     recv : Tells g V (gained w m s x row sent).past m (w.past.view m) (recv_column s)
-        (recv_word (count_of w m s + 1) false)
-    recv = tells_recv g V new m v s (recv_word (count_of w m s + 1) false) (f.views.within v s may.sender)
+        (recv_word (items_received w m s + 1) false)
+    recv = tells_recv g V new m v s (recv_word (items_received w m s + 1) false) (f.views.within v s may.sender)
         (omega (arith, new_count w.past.count m (w.past.view m) s))
 
     plain : (c : ℕ) → (c < head_column (roster g) 0) ⊎ (head_column (roster g) 0 ≤ c)
@@ -423,10 +423,10 @@ form_gained g V w m s x row sent is may f = record {
   in_own = at₂_case (λ a u r. (c : ℕ) → IsInForm (roster g) c (r c)) w.past.own m
       (w.past.view m) _ f.form.in_own
       (at_case (λ c z. IsInForm (roster g) c z)
-      (at row (recv_column s) (recv_word (count_of w m s + 1) false)) 2 _
+      (at row (recv_column s) (recv_word (items_received w m s + 1) false)) 2 _
       (λ c d. at_case (λ c z. IsInForm (roster g) c z) row (recv_column s)
-      (recv_word (count_of w m s + 1) false) (λ c d. plain c (low_or_high (roster g) c))
-      (form_recv (roster g) s (recv_word (count_of w m s + 1) false)
+      (recv_word (items_received w m s + 1) false) (λ c d. plain c (low_or_high (roster g) c))
+      (form_recv (roster g) s (recv_word (items_received w m s + 1) false)
       (f.views.within (w.past.view m) s may.sender)
       (omega (arith, may.few.1, is.messages may.few.0))) c)
       (form_free (roster g) 2 _ (inl (omega arith, omega arith))));

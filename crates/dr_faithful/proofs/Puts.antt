@@ -16,7 +16,7 @@ use Rattle.dr_machine.specs.Effects.{puts, row_with}
 use Rattle.dr_machine.specs.Group.{Group, IsGroup, IsPresent, roster}
 use Rattle.dr_machine.specs.Guards.{CanNull, CanSend, HasRoom, IsUnwedged, MayChoose, next_index}
 use Rattle.dr_machine.specs.Run.{PastGrew, WordsGrew}
-use Rattle.dr_machine.specs.World.{World, count_of, own_word, view_members}
+use Rattle.dr_machine.specs.World.{World, items_received, own_word, view_members}
 use Rattle.dr_machine.specs.Writes.{at, at₂, at₃}
 use Rattle.dr_ring.proofs.Items.{few_pieces}
 use Rattle.dr_ring.specs.Pieces.{pieces}
@@ -69,8 +69,8 @@ row_twice own m v row then = at₂_twice own m v row (then (at₂ own m v row m 
 
 -- the row and the list of a member that puts the item of this name
 abbrev put_row : Group → World → ℕ → SentItem → ℕ → ℕ
-put_row g w m x = row_with (w.past.own m (w.past.view m)) (slot_column (roster g) g.window (count_of w m m))
-    (count_of w m m) (pieces (item_named g m x))
+put_row g w m x = row_with (w.past.own m (w.past.view m)) (slot_column (roster g) g.window (items_received w m m))
+    (items_received w m m) (pieces (item_named g m x))
 
 abbrev sent_after : World → ℕ → SentItem → Sent
 sent_after w m x = at₂ w.past.sent m (w.past.view m) (w.past.sent m (w.past.view m) ++ x ∷ [])
@@ -79,11 +79,11 @@ sent_after w m x = at₂ w.past.sent m (w.past.view m) (w.past.sent m (w.past.vi
 pub record MayPut (g : Group) (w : World) (m : ℕ) (x : SentItem) : Type 0 where
   pub may : MayChoose g w m
   pub unwedged : IsUnwedged w m
-  pub room : HasRoom g w m (count_of w m m)
+  pub room : HasRoom g w m (items_received w m m)
   -- it follows what m has put
   pub order : IsPut (w.base m) (length (messages_of g.opening m)) (w.past.sent m (w.past.view m) ++ x ∷ [])
   -- and some member has more messages than m has items of its own
-  pub few : (t : ℕ) × (count_of w m m < length (messages_of g.opening t))
+  pub few : (t : ℕ) × (items_received w m m < length (messages_of g.opening t))
 
 -- a member that may send may put its next message
 pub may_message : (g : Group) (V : Views) (w : World) (m : ℕ) → CanSend g w m → Faithful g V w
@@ -128,10 +128,10 @@ puts_is g w m x =
         own = own;
         sent = sent_after w m x;
       };
-      item = at₃ w.item m m (count_of w m m) (item_named g m x);
+      item = at₃ w.item m m (items_received w m m) (item_named g m x);
     }) (row_twice w.past.own m (w.past.view m) (put_row g w m x)
-    (λ row. counted_row row m (count_of w m m)
-    (front_of (map (at (w.past.count m (w.past.view m)) m (count_of w m m + 1)) (view_members w m)))))
+    (λ row. counted_row row m (items_received w m m)
+    (front_of (map (at (w.past.count m (w.past.view m)) m (items_received w m m + 1)) (view_members w m)))))
 
 -- ---- what may be gained
 
@@ -143,7 +143,7 @@ sent_grew w m x = at₂_case (λ a u l. IsPrefixOf (w.past.sent a u) l) w.past.s
 
 -- the new element names the item
 names_item : (g : Group) (V : Views) (w : World) (m : ℕ) (x : SentItem) (k : ℕ) → Faithful g V w
-    → k ≡ count_of w m m
+    → k ≡ items_received w m m
     → item_sent g (sent_after w m x) m (w.past.view m) k ≡ item_named g m x
 names_item g V w m x k f e =
     let v : ℕ = w.past.view m in
@@ -160,7 +160,7 @@ put_order : (g : Group) (V : Views) (w : World) (m : ℕ) (x : SentItem) → May
 put_order g V w m x can f = record {
   all = λ a u. at₂_both (λ i j l c. length l ≡ c i) w.past.sent w.past.count m v _ _ f.sent.all
       (length_push (w.past.sent m v) _ ∙ ap (λ k. k + 1) (f.sent.all m v)
-      ∙ sym (at_same (w.past.count m v) m (count_of w m m + 1))) a u;
+      ∙ sym (at_same (w.past.count m v) m (items_received w m m + 1))) a u;
   put = λ a. at₂_case (λ i j l. j ≡ w.past.view i
       → IsPut (w.base i) (length (messages_of g.opening i)) l) w.past.sent m v _
       (λ i j e. subst (λ k. IsPut (w.base i) (length (messages_of g.opening i)) (w.past.sent i k)) (sym e)
@@ -173,7 +173,7 @@ put_order g V w m x can f = record {
 
 -- where the words of the next item of m begin, and what they are
 abbrev slot_from : Group → World → ℕ → ℕ
-slot_from g w m = slot_column (roster g) g.window (count_of w m m)
+slot_from g w m = slot_column (roster g) g.window (items_received w m m)
 
 few_words : (g : Group) (m : ℕ) (x : SentItem) → IsGroup g → length (pieces (item_named g m x)) ≤ PIECES
 few_words g m x is = few_pieces (item_named g m x) (named_item g m x is)
@@ -184,7 +184,7 @@ put_high : (g : Group) (V : Views) (w : World) (m : ℕ) (x : SentItem) (c : ℕ
     → InItem (slot_from g w m) (length (pieces (item_named g m x))) c → own_word w m c
     ≤ put_row g w m x c
 put_high g V w m x c is f (inr out) =
-    le_of_eq (sym (row_out (w.past.own m (w.past.view m)) (slot_from g w m) (count_of w m m) c
+    le_of_eq (sym (row_out (w.past.own m (w.past.view m)) (slot_from g w m) (items_received w m m) c
     (pieces (item_named g m x)) out))
 put_high g V w m x c is f (inl t) =
     subst (λ c. own_word w m c ≤ put_row g w m x c) t.2
@@ -195,13 +195,13 @@ put_high g V w m x c is f (inl t) =
     v = w.past.view m
 
     k : ℕ
-    k = count_of w m m
+    k = items_received w m m
 
     low : ℕ
     low = slice_index (pieces (item_named g m x)) t.0
 
     told : TellsPiece g (length (w.past.sent m (w.past.view m))) (item_sent g w.past.sent m (w.past.view m))
-        (count_of w m m % g.window) t.0 (own_word w m (slot_from g w m + t.0))
+        (items_received w m m % g.window) t.0 (own_word w m (slot_from g w m + t.0))
     told = (f.words.own m v (part_column g (k % g.window) t.0)).ring (k % g.window) t.0
         (mod_below k g.window is.some_slot) (le_trans t.1 (few_words g m x is)) refl
 
@@ -220,7 +220,7 @@ put_ring : (g : Group) (V : Views) (w : World) (m : ℕ) (x : SentItem) (slot pa
     (item_sent g (sent_after w m x) m (w.past.view m))
     slot part (put_row g w m x (part_column g slot part))
 put_ring g V w m x slot part is can f l p (inl t) =
-    let k : ℕ = count_of w m m in
+    let k : ℕ = items_received w m m in
     let list : List ℕ = pieces (item_named g m x) in
     let in_slot = mod_below k g.window is.some_slot in
     let short = few_words g m x is in
@@ -247,7 +247,7 @@ put_ring g V w m x slot part is can f l p (inr out) =
     let c : ℕ = part_column g slot part in
     subst (λ z. TellsPiece g (length (sent_after w m x m v)) (item_sent g (sent_after w m x) m v) slot part
     z)
-    (sym (row_out (w.past.own m v) (slot_from g w m) (count_of w m m) c (pieces (item_named g m x)) out))
+    (sym (row_out (w.past.own m v) (slot_from g w m) (items_received w m m) c (pieces (item_named g m x)) out))
     (later g (length (w.past.sent m v)) (length (sent_after w m x m v)) (item_sent g w.past.sent m v)
     (item_sent g (sent_after w m x) m v) slot part (own_word w m c)
     (prefix_short (w.past.sent m v) (sent_after w m x m v) (sent_grew w m x m v))
@@ -256,12 +256,12 @@ put_ring g V w m x slot part is can f l p (inr out) =
 
 -- no other member of the view is a window behind
 put_room : (g : Group) (V : Views) (w : World) (m i : ℕ) → IsGroup g → IsPresent g m → Faithful g V w
-    → has (V (w.past.view m)) i ≡ true → i ≢ m → HasRoom g w m (count_of w m m)
-    → count_of w m m + 1 ≤ w.past.count i (w.past.view m) m + g.window
+    → has (V (w.past.view m)) i ≡ true → i ≢ m → HasRoom g w m (items_received w m m)
+    → items_received w m m + 1 ≤ w.past.count i (w.past.view m) m + g.window
 put_room g V w m i is present f h d (inl early) = omega arith
 put_room g V w m i is present f h d (inr received) =
     let column : ℕ = recv_column m in
-    let shown : count_of w m m - g.window < recv_count (w.seen m i column) =
+    let shown : items_received w m m - g.window < recv_count (w.seen m i column) =
     received i (record { member = ap (λ n. has n i) (f.views.own m) ∙ h; other = d }) in
     let old : w.seen m i column ≤ w.past.own i (w.past.view m) column = seen_le g V w m i column f d in
     omega (arith, shown, old, f.counts.recv i (w.past.view m) m (in_roster g m is present))
@@ -279,9 +279,9 @@ put_gains g V w m x is can f =
       sender = f.views.present m present;
       source = inl (refl, λ i h d. put_room g V w m i is present f h d can.room);
       grew = sent_grew w m x;
-      item = sym (names_item g V w m x (count_of w m m) f refl);
+      item = sym (names_item g V w m x (items_received w m m) f refl);
       few = can.few;
-      low = λ c l. row_out (w.past.own m (w.past.view m)) from (count_of w m m) c list (inl (omega arith));
+      low = λ c l. row_out (w.past.own m (w.past.view m)) from (items_received w m m) c list (inl (omega arith));
       high = λ c. put_high g V w m x c is f (in_item from (length list) c);
       ring = λ slot part l p. put_ring g V w m x slot part is can f l p
           (in_item from (length list) (part_column g slot part));

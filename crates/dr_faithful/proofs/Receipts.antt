@@ -9,7 +9,7 @@ use Rattle.dr_machine.specs.Effects.{next_item, receives}
 use Rattle.dr_machine.specs.Group.{Group, IsGroup, roster}
 use Rattle.dr_machine.specs.Guards.{CanReceive, seen_slot}
 use Rattle.dr_machine.specs.Run.{PastGrew, WordsGrew}
-use Rattle.dr_machine.specs.World.{World, count_of, own_word}
+use Rattle.dr_machine.specs.World.{World, items_received, own_word}
 use Rattle.dr_ring.proofs.Items.{IsItem}
 use Rattle.dr_ring.specs.Pieces.{pieces}
 use Rattle.dr_ring.specs.Slots.{item_in}
@@ -25,13 +25,13 @@ use Rattle.dr_words.specs.Packing.{ring_tag, ring_word}
 -- the words that were seen of the next item are pieces of it
 receive_words : (g : Group) (V : Views) (w : World) (m s : ℕ) → IsGroup g → CanReceive g w m s
     → Faithful g V w
-    → (count_of w m s < w.past.count s (w.past.view m) s)
-    × (next_item g w m s ≡ item_sent g w.past.sent s (w.past.view m) (count_of w m s))
+    → (items_received w m s < w.past.count s (w.past.view m) s)
+    × (next_item g w m s ≡ item_sent g w.past.sent s (w.past.view m) (items_received w m s))
 receive_words g V w m s is can f =
     (omega (arith, head.0, f.sent.all s (w.past.view m)), ap (λ o. unwrap_or o Null) found)
   where
     k : ℕ
-    k = count_of w m s
+    k = items_received w m s
 
     put : ℕ
     put = length (w.past.sent s (w.past.view m))

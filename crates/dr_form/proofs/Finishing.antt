@@ -13,7 +13,7 @@ use Rattle.dr_history.specs.Places.{rest_places}
 use Rattle.dr_machine.specs.Effects.{entries_of}
 use Rattle.dr_machine.specs.World.{no_value}
 use Rattle.dr_program.specs.Form.{HasForm}
-use Rattle.dr_program.specs.Replica.{Replica, count, finished, finished_by, finished_history, greatest, item_at, may_end, may_finish, me, sender_at, view_of, with_place}
+use Rattle.dr_program.specs.Replica.{Replica, count, finished, finished_by, finished_history, greatest, item_of_place, may_end, may_finish, me, members_in_view, sender_of_place, with_place}
 use Rattle.dr_program.proofs.Opening.{copy_at, first_own}
 use Rattle.dr_program.proofs.OpeningForm.{first_in_form, front_of_none, no_part}
 use Rattle.dr_program.proofs.OwnWords.{other_number}
@@ -93,7 +93,7 @@ finished_by_form r x f may none =
       low = omega arith;
       waits = λ v e. absurd (cc (none, e));
       votes = omega (arith, f.votes, f.low, promise_within r f, suc-mul r.view n);
-      received = word RECEIVED_COLUMN (omega arith) ∙ sym (front_of_none n (view_of q));
+      received = word RECEIVED_COLUMN (omega arith) ∙ sym (front_of_none n (members_in_view q));
       beat = omega (arith, word 0 (omega arith));
       acts = f.acts;
       published = omega (
@@ -119,12 +119,12 @@ finished_by_form r x f may none =
     merges : (h : List Entry) (ps : List ℕ) → length h ≤ length (fold (with_place r) h ps)
     merges h [] = omega arith
     merges h (p ∷ ps) =
-        le_trans (omega (arith, length-append h (entries_of h (sender_at r p) (item_at r p))))
+        le_trans (omega (arith, length-append h (entries_of h (sender_of_place r p) (item_of_place r p))))
         (merges (with_place r h p) ps)
 
     grows : length r.history ≤ length (finished_history r x)
     grows =
-        let places : List ℕ = rest_places (map (λ s. slice_index x.trim s) (view_of r)) r.next in
+        let places : List ℕ = rest_places (map (λ s. slice_index x.trim s) (members_in_view r)) r.next in
         le_trans (merges r.history places)
         (omega (
           arith,

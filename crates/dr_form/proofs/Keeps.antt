@@ -38,7 +38,7 @@ use Rattle.dr_machine.specs.Sending.{IsPut}
 use Rattle.dr_machine.specs.Effects.{one_more, entries_of}
 use Rattle.dr_machine.specs.declared.event.Act.{Act}
 use Rattle.dr_machine.specs.declared.event.Act.TheVariants as acts
-use Rattle.dr_program.specs.Replica.{Replica, me, count, greatest, view_of, is_other, is_wedged, least_seen, sender_at, item_at, may_append, may_deliver, is_behind, may_receive, may_send, may_null, ready_item, next_index, gained, acted, beaten, ended, reported, appended, delivered, published, marked, looked, pushed, put, received, suspected, accepted, decided}
+use Rattle.dr_program.specs.Replica.{Replica, me, count, greatest, members_in_view, is_other, is_wedged, least_seen, sender_of_place, item_of_place, may_append, may_deliver, is_behind, may_receive, may_send, may_null, ready_item, next_index, gained, acted, beaten, ended, reported, appended, delivered, published, marked, looked, pushed, put, received, suspected, accepted, decided}
 use Rattle.dr_program.specs.Form.{HasForm}
 use Rattle.dr_words.proofs.Ranks.{some_member}
 use Rattle.dr_words.proofs.Accepts.{accept_within}
@@ -225,8 +225,8 @@ one_entry history s (Text bytes) = omega arith
 -- a delivery keeps a replica in form
 pub delivered_keeps : (r : Replica) → HasForm r → may_deliver r ≡ true → HasForm (acted (delivered r))
 delivered_keeps r f may =
-    let new : List Entry = entries_of r.history (sender_at r r.next) (item_at r r.next) in
-    let one = one_entry r.history (sender_at r r.next) (item_at r r.next) in
+    let new : List Entry = entries_of r.history (sender_of_place r r.next) (item_of_place r r.next) in
+    let one = one_entry r.history (sender_of_place r r.next) (item_of_place r r.next) in
     let more = length-append r.history new in
     let room : length r.history < r.room =
     ltb-true (length r.history) r.room
@@ -354,7 +354,7 @@ gained_keeps r s item words puts f p =
     let w : Words = record r.rows { words = words } in
     let k : ℕ = count r s + 1 in
     let counts : List ℕ = set r.counts s k in
-    let front : ℕ = front_of (map (slice_index counts) (view_of r)) in
+    let front : ℕ = front_of (map (slice_index counts) (members_in_view r)) in
     let within : s < length r.counts = omega (arith, p.sender, f.counts) in
     let few : k ≤ 4096 = omega (arith, p.room, f.few) in
     let t = table_shown r.roster r.window w s k front p.table p.sender few in
@@ -426,9 +426,9 @@ gained_grown r s item words puts f p =
     let k : ℕ = count r s + 1 in
     let within : s < length r.counts = omega (arith, p.sender, f.counts) in
     let some = some_member r.members (me r) (omega (arith, f.rows.present, f.rows.few)) f.present in
-    let rises = front_rises (view_of r) r.counts s k some within (omega arith) in
+    let rises = front_rises (members_in_view r) r.counts s k some within (omega arith) in
     shown_grown r.roster r.window w s (count r s) k
-    (front_of (map (slice_index (set r.counts s k)) (view_of r))) p.table p.sender
+    (front_of (map (slice_index (set r.counts s k)) (members_in_view r))) p.table p.sender
     (omega (arith, p.room, f.few))
     (p.kept (recv_column s) (omega (arith, p.sender)) ∙ open_recv r s f p.unwedged p.sender) (omega arith)
     (omega (arith, p.kept RECEIVED_COLUMN (omega arith), f.received, rises))

@@ -9,7 +9,7 @@ use Rattle.dr_history.specs.Order.{InOrder, MayFollow, first_entries}
 use Rattle.dr_history.specs.Agreement.{SamePast}
 use Rattle.dr_history.specs.Soundness.{Sound}
 use Rattle.dr_history_laws.specs.Laid.{EndsWithView, HeldBelow, SentMore, laid}
-use Rattle.dr_history_laws.specs.Courses.{ViewEnds, HasEnded, IsUncut, MayCome, MayReach, counts_taken, course, head_of, members_in, view_in}
+use Rattle.dr_history_laws.specs.Courses.{ViewEnds, ViewHasEnded, IsUncut, MayCome, MayReach, counts_taken, course, head_of, members_in, view_in}
 use Rattle.dr_history_laws.proofs.Cutting.{InOrder-next_view, merge-prefix, merge-steady}
 use Rattle.dr_history_laws.proofs.LaidLemmas.{laid-none, laid-prefix}
 use Rattle.dr_history_laws.proofs.LooseOrder.{InLooseOrder-from}
@@ -191,7 +191,7 @@ past-course o sent endings v p u q sound may_v may_u kept_v kept_u =
 
 -- heads stay
 pub head-steady : (o : Opening) (sent now : Sent) (endings : ViewEnds) (v : ℕ) → SentMore sent now
-    → ((u : ℕ) → u < v → HasEnded o sent endings u)
+    → ((u : ℕ) → u < v → ViewHasEnded o sent endings u)
     → head_of o now endings v ≡ head_of o sent endings v
 unfolding head_of
 head-steady o sent now endings zero more ended = refl
@@ -204,7 +204,7 @@ head-steady o sent now endings (suc v) more ended =
 
 -- and so does what has come to a place
 pub course-steady : (o : Opening) (sent now : Sent) (endings : ViewEnds) (v p : ℕ) → SentMore sent now
-    → ((u : ℕ) → u < v → HasEnded o sent endings u)
+    → ((u : ℕ) → u < v → ViewHasEnded o sent endings u)
     → HeldBelow sent (view_in o endings v) p
     → course o now endings v p ≡ course o sent endings v p
 course-steady o sent now endings v p more ended held =
@@ -214,7 +214,7 @@ course-steady o sent now endings v p more ended held =
 
 -- a view that has ended stays so
 pub ended-steady : (o : Opening) (sent now : Sent) (endings : ViewEnds) (v : ℕ) → SentMore sent now
-    → HasEnded o sent endings v → HasEnded o now endings v
+    → ViewHasEnded o sent endings v → ViewHasEnded o now endings v
 ended-steady o sent now endings v more ended = record {
   follows = ended.follows;
   given = λ s member. longer (sent s v) (now s v) (ended.given s member) (more s v);

@@ -45,14 +45,14 @@ abbrev pub course : Opening → Sent → ViewEnds → ℕ → ℕ → List Entry
 course o sent endings v p = head_of o sent endings v ++ laid o sent (view_in o endings v) p
 
 -- a view has ended as it may: those that remain may be the next view, and what is delivered of it was sent
-pub record HasEnded (o : Opening) (sent : Sent) (endings : ViewEnds) (v : ℕ) : Type 0 where
+pub record ViewHasEnded (o : Opening) (sent : Sent) (endings : ViewEnds) (v : ℕ) : Type 0 where
   pub follows : MayFollow (view_in o endings v) o.age (v + 1) (endings v).remaining
   pub given : (s : ℕ) → Contains (view_in o endings v).members s → (endings v).taken s ≤ length (sent s v)
 
 -- a history may have come to a view: those before it have ended, and in each of them, and in it, what is sent
 -- goes on from the View's head
 pub record MayCome (o : Opening) (sent : Sent) (endings : ViewEnds) (v : ℕ) : Type 0 where
-  pub ended : (u : ℕ) → u < v → HasEnded o sent endings u
+  pub ended : (u : ℕ) → u < v → ViewHasEnded o sent endings u
   pub goes : (u : ℕ) → u ≤ v → GoesOn o sent (head_of o sent endings u) (view_in o endings u)
 
 -- and to a place of it: the places below hold items, and where the view has ended, they are delivered in it

@@ -11,7 +11,7 @@ ghost use Rattle.dr_history.specs.Places.{front_of, is_held, rest_places};
 ghost use Rattle.dr_history.specs.Order.{InOrder, MayFollow, first_entries, messages_from};
 ghost use Rattle.dr_history.specs.Agreement.{SamePast};
 ghost use Rattle.dr_history.specs.Soundness.{Sound};
-ghost use Rattle.dr_history_laws.specs.Courses.{ViewEnds, HasEnded, IsUncut, MayCome, MayReach, course, view_in};
+ghost use Rattle.dr_history_laws.specs.Courses.{ViewEnds, ViewHasEnded, IsUncut, MayCome, MayReach, course, view_in};
 ghost use Rattle.dr_history_laws.specs.Laid.{entry_at, laid, HeldBelow, EndsWithView, GoesOn, SentMore, first_view};
 
 /// A history in order that ends with a View, and from which the messages sent in the view go on,
@@ -72,7 +72,7 @@ pub fn course_laws()
         → ((s : ℕ) → length (messages_of o s) ≤ most)
         → length (course o sent endings v p) ≤ length (first_entries o) + v + n * most }
     ensures steady { (o : Opening) (sent now : Sent) (endings : ViewEnds) (v p : ℕ)
-        → SentMore sent now → ((u : ℕ) → u < v → HasEnded o sent endings u)
+        → SentMore sent now → ((u : ℕ) → u < v → ViewHasEnded o sent endings u)
         → HeldBelow sent (view_in o endings v) p
         → course o now endings v p ≡ course o sent endings v p }
 {}

@@ -23,5 +23,5 @@ abbrev pub AllTag : Words → ℕ → ℕ → ℕ → Type 0
 AllTag rows members i tag = accepts.AllTag rows.members (seen rows) members i tag
 
 -- the row shows this value
-abbrev pub Shows : Words → ℕ → ℕ → Value → Type 0
-Shows rows members i v = accepts.Shows rows.members (seen rows) members i v
+abbrev pub RowShows : Words → ℕ → ℕ → Value → Type 0
+RowShows rows members i v = accepts.Shows rows.members (seen rows) members i v

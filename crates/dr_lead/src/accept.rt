@@ -1,5 +1,5 @@
 ghost use Rattle.std.specs.Prelude.{◌↔◌, IsTrue, MatchOption};
-ghost use Rattle.dr_lead.specs.Accepts.{Shows, promise_of};
+ghost use Rattle.dr_lead.specs.Accepts.{RowShows, promise_of};
 ghost use Rattle.dr_lead.specs.Changes.{MayAccept};
 ghost use Rattle.dr_lead.specs.Standings.{IsStanding};
 
@@ -17,7 +17,7 @@ pub fn try_accept(rows: &Rows, s: &Standing) -> Option<Value>
     requires { IsStanding rows.now s.now }
     ensures { MatchOption result (¬ MayAccept rows.now s.now)
         (λ v. MayAccept rows.now s.now
-        × Shows rows.now s.now.members (promise_of rows.now s.now.me) v) }
+        × RowShows rows.now s.now.members (promise_of rows.now s.now.me) v) }
 {
     if may_accept(rows, s) {
         Some(promised_value(rows, s))
@@ -29,7 +29,7 @@ pub fn try_accept(rows: &Rows, s: &Standing) -> Option<Value>
 /// The value that the row of the promised member shows, whether or not it has come whole.
 pub fn promised_value(rows: &Rows, s: &Standing) -> Value
     requires { IsStanding rows.now s.now }
-    ensures { Shows rows.now s.now.members (promise_of rows.now s.now.me) result }
+    ensures { RowShows rows.now s.now.members (promise_of rows.now s.now.me) result }
 {
     let promised = promise(rows, &s.shape, s.me);
     shown(rows, &s.shape, s.members, promised)

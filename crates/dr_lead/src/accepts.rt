@@ -3,7 +3,7 @@ ghost use Rattle.std.specs.Prelude.{◌≡◌, ◌<◌, ◌↔◌, IsTrue};
 ghost use Rattle.dr_words.specs.Masks.{IsInRoster};
 ghost use Rattle.dr_words.specs.Packing.{accept_value};
 ghost use Rattle.dr_pred.specs.Group.{IsOfShape};
-ghost use Rattle.dr_lead.specs.Accepts.{AllPromise, AllTag, Shows, promise_of, tag_of, trim_word};
+ghost use Rattle.dr_lead.specs.Accepts.{AllPromise, AllTag, RowShows, promise_of, tag_of, trim_word};
 
 use dr_entry::{MAX_MEMBERS, Value};
 use dr_rows::Rows;
@@ -67,7 +67,7 @@ pub(crate) fn shown(rows: &Rows, shape: &Shape, members: Mask, row: u8) -> Value
     requires row { row < rows.now.members }
     requires shape { IsOfShape shape.now rows.now }
     requires members { IsInRoster rows.now.members members }
-    ensures { Shows rows.now members row result }
+    ensures { RowShows rows.now members row result }
 {
     let mut trim = [0; MAX_MEMBERS];
     for sender in 0..MAX_MEMBERS as u8 {

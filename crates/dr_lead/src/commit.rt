@@ -1,6 +1,6 @@
 ghost use Rattle.std.specs.Prelude.{◌↔◌, IsTrue, MatchOption};
 ghost use Rattle.dr_words.specs.Masks.{IsMajorityOf};
-ghost use Rattle.dr_lead.specs.Accepts.{Shows};
+ghost use Rattle.dr_lead.specs.Accepts.{RowShows};
 ghost use Rattle.dr_lead.specs.Changes.{MayCommit, tagged_members};
 ghost use Rattle.dr_lead.specs.Standings.{IsStanding};
 
@@ -18,7 +18,7 @@ use dr_words::unpack_accept;
 pub fn try_commit(rows: &Rows, s: &Standing) -> Option<Value>
     requires { IsStanding rows.now s.now }
     ensures { MatchOption result (¬ MayCommit rows.now s.now)
-        (λ v. MayCommit rows.now s.now × Shows rows.now s.now.members s.now.me v) }
+        (λ v. MayCommit rows.now s.now × RowShows rows.now s.now.members s.now.me v) }
 {
     let own = tag(rows, &s.shape, s.me);
     if own != 0 && is_tagged_by_most(rows, s, own) {

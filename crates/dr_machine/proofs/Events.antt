@@ -23,7 +23,7 @@ use Rattle.dr_machine.specs.Effects.{accepts, commits, delivers, ends, finishes,
 use Rattle.dr_machine.specs.Events.{event_of, member_of, step_of}
 use Rattle.dr_machine.specs.Group.{Group, roster}
 use Rattle.dr_machine.specs.Guards.{CanCommit, CanDeliver, CanFinish, CanMark, CanNull, CanReport, CanSend, CanSuspect, IsDue, IsFault, IsRunning, next_index}
-use Rattle.dr_machine.specs.World.{World, count_of}
+use Rattle.dr_machine.specs.World.{World, items_received}
 use Rattle.dr_machine.specs.Writes.{at, at₂}
 
 -- whose event it is
@@ -153,8 +153,8 @@ put_done g w m name item k v =
     ∙ row_same w.past.own m (w.past.view m) slot (grind arith) k v
   where
     slot : ℕ → ℕ
-    slot = row_with (w.past.own m (w.past.view m)) (slot_column (roster g) g.window (count_of w m m))
-        (count_of w m m) (pieces item)
+    slot = row_with (w.past.own m (w.past.view m)) (slot_column (roster g) g.window (items_received w m m))
+        (items_received w m m) (pieces item)
 
 suspect_done : (g : Group) (w : World) (m j : ℕ) → AreDoneAs w (suspects g w m j)
 suspect_done g w m j = row_same w.past.own m (w.past.view m) _

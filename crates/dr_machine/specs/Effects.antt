@@ -23,7 +23,7 @@ use Rattle.dr_words.specs.Rewrites.{accepted_word, wedged_word}
 use Rattle.dr_machine.specs.Writes.{at, at₂, at₃, at₄}
 use Rattle.dr_machine.specs.Group.{Group, roster}
 use Rattle.dr_machine.specs.Votes.{vote_in}
-use Rattle.dr_machine.specs.World.{World, no_vote, own_word, count_of, shown, view_members, item_at_place, no_value}
+use Rattle.dr_machine.specs.World.{World, no_vote, own_word, items_received, shown, view_members, item_at_place, no_value}
 use Rattle.dr_machine.specs.Guards.{next_index, seen_slot}
 
 -- one more, and at most the greatest number of so many bits
@@ -63,7 +63,7 @@ pushes w m j c = record w { table = at₄ w.table (w.past.view m) j m c (own_wor
 abbrev pub gains : World → ℕ → ℕ → Item → World
 gains w m s item =
     let v = w.past.view m in
-    let k = count_of w m s in
+    let k = items_received w m s in
     let counts = at (w.past.count m v) s (k + 1) in record w {
       past = record w.past {
         count = at₂ w.past.count m v counts;
@@ -84,7 +84,7 @@ row_with row from k list c =
 abbrev pub puts : Group → World → ℕ → SentItem → Item → World
 puts g w m name item =
     let v = w.past.view m in
-    let k = count_of w m m in
+    let k = items_received w m m in
     gains (record w {
       past = record w.past {
         own = at₂ w.past.own m v (row_with (w.past.own m v) (slot_column (roster g) g.window k) k
@@ -103,7 +103,7 @@ nulls g w m = puts g w m sent_items.Null Null
 
 -- the next item of s, as m has seen it
 abbrev pub next_item : Group → World → ℕ → ℕ → Item
-next_item g w m s = let k = count_of w m s in unwrap_or (item_in k (seen_slot g w m s k)) Null
+next_item g w m s = let k = items_received w m s in unwrap_or (item_in k (seen_slot g w m s k)) Null
 
 abbrev pub receives : Group → World → ℕ → ℕ → World
 receives g w m s = gains w m s (next_item g w m s)

@@ -16,7 +16,7 @@ use Rattle.dr_words.specs.Columns.{recv_column}
 use Rattle.dr_words.specs.Masks.{IsMajorityOf, without}
 use Rattle.dr_words.specs.Packing.{recv_count}
 use Rattle.dr_machine.specs.Group.{Group, IsPresent, banks, roster, columns}
-use Rattle.dr_machine.specs.World.{World, own_word, count_of, shown}
+use Rattle.dr_machine.specs.World.{World, own_word, items_received, shown}
 
 -- m is there, and has no end
 pub record IsRunning (g : Group) (w : World) (m : ℕ) : Type 0 where
@@ -68,18 +68,18 @@ pub record CanSend (g : Group) (w : World) (m : ℕ) : Type 0 where
   pub unwedged : IsUnwedged w m
   -- a message is left
   pub left : next_index w m < length (messages_of g.opening m)
-  pub room : HasRoom g w m (count_of w m m)
+  pub room : HasRoom g w m (items_received w m m)
 
 -- m has more items of some sender than it has put itself
 abbrev pub IsBehind : World → ℕ → Type 0
-IsBehind w m = (s : ℕ) × (count_of w m m < count_of w m s)
+IsBehind w m = (s : ℕ) × (items_received w m m < items_received w m s)
 
 pub record CanNull (g : Group) (w : World) (m : ℕ) : Type 0 where
   pub may : MayChoose g w m
   pub unwedged : IsUnwedged w m
   -- no message is left
   pub none_left : length (messages_of g.opening m) ≤ next_index w m
-  pub room : HasRoom g w m (count_of w m m)
+  pub room : HasRoom g w m (items_received w m m)
   pub behind : IsBehind w m
 
 -- the words that m has seen of the slot of item k in the row of s
@@ -91,7 +91,7 @@ pub record CanReceive (g : Group) (w : World) (m s : ℕ) : Type 0 where
   pub unwedged : IsUnwedged w m
   pub sender : IsOther w m s
   -- all words that the next item of s needs are seen
-  pub ready : IsReady (count_of w m s) (seen_slot g w m s (count_of w m s))
+  pub ready : IsReady (items_received w m s) (seen_slot g w m s (items_received w m s))
 
 pub record CanDeliver (g : Group) (w : World) (m : ℕ) : Type 0 where
   pub may : MayChoose g w m
@@ -137,7 +137,7 @@ pub record CanFinish (g : Group) (w : World) (m : ℕ) : Type 0 where
   pub committed : w.committed m ≡ Some value
   pub stays : has value.leavers m ≡ false
   pub bank : w.past.view m + 1 < banks g
-  pub items : (s : ℕ) → has (w.members m) s ≡ true → slice_index value.trim s ≤ count_of w m s
+  pub items : (s : ℕ) → has (w.members m) s ≡ true → slice_index value.trim s ≤ items_received w m s
 
 -- the members of m's view that it doesn't suspect, itself among them, as a mask
 abbrev pub unsuspected_of : World → ℕ → ℕ

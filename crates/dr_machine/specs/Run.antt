@@ -8,7 +8,7 @@ use Rattle.dr_words.specs.Grown.{HasGrown}
 use Rattle.dr_words.specs.Packing.{ring_tag}
 use Rattle.dr_machine.specs.declared.event.Event.{Event}
 use Rattle.dr_machine.specs.Group.{Group, IsPresent, roster}
-use Rattle.dr_machine.specs.World.{Past, Table, World, opening_world, count_of}
+use Rattle.dr_machine.specs.World.{Past, Table, World, opening_world, items_received}
 use Rattle.dr_machine.specs.Guards.{IsOther}
 use Rattle.dr_machine.specs.Acts.{Guard, effect}
 
@@ -82,9 +82,9 @@ WorldAgreed g w = Agreed g.opening (accounts_in w)
 -- has seen
 abbrev pub NoLaterItem : Group → World → Type 0
 NoLaterItem g w = (m s part : ℕ) → IsPresent g m → IsOther w m s → part < PIECES
-    → (let column = slot_column (roster g) g.window (count_of w m s) + part in
-    (ring_tag (w.table (w.past.view m) m s column) ≤ count_of w m s + 1)
-    × (ring_tag (w.seen m s column) ≤ count_of w m s + 1))
+    → (let column = slot_column (roster g) g.window (items_received w m s) + part in
+    (ring_tag (w.table (w.past.view m) m s column) ≤ items_received w m s + 1)
+    × (ring_tag (w.seen m s column) ≤ items_received w m s + 1))
 
 -- what only grows has grown, or is as before
 pub record PastGrew (old new : Past) : Type 0 where

@@ -111,8 +111,8 @@ opening_world g =
 abbrev pub own_word : World → ℕ → ℕ → ℕ
 own_word w m c = w.past.own m (w.past.view m) c
 
-abbrev pub count_of : World → ℕ → ℕ → ℕ
-count_of w m s = w.past.count m (w.past.view m) s
+abbrev pub items_received : World → ℕ → ℕ → ℕ
+items_received w m s = w.past.count m (w.past.view m) s
 
 -- the word of row i as member m has it: its own one in its own row, and else the one that it has seen
 abbrev pub shown : World → ℕ → ℕ → ℕ → ℕ

@@ -34,7 +34,7 @@ use Rattle.dr_member.specs.Search.{next_row, standing}
 use Rattle.dr_member.specs.Alone.{IsAtSweep, LeadsTo, SeesAlong}
 use Rattle.dr_member.specs.Deeds.{is_look, is_push, table_size}
 use Rattle.dr_member.specs.declared.member.Member.TheInside.{Inside}
-use Rattle.dr_member.specs.Inside.{IsInside, view_of}
+use Rattle.dr_member.specs.Inside.{IsInsideMember, member_inside}
 use Rattle.dr_member.proofs.Answers.{IsAnswer}
 use Rattle.dr_member.proofs.Crashes.{some_at_push}
 use Rattle.dr_member.proofs.Dues.{at_look, may_look, push_due}
@@ -79,21 +79,21 @@ module _ (table : List ℕ) (from : Running) (first : ℕ) (b : Inside)
   word_there : ℕ
   word_there = slice_index table (first + b.place.column)
 
-  sight_there : next_sight table (view_of b) ≡ slice_index table (first + b.place.column)
+  sight_there : next_sight table (member_inside b) ≡ slice_index table (first + b.place.column)
   sight_there =
-      let at = at_look (view_of b) on.inside.form (ap is_look on.due) in
-      ap (λ part. sight table b.replica (step_at (view_of b) part b.place.row b.place.column)) at.at
+      let at = at_look (member_inside b) on.inside.form (ap is_look on.due) in
+      ap (λ part. sight table b.replica (step_at (member_inside b) part b.place.row b.place.column)) at.at
       ∙ ap (slice_index table) (sym (look_index from b _ on).index)
 
-  stays_there : stored table b.replica (next_step (view_of b)) ≡ table
+  stays_there : stored table b.replica (next_step (member_inside b)) ≡ table
   stays_there =
-      let at = at_look (view_of b) on.inside.form (ap is_look on.due) in
-      ap (λ part. stored table b.replica (step_at (view_of b) part b.place.row b.place.column)) at.at
+      let at = at_look (member_inside b) on.inside.form (ap is_look on.due) in
+      ap (λ part. stored table b.replica (step_at (member_inside b) part b.place.row b.place.column)) at.at
 
-  module _ (n : ℕ) (lead : LeadsTo n table from table (view_of b)) (sees : SeesAlong table from) where
-    may_there : MaySee (view_of b) (step_of_member (view_of b)) (slice_index table (first + b.place.column))
-    may_there = subst (MaySee (view_of b) (step_of_member (view_of b))) sight_there
-        (sees n (view_of b) lead (ap is_look on.due))
+  module _ (n : ℕ) (lead : LeadsTo n table from table (member_inside b)) (sees : SeesAlong table from) where
+    may_there : MaySee (member_inside b) (step_of_member (member_inside b)) (slice_index table (first + b.place.column))
+    may_there = subst (MaySee (member_inside b) (step_of_member (member_inside b))) sight_there
+        (sees n (member_inside b) lead (ap is_look on.due))
 
     takes_there : IsLookOf b.replica b.place.row b.place.column (slice_index table (first + b.place.column))
     takes_there = look_takes b b.place.row (slice_index table (first + b.place.column)) on.inside may_there refl
@@ -102,7 +102,7 @@ module _ (table : List ℕ) (from : Running) (first : ℕ) (b : Inside)
         (looked b.replica b.place.row b.place.column (slice_index table (first + b.place.column))) b.fate b.place
         (slice_index table (first + b.place.column))
     looked_there =
-        let at = at_look (view_of b) on.inside.form (ap is_look on.due) in
+        let at = at_look (member_inside b) on.inside.form (ap is_look on.due) in
         let t = takes_there in
         let form = on.inside.form.replica in
         let v = slice_index table (first + b.place.column) in
@@ -116,14 +116,14 @@ module _ (table : List ℕ) (from : Running) (first : ℕ) (b : Inside)
         → let q = looked b.replica b.place.row b.place.column (slice_index table (first + b.place.column)) in
         let next : Inside = record b { replica = q; place = record b.place { column = b.place.column + 1 } } in
         IsOnRow (deeds.Look (first + (b.place.column + 1))) from next
-        × LeadsTo (n + 1) table from table (view_of next)
+        × LeadsTo (n + 1) table from table (member_inside next)
     looks_on within =
         let v = slice_index table (first + b.place.column) in
         let q = looked b.replica b.place.row b.place.column v in
         let on_row = look_on from b q first v on looked_there within in (
           on_row.0,
-          leads_more n table from table (view_of b) table _ lead (ap (λ d. is_look d || is_push d) on.due)
-              stays_there (ap (λ w. after_step w (view_of b)) sight_there ∙ sym on_row.1.after),
+          leads_more n table from table (member_inside b) table _ lead (ap (λ d. is_look d || is_push d) on.due)
+              stays_there (ap (λ w. after_step w (member_inside b)) sight_there ∙ sym on_row.1.after),
         )
 
 -- the member behind its looks up to a column
@@ -137,8 +137,8 @@ along table first a n column = record a {
 
 -- a member that is to take the looks of a row
 pub record IsLooking (table : List ℕ) (from : Running) (first : ℕ) (a : Inside) : Type 0 where
-  pub view : view_of a ≡ from
-  pub inside : IsInside a
+  pub view : member_inside a ≡ from
+  pub inside : IsInsideMember a
   pub due : is_look (next_deed from) ≡ true
   pub begins : first ≡ index_in from.replica (me from.replica) a.place.row 0
   pub sees : SeesAlong table from
@@ -146,7 +146,7 @@ pub record IsLooking (table : List ℕ) (from : Running) (first : ℕ) (a : Insi
 -- it looks along the row
 pub record LooksAt (table : List ℕ) (from : Running) (first : ℕ) (b : Inside) (n : ℕ) : Type 0 where
   pub on : IsOnRow (deeds.Look (first + b.place.column)) from b
-  pub lead : LeadsTo n table from table (view_of b)
+  pub lead : LeadsTo n table from table (member_inside b)
 
 looks_next : (table : List ℕ) (from : Running) (first : ℕ) (a : Inside) (n c column : ℕ)
     → IsLooking table from first a → a.place.column + n ≡ c → column ≡ c + 1 → column < a.bases.columns
@@ -193,7 +193,7 @@ pub record AsksOfLooks (table : List ℕ) (first : ℕ) (a : Inside) : Type 0 wh
       → HasGrown a.replica.roster c (seen a.replica.rows a.place.row c) (slice_index table (first + c))
 
 -- the columns of the row
-pub columns_here : (a : Inside) → IsInside a → a.bases.columns ≡ columns_of a.replica.roster a.replica.window
+pub columns_here : (a : Inside) → IsInsideMember a → a.bases.columns ≡ columns_of a.replica.roster a.replica.window
 columns_here a is = columns_after a a.replica a.replica is refl refl
 
 pub looks_asked : (table : List ℕ) (from : Running) (first : ℕ) (a : Inside) → IsLooking table from first a
@@ -211,7 +211,7 @@ looks_asked table from first a is = record {
   where
     column : a.place.column < a.bases.columns
     column =
-        let at = at_look (view_of a) is.inside.form
+        let at = at_look (member_inside a) is.inside.form
         (subst (λ r. is_look (next_deed r) ≡ true) (sym is.view) is.due) in
         omega (arith, at.cell.column, columns_here a is.inside)
 
@@ -230,12 +230,12 @@ looks_asked table from first a is = record {
 
 -- a member has come by looks and pushes over a table
 pub record HasComeAlone (table : List ℕ) (from : Running) (cells : List ℕ) (b : Inside) : Type 0 where
-  pub inside : IsInside b
-  pub taken : (n : ℕ) × LeadsTo n table from cells (view_of b)
-  pub form : IsRunningMember (view_of b)
+  pub inside : IsInsideMember b
+  pub taken : (n : ℕ) × LeadsTo n table from cells (member_inside b)
+  pub form : IsRunningMember (member_inside b)
   pub grown : NoWordFell from.replica b.replica
-  pub falls : deeds_left (view_of b) < deeds_left from
-  pub still : IsStill from (view_of b)
+  pub falls : deeds_left (member_inside b) < deeds_left from
+  pub still : IsStill from (member_inside b)
 
 -- a member behind the last deed of a row, with this replica and this fate
 pub record IsBehindRow (table : List ℕ) (from : Running) (a : Inside) (cells : List ℕ) (q : Replica) (fate : Fate) :
@@ -264,9 +264,9 @@ looks_done table from first a q w is e waits = record {
         inside = end.inside;
         taken = (
           n + 1,
-          leads_more n table from table (view_of b) table _ at.lead (ap (λ d. is_look d || is_push d) at.on.due)
+          leads_more n table from table (member_inside b) table _ at.lead (ap (λ d. is_look d || is_push d) at.on.due)
               (stays_there table from first b at.on)
-              (ap (λ x. after_step x (view_of b)) (sight_there table from first b at.on) ∙ sym end.answer.after),
+              (ap (λ x. after_step x (member_inside b)) (sight_there table from first b at.on) ∙ sym end.answer.after),
         );
         form = end.answer.form;
         grown = end.grown;
@@ -315,8 +315,8 @@ looks_done table from first a q w is e waits = record {
 
 -- a member that is to take the pushes of a row, in a turn in which it does not crash
 pub record IsPushing (table : List ℕ) (from : Running) (first : ℕ) (a : Inside) : Type 0 where
-  pub view : view_of a ≡ from
-  pub inside : IsInside a
+  pub view : member_inside a ≡ from
+  pub inside : IsInsideMember a
   pub due : is_push (next_deed from) ≡ true
   pub begins : first ≡ index_in from.replica a.place.row (me from.replica) 0
   pub safe : a.fate.crash ≡ None
@@ -339,7 +339,7 @@ pub record PushedTo (table : List ℕ) (from : Running) (first : ℕ) (a : Insid
   pub cells : List ℕ
   pub before : ℕ
   pub on : IsOnRow (deeds.Push (first + last.place.column) (own last.replica.rows last.place.column)) from last
-  pub lead : (n : ℕ) × LeadsTo n table from cells (view_of last)
+  pub lead : (n : ℕ) × LeadsTo n table from cells (member_inside last)
   pub place : last.place ≡ record a.place { column = last.place.column }
   pub bases : last.bases ≡ a.bases
   pub fate : last.fate ≡ counted a.fate (raised before a.fate.pushes)
@@ -369,7 +369,7 @@ module _ (table : List ℕ) (from : Running) (first : ℕ) (a : Inside) (is : Is
       → IsPushed to.last.replica q to.last.fate to.last.place n t
   behind_pushed q n t e pushes unchanged above within =
       let b = to.last in
-      let due = push_due (view_of b) to.on.inside.form (ap is_push to.on.due) in
+      let due = push_due (member_inside b) to.on.inside.form (ap is_push to.on.due) in
       let after = e ∙ to.replica in
       wrote from b q a.place.row _ _ n t to.on row_is after
       (subst HasForm (sym after) (pushed_keeps b.replica a.place.row b.place.column to.on.inside.form.replica
@@ -379,25 +379,25 @@ module _ (table : List ℕ) (from : Running) (first : ℕ) (a : Inside) (is : Is
       (omega (arith, within, behind_columns, ap (λ (r : Replica). columns_of r.roster r.window) e))
 
   -- the push that leads there
-  step_is : next_step (view_of to.last) ≡ steps.Push to.last.place.row to.last.place.column
+  step_is : next_step (member_inside to.last) ≡ steps.Push to.last.place.row to.last.place.column
   step_is =
       let b = to.last in
-      let due = push_due (view_of b) to.on.inside.form (ap is_push to.on.due) in
-      ap (λ part. step_at (view_of b) part b.place.row b.place.column) due.at
+      let due = push_due (member_inside b) to.on.inside.form (ap is_push to.on.due) in
+      ap (λ part. step_at (member_inside b) part b.place.row b.place.column) due.at
       ∙ ap (λ c. push_or_crash c b.place.row b.place.column) due.later
 
-  leads_behind : (x : Running) → IsAnswer 0 (view_of to.last) x
+  leads_behind : (x : Running) → IsAnswer 0 (member_inside to.last) x
       → (n : ℕ) × LeadsTo n table from s.table x
   leads_behind x answer =
       let b = to.last in
       let (n, lead) = to.lead in (
         n + 1,
-        leads_more n table from to.cells (view_of b) s.table x lead
-            (push_sweeps (view_of b) (ap is_push to.on.due))
+        leads_more n table from to.cells (member_inside b) s.table x lead
+            (push_sweeps (member_inside b) (ap is_push to.on.due))
             (ap (stored to.cells b.replica) step_is
             ∙ ap (λ i. slice_set to.cells i (own b.replica.rows b.place.column))
             (sym (push_index from b _ _ to.on).index) ∙ sym to.stores)
-            (ap (λ t. after_step (sight to.cells b.replica t) (view_of b)) step_is ∙ sym answer.after),
+            (ap (λ t. after_step (sight to.cells b.replica t) (member_inside b)) step_is ∙ sym answer.after),
       )
 
   -- the next column: it has not changed
@@ -491,7 +491,7 @@ module _ (table : List ℕ) (from : Running) (first : ℕ) (a : Inside) (is : Is
         ≡ settled (standing q (counted b.fate n) (next_row q.roster b.place)) =
         ap (λ f. standing q (counted f n) p) to.fate ∙ settles
         ∙ (λ z. settled (standing q (counted (sym to.fate z) n) (next_row q.roster (sym to.place z)))) in
-        let answer = pushed_behind (view_of b) b.replica q b.fate b.place p n column 0 refl l past back in
+        let answer = pushed_behind (member_inside b) b.replica q b.fate b.place p n column 0 refl l past back in
         let end = pushes_end from b q p _ _ n column ready to.on l answer keeps in
         let same : record b { replica = q; place = p; fate = counted b.fate n; ready = ready }
         ≡ record a { replica = q; place = p; fate = counted a.fate n; ready = ready } =
@@ -533,12 +533,12 @@ pub pushed_first : (table : List ℕ) (from : Running) (first : ℕ) (a : Inside
     × PushedTo table from first a (with_push a.place.row first s a.place.column) (a.place.column + 1)
 unfolding raised
 pushed_first table from first a is =
-    let due = push_due (view_of a) is.inside.form
+    let due = push_due (member_inside a) is.inside.form
     (subst (λ r. is_push (next_deed r) ≡ true) (sym is.view) is.due) in
-    let asked : asks (view_of a) parts.Push a.place.row a.place.column ≡ true =
-    ap (λ part. asks (view_of a) part a.place.row a.place.column) (sym due.at)
-    ∙ (and_parts (asks (view_of a) (part_of a.place) a.place.row a.place.column)
-    (allows a.replica (next_step (view_of a))) (is.inside.form.due due.none)).0 in
+    let asked : asks (member_inside a) parts.Push a.place.row a.place.column ≡ true =
+    ap (λ part. asks (member_inside a) part a.place.row a.place.column) (sym due.at)
+    ∙ (and_parts (asks (member_inside a) (part_of a.place) a.place.row a.place.column)
+    (allows a.replica (next_step (member_inside a))) (is.inside.form.due due.none)).0 in
     let differs : changed a.replica.rows a.place.row a.place.column ≡ true =
     (and_parts (is_other a.replica a.place.row) _ asked).1 in (
       omega (arith, due.cell.column, columns_here a is.inside),
@@ -639,12 +639,12 @@ pub record PushesFit (table : List ℕ) (first : ℕ) (a : Inside) : Type 0 wher
   pub within : first + a.replica.rows.columns ≤ length table
   pub small : first + a.place.column < 2 ^ 64
 
-pub pushes_fit : (table : List ℕ) (from : Running) (first : ℕ) (a : Inside) → view_of a ≡ from → IsInside a
+pub pushes_fit : (table : List ℕ) (from : Running) (first : ℕ) (a : Inside) → member_inside a ≡ from → IsInsideMember a
     → is_push (next_deed from) ≡ true → first ≡ index_in from.replica a.place.row (me from.replica) 0
     → table_size from ≤ length table
     → PushesFit table first a
 pushes_fit table from first a view inside is begins size =
-    let due = push_due (view_of a) inside.form (subst (λ r. is_push (next_deed r) ≡ true) (sym view) is) in
+    let due = push_due (member_inside a) inside.form (subst (λ r. is_push (next_deed r) ≡ true) (sym view) is) in
     let columns = ap (λ (r : Running). columns_of r.replica.roster r.replica.window) view in
     let rows = ap (λ (r : Running). r.replica.roster) view in
     let last = a.bases.columns - 1 in
@@ -668,14 +668,14 @@ pushes_fit table from first a view inside is begins size =
     }
 
 -- where a push alone stores its word
-pub push_stores : (words : List ℕ) (from : Running) (first : ℕ) (a : Inside) → view_of a ≡ from → IsInside a
+pub push_stores : (words : List ℕ) (from : Running) (first : ℕ) (a : Inside) → member_inside a ≡ from → IsInsideMember a
     → is_push (next_deed from) ≡ true → first ≡ index_in from.replica a.place.row (me from.replica) 0
     → stored words from.replica (next_step from)
     ≡ slice_set words (first + a.place.column) (own a.replica.rows a.place.column)
 push_stores words from first a view inside is begins =
-    let due = push_due (view_of a) inside.form (subst (λ r. is_push (next_deed r) ≡ true) (sym view) is) in
-    let step : next_step (view_of a) ≡ steps.Push a.place.row a.place.column =
-    ap (λ part. step_at (view_of a) part a.place.row a.place.column) due.at
+    let due = push_due (member_inside a) inside.form (subst (λ r. is_push (next_deed r) ≡ true) (sym view) is) in
+    let step : next_step (member_inside a) ≡ steps.Push a.place.row a.place.column =
+    ap (λ part. step_at (member_inside a) part a.place.row a.place.column) due.at
     ∙ ap (λ c. push_or_crash c a.place.row a.place.column) due.later in
     let start : first ≡ index_in a.replica a.place.row (me a.replica) 0 =
     begins ∙ ap (λ (r : Running). index_in r.replica a.place.row (me r.replica) 0) (sym view) in

@@ -13,7 +13,7 @@ use Rattle.dr_program.specs.Turn.{columns_in, part_of}
 use Rattle.dr_program.specs.Running.{Running, members, columns, applies, crashes_now, goes, push_or_crash, pushes_after, settled, step_at, took, next_step, after_step, waits_after}
 use Rattle.dr_program.specs.Form.{HasForm, IsRunningMember}
 use Rattle.dr_turn.specs.Search.{IsUnderway}
-use Rattle.dr_turn.specs.Work.{IsDone}
+use Rattle.dr_turn.specs.Work.{IsAfterDeed}
 use Rattle.dr_turn.proofs.Deeds.{deed_done, deeds_keep}
 use Rattle.dr_turn.proofs.Search.{applies_at}
 use Rattle.dr_turn.proofs.Staying.{settled_here, stops_due}
@@ -69,9 +69,9 @@ is_took word r q fate from t = λ z. record {
 }
 
 pub is_done : (word : ℕ) (r : Running) (q : Replica) (fate : Fate) (from : Place)
-    → IsTaken word r q fate from → IsDone r (standing q fate from)
+    → IsTaken word r q fate from → IsAfterDeed r (standing q fate from)
 is_done word r q fate from t =
-    subst (IsDone r) (sym (is_took word r q fate from t))
+    subst (IsAfterDeed r) (sym (is_took word r q fate from t))
     (deed_done word r t.running t.fits t.none (subst HasForm t.replica t.form)
     (subst (λ (x : Replica). x.view ≡ r.replica.view → NoWordFell r.replica x) t.replica t.grown))
 
@@ -79,7 +79,7 @@ is_done word r q fate from t =
 pub record IsAnswer (word : ℕ) (r x : Running) : Type 0 where
   pub after : x ≡ after_step word r
   pub form : IsRunningMember x
-  pub done : IsDone r x
+  pub done : IsAfterDeed r x
 
 pub is_answer : (word : ℕ) (r : Running) (q : Replica) (fate : Fate) (from place : Place)
     → IsTaken word r q fate from
@@ -92,7 +92,7 @@ is_answer word r q fate from place t searched =
     record {
       after = same;
       form = subst IsRunningMember (sym same) kept.0;
-      done = subst (IsDone r) (sym same) kept.1;
+      done = subst (IsAfterDeed r) (sym same) kept.1;
     }
 
 -- the same of what contracts see of the member before

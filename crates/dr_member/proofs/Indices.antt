@@ -15,7 +15,7 @@ use Rattle.dr_member.specs.declared.bases.Bases.{Bases}
 use Rattle.dr_member.specs.declared.member.Member.TheInside.{Inside}
 use Rattle.dr_member.specs.Bases.{AreBases, AreBasesOf}
 use Rattle.dr_member.specs.Deeds.{table_size}
-use Rattle.dr_member.specs.Inside.{IsInside, view_of}
+use Rattle.dr_member.specs.Inside.{IsInsideMember, member_inside}
 
 -- ---- the indices
 
@@ -52,21 +52,21 @@ is_index r sum copy row column form small p q s e = record {
 }
 
 -- a sum that is one where the member stands inside is one of the member that contracts see
-index_at : (now : Running) (a : Inside) (sum : ℕ) (copy row : Running → ℕ) (column : ℕ) → view_of a ≡ now
-    → IsInside a → copy (view_of a) < a.replica.roster → row (view_of a) < a.replica.roster
-    → column < columns now → sum ≡ index_in a.replica (copy (view_of a)) (row (view_of a)) column
+index_at : (now : Running) (a : Inside) (sum : ℕ) (copy row : Running → ℕ) (column : ℕ) → member_inside a ≡ now
+    → IsInsideMember a → copy (member_inside a) < a.replica.roster → row (member_inside a) < a.replica.roster
+    → column < columns now → sum ≡ index_in a.replica (copy (member_inside a)) (row (member_inside a)) column
     → IsIndex now sum (copy now) (row now) column
 index_at now a sum copy row column view is p q l e =
     subst (λ (r : Running). IsIndex r sum (copy r) (row r) column) view
-    (is_index (view_of a) sum (copy (view_of a)) (row (view_of a)) column is.form.replica is.bases.small p q
+    (is_index (member_inside a) sum (copy (member_inside a)) (row (member_inside a)) column is.form.replica is.bases.small p q
     (subst (λ (r : Running). column < columns r) (sym view) l) e)
 
 -- its own row is one of its roster
-pub me_within : (a : Inside) → IsInside a → me a.replica < a.replica.roster
+pub me_within : (a : Inside) → IsInsideMember a → me a.replica < a.replica.roster
 me_within a is = omega (arith, is.form.replica.rows.present, is.form.replica.members)
 
 -- a look reads the table at the member's own copy of that row's word
-pub look_at : (now : Running) (a : Inside) (i c : ℕ) → view_of a ≡ now → IsInside a → i < members now
+pub look_at : (now : Running) (a : Inside) (i c : ℕ) → member_inside a ≡ now → IsInsideMember a → i < members now
     → c < columns now → IsIndex now (slice_index a.bases.looks i + c) (me now.replica) i c
 look_at now a i c view is row column =
     let within : i < a.replica.roster = subst (λ (r : Running). i < members r) (sym view) row in
@@ -76,7 +76,7 @@ look_at now a i c view is row column =
     ∙ behind_first a.replica.roster a.replica.window a.replica.view (me a.replica) i c)
 
 -- a push writes the table at the row's copy of the member's own word
-pub push_at : (now : Running) (a : Inside) (j c : ℕ) → view_of a ≡ now → IsInside a → j < members now
+pub push_at : (now : Running) (a : Inside) (j c : ℕ) → member_inside a ≡ now → IsInsideMember a → j < members now
     → c < columns now → IsIndex now (slice_index a.bases.pushes j + c) j (me now.replica) c
 push_at now a j c view is row column =
     let within : j < a.replica.roster = subst (λ (r : Running). j < members r) (sym view) row in
@@ -152,7 +152,7 @@ bases_stay b r q x e stays f =
     }
 
 -- the kept number of columns is that of such a replica
-pub columns_after : (a : Inside) (q x : Replica) → IsInside a → q ≡ x → footing x ≡ footing a.replica
+pub columns_after : (a : Inside) (q x : Replica) → IsInsideMember a → q ≡ x → footing x ≡ footing a.replica
     → a.bases.columns ≡ columns_of q.roster q.window
 columns_after a q x is e stays =
     (bases_stay a.bases a.replica q x e stays is.bases).are.columns

@@ -28,7 +28,7 @@ use Rattle.dr_member.specs.declared.fate.Fate.{Fate}
 use Rattle.dr_member.specs.declared.member.Member.TheInside.{Inside}
 use Rattle.dr_member.specs.Deeds.{is_act, is_append, is_push}
 use Rattle.dr_member.specs.Fate.{IsTimely}
-use Rattle.dr_member.specs.Inside.{IsInside, view_of}
+use Rattle.dr_member.specs.Inside.{IsInsideMember, member_inside}
 use Rattle.dr_member.specs.Ready.{KeepsReady}
 use Rattle.dr_member.specs.Search.{next_row, standing}
 use Rattle.dr_member.proofs.Fates.{IsFateBy, fate_told}
@@ -316,10 +316,10 @@ pushed_timely replica q fate p n t l =
 -- ---- the code's fields after a step
 
 -- a step within its view leaves the member in good order inside
-pub inside_after : (a : Inside) (q x : Replica) (fate : Fate) (place : Place) (ready : ℕ) → IsInside a
+pub inside_after : (a : Inside) (q x : Replica) (fate : Fate) (place : Place) (ready : ℕ) → IsInsideMember a
     → q ≡ x → footing x ≡ footing a.replica → IsRunningMember (standing q fate place)
     → IsTimely fate q.turns → fate.limit ≡ a.fate.limit → KeepsReady q place ready
-    → IsInside (record { replica = q; place = place; fate = fate; bases = a.bases; ready = ready })
+    → IsInsideMember (record { replica = q; place = place; fate = fate; bases = a.bases; ready = ready })
 inside_after a q x fate place ready is e stays form timely limit keeps =
     record {
       form = form;
@@ -330,19 +330,19 @@ inside_after a q x fate place ready is e stays form timely limit keeps =
     }
 
 -- and its fate timely, where no turn begins
-pub stays_timely : (a : Inside) (q x : Replica) → IsInside a → q ≡ x → x.turns ≡ a.replica.turns
+pub stays_timely : (a : Inside) (q x : Replica) → IsInsideMember a → q ≡ x → x.turns ≡ a.replica.turns
     → IsTimely a.fate q.turns
 stays_timely a q x is e turn = subst (IsTimely a.fate) (sym (ap (λ (r : Replica). r.turns) e ∙ turn)) is.fate
 
 -- of a look
-pub look_due_at : (now : Running) (a : Inside) (word : ℕ) → view_of a ≡ now → IsInside a
-    → MaySee now (step_of_member now) word → IsLookDue (view_of a) word
+pub look_due_at : (now : Running) (a : Inside) (word : ℕ) → member_inside a ≡ now → IsInsideMember a
+    → MaySee now (step_of_member now) word → IsLookDue (member_inside a) word
 look_due_at now a word view is may =
-    look_due (view_of a) word is.form
+    look_due (member_inside a) word is.form
     (subst (λ (x : Running). MaySee x (step_of_member x) word) (sym view) may)
 
 -- a member that sees a word looks at it so
-pub is_looked : (now : Running) (a : Inside) (q : Replica) (word : ℕ) → view_of a ≡ now → IsInside a
+pub is_looked : (now : Running) (a : Inside) (q : Replica) (word : ℕ) → member_inside a ≡ now → IsInsideMember a
     → MaySee now (step_of_member now) word
     → q ≡ looked a.replica a.place.row a.place.column word → HasForm q → NoWordFell a.replica q
     → IsLooked a.replica q a.fate a.place word
@@ -356,45 +356,45 @@ is_looked now a q word view is may after form grown = record {
 }
 
 -- a turn of waiting leaves it timely, too
-pub looked_row_timely : (a : Inside) (q : Replica) (i c word : ℕ) (w : Waits) → IsInside a
+pub looked_row_timely : (a : Inside) (q : Replica) (i c word : ℕ) (w : Waits) → IsInsideMember a
     → q ≡ looked a.replica i c word → IsTimely (waited a.fate w) q.turns
 looked_row_timely a q i c word w is e =
     let t = stays_timely a q _ is e refl in record { crash = t.crash; ahead = t.ahead }
 
 -- of an act, which is due and so is one that it may do
-pub act_none : (now : Running) (a : Inside) → view_of a ≡ now → is_act (next_deed now) ≡ true
+pub act_none : (now : Running) (a : Inside) → member_inside a ≡ now → is_act (next_deed now) ≡ true
     → a.replica.end ≡ None
-act_none now a view acts = (deed_due is_act (λ end. refl) (view_of a)
+act_none now a view acts = (deed_due is_act (λ end. refl) (member_inside a)
     (subst (λ (x : Running). is_act (next_deed x) ≡ true) (sym view) acts)).0
 
-pub act_allowed : (now : Running) (a : Inside) (act : Act) → view_of a ≡ now → IsInside a
-    → is_act (next_deed now) ≡ true → next_step (view_of a) ≡ Do act
+pub act_allowed : (now : Running) (a : Inside) (act : Act) → member_inside a ≡ now → IsInsideMember a
+    → is_act (next_deed now) ≡ true → next_step (member_inside a) ≡ Do act
     → may a.replica act ≡ true
 act_allowed now a act view is acts due =
-    allowed (view_of a) is.form (act_none now a view acts) (Do act) due
+    allowed (member_inside a) is.form (act_none now a view acts) (Do act) due
 
 -- a vote waits only where the act is the vote's
-pub act_free : (a : Inside) (act : Act) → IsInside a → next_step (view_of a) ≡ Do act
+pub act_free : (a : Inside) (act : Act) → IsInsideMember a → next_step (member_inside a) ≡ Do act
     → is_free a.replica (Do act) ≡ true
-act_free a act is due = subst (λ s. is_free a.replica s ≡ true) due (free_step (view_of a) is.form.free)
+act_free a act is due = subst (λ s. is_free a.replica s ≡ true) due (free_step (member_inside a) is.form.free)
 
 -- so it makes of the fate what it is to be, and leaves it timely
-pub act_told : (word : ℕ) (a : Inside) (q : Replica) (fate : Fate) (act : Act) → IsInside a
+pub act_told : (word : ℕ) (a : Inside) (q : Replica) (fate : Fate) (act : Act) → IsInsideMember a
     → q ≡ taken a.replica act → IsFateBy act q.turns a.fate fate
-    → IsFateAfter word (view_of a) (Do act) fate × IsTimely fate q.turns
+    → IsFateAfter word (member_inside a) (Do act) fate × IsTimely fate q.turns
 act_told word a q fate act is after by =
     let turn : q.turns ≡ (taken a.replica act).turns = ap (λ (x : Replica). x.turns) after in
-    subst (λ (n : ℕ). IsFateAfter word (view_of a) (Do act) fate × IsTimely fate n) (sym turn)
+    subst (λ (n : ℕ). IsFateAfter word (member_inside a) (Do act) fate × IsTimely fate n) (sym turn)
     (fate_told word a.replica a.fate fate a.place act is.fate
     (subst (λ (n : ℕ). IsFateBy act n a.fate fate) turn by))
 
 pub act_taken : (word : ℕ) (now : Running) (a : Inside) (q : Replica) (fate : Fate) (from : Place)
-    (act : Act) → view_of a ≡ now → IsInside a → is_act (next_deed now) ≡ true
-    → next_step (view_of a) ≡ Do act → q ≡ taken a.replica act
+    (act : Act) → member_inside a ≡ now → IsInsideMember a → is_act (next_deed now) ≡ true
+    → next_step (member_inside a) ≡ Do act → q ≡ taken a.replica act
     → HasForm q → (q.view ≡ a.replica.view → NoWordFell a.replica q)
     → from ≡ goes a.replica.roster (columns_of a.replica.roster a.replica.window)
     (part_of a.place) a.place
-    → IsFateBy act q.turns a.fate fate → IsTaken word (view_of a) q fate from
+    → IsFateBy act q.turns a.fate fate → IsTaken word (member_inside a) q fate from
 act_taken word now a q fate from act view is acts due after form grown place by = record {
   running = is.form;
   fits = is.limit;
@@ -403,19 +403,19 @@ act_taken word now a q fate from act view is acts due after form grown place by 
   form = form;
   grown = grown;
   place = place;
-  told = subst (λ s. IsFateAfter word (view_of a) s fate) (sym due)
+  told = subst (λ s. IsFateAfter word (member_inside a) s fate) (sym due)
       (act_told word a q fate act is after by).0;
 }
 
 -- of an append
 pub append_taken : (word : ℕ) (now : Running) (a : Inside) (q : Replica) (from : Place)
-    → view_of a ≡ now → IsInside a → is_append (next_deed now) ≡ true
-    → q ≡ stepped word a.replica (next_step (view_of a)) → HasForm q → NoWordFell a.replica q
+    → member_inside a ≡ now → IsInsideMember a → is_append (next_deed now) ≡ true
+    → q ≡ stepped word a.replica (next_step (member_inside a)) → HasForm q → NoWordFell a.replica q
     → from ≡ goes a.replica.roster (columns_of a.replica.roster a.replica.window)
     (part_of a.place) a.place
-    → IsTaken word (view_of a) q a.fate from
+    → IsTaken word (member_inside a) q a.fate from
 append_taken word now a q from view is append after form grown place =
-    let due = append_due (view_of a)
+    let due = append_due (member_inside a)
     (subst (λ (x : Running). is_append (next_deed x) ≡ true) (sym view) append) in
     record {
       running = is.form;
@@ -425,7 +425,7 @@ append_taken word now a q from view is append after form grown place =
       form = form;
       grown = λ same. grown;
       place = place;
-      told = fate_stays word a.replica a.fate a.place (next_step (view_of a)) due.pushes (due.waits word);
+      told = fate_stays word a.replica a.fate a.place (next_step (member_inside a)) due.pushes (due.waits word);
     }
 
 -- a part is that of appends
@@ -447,8 +447,8 @@ publishes r q fate f after =
     (grind (arith, nat_tests, f.published))
 
 -- so behind the append of an entry the search stays
-pub entry_answer : (word : ℕ) (now : Running) (a : Inside) (q : Replica) (from : Place) → view_of a ≡ now
-    → IsInside a → is_append (next_deed now) ≡ true → part_of now.place ≢ parts.Vote
+pub entry_answer : (word : ℕ) (now : Running) (a : Inside) (q : Replica) (from : Place) → member_inside a ≡ now
+    → IsInsideMember a → is_append (next_deed now) ≡ true → part_of now.place ≢ parts.Vote
     → q ≡ appended a.replica → HasForm q → NoWordFell a.replica q
     → from ≡ goes a.replica.roster (columns_of a.replica.roster a.replica.window)
     (part_of a.place) a.place
@@ -465,14 +465,14 @@ entry_answer word now a q from view is append other after form grown place =
     (publishes a.replica q a.fate is.form.replica after))))
 
 -- of a vote
-pub vote_due_at : (now : Running) (a : Inside) → view_of a ≡ now → IsInside a
-    → is_append (next_deed now) ≡ true → part_of now.place ≡ parts.Vote → IsVoteDue (view_of a)
-vote_due_at now a view is append at = vote_due (view_of a) is.form
+pub vote_due_at : (now : Running) (a : Inside) → member_inside a ≡ now → IsInsideMember a
+    → is_append (next_deed now) ≡ true → part_of now.place ≡ parts.Vote → IsVoteDue (member_inside a)
+vote_due_at now a view is append at = vote_due (member_inside a) is.form
     (subst (λ (x : Running). is_append (next_deed x) ≡ true) (sym view) append)
     (subst (λ (x : Running). part_of x.place ≡ parts.Vote) (sym view) at)
 
 -- of a push, where t is the next changed column
-pub is_pushed : (now : Running) (a : Inside) (q : Replica) (n t : ℕ) → view_of a ≡ now → IsInside a
+pub is_pushed : (now : Running) (a : Inside) (q : Replica) (n t : ℕ) → member_inside a ≡ now → IsInsideMember a
     → is_push (next_deed now) ≡ true
     → q ≡ pushed a.replica a.place.row a.place.column → HasForm q → NoWordFell a.replica q
     → n ≡ one_more 32 a.fate.pushes
@@ -481,7 +481,7 @@ pub is_pushed : (now : Running) (a : Inside) (q : Replica) (n t : ℕ) → view_
     → IsPushed a.replica q a.fate a.place n t
 is_pushed now a q n t view is push after form grown pushes unchanged above within = record {
   running = is.form;
-  due = push_due (view_of a) is.form
+  due = push_due (member_inside a) is.form
       (subst (λ (x : Running). is_push (next_deed x) ≡ true) (sym view) push);
   timely = is.fate;
   fits = is.limit;

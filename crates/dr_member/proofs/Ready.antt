@@ -30,7 +30,7 @@ use Rattle.dr_program.specs.Turn.{IsIn, after, part_of, turn_begins}
 use Rattle.dr_program.proofs.OwnWords.{seen_with}
 use Rattle.dr_turn.proofs.Order.{all_below, each_below}
 use Rattle.dr_member.specs.declared.member.Member.TheInside.{Inside}
-use Rattle.dr_member.specs.Inside.{IsInside, view_of}
+use Rattle.dr_member.specs.Inside.{IsInsideMember, member_inside}
 use Rattle.dr_member.specs.Ready.{KeepsReady, TellsReady}
 
 -- ---- where items are received
@@ -196,13 +196,13 @@ received_tells r s mask form within other there tells = record {
 
 -- an act at a place where items are received is the receive of that row
 act_is : (part : Part) (r : Inside) (i c : ℕ) (act : Act) → part ≡ parts.Receive
-    → step_at (view_of r) part i c ≡ Do act → act ≡ acts.Receive i
+    → step_at (member_inside r) part i c ≡ Do act → act ≡ acts.Receive i
 act_is parts.Receive r i c act at e = cc e
 act_is part r i c act at e = absurd (cc at)
 
 -- behind an act the mask is still right where the member stands
-pub act_keeps : (a : Inside) (q : Replica) (act : Act) (from : Place) (ready : ℕ) → IsInside a
-    → next_step (view_of a) ≡ Do act → may a.replica act ≡ true → q ≡ taken a.replica act
+pub act_keeps : (a : Inside) (q : Replica) (act : Act) (from : Place) (ready : ℕ) → IsInsideMember a
+    → next_step (member_inside a) ≡ Do act → may a.replica act ≡ true → q ≡ taken a.replica act
     → from ≡ goes a.replica.roster (columns_of a.replica.roster a.replica.window) (part_of a.place) a.place
     → ((s : ℕ) → act ≡ acts.Receive s → ready ≡ a.ready / 2) → KeepsReady q from ready
 act_keeps a q act from ready is due allowed after gone moved here other_now =

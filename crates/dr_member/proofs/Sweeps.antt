@@ -22,7 +22,7 @@ use Rattle.dr_program.specs.Turn.{IsIn, columns_in, part_of, rows_in}
 use Rattle.dr_turn.specs.Work.{IsStill, deeds_left}
 use Rattle.dr_member.specs.Deeds.{is_look, is_push}
 use Rattle.dr_member.specs.declared.member.Member.TheInside.{Inside}
-use Rattle.dr_member.specs.Inside.{IsInside, view_of}
+use Rattle.dr_member.specs.Inside.{IsInsideMember, member_inside}
 use Rattle.dr_member.specs.Ready.{KeepsReady}
 use Rattle.dr_member.specs.Search.{next_row, standing}
 use Rattle.dr_member.proofs.Answers.{IsAnswer}
@@ -33,20 +33,20 @@ use Rattle.dr_member.proofs.Moves.{IsLooked, IsPushed, IsWaited, counted, inside
 
 -- the member inside has come from another one, and this deed is due to it
 pub record IsOnRow (d : Deed) (from : Running) (a : Inside) : Type 0 where
-  pub inside : IsInside a
-  pub due : next_deed (view_of a) ≡ d
+  pub inside : IsInsideMember a
+  pub due : next_deed (member_inside a) ≡ d
   pub roster : a.replica.roster ≡ from.replica.roster
   pub grown : NoWordFell from.replica a.replica
-  pub still : IsStill from (view_of a)
-  pub left : deeds_left (view_of a) ≤ deeds_left from
+  pub still : IsStill from (member_inside a)
+  pub left : deeds_left (member_inside a) ≤ deeds_left from
 
 -- the member inside, at this column of its row
 abbrev pub at_column : Inside → ℕ → Inside
 at_column a column = record a { place = record a.place { column = column } }
 
 -- so it is where it sets out
-row_begins : (d : Deed) (from : Running) (a : Inside) → view_of a ≡ from → IsInside a
-    → next_deed (view_of a) ≡ d → IsOnRow d from a
+row_begins : (d : Deed) (from : Running) (a : Inside) → member_inside a ≡ from → IsInsideMember a
+    → next_deed (member_inside a) ≡ d → IsOnRow d from a
 row_begins d from a view is due = subst (λ r. IsOnRow d r a) view (record {
   inside = is;
   due = due;
@@ -65,23 +65,23 @@ module _ (d : Deed) (from : Running) (a : Inside) (is : IsOnRow d from a) where
       (subst (λ n. Grown n a.replica.rows.words q.rows.words a.replica.rows.frozen q.rows.frozen) is.roster
       grown)
 
-  row_falls : (word : ℕ) (x : Running) → IsAnswer word (view_of a) x → deeds_left x < deeds_left from
+  row_falls : (word : ℕ) (x : Running) → IsAnswer word (member_inside a) x → deeds_left x < deeds_left from
   row_falls word x done = let fewer = done.done.fewer in let left = is.left in omega (arith, fewer, left)
 
-  row_still : (word : ℕ) (x : Running) → IsAnswer word (view_of a) x → IsStill from x
+  row_still : (word : ℕ) (x : Running) → IsAnswer word (member_inside a) x → IsStill from x
   row_still word x done g m of = done.done.still g m (is.still g m of)
 
   -- where that one left another due to it
-  row_on : (word : ℕ) (e : Deed) (b : Inside) → IsInside b → IsAnswer word (view_of a) (view_of b)
-      → b.replica.roster ≡ a.replica.roster → NoWordFell a.replica b.replica → next_deed (view_of b) ≡ e
+  row_on : (word : ℕ) (e : Deed) (b : Inside) → IsInsideMember b → IsAnswer word (member_inside a) (member_inside b)
+      → b.replica.roster ≡ a.replica.roster → NoWordFell a.replica b.replica → next_deed (member_inside b) ≡ e
       → IsOnRow e from b
   row_on word e b inside done roster grown due = record {
     inside = inside;
     due = due;
     roster = roster ∙ is.roster;
     grown = row_grown b.replica grown;
-    still = row_still word (view_of b) done;
-    left = let less = row_falls word (view_of b) done in omega (arith, less);
+    still = row_still word (member_inside b) done;
+    left = let less = row_falls word (member_inside b) done in omega (arith, less);
   }
 
 -- ---- the deed that is due
@@ -109,45 +109,45 @@ same_push x y v w e = cc
 -- ---- as a row begins
 
 -- the deed that is due names the index of the row's first word, and so many words more
-pub looks_begin : (from : Running) (a : Inside) (first : ℕ) → view_of a ≡ from → IsInside a
+pub looks_begin : (from : Running) (a : Inside) (first : ℕ) → member_inside a ≡ from → IsInsideMember a
     → is_look (next_deed from) ≡ true → first ≡ index_in from.replica (me from.replica) a.place.row 0
     → IsOnRow (deeds.Look (first + a.place.column)) from a
 looks_begin from a first view is due index =
-    let at = at_look (view_of a) is.form (subst (λ r. is_look (next_deed r) ≡ true) (sym view) due) in
+    let at = at_look (member_inside a) is.form (subst (λ r. is_look (next_deed r) ≡ true) (sym view) due) in
     let start : first ≡ index_in a.replica (me a.replica) a.place.row 0 =
     index ∙ ap (λ (r : Running). index_in r.replica (me r.replica) a.place.row 0) (sym view) in
     row_begins (deeds.Look (first + a.place.column)) from a view is
-    (look_deed (view_of a) at.none at.at ∙ ap deeds.Look (omega (arith, start)))
+    (look_deed (member_inside a) at.none at.at ∙ ap deeds.Look (omega (arith, start)))
 
-pub pushes_begin : (from : Running) (a : Inside) (first : ℕ) → view_of a ≡ from → IsInside a
+pub pushes_begin : (from : Running) (a : Inside) (first : ℕ) → member_inside a ≡ from → IsInsideMember a
     → is_push (next_deed from) ≡ true → first ≡ index_in from.replica a.place.row (me from.replica) 0
     → IsOnRow (deeds.Push (first + a.place.column) (own a.replica.rows a.place.column)) from a
 pushes_begin from a first view is due index =
-    let at = push_due (view_of a) is.form (subst (λ r. is_push (next_deed r) ≡ true) (sym view) due) in
+    let at = push_due (member_inside a) is.form (subst (λ r. is_push (next_deed r) ≡ true) (sym view) due) in
     let start : first ≡ index_in a.replica a.place.row (me a.replica) 0 =
     index ∙ ap (λ (r : Running). index_in r.replica a.place.row (me r.replica) 0) (sym view) in
     row_begins (deeds.Push (first + a.place.column) (own a.replica.rows a.place.column)) from a view is
-    (push_deed (view_of a) at.none at.at at.later
+    (push_deed (member_inside a) at.none at.at at.later
     ∙ ap (λ i. deeds.Push i (own a.replica.rows a.place.column)) (omega (arith, start)))
 
 -- ---- at a deed of a row
 
 -- the index that the deed names is one of the table
 pub look_index : (from : Running) (a : Inside) (sum : ℕ) → IsOnRow (deeds.Look sum) from a
-    → IsIndex (view_of a) sum (me a.replica) a.place.row a.place.column
+    → IsIndex (member_inside a) sum (me a.replica) a.place.row a.place.column
 look_index from a sum is =
-    let at = at_look (view_of a) is.inside.form (ap is_look is.due) in
-    is_index (view_of a) sum (me a.replica) a.place.row a.place.column is.inside.form.replica
+    let at = at_look (member_inside a) is.inside.form (ap is_look is.due) in
+    is_index (member_inside a) sum (me a.replica) a.place.row a.place.column is.inside.form.replica
     is.inside.bases.small (me_within a is.inside) at.cell.row at.cell.column
-    (same_look _ _ (sym is.due ∙ look_deed (view_of a) at.none at.at))
+    (same_look _ _ (sym is.due ∙ look_deed (member_inside a) at.none at.at))
 
 pub push_index : (from : Running) (a : Inside) (sum word : ℕ) → IsOnRow (deeds.Push sum word) from a
-    → IsIndex (view_of a) sum a.place.row (me a.replica) a.place.column
+    → IsIndex (member_inside a) sum a.place.row (me a.replica) a.place.column
 push_index from a sum word is =
-    let at = push_due (view_of a) is.inside.form (ap is_push is.due) in
-    is_index (view_of a) sum a.place.row (me a.replica) a.place.column is.inside.form.replica
+    let at = push_due (member_inside a) is.inside.form (ap is_push is.due) in
+    is_index (member_inside a) sum a.place.row (me a.replica) a.place.column is.inside.form.replica
     is.inside.bases.small at.cell.row (me_within a is.inside) at.cell.column
-    (same_push _ _ _ _ (sym is.due ∙ push_deed (view_of a) at.none at.at at.later))
+    (same_push _ _ _ _ (sym is.due ∙ push_deed (member_inside a) at.none at.at at.later))
 
 -- what its replica asks of a look at a word in a row and a column
 pub record IsLookOf (r : Replica) (i c word : ℕ) : Type 0 where
@@ -158,11 +158,11 @@ pub record IsLookOf (r : Replica) (i c word : ℕ) : Type 0 where
   pub grown : HasGrown r.roster c (seen r.rows i c) word
 
 -- a word that the member may see is such a one
-pub look_takes : (a : Inside) (row word : ℕ) → IsInside a
-    → MaySee (view_of a) (step_of_member (view_of a)) word → a.place.row ≡ row
+pub look_takes : (a : Inside) (row word : ℕ) → IsInsideMember a
+    → MaySee (member_inside a) (step_of_member (member_inside a)) word → a.place.row ≡ row
     → IsLookOf a.replica row a.place.column word
 look_takes a row word is may same =
-    let due = look_due (view_of a) word is.form may in
+    let due = look_due (member_inside a) word is.form may in
     subst (λ i. IsLookOf a.replica i a.place.column word) same (record {
       row = due.cell.row;
       other = due.cell.other;
@@ -185,15 +185,15 @@ pub push_row_stays : (from : Running) (a : Inside) (q : Replica) (row sum word :
     → IsOnRow (deeds.Push sum word) from a → a.place.row ≡ row → q ≡ pushed a.replica row a.place.column
     → row < q.roster
 push_row_stays from a q row sum word is same after =
-    let within = (push_due (view_of a) is.inside.form (ap is_push is.due)).cell.row in
+    let within = (push_due (member_inside a) is.inside.form (ap is_push is.due)).cell.row in
     subst (λ (x : Replica). row < x.roster) (sym after) (omega (arith, within, same))
 
 -- what is known once the look, or the push, was done
-pub saw : (a : Inside) (q : Replica) (row word : ℕ) → IsInside a
-    → MaySee (view_of a) (step_of_member (view_of a)) word → a.place.row ≡ row
+pub saw : (a : Inside) (q : Replica) (row word : ℕ) → IsInsideMember a
+    → MaySee (member_inside a) (step_of_member (member_inside a)) word → a.place.row ≡ row
     → q ≡ looked a.replica row a.place.column word → HasForm q → NoWordFell a.replica q
     → IsLooked a.replica q a.fate a.place word
-saw a q row word is may same after form grown = is_looked (view_of a) a q word refl is may
+saw a q row word is may same after form grown = is_looked (member_inside a) a q word refl is may
     (after ∙ ap (λ i. looked a.replica i a.place.column word) (sym same)) form grown
 
 pub wrote : (from : Running) (a : Inside) (q : Replica) (row sum word n t : ℕ)
@@ -202,7 +202,7 @@ pub wrote : (from : Running) (a : Inside) (q : Replica) (row sum word n t : ℕ)
     → ((x : ℕ) → a.place.column + 1 ≤ x → x < t → changed q.rows row x ≡ false)
     → a.place.column + 1 ≤ t → t ≤ columns_of q.roster q.window → IsPushed a.replica q a.fate a.place n t
 wrote from a q row sum word n t is same after form grown pushes unchanged above within =
-    is_pushed (view_of a) a q n t refl is.inside (ap is_push is.due)
+    is_pushed (member_inside a) a q n t refl is.inside (ap is_push is.due)
     (after ∙ ap (λ i. pushed a.replica i a.place.column) (sym same)) form grown pushes
     (λ x l h. ap (λ i. changed q.rows i x) same ∙ unchanged x l h) above within
 
@@ -211,12 +211,12 @@ pub pushed_from : (from : Running) (a : Inside) (q : Replica) (row sum word : �
     → IsOnRow (deeds.Push sum word) from a → q ≡ pushed a.replica row a.place.column
     → a.place.column + 1 ≤ columns_of q.roster q.window
 pushed_from from a q row sum word is after =
-    let within = (push_due (view_of a) is.inside.form (ap is_push is.due)).cell.column in
+    let within = (push_due (member_inside a) is.inside.form (ap is_push is.due)).cell.column in
     subst (λ (x : Replica). a.place.column + 1 ≤ columns_of x.roster x.window) (sym after)
     (omega (arith, within))
 
 -- the place as it was written down, at a column that the member has left behind
-pub stale_in : (a : Inside) (q : Replica) (column : ℕ) → IsInside a → q.roster ≡ a.replica.roster
+pub stale_in : (a : Inside) (q : Replica) (column : ℕ) → IsInsideMember a → q.roster ≡ a.replica.roster
     → q.window ≡ a.replica.window → column ≤ a.place.column
     → IsIn q.roster (columns_of q.roster q.window) (record a.place { column = column })
 stale_in a q column is roster window behind =
@@ -238,7 +238,7 @@ pub look_on : (from : Running) (a : Inside) (q : Replica) (first word : ℕ)
     → IsLooked a.replica q a.fate a.place word → a.place.column + 1 < a.bases.columns
     → IsOnRow (deeds.Look (first + (a.place.column + 1))) from
     (record a { replica = q; place = record a.place { column = a.place.column + 1 } })
-    × IsAnswer word (view_of a) (standing q a.fate (record a.place { column = a.place.column + 1 }))
+    × IsAnswer word (member_inside a) (standing q a.fate (record a.place { column = a.place.column + 1 }))
 look_on from a q first word is l within = (
   row_on (deeds.Look (first + a.place.column)) from a is word _ b
       (inside_after a q _ a.fate b.place a.ready is.inside l.after refl answer.form
@@ -253,18 +253,18 @@ look_on from a q first word is l within = (
     inner : a.place.column + 1 < columns_of q.roster q.window
     inner = omega (arith, within, columns_after a q _ is.inside l.after refl)
 
-    answer : IsAnswer word (view_of a) (view_of b)
-    answer = looked_within (view_of a) a.replica q a.fate a.place word refl l inner
+    answer : IsAnswer word (member_inside a) (member_inside b)
+    answer = looked_within (member_inside a) a.replica q a.fate a.place word refl l inner
 
     was : first + a.place.column ≡ index_in a.replica (me a.replica) a.place.row a.place.column
-    was = same_look _ _ (sym is.due ∙ look_deed (view_of a) l.due.none l.due.at)
+    was = same_look _ _ (sym is.due ∙ look_deed (member_inside a) l.due.none l.due.at)
 
     now : index_in q (me q) a.place.row (a.place.column + 1) ≡ first + (a.place.column + 1)
     now = ap (λ (r : Replica). index_in r (me r) a.place.row (a.place.column + 1)) l.after
         ∙ omega (arith, was)
 
-    due : next_deed (view_of b) ≡ deeds.Look (first + (a.place.column + 1))
-    due = look_deed (view_of b) (ap (λ (r : Replica). r.end) l.after ∙ l.due.none) l.due.at
+    due : next_deed (member_inside b) ≡ deeds.Look (first + (a.place.column + 1))
+    due = look_deed (member_inside b) (ap (λ (r : Replica). r.end) l.after ∙ l.due.none) l.due.at
         ∙ ap deeds.Look now
 
 -- a push leaves it there, where there is a next changed column t and it doesn't crash before that one's push
@@ -275,7 +275,7 @@ pub push_on : (from : Running) (a : Inside) (q : Replica) (first n t : ℕ)
     → crashes_now (standing q (counted a.fate n) (record a.place { column = t })) ≡ false
     → IsOnRow (deeds.Push (first + t) (own q.rows t)) from
     (record a { replica = q; fate = counted a.fate n; place = record a.place { column = t } })
-    × IsAnswer 0 (view_of a) (standing q (counted a.fate n) (record a.place { column = t }))
+    × IsAnswer 0 (member_inside a) (standing q (counted a.fate n) (record a.place { column = t }))
 push_on from a q first n t is l within changes later = (
   row_on (deeds.Push (first + a.place.column) (own a.replica.rows a.place.column)) from a is 0 _ b
       (inside_after a q _ b.fate b.place a.ready is.inside l.after refl answer.form
@@ -291,31 +291,31 @@ push_on from a q first n t is l within changes later = (
     inner : t < columns_of q.roster q.window
     inner = omega (arith, within, columns_after a q _ is.inside l.after refl)
 
-    answer : IsAnswer 0 (view_of a) (view_of b)
-    answer = pushed_within (view_of a) a.replica q a.fate a.place n t 0 refl l inner (changes inner)
+    answer : IsAnswer 0 (member_inside a) (member_inside b)
+    answer = pushed_within (member_inside a) a.replica q a.fate a.place n t 0 refl l inner (changes inner)
 
     was : first + a.place.column ≡ index_in a.replica a.place.row (me a.replica) a.place.column
-    was = same_push _ _ _ _ (sym is.due ∙ push_deed (view_of a) l.due.none l.due.at l.due.later)
+    was = same_push _ _ _ _ (sym is.due ∙ push_deed (member_inside a) l.due.none l.due.at l.due.later)
 
     now : index_in q a.place.row (me q) t ≡ first + t
     now = ap (λ (r : Replica). index_in r a.place.row (me r) t) l.after ∙ omega (arith, was)
 
-    due : next_deed (view_of b) ≡ deeds.Push (first + t) (own q.rows t)
-    due = push_deed (view_of b) (ap (λ (r : Replica). r.end) l.after ∙ l.due.none) l.due.at later
+    due : next_deed (member_inside b) ≡ deeds.Push (first + t) (own q.rows t)
+    due = push_deed (member_inside b) (ap (λ (r : Replica). r.end) l.after ∙ l.due.none) l.due.at later
         ∙ ap (λ i. deeds.Push i (own q.rows t)) now
 
 -- ---- the end of a row
 
 -- the member inside took one more deed of the row, and left it
 pub record HasLeft (word : ℕ) (from r : Running) (b : Inside) : Type 0 where
-  pub inside : IsInside b
-  pub answer : IsAnswer word r (view_of b)
+  pub inside : IsInsideMember b
+  pub answer : IsAnswer word r (member_inside b)
   pub grown : NoWordFell from.replica b.replica
-  pub falls : deeds_left (view_of b) < deeds_left from
-  pub still : IsStill from (view_of b)
+  pub falls : deeds_left (member_inside b) < deeds_left from
+  pub still : IsStill from (member_inside b)
 
 -- the row was waited for behind its last column
-pub was_waited : (a : Inside) (q : Replica) (row word : ℕ) (w : Waits) → IsInside a
+pub was_waited : (a : Inside) (q : Replica) (row word : ℕ) (w : Waits) → IsInsideMember a
     → IsLooked a.replica q a.fate a.place word → a.bases.columns ≤ a.place.column + 1 → a.place.row ≡ row
     → w ≡ compared a.fate.waits q.rows row → IsWaited q a.fate a.place w
 was_waited a q row word w is l past same waits = record {
@@ -329,11 +329,11 @@ pub looks_end : (from : Running) (a : Inside) (q : Replica) (s : Place) (sum wor
     → IsWaited q a.fate a.place w
     → standing q (waited a.fate w) s ≡ settled (standing q (waited a.fate w) (next_row q.roster a.place))
     → KeepsReady q s ready
-    → HasLeft word from (view_of a)
+    → HasLeft word from (member_inside a)
     (record a { replica = q; place = s; fate = waited a.fate w; ready = ready })
 looks_end from a q s sum word ready w is l past e keeps =
-    let answer : IsAnswer word (view_of a) (standing q (waited a.fate w) s) =
-    looked_past (view_of a) a.replica q a.fate a.place s word w refl l past e in record {
+    let answer : IsAnswer word (member_inside a) (standing q (waited a.fate w) s) =
+    looked_past (member_inside a) a.replica q a.fate a.place s word w refl l past e in record {
       inside = inside_after a q _ (waited a.fate w) s ready is.inside l.after refl answer.form
           (looked_row_timely a q a.place.row a.place.column word w is.inside l.after) refl keeps;
       answer = answer;
@@ -345,8 +345,8 @@ looks_end from a q s sum word ready w is l past e keeps =
 -- after a push behind which no column has changed, or the member crashes at the next one
 pub pushes_end : (from : Running) (a : Inside) (q : Replica) (s : Place) (sum word n t ready : ℕ)
     → IsOnRow (deeds.Push sum word) from a → IsPushed a.replica q a.fate a.place n t
-    → IsAnswer 0 (view_of a) (standing q (counted a.fate n) s) → KeepsReady q s ready
-    → HasLeft 0 from (view_of a)
+    → IsAnswer 0 (member_inside a) (standing q (counted a.fate n) s) → KeepsReady q s ready
+    → HasLeft 0 from (member_inside a)
     (record a { replica = q; place = s; fate = counted a.fate n; ready = ready })
 pushes_end from a q s sum word n t ready is l answer keeps = record {
   inside = inside_after a q _ (counted a.fate n) s ready is.inside l.after refl answer.form

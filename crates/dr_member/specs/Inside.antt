@@ -8,11 +8,11 @@ use Rattle.dr_member.specs.Ready.{KeepsReady}
 use Rattle.dr_member.specs.Search.{standing}
 use Rattle.dr_member.specs.declared.member.Member.TheInside.{Inside}
 
-abbrev pub view_of : Inside → Running
-view_of a = standing a.replica a.fate a.place
+abbrev pub member_inside : Inside → Running
+member_inside a = standing a.replica a.fate a.place
 
-pub record IsInside (a : Inside) : Type 0 where
-  pub form : IsRunningMember (view_of a)
+pub record IsInsideMember (a : Inside) : Type 0 where
+  pub form : IsRunningMember (member_inside a)
   pub fate : IsTimely a.fate a.replica.turns
   pub limit : a.fate.limit < 2 ^ 32
   pub bases : AreBases a.bases a.replica

@@ -58,11 +58,11 @@ impl Model for Member {
 
     ghost Value = { Running };
 
-    ghost use Rattle.dr_member.specs.Inside.{IsInside, view_of};
+    ghost use Rattle.dr_member.specs.Inside.{IsInsideMember, member_inside};
 
-    ghost view = { view_of };
+    ghost view = { member_inside };
 
-    ghost invariant = { IsInside };
+    ghost invariant = { IsInsideMember };
 }
 
 impl Member {

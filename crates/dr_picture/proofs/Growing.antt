@@ -1,9 +1,9 @@
 -- How a sheet grows.
 use Rattle.std.proofs.Common.{[], append-nil, arith, refl}
-use Rattle.dr_picture.specs.Sheet.{Drawn, HasGrown}
+use Rattle.dr_picture.specs.Sheet.{Drawn, DrawnGrew}
 
 -- a sheet has grown from itself
-pub grown_same : (d : Drawn) → HasGrown d d
+pub grown_same : (d : Drawn) → DrawnGrew d d
 grown_same d = record {
   grounds = ([], append-nil d.grounds);
   joins = ([], append-nil d.joins);

@@ -2,7 +2,7 @@
 use Rattle.std.proofs.Common.{◌≡◌, ◌∙◌, ℕ, List, [], ◌∷◌, ◌++◌, ap, append-nil, append_assoc, refl, subst, sym}
 use Rattle.std.specs.List.{concat}
 use Rattle.dr_history.specs.History.{IsPrefixOf}
-use Rattle.dr_picture.specs.Sheet.{Drawn, Shows, layers_text}
+use Rattle.dr_picture.specs.Sheet.{Drawn, IsDrawnIn, layers_text}
 
 -- five texts, each appended behind what the one before it left
 pub five_behind : (front a b c d e one two three four five : List ℕ) → one ≡ front ++ a → two ≡ one ++ b
@@ -13,7 +13,7 @@ five_behind front a b c d e one two three four five is1 is2 is3 is4 is5 =
 
 -- a head, the layers and all else make a picture
 pub shows : (d : Drawn) (old one two new : List ℕ) → IsPrefixOf old one → two ≡ one ++ layers_text d
-    → IsPrefixOf two new → Shows d old new
+    → IsPrefixOf two new → IsDrawnIn d old new
 shows d old one two new head layers foot = (
   head.0,
   subst (λ (l : List ℕ). IsPrefixOf l new)

@@ -27,7 +27,7 @@ pub record IsBlank (now : Drawn) : Type 0 where
 
 -- what was drawn at first stands, with what came behind it in each layer; the lanes are as wide as they were,
 -- and no row was given back
-pub record HasGrown (first now : Drawn) : Type 0 where
+pub record DrawnGrew (first now : Drawn) : Type 0 where
   pub grounds : IsPrefixOf first.grounds now.grounds
   pub joins : IsPrefixOf first.joins now.joins
   pub marks : IsPrefixOf first.marks now.marks
@@ -37,7 +37,7 @@ pub record HasGrown (first now : Drawn) : Type 0 where
 
 -- whatever a sheet had grown from, it still has
 abbrev pub Keeps : Drawn → Drawn → Type 0
-Keeps old new = (first : Drawn) → HasGrown first old → HasGrown first new
+Keeps old new = (first : Drawn) → DrawnGrew first old → DrawnGrew first new
 
 -- at most the greatest number of 32 bits
 abbrev pub capped : ℕ → ℕ
@@ -84,5 +84,5 @@ layers_text d = concat
     ∷ layer_text (codes "stroke='none'") d.words ∷ [])
 
 -- a picture of what is drawn was appended: its layers stand behind a head, and before all else
-abbrev pub Shows : Drawn → List ℕ → List ℕ → Type 0
-Shows d old new = (head : List ℕ) × IsPrefixOf (concat (old ∷ head ∷ layers_text d ∷ [])) new
+abbrev pub IsDrawnIn : Drawn → List ℕ → List ℕ → Type 0
+IsDrawnIn d old new = (head : List ℕ) × IsPrefixOf (concat (old ∷ head ∷ layers_text d ∷ [])) new

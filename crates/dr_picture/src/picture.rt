@@ -2,7 +2,7 @@
 ghost use Rattle.std.specs.Prelude.{◌≡◌, ◌<◌, ℕ, IfOk, None, OnOk, codes, length, string_bytes, vec_len};
 ghost use Rattle.dr_program.specs.Form.{IsRunningMember};
 ghost use Rattle.dr_program.specs.Replica.{me};
-ghost use Rattle.dr_picture.specs.Sheet.{HasDrawn, HasMarked, IsBlank, Keeps, Shows, headed, next_row};
+ghost use Rattle.dr_picture.specs.Sheet.{HasDrawn, HasMarked, IsBlank, IsDrawnIn, Keeps, headed, next_row};
 ghost use Rattle.dr_history.specs.History.{IsPrefixOf};
 ghost use Rattle.dr_picture.specs.declared.shapes.Shape.TheVariants.{Bar, Cross, Diamond};
 
@@ -133,7 +133,7 @@ impl Picture {
     ///
     /// Want of memory alone.
     pub fn push_to(&self, out: &mut String) -> Result<(), AllocError>
-        ensures { OnOk result (Shows self.now.sheet (string_bytes out.old) (string_bytes out.new)) }
+        ensures { OnOk result (IsDrawnIn self.now.sheet (string_bytes out.old) (string_bytes out.new)) }
     {
         self.sheet.push_to(out)
     }

@@ -3,7 +3,7 @@ ghost use Rattle.std.specs.Prelude.{◌≡◌, ◌+◌, ◌-◌, ◌++◌, OnOk,
 ghost use Rattle.std.specs.Fmt.{decimal};
 ghost use Rattle.dr_history.specs.History.{IsPrefixOf};
 ghost use Rattle.dr_picture.specs.Marks.{ground_text, join_text, layer_text, mark_text, words_text};
-ghost use Rattle.dr_picture.specs.Sheet.{IsBlank, Keeps, Shows, capped, layers_text, left_of, mark_point, next_row, words_point};
+ghost use Rattle.dr_picture.specs.Sheet.{IsBlank, IsDrawnIn, Keeps, capped, layers_text, left_of, mark_point, next_row, words_point};
 
 use crate::legend::{push_left_out, push_legend};
 use crate::shapes::{GREY, INK, Point, Shape, push_shape, push_words};
@@ -266,7 +266,7 @@ impl Sheet {
 
     /// Appends all that is drawn, with a legend below it, and the words before the last line of a run.
     pub(crate) fn push_to(&self, out: &mut String) -> Result<(), AllocError>
-        ensures { OnOk result (Shows self.now (string_bytes out.old) (string_bytes out.new)) }
+        ensures { OnOk result (IsDrawnIn self.now (string_bytes out.old) (string_bytes out.new)) }
     {
         let width = self.width.max(LEAST_WIDTH).saturating_add(MARGIN * 2);
         let legend = self.row.saturating_add(ROW * 2);

@@ -6,14 +6,14 @@ use Rattle.dr_entry.specs.declared.record.Value.{Value}
 use Rattle.dr_history.specs.Places.{rest_places}
 use Rattle.dr_machine.specs.Effects.{entries_of}
 use Rattle.dr_words.specs.Masks.{without}
-use Rattle.dr_program.specs.Replica.{Replica, finished_history, item_at, sender_at, view_of, with_place}
+use Rattle.dr_program.specs.Replica.{Replica, finished_history, item_of_place, members_in_view, sender_of_place, with_place}
 
 -- places add to a history
 rest_more : (r : Replica) (history : List Entry) (ps : List ℕ)
     → (more : List Entry) × (fold (with_place r) history ps ≡ history ++ more)
 rest_more r history [] = ([], sym (append-nil history))
 rest_more r history (p ∷ ps) =
-    let new : List Entry = entries_of history (sender_at r p) (item_at r p) in
+    let new : List Entry = entries_of history (sender_of_place r p) (item_of_place r p) in
     let rest = rest_more r (history ++ new) ps in
     (new ++ rest.0, rest.1 ∙ append_assoc history new rest.0)
 
@@ -23,5 +23,5 @@ pub finished_more : (r : Replica) (x : Value)
 finished_more r x =
     let last : List Entry = View r.age (r.view + 1) (without r.members x.leavers) ∷ [] in
     let rest = rest_more r r.history
-    (rest_places (map (λ s. slice_index x.trim s) (view_of r)) r.next) in
+    (rest_places (map (λ s. slice_index x.trim s) (members_in_view r)) r.next) in
     (rest.0 ++ last, ap (λ es. es ++ last) rest.1 ∙ append_assoc r.history rest.0 last)

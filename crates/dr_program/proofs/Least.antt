@@ -9,7 +9,7 @@ use Rattle.dr_history.specs.Members.{has, members_below, members_of}
 use Rattle.dr_history.specs.Places.{front_of, is_held}
 use Rattle.dr_history_laws.proofs.Members.{has-member, member-has}
 use Rattle.dr_program.proofs.OpeningForm.{fold_max_within}
-use Rattle.dr_program.specs.Replica.{Replica, count, least_seen, view_of}
+use Rattle.dr_program.specs.Replica.{Replica, count, least_seen, members_in_view}
 use Rattle.dr_rows.specs.Words.{seen}
 
 -- ---- the least of a list, and a bound
@@ -41,25 +41,25 @@ rises_each low high f g (x ∷ xs) l rise =
 
 -- it fits 64 bits
 pub least_fits : (r : Replica) (c : ℕ) → least_seen r c ≤ 2 ^ 64 - 1
-least_fits r c = at_most (2 ^ 64 - 1) (map (λ i. seen r.rows i c) (view_of r))
+least_fits r c = at_most (2 ^ 64 - 1) (map (λ i. seen r.rows i c) (members_in_view r))
 
 -- it is no more than the word of any member of the view
 pub least_of : (r : Replica) (c i : ℕ) → i < 16 → has r.members i ≡ true
     → least_seen r c ≤ seen r.rows i c
 least_of r c i few member =
     let there = has-member r.members i member few in
-    let here : slice_index (view_of r) there.0 ≡ i =
-    sym (get_or_read (view_of r) there.0 i there.1 (sym there.2) 0) in
+    let here : slice_index (members_in_view r) there.0 ≡ i =
+    sym (get_or_read (members_in_view r) there.0 i there.1 (sym there.2) 0) in
     subst (λ k. least_seen r c ≤ seen r.rows k c) here
-    (at_most_each (λ k. seen r.rows k c) (view_of r) (2 ^ 64 - 1) there.0 there.1)
+    (at_most_each (λ k. seen r.rows k c) (members_in_view r) (2 ^ 64 - 1) there.0 there.1)
 
 -- what is less than the words of all members of the view is less than it
 pub below_least_seen : (r : Replica) (c x : ℕ) → x < 2 ^ 64 - 1
     → ((i : ℕ) → has r.members i ≡ true → x < seen r.rows i c) → x < least_seen r c
 below_least_seen r c x l each =
-    above_each x (2 ^ 64 - 1) (λ i. seen r.rows i c) (view_of r) l
-    (λ i below. each (slice_index (view_of r) i)
-    (member-has r.members i (slice_index (view_of r) i) (slice_get-get_or (view_of r) i 0 below)))
+    above_each x (2 ^ 64 - 1) (λ i. seen r.rows i c) (members_in_view r) l
+    (λ i below. each (slice_index (members_in_view r) i)
+    (member-has r.members i (slice_index (members_in_view r) i) (slice_get-get_or (members_in_view r) i 0 below)))
 
 -- it rises with the words
 pub least_rises : (r q : Replica) (c : ℕ) → q.members ≡ r.members
@@ -79,7 +79,7 @@ front_within counts = let l =
 
 -- the front of all items has a small number
 pub received_small : (r : Replica) → ((s : ℕ) → count r s ≤ 4096)
-    → front_of (map (slice_index r.counts) (view_of r)) ≤ 65536
+    → front_of (map (slice_index r.counts) (members_in_view r)) ≤ 65536
 unfolding members_of
 received_small r bounded =
     let counts : List ℕ = map (slice_index r.counts) (members_below r.members 16) in

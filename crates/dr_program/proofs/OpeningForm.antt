@@ -33,7 +33,7 @@ use Rattle.dr_program.specs.declared.setup.Setup.{Setup}
 use Rattle.dr_history_laws.proofs.Lengths.{start-short}
 use Rattle.dr_machine.specs.Group.{Group, IsGroup, roster}
 use Rattle.dr_machine.specs.World.{no_value}
-use Rattle.dr_program.specs.Replica.{Replica, begun_replica, first_entries_of, count, greatest, view_of}
+use Rattle.dr_program.specs.Replica.{Replica, begun_replica, first_entries_of, count, greatest, members_in_view}
 use Rattle.dr_program.specs.Running.{begun_running}
 use Rattle.dr_program.specs.Program.{IsSetup}
 use Rattle.dr_program.specs.Form.{CanBegin, HasForm, IsOf, IsRunningMember}
@@ -227,7 +227,7 @@ begun_in_form s can =
       low = omega arith;
       waits = λ x e. absurd (cc e);
       votes = omega arith;
-      received = word RECEIVED_COLUMN (omega arith) ∙ sym (front_of_none n (view_of r));
+      received = word RECEIVED_COLUMN (omega arith) ∙ sym (front_of_none n (members_in_view r));
       beat = omega (arith, word 0 (omega arith));
       acts = omega arith;
       published = omega (arith, first_own n k s.me logged LOGGED_COLUMN few narrow inside low);

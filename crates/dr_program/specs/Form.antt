@@ -21,7 +21,7 @@ use Rattle.dr_program.specs.declared.setup.Setup.{Setup}
 use Rattle.dr_program.specs.Turn.{IsIn, part_of, turn_begins}
 use Rattle.dr_machine.specs.Group.{Group, banks, roster}
 use Rattle.dr_machine.specs.Sending.{IsPut}
-use Rattle.dr_program.specs.Replica.{Replica, me, count, greatest, is_wedged, promise, suspicion_of, view_of}
+use Rattle.dr_program.specs.Replica.{Replica, me, count, greatest, is_wedged, promise, suspicion_of, members_in_view}
 use Rattle.dr_program.specs.Running.{Running, WaitsAt, members, columns, applies}
 
 -- what a replica begins with has its ranges
@@ -91,7 +91,7 @@ pub record HasForm (r : Replica) : Type 0 where
   -- it has voted once by each ballot at most in each view that it has left, in this one once by each ballot
   -- below its tag at most, and by that of the vote that waits
   pub votes : length r.votes ≤ r.view * r.roster + r.tag + waiting r.pending
-  pub received : own r.rows RECEIVED_COLUMN ≡ front_of (map (slice_index r.counts) (view_of r))
+  pub received : own r.rows RECEIVED_COLUMN ≡ front_of (map (slice_index r.counts) (members_in_view r))
   pub beat : own r.rows BEAT_COLUMN ≤ r.acts
   pub acts : r.acts < 2 ^ 64
   pub published : own r.rows LOGGED_COLUMN ≤ r.logged

@@ -134,8 +134,8 @@ begun_replica s =
 abbrev pub me : Replica → ℕ
 me r = r.rows.me
 
-abbrev pub view_of : Replica → List ℕ
-view_of r = members_of r.members
+abbrev pub members_in_view : Replica → List ℕ
+members_in_view r = members_of r.members
 
 -- i is another member of its view
 abbrev pub is_other : Replica → ℕ → Bool
@@ -161,7 +161,7 @@ unsuspected r = without r.members r.suspects
 
 -- these are more than half of its view
 abbrev pub has_majority : Replica → Bool
-has_majority r = nat_lt (length (view_of r)) (2 * length (members_of (unsuspected r)))
+has_majority r = nat_lt (length (members_in_view r)) (2 * length (members_of (unsuspected r)))
 
 -- the member whose proposal it waits for, once it is wedged: the least of these
 abbrev pub promise : Replica → ℕ
@@ -198,7 +198,7 @@ is_value u v = (u.leavers == v.leavers) && ((length u.trim == MAX_MEMBERS)
 
 -- the least word of a column over the rows of its view
 abbrev pub least_seen : Replica → ℕ → ℕ
-least_seen r c = fold min (2 ^ 64 - 1) (map (λ i. seen r.rows i c) (view_of r))
+least_seen r c = fold min (2 ^ 64 - 1) (map (λ i. seen r.rows i c) (members_in_view r))
 
 -- the next item of s, where all words that it needs are seen
 abbrev pub ready_item : Replica → ℕ → Option Item
@@ -210,11 +210,11 @@ next_index r = r.base + messages_in r.sent
 
 -- its history has as many messages of each member of its view as the script
 abbrev pub holds_all : Replica → Bool
-holds_all r = list_all (λ s. length (messages_from s r.history) == slice_index r.totals s) (view_of r)
+holds_all r = list_all (λ s. length (messages_from s r.history) == slice_index r.totals s) (members_in_view r)
 
 -- every row of its view shows done
 abbrev pub all_done : Replica → Bool
-all_done r = list_all (λ i. seen r.rows i DONE_COLUMN == 1) (view_of r)
+all_done r = list_all (λ i. seen r.rows i DONE_COLUMN == 1) (members_in_view r)
 
 -- ---- what it may do
 
@@ -280,20 +280,20 @@ may_commit r = is_wedged r && (not (is_some r.committed)
     && choices.may_commit r.roster (seen r.rows) r.members (me r))
 
 -- the sender of a place of its view, and the item there
-abbrev pub sender_at : Replica → ℕ → ℕ
-sender_at r p = slice_index (view_of r) (p % length (view_of r))
+abbrev pub sender_of_place : Replica → ℕ → ℕ
+sender_of_place r p = slice_index (members_in_view r) (p % length (members_in_view r))
 
-abbrev pub item_at : Replica → ℕ → Item
-item_at r p = item r (sender_at r p) (p / length (view_of r))
+abbrev pub item_of_place : Replica → ℕ → Item
+item_of_place r p = item r (sender_of_place r p) (p / length (members_in_view r))
 
 -- its history as it ends its view with a value: the rest is delivered, place by place, and behind it stands
 -- the View of those that remain
 abbrev pub with_place : Replica → List Entry → ℕ → List Entry
-with_place r history p = history ++ entries_of history (sender_at r p) (item_at r p)
+with_place r history p = history ++ entries_of history (sender_of_place r p) (item_of_place r p)
 
 abbrev pub finished_history : Replica → Value → List Entry
 finished_history r x =
-    fold (with_place r) r.history (rest_places (map (λ s. slice_index x.trim s) (view_of r)) r.next)
+    fold (with_place r) r.history (rest_places (map (λ s. slice_index x.trim s) (members_in_view r)) r.next)
     ++ View r.age (r.view + 1) (without r.members x.leavers) ∷ []
 
 -- it may end its view with a value by which it stays, where there is a bank for the next one, it has the
@@ -301,7 +301,7 @@ finished_history r x =
 -- there are
 abbrev pub may_end : Replica → Value → Bool
 may_end r x = not (has x.leavers (me r)) && (nat_lt (r.view + 1) r.banks
-    && (list_all (λ s. nat_lt (slice_index x.trim s) (count r s + 1)) (view_of r)
+    && (list_all (λ s. nat_lt (slice_index x.trim s) (count r s + 1)) (members_in_view r)
     && (nat_lt (length (finished_history r x)) (r.room + 1)
     && nat_lt (length (messages_from (me r) (finished_history r x))) (length r.messages + 1))))
 
@@ -358,7 +358,7 @@ gained r s item =
       counts = counts;
       items = slice_set r.items (k * r.roster + s) item;
       rows = rows.with_own (rows.with_own r.rows (recv_column s) (recv_word (k + 1) false)) RECEIVED_COLUMN
-          (front_of (map (slice_index counts) (view_of r)));
+          (front_of (map (slice_index counts) (members_in_view r)));
     }
 
 abbrev pub received : Replica → ℕ → Replica
@@ -377,7 +377,7 @@ nulled r = put r sent_items.Null Null
 
 abbrev pub delivered : Replica → Replica
 delivered r = record r {
-  history = r.history ++ entries_of r.history (sender_at r r.next) (item_at r r.next);
+  history = r.history ++ entries_of r.history (sender_of_place r r.next) (item_of_place r r.next);
   next = r.next + 1;
 }
 

@@ -15,7 +15,7 @@ use Rattle.dr_program.specs.Turn.{after, columns_in, is_beat, part_of, rows_in, 
 use Rattle.dr_program.proofs.Fixed.{Told, step_told}
 use Rattle.dr_program.proofs.StepsAt.{append_either, push_either, vote_either}
 use Rattle.dr_rows.specs.Words.{Words, looked, seen}
-use Rattle.dr_suspect.specs.Waits.{Waits, beat_of, compared, count_of, next_count}
+use Rattle.dr_suspect.specs.Waits.{Waits, beat_of, compared, next_count, turns_without_news}
 use Rattle.dr_turn.specs.Search.{Passed, here, on}
 use Rattle.dr_turn.proofs.Order.{all_below, each_below}
 use Rattle.dr_turn.proofs.Search.{applies_at, beat_test, passed_at, settle_only, settle_passed}
@@ -193,31 +193,31 @@ counted count last beat = by (beat == last)
     by false = omega arith
 
 pub compared_count : (w : Waits) (rows : Words) (j i : ℕ) → j < length w.counts
-    → count_of (compared w rows j) i ≤ count_of w i + 1
+    → turns_without_news (compared w rows j) i ≤ turns_without_news w i + 1
 compared_count w rows j i l = by (cases_eq i j)
   where
-    by : (i ≡ j) ⊎ (i ≢ j) → count_of (compared w rows j) i ≤ count_of w i + 1
+    by : (i ≡ j) ⊎ (i ≢ j) → turns_without_news (compared w rows j) i ≤ turns_without_news w i + 1
     by (inl same) = rw same (omega (
       arith,
-      get_or-set_same w.counts j (next_count (count_of w j) (beat_of w j) (seen rows j BEAT_COLUMN)) 0 l,
-      counted (count_of w j) (beat_of w j) (seen rows j BEAT_COLUMN),
+      get_or-set_same w.counts j (next_count (turns_without_news w j) (beat_of w j) (seen rows j BEAT_COLUMN)) 0 l,
+      counted (turns_without_news w j) (beat_of w j) (seen rows j BEAT_COLUMN),
     ))
     by (inr other) = omega (
       arith,
-      get_or-set_other w.counts j i (next_count (count_of w j) (beat_of w j)
+      get_or-set_other w.counts j i (next_count (turns_without_news w j) (beat_of w j)
           (seen rows j BEAT_COLUMN)) 0 other,
     )
 
 pub compared_other : (w : Waits) (rows : Words) (j i : ℕ) → i ≢ j
-    → count_of (compared w rows j) i ≡ count_of w i
+    → turns_without_news (compared w rows j) i ≡ turns_without_news w i
 compared_other w rows j i other =
-    get_or-set_other w.counts j i (next_count (count_of w j) (beat_of w j) (seen rows j BEAT_COLUMN)) 0 other
+    get_or-set_other w.counts j i (next_count (turns_without_news w j) (beat_of w j) (seen rows j BEAT_COLUMN)) 0 other
 
 -- the looks: with the last word of a row one is counted, and none is to come for it
 looks_less : (word : ℕ) (r : Running) (i : ℕ) → IsRunningMember r → part_of r.place ≡ parts.Look
-    → count_of (waits_after word r (step_at r parts.Look r.place.row r.place.column)) i
+    → turns_without_news (waits_after word r (step_at r parts.Look r.place.row r.place.column)) i
     + comes (after (members r) (columns r) r.place) i
-    ≤ count_of r.waits i + comes r.place i
+    ≤ turns_without_news r.waits i + comes r.place i
 looks_less word r i member at = by (r.place.column + 1 == columns r) refl (cases_eq i r.place.row)
   where
     less : comes (after (members r) (columns r) r.place) i ≤ comes r.place i
@@ -268,10 +268,10 @@ looks_less word r i member at = by (r.place.column + 1 == columns r) refl (cases
     )
 
     by : (b : Bool) → (r.place.column + 1 == columns r) ≡ b → (i ≡ r.place.row) ⊎ (i ≢ r.place.row)
-        → count_of (if b then compared r.waits
+        → turns_without_news (if b then compared r.waits
         (looked r.replica.rows r.place.row r.place.column word) r.place.row
         else r.waits) i + comes (after (members r) (columns r) r.place) i
-        ≤ count_of r.waits i + comes r.place i
+        ≤ turns_without_news r.waits i + comes r.place i
     by true e (inl same) = omega (
       arith,
       compared_count r.waits (looked r.replica.rows r.place.row r.place.column word) r.place.row i within,
@@ -290,21 +290,21 @@ looks_less word r i member at = by (r.place.column + 1 == columns r) refl (cases
 -- the deed of a part leaves no more looks and turns together
 abbrev Lessens : ℕ → Running → ℕ → Part → Type 0
 Lessens word r i part =
-    count_of (waits_after word r (step_at r part r.place.row r.place.column)) i
+    turns_without_news (waits_after word r (step_at r part r.place.row r.place.column)) i
     + comes (goes (members r) (columns r) part r.place) i
-    ≤ count_of r.waits i + comes r.place i
+    ≤ turns_without_news r.waits i + comes r.place i
 
 -- so it is where no turn begins by it
 took_less : (word : ℕ) (r : Running) (i : ℕ) → IsRunningMember r → ends_view (next_step r) ≡ false
     → is_beat (part_of r.place) ≡ false
-    → count_of (took word r (next_step r)).waits i + comes (took word r (next_step r)).place i
-    ≤ count_of r.waits i + comes r.place i
+    → turns_without_news (took word r (next_step r)).waits i + comes (took word r (next_step r)).place i
+    ≤ turns_without_news r.waits i + comes r.place i
 took_less word r i member stays amid = by (part_of r.place) refl
   where
     plain : (part : Part) → part_of r.place ≡ part → is_looks part ≡ false → Lessens word r i part
     plain part at other = omega (
       arith,
-      ap (λ (w : Waits). count_of w i) (waits_stay word r (step_at r part r.place.row r.place.column)
+      ap (λ (w : Waits). turns_without_news w i) (waits_stay word r (step_at r part r.place.row r.place.column)
           (plain_looks r part r.place.row r.place.column other)
           (ap (λ x. ends_view (step_at r x r.place.row r.place.column)) (sym at) ∙ stays)),
       goes_less (members r) (columns r) part r.place i at (sym (ap is_beat at) ∙ amid) other,
@@ -343,7 +343,7 @@ patient_on word r member stays may limit patient =
       enough i (other i is),
       limit,
       one_comes (part_of (settled y).place) (settled y).place.row i,
-      ap (λ (w : Waits). count_of w i) (subst (λ part.
+      ap (λ (w : Waits). turns_without_news w i) (subst (λ part.
           waits_after word r (step_at r part r.place.row r.place.column) ≡ r.waits)
           (sym (beat_test (part_of r.place) beat)) refl),
     ))

@@ -47,7 +47,7 @@ use Rattle.dr_script.specs.declared.script.Fault.{Fault}
 use Rattle.dr_script.specs.declared.script.Script.{Script}
 use Rattle.dr_suspect.specs.Answers.{least_where}
 use Rattle.dr_suspect.specs.Suspicion.{is_unsuspected, names, names_me, spreads}
-use Rattle.dr_suspect.specs.Waits.{count_of, is_late, is_overdue}
+use Rattle.dr_suspect.specs.Waits.{is_late, is_overdue, turns_without_news}
 use Rattle.dr_turn.proofs.Parts.{has_verdict, is_judge, is_verdict, no_verdict}
 use Rattle.dr_turn.proofs.Search.{settle_only}
 use Rattle.dr_turn.proofs.Tasks.{ends_view, view_stays}
@@ -190,7 +190,7 @@ judges_nothing g p m r is = grind (arith, named, script, spread, late, few)
         by (inl within) (inl same) =
             and_left _ _ (and_right (has (replica.unsuspected q) i) _ (grind (arith, nat_tests, same)))
         by (inl within) (inr other) = and_right (has (replica.unsuspected q) i && not (i == me q)) _
-            (and_left (not (nat_lt (count_of r.waits i) r.waits.limit)) _ (soon (count_of r.waits i)
+            (and_left (not (nat_lt (turns_without_news r.waits i) r.waits.limit)) _ (soon (turns_without_news r.waits i)
             (to_come (part_of r.place) r.place.row i) r.waits.limit (enough i (within, other))))
 
     late : overdue r ≡ None

@@ -8,7 +8,7 @@ use Rattle.dr_machine.specs.Group.{Group}
 use Rattle.dr_machine.specs.Guards.{HoldsAll}
 use Rattle.dr_machine.specs.World.{World}
 use Rattle.dr_vote_laws.specs.Voting.{HaveVotedFor}
-use Rattle.dr_world_laws.specs.Ends.{IsLeftBy, IsLeftWith}
+use Rattle.dr_world_laws.specs.Ends.{IsLeftWith, IsSuspectedBack}
 
 -- the value that m has committed in its view, for which more than half of the view have voted by one ballot,
 -- names it as one that leaves, and the next view has this number
@@ -23,7 +23,7 @@ pub record IsVotedOut (w : World) (m view : ℕ) : Type 0 where
 -- why member m ended so, where neither a crash, nor its log, nor its turns ended it
 abbrev pub HasCause : Group → World → ℕ → End → Type 0
 HasCause g w m Done = HoldsAll g w m × (w.past.durable m ≡ length (w.past.history m))
-HasCause g w m (Suspected by) = IsLeftBy w m by
+HasCause g w m (Suspected by) = IsSuspectedBack w m by
 HasCause g w m (NoMajority mask) = IsLeftWith w m mask
 HasCause g w m (Excluded view) = IsVotedOut w m view
 HasCause g w m end = ⊤

@@ -52,7 +52,7 @@ abbrev pub AreComplete : Opening → List MemberEnd → Type 0
 AreComplete o ends = (m : ℕ) (e : MemberEnd) → slice_get ends m ≡ Some e → IsComplete o e
 
 -- a member of the view has ended so before any crash
-pub record IsDone (o : Opening) (ends : List MemberEnd) (number members : ℕ) (points : List CrashPoint)
+pub record HasEndedDone (o : Opening) (ends : List MemberEnd) (number members : ℕ) (points : List CrashPoint)
     (e : MemberEnd) : Type 0 where
   pub whole : IsWhole o ends number members e
   pub uncrashed : IsBeforeCrash points e.turns
@@ -76,7 +76,7 @@ is_log_end (LogFull len) = true
 is_log_end end = false
 
 -- a member has ended by its log, in no later turn than the first that a crash point names
-pub record HasStopped (points : List CrashPoint) (e : MemberEnd) : Type 0 where
+pub record HasEndedByLog (points : List CrashPoint) (e : MemberEnd) : Type 0 where
   pub end : is_log_end e.end ≡ true
   pub first : All (λ (c : CrashPoint). 1 ≤ c.turn → e.turns ≤ c.turn) points
 
@@ -104,9 +104,9 @@ pub record HasBeenLeft (o : Opening) (ends : List MemberEnd) (number members m :
 -- why member m of the view ended, with these crash points, where it takes at most so many turns
 abbrev pub HasReason : Opening → List MemberEnd → ℕ → ℕ → ℕ → ℕ → List CrashPoint → MemberEnd → Type 0
 HasReason o ends number members limit m points e =
-    IsDone o ends number members points e
+    HasEndedDone o ends number members points e
     ⊎ (IsSpent limit points e
-    ⊎ (HasCrashed points e ⊎ (HasStopped points e ⊎ HasBeenLeft o ends number members m points e)))
+    ⊎ (HasCrashed points e ⊎ (HasEndedByLog points e ⊎ HasBeenLeft o ends number members m points e)))
 
 -- member m has ended as it should, in the view that its history is in, as a member of it
 pub record HasEnded (o : Opening) (ends : List MemberEnd) (limit m : ℕ) (points : List CrashPoint)

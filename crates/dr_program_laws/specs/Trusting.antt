@@ -13,7 +13,7 @@ use Rattle.dr_program.specs.Turn.{part_of}
 use Rattle.dr_restart.specs.Setups.{suspicion_in}
 use Rattle.dr_script.specs.declared.script.Fault.{Fault}
 use Rattle.dr_script.specs.declared.script.Script.{Script}
-use Rattle.dr_suspect.specs.Waits.{count_of}
+use Rattle.dr_suspect.specs.Waits.{turns_without_news}
 
 -- the end is by suspicion
 abbrev pub is_left_out : End → Bool
@@ -64,12 +64,12 @@ IsOthers r i = (i < r.roster) × (i ≢ me r)
 -- a member waits without a limit, or for no row as long as that, whatever the looks of this turn will find
 abbrev pub IsPatient : Running → Type 0
 IsPatient r = (r.waits.limit ≡ 0) ⊎ ((i : ℕ) → IsOthers r.replica i
-    → count_of r.waits i + to_come (part_of r.place) r.place.row i < r.waits.limit)
+    → turns_without_news r.waits i + to_come (part_of r.place) r.place.row i < r.waits.limit)
 
 -- so it does where a turn begins
 abbrev pub MayWait : Running → Type 0
 MayWait r = (r.waits.limit ≡ 0)
-    ⊎ ((i : ℕ) → IsOthers r.replica i → count_of r.waits i + 1 < r.waits.limit)
+    ⊎ ((i : ℕ) → IsOthers r.replica i → turns_without_news r.waits i + 1 < r.waits.limit)
 
 -- a member is in the first view, suspects nobody, has no reason to, and was not ended by suspicion
 pub record IsAtEase (r : Running) : Type 0 where

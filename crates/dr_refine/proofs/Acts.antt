@@ -16,7 +16,7 @@ use Rattle.dr_machine.specs.Group.{Group, roster}
 use Rattle.dr_machine.specs.World.{World}
 use Rattle.dr_machine.specs.Effects as effects
 use Rattle.dr_machine.specs.Effects.{one_more, entries_of, stamped, beats, delivers, appends, publishes, reports, marks}
-use Rattle.dr_program.specs.Replica.{Replica, item_at, sender_at, least_seen, acted, beaten, delivered, appended, published, reported, marked, ended}
+use Rattle.dr_program.specs.Replica.{Replica, item_of_place, sender_of_place, least_seen, acted, beaten, delivered, appended, published, reported, marked, ended}
 use Rattle.dr_program.specs.Reading.{world_of}
 use Rattle.dr_program.proofs.Holdings.{Holding, held, holding_of, held_of, Changes}
 use Rattle.dr_program.proofs.OwnWords.{same_number, other_number}
@@ -96,12 +96,12 @@ pub deliver_effect : (g : Group) (rs : List Replica) (table : List ℕ) (m : ℕ
     → world_of g (slice_set rs m (acted (delivered r))) (acted_table g table m r)
     ≡ stamped (delivers (world_of g rs table) m) m
 deliver_effect g rs table m r is =
-    let s : ℕ = sender_at r r.next in
+    let s : ℕ = sender_of_place r r.next in
     let within : s < roster g = rw is.of.members at
     (member_below r.roster r.members (r.next % length (members_of r.members))
     (omega (arith, is.of.members, is.group.some_member)) is.form.roster) in
-    let item = item_shown (roster g) s (item_at r r.next) within in
-    let log = take-append-le r.logged r.history (entries_of r.history s (item_at r r.next)) is.form.logged in
+    let item = item_shown (roster g) s (item_of_place r r.next) within in
+    let log = take-append-le r.logged r.history (entries_of r.history s (item_of_place r r.next)) is.form.logged in
     then_acted g rs table m (delivered r) (delivers (world_of g rs table) m)
     (slice_get_within rs m r is.there) (fits g rs table m r is) is.cells
     (replaced g rs table table m r (delivered r) (delivers (world_of g rs table) m) deliver_after is.there

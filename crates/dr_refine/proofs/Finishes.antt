@@ -22,10 +22,10 @@ use Rattle.dr_words.proofs.Tests.{all_members, each_member}
 use Rattle.dr_machine.specs.Writes.{at₂, at₃}
 use Rattle.dr_machine.specs.Group.{Group, roster}
 use Rattle.dr_machine.specs.Guards.{CanFinish}
-use Rattle.dr_machine.specs.World.{World, count_of, no_value}
+use Rattle.dr_machine.specs.World.{World, items_received, no_value}
 use Rattle.dr_machine.specs.Effects as effects
 use Rattle.dr_machine.specs.Effects.{committed_value, entries_of, finishes, finishes_by, one_more, stamped, stamped_in}
-use Rattle.dr_program.specs.Replica.{LeftView, Replica, me, acted, count, finished, finished_by, finished_history, item_at, left_now, may_end, may_finish, sender_at, view_of, with_place}
+use Rattle.dr_program.specs.Replica.{LeftView, Replica, me, acted, count, finished, finished_by, finished_history, item_of_place, left_now, may_end, may_finish, sender_of_place, members_in_view, with_place}
 use Rattle.dr_program.specs.Reading.{kept_word, nothing_left, world_of}
 use Rattle.dr_program.proofs.Finishing.{finished_more}
 use Rattle.dr_program.proofs.Holdings.{Holding, held, holding_of, held_of, Changes, replica_set}
@@ -85,7 +85,7 @@ finish_guard g rs table m r is free = by r.committed refl
     forth x e test =
         let a = and_parts (not (has x.leavers (me r))) _ test in
         let b = and_parts (nat_lt (r.view + 1) r.banks) _ a.1 in
-        let c = and_parts (list_all (λ s. nat_lt (slice_index x.trim s) (count r s + 1)) (view_of r)) _ b.1 in
+        let c = and_parts (list_all (λ s. nat_lt (slice_index x.trim s) (count r s + 1)) (members_in_view r)) _ b.1 in
         let bank : r.view + 1 < r.banks = grind (arith, nat_tests, b.0) in
         let d = and_parts (nat_lt (length (finished_history r x)) (r.room + 1)) _ c.1 in
         let room : length (finished_history r x) < r.room + 1 = grind (arith, nat_tests, d.0) in
@@ -127,7 +127,7 @@ finish_guard g rs table m r is free = by r.committed refl
         (all_members (λ s. nat_lt (slice_index x.trim s) (count r s + 1)) r.members (λ s h. below s
         (omega (
           arith,
-          subst (λ (y : Value). slice_index y.trim s ≤ count_of w m s) one
+          subst (λ (y : Value). slice_index y.trim s ≤ items_received w m s) one
               (can.items s (ap (λ k. has k s) members ∙ h)),
           count_is g rs table m r s is,
         ))))
@@ -236,17 +236,17 @@ finish_world g rs table m r x there f =
     -- the history
     places : place_from (holding_of g r) ≡ with_place r
     places = fun_ext λ history. fun_ext λ p.
-        let s : ℕ = sender_at r p in
+        let s : ℕ = sender_of_place r p in
         let within : s < roster g = rw f.members at
         (member_below r.roster r.members (p % length (members_of r.members))
         (omega (arith, f.members, f.some)) f.roster) in
-        ap (λ (i : Item). history ++ entries_of history s i) (item_shown (roster g) s (item_at r p) within)
+        ap (λ (i : Item). history ++ entries_of history s i) (item_shown (roster g) s (item_of_place r p) within)
 
     history : history_from g x (holding_of g r) ≡ finished_history r x
-    history = ap (λ add. fold add r.history (rest_places (map (λ s. slice_index x.trim s) (view_of r)) r.next)
+    history = ap (λ add. fold add r.history (rest_places (map (λ s. slice_index x.trim s) (members_in_view r)) r.next)
         ++ View g.opening.age (r.view + 1) (without r.members x.leavers) ∷ []) places
         ∙ ap (λ age. fold (with_place r) r.history
-        (rest_places (map (λ s. slice_index x.trim s) (view_of r)) r.next)
+        (rest_places (map (λ s. slice_index x.trim s) (members_in_view r)) r.next)
         ++ View age (r.view + 1) (without r.members x.leavers) ∷ []) (sym f.age)
 
     log : take r.logged (finished_history r x) ≡ take r.logged r.history

@@ -18,7 +18,7 @@ use Rattle.dr_machine.specs.Writes.{at, at₂}
 use Rattle.dr_machine.specs.Group.{Group, roster}
 use Rattle.dr_machine.specs.World.{World}
 use Rattle.dr_machine.specs.Effects.{gains}
-use Rattle.dr_program.specs.Replica.{Replica, count, item, gained, greatest, view_of}
+use Rattle.dr_program.specs.Replica.{Replica, count, item, gained, greatest, members_in_view}
 use Rattle.dr_program.specs.Reading.{kept_count, kept_word, world_of}
 use Rattle.dr_program.proofs.Holdings.{Holding, held, holding_of, Changes}
 use Rattle.dr_program.proofs.OwnWords.{same_number, other_number, own_with}
@@ -106,14 +106,14 @@ pub record MayGain (g : Group) (r : Replica) (s : ℕ) : Type 0 where
 abbrev pub gained_rows : Replica → ℕ → Words
 gained_rows r s =
     with_own (with_own r.rows (recv_column s) (recv_word (count r s + 1) false)) RECEIVED_COLUMN
-    (front_of (map (slice_index (slice_set r.counts s (count r s + 1))) (view_of r)))
+    (front_of (map (slice_index (slice_set r.counts s (count r s + 1))) (members_in_view r)))
 
 -- the rows still fit with an item more
 pub fits_gained : (g : Group) (m : ℕ) (r : Replica) (s : ℕ) → Fits g m r.rows r.view
     → Fits g m (gained_rows r s) r.view
 fits_gained g m r s f =
     fits_own g m (with_own r.rows (recv_column s) (recv_word (count r s + 1) false)) r.view RECEIVED_COLUMN
-    (front_of (map (slice_index (slice_set r.counts s (count r s + 1))) (view_of r)))
+    (front_of (map (slice_index (slice_set r.counts s (count r s + 1))) (members_in_view r)))
     (fits_own g m r.rows r.view (recv_column s) (recv_word (count r s + 1) false) f)
 
 -- two own words written
@@ -146,17 +146,17 @@ gained_world g rs table m r s x there f may =
     counts = set_at r.counts s (count r s + 1) (omega (arith, may.counts, may.sender))
 
     front : ℕ
-    front = front_of (map (slice_index (slice_set r.counts s (count r s + 1))) (view_of r))
+    front = front_of (map (slice_index (slice_set r.counts s (count r s + 1))) (members_in_view r))
 
-    same_front : front ≡ front_of (map (at (slice_index r.counts) s (count r s + 1)) (view_of r))
-    same_front = ap (λ (h : ℕ → ℕ). front_of (map h (view_of r))) counts
+    same_front : front ≡ front_of (map (at (slice_index r.counts) s (count r s + 1)) (members_in_view r))
+    same_front = ap (λ (h : ℕ → ℕ). front_of (map h (members_in_view r))) counts
 
     first : Fits g m (with_own r.rows (recv_column s) (recv_word (count r s + 1) false)) r.view
     first = fits_own g m r.rows r.view (recv_column s) (recv_word (count r s + 1) false) f
 
     words : (d : ℕ) → own (gained_rows r s) d
         ≡ at (at (own r.rows) (recv_column s) (recv_word (count r s + 1) false)) RECEIVED_COLUMN
-        (front_of (map (at (slice_index r.counts) s (count r s + 1)) (view_of r))) d
+        (front_of (map (at (slice_index r.counts) s (count r s + 1)) (members_in_view r))) d
     words d = own_two r.rows (recv_column s)
         (recv_word (count r s + 1) false) RECEIVED_COLUMN front d f.words first.words
         (omega (arith, f.columns, may.sender, may.roster)) (omega (arith, f.columns))
@@ -166,11 +166,11 @@ gained_world g rs table m r s x there f may =
     own_is : (holding_of g (gained r s x)).own
         ≡ at (holding_of g r).own r.view
         (at (at (own r.rows) (recv_column s) (recv_word (count r s + 1) false)) RECEIVED_COLUMN
-        (front_of (map (at (slice_index r.counts) s (count r s + 1)) (view_of r))))
+        (front_of (map (at (slice_index r.counts) s (count r s + 1)) (members_in_view r))))
     own_is = fun_ext λ v. fun_ext λ d. ap (λ x. if v == r.view then x else kept_word r v d) (words d)
         ∙ row_written (own r.rows) (at
         (at (own r.rows) (recv_column s) (recv_word (count r s + 1) false)) RECEIVED_COLUMN
-        (front_of (map (at (slice_index r.counts) s (count r s + 1)) (view_of r)))) (kept_word r) r.view v d
+        (front_of (map (at (slice_index r.counts) s (count r s + 1)) (members_in_view r)))) (kept_word r) r.view v d
 
     count_is : (holding_of g (gained r s x)).count
         ≡ at (holding_of g r).count r.view (at (slice_index r.counts) s (count r s + 1))

@@ -23,10 +23,10 @@ use Rattle.dr_words.specs.Columns.{recv_column}
 use Rattle.dr_words.specs.Masks.{IsInRoster, without}
 use Rattle.dr_machine.proofs.Presence.{is_present}
 use Rattle.dr_machine.specs.Group.{Group, roster, columns}
-use Rattle.dr_machine.specs.World.{World, count_of, shown}
+use Rattle.dr_machine.specs.World.{World, items_received, shown}
 use Rattle.dr_machine.specs.Guards as guards
 use Rattle.dr_machine.specs.Guards.{IsRunning, MayChoose, IsOther, IsFault, CanBeat, CanLook, CanPush, CanSend, CanNull, CanReceive, CanDeliver, CanAppend, CanPublish, CanReport, CanMark, CanSuspect, CanHalt, CanCrash, HasRoom, IsBehind, IsUnwedged, IsDue, IsDone, IsExcluded, IsSuspectedBy, IsMinority, seen_slot, unsuspected_of}
-use Rattle.dr_program.specs.Replica.{Replica, me, is_other, count, greatest, least_seen, ready_item, next_index, holds_all, all_done, is_behind, is_wedged, is_due, is_named, has_majority, unsuspected, view_of, may_receive, may_send, may_null, may_deliver, may_append, may_publish, may_report, may_mark, may_suspect}
+use Rattle.dr_program.specs.Replica.{Replica, me, is_other, count, greatest, least_seen, ready_item, next_index, holds_all, all_done, is_behind, is_wedged, is_due, is_named, has_majority, unsuspected, members_in_view, may_receive, may_send, may_null, may_deliver, may_append, may_publish, may_report, may_mark, may_suspect}
 use Rattle.dr_program.specs.Reading.{world_of}
 use Rattle.dr_program.proofs.Holdings.{Holding, held_of}
 use Rattle.dr_program.proofs.Least.{received_small}
@@ -406,7 +406,7 @@ minority_due g rs table m r mask is = (
 )
   where
     all : ℕ
-    all = length (view_of r)
+    all = length (members_in_view r)
 
     few : ℕ
     few = 2 * length (members_of (unsuspected r))
@@ -519,7 +519,7 @@ next_is g rs table m r is =
 
 -- its count of a sender
 pub count_is : (g : Group) (rs : List Replica) (table : List ℕ) (m : ℕ) (r : Replica) (s : ℕ)
-    → IsMember g rs table m r → count_of (world_of g rs table) m s ≡ count r s
+    → IsMember g rs table m r → items_received (world_of g rs table) m s ≡ count r s
 count_is g rs table m r s is =
     let show : Holding → ℕ = λ h. h.count h.view s in
     ap show (held_of g rs table m r is.there) ∙ rw (same_number r.view) refl
@@ -528,7 +528,7 @@ count_is g rs table m r s is =
 room_guard : (g : Group) (rs : List Replica) (table : List ℕ) (m : ℕ) (r : Replica)
     → IsMember g rs table m r
     → (is_free r.window r.rows r.members (count r (me r)) ≡ true)
-    ↔ HasRoom g (world_of g rs table) m (count_of (world_of g rs table) m m)
+    ↔ HasRoom g (world_of g rs table) m (items_received (world_of g rs table) m m)
 room_guard g rs table m r is = (
   λ e. rw counts (room_from
       (IsFree-from_test r.window r.rows r.members (count r m) is.form.rows.few roster_is
@@ -543,7 +543,7 @@ room_guard g rs table m r is = (
     w : World
     w = world_of g rs table
 
-    counts : count_of w m m ≡ count r m
+    counts : items_received w m m ≡ count r m
     counts = count_is g rs table m r m is
 
     members : w.members m ≡ r.members
@@ -609,7 +609,7 @@ behind_guard g rs table m r is = (
       (grind (arith, nat_tests, less)),
 )
   where
-    counts : (s : ℕ) → count_of (world_of g rs table) m s ≡ count r s
+    counts : (s : ℕ) → items_received (world_of g rs table) m s ≡ count r s
     counts s = count_is g rs table m r s is
 
     within : (s : ℕ) → count r (me r) < count r s → s < length r.counts

@@ -11,7 +11,7 @@ use Rattle.dr_words.specs.Columns.{columns_of}
 use Rattle.dr_machine.specs.declared.step.Step.{Step}
 use Rattle.dr_machine.specs.declared.step.Step.TheVariants as steps
 use Rattle.dr_machine.specs.Group.{Group, columns, roster}
-use Rattle.dr_machine.specs.World.{World, count_of}
+use Rattle.dr_machine.specs.World.{World, items_received}
 use Rattle.dr_program.specs.Steps.{has_cell, allows, is_free, may_take, index_in, found, stepped_over, stored}
 use Rattle.dr_machine.specs.Acts.{CanDo, CanTake, effect_of}
 use Rattle.dr_program.specs.Acts.{may, taken}
@@ -234,7 +234,7 @@ room_by g rs table m r (steps.Do (acts.Receive s)) is can entry counts history f
     let w : World = world_of g rs table in omega (
       arith,
       counts (w.past.view m) s,
-      written w.past.count m (w.past.view m) s (count_of w m s + 1),
+      written w.past.count m (w.past.view m) s (items_received w m s + 1),
       count_is g rs table m r s is,
     )
 room_by g rs table m r (steps.Do acts.Deliver) is can entry counts history few = entry

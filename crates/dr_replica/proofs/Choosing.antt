@@ -92,11 +92,11 @@ propose_told r s o f is told =
 pub accept_told : (r : Replica) (s : Standing) (o : Option Value) → HasForm r → StandsAs r s
     → MatchOption o (¬ lead.MayAccept r.rows s)
     (λ v. lead.MayAccept r.rows s
-    × lead_accepts.Shows r.rows s.members (lead_accepts.promise_of r.rows s.me) v)
+    × lead_accepts.RowShows r.rows s.members (lead_accepts.promise_of r.rows s.me) v)
     → is_some o ≡ may_accept r
 accept_told r s o f is told =
     test_told r s o (ToAccept r)
-    (lead_accepts.Shows r.rows s.members (lead_accepts.promise_of r.rows s.me)) (may_accept r)
+    (lead_accepts.RowShows r.rows s.members (lead_accepts.promise_of r.rows s.me)) (may_accept r)
     (accept_test r.roster (seen r.rows) r.members r.suspects (me r) (view_small r f)) f is told
 
 -- the value that it proposes
@@ -131,7 +131,7 @@ proposes r s o v f is told there long = by o told there
 -- and the one that it accepts, where it may not propose
 pub accepts : (r : Replica) (s : Standing) (v : Value) → HasForm r → StandsAs r s
     → may_propose r ≡ false
-    → lead_accepts.Shows r.rows s.members (lead_accepts.promise_of r.rows s.me) v
+    → lead_accepts.RowShows r.rows s.members (lead_accepts.promise_of r.rows s.me) v
     → length v.trim ≡ 16 → v ≡ value_due r
 accepts r s v f is none shows long =
     shows_once r.roster (seen r.rows) r.members (promise_of r.roster (seen r.rows) (me r)) v

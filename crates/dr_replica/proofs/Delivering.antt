@@ -9,8 +9,8 @@ use Rattle.dr_entry.specs.declared.entry.Item.TheVariants.{Null}
 use Rattle.dr_history.proofs.NumberedLemmas.{messages_from-append}
 use Rattle.dr_program.specs.Replica as replica
 use Rattle.dr_program.specs.Replica.{Replica, with_place}
-use Rattle.dr_replica.specs.Inside.{IsInside}
-use Rattle.dr_replica.specs.Inside.{view_of as replica_of}
+use Rattle.dr_replica.specs.Inside.{IsInsideReplica}
+use Rattle.dr_replica.specs.Inside.{replica_inside as replica_of}
 use Rattle.dr_replica.specs.declared.replica.Replica.TheInside.{Inside}
 use Rattle.dr_replica.proofs.Histories.{few_messages}
 use Rattle.dr_entry.specs.declared.entry.Entry.{Entry}
@@ -21,7 +21,7 @@ use Rattle.dr_machine.specs.Effects.{entries_of}
 use Rattle.dr_order.specs.Merge.{IsNextHeld}
 use Rattle.dr_order.proofs.Merges.{rest_places-next, rest_places-none}
 use Rattle.dr_replica.specs.History.{Kept}
-use Rattle.dr_replica.specs.Items.{Held, IsHeld, item_at, sender_at}
+use Rattle.dr_replica.specs.Items.{Held, IsHeld, item_held_at, sender_held_at}
 use Rattle.dr_replica.specs.Rests.{AreWithin, fits, has_taken, merged, merged_from, with_item}
 use Rattle.dr_trim.specs.Trims.{trims_by_rank}
 
@@ -47,7 +47,7 @@ items_lengthen : (h : Held) (es : List Entry) (ps : List ℕ)
     → length es ≤ length (fold (with_item h) es ps)
 items_lengthen h es [] = omega arith
 items_lengthen h es (p ∷ ps) =
-    le_trans (omega (arith, length-append es (entries_of es (sender_at h p) (item_at h p))))
+    le_trans (omega (arith, length-append es (entries_of es (sender_held_at h p) (item_held_at h p))))
     (items_lengthen h (with_item h es p) ps)
 
 pub merged_longer : (h : Held) (es : List Entry) (trims : List ℕ) (from : ℕ)
@@ -79,9 +79,9 @@ pub record AreCounted (h : Held) (es : List Entry) (trims : List ℕ)
 -- one place more is counted
 pub counted_more : (h : Held) (es : List Entry) (trims : List ℕ) (start from p me entries own e o : ℕ)
     → 0 < length trims → IsNextHeld trims from (Some p) → AreCounted h es trims start from me entries own
-    → ((so_far : List Entry) → e ≡ length (entries_of so_far (sender_at h p) (item_at h p)))
+    → ((so_far : List Entry) → e ≡ length (entries_of so_far (sender_held_at h p) (item_held_at h p)))
     → ((so_far : List Entry) → o ≡ length
-    (messages_from me (entries_of so_far (sender_at h p) (item_at h p))))
+    (messages_from me (entries_of so_far (sender_held_at h p) (item_held_at h p))))
     → AreCounted h es trims start (p + 1) me (entries + e) (own + o)
 counted_more h es trims start from p me entries own e o some next are more mine = record {
   so_far = with_item h are.so_far p;
@@ -98,7 +98,7 @@ counted_more h es trims start from p me entries own e o some next are more mine 
 }
   where
     added : List Entry → List Entry
-    added so_far = entries_of so_far (sender_at h p) (item_at h p)
+    added so_far = entries_of so_far (sender_held_at h p) (item_held_at h p)
 
 -- so far there are no more entries than there will be, and no more of the member's messages than entries
 pub counted_few : (h : Held) (es : List Entry) (trims : List ℕ) (start from me entries own : ℕ)
@@ -162,17 +162,17 @@ taken_within a trim members taken =
             let none = list_all_at test a.items.members i 0 l (ap test at ∙ e) in absurd (cc (none, all))
 
 -- what a trim has left is the same to a replica
-place_same : (a : Inside) → IsInside a → (es : List Entry) (p : ℕ)
+place_same : (a : Inside) → IsInsideReplica a → (es : List Entry) (p : ℕ)
     → with_item a.items es p ≡ with_place (replica_of a) es p
 place_same a inside es p =
     ap (λ (ms : List ℕ). es ++ entries_of es (slice_index ms (p % length ms))
     (slice_index_or a.items.items (p / length ms * a.items.roster + slice_index ms (p % length ms)) Null))
     inside.members
-    ∙ ap (λ (n : ℕ). es ++ entries_of es (replica.sender_at (replica_of a) p)
-    (slice_index_or a.items.items (p / length (replica.view_of (replica_of a)) * n
-    + replica.sender_at (replica_of a) p) Null)) inside.roster
+    ∙ ap (λ (n : ℕ). es ++ entries_of es (replica.sender_of_place (replica_of a) p)
+    (slice_index_or a.items.items (p / length (replica.members_in_view (replica_of a)) * n
+    + replica.sender_of_place (replica_of a) p) Null)) inside.roster
 
-pub merged_same : (a : Inside) (trim : List ℕ) → IsInside a
+pub merged_same : (a : Inside) (trim : List ℕ) → IsInsideReplica a
     → merged_from a.items a.history.entries (trims_by_rank a.members trim) a.next.place
     ≡ merged (replica_of a) trim
 merged_same a trim inside =
@@ -185,7 +185,7 @@ merged_same a trim inside =
         ∙ ap (λ (x : List Entry). fold (with_place (replica_of a)) x ps) (place_same a inside es p)
 
 -- whether there is room is asked of what the fields tell
-pub fits_is : (a : Inside) (now : Replica) (trim : List ℕ) → replica_of a ≡ now → IsInside a
+pub fits_is : (a : Inside) (now : Replica) (trim : List ℕ) → replica_of a ≡ now → IsInsideReplica a
     → (nat_lt (length (merged_from a.items a.history.entries (trims_by_rank a.members trim) a.next.place))
     a.history.room
     && nat_lt (length (messages_from a.rows.me
@@ -199,7 +199,7 @@ fits_by_own : (a b m n : ℕ) → a < m → nat_le b n ≡ (nat_lt a m && nat_lt
 fits_by_own a b m n l = grind (arith, l)
 
 pub fits_told : (a : Inside) (now : Replica) (trim : List ℕ) (entries own k me : ℕ) → replica_of a ≡ now
-    → IsInside a → me ≡ a.rows.me → k ≡ length a.messages.items → entries < a.history.room
+    → IsInsideReplica a → me ≡ a.rows.me → k ≡ length a.messages.items → entries < a.history.room
     → entries ≡ length (merged_from a.items a.history.entries (trims_by_rank a.members trim) a.next.place)
     → own ≡ length (messages_from me
     (merged_from a.items a.history.entries (trims_by_rank a.members trim) a.next.place))

@@ -17,7 +17,7 @@ use Rattle.dr_words.specs.Packing.{recv_word}
 use Rattle.dr_program.specs.Replica.{Replica, me, count, greatest, least_seen, next_index, ready_item, gained, is_other, is_wedged, may_receive, put, received}
 use Rattle.dr_program.specs.Form.{HasForm}
 use Rattle.dr_replica.specs.Items.{Held, front, taken}
-use Rattle.dr_replica.specs.Inside.{IsInside, view_of}
+use Rattle.dr_replica.specs.Inside.{IsInsideReplica, replica_inside}
 use Rattle.dr_replica.specs.declared.replica.Replica.TheInside.{Inside}
 use Rattle.dr_words.proofs.Ranks.{some_member}
 use Rattle.dr_replica.proofs.Insides.{same_suspicion}
@@ -30,12 +30,12 @@ abbrev pub Shown : Words → Words → Held → ℕ → Type 0
 Shown old new t s = new ≡ shown old s (slice_index t.counts s) (front t)
 
 -- the new count, and the front that doesn't fall
-counted : (a : Inside) (s c : ℕ) → IsInside a → s < a.shape.members
+counted : (a : Inside) (s c : ℕ) → IsInsideReplica a → s < a.shape.members
     → get_or (set a.items.counts s c) s 0 ≡ c
 counted a s c inside within = get_or-set_same a.items.counts s c 0 (omega (arith, inside.form.counts, within))
 
 -- after an item is taken the front is at least the one that the member shows
-pub front_after : (a : Inside) (t : Held) (s : ℕ) (item : Item) → IsInside a → s < a.shape.members
+pub front_after : (a : Inside) (t : Held) (s : ℕ) (item : Item) → IsInsideReplica a → s < a.shape.members
     → t ≡ taken a.items s item → own a.rows RECEIVED_COLUMN ≤ front t
 front_after a t s item inside within after =
     let f = inside.form in
@@ -49,9 +49,9 @@ front_after a t s item inside within after =
     rw after (omega (arith, f.received, rises, same))
 
 gained_after : (a : Inside) (rows w : Words) (t : Held) (s : ℕ) (item : Item) (puts : List SentItem)
-    → IsInside a → s < a.shape.members → t ≡ taken a.items s item → Shown rows w t s
-    → record (view_of a) { rows = w; counts = t.counts; items = t.items; sent = puts }
-    ≡ gained (record (view_of a) { rows = rows; sent = puts }) s item
+    → IsInsideReplica a → s < a.shape.members → t ≡ taken a.items s item → Shown rows w t s
+    → record (replica_inside a) { rows = w; counts = t.counts; items = t.items; sent = puts }
+    ≡ gained (record (replica_inside a) { rows = rows; sent = puts }) s item
 gained_after a rows w t s item puts inside within took after =
     let old : ℕ = get_or a.items.counts s 0 in
     let cs : List ℕ = set a.items.counts s (old + 1) in
@@ -60,11 +60,11 @@ gained_after a rows w t s item puts inside within took after =
     ∙ ap (λ (h : Held). shown rows s (slice_index h.counts s) (front h)) took
     ∙ ap (λ (n : ℕ). shown rows s n (front (taken a.items s item))) (counted a s (old + 1) inside within)
     ∙ ap (λ (ms : List ℕ). shown rows s (old + 1) (front_of (map (slice_index cs) ms))) inside.members in
-    ap (λ (h : Held). record (view_of a) { rows = w; counts = h.counts; items = h.items; sent = puts }) took
-    ∙ ap (λ (x : Words). record (view_of a)
+    ap (λ (h : Held). record (replica_inside a) { rows = w; counts = h.counts; items = h.items; sent = puts }) took
+    ∙ ap (λ (x : Words). record (replica_inside a)
     { rows = x; counts = cs; items = set a.items.items (old * a.items.roster + s) item; sent = puts })
     words
-    ∙ ap (λ (n : ℕ). record (view_of a) {
+    ∙ ap (λ (n : ℕ). record (replica_inside a) {
       rows = shown rows s (old + 1) (front_of (map (slice_index cs) (members_of a.members)));
       counts = cs;
       items = set a.items.items (old * n + s) item;
@@ -83,16 +83,16 @@ item_waits r s may =
 
 -- these fields are those of the replica that has received the sender's next item
 pub received_after : (a : Inside) (w : Words) (t : Held) (s k : ℕ) (item : Item)
-    → IsInside a → s < a.shape.members → k ≡ slice_index a.items.counts s
+    → IsInsideReplica a → s < a.shape.members → k ≡ slice_index a.items.counts s
     → item_in k (slot_of a.shape.window a.rows s k) ≡ Some item → t
     ≡ taken a.items s item → Shown a.rows w t s
-    → record (view_of a) { rows = w; counts = t.counts; items = t.items } ≡ received (view_of a) s
+    → record (replica_inside a) { rows = w; counts = t.counts; items = t.items } ≡ received (replica_inside a) s
 received_after a w t s k item inside within count some took after =
-    let what : item ≡ unwrap_or (ready_item (view_of a) s) Null =
+    let what : item ≡ unwrap_or (ready_item (replica_inside a) s) Null =
     ap (λ (x : Option Item). unwrap_or x Null)
     (sym some ∙ ap (λ (n : ℕ). item_in n (slot_of a.shape.window a.rows s n)) count) in
     gained_after a a.rows w t s item a.sent.items inside within took after
-    ∙ ap (λ (x : Item). gained (view_of a) s x) what
+    ∙ ap (λ (x : Item). gained (replica_inside a) s x) what
 
 -- ---- what was put
 
@@ -104,7 +104,7 @@ pub record WasPut (a : Inside) (m k : ℕ) (x : Item) (w : Words) (t : Held) : T
   pub took : t ≡ taken a.items m x
 
 -- the message that was read is the next one
-pub message_read : (a : Inside) (now : Replica) (i : ℕ) (read bytes : List ℕ) → view_of a ≡ now
+pub message_read : (a : Inside) (now : Replica) (i : ℕ) (read bytes : List ℕ) → replica_inside a ≡ now
     → next_index now < length now.messages → i ≡ next_index now
     → read ≡ slice_index_or a.messages.items i read → bytes ≡ read
     → Text bytes ≡ message_to_send now
@@ -116,23 +116,23 @@ message_read a now i read bytes same left next there equal =
     ∙ ap (λ (j : ℕ). get_or now.messages j []) next)
 
 -- there is room for it
-pub room_left : (a : Inside) (m : ℕ) (name : SentItem) (item : Item) → IsInside a
-    → MayPut (view_of a) name item → m ≡ a.rows.me → slice_index a.items.counts m < a.items.most
+pub room_left : (a : Inside) (m : ℕ) (name : SentItem) (item : Item) → IsInsideReplica a
+    → MayPut (replica_inside a) name item → m ≡ a.rows.me → slice_index a.items.counts m < a.items.most
 room_left a m name item inside may mine = rw mine (omega (arith, may.room, inside.most))
 
 rows_are : (a : Inside) (m k : ℕ) (item : Item) (rows : Words) (t : Held) → WasPut a m k item rows t
-    → rows ≡ with_item a.shape.window a.rows (count (view_of a) (me (view_of a))) item
+    → rows ≡ with_item a.shape.window a.rows (count (replica_inside a) (me (replica_inside a))) item
 rows_are a m k item rows t p =
     p.rows ∙ ap (λ (n : ℕ). with_item a.shape.window a.rows n item)
     (p.count ∙ ap (λ (i : ℕ). slice_index a.items.counts i) p.me)
 
 -- after a put neither the member's own count nor its front falls
 pub put_shows : (a : Inside) (m k : ℕ) (name : SentItem) (item : Item) (rows : Words) (t : Held)
-    → IsInside a → MayPut (view_of a) name item → WasPut a m k item rows t
+    → IsInsideReplica a → MayPut (replica_inside a) name item → WasPut a m k item rows t
     → (own rows (recv_column m) ≤ recv_word (slice_index t.counts m) false)
     × (own rows RECEIVED_COLUMN ≤ front t)
 put_shows a m k name item rows t inside may p =
-    let r : Replica = view_of a in
+    let r : Replica = replica_inside a in
     let f = inside.form in
     let n = putting r name item f may in
     let within : m < a.shape.members = omega (arith, p.me, n.sender) in
@@ -152,13 +152,13 @@ put_shows a m k name item rows t inside may p =
 
 -- these fields are those of the replica that has put the item
 pub put_after : (a : Inside) (w : Words) (m k : ℕ) (name : SentItem) (item : Item) (rows : Words)
-    (t : Held) (puts : List SentItem) → IsInside a → MayPut (view_of a) name item
+    (t : Held) (puts : List SentItem) → IsInsideReplica a → MayPut (replica_inside a) name item
     → WasPut a m k item rows t
     → puts ≡ a.sent.items ++ name ∷ [] → Shown rows w t m
-    → record (view_of a) { rows = w; counts = t.counts; items = t.items; sent = puts }
-    ≡ put (view_of a) name item
+    → record (replica_inside a) { rows = w; counts = t.counts; items = t.items; sent = puts }
+    ≡ put (replica_inside a) name item
 put_after a w m k name item rows t puts inside may p more after =
-    let r : Replica = view_of a in
+    let r : Replica = replica_inside a in
     let within : m < a.shape.members = omega (arith, p.me, (putting r name item inside.form may).sender) in
     gained_after a rows w t m item puts inside within p.took after
     ∙ ap (λ (x : Words). gained (record r { rows = x; sent = puts }) m item) (rows_are a m k item rows t p)
@@ -172,12 +172,12 @@ put_after a w m k name item rows t puts inside may p more after =
 -- ---- the fields keep their invariant
 
 -- a taken item leaves the replica in good order inside, where its form is kept
-pub items_kept : (a : Inside) (rows : Words) (t : Held) (s : ℕ) (item : Item) (puts : _) → IsInside a
+pub items_kept : (a : Inside) (rows : Words) (t : Held) (s : ℕ) (item : Item) (puts : _) → IsInsideReplica a
     → t ≡ taken a.items s item → greatest a.totals ≤ vec_capacity puts
-    → rows.me ≡ a.rows.me → HasForm (view_of (record a { rows = rows; items = t; sent = puts }))
-    → least_seen (view_of a) RECEIVED_COLUMN
-    ≤ least_seen (view_of (record a { rows = rows; items = t; sent = puts })) RECEIVED_COLUMN
-    → IsInside (record a { rows = rows; items = t; sent = puts })
+    → rows.me ≡ a.rows.me → HasForm (replica_inside (record a { rows = rows; items = t; sent = puts }))
+    → least_seen (replica_inside a) RECEIVED_COLUMN
+    ≤ least_seen (replica_inside (record a { rows = rows; items = t; sent = puts })) RECEIVED_COLUMN
+    → IsInsideReplica (record a { rows = rows; items = t; sent = puts })
 items_kept a rows t s item puts inside took room me form rise = record {
   form = form;
   suspicion = same_suspicion a rows inside me;

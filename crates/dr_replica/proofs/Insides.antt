@@ -31,14 +31,14 @@ use Rattle.dr_replica.specs.Items.{Held}
 use Rattle.dr_replica.specs.History as histories
 use Rattle.dr_replica.specs.History.{Kept}
 use Rattle.dr_program.proofs.Least.{least_fits, least_of}
-use Rattle.dr_replica.specs.Inside.{IsInside, view_of}
+use Rattle.dr_replica.specs.Inside.{IsInsideReplica, replica_inside}
 use Rattle.dr_replica.specs.Spots.{IsSpot}
 use Rattle.dr_replica.specs.declared.spot.Spot.{Spot}
 use Rattle.dr_replica.specs.declared.replica.Replica.TheInside.{Inside}
 
 -- the suspicion stays where the rows are of the same member
-pub same_suspicion : (a : Inside) (rows : Words) → IsInside a → rows.me ≡ a.rows.me
-    → a.suspects ≡ suspicion_of (record (view_of a) { rows = rows })
+pub same_suspicion : (a : Inside) (rows : Words) → IsInsideReplica a → rows.me ≡ a.rows.me
+    → a.suspects ≡ suspicion_of (record (replica_inside a) { rows = rows })
 same_suspicion a rows inside me = inside.suspicion
     ∙ ap (λ (m : ℕ). record a.suspects { me = m; members = a.members }) (sym me)
 
@@ -57,9 +57,9 @@ fields_kept : (a : Inside) (rows : Words) (suspects : Suspicion) (tag : ℕ) (va
       turns = turns;
       acts = acts;
       end = end;
-    } in IsInside a → HasForm (view_of q) → q.suspects ≡ suspicion_of (view_of q)
-    → least_seen (view_of a) RECEIVED_COLUMN ≤ least_seen (view_of q) RECEIVED_COLUMN
-    → a.shape.banks * a.shape.members ≤ vec_capacity q.votes → IsInside q
+    } in IsInsideReplica a → HasForm (replica_inside q) → q.suspects ≡ suspicion_of (replica_inside q)
+    → least_seen (replica_inside a) RECEIVED_COLUMN ≤ least_seen (replica_inside q) RECEIVED_COLUMN
+    → a.shape.banks * a.shape.members ≤ vec_capacity q.votes → IsInsideReplica q
 fields_kept a rows suspects tag value pending votes logged durable turns acts end inside form suspicion rise
     room = record {
       form = form;
@@ -80,27 +80,27 @@ fields_kept a rows suspects tag value pending votes logged durable turns acts en
     }
 
 pub state_kept : (a : Inside) (rows : Words) (logged durable turns acts : ℕ) (end : Option End)
-    → IsInside a → rows.me ≡ a.rows.me
-    → HasForm (view_of
+    → IsInsideReplica a → rows.me ≡ a.rows.me
+    → HasForm (replica_inside
     (record a { rows = rows; logged = logged; durable = durable; turns = turns; acts = acts; end = end }))
-    → least_seen (view_of a) RECEIVED_COLUMN ≤ least_seen (record (view_of a) { rows = rows }) RECEIVED_COLUMN
-    → IsInside (record a
+    → least_seen (replica_inside a) RECEIVED_COLUMN ≤ least_seen (record (replica_inside a) { rows = rows }) RECEIVED_COLUMN
+    → IsInsideReplica (record a
     { rows = rows; logged = logged; durable = durable; turns = turns; acts = acts; end = end })
 state_kept a rows logged durable turns acts end inside me form rise =
     fields_kept a rows a.suspects a.tag a.value a.pending a.votes logged durable turns acts end inside form
     (same_suspicion a rows inside me) rise inside.votes
 
 -- and where an own word but the received one is set, and so many acts were done
-pub word_kept : (a : Inside) (rows : Words) (column word acts : ℕ) → IsInside a
+pub word_kept : (a : Inside) (rows : Words) (column word acts : ℕ) → IsInsideReplica a
     → rows ≡ with_own a.rows column word → RECEIVED_COLUMN ≢ column
-    → HasForm (record (view_of a) { rows = with_own a.rows column word; acts = acts })
-    → IsInside (record a { rows = rows; acts = acts })
+    → HasForm (record (replica_inside a) { rows = with_own a.rows column word; acts = acts })
+    → IsInsideReplica (record a { rows = rows; acts = acts })
 word_kept a rows column word acts inside after other form =
     state_kept a rows a.logged a.durable a.turns acts a.end inside (ap (λ (w : Words). w.me) after)
-    (subst (λ (w : Words). HasForm (record (view_of a) { rows = w; acts = acts })) (sym after) form)
-    (subst (λ (w : Words). least_seen (view_of a) RECEIVED_COLUMN
-    ≤ least_seen (record (view_of a) { rows = w }) RECEIVED_COLUMN) (sym after)
-    (other_received (view_of a) column word other))
+    (subst (λ (w : Words). HasForm (record (replica_inside a) { rows = w; acts = acts })) (sym after) form)
+    (subst (λ (w : Words). least_seen (replica_inside a) RECEIVED_COLUMN
+    ≤ least_seen (record (replica_inside a) { rows = w }) RECEIVED_COLUMN) (sym after)
+    (other_received (replica_inside a) column word other))
 
 -- what holds of the value that the fields mean
 pub form_to : (new q : Replica) → new ≡ q → HasForm q → HasForm new
@@ -122,12 +122,12 @@ may_of f v now same may = ap f same ∙ may
 -- ---- delivery
 
 -- the next place to deliver is a spot of the view's members
-pub next_is_spot : (a : Inside) → IsInside a → IsSpot (length a.items.members) a.next
+pub next_is_spot : (a : Inside) → IsInsideReplica a → IsSpot (length a.items.members) a.next
 next_is_spot a inside = subst (λ (ms : List ℕ). IsSpot (length ms) a.next) (sym inside.members) inside.next
 
 -- a place that may be delivered is before the own front
 next_held : (r : Replica) → HasForm r → may_deliver r ≡ true
-    → (r.next < front_of (map (slice_index r.counts) (replica.view_of r))) × (r.next + 1 < 2 ^ 64)
+    → (r.next < front_of (map (slice_index r.counts) (replica.members_in_view r))) × (r.next + 1 < 2 ^ 64)
 next_held r f may =
     let seen_by_all : r.next < least_seen r RECEIVED_COLUMN =
     ltb-true r.next (least_seen r RECEIVED_COLUMN)
@@ -140,40 +140,40 @@ next_held r f may =
     )
 
 -- a member that may deliver has its next place below the front, and can count one more
-pub next_before : (a : Inside) (now : Replica) → view_of a ≡ now → IsInside a → may_deliver now
+pub next_before : (a : Inside) (now : Replica) → replica_inside a ≡ now → IsInsideReplica a → may_deliver now
     ≡ true → (a.next.place < items.front a.items) × (a.next.place + 1 < 2 ^ 64)
 next_before a now same inside may =
-    let held = next_held (view_of a) inside.form (may_of may_deliver (view_of a) now same may) in (
+    let held = next_held (replica_inside a) inside.form (may_of may_deliver (replica_inside a) now same may) in (
       subst (λ (ms : List ℕ). a.next.place < front_of (map (slice_index a.items.counts) ms))
           (sym inside.members) held.0,
       held.1,
     )
 
 -- these fields are those of the replica that has delivered the item at its next place
-pub delivered_after : (a : Inside) (n : Spot) (h : Kept) (s : ℕ) (item : Item) → IsInside a → s
-    ≡ items.sender_at a.items a.next.place → item ≡ items.item_at a.items a.next.place
+pub delivered_after : (a : Inside) (n : Spot) (h : Kept) (s : ℕ) (item : Item) → IsInsideReplica a → s
+    ≡ items.sender_held_at a.items a.next.place → item ≡ items.item_held_at a.items a.next.place
     → h ≡ histories.delivered a.history s item → n.place ≡ a.next.place + 1
-    → view_of (record a { next = n; history = h }) ≡ delivered (view_of a)
+    → replica_inside (record a { next = n; history = h }) ≡ delivered (replica_inside a)
 delivered_after a n h s item inside sender what after next =
     let p : ℕ = a.next.place in
-    let who : s ≡ replica.sender_at (view_of a) p = sender
+    let who : s ≡ replica.sender_of_place (replica_inside a) p = sender
     ∙ ap (λ (ms : List ℕ). slice_index ms (p % length ms)) inside.members in
-    let which : item ≡ replica.item_at (view_of a) p =
+    let which : item ≡ replica.item_of_place (replica_inside a) p =
     what
     ∙ ap (λ (ms : List ℕ). slice_index_or a.items.items
     (p / length ms * a.items.roster + slice_index ms (p % length ms)) Null) inside.members
     ∙ ap (λ (m : ℕ). slice_index_or a.items.items
-    (p / length (replica.view_of (view_of a)) * m + replica.sender_at (view_of a) p) Null) inside.roster
+    (p / length (replica.members_in_view (replica_inside a)) * m + replica.sender_of_place (replica_inside a) p) Null) inside.roster
     in
-    ap (λ (k : Kept). view_of (record a { next = n; history = k })) after
-    ∙ ap (λ (m : ℕ). record (view_of a)
+    ap (λ (k : Kept). replica_inside (record a { next = n; history = k })) after
+    ∙ ap (λ (m : ℕ). record (replica_inside a)
     { next = m; history = a.history.entries ++ entries_of a.history.entries s item }) next
-    ∙ ap (λ (i : ℕ). record (view_of a)
+    ∙ ap (λ (i : ℕ). record (replica_inside a)
     { next = p + 1; history = a.history.entries ++ entries_of a.history.entries i item }) who
-    ∙ ap (λ (x : Item). record (view_of a) {
+    ∙ ap (λ (x : Item). record (replica_inside a) {
       next = p + 1;
       history = a.history.entries
-          ++ entries_of a.history.entries (replica.sender_at (view_of a) p) x;
+          ++ entries_of a.history.entries (replica.sender_of_place (replica_inside a) p) x;
     }) which
 
 -- ---- suspicion
@@ -184,7 +184,7 @@ unfolding masks.least_of
 least_read mask p there = sym (get_or_from_slice_get (members_of mask) 0 p 0 there)
 
 -- whom it then promises to accept from
-pub voter_read : (a : Inside) (s : Suspicion) (m p rest : ℕ) → IsInside a
+pub voter_read : (a : Inside) (s : Suspicion) (m p rest : ℕ) → IsInsideReplica a
     → s ≡ record a.suspects { suspects = s.suspects } → m ≡ s.suspects
     → rest ≡ without s.members s.suspects → slice_get (members_of rest) 0 ≡ Some p
     → p ≡ masks.least_of (without a.members m)
@@ -196,38 +196,38 @@ voter_read a s m p rest inside same mask left there =
     members = ap (λ (x : Suspicion). x.members) same ∙ ap (λ (x : Suspicion). x.members) inside.suspicion
 
 -- the fields are those of the replica that suspects one member more
-pub suspected_after : (a : Inside) (s : Suspicion) (rows mid : Words) (j m p : ℕ) → IsInside a
+pub suspected_after : (a : Inside) (s : Suspicion) (rows mid : Words) (j m p : ℕ) → IsInsideReplica a
     → s.suspects ≡ with_member a.suspects.suspects j → m ≡ s.suspects
     → p ≡ masks.least_of (without a.members m)
     → mid ≡ rewritten a.rows (wedged_word a.shape.members a.members m p) → rows ≡ with_frozen mid j
-    → view_of (record a { rows = rows; suspects = s }) ≡ suspected (view_of a) j
+    → replica_inside (record a { rows = rows; suspects = s }) ≡ suspected (replica_inside a) j
 suspected_after a s rows mid j m p inside more mask voter words frozen =
-    ap (λ (x : ℕ). record (view_of a) { rows = rows; suspects = x }) more
-    ∙ ap (λ (w : Words). record (view_of a) { rows = w; suspects = with_member a.suspects.suspects j })
+    ap (λ (x : ℕ). record (replica_inside a) { rows = rows; suspects = x }) more
+    ∙ ap (λ (w : Words). record (replica_inside a) { rows = w; suspects = with_member a.suspects.suspects j })
     (frozen ∙ ap (λ (w : Words). with_frozen w j) (words
     ∙ ap (λ (q : ℕ). rewritten a.rows (wedged_word a.shape.members a.members m q)) voter
     ∙ ap (λ (x : ℕ). rewritten a.rows (wedged_word a.shape.members a.members x
     (masks.least_of (without a.members x)))) (mask ∙ more)))
 
 -- they keep their invariant
-pub suspected_kept : (a : Inside) (s : Suspicion) (rows : Words) (j : ℕ) → IsInside a
-    → may_suspect (view_of a) j ≡ true → s ≡ record a.suspects { suspects = s.suspects }
-    → view_of (record a { rows = rows; suspects = s }) ≡ suspected (view_of a) j
-    → IsInside (record a { rows = rows; suspects = s })
+pub suspected_kept : (a : Inside) (s : Suspicion) (rows : Words) (j : ℕ) → IsInsideReplica a
+    → may_suspect (replica_inside a) j ≡ true → s ≡ record a.suspects { suspects = s.suspects }
+    → replica_inside (record a { rows = rows; suspects = s }) ≡ suspected (replica_inside a) j
+    → IsInsideReplica (record a { rows = rows; suspects = s })
 suspected_kept a s rows j inside may rest there =
     fields_kept a rows s a.tag a.value a.pending a.votes a.logged a.durable a.turns a.acts a.end inside
-    (subst HasForm (sym there) (suspected_form (view_of a) j inside.form may))
+    (subst HasForm (sym there) (suspected_form (replica_inside a) j inside.form may))
     (rest ∙ ap (λ (x : Suspicion). record x { suspects = s.suspects }) inside.suspicion
     ∙ ap (λ (m : ℕ). record { me = m; members = a.members; suspects = s.suspects })
     (sym (ap (λ (r : Replica). r.rows.me) there)))
-    (subst (λ (q : Replica). least_seen (view_of a) RECEIVED_COLUMN ≤ least_seen q RECEIVED_COLUMN)
+    (subst (λ (q : Replica). least_seen (replica_inside a) RECEIVED_COLUMN ≤ least_seen q RECEIVED_COLUMN)
     (sym there)
-    (suspected_received (view_of a) j inside.form may)) inside.votes
+    (suspected_received (replica_inside a) j inside.form may)) inside.votes
 
 -- ---- votes
 
 -- the member that it has promised, as it is read
-pub promise_read : (a : Inside) (now : Replica) (rest p : ℕ) → IsInside a → view_of a ≡ now
+pub promise_read : (a : Inside) (now : Replica) (rest p : ℕ) → IsInsideReplica a → replica_inside a ≡ now
     → replica.is_wedged now ≡ true → rest ≡ without a.suspects.members a.suspects.suspects
     → slice_get (members_of rest) 0 ≡ Some p → p ≡ replica.promise now
 promise_read a now rest p inside same wedged left there =
@@ -239,25 +239,25 @@ promise_read a now rest p inside same wedged left there =
     members : a.suspects.members ≡ a.members
     members = ap (λ (x : Suspicion). x.members) inside.suspicion
 
-    here : replica.is_wedged (view_of a) ≡ true
+    here : replica.is_wedged (replica_inside a) ≡ true
     here = ap replica.is_wedged same ∙ wedged
 
-    promised : replica.promise (view_of a) ≡ masks.least_of (without a.members a.suspects.suspects)
+    promised : replica.promise (replica_inside a) ≡ masks.least_of (without a.members a.suspects.suspects)
     promised = rw here refl
 
 -- the fields are those of the replica that has voted
-pub voted_after : (a : Inside) (now : Replica) (v : Value) (x : Vote) (votes : List Vote) → view_of a ≡ now
+pub voted_after : (a : Inside) (now : Replica) (v : Value) (x : Vote) (votes : List Vote) → replica_inside a ≡ now
     → x ≡ vote_of now v → votes ≡ a.votes.items ++ x ∷ []
-    → record (view_of a) { pending = Some x; votes = votes } ≡ voted (view_of a) v
+    → record (replica_inside a) { pending = Some x; votes = votes } ≡ voted (replica_inside a) v
 voted_after a now v x votes same vote more =
-    ap (λ (xs : List Vote). record (view_of a) { pending = Some x; votes = xs }) more
-    ∙ ap (λ (y : Vote). record (view_of a) { pending = Some y; votes = a.votes.items ++ y ∷ [] })
+    ap (λ (xs : List Vote). record (replica_inside a) { pending = Some x; votes = xs }) more
+    ∙ ap (λ (y : Vote). record (replica_inside a) { pending = Some y; votes = a.votes.items ++ y ∷ [] })
     (vote ∙ ap (λ (r : Replica). vote_of r v) (sym same))
 
-pub votes_kept : (a : Inside) (pending : Option Vote) (votes : _) → IsInside a
+pub votes_kept : (a : Inside) (pending : Option Vote) (votes : _) → IsInsideReplica a
     → a.shape.banks * a.shape.members ≤ vec_capacity votes
-    → HasForm (view_of (record a { pending = pending; votes = votes }))
-    → IsInside (record a { pending = pending; votes = votes })
+    → HasForm (replica_inside (record a { pending = pending; votes = votes }))
+    → IsInsideReplica (record a { pending = pending; votes = votes })
 votes_kept a pending votes inside room form =
     fields_kept a a.rows a.suspects a.tag a.value pending votes a.logged a.durable a.turns a.acts a.end inside
     form inside.suspicion (omega arith) room
@@ -265,26 +265,26 @@ votes_kept a pending votes inside room form =
 -- the fields are those of the replica that has accepted the value of the vote that waits
 pub accepted_after : (a : Inside) (x : Vote) (rows : Words) → a.pending ≡ Some x
     → rows ≡ rewritten a.rows (accepted_word a.shape.members a.members (x.ballot + 1) x.value)
-    → record (view_of a) { rows = rows; tag = x.ballot + 1; value = x.value; pending = None }
-    ≡ accepted (view_of a)
+    → record (replica_inside a) { rows = rows; tag = x.ballot + 1; value = x.value; pending = None }
+    ≡ accepted (replica_inside a)
 accepted_after a x rows waits words =
-    ap (λ (w : Words). record (view_of a)
+    ap (λ (w : Words). record (replica_inside a)
     { rows = w; tag = x.ballot + 1; value = x.value; pending = None }) words
-    ∙ ap (λ (y : Vote). record (view_of a) {
+    ∙ ap (λ (y : Vote). record (replica_inside a) {
       rows = rewritten a.rows (accepted_word a.shape.members a.members (y.ballot + 1) y.value);
       tag = y.ballot + 1;
       value = y.value;
       pending = None;
     }) (sym (ap (λ (o : Option Vote). unwrap_or o no_vote) waits))
 
-pub accepted_kept : (a : Inside) (x : Vote) (rows : Words) → IsInside a → a.pending ≡ Some x
-    → record (view_of a) { rows = rows; tag = x.ballot + 1; value = x.value; pending = None }
-    ≡ accepted (view_of a)
-    → IsInside (record a { rows = rows; tag = x.ballot + 1; value = x.value; pending = None })
+pub accepted_kept : (a : Inside) (x : Vote) (rows : Words) → IsInsideReplica a → a.pending ≡ Some x
+    → record (replica_inside a) { rows = rows; tag = x.ballot + 1; value = x.value; pending = None }
+    ≡ accepted (replica_inside a)
+    → IsInsideReplica (record a { rows = rows; tag = x.ballot + 1; value = x.value; pending = None })
 accepted_kept a x rows inside waits there =
     fields_kept a rows a.suspects (x.ballot + 1) x.value None a.votes a.logged a.durable a.turns a.acts a.end
-    inside (subst HasForm (sym there) (accepted_form (view_of a) x inside.form waits))
+    inside (subst HasForm (sym there) (accepted_form (replica_inside a) x inside.form waits))
     (same_suspicion a rows inside (ap (λ (r : Replica). r.rows.me) there))
-    (subst (λ (q : Replica). least_seen (view_of a) RECEIVED_COLUMN ≤ least_seen q RECEIVED_COLUMN)
+    (subst (λ (q : Replica). least_seen (replica_inside a) RECEIVED_COLUMN ≤ least_seen q RECEIVED_COLUMN)
     (sym there)
-    (accepted_received (view_of a) x inside.form waits)) inside.votes
+    (accepted_received (replica_inside a) x inside.form waits)) inside.votes

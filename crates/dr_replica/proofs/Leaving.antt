@@ -19,7 +19,7 @@ use Rattle.dr_trim.specs.Trims.{trims_by_rank}
 use Rattle.dr_words.specs.Masks.{IsInRoster, without}
 use Rattle.dr_replica.specs.History.{Kept}
 use Rattle.dr_replica.specs.Items.{Held, none_held}
-use Rattle.dr_replica.specs.Inside.{IsInside, view_of}
+use Rattle.dr_replica.specs.Inside.{IsInsideReplica, replica_inside}
 use Rattle.dr_replica.specs.Lefts.{HasRoom, IsSpare, left_of}
 use Rattle.dr_replica.specs.declared.left.Left.{Left}
 use Rattle.dr_words.specs.Columns.{columns_of}
@@ -38,19 +38,19 @@ use Rattle.dr_words.proofs.Masks.{has_without_mask, in_roster_small}
 pub record MayLeave (a : Inside) (x : Value) : Type 0 where
   pub stays : has x.leavers a.rows.me ≡ false
   pub bank : a.view + 1 < a.shape.banks
-  pub taken : has_taken (view_of a) x.trim ≡ true
+  pub taken : has_taken (replica_inside a) x.trim ≡ true
   pub room : length (merged_from a.items a.history.entries (trims_by_rank a.members x.trim) a.next.place)
       < a.history.room
   pub base : length (messages_from a.rows.me
       (merged_from a.items a.history.entries (trims_by_rank a.members x.trim) a.next.place))
       ≤ length a.messages.items
 
-leaves : (a : Inside) (x : Value) → IsInside a → may_end (view_of a) x ≡ true → MayLeave a x
+leaves : (a : Inside) (x : Value) → IsInsideReplica a → may_end (replica_inside a) x ≡ true → MayLeave a x
 leaves a x inside may =
     let stays = and_parts (not (has x.leavers a.rows.me)) _ may in
     let bank = and_parts (nat_lt (a.view + 1) a.shape.banks) _ stays.1 in
-    let there = and_parts (has_taken (view_of a) x.trim) _ bank.1 in
-    let fits = and_parts (nat_lt (length (finished_history (view_of a) x)) (a.history.room + 1)) _ there.1 in
+    let there = and_parts (has_taken (replica_inside a) x.trim) _ bank.1 in
+    let fits = and_parts (nat_lt (length (finished_history (replica_inside a) x)) (a.history.room + 1)) _ there.1 in
     let same = merged_same a x.trim inside in
     let view : List Entry = View a.age (a.view + 1) (without a.members x.leavers) ∷ [] in
     record {
@@ -59,24 +59,24 @@ leaves a x inside may =
       taken = there.0;
       room = omega (
         arith,
-        ltb-true (length (finished_history (view_of a) x)) (a.history.room + 1) fits.0,
-        length-append (merged (view_of a) x.trim) view,
+        ltb-true (length (finished_history (replica_inside a) x)) (a.history.room + 1) fits.0,
+        length-append (merged (replica_inside a) x.trim) view,
         ap length same,
       );
       base = omega (
         arith,
-        ltb-true (length (messages_from a.rows.me (finished_history (view_of a) x)))
+        ltb-true (length (messages_from a.rows.me (finished_history (replica_inside a) x)))
             (length a.messages.items + 1) fits.1,
-        ap length (messages_from-View a.rows.me (merged (view_of a) x.trim) a.age (a.view + 1)
+        ap length (messages_from-View a.rows.me (merged (replica_inside a) x.trim) a.age (a.view + 1)
             (without a.members x.leavers)),
         ap (λ (es : List Entry). length (messages_from a.rows.me es)) same,
       );
     }
 
-pub may_leave : (a : Inside) (now : Replica) (x : Value) → view_of a ≡ now → IsInside a
+pub may_leave : (a : Inside) (now : Replica) (x : Value) → replica_inside a ≡ now → IsInsideReplica a
     → a.committed ≡ Some x → may_finish now now.committed ≡ true → MayLeave a x
 may_leave a now x same inside committed may =
-    leaves a x inside (subst (λ (o : Option Value). may_finish (view_of a) o ≡ true) committed
+    leaves a x inside (subst (λ (o : Option Value). may_finish (replica_inside a) o ≡ true) committed
     (ap (λ (r : Replica). may_finish r r.committed) same ∙ may))
 
 -- the fields of a member that has ended its view with a value, beside those of before
@@ -91,7 +91,7 @@ pub record AreLeft (a b : Inside) (x : Value) : Type 0 where
   pub items : b.items ≡ none_held (without a.members x.leavers) a.items.roster a.items.most
   pub base : b.base ≡ length (messages_from a.rows.me b.history.entries)
   pub sent : b.sent.items ≡ []
-  pub left : map left_of b.left.items ≡ map left_of a.left.items ++ left_now (view_of a) ∷ []
+  pub left : map left_of b.left.items ≡ map left_of a.left.items ++ left_now (replica_inside a) ∷ []
   pub next : b.next ≡ first_spot
   pub received : b.received ≡ 0
   pub history : b.history ≡ record a.history {
@@ -111,9 +111,9 @@ pub record AreLeft (a b : Inside) (x : Value) : Type 0 where
   pub votes : b.votes ≡ a.votes
 
 -- contracts see them as the replica that has ended its view
-left_view : (a b : Inside) (x : Value) → IsInside a → AreLeft a b x → view_of b ≡ finished_by (view_of a) x
+left_view : (a b : Inside) (x : Value) → IsInsideReplica a → AreLeft a b x → replica_inside b ≡ finished_by (replica_inside a) x
 left_view a b x inside l =
-    let entries : b.history.entries ≡ finished_history (view_of a) x =
+    let entries : b.history.entries ≡ finished_history (replica_inside a) x =
     ap (λ (h : Kept). h.entries) l.history
     ∙ ap (λ (es : List Entry). es ++ View a.age (a.view + 1) (without a.members x.leavers) ∷ [])
     (merged_same a x.trim inside) in
@@ -122,7 +122,7 @@ left_view a b x inside l =
     (greatest a.totals) = l.items
     ∙ ap (λ (n : ℕ). none_held (without a.members x.leavers) n a.items.most) inside.roster
     ∙ ap (λ (k : ℕ). none_held (without a.members x.leavers) a.shape.members k) inside.most in
-    let base : b.base ≡ length (messages_from a.rows.me (finished_history (view_of a) x)) =
+    let base : b.base ≡ length (messages_from a.rows.me (finished_history (replica_inside a) x)) =
     l.base ∙ ap (λ (es : List Entry). length (messages_from a.rows.me es)) entries in
     let suspects : b.suspects.suspects ≡ 0 = ap (λ (s : Suspicion). s.suspects) l.suspects in
     let next : b.next.place ≡ 0 = ap (λ (n : Spot). n.place) l.next in
@@ -134,15 +134,15 @@ left_view a b x inside l =
     cc
 
 -- this is what ending the view makes of the replica
-pub left_after : (a b : Inside) (now : Replica) (x : Value) → view_of a ≡ now → IsInside a
-    → a.committed ≡ Some x → AreLeft a b x → view_of b ≡ finished now
+pub left_after : (a b : Inside) (now : Replica) (x : Value) → replica_inside a ≡ now → IsInsideReplica a
+    → a.committed ≡ Some x → AreLeft a b x → replica_inside b ≡ finished now
 left_after a b now x same inside committed l =
     left_view a b x inside l
-    ∙ ap (λ (o : Option Value). finished_by (view_of a) (unwrap_or o no_value)) (sym committed)
+    ∙ ap (λ (o : Option Value). finished_by (replica_inside a) (unwrap_or o no_value)) (sym committed)
     ∙ ap finished same
 
 -- some member remains, each of the roster
-pub remaining_some : (a : Inside) (x : Value) → IsInside a → MayLeave a x
+pub remaining_some : (a : Inside) (x : Value) → IsInsideReplica a → MayLeave a x
     → (0 < length (members_of (without a.members x.leavers)))
     × ((has (without a.members x.leavers) a.rows.me ≡ true)
     × IsInRoster a.items.roster (without a.members x.leavers))
@@ -166,9 +166,9 @@ remaining_some a x inside may =
     )
 
 -- and the fields keep their invariant
-pub left_inside : (a b : Inside) (now : Replica) (x : Value) → view_of a ≡ now → IsInside a
+pub left_inside : (a b : Inside) (now : Replica) (x : Value) → replica_inside a ≡ now → IsInsideReplica a
     → a.committed ≡ Some x → may_finish now now.committed ≡ true → now.pending ≡ None → AreLeft a b x
-    → AreReserved b → greatest a.totals ≤ vec_capacity b.sent → b.past ≡ a.past → IsInside b
+    → AreReserved b → greatest a.totals ≤ vec_capacity b.sent → b.past ≡ a.past → IsInsideReplica b
 left_inside a b now x same inside committed may none l held sent past = record {
   form = subst HasForm (sym (left_after a b now x same inside committed l))
       (finished_form now (subst HasForm same inside.form) may none);
@@ -202,7 +202,7 @@ pub record AreTaken (a : Inside) (spares : List Left) (left : Left) : Type 0 whe
   pub enough : a.shape.banks ≤ a.view + 1 + 1 + length spares
   pub room : HasRoom a.rows.columns a.items.roster left
 
-pub spare_taken : (a : Inside) (spares : List Left) (r : Option Left) (left : Left) → IsInside a
+pub spare_taken : (a : Inside) (spares : List Left) (r : Option Left) (left : Left) → IsInsideReplica a
     → a.spares.items ≡ spares ++ option_to_list r → r ≡ Some left → AreTaken a spares left
 spare_taken a spares r left inside items is =
     let P : Left → Type 0 =

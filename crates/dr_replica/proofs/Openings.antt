@@ -17,7 +17,7 @@ use Rattle.dr_program.specs.Form.{CanBegin, HasForm}
 use Rattle.dr_program.proofs.OpeningForm.{begun_in_form, greatest_within, product_within}
 use Rattle.dr_replica.specs.Items.{Held, none_held}
 use Rattle.dr_replica.specs.History.{Kept}
-use Rattle.dr_replica.specs.Inside.{IsInside, view_of}
+use Rattle.dr_replica.specs.Inside.{IsInsideReplica, replica_inside}
 use Rattle.dr_replica.specs.declared.replica.Replica.TheInside.{Inside}
 use Rattle.dr_replica.specs.Spots.{first_spot}
 use Rattle.dr_replica.specs.declared.spot.Spot.{Spot}
@@ -78,7 +78,7 @@ pub record AreBegun (a : Inside) (s : Setup) (fresh : Words) (top : ℕ) : Type 
 
 -- the fields as they were made are those of the replica that begins
 pub begun_view : (a : Inside) (s : Setup) (first : Words) (most : ℕ) → AreBegun a s first most
-    → view_of a ≡ begun_replica s
+    → replica_inside a ≡ begun_replica s
 begun_view a s first most b =
     let entries : a.history.entries ≡ first_entries_of s = ap (λ (h : Kept). h.entries) b.history in
     let room : a.history.room ≡ length s.start + s.shape.banks + greatest s.totals * s.shape.members + 1 =
@@ -119,7 +119,7 @@ pub record AreReserved (a : Inside) : Type 0 where
 -- the fields as they were made are in good order inside
 pub begun_inside : (a : Inside) (s : Setup) (first : Words) (most : ℕ) → CanBegin s
     → AreBegun a s first most → most ≤ vec_capacity a.sent → AreReserved a
-    → a.past.items ≡ [] → IsInside a
+    → a.past.items ≡ [] → IsInsideReplica a
 begun_inside a s first most can b sent held past = record {
   form = subst HasForm (sym (begun_view a s first most b)) (begun_in_form s can);
   suspicion =

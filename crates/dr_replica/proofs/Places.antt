@@ -14,7 +14,7 @@ use Rattle.dr_words.proofs.Ranks.{few_members, roster_members}
 use Rattle.dr_history.specs.Places.{place_of, is_held, AllHeldBelow, front_of}
 use Rattle.dr_history.proofs.Fronts.{count_max, front_is, front_only}
 use Rattle.dr_history.proofs.FrontLemmas.{IsFront-least, is_held-below}
-use Rattle.dr_replica.specs.Items.{Held, IsHeld, counts_of, front, none_held, sender_at, item_at}
+use Rattle.dr_replica.specs.Items.{Held, IsHeld, counts_of, front, none_held, sender_held_at, item_held_at}
 use Rattle.dr_replica.specs.Inside.{AreItems, held_of}
 use Rattle.dr_replica.specs.Rests.{AreWithin}
 use Rattle.dr_replica.specs.declared.items.Items.TheInside.{Inside}
@@ -89,13 +89,13 @@ front_reached counts p some all gap =
 
 -- an item that is held has its place
 item_within : (h : Held) (p : ℕ) → IsHeld h → is_held (counts_of h) p ≡ true
-    → p / length h.members * h.roster + sender_at h p < length h.items
+    → p / length h.members * h.roster + sender_held_at h p < length h.items
 item_within h p is held =
     let n : ℕ = length h.members in
     let item = held_item h.counts h.members p is.some held in
-    let most = is.bounded (sender_at h p) in
+    let most = is.bounded (sender_held_at h p) in
     let sender = is.members (p % n) (mod_below p n is.some) in
-    let place = mul-add-lt (p / n) h.roster (sender_at h p) h.most (omega (arith, item, most)) sender in
+    let place = mul-add-lt (p / n) h.roster (sender_held_at h p) h.most (omega (arith, item, most)) sender in
     omega (arith, place, is.items)
 
 few_items : (h : Held) → IsHeld h → length h.items ≤ 65536
@@ -111,19 +111,19 @@ item_number a now s same is =
 
 -- an item that is held has a place in the list
 pub item_place : (a : Inside) (now : Held) (p k r s : ℕ) → held_of a ≡ now → AreItems a
-    → is_held (counts_of now) p ≡ true → k ≡ p / length a.members.items → r ≡ a.roster → s ≡ sender_at now p
+    → is_held (counts_of now) p ≡ true → k ≡ p / length a.members.items → r ≡ a.roster → s ≡ sender_held_at now p
     → (k * r + s < length a.items.items) × (length a.items.items ≤ 65536)
 item_place a now p k r s same are before number roster sender =
     let there = item_within (held_of a) p are.form
     (ap (λ (h : Held). is_held (counts_of h) p) same ∙ before) in (
-      rw (number, roster, sender ∙ ap (λ (h : Held). sender_at h p) (sym same)) there,
+      rw (number, roster, sender ∙ ap (λ (h : Held). sender_held_at h p) (sym same)) there,
       few_items (held_of a) are.form,
     )
 
 -- the item read at its place in the list is the one at that place
 pub item_read : (a : Inside) (now : Held) (p k r s : ℕ) (x : Item) → held_of a ≡ now → AreItems a
     → is_held (counts_of now) p ≡ true → k ≡ p / length a.members.items → r ≡ a.roster
-    → s ≡ sender_at now p → x ≡ slice_index_or a.items.items (k * r + s) x → x ≡ item_at now p
+    → s ≡ sender_held_at now p → x ≡ slice_index_or a.items.items (k * r + s) x → x ≡ item_held_at now p
 item_read a now p k r s x same are before number roster sender read =
     let there = item_place a now p k r s same are before number roster sender in
     let here : x ≡ slice_index_or a.items.items (k * r + s) Null =
@@ -131,8 +131,8 @@ item_read a now p k r s x same are before number roster sender read =
     here ∙ ap (λ (i : ℕ). slice_index_or a.items.items i Null)
     (ap (λ (m : ℕ). m * r + s) number ∙ ap (λ (m : ℕ). p / length a.members.items * m + s) roster
     ∙ ap (λ (m : ℕ). p / length a.members.items * a.roster + m)
-    (sender ∙ ap (λ (h : Held). sender_at h p) (sym same)))
-    ∙ ap (λ (h : Held). item_at h p) same
+    (sender ∙ ap (λ (h : Held). sender_held_at h p) (sym same)))
+    ∙ ap (λ (h : Held). item_held_at h p) same
 
 -- no number is above the greatest
 pub greatest_most : (xs : List ℕ) (i : ℕ) → get_or xs i 0 ≤ greatest xs

@@ -15,7 +15,7 @@ abbrev pub delivered : Kept → ℕ → Item → Kept
 delivered h s item = record h { entries = h.entries ++ entries_of h.entries s item }
 
 -- there is room for the entries
-pub record IsKept (h : Kept) : Type 0 where
+pub record HasEntryRoom (h : Kept) : Type 0 where
   pub roster : h.roster ≤ 16
   pub within : length h.entries ≤ h.room
   pub small : h.room < 2 ^ 32

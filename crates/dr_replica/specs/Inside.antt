@@ -10,7 +10,7 @@ use Rattle.dr_words.specs.declared.column.TheConstants.{RECEIVED_COLUMN}
 use Rattle.dr_replica.specs.Items.{Held, IsHeld, front}
 use Rattle.dr_replica.specs.Lefts.{IsSpare, left_of}
 use Rattle.dr_replica.specs.Spots.{IsSpot}
-use Rattle.dr_replica.specs.History.{Kept, IsKept}
+use Rattle.dr_replica.specs.History.{Kept, HasEntryRoom}
 use Rattle.dr_replica.specs.declared.items.Items.TheInside as items
 use Rattle.dr_replica.specs.declared.history.History.TheInside as history
 use Rattle.dr_replica.specs.declared.replica.Replica.TheInside as replica
@@ -37,13 +37,13 @@ kept_of a = record { roster = length a.messages.items; entries = a.entries.items
 
 -- the numbers of messages are kept beside the entries
 pub record IsHistory (a : history.Inside) : Type 0 where
-  pub form : IsKept (kept_of a)
+  pub form : HasEntryRoom (kept_of a)
   pub room : a.room ≤ vec_capacity a.entries
   pub messages : (s : ℕ) → s < length a.messages.items → slice_index a.messages.items s
       ≡ length (messages_from s a.entries.items)
 
-abbrev pub view_of : replica.Inside → Replica
-view_of a = record {
+abbrev pub replica_inside : replica.Inside → Replica
+replica_inside a = record {
   age = a.age;
   roster = a.shape.members;
   window = a.shape.window;
@@ -74,17 +74,17 @@ view_of a = record {
   end = a.end;
 }
 
-pub record IsInside (a : replica.Inside) : Type 0 where
-  pub form : HasForm (view_of a)
+pub record IsInsideReplica (a : replica.Inside) : Type 0 where
+  pub form : HasForm (replica_inside a)
   -- it suspects in its view
-  pub suspicion : a.suspects ≡ suspicion_of (view_of a)
+  pub suspicion : a.suspects ≡ suspicion_of (replica_inside a)
   -- the items and the history are of this view and this roster
   pub members : a.items.members ≡ members_of a.members
   pub roster : a.items.roster ≡ a.shape.members
   pub most : a.items.most ≡ greatest a.totals
   pub messages : a.history.roster ≡ a.shape.members
   pub next : IsSpot (length (members_of a.members)) a.next
-  pub received : a.received ≤ least_seen (view_of a) RECEIVED_COLUMN
+  pub received : a.received ≤ least_seen (replica_inside a) RECEIVED_COLUMN
   -- there is room for what it has yet to put, to keep something of each view that it leaves, and to tell how
   -- it ended
   pub sent : greatest a.totals ≤ vec_capacity a.sent

@@ -40,11 +40,11 @@ taken h s item = let k = slice_index h.counts s in record h {
 }
 
 -- the sender of a place, and the item there
-abbrev pub sender_at : Held → ℕ → ℕ
-sender_at h p = slice_index h.members (p % length h.members)
+abbrev pub sender_held_at : Held → ℕ → ℕ
+sender_held_at h p = slice_index h.members (p % length h.members)
 
-abbrev pub item_at : Held → ℕ → Item
-item_at h p = slice_index_or h.items (p / length h.members * h.roster + sender_at h p) Null
+abbrev pub item_held_at : Held → ℕ → Item
+item_held_at h p = slice_index_or h.items (p / length h.members * h.roster + sender_held_at h p) Null
 
 -- the members are of the roster, and there is room for the items of each
 pub record IsHeld (h : Held) : Type 0 where

@@ -26,7 +26,7 @@ impl Model for History {
 }
 
 impl History {
-    ghost use Rattle.dr_replica.specs.History.{IsKept, delivered};
+    ghost use Rattle.dr_replica.specs.History.{HasEntryRoom, delivered};
 
     /// The history of the entries `start` and the entry `view`, of members of a roster of so many,
     /// with room for so many entries. No later call takes memory.
@@ -59,7 +59,7 @@ impl History {
     #[inline]
     pub(crate) fn entries(&self) -> &[Entry]
         ensures entries { result.now ≡ self.now.entries }
-        ensures form { IsKept self.now }
+        ensures form { HasEntryRoom self.now }
     {
         self.entries.as_slice()
     }

@@ -40,7 +40,7 @@ impl Model for Items {
 }
 
 impl Items {
-    ghost use Rattle.dr_replica.specs.Items.{IsHeld, counts_of, front, item_at, none_held, sender_at, taken};
+    ghost use Rattle.dr_replica.specs.Items.{IsHeld, counts_of, front, item_held_at, none_held, sender_held_at, taken};
 
     /// No items of the members of a view, of each of whom there will be up to `most`. No later call
     /// takes memory.
@@ -159,7 +159,7 @@ impl Items {
     #[tactic(auto, using(crate::proofs::Spots::spot_rank))]
     pub(crate) fn sender_at(&self, spot: Spot) -> u8
         requires { IsSpot (length self.now.members) spot }
-        ensures sender { result ≡ sender_at self.now spot.place }
+        ensures sender { result ≡ sender_held_at self.now spot.place }
         ensures member { result < self.now.roster }
     {
         self.members[spot.rank]
@@ -169,7 +169,7 @@ impl Items {
     pub(crate) fn item_at(&self, spot: Spot) -> &Item
         requires spot { IsSpot (length self.now.members) spot }
         requires held { is_held (counts_of self.now) spot.place ≡ true }
-        ensures { result.now ≡ item_at self.now spot.place }
+        ensures { result.now ≡ item_held_at self.now spot.place }
     {
         let sender = self.sender_at(spot);
         &self.items[spot.number as usize * usize::from(self.roster) + usize::from(sender)]

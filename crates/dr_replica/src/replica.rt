@@ -64,9 +64,9 @@ impl Model for Replica {
 
     ghost Value = { machine.Replica };
 
-    ghost use Rattle.dr_replica.specs.Inside.{IsInside, view_of};
+    ghost use Rattle.dr_replica.specs.Inside.{IsInsideReplica, replica_inside};
 
-    ghost view = { view_of };
+    ghost view = { replica_inside };
 
-    ghost invariant = { IsInside };
+    ghost invariant = { IsInsideReplica };
 }

@@ -2,10 +2,10 @@
 use Rattle.std.proofs.Common.{◌≡◌, ◌≢◌, ℕ, zero, suc, ◌+◌, ◌*◌, ◌<◌, ◌≤◌, ◌==◌, Bool, not, false, true, List, fold, length, set, slice_index, slice_set, refl, sym, ap, ap₂, subst, ◌∙◌, rules, arith, le_trans}
 use Rattle.std.specs.List.{range_with_len}
 use Rattle.dr_rows.specs.Along.{Pushes, looked_along, pushed_along, with_look, with_push}
-use Rattle.dr_rows.specs.Growth.{HasGrown}
+use Rattle.dr_rows.specs.Growth.{RowsGrew}
 use Rattle.std.specs.Vec.{with_items}
 use Rattle.std.proofs.lemmas.List.{with_items_is}
-use Rattle.dr_rows.specs.Inside.{IsInside, by_column, by_row, rows_at, view_of}
+use Rattle.dr_rows.specs.Inside.{IsInsideRows, by_column, by_row, rows_at, rows_inside}
 use Rattle.dr_rows.specs.declared.rows.Rows.TheInside.{Inside}
 use Rattle.dr_rows.specs.Words.{Words, IsWords, changed, is_frozen, looked, own, pushed, row_of, seen, with_word}
 use Rattle.dr_rows.proofs.Grids.{with_word-column, with_word-row}
@@ -50,7 +50,7 @@ look_written w flat i c p v long row column at =
     (IsLayout-by_column w.members w.columns) long row column)
 
 -- words that grow on
-pub grown_on : (a b c : Words) → HasGrown a b → HasGrown b c → HasGrown a c
+pub grown_on : (a b c : Words) → RowsGrew a b → RowsGrew b c → RowsGrew a c
 grown_on a b c g h = record {
   members = h.members ∙ g.members;
   columns = h.columns ∙ g.columns;
@@ -62,7 +62,7 @@ grown_on a b c g h = record {
 
 -- a look at a word that has not fallen
 pub look_grown : (w : Words) (i c v : ℕ) → IsWords w → i < w.members → c < w.columns → i ≢ w.me
-    → is_frozen w i ≡ false → seen w i c ≤ v → HasGrown w (looked w i c v)
+    → is_frozen w i ≡ false → seen w i c ≤ v → RowsGrew w (looked w i c v)
 look_grown w i c v form row column other unfrozen grown = search rules
 
 -- the columns from this one on are as before, and so are other rows
@@ -87,9 +87,9 @@ looked_stays i table first w from zero = refl
 looked_stays i table first w from (suc m) = looked_stays i table first (with_look i table first w from) (from + 1) m
 
 -- what was written through the lent vector keeps the form of all
-pub IsInside-lent : (a : Inside) (w : Words) (flat : List ℕ) → view_of a ≡ w → IsInside a → IsFlat w flat
+pub IsInside-lent : (a : Inside) (w : Words) (flat : List ℕ) → rows_inside a ≡ w → IsInsideRows a → IsFlat w flat
     → IsWords (by_columns w flat) → row_of (by_columns w flat).words w.me ≡ row_of w.words w.me
-    → IsInside (record a { words = with_items a.words flat })
+    → IsInsideRows (record a { words = with_items a.words flat })
 IsInside-lent a w flat same inside long form stays = record {
   form = subst IsWords (sym view) form;
   own = inside.own ∙ ap₂ (λ (x : Words) (m : ℕ). row_of x.words m) same me ∙ sym stays
@@ -107,8 +107,8 @@ IsInside-lent a w flat same inside long form stays = record {
     items : (with_items a.words flat).items ≡ flat
     items = with_items_is a.words flat (omega (arith, long, size, inside.words, a.words.ok))
 
-    view : view_of (record a { words = with_items a.words flat }) ≡ by_columns w flat
-    view = ap (λ xs. by_columns (view_of a) xs) items ∙ ap (λ (x : Words). by_columns x flat) same
+    view : rows_inside (record a { words = with_items a.words flat }) ≡ by_columns w flat
+    view = ap (λ xs. by_columns (rows_inside a) xs) items ∙ ap (λ (x : Words). by_columns x flat) same
 
 -- ---- pushes
 

@@ -4,14 +4,14 @@ use Rattle.std.proofs.lemmas.List.{get_or_default, get_or-replicate, get_or-set_
 use Rattle.std.specs.Vec.{with_item}
 use Rattle.dr_rows.specs.Words.{Words, IsWords, begun, last_pushed, looked, own, pushed, row_of, seen, with_word, word_at}
 use Rattle.dr_rows.specs.Growth.{IsFresh}
-use Rattle.dr_rows.specs.Inside.{IsInside, by_column, by_row, rows_at, view_of}
+use Rattle.dr_rows.specs.Inside.{IsInsideRows, by_column, by_row, rows_at, rows_inside}
 use Rattle.dr_rows.specs.declared.rows.Rows.TheInside.{Inside}
 use Rattle.dr_rows.proofs.FlatRows.{IsLayout, IsLayout-by_column, IsLayout-by_row, rows_at-set, rows_at-zeros, word_at-rows_at}
 use Rattle.dr_rows.proofs.Grids.{with_word-row}
 use Rattle.dr_rows.proofs.WordsLemmas.{IsFresh-begun, IsWords-begun, IsWords-looked, IsWords-pushed}
 
 -- the own row is one of the rows
-pub present : (a : Inside) (now : Words) → view_of a ≡ now → IsInside a → now.me < now.members
+pub present : (a : Inside) (now : Words) → rows_inside a ≡ now → IsInsideRows a → now.me < now.members
 present a now same inside = subst (λ (w : Words). w.me < w.members) same inside.form.present
 
 -- the word that was read at a place is that of its row and its column
@@ -25,7 +25,7 @@ word_read place members columns flat i c p x layout long h g at read =
     ∙ sym (word_at-rows_at place members columns flat i c h g)
 
 -- so it is the seen one
-pub seen_read : (a : Inside) (now : Words) (i c p x : ℕ) → view_of a ≡ now → IsInside a
+pub seen_read : (a : Inside) (now : Words) (i c p x : ℕ) → rows_inside a ≡ now → IsInsideRows a
     → i < now.members → c < now.columns
     → p ≡ c * now.members + i → x ≡ slice_index_or a.words.items p x → x ≡ seen now i c
 seen_read a now i c p x same inside = subst (λ (w : Words). i < w.members → c < w.columns
@@ -34,7 +34,7 @@ seen_read a now i c p x same inside = subst (λ (w : Words). i < w.members → c
     (IsLayout-by_column a.members a.columns) inside.words)
 
 -- or the one last pushed
-pub last_pushed_read : (a : Inside) (now : Words) (i c p x : ℕ) → view_of a ≡ now → IsInside a
+pub last_pushed_read : (a : Inside) (now : Words) (i c p x : ℕ) → rows_inside a ≡ now → IsInsideRows a
     → i < now.members → c < now.columns
     → p ≡ i * now.columns + c → x ≡ slice_index_or a.sent.items p x → x ≡ last_pushed now i c
 last_pushed_read a now i c p x same inside = subst (λ (w : Words). i < w.members → c < w.columns
@@ -43,13 +43,13 @@ last_pushed_read a now i c p x same inside = subst (λ (w : Words). i < w.member
     (IsLayout-by_row a.members a.columns) inside.sent)
 
 -- the own words are the own row
-pub own_row : (a : Inside) (now : Words) (flat : List ℕ) → view_of a ≡ now → IsInside a
+pub own_row : (a : Inside) (now : Words) (flat : List ℕ) → rows_inside a ≡ now → IsInsideRows a
     → flat ≡ a.own.items → flat ≡ row_of now.words now.me
 own_row a now flat same inside is =
     is ∙ inside.own ∙ ap (λ (w : Words). row_of w.words w.me) same
 
 -- of which there is one for each column
-pub own_long : (a : Inside) (now : Words) → view_of a ≡ now → IsInside a
+pub own_long : (a : Inside) (now : Words) → rows_inside a ≡ now → IsInsideRows a
     → length a.own.items ≡ now.columns
 own_long a now same inside =
     let form = inside.form in
@@ -57,29 +57,29 @@ own_long a now same inside =
     ∙ ap (λ (w : Words). w.columns) same
 
 -- and the one that was read is the own word
-pub own_read : (a : Inside) (now : Words) (c x : ℕ) → view_of a ≡ now → IsInside a
+pub own_read : (a : Inside) (now : Words) (c x : ℕ) → rows_inside a ≡ now → IsInsideRows a
     → c < now.columns → x ≡ slice_index_or a.own.items c x → x ≡ own now c
 own_read a now c x same inside low read =
     read ∙ get_or_default a.own.items c x 0 (omega (arith, low, own_long a now same inside))
     ∙ ap (λ row. get_or row c 0) (own_row a now a.own.items same inside (λ i. a.own.items))
 
 -- a word that was written at its place is a look
-pub looked_written : (a : Inside) (now : Words) (i c p v : ℕ) → view_of a ≡ now → IsInside a
+pub looked_written : (a : Inside) (now : Words) (i c p v : ℕ) → rows_inside a ≡ now → IsInsideRows a
     → i < now.members → c < now.columns
-    → p ≡ c * now.members + i → view_of (record a { words = with_item a.words p v })
+    → p ≡ c * now.members + i → rows_inside (record a { words = with_item a.words p v })
     ≡ looked now i c v
 looked_written a now i c p v same inside = subst (λ (w : Words). i < w.members → c < w.columns
-    → p ≡ c * w.members + i → view_of (record a { words = with_item a.words p v }) ≡ looked w i c v)
+    → p ≡ c * w.members + i → rows_inside (record a { words = with_item a.words p v }) ≡ looked w i c v)
     same (λ h g at.
-    ap (λ q. view_of (record a { words = with_item a.words q v })) at
-    ∙ ap (λ rows. record (view_of a) { words = rows })
+    ap (λ q. rows_inside (record a { words = with_item a.words q v })) at
+    ∙ ap (λ rows. record (rows_inside a) { words = rows })
     (rows_at-set (by_column a.members) a.members a.columns a.words.items i c v
     (IsLayout-by_column a.members a.columns) inside.words h g))
 
 -- a look at another row keeps the form of the vectors
-pub IsInside-looked : (a : Inside) (now : Words) (i c p v : ℕ) → view_of a ≡ now → IsInside a
+pub IsInside-looked : (a : Inside) (now : Words) (i c p v : ℕ) → rows_inside a ≡ now → IsInsideRows a
     → i < now.members → c < now.columns → i ≢ now.me
-    → p ≡ c * now.members + i → IsInside (record a { words = with_item a.words p v })
+    → p ≡ c * now.members + i → IsInsideRows (record a { words = with_item a.words p v })
 IsInside-looked a now i c p v same inside h g other at =
     let written = looked_written a now i c p v same inside h g at in
     record {
@@ -92,14 +92,14 @@ IsInside-looked a now i c p v same inside h g other at =
     }
 
 -- a place by the own number
-pub own_place : (a : Inside) (now : Words) (c p : ℕ) → view_of a ≡ now → p ≡ c * now.members + a.me
+pub own_place : (a : Inside) (now : Words) (c p : ℕ) → rows_inside a ≡ now → p ≡ c * now.members + a.me
     → p ≡ c * now.members + now.me
 own_place a now c p same at = at ∙ ap (λ (w : Words). c * now.members + w.me) same
 
 -- and so does an own word that was written at both of its places
-pub IsInside-own : (a : Inside) (now : Words) (c p v : ℕ) → view_of a ≡ now → IsInside a
+pub IsInside-own : (a : Inside) (now : Words) (c p v : ℕ) → rows_inside a ≡ now → IsInsideRows a
     → c < now.columns → p ≡ c * now.members + now.me
-    → IsInside (record a { own = with_item a.own c v; words = with_item a.words p v })
+    → IsInsideRows (record a { own = with_item a.own c v; words = with_item a.words p v })
 IsInside-own a now c p v same inside g at =
     let here = present a now same inside in
     let written = looked_written a now now.me c p v same inside here g at in
@@ -115,24 +115,24 @@ IsInside-own a now c p v same inside g at =
     }
 
 -- the own word that was written at its place is a push
-pub pushed_written : (a : Inside) (now : Words) (j c p v : ℕ) → view_of a ≡ now → IsInside a
+pub pushed_written : (a : Inside) (now : Words) (j c p v : ℕ) → rows_inside a ≡ now → IsInsideRows a
     → j < now.members → c < now.columns
     → p ≡ j * now.columns + c → v ≡ own now c
-    → view_of (record a { sent = with_item a.sent p v }) ≡ pushed now j c
+    → rows_inside (record a { sent = with_item a.sent p v }) ≡ pushed now j c
 pushed_written a now j c p v same inside = subst (λ (w : Words). j < w.members → c < w.columns
     → p ≡ j * w.columns + c → v ≡ own w c
-    → view_of (record a { sent = with_item a.sent p v }) ≡ pushed w j c) same (λ h g at word.
-    ap (λ q. view_of (record a { sent = with_item a.sent q v })) at
-    ∙ ap (λ rows. record (view_of a) { sent = rows })
+    → rows_inside (record a { sent = with_item a.sent p v }) ≡ pushed w j c) same (λ h g at word.
+    ap (λ q. rows_inside (record a { sent = with_item a.sent q v })) at
+    ∙ ap (λ rows. record (rows_inside a) { sent = rows })
     (rows_at-set (by_row a.columns) a.members a.columns a.sent.items j c v
     (IsLayout-by_row a.members a.columns) inside.sent h g)
-    ∙ ap (λ x. record (view_of a)
+    ∙ ap (λ x. record (rows_inside a)
     { sent = with_word (rows_at (by_row a.columns) a.members a.columns a.sent.items) j c x }) word)
 
 -- a push keeps the form of the vectors
-pub IsInside-pushed : (a : Inside) (now : Words) (j c p v : ℕ) → view_of a ≡ now → IsInside a
+pub IsInside-pushed : (a : Inside) (now : Words) (j c p v : ℕ) → rows_inside a ≡ now → IsInsideRows a
     → j < now.members → c < now.columns
-    → p ≡ j * now.columns + c → v ≡ own now c → IsInside (record a { sent = with_item a.sent p v })
+    → p ≡ j * now.columns + c → v ≡ own now c → IsInsideRows (record a { sent = with_item a.sent p v })
 IsInside-pushed a now j c p v same inside h g at word = record {
   form = subst IsWords (sym (pushed_written a now j c p v same inside h g at word))
       (IsWords-pushed now j c (subst IsWords same inside.form) h);
@@ -149,7 +149,7 @@ pub record IsBlank (a : Inside) : Type 0 where
   pub frozen : a.frozen.items ≡ replicate a.members false
 
 -- blank vectors mean the words of the beginning
-pub begun_blank : (a : Inside) → IsBlank a → view_of a ≡ begun a.members a.columns a.me
+pub begun_blank : (a : Inside) → IsBlank a → rows_inside a ≡ begun a.members a.columns a.me
 begun_blank a blank =
     let words = ap (rows_at (by_column a.members) a.members a.columns) blank.words
     ∙ rows_at-zeros (by_column a.members) a.members a.columns (IsLayout-by_column a.members a.columns) in
@@ -160,7 +160,7 @@ begun_blank a blank =
 
 -- blank vectors have their form, where members and columns are within their limits
 pub IsInside-begun : (a : Inside) → IsBlank a → a.members ≤ 16 → a.columns ≤ 1024
-    → a.me < a.members → IsInside a
+    → a.me < a.members → IsInsideRows a
 IsInside-begun a blank few narrow present = record {
   form = subst IsWords (sym (begun_blank a blank))
       (IsWords-begun a.members a.columns a.me few narrow present);
@@ -171,5 +171,5 @@ IsInside-begun a blank few narrow present = record {
 }
 
 -- blank vectors mean fresh words
-pub IsFresh-blank : (a : Inside) → IsBlank a → IsFresh (view_of a)
+pub IsFresh-blank : (a : Inside) → IsBlank a → IsFresh (rows_inside a)
 IsFresh-blank a blank = subst IsFresh (sym (begun_blank a blank)) (IsFresh-begun a.members a.columns a.me)

@@ -3,7 +3,7 @@ use Rattle.std.specs.Prelude.{◌≡◌, ℕ, ◌≤◌, true, false}
 use Rattle.dr_rows.specs.Words.{Words, row_of, seen, is_frozen, changed}
 
 -- the group and the own member are the same, no word fell, and a frozen row stays frozen and as it was
-pub record HasGrown (old new : Words) : Type 0 where
+pub record RowsGrew (old new : Words) : Type 0 where
   pub members : new.members ≡ old.members
   pub columns : new.columns ≡ old.columns
   pub me : new.me ≡ old.me

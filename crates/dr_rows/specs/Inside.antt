@@ -17,8 +17,8 @@ abbrev pub by_column : ℕ → ℕ → ℕ → ℕ
 by_column n i c = c * n + i
 
 -- the words that the fields mean
-abbrev pub view_of : Inside → Words
-view_of a = record {
+abbrev pub rows_inside : Inside → Words
+rows_inside a = record {
   members = a.members;
   columns = a.columns;
   me = a.me;
@@ -28,8 +28,8 @@ view_of a = record {
 }
 
 -- the words have their form, the vectors one place for each, and the own row is kept beside them
-pub record IsInside (a : Inside) : Type 0 where
-  pub form : IsWords (view_of a)
-  pub own : a.own.items ≡ row_of (view_of a).words a.me
+pub record IsInsideRows (a : Inside) : Type 0 where
+  pub form : IsWords (rows_inside a)
+  pub own : a.own.items ≡ row_of (rows_inside a).words a.me
   pub words : length a.words.items ≡ a.members * a.columns
   pub sent : length a.sent.items ≡ a.members * a.columns

@@ -30,16 +30,16 @@ impl Model for Rows {
 
     ghost Value = { Words };
 
-    ghost use Rattle.dr_rows.specs.Inside.{IsInside, view_of};
+    ghost use Rattle.dr_rows.specs.Inside.{IsInsideRows, rows_inside};
 
-    ghost view = { view_of };
+    ghost view = { rows_inside };
 
-    ghost invariant = { IsInside };
+    ghost invariant = { IsInsideRows };
 }
 
 impl Rows {
     ghost use Rattle.dr_rows.specs.Along.{looked_along, pushed_along};
-    ghost use Rattle.dr_rows.specs.Growth.{HasGrown, IsFresh};
+    ghost use Rattle.dr_rows.specs.Growth.{IsFresh, RowsGrew};
     ghost use Rattle.dr_rows.specs.Words.{IsWords, begun, changed, is_frozen, last_pushed, looked, own, pushed, renewed, row_of, seen, with_frozen, with_own};
 
     /// The rows of member `me` in a group of 1 to [`MAX_MEMBERS`] members, with at most 1,024 columns.
@@ -95,7 +95,7 @@ impl Rows {
         requires column { column < self.old.columns }
         requires grown { own self.old column ≤ word }
         ensures after { self.new ≡ with_own self.old column word }
-        ensures grown { HasGrown self.old self.new }
+        ensures grown { RowsGrew self.old self.new }
         ensures form { IsWords self.new }
     {
         let cell = self.cell(self.me, column);
@@ -144,7 +144,7 @@ impl Rows {
         requires unfrozen { is_frozen self.old row ≡ false }
         requires grown { seen self.old row column ≤ word }
         ensures after { self.new ≡ looked self.old row column word }
-        ensures grown { HasGrown self.old self.new }
+        ensures grown { RowsGrew self.old self.new }
         ensures form { IsWords self.new }
     {
         let cell = self.cell(row, column);
@@ -156,7 +156,7 @@ impl Rows {
         requires row { row < self.old.members }
         requires other { row ≢ self.old.me }
         ensures after { self.new ≡ with_frozen self.old row }
-        ensures grown { HasGrown self.old self.new }
+        ensures grown { RowsGrew self.old self.new }
         ensures form { IsWords self.new }
     {
         let row = usize::from(row);
@@ -187,7 +187,7 @@ impl Rows {
         requires to { to < self.old.members }
         requires column { column < self.old.columns }
         ensures after { self.new ≡ pushed self.old to column }
-        ensures grown { HasGrown self.old self.new }
+        ensures grown { RowsGrew self.old self.new }
         ensures form { IsWords self.new }
     {
         let word = self.own(column);
@@ -208,7 +208,7 @@ impl Rows {
             → seen self.old row c ≤ slice_index table.now (first + c) }
         ensures after { self.new
             ≡ looked_along row table.now first self.old from (self.old.columns - from) }
-        ensures grown { HasGrown self.old self.new }
+        ensures grown { RowsGrew self.old self.new }
         ensures form { IsWords self.new }
     {
         let columns = self.columns;
@@ -232,7 +232,7 @@ impl Rows {
         ensures after { let done = pushed_along to first
             (record { words = self.old; table = table.old; count = 0 }) from (self.old.columns - from) in
             (self.new ≡ done.words) × (table.new ≡ done.table) × (result ≡ done.count) }
-        ensures grown { HasGrown self.old self.new }
+        ensures grown { RowsGrew self.old self.new }
         ensures form { IsWords self.new }
     {
         let columns = self.columns;

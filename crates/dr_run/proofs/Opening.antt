@@ -17,7 +17,7 @@ use Rattle.dr_script.specs.declared.script.Script.{Script}
 use Rattle.dr_age.specs.Logged.{AreOpened, IsOpened}
 use Rattle.dr_age.specs.Begun.{HaveBegun}
 use Rattle.dr_age.proofs.Ends.{IsOver, all_failing, begun_fresh, each_at}
-use Rattle.dr_table.specs.Cards.{HasEnded}
+use Rattle.dr_table.specs.Cards.{IsAtEnd}
 use Rattle.dr_table.specs.Rule.{IsDealt}
 use Rattle.dr_threads.specs.Logs.{AreFor}
 
@@ -71,7 +71,7 @@ pub age_over : {D : Type 0} (told : D → Option Told) (faults : D → ℕ) (scr
     → IsGroup (group_of script start) → length script.messages ≡ script.members → 1 ≤ script.turns
     → (b : HaveBegun script start nth script.members members)
     → ((d : IsDealt members) → begun ≡ begun_program d.group d.setups) → IsRanFrom begun p
-    → All HasEnded p.members
+    → All IsAtEnd p.members
     → AreOpened (group_of script start) bases → length logs ≡ length bases
     → HaveServed told faults bases logs p.members → IsAgeOver told faults script start nth bases logs begun p
 age_over told faults script start nth members bases logs begun p group lists some b opens ran ended opened all

@@ -9,11 +9,11 @@ use Rattle.dr_text.specs.Writing.{WroteFront}
 use Rattle.dr_text.proofs.Sinks.{front_behind, front_longer}
 use Rattle.dr_seeing.specs.declared.output.Trouble.{Trouble}
 use Rattle.dr_seeing.specs.declared.output.Trouble.TheVariants as troubles
-use Rattle.dr_seeing.specs.Output.{HasCome, HasStopped, HasTold, IsUnderway, Tells, Written}
+use Rattle.dr_seeing.specs.Output.{HasTold, IsUnderway, Tells, WasBrokenOff, WasWrittenSoFar, Written}
 
 -- a text that was told in full before stays told in front of more
 stopped_longer : (t : Trouble) (held : Option (List ℕ)) (fell : ℕ) (text more : List ℕ) (now : Written)
-    → HasStopped t held fell text now → HasStopped t held fell (text ++ more) now
+    → WasBrokenOff t held fell text now → WasBrokenOff t held fell (text ++ more) now
 stopped_longer troubles.Sink held fell text more now is =
     (is.0, front_longer held now.held text more is.1)
 stopped_longer troubles.Memory held fell text more now is =
@@ -22,9 +22,9 @@ stopped_longer troubles.Memory held fell text more now is =
 -- where something is in the way, more is told without more being written
 pub tells_nothing : (t : Trouble) (text : List ℕ) (now : Written) → now.trouble ≡ Some t → Tells text now now
 tells_nothing t text now is = λ held fell before told.
-    subst (λ (o : Option Trouble). HasCome o held fell (before ++ text) now) (sym is)
+    subst (λ (o : Option Trouble). WasWrittenSoFar o held fell (before ++ text) now) (sym is)
     (stopped_longer t held fell before text now
-    (subst (λ (o : Option Trouble). HasCome o held fell before now) is told))
+    (subst (λ (o : Option Trouble). WasWrittenSoFar o held fell before now) is told))
 
 pub tells_stuck : (text : List ℕ) (now : Written) → is_some now.trouble ≡ true → Tells text now now
 tells_stuck text now stuck = by now.trouble refl stuck
@@ -37,8 +37,8 @@ tells_stuck text now stuck = by now.trouble refl stuck
 pub tells_more : (text : List ℕ) (old new : Written) → old.trouble ≡ None → new.trouble ≡ None
     → new.held ≡ old.held → new.faults ≡ old.faults → new.waiting ≡ old.waiting ++ text → Tells text old new
 tells_more text old new none free same calm waits = λ held fell before told.
-    let is = subst (λ (o : Option Trouble). HasCome o held fell before old) none told in
-    subst (λ (o : Option Trouble). HasCome o held fell (before ++ text) new) (sym free) (record {
+    let is = subst (λ (o : Option Trouble). WasWrittenSoFar o held fell before old) none told in
+    subst (λ (o : Option Trouble). WasWrittenSoFar o held fell (before ++ text) new) (sym free) (record {
       front = is.front;
       gained = subst (λ (h : Option (List ℕ)). Gains held h is.front) (sym same) is.gained;
       whole = ap (λ (l : List ℕ). l ++ text) is.whole ∙ append_assoc is.front old.waiting text
@@ -61,8 +61,8 @@ underway_front held fell text more old is =
 pub tells_wanting : (text : List ℕ) (old new : Written) → old.trouble ≡ None
     → new.trouble ≡ Some troubles.Memory → new.held ≡ old.held → new.faults ≡ old.faults → Tells text old new
 tells_wanting text old new none wanting same calm = λ held fell before told.
-    let is = subst (λ (o : Option Trouble). HasCome o held fell before old) none told in
-    subst (λ (o : Option Trouble). HasCome o held fell (before ++ text) new) (sym wanting) (
+    let is = subst (λ (o : Option Trouble). WasWrittenSoFar o held fell before old) none told in
+    subst (λ (o : Option Trouble). WasWrittenSoFar o held fell (before ++ text) new) (sym wanting) (
       calm ∙ is.calm,
       subst (λ (h : Option (List ℕ)). WroteFront held h (before ++ text)) (sym same)
           (underway_front held fell before text old is),
@@ -72,8 +72,8 @@ tells_wanting text old new none wanting same calm = λ held fell before told.
 pub tells_written : (old new : Written) → old.trouble ≡ None → new.trouble ≡ None
     → Gains old.held new.held old.waiting → new.faults ≡ old.faults → new.waiting ≡ [] → Tells [] old new
 tells_written old new none free gained calm waits = λ held fell before told.
-    let is = subst (λ (o : Option Trouble). HasCome o held fell before old) none told in
-    subst (λ (o : Option Trouble). HasCome o held fell (before ++ []) new) (sym free) (record {
+    let is = subst (λ (o : Option Trouble). WasWrittenSoFar o held fell before old) none told in
+    subst (λ (o : Option Trouble). WasWrittenSoFar o held fell (before ++ []) new) (sym free) (record {
       front = is.front ++ old.waiting;
       gained = gains_more held old.held new.held is.front old.waiting is.gained gained;
       whole = append-nil before ∙ is.whole
@@ -86,8 +86,8 @@ tells_written old new none free gained calm waits = λ held fell before told.
 pub tells_failed : (old new : Written) → old.trouble ≡ None → new.trouble ≡ Some troubles.Sink
     → WroteFront old.held new.held old.waiting → Rose old.faults new.faults → Tells [] old new
 tells_failed old new none failed front rose = λ held fell before told.
-    let is = subst (λ (o : Option Trouble). HasCome o held fell before old) none told in
-    subst (λ (o : Option Trouble). HasCome o held fell (before ++ []) new) (sym failed) (
+    let is = subst (λ (o : Option Trouble). WasWrittenSoFar o held fell before old) none told in
+    subst (λ (o : Option Trouble). WasWrittenSoFar o held fell (before ++ []) new) (sym failed) (
       subst (λ (n : ℕ). Rose n new.faults) is.calm rose,
       front_longer held new.held before []
           (subst (WroteFront held new.held) (sym is.whole)

@@ -14,7 +14,7 @@ use Rattle.dr_machine.specs.declared.event.Act.{Act}
 use Rattle.dr_machine.specs.declared.event.Act.TheVariants as acts
 use Rattle.dr_machine.specs.declared.step.Step.{Step}
 use Rattle.dr_machine.specs.declared.step.Step.TheVariants as steps
-use Rattle.dr_program.specs.Replica.{Replica, count, item_at, least_seen, me, next_index, promise, sender_at}
+use Rattle.dr_program.specs.Replica.{Replica, count, item_of_place, least_seen, me, next_index, promise, sender_of_place}
 use Rattle.dr_program.specs.Running.{Running, next_step}
 use Rattle.dr_program.specs.Steps.{found}
 use Rattle.dr_rows.specs.Words.{own, seen}
@@ -51,7 +51,7 @@ act_text r acts.Send = concat
     ∷ message_text (slice_index_or r.messages (next_index r) []) ∷ [])
 act_text r acts.Null = with_number (codes "null ") (count r (me r))
 act_text r acts.Deliver = concat
-    (codes "deliver " ∷ decimal r.next ∷ codes " " ∷ item_text r (sender_at r r.next) (item_at r r.next) ∷ [])
+    (codes "deliver " ∷ decimal r.next ∷ codes " " ∷ item_text r (sender_of_place r r.next) (item_of_place r r.next) ∷ [])
 act_text r acts.Publish = with_number (codes "publish ") r.logged
 act_text r acts.Report = with_number (codes "report ") (least_seen r LOGGED_COLUMN)
 act_text r acts.Mark = codes "mark"

@@ -22,18 +22,18 @@ pub record IsUnderway (held : Option (List ℕ)) (fell : ℕ) (text : List ℕ) 
   pub calm : now.faults ≡ fell
 
 -- a front part of the text was written; where memory was wanting, no call has failed
-abbrev pub HasStopped : Trouble → Option (List ℕ) → ℕ → List ℕ → Written → Type 0
-HasStopped troubles.Sink held fell text now = Rose fell now.faults × WroteFront held now.held text
-HasStopped troubles.Memory held fell text now = (now.faults ≡ fell) × WroteFront held now.held text
+abbrev pub WasBrokenOff : Trouble → Option (List ℕ) → ℕ → List ℕ → Written → Type 0
+WasBrokenOff troubles.Sink held fell text now = Rose fell now.faults × WroteFront held now.held text
+WasBrokenOff troubles.Memory held fell text now = (now.faults ≡ fell) × WroteFront held now.held text
 
 -- what has become of a text since the sink held that much and so many of its calls had failed, by what is
 -- in the way
-abbrev pub HasCome : Option Trouble → Option (List ℕ) → ℕ → List ℕ → Written → Type 0
-HasCome None held fell text now = IsUnderway held fell text now
-HasCome (Some trouble) held fell text now = HasStopped trouble held fell text now
+abbrev pub WasWrittenSoFar : Option Trouble → Option (List ℕ) → ℕ → List ℕ → Written → Type 0
+WasWrittenSoFar None held fell text now = IsUnderway held fell text now
+WasWrittenSoFar (Some trouble) held fell text now = WasBrokenOff trouble held fell text now
 
 abbrev pub HasTold : Option (List ℕ) → ℕ → List ℕ → Written → Type 0
-HasTold held fell text now = HasCome now.trouble held fell text now
+HasTold held fell text now = WasWrittenSoFar now.trouble held fell text now
 
 -- this text was told behind all that was told before
 abbrev pub Tells : List ℕ → Written → Written → Type 0

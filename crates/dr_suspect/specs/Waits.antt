@@ -18,8 +18,8 @@ pub record IsWaits (w : Waits) : Type 0 where
   pub beats : length w.beats ≡ MAX_MEMBERS
 
 -- for how many turns in a row there was no news of a row
-abbrev pub count_of : Waits → ℕ → ℕ
-count_of w i = slice_index w.counts i
+abbrev pub turns_without_news : Waits → ℕ → ℕ
+turns_without_news w i = slice_index w.counts i
 
 -- the beat of a row that was compared last
 abbrev pub beat_of : Waits → ℕ → ℕ
@@ -38,13 +38,13 @@ next_count count last beat = if beat == last then min (suc count) (2 ^ 32 - 1) e
 -- the waits once a row was seen whole: its beat is compared with the one that was compared last, and kept
 abbrev pub compared : Waits → Words → ℕ → Waits
 compared w rows i = record w {
-  counts = slice_set w.counts i (next_count (count_of w i) (beat_of w i) (seen rows i BEAT_COLUMN));
+  counts = slice_set w.counts i (next_count (turns_without_news w i) (beat_of w i) (seen rows i BEAT_COLUMN));
   beats = slice_set w.beats i (seen rows i BEAT_COLUMN);
 }
 
 -- whether the count of a row has reached the limit, and its member isn't done
 abbrev pub is_late : Waits → Words → ℕ → Bool
-is_late w rows i = not (nat_lt (count_of w i) w.limit) && seen rows i DONE_COLUMN == 0
+is_late w rows i = not (nat_lt (turns_without_news w i) w.limit) && seen rows i DONE_COLUMN == 0
 
 -- whether news of the row is waited for: of an unsuspected member other than the own
 abbrev pub is_awaited : Words → ℕ → ℕ → Bool

@@ -4,12 +4,12 @@ use Rattle.std.specs.Prelude.{slice_set}
 use Rattle.atomic_table.specs.Table.{Splits, Joins}
 use Rattle.dr_program.proofs.Holdings.{replica_kept}
 use Rattle.dr_program.specs.Running.{Running}
-use Rattle.dr_table.specs.Rule.{IsKept}
+use Rattle.dr_table.specs.Rule.{HasSuchProgram}
 use Rattle.dr_table.proofs.Lists.{by_table}
 use Rattle.dr_table.proofs.Places.{stands_cut, stands_joined}
 
 pub cut_allowed : (dealt : List Running) (id at : ℕ) (v : List Running)
-    → Splits {S = ℕ} {V = List Running} (λ s. IsKept dealt s.words s.views) id v (take at v) (drop at v)
+    → Splits {S = ℕ} {V = List Running} (λ s. HasSuchProgram dealt s.words s.views) id v (take at v) (drop at v)
 cut_allowed dealt id at v s k is = record {
   opening = k.opening;
   members = k.members;
@@ -18,7 +18,7 @@ cut_allowed dealt id at v s k is = record {
 }
 
 pub join_allowed : (dealt : List Running) (id : ℕ) (v : List Running) (other : ℕ) (w : List Running)
-    → Joins {S = ℕ} {V = List Running} (λ s. IsKept dealt s.words s.views) id v other w (v ++ w) []
+    → Joins {S = ℕ} {V = List Running} (λ s. HasSuchProgram dealt s.words s.views) id v other w (v ++ w) []
 join_allowed dealt id v other w s k is apart there = record {
   opening = k.opening;
   members = k.members;

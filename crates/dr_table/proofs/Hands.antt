@@ -18,8 +18,8 @@ use Rattle.dr_refine.proofs.Steps.{begun_is_program}
 use Rattle.dr_words.specs.Layout.{words_of}
 use Rattle.dr_words.specs.Columns.{columns_of}
 use Rattle.dr_words.proofs.Places.{word_index_within}
-use Rattle.dr_table.specs.Cards.{AreFew, AreOf, AreReached, Cards, HasEnded, HaveRoom, opened}
-use Rattle.dr_table.specs.Rule.{Found, IsDealt, IsKept, number}
+use Rattle.dr_table.specs.Cards.{AreFew, AreOf, AreReached, Cards, HaveRoom, IsAtEnd, opened}
+use Rattle.dr_table.specs.Rule.{Found, HasSuchProgram, IsDealt, number}
 use Rattle.dr_table.specs.Steps.{AreAhead, HasAppended, IsAhead}
 use Rattle.dr_age.proofs.Deeds.{unended_append}
 use Rattle.dr_table.proofs.Deeds.{append_due, appends_told}
@@ -148,7 +148,7 @@ append_stays outcomes.Ok r due =
     ap (λ q. q.end) (settle_replica _ _) ∙ unended_append 0 r.replica (next_step r) step ∙ none
 
 -- a member that has ended is as the seat knows it
-ended_same : (os : List Outcome) (r q : Running) → HasAppended os r q → HasEnded q → r ≡ q
+ended_same : (os : List Outcome) (r q : Running) → HasAppended os r q → IsAtEnd q → r ≡ q
 ended_same [] r q same ended = same
 ended_same (o ∷ os) r q (due, rest) ended = absurd (stays os (appended_as o r) rest (append_stays o r due))
   where
@@ -160,11 +160,11 @@ ended_same (o ∷ os) r q (due, rest) ended = absurd (stays os (appended_as o r)
     ))
     stays (p ∷ os) x (due, rest) none = stays os (appended_as p x) rest (append_stays p x due)
 
-pub seat_knows : (v rs : List Running) → AreAhead v rs → All HasEnded rs → v ≡ rs
+pub seat_knows : (v rs : List Running) → AreAhead v rs → All IsAtEnd rs → v ≡ rs
 seat_knows v rs are ended = same_elements v rs are.all (λ i r q there here.
     let (os, so) = are.each i r q there here in
     ended_same os r q so
-    (subst HasEnded (get_or_from_slice_get rs i q q here) (ended i q (slice_get_within rs i q here))))
+    (subst IsAtEnd (get_or_from_slice_get rs i q q here) (ended i q (slice_get_within rs i q here))))
 
 -- ---- members as they are dealt
 
@@ -240,7 +240,7 @@ none_ran begun p same = ([], same)
 -- the rule holds as the members are dealt, in one hand
 pub dealt_kept : (dealt : List Running) (d : IsDealt dealt) (words : ℕ)
     → words ≡ words_of (roster d.group) d.group.window (banks d.group)
-    → IsKept dealt (replicate words 0) (dealt ∷ [])
+    → HasSuchProgram dealt (replicate words 0) (dealt ∷ [])
 dealt_kept dealt d words same = record {
   opening = d;
   members = dealt;

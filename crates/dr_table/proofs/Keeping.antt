@@ -21,7 +21,7 @@ use Rattle.dr_refine.specs.Programs.{IsProgram}
 use Rattle.dr_refine.proofs.Deeds.{step_is}
 use Rattle.dr_age.proofs.Deeds.{after_append, any_outcome, at_look, deed_tells}
 use Rattle.dr_table.specs.Deeds.{IsStore}
-use Rattle.dr_table.specs.Rule.{IsKept, number}
+use Rattle.dr_table.specs.Rule.{HasSuchProgram, number}
 use Rattle.dr_table.specs.Steps.{HasAppended, IsAhead, IsOfProgram, IsReachedMember, Looked, MayFind, Stored}
 use Rattle.dr_table.proofs.Deeds.{after_told, append_due, appended_told, appends_ran, appends_told, deeds_ran, same_number, stores}
 use Rattle.dr_table.proofs.Lists.{by_table}
@@ -31,7 +31,7 @@ use Rattle.dr_table.proofs.Places.{stands_set}
 
 -- the program of the rule is one of its group, in a world that is reached
 pub kept_program : (dealt : List Running) (words : List ℕ) (views : List (List Running))
-    (k : IsKept dealt words views) (p : Program) → IsRanFrom (begun_program k.opening.group k.opening.setups)
+    (k : HasSuchProgram dealt words views) (p : Program) → IsRanFrom (begun_program k.opening.group k.opening.setups)
     p
     → IsProgram k.opening.group p × IsReached k.opening.group (world k.opening.group p)
 kept_program dealt words views k p ran =
@@ -104,7 +104,7 @@ kept_step : (dealt : List Running) (words cells : List ℕ) (views : List (List 
     → ((begun : Program) (members : List Running) → slice_get members (number r) ≡ Some r
     → IsRanFrom begun (record { members = members; table = words })
     → IsRanFrom begun (record { members = slice_set members (number r) x; table = cells }))
-    → IsKept dealt words views → IsKept dealt cells (slice_set views id (slice_set v at x))
+    → HasSuchProgram dealt words views → HasSuchProgram dealt cells (slice_set views id (slice_set v at x))
 kept_step dealt words cells views id v at r x is here same moves k = record {
   opening = k.opening;
   members = slice_set k.members (number r) x;
@@ -117,7 +117,7 @@ kept_step dealt words cells views id v at r x is here same moves k = record {
 may_find : (dealt : List Running) (words : List ℕ) (views : List (List Running)) (id : ℕ)
     (v : List Running) (at : ℕ) (os : List Outcome) (r q : Running) (index : ℕ) → slice_get views id ≡ Some v
     → slice_get v at ≡ Some r → HasAppended os r q → next_deed q ≡ deeds.Look index
-    → IsKept dealt words views → MayFind q (slice_index words index)
+    → HasSuchProgram dealt words views → MayFind q (slice_index words index)
 may_find dealt words views id v at os r q index is here more next k =
     let there = k.stands.each id at r (v, is, here) in
     let named = same_number r q (appends_told os r q more) in
@@ -137,7 +137,7 @@ may_find dealt words views id v at os r q index is here more next k =
 
 pub look_allowed : (dealt : List Running) (slots id at index : ℕ) (me : Me ℕ (List Running)) (r q : Running)
     → slice_get me.0 at ≡ Some r → IsAhead r q → next_deed q ≡ deeds.Look index
-    → Allows {S = ℕ} {V = List Running} (λ s. IsKept dealt s.words s.views) slots id me index (λ n. n)
+    → Allows {S = ℕ} {V = List Running} (λ s. HasSuchProgram dealt s.words s.views) slots id me index (λ n. n)
     (λ n w. Looked at q me.0 n w.0 × (w.1 ≡ me.1))
 look_allowed dealt slots id at index me r q here (os, more) next s k _ is _ =
     let v = me.0 in
@@ -155,14 +155,14 @@ look_allowed dealt slots id at index me r q here (os, more) next s k _ is _ =
       slice_set v at x,
       keeps,
       tt,
-      subst (λ ws. IsKept dealt ws (slice_set s.views id (slice_set v at x)))
+      subst (λ ws. HasSuchProgram dealt ws (slice_set s.views id (slice_set v at x)))
           (sym (set-get_or s.words index 0)) kept,
       ((refl, may_find dealt s.words s.views id v at os r q index home here more next k), refl),
     )
 
 pub store_allowed : (dealt : List Running) (slots id at index new : ℕ) (me : Me ℕ (List Running))
     (r q : Running) → slice_get me.0 at ≡ Some r → IsAhead r q → IsStore index new (next_deed q)
-    → Allows {S = ℕ} {V = List Running} (λ s. IsKept dealt s.words s.views) slots id me index (λ _. new)
+    → Allows {S = ℕ} {V = List Running} (λ s. HasSuchProgram dealt s.words s.views) slots id me index (λ _. new)
     (λ _ w. Stored at q me.0 w.0 × (w.1 ≡ me.1))
 store_allowed dealt slots id at index new me r q here (os, more) next s k _ is _ =
     let v = me.0 in

@@ -13,7 +13,7 @@ use Rattle.dr_words.specs.Layout.{words_of}
 use Rattle.dr_turn.specs.Work.{deeds_left}
 use Rattle.dr_table.specs.Cards.{AreOf, AreReached, Cards, HasFewerLeft, HaveRoom}
 use Rattle.dr_table.specs.declared.hand.Hand.TheInside.{Inside}
-use Rattle.dr_table.specs.Inside.{IsInside, cards_of}
+use Rattle.dr_table.specs.Inside.{IsInsideHand, cards_of}
 use Rattle.dr_table.specs.Steps.{AreAhead, IsAhead, IsReachedMember}
 use Rattle.dr_table.proofs.Deeds.{appended_told}
 use Rattle.dr_table.proofs.Hands.{ahead_more, ahead_set, each_set}
@@ -21,12 +21,12 @@ use Rattle.dr_table.proofs.Keeping.{append_reached}
 
 -- member m stands at this place of a hand
 pub record StandsAt (h : Inside) (hand : Cards) (at : ℕ) (m : Running) : Type 0 where
-  pub is : IsInside h
+  pub is : IsInsideHand h
   pub items : h.members.items ≡ hand.members
   pub here : slice_get h.members.items at ≡ Some m
 
 -- that is the one that an index lends
-pub lent : {h : Inside} {hand : Cards} {at : ℕ} {m : Running} → IsInside h → cards_of h ≡ hand
+pub lent : {h : Inside} {hand : Cards} {at : ℕ} {m : Running} → IsInsideHand h → cards_of h ≡ hand
     → at < length hand.members → m ≡ get_or h.members.items at m → StandsAt h hand at m
 lent {h} {hand} {at} {m} is view within value =
     let items = ap (λ (w : Cards). w.members) view in
@@ -66,7 +66,7 @@ pub inside_after : {h : Inside} {hand : Cards} {at : ℕ} {m : Running} (k : Ins
     → StandsAt h hand at m → told x.replica ≡ told m.replica → IsReachedMember x
     → k.members.items ≡ slice_set h.members.items at x → vec_capacity k.members ≡ vec_capacity h.members
     → k.seat.table_id ≡ h.seat.table_id → k.seat.me.1 ≡ []
-    → AreAhead k.seat.me.0 (slice_set h.members.items at x) → IsInside k
+    → AreAhead k.seat.me.0 (slice_set h.members.items at x) → IsInsideHand k
 inside_after {h} {hand} {at} {m} k x s same reached items room table slots ahead = record {
   ahead = subst (AreAhead k.seat.me.0) (sym items) ahead;
   slots = slots;
@@ -84,7 +84,7 @@ pub stepped_inside : {h : Inside} {hand : Cards} {at : ℕ} {m : Running} (k : I
     → StandsAt h hand at m → told x.replica ≡ told m.replica → IsReachedMember x
     → k.members.items ≡ slice_set h.members.items at x → vec_capacity k.members ≡ vec_capacity h.members
     → k.seat.table_id ≡ h.seat.table_id → k.seat.me.1 ≡ []
-    → k.seat.me.0 ≡ slice_set h.seat.me.0 at r → IsAhead r x → IsInside k
+    → k.seat.me.0 ≡ slice_set h.seat.me.0 at r → IsAhead r x → IsInsideHand k
 stepped_inside {h} {hand} {at} {m} k r x s same reached items room table slots to ahead =
     inside_after k x s same reached items room table slots
     (subst (λ v. AreAhead v (slice_set h.members.items at x)) (sym to)
@@ -94,7 +94,7 @@ stepped_inside {h} {hand} {at} {m} k r x s same reached items room table slots t
 pub appended_inside : {h : Inside} {hand : Cards} {at : ℕ} {m : Running} (k : Inside) (o : Outcome)
     (x : Running) → StandsAt h hand at m → is_append (next_deed m) ≡ true → x ≡ appended_as o m
     → k.members.items ≡ slice_set h.members.items at x → vec_capacity k.members ≡ vec_capacity h.members
-    → k.seat ≡ h.seat → IsInside k
+    → k.seat ≡ h.seat → IsInsideHand k
 appended_inside {h} {hand} {at} {m} k o x s due to items room seat =
     inside_after k x s (ap (λ (q : Running). told q.replica) to ∙ appended_told o m)
     (subst IsReachedMember (sym to) (append_reached m o due (s.is.reached at m s.here))) items room

@@ -10,7 +10,7 @@ use Rattle.dr_program.specs.declared.setup.Setup.{Setup}
 use Rattle.dr_program.specs.Running.{Running, begun_running}
 use Rattle.dr_refine.specs.Programs.{IsProgram}
 use Rattle.dr_table.specs.Cards.{AreFew, AreSame}
-use Rattle.dr_table.specs.Rule.{IsDealt, IsKept, number}
+use Rattle.dr_table.specs.Rule.{HasSuchProgram, IsDealt, number}
 use Rattle.dr_table.proofs.Lists.{by_table, same_elements, set_again}
 use Rattle.dr_table.proofs.Keeping.{kept_program}
 
@@ -113,7 +113,7 @@ named_at v i x e = by (slice_get v i) refl (sym (slice_get-map number v i) ∙ e
     by (Some r) there same = (r, there, same_Some (number r) x same)
 
 few : (dealt : List Running) (words : List ℕ) (views : List (List Running)) (id : ℕ) (v : List Running)
-    → slice_get views id ≡ Some v → IsKept dealt words views → AreFew v
+    → slice_get views id ≡ Some v → HasSuchProgram dealt words views → AreFew v
 few dealt words views id v is k = (
   roster k.opening.group,
   subst (λ n. n ≤ roster k.opening.group) (length-map v number)
@@ -136,15 +136,15 @@ few dealt words views id v is k = (
     form = (kept_program dealt words views k (record { members = k.members; table = words }) k.ran).0
 
 pub count_allowed : (dealt : List Running) (slots id : ℕ) (me : Me ℕ (List Running))
-    → Allows {S = ℕ} {V = List Running} (λ s. IsKept dealt s.words s.views) slots id me 0 (λ n. n)
+    → Allows {S = ℕ} {V = List Running} (λ s. HasSuchProgram dealt s.words s.views) slots id me 0 (λ n. n)
     (λ _ w. (w ≡ me) × AreFew me.0)
 count_allowed dealt slots id me s k _ is _ =
     let home = by_table s.views id me.0 is in (
       me.0,
       keeps,
       tt,
-      subst (λ ws. IsKept dealt ws (slice_set s.views id me.0)) (sym (set-get_or s.words 0 0))
-          (subst (λ vs. IsKept dealt s.words vs) (sym (set_again s.views id me.0 home)) k),
+      subst (λ ws. HasSuchProgram dealt ws (slice_set s.views id me.0)) (sym (set-get_or s.words 0 0))
+          (subst (λ vs. HasSuchProgram dealt s.words vs) (sym (set_again s.views id me.0 home)) k),
       (refl, few dealt s.words s.views id me.0 home k),
     )
 
@@ -164,7 +164,7 @@ dealt_named dealt d i x e =
 
 -- a hand that holds the dealt members, in their order, holds those of the program
 pub whole : (dealt : List Running) (words : List ℕ) (views : List (List Running)) (id : ℕ)
-    (v : List Running) → slice_get views id ≡ Some v → AreSame dealt v → (k : IsKept dealt words views)
+    (v : List Running) → slice_get views id ≡ Some v → AreSame dealt v → (k : HasSuchProgram dealt words views)
     → k.members ≡ v
 whole dealt words views id v is same k = same_elements k.members v lengths here
   where

@@ -10,9 +10,9 @@ use Rattle.dr_words.specs.Layout.{words_of}
 use Rattle.dr_table.specs.Cards.{Cards}
 use Rattle.dr_table.specs.Deeds.{IsStore}
 use Rattle.dr_table.specs.declared.hand.Hand.TheInside.{Inside}
-use Rattle.dr_table.specs.Inside.{IsInside}
+use Rattle.dr_table.specs.Inside.{IsInsideHand}
 use Rattle.dr_table.specs.Steps.{IsReachedMember, MayFind}
-use Rattle.dr_table.specs.Sweeps.{HasCome, HasSwept, HasTaken, IsSwept}
+use Rattle.dr_table.specs.Sweeps.{HasComeBySweep, HasSwept, HasTaken, IsSwept}
 use Rattle.dr_table.proofs.Deeds.{after_told, stores}
 use Rattle.dr_table.proofs.Hands.{seat_has}
 use Rattle.dr_table.proofs.Lists.{set_again}
@@ -34,7 +34,7 @@ taken_told (word ∷ words) r q (swept, found, rest) =
 
 -- no deed was taken yet
 pub come_begins : {h : Inside} {hand : Cards} {at : ℕ} {m : Running} → StandsAt h hand at m
-    → HasCome h.seat.table_id.words h.seat.me.0 m h.seat.me.0 at m
+    → HasComeBySweep h.seat.table_id.words h.seat.me.0 m h.seat.me.0 at m
 come_begins {h} {hand} {at} {m} s =
     let (r, there, ahead) = seat_has h.seat.me.0 h.members.items at m s.is.ahead s.here in
     record {
@@ -46,9 +46,9 @@ come_begins {h} {hand} {at} {m} s =
 
 -- one more was taken
 pub come_on : (size : ℕ) (v : List Running) (from : Running) (w u : List Running) (at : ℕ) (q : Running)
-    (word : ℕ) → HasCome size v from w at q → IsSwept (next_deed q) → MayFind q word
+    (word : ℕ) → HasComeBySweep size v from w at q → IsSwept (next_deed q) → MayFind q word
     → u ≡ slice_set w at (after_step word q) → IsReachedMember (after_step word q)
-    → HasCome size v from u at (after_step word q)
+    → HasComeBySweep size v from u at (after_step word q)
 come_on size v from w u at q word come swept found to reached =
     let x = after_step word q in
     let (words, taken) = come.taken in
@@ -84,7 +84,7 @@ push_swept q index new next = subst IsSwept (sym next) tt
 pub swept_inside : {h : Inside} {hand : Cards} {at : ℕ} {m : Running} (k : Inside) (x : Running)
     → StandsAt h hand at m → k.members.items ≡ slice_set h.members.items at x
     → vec_capacity k.members ≡ vec_capacity h.members → k.seat.table_id ≡ h.seat.table_id → k.seat.me.1 ≡ []
-    → HasCome k.seat.table_id.words h.seat.me.0 m k.seat.me.0 at x → IsInside k
+    → HasComeBySweep k.seat.table_id.words h.seat.me.0 m k.seat.me.0 at x → IsInsideHand k
 swept_inside {m = m} k x s items room table slots come =
     let (words, taken) = come.taken in
     let (r, ahead, there, to) = come.seat in

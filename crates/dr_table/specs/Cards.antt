@@ -40,8 +40,8 @@ abbrev pub AreReached : List Running → Type 0
 AreReached members = (k : ℕ) (r : Running) → slice_get members k ≡ Some r → IsReachedMember r
 
 -- the member has ended
-abbrev pub HasEnded : Running → Type 0
-HasEnded r = IsTrue (is_some r.replica.end)
+abbrev pub IsAtEnd : Running → Type 0
+IsAtEnd r = IsTrue (is_some r.replica.end)
 
 -- the same members, in the same order
 abbrev pub AreSame : List Running → List Running → Type 0

@@ -7,7 +7,7 @@ use Rattle.dr_table.specs.declared.hand.Hand.TheInside.{Inside}
 abbrev pub cards_of : Inside → Cards
 cards_of h = record { table = h.seat.table_id; members = h.members.items }
 
-pub record IsInside (h : Inside) : Type 0 where
+pub record IsInsideHand (h : Inside) : Type 0 where
   -- the seat knows the members as its last step left them; appends since then are theirs alone
   pub ahead : AreAhead h.seat.me.0 h.members.items
   pub slots : h.seat.me.1 ≡ []

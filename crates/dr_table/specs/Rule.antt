@@ -35,7 +35,7 @@ pub record Stands (views : List (List Running)) (members : List Running) : Type 
 
 -- there is such a program: it has these words, its members are those of the seats, and it has come from the
 -- dealt members by some deeds
-pub record IsKept (dealt : List Running) (words : List ℕ) (views : List (List Running)) : Type 0 where
+pub record HasSuchProgram (dealt : List Running) (words : List ℕ) (views : List (List Running)) : Type 0 where
   pub opening : IsDealt dealt
   pub members : List Running
   pub ran : IsRanFrom (begun_program opening.group opening.setups)

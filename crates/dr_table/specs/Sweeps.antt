@@ -24,7 +24,7 @@ HasSwept old at new = (r : Running) → slice_get old at ≡ Some r
 
 -- a seat that knew the hand v knows w, and the member at this place, which was `from`, is q now: it has taken
 -- some looks and pushes, over a table of so many words
-pub record HasCome (size : ℕ) (v : List Running) (from : Running) (w : List Running) (at : ℕ) (q : Running)
+pub record HasComeBySweep (size : ℕ) (v : List Running) (from : Running) (w : List Running) (at : ℕ) (q : Running)
     : Type 0 where
   pub taken : (words : List ℕ) × HasTaken words from q
   pub seat : (r : Running) × IsAhead r q × (slice_get w at ≡ Some r) × (w ≡ slice_set v at r)

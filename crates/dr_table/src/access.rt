@@ -9,12 +9,12 @@ use std::marker::Brand;
 
 impl Access<Board> for Seat<u64, View> {
     ghost use Rattle.std.specs.Prelude.{◌≡◌, []};
-    ghost use Rattle.dr_table.specs.Sweeps.{HasCome};
+    ghost use Rattle.dr_table.specs.Sweeps.{HasComeBySweep};
 
     ghost home = { λ seat board. seat.table_id ≡ board.table };
 
     ghost came = { λ first from seat at now.
-        (seat.table_id ≡ first.table_id) × (seat.me.1 ≡ []) × HasCome seat.table_id.words first.me.0 from
+        (seat.table_id ≡ first.table_id) × (seat.me.1 ≡ []) × HasComeBySweep seat.table_id.words first.me.0 from
         seat.me.0 at now };
 
     #[inline(always)]

@@ -1,7 +1,7 @@
 //! The board of an age: its words, dealt and closed.
 ghost use Rattle.std.specs.Prelude.{◌≡◌, All, IfOk, ℕ, List};
 ghost use Rattle.dr_program.specs.Program.{IsRanFrom, begun_program};
-ghost use Rattle.dr_table.specs.Cards.{AreSame, HasEnded, opened};
+ghost use Rattle.dr_table.specs.Cards.{AreSame, IsAtEnd, opened};
 ghost use Rattle.dr_table.specs.Rule.{IsDealt};
 
 use crate::hand::Hand;
@@ -53,7 +53,7 @@ pub fn deal(alloc: Global, members: Vec<Member>) -> Result<(Board, Hand), AllocE
 pub fn close(board: Board, hand: Hand) -> Vec<Member>
     requires board { hand.table ≡ board.table }
     requires all { AreSame board.members hand.members }
-    requires ended { All HasEnded hand.members }
+    requires ended { All IsAtEnd hand.members }
     ensures members { result.items ≡ hand.members }
     ensures ran { (words : List ℕ)
         × IsRanFrom (opened board) (record { members = result.items; table = words }) }

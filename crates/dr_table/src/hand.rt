@@ -27,11 +27,11 @@ impl Model for Hand {
 
     ghost Value = { Cards };
 
-    ghost use Rattle.dr_table.specs.Inside.{IsInside, cards_of};
+    ghost use Rattle.dr_table.specs.Inside.{IsInsideHand, cards_of};
 
     ghost view = { cards_of };
 
-    ghost invariant = { IsInside };
+    ghost invariant = { IsInsideHand };
 }
 
 impl Hand {

@@ -12,9 +12,9 @@ pub type View = LinkedList<Member>;
 pub struct Ruled;
 
 impl TableRule<u64, View, Vec<Member>> for Ruled {
-    ghost use Rattle.dr_table.specs.Rule.{IsKept};
+    ghost use Rattle.dr_table.specs.Rule.{HasSuchProgram};
 
-    ghost holds = { λ dealt s. IsKept dealt.items s.words s.views };
+    ghost holds = { λ dealt s. HasSuchProgram dealt.items s.words s.views };
 
     ghost first = { λ dealt. dealt.items };
 }

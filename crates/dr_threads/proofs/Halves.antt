@@ -11,10 +11,10 @@ use Rattle.dr_history_laws.proofs.Lists.{slice_get-some}
 use Rattle.dr_log.specs.State.{LogState}
 use Rattle.dr_logged.specs.Served.{HaveServed}
 use Rattle.dr_program.specs.Running.{Running}
-use Rattle.dr_table.specs.Cards.{Cards, HasEnded}
+use Rattle.dr_table.specs.Cards.{Cards, IsAtEnd}
 use Rattle.dr_table.specs.Rule.{number}
 use Rattle.dr_table.proofs.Lists.{at_drop, at_take}
-use Rattle.dr_threads.specs.Answers.{IsAnswer, logs_of}
+use Rattle.dr_threads.specs.Answers.{IsHandAnswer, logs_of}
 use Rattle.dr_threads.specs.Course.{HaveRun}
 use Rattle.dr_threads.specs.Logs.{AreFor, AreLonger, IsLonger}
 use Rattle.dr_threads.proofs.Runs.{as_many}
@@ -77,8 +77,8 @@ module _ {D : Type 0} (told : D → Option Told) (faults : D → ℕ) where
       same = ap (map number) is ∙ map-append number a.members b.members
           ∙ (λ z. h.over.same z ++ k.over.same z)
           ∙ sym (map-append number before after);
-      ended = subst (λ l. All HasEnded l) (sym is)
-          (all_append HasEnded a.members b.members h.over.ended k.over.ended);
+      ended = subst (λ l. All IsAtEnd l) (sym is)
+          (all_append IsAtEnd a.members b.members h.over.ended k.over.ended);
     };
     all = ap length to ∙ length-append news newer ∙ (λ z. h.all z + k.all z) ∙ sym (length-append logs more);
     served = subst (λ l. HaveServed told faults (logs ++ more) l both.members) (sym to)
@@ -93,7 +93,7 @@ module _ {D : Type 0} (told : D → Option Told) (faults : D → ℕ) where
 
   -- the logs of an answer are longer
   answer_longer : (table : TableId) (before : List Running) (logs : List (LogState D)) (r : Answer D)
-      → length logs ≡ length before → IsAnswer told faults table before logs r
+      → length logs ≡ length before → IsHandAnswer told faults table before logs r
       → AreLonger told faults logs (logs_of r)
   answer_longer table before logs (Err r) m h = h
   answer_longer table before logs (Ok r) m h = record {
@@ -114,8 +114,8 @@ module _ {D : Type 0} (told : D → Option Told) (faults : D → ℕ) where
   -- so are those of two answers
   pub both_longer : (table : TableId) (before after : List Running) (logs more all : List (LogState D))
       (first second : Answer D) → all ≡ logs_of first ++ logs_of second → length logs ≡ length before
-      → length more ≡ length after → IsAnswer told faults table before logs first
-      → IsAnswer told faults table after more second → AreLonger told faults (logs ++ more) all
+      → length more ≡ length after → IsHandAnswer told faults table before logs first
+      → IsHandAnswer told faults table after more second → AreLonger told faults (logs ++ more) all
   both_longer table before after logs more all first second to m n h k = record {
     all = ap length to ∙ length-append (logs_of first) (logs_of second) ∙ (λ z. a.all z + b.all z)
         ∙ sym (length-append logs more);

@@ -16,7 +16,7 @@ use Rattle.dr_program.specs.Running.{Running, after_step, next_deed, next_step}
 use Rattle.dr_age.proofs.Deeds.{at_look, at_push}
 use Rattle.dr_age.proofs.Sound.{appends_well}
 use Rattle.dr_turn.specs.Work.{deeds_left}
-use Rattle.dr_table.specs.Cards.{AreSame, HasEnded, HasFewerLeft}
+use Rattle.dr_table.specs.Cards.{AreSame, HasFewerLeft, IsAtEnd}
 use Rattle.dr_table.specs.Rule.{number}
 use Rattle.dr_table.specs.Steps.{IsReachedMember}
 use Rattle.dr_table.specs.Sweeps.{HasSwept, HasTaken, IsSwept}
@@ -123,14 +123,14 @@ pub as_many : (rs qs : List Running) → AreSame rs qs → length qs ≡ length 
 as_many rs qs same = sym (length-map qs number) ∙ ap length same ∙ length-map rs number
 
 -- the one member has ended
-pub one_ended : (rs : List Running) (r : Running) → length rs ≡ 1 → slice_get rs 0 ≡ Some r → HasEnded r
-    → All HasEnded rs
+pub one_ended : (rs : List Running) (r : Running) → length rs ≡ 1 → slice_get rs 0 ≡ Some r → IsAtEnd r
+    → All IsAtEnd rs
 one_ended [] r one there ended k d within = absurd (omega arith)
 one_ended (x ∷ y ∷ ys) r one there ended k d within = absurd (omega arith)
-one_ended (x ∷ []) r one there ended zero d within = subst HasEnded (sym (same_Some x r there)) ended
+one_ended (x ∷ []) r one there ended zero d within = subst IsAtEnd (sym (same_Some x r there)) ended
 one_ended (x ∷ []) r one there ended (suc k) d within = absurd (omega arith)
 
 -- a member that tells an end has ended
-pub ended_by : (r : Running) (o : Option End) → o ≡ r.replica.end → is_some o ≡ true → HasEnded r
+pub ended_by : (r : Running) (o : Option End) → o ≡ r.replica.end → is_some o ≡ true → IsAtEnd r
 ended_by r None is some = absurd (true≢false (sym some))
 ended_by r (Some end) is some = subst (λ x. IsTrue (is_some x)) is refl

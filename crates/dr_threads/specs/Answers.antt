@@ -23,7 +23,7 @@ module _ {D : Type 0} where
 
   -- the members have run to their ends, and each log has served its member; or each log has what it had, and
   -- maybe more
-  abbrev pub IsAnswer : (D → Option Told) → (D → ℕ) → TableId → List Running → List (LogState D)
+  abbrev pub IsHandAnswer : (D → Option Told) → (D → ℕ) → TableId → List Running → List (LogState D)
       → Result (Cards × Vec (LogState D) Global) (Vec (LogState D) Global × AllocError) → Type 0
-  IsAnswer told faults table before logs (Ok r) = HaveRun told faults table before logs r.0 r.1.items
-  IsAnswer told faults table before logs (Err r) = AreLonger told faults logs r.0.items
+  IsHandAnswer told faults table before logs (Ok r) = HaveRun told faults table before logs r.0 r.1.items
+  IsHandAnswer told faults table before logs (Err r) = AreLonger told faults logs r.0.items

@@ -5,7 +5,7 @@ use Rattle.dr_disk.specs.Disk.{Told}
 use Rattle.dr_log.specs.State.{LogState}
 use Rattle.dr_logged.specs.Served.{HasServed, HaveServed, IsReady}
 use Rattle.dr_program.specs.Running.{Running}
-use Rattle.dr_table.specs.Cards.{AreSame, AtPlace, Cards, HasEnded}
+use Rattle.dr_table.specs.Cards.{AreSame, AtPlace, Cards, IsAtEnd}
 
 -- a hand of one member and its log have gone on: it is the same member still, and its log ready and served
 pub record HasGone {D : Type 0} (told : D → Option Told) (faults : D → ℕ) (rs : List Running)
@@ -20,7 +20,7 @@ pub record HasGone {D : Type 0} (told : D → Option Told) (faults : D → ℕ) 
 pub record IsEndOf (table : TableId) (before : List Running) (after : Cards) : Type 0 where
   pub home : after.table ≡ table
   pub same : AreSame before after.members
-  pub ended : All HasEnded after.members
+  pub ended : All IsAtEnd after.members
 
 -- and each log has served its member
 pub record HaveRun {D : Type 0} (told : D → Option Told) (faults : D → ℕ) (table : TableId)

@@ -3,7 +3,7 @@ ghost use Rattle.std.specs.Prelude.{◌≡◌, ◌<◌, ◌≤◌, ◌+◌, ◌+
 ghost use Rattle.std.specs.Thread.{IsSync};
 ghost use Rattle.dr_log.specs.State.{LogState};
 ghost use Rattle.dr_program.specs.Running.{Running};
-ghost use Rattle.dr_threads.specs.Answers.{IsAnswer, logs_of, room_of};
+ghost use Rattle.dr_threads.specs.Answers.{IsHandAnswer, logs_of, room_of};
 ghost use Rattle.dr_threads.specs.Logs.{AreFor};
 
 use crate::member::run_member;
@@ -33,7 +33,7 @@ pub fn run_age<R: Threads + Sync, D: Disk, P: Pace + Sync>(
     requires board { hand.table ≡ board.now.table }
     requires some { 0 < length hand.members }
     requires logs { AreFor logs.items hand.members }
-    ensures run { IsAnswer D.told D.faults board.now.table hand.members logs.items result }
+    ensures run { IsHandAnswer D.told D.faults board.now.table hand.members logs.items result }
     ensures room { vec_capacity logs ≤ room_of result }
 {
     if hand.len() == 1 {
@@ -45,13 +45,13 @@ pub fn run_age<R: Threads + Sync, D: Disk, P: Pace + Sync>(
         move || -> Result<(Hand, Vec<Log<D>>), (Vec<Log<D>>, AllocError)>
             requires { IsSync R.row × IsSync P.row × (left.table ≡ board.now.table)
                 × (0 < length left.members) × AreFor logs.items left.members }
-            ensures { IsAnswer D.told D.faults board.entry.now.table left.members logs.items result
+            ensures { IsHandAnswer D.told D.faults board.entry.now.table left.members logs.items result
                 × (vec_capacity logs ≤ room_of result) }
         { run_age(rt, alloc, board, left, logs, pace) },
         move || -> Result<(Hand, Vec<Log<D>>), (Vec<Log<D>>, AllocError)>
             requires { IsSync R.row × IsSync P.row × (right.table ≡ board.now.table)
                 × (0 < length right.members) × AreFor more.items right.members }
-            ensures { IsAnswer D.told D.faults board.entry.now.table right.members more.items result }
+            ensures { IsHandAnswer D.told D.faults board.entry.now.table right.members more.items result }
         { run_age(rt, alloc, board, right, more, pace) },
     );
     gather_ends(board, first, second)
@@ -68,7 +68,7 @@ fn run_one<D: Disk, P: Pace>(
     requires board { hand.table ≡ board.now.table }
     requires one { length hand.members ≡ 1 }
     requires logs { AreFor logs.items hand.members }
-    ensures run { IsAnswer D.told D.faults board.now.table hand.members logs.items result }
+    ensures run { IsHandAnswer D.told D.faults board.now.table hand.members logs.items result }
     ensures room { vec_capacity logs ≤ room_of result }
 {
     let member = hand.member(0);
@@ -123,9 +123,9 @@ fn gather_ends<D: Disk>(
     requires room { length (logs_of first) + length (logs_of second) ≤ room_of first }
     ensures run { (before after : List Running) (logs more : List (LogState D)) → length logs ≡ length before
         → length more ≡ length after
-        → IsAnswer D.told D.faults board.now.table before logs first
-        → IsAnswer D.told D.faults board.now.table after more second
-        → IsAnswer D.told D.faults board.now.table (before ++ after) (logs ++ more) result }
+        → IsHandAnswer D.told D.faults board.now.table before logs first
+        → IsHandAnswer D.told D.faults board.now.table after more second
+        → IsHandAnswer D.told D.faults board.now.table (before ++ after) (logs ++ more) result }
     ensures room { room_of first ≤ room_of result }
 {
     // The first list has room for both, so each append answers Ok.

@@ -21,7 +21,7 @@ use Rattle.dr_program.specs.Form.{HasForm, IsOf, IsRunningMember}
 use Rattle.dr_program.proofs.Fixed.{Told, step_told, of_told}
 use Rattle.dr_program.proofs.Fixed as fixed
 use Rattle.dr_turn.specs.Search.{left, IsUnderway}
-use Rattle.dr_turn.specs.Work.{work, deeds_of, left_to, may_fail, deeds_left, HasGrownTo, IsDone}
+use Rattle.dr_turn.specs.Work.{work, deeds_of, left_to, may_fail, deeds_left, HasGrownTo, IsAfterDeed}
 use Rattle.dr_turn.proofs.Fewer.{fewer_here, fewer_turns}
 use Rattle.dr_turn.proofs.Order.{after_beat, after_in, all_below, beat_last, each_below, from_part, implied, left_falls, left_small, left_some}
 use Rattle.dr_turn.proofs.Parts.{Going, Lowers, acts_on, due_at, end_comes, end_stays, going, is_final, is_publish, is_vote, lowers, none_waits, pending_gone, pending_stays, publish_size, turns_stay, vote_waits, waits_keep}
@@ -341,7 +341,7 @@ goes_on word r part d = record {
 }
 
 does : (word : ℕ) (r : Running) (part : Part) → r.limit < 2 ^ 32 → IsDue word r part
-    → HasGrownTo r (does_at word r part) → IsDone r (does_at word r part)
+    → HasGrownTo r (does_at word r part) → IsAfterDeed r (does_at word r part)
 does word r part fits d grown =
     record {
       underway = goes_on word r part d;
@@ -354,7 +354,7 @@ does word r part fits d grown =
     }
 
 -- the search keeps what a deed has done
-settled_done : (r y : Running) → IsDone r y → IsDone r (settled y)
+settled_done : (r y : Running) → IsAfterDeed r y → IsAfterDeed r (settled y)
 settled_done r y d = record {
   underway = settled_underway y d.underway;
   grown = subst (λ (q : Replica). q.view ≡ r.replica.view → NoWordFell r.replica q) (sym same) d.grown;
@@ -386,7 +386,7 @@ deeds_keep_form word r m none form =
 pub deed_done : (word : ℕ) (r : Running) → IsRunningMember r → r.limit < 2 ^ 32 → r.replica.end
     ≡ None
     → HasForm (took word r (next_step r)).replica → HasGrownTo r (took word r (next_step r))
-    → IsDone r (took word r (next_step r))
+    → IsAfterDeed r (took word r (next_step r))
 deed_done word r m fits none form grown =
     does word r (part_of r.place) fits (deed_due word r m none form) grown
 
@@ -394,7 +394,7 @@ deed_done word r m fits none form grown =
 pub deeds_keep : (word : ℕ) (r : Running) → IsRunningMember r → r.limit < 2 ^ 32 → r.replica.end
     ≡ None
     → HasForm (took word r (next_step r)).replica → HasGrownTo r (took word r (next_step r))
-    → IsRunningMember (after_step word r) × IsDone r (after_step word r)
+    → IsRunningMember (after_step word r) × IsAfterDeed r (after_step word r)
 deeds_keep word r m fits none form grown =
     (deeds_keep_form word r m none form, settled_done r _ (deed_done word r m fits none form grown))
 

@@ -12,7 +12,7 @@ use Rattle.dr_program.specs.Turn.{part_of}
 use Rattle.dr_program.specs.Running.{Running, append_or_end, broken_off, crashes_now, end_by, next_step, step_at, vote_or_end}
 use Rattle.dr_program.specs.Form.{IsRunningMember}
 use Rattle.dr_program.proofs.StepsAt.{push_either}
-use Rattle.dr_turn.specs.Work.{IsDone, left_to, may_fail}
+use Rattle.dr_turn.specs.Work.{IsAfterDeed, left_to, may_fail}
 use Rattle.dr_turn.proofs.Deeds.{lower}
 use Rattle.dr_turn.proofs.Search.{applies_at}
 
@@ -69,7 +69,7 @@ failed_form why r m none e = record {
 
 -- it then has a deed fewer to do
 pub failed_done : (why : LogWhy) (r : Running) → IsRunningMember r → r.replica.end ≡ None
-    → IsAppend (next_step r) → IsDone r (broken_off why r)
+    → IsAppend (next_step r) → IsAfterDeed r (broken_off why r)
 failed_done why r m none e = record {
   underway = record { replica = m.replica; place = m.place; turns = m.turns; waits = m.waits; free = m.free; left = m.left };
   grown = λ e. Grown_refl r.replica.roster r.replica.rows.words r.replica.rows.frozen;

@@ -104,7 +104,7 @@ abbrev pub IsStill : Running → Running → Type 0
 IsStill r x = (g : Group) (m : ℕ) → IsOf g m r.replica → IsOf g m x.replica
 
 -- a deed makes x of r: with fewer deeds left, and no fallen word, it is still that member
-pub record IsDone (r x : Running) : Type 0 where
+pub record IsAfterDeed (r x : Running) : Type 0 where
   pub underway : IsUnderway x
   pub grown : HasGrownTo r x
   pub fewer : deeds_left x < deeds_left r

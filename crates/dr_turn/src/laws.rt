@@ -6,7 +6,7 @@ ghost use Rattle.dr_program.specs.Running.{Running, after_step, applies, broken_
 ghost use Rattle.dr_program.specs.Steps.{AtLook, IsAppend};
 ghost use Rattle.dr_rows.specs.Words.{is_frozen};
 ghost use Rattle.dr_turn.specs.Search.{IsUnderway, Passed};
-ghost use Rattle.dr_turn.specs.Work.{HasGrownTo, IsDone, deeds_left};
+ghost use Rattle.dr_turn.specs.Work.{HasGrownTo, IsAfterDeed, deeds_left};
 
 /// The search leads to the first place of the turn, from where the member stands, at which there is
 /// something to do. It changes nothing else, and leaves no more deeds to do. A member that has ended
@@ -30,11 +30,11 @@ pub fn deeds_keep_members()
     ensures done { (word : ℕ) (r : Running) → IsRunningMember r → r.limit < 2 ^ 32 → r.replica.end
         ≡ None
         → HasForm (took word r (next_step r)).replica → HasGrownTo r (took word r (next_step r))
-        → IsDone r (after_step word r) }
+        → IsAfterDeed r (after_step word r) }
     ensures failed_form { (why : LogWhy) (r : Running) → IsRunningMember r → r.replica.end ≡ None
         → IsAppend (next_step r) → IsRunningMember (broken_off why r) }
     ensures failed_done { (why : LogWhy) (r : Running) → IsRunningMember r → r.replica.end ≡ None
-        → IsAppend (next_step r) → IsDone r (broken_off why r) }
+        → IsAppend (next_step r) → IsAfterDeed r (broken_off why r) }
 {}
 
 /// No member's next deed is a look at a row that is frozen for it.

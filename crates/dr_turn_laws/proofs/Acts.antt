@@ -10,7 +10,7 @@ use Rattle.dr_machine.specs.Acts.{does, effect_of, CanTake}
 use Rattle.dr_machine.specs.Effects.{one_more, stamped, with_own}
 use Rattle.dr_machine.specs.Group.{Group, columns, roster}
 use Rattle.dr_machine.specs.Guards.{HasRoom, IsUnwedged, IsDue, MayChoose, IsBehind}
-use Rattle.dr_machine.specs.World.{World, count_of, own_word}
+use Rattle.dr_machine.specs.World.{World, items_received, own_word}
 use Rattle.dr_machine.specs.declared.event.Act.{Act}
 use Rattle.dr_machine.specs.declared.event.Act.TheVariants as acts
 use Rattle.dr_machine.specs.declared.step.Step.{Step}
@@ -145,7 +145,7 @@ receive_kept g w m (steps.Do acts.Null) i c =
 receive_kept g w m (steps.Do acts.Finish) i c = None
 receive_kept g w m (steps.Look j d) i c = None
 receive_kept g w m s i c = Some (λ old wants. old
-    (to_take g w (effect_of g w m s) m i (count_of w m i) refl refl wants.0 wants.1))
+    (to_take g w (effect_of g w m s) m i (items_received w m i) refl refl wants.0 wants.1))
 
 send_kept : (g : Group) (w : World) (m : ℕ) (s : Step) (i c : ℕ)
     → Option (Stays g w (effect_of g w m s) m (parts.Do acts.Send) i c)
@@ -156,8 +156,8 @@ send_kept g w m (steps.Do acts.Finish) i c = None
 send_kept g w m (steps.Look j d) i c = None
 send_kept g w m s i c = Some (λ old wants. old (
   wants.0,
-  still_room g w (effect_of g w m s) m (count_of w m m)
-      (count_of w m m) refl (omega arith) wants.1,
+  still_room g w (effect_of g w m s) m (items_received w m m)
+      (items_received w m m) refl (omega arith) wants.1,
 ))
 
 null_kept : (g : Group) (w : World) (m : ℕ) (s : Step) (i c : ℕ)
@@ -169,8 +169,8 @@ null_kept g w m (steps.Do acts.Finish) i c = None
 null_kept g w m (steps.Look j d) i c = None
 null_kept g w m s i c = Some (λ old wants. old (
   wants.0,
-  still_room g w (effect_of g w m s) m (count_of w m m)
-      (count_of w m m) refl (omega arith) wants.1,
+  still_room g w (effect_of g w m s) m (items_received w m m)
+      (items_received w m m) refl (omega arith) wants.1,
   wants.2,
 ))
 
@@ -372,8 +372,8 @@ idle_work g w m p behind s work = by s work
 -- m has nothing left of each that a turn does
 pub record HasNothingLeft (g : Group) (w : World) (m : ℕ) : Type 0 where
   pub items : (s : ℕ) → IsToTake g w m s → ⊥
-  pub messages : IsLeft g w m × HasRoom g w m (count_of w m m) → ⊥
-  pub nulls : NoneIsLeft g w m × HasRoom g w m (count_of w m m) × IsBehind w m → ⊥
+  pub messages : IsLeft g w m × HasRoom g w m (items_received w m m) → ⊥
+  pub nulls : NoneIsLeft g w m × HasRoom g w m (items_received w m m) × IsBehind w m → ⊥
   pub places : ShowsMore w m RECEIVED_COLUMN (w.next m) → ⊥
   pub entries : IsToLog w m → ⊥
   pub logged : IsToPublish w m → ⊥

@@ -16,7 +16,7 @@ use Rattle.dr_machine.specs.Writes.{at₃}
 use Rattle.dr_program.specs.Form.{HasForm}
 use Rattle.dr_program.specs.Program.{Program, ok, step_of}
 use Rattle.dr_program.specs.Reading.{world}
-use Rattle.dr_program.specs.Replica.{Replica, greatest, view_of}
+use Rattle.dr_program.specs.Replica.{Replica, greatest, members_in_view}
 use Rattle.dr_program.specs.Running.{Running, step_at}
 use Rattle.dr_program.specs.Turn.{part_of, turn_begins}
 use Rattle.dr_program.proofs.Holdings.{held_of}
@@ -39,35 +39,35 @@ front_most counts =
     omega (arith, first_within (λ p. not (is_held counts p)) 0 (length counts * fold max 0 counts))
 
 -- no member has come to more places than all messages have
-places_few : (r : Replica) → HasForm r → front_of (map (slice_index r.counts) (view_of r)) ≤ 16 * 4096
+places_few : (r : Replica) → HasForm r → front_of (map (slice_index r.counts) (members_in_view r)) ≤ 16 * 4096
 places_few r form = omega (
   arith,
   front_most counts,
   mul-le-mul {n₁ = length counts} {m₁ = fold max 0 counts} {n₂ = 16} {m₂ = 4096} (omega (
     arith,
-    length-map (view_of r) (slice_index r.counts),
+    length-map (members_in_view r) (slice_index r.counts),
     members_of-few r.members,
   )) (greatest_within counts 0 4096 (omega arith) each),
 )
   where
     counts : List ℕ
-    counts = map (slice_index r.counts) (view_of r)
+    counts = map (slice_index r.counts) (members_in_view r)
 
-    each : (i : ℕ) → slice_index (map (slice_index r.counts) (view_of r)) i ≤ 4096
-    each i = by (cases_lt i (length (view_of r)))
+    each : (i : ℕ) → slice_index (map (slice_index r.counts) (members_in_view r)) i ≤ 4096
+    each i = by (cases_lt i (length (members_in_view r)))
       where
-        by : (i < length (view_of r)) ⊎ (length (view_of r) ≤ i)
-            → slice_index (map (slice_index r.counts) (view_of r)) i ≤ 4096
+        by : (i < length (members_in_view r)) ⊎ (length (members_in_view r) ≤ i)
+            → slice_index (map (slice_index r.counts) (members_in_view r)) i ≤ 4096
         by (inl within) = omega (
           arith,
-          get_or-map (slice_index r.counts) (view_of r) i 0 0 within,
-          form.bounded (slice_index (view_of r) i),
+          get_or-map (slice_index r.counts) (members_in_view r) i 0 0 within,
+          form.bounded (slice_index (members_in_view r) i),
           form.few,
         )
         by (inr past) = omega (
           arith,
-          get_or_past (map (slice_index r.counts) (view_of r)) i 0
-              (omega (arith, past, length-map (view_of r) (slice_index r.counts))),
+          get_or_past (map (slice_index r.counts) (members_in_view r)) i 0
+              (omega (arith, past, length-map (members_in_view r) (slice_index r.counts))),
         )
 
 -- ---- acts

@@ -11,7 +11,7 @@ use Rattle.dr_machine.proofs.Sending.{messages_null}
 use Rattle.dr_machine.specs.Effects.{ends, nulls, one_more, receives, stamped, stamped_in, with_own}
 use Rattle.dr_machine.specs.Group.{Group}
 use Rattle.dr_machine.specs.Guards.{HasRoom, IsOther, seen_slot}
-use Rattle.dr_machine.specs.World.{World, count_of, own_word}
+use Rattle.dr_machine.specs.World.{World, items_received, own_word}
 use Rattle.dr_machine.specs.Writes.{at, at₂, at₃, at₄}
 use Rattle.dr_program.specs.declared.place.Part.{Part}
 use Rattle.dr_program.specs.declared.place.Part.TheVariants as parts
@@ -87,7 +87,7 @@ abbrev pub Stays : Group → World → World → ℕ → Part → ℕ → ℕ �
 Stays g w v m part i c = IsIdle g w m part i c → IsIdle g v m part i c
 
 -- what m is to take, where it has the same view and has taken as much
-pub to_take : (g : Group) (w v : World) (m i n : ℕ) → v.members m ≡ w.members m → n ≡ count_of w m i
+pub to_take : (g : Group) (w v : World) (m i n : ℕ) → v.members m ≡ w.members m → n ≡ items_received w m i
     → IsOther v m i → IsReady n (seen_slot g w m i n) → IsToTake g w m i
 to_take g w v m i n view same other ready = (
   record { member = ap (λ x. has x i) (sym view) ∙ other.member; other = other.other },
@@ -97,10 +97,10 @@ to_take g w v m i n view same other ready = (
 -- an item more of s leaves the items of another sender
 pub gained_other : (g : Group) (w v : World) (m s i : ℕ) → i ≢ s → v.members m ≡ w.members m
     → IsOther v m i
-    → IsReady (count_of (receives g w m s) m i) (seen_slot g w m i (count_of (receives g w m s) m i))
+    → IsReady (items_received (receives g w m s) m i) (seen_slot g w m i (items_received (receives g w m s) m i))
     → IsToTake g w m i
 gained_other g w v m s i apart view other ready =
-    to_take g w v m i (count_of (receives g w m s) m i) view
+    to_take g w v m i (items_received (receives g w m s) m i) view
     (count_other w.past.count m (w.past.view m) s (w.past.count m (w.past.view m) s + 1) i apart) other ready
 
 -- where an item has room, with the same view, so has an earlier one
@@ -124,11 +124,11 @@ sent_here sent m v items = grind arith
 
 -- a null is no message, and where there is a slot behind it there was one before
 pub nulled_left : (g : Group) (w : World) (m : ℕ) → let v = stamped_in (nulls g w m) m (w.past.view m) in
-    IsLeft g v m × HasRoom g v m (count_of v m m) → IsLeft g w m × HasRoom g w m (count_of w m m)
+    IsLeft g v m × HasRoom g v m (items_received v m m) → IsLeft g w m × HasRoom g w m (items_received w m m)
 nulled_left g w m wants = (
   subst (λ n. w.base m + n < length (messages_of g.opening m)) same wants.0,
-  still_room g w (stamped_in (nulls g w m) m (w.past.view m)) m (count_of w m m)
-      (count_of (nulls g w m) m m) refl (omega (arith, more)) wants.1,
+  still_room g w (stamped_in (nulls g w m) m (w.past.view m)) m (items_received w m m)
+      (items_received (nulls g w m) m m) refl (omega (arith, more)) wants.1,
 )
   where
     sent : List SentItem
@@ -138,8 +138,8 @@ nulled_left g w m wants = (
         ≡ messages_in sent
     same = ap messages_in (sent_here w.past.sent m (w.past.view m) (sent ++ Null ∷ [])) ∙ messages_null sent
 
-    more : count_of (nulls g w m) m m ≡ count_of w m m + 1
-    more = count_here w.past.count m (w.past.view m) m (count_of w m m + 1)
+    more : items_received (nulls g w m) m m ≡ items_received w m m + 1
+    more = count_here w.past.count m (w.past.view m) m (items_received w m m + 1)
 
 -- what was pushed before an end, but for the beat word
 pub end_kept : (g : Group) (w : World) (m : ℕ) (end : End) (i c : ℕ)

@@ -26,7 +26,7 @@ use Rattle.dr_refine.proofs.Guards.{seen_is}
 use Rattle.dr_rows.specs.Words.{Words, looked, seen}
 use Rattle.dr_program.specs.Replica.{Replica}
 use Rattle.dr_program.proofs.Fixed.{of_told, step_told}
-use Rattle.dr_suspect.specs.Waits.{Waits, beat_of, compared, count_of, next_count}
+use Rattle.dr_suspect.specs.Waits.{Waits, beat_of, compared, next_count, turns_without_news}
 use Rattle.dr_turn.specs.Search.{Passed, here, on}
 use Rattle.dr_turn.proofs.Deeds.{deed_done}
 use Rattle.dr_turn.proofs.Order.{after_in}
@@ -49,7 +49,7 @@ use Rattle.dr_turn_laws.proofs.Working.{next_grown}
 pub record HasLooked (g : Group) (w : World) (m : ℕ) (old : Waits) (y : Running) : Type 0 where
   pub limit : y.waits.limit ≡ old.limit
   pub still : (i : ℕ) → i < roster g → i ≢ m → comes y.place i ≡ 1
-      → (count_of y.waits i ≡ count_of old i) × (beat_of y.waits i ≡ beat_of old i)
+      → (turns_without_news y.waits i ≡ turns_without_news old i) × (beat_of y.waits i ≡ beat_of old i)
   pub news : (i : ℕ) → i < roster g → i ≢ m → comes y.place i ≡ 0
       → HasCompared old y.waits i (w.seen m i BEAT_COLUMN)
 
@@ -330,7 +330,7 @@ look_behind g p m r old is at was = by (r.place.column + 1 == running.columns r)
     by : (b : Bool) → (r.place.column + 1 == running.columns r) ≡ b → Behind g p m old r
     by false e = record {
       limit = ap (λ (w : Waits). w.limit) (waits false e) ∙ was.limit;
-      still = λ i l d one. subst (λ (w : Waits). (count_of w i ≡ count_of old i) ×
+      still = λ i l d one. subst (λ (w : Waits). (turns_without_news w i ≡ turns_without_news old i) ×
           (beat_of w i ≡ beat_of old i))
           (sym (waits false e)) (was.still i l d (same i ∙ one));
       news = λ i l d come.
@@ -362,12 +362,12 @@ look_behind g p m r old is at was = by (r.place.column + 1 == running.columns r)
         still : (i : ℕ) → i < roster g → i ≢ m
             → comes (took (next_sight p.table r) r (next_step r)).place i ≡ 1
             → (i ≡ r.place.row) ⊎ (i ≢ r.place.row)
-            → (count_of (took (next_sight p.table r) r (next_step r)).waits i ≡ count_of old i)
+            → (turns_without_news (took (next_sight p.table r) r (next_step r)).waits i ≡ turns_without_news old i)
             × (beat_of (took (next_sight p.table r) r (next_step r)).waits i ≡ beat_of old i)
         still i l d one (inl z) = absurd (omega (arith, one, own i z))
         still i l d one (inr other) =
             let before = was.still i l d (rest i l other ∙ one) in (
-              ap (λ (w : Waits). count_of w i) (waits true e)
+              ap (λ (w : Waits). turns_without_news w i) (waits true e)
                   ∙ compared_other r.waits (looked r.replica.rows j r.place.column word) j i other ∙ before.0,
               ap (λ (w : Waits). beat_of w i) (waits true e)
                   ∙ compared_beat r.waits (looked r.replica.rows j r.place.column word) j i other ∙ before.1,
@@ -383,7 +383,7 @@ look_behind g p m r old is at was = by (r.place.column + 1 == running.columns r)
               beat = compared_beat r.waits (looked r.replica.rows j r.place.column word) j i other
                   ∙ before.beat ∙ sym (seen_same i other);
               count = compared_other r.waits (looked r.replica.rows j r.place.column word) j i other
-                  ∙ before.count ∙ ap (next_count (count_of old i) (beat_of old i)) (sym (seen_same i other));
+                  ∙ before.count ∙ ap (next_count (turns_without_news old i) (beat_of old i)) (sym (seen_same i other));
             }
         news i l d come (inl z) = rw z (here_news (λ s. d (z ∙ s)))
           where
@@ -396,15 +396,15 @@ look_behind g p m r old is at was = by (r.place.column + 1 == running.columns r)
                   beat = get_or-set_same r.waits.beats j
                       (seen (looked r.replica.rows j r.place.column word) j BEAT_COLUMN) 0
                       (omega (arith, within, form.waits.beats)) ∙ sym (seen_here other);
-                  count = get_or-set_same r.waits.counts j (next_count (count_of r.waits j)
+                  count = get_or-set_same r.waits.counts j (next_count (turns_without_news r.waits j)
                       (beat_of r.waits j)
                       (seen (looked r.replica.rows j r.place.column word) j BEAT_COLUMN)) 0
                       (omega (arith, within, form.waits.counts))
                       ∙ ap (λ c. next_count c (beat_of r.waits j)
                       (seen (looked r.replica.rows j r.place.column word) j BEAT_COLUMN)) before.0
-                      ∙ ap (λ b. next_count (count_of old j) b
+                      ∙ ap (λ b. next_count (turns_without_news old j) b
                       (seen (looked r.replica.rows j r.place.column word) j BEAT_COLUMN)) before.1
-                      ∙ ap (next_count (count_of old j) (beat_of old j)) (sym (seen_here other));
+                      ∙ ap (next_count (turns_without_news old j) (beat_of old j)) (sym (seen_here other));
                 }
 
 -- each deed by which no turn begins
@@ -451,7 +451,7 @@ settled_behind g p m r old is ease was = by (stepped_on p r).replica.end refl
         (ap (λ (q : Replica). is_some q.end) (sym only) ∙ ap is_some e))) was
     by None e = record {
       limit = ap (λ (w : Waits). w.limit) waits ∙ was.limit;
-      still = λ i l d one. subst (λ (w : Waits). (count_of w i ≡ count_of old i) ×
+      still = λ i l d one. subst (λ (w : Waits). (turns_without_news w i ≡ turns_without_news old i) ×
           (beat_of w i ≡ beat_of old i))
           (sym waits) (was.still i l d (sym (same i l d) ∙ one));
       news = λ i l d come. subst (λ w. HasCompared old w i ((world g (step_of p

@@ -17,7 +17,7 @@ use Rattle.dr_program.specs.declared.outcome.Outcome.TheVariants as outcomes
 use Rattle.dr_program.specs.declared.place.Part.{Part}
 use Rattle.dr_program.specs.declared.place.Part.TheVariants as parts
 use Rattle.dr_program.specs.declared.place.Place.{Place}
-use Rattle.dr_suspect.specs.Waits.{Waits, beat_of, count_of}
+use Rattle.dr_suspect.specs.Waits.{Waits, beat_of, turns_without_news}
 use Rattle.dr_turn.proofs.Search.{beat_test}
 use Rattle.dr_words.specs.declared.column.TheConstants.{BEAT_COLUMN}
 use Rattle.dr_program.specs.Program.{AllOk, Move, Program, next_sight, ok, ran, step_of}
@@ -152,7 +152,7 @@ begins_looking : (g : Group) (p : Program) (m : ℕ) (r : Running) → IsGoing g
     → HasLooked g (world g (step_of p (ok m))) m r.waits (took (next_sight p.table r) r (next_step r))
 begins_looking g p m r is at = record {
   limit = ap (λ (w : Waits). w.limit) waits;
-  still = λ i l d one. (ap (λ (w : Waits). count_of w i) waits, ap (λ (w : Waits). beat_of w i) waits);
+  still = λ i l d one. (ap (λ (w : Waits). turns_without_news w i) waits, ap (λ (w : Waits). beat_of w i) waits);
   news = λ i l d come. absurd (cc (sym come ∙ ap (λ q. comes q i) (first_place g p m r is at) ∙ one i));
 }
   where

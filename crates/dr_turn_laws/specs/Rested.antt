@@ -7,7 +7,7 @@ use Rattle.dr_machine.specs.World.{World, own_word}
 use Rattle.dr_program.specs.Program.{Program}
 use Rattle.dr_program.specs.Reading.{world}
 use Rattle.dr_program.specs.Running.{Running}
-use Rattle.dr_suspect.specs.Waits.{Waits, beat_of, count_of, next_count}
+use Rattle.dr_suspect.specs.Waits.{Waits, beat_of, next_count, turns_without_news}
 use Rattle.dr_words.specs.declared.column.TheConstants.{BEAT_COLUMN}
 use Rattle.dr_program_laws.specs.Failing.{has_log_end}
 use Rattle.dr_turn_laws.specs.Steady.{IsSteady}
@@ -37,7 +37,7 @@ pub record IsRested (g : Group) (w : World) (m : ℕ) : Type 0 where
 -- beat was compared once
 pub record HasCompared (old new : Waits) (i word : ℕ) : Type 0 where
   pub beat : beat_of new i ≡ word
-  pub count : count_of new i ≡ next_count (count_of old i) (beat_of old i) word
+  pub count : turns_without_news new i ≡ next_count (turns_without_news old i) (beat_of old i) word
 
 -- from p to q, m has taken a whole turn
 pub record HasTurned (g : Group) (p : Program) (m : ℕ) (q : Program) : Type 0 where

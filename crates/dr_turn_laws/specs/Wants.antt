@@ -10,13 +10,13 @@ use Rattle.dr_machine.specs.declared.step.Step.{Step}
 use Rattle.dr_machine.specs.declared.step.Step.TheVariants as steps
 use Rattle.dr_machine.specs.Group.{Group, banks, columns}
 use Rattle.dr_machine.specs.Guards.{HasRoom, HoldsAll, IsBehind, IsExcluded, IsFault, IsOther, next_index, seen_slot}
-use Rattle.dr_machine.specs.World.{World, count_of, own_word, shown}
+use Rattle.dr_machine.specs.World.{World, items_received, own_word, shown}
 use Rattle.dr_ring.specs.Slots.{IsReady}
 use Rattle.dr_words.specs.declared.column.TheConstants.{DONE_COLUMN, LOGGED_COLUMN, RECEIVED_COLUMN, SUSPECTED_COLUMN}
 
 -- all words that the next item of s needs are seen
 abbrev pub IsThere : Group → World → ℕ → ℕ → Type 0
-IsThere g w m s = IsReady (count_of w m s) (seen_slot g w m s (count_of w m s))
+IsThere g w m s = IsReady (items_received w m s) (seen_slot g w m s (items_received w m s))
 
 -- the next item of s is to be taken
 abbrev pub IsToTake : Group → World → ℕ → ℕ → Type 0
@@ -57,7 +57,7 @@ abbrev pub IsToFinish : Group → World → ℕ → Type 0
 IsToFinish g w m =
     (value : Value) × (w.committed m ≡ Some value) × (has value.leavers m ≡ false)
     × (w.past.view m + 1 < banks g)
-    × ((s : ℕ) → has (w.members m) s ≡ true → slice_index value.trim s ≤ count_of w m s)
+    × ((s : ℕ) → has (w.members m) s ≡ true → slice_index value.trim s ≤ items_received w m s)
 
 -- m is to end so: done, suspected, or excluded; one that suspects nobody has a majority
 abbrev pub IsToEnd : World → ℕ → End → Type 0
@@ -70,8 +70,8 @@ IsToEnd w m end = ⊥
 abbrev pub Wants : Group → World → ℕ → Step → Type 0
 Wants g w m (steps.Do acts.Beat) = ⊤
 Wants g w m (steps.Do (acts.Receive s)) = IsToTake g w m s
-Wants g w m (steps.Do acts.Send) = IsLeft g w m × HasRoom g w m (count_of w m m)
-Wants g w m (steps.Do acts.Null) = NoneIsLeft g w m × HasRoom g w m (count_of w m m) × IsBehind w m
+Wants g w m (steps.Do acts.Send) = IsLeft g w m × HasRoom g w m (items_received w m m)
+Wants g w m (steps.Do acts.Null) = NoneIsLeft g w m × HasRoom g w m (items_received w m m) × IsBehind w m
 Wants g w m (steps.Do acts.Deliver) = ShowsMore w m RECEIVED_COLUMN (w.next m)
 Wants g w m (steps.Do acts.Publish) = IsToPublish w m
 Wants g w m (steps.Do acts.Report) = ShowsMore w m LOGGED_COLUMN (w.past.durable m)

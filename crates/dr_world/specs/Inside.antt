@@ -5,5 +5,5 @@ use Rattle.dr_world.specs.declared.world.World.TheInside.{Inside}
 abbrev pub held_of : Inside → Held
 held_of a = record { script = a.script; start = a.start; replicas = a.replicas.items; table = a.table.items }
 
-abbrev pub IsInside : Inside → Type 0
-IsInside a = IsHeld (held_of a)
+abbrev pub IsInsideWorld : Inside → Type 0
+IsInsideWorld a = IsHeld (held_of a)

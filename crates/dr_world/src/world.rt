@@ -2,7 +2,7 @@ ghost use Rattle.std.specs.Prelude.{◌≡◌, ◌↔◌, ◌<◌, IfOk, IsTrue,
 ghost use Rattle.dr_machine.specs.Group.{IsGroup, columns, roster};
 ghost use Rattle.dr_machine.specs.Acts.{Guard};
 ghost use Rattle.dr_machine.specs.Run.{ComesOfEvents, Happens, Run, WordsGrew};
-ghost use Rattle.dr_machine.specs.World.{count_of, opening_world};
+ghost use Rattle.dr_machine.specs.World.{items_received, opening_world};
 ghost use Rattle.dr_script.specs.Ranges.{HasGroupRanges};
 ghost use Rattle.dr_restart.specs.Groups.{group_of};
 ghost use Rattle.dr_world.specs.Held.{AreMembers, its_group, its_world};
@@ -31,11 +31,11 @@ impl Model for World {
 
     ghost Value = { Held };
 
-    ghost use Rattle.dr_world.specs.Inside.{IsInside, held_of};
+    ghost use Rattle.dr_world.specs.Inside.{IsInsideWorld, held_of};
 
     ghost view = { held_of };
 
-    ghost invariant = { IsInside };
+    ghost invariant = { IsInsideWorld };
 }
 
 impl World {
@@ -153,7 +153,7 @@ impl World {
     pub fn received(&self, m: u8, s: u8) -> u32
         requires member { m < roster (its_group self.now) }
         requires sender { s < roster (its_group self.now) }
-        ensures { result ≡ count_of (its_world self.now) m s }
+        ensures { result ≡ items_received (its_world self.now) m s }
     {
         self.replica(m).count(s)
     }

@@ -12,7 +12,7 @@ use Rattle.dr_history.specs.History.{GroupView, item_at, merge, messages_of}
 use Rattle.dr_history.specs.Order.{messages_from}
 use Rattle.dr_history.specs.Places.{is_held, rest_places}
 use Rattle.dr_history.proofs.NumberedLemmas.{length-numbered_messages}
-use Rattle.dr_history_laws.specs.Courses.{HasEnded, MayCome, counts_taken}
+use Rattle.dr_history_laws.specs.Courses.{MayCome, ViewHasEnded, counts_taken}
 use Rattle.dr_history_laws.specs.Laid.{GoesOn, entry_at, laid}
 use Rattle.dr_history_laws.proofs.Courses.{InOrder-head, head-ends, head-next}
 use Rattle.dr_history_laws.proofs.Indices.{item_at-parts}
@@ -240,9 +240,9 @@ goes-on_well g values w m x is f laid y = record {
     v = w.past.view m
 
     ended : (u : ℕ) → (u < w.past.view m) ⊎ (u ≡ w.past.view m)
-        → HasEnded g.opening w.past.sent (endings_by g.opening values) u
+        → ViewHasEnded g.opening w.past.sent (endings_by g.opening values) u
     ended u (inl less) = (laid.left m u y.within less).ended
-    ended u (inr same) = subst (HasEnded g.opening w.past.sent (endings_by g.opening values)) (sym same)
+    ended u (inr same) = subst (ViewHasEnded g.opening w.past.sent (endings_by g.opening values)) (sym same)
         (leaves g values w m x is f y).ended
 
     last_or_before : (u n : ℕ) → u < n + 1 → (u < n) ⊎ (u ≡ n)

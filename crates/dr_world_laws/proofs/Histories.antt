@@ -10,7 +10,7 @@ use Rattle.dr_history.specs.Order.{messages_from}
 use Rattle.dr_history_laws.specs.Laid.{laid, entry_at, GoesOn, HeldBelow, MayBeNext, SentMore}
 use Rattle.dr_history_laws.proofs.LaidLemmas.{laid-next}
 use Rattle.dr_history_laws.proofs.SendingLemmas.{GoesOn-send}
-use Rattle.dr_history_laws.specs.Courses.{HasEnded, course, head_of}
+use Rattle.dr_history_laws.specs.Courses.{ViewHasEnded, course, head_of}
 use Rattle.dr_history_laws.proofs.Courses.{course-head, course-steady, head-steady}
 use Rattle.dr_machine.specs.declared.event.Event.{Event}
 use Rattle.dr_machine.specs.declared.step.Step.{Step}
@@ -97,7 +97,7 @@ goes_still o sent now h v same goes = record {
 -- the views before those that members are in have ended
 abbrev pub HaveEnded : Group → Values → World → Type 0
 HaveEnded g values w = (m v : ℕ) → m < roster g → v < w.past.view m
-    → HasEnded g.opening w.past.sent (endings_by g.opening values) v
+    → ViewHasEnded g.opening w.past.sent (endings_by g.opening values) v
 
 -- the message that m may put is the next one, and a null may always be put
 next_is : (g : Group) (values : Values) (w : World) (m : ℕ) (name : SentItem)

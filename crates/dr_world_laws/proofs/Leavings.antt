@@ -24,12 +24,12 @@ use Rattle.dr_faithful.specs.Faithful.{Faithful}
 use Rattle.dr_faithful.specs.Tells.{Views}
 use Rattle.dr_faithful.proofs.Faithfulness.{words_on}
 use Rattle.dr_faithful.proofs.Suspicions.{members_small, suspicions_told}
-use Rattle.dr_world_laws.specs.Ends.{IsLeftBy, IsLeftWith}
+use Rattle.dr_world_laws.specs.Ends.{IsLeftWith, IsSuspectedBack}
 use Rattle.dr_world_laws.proofs.Reached.{all-go_on, known}
 
 -- an end by suspicion is that of a member that is left out of its view
 abbrev pub IsLeftSo : World → ℕ → Option End → Type 0
-IsLeftSo w m (Some (Suspected by)) = IsLeftBy w m by
+IsLeftSo w m (Some (Suspected by)) = IsSuspectedBack w m by
 IsLeftSo w m (Some (NoMajority mask)) = IsLeftWith w m mask
 IsLeftSo w m end = ⊤
 
@@ -40,7 +40,7 @@ AreLeftSo g w = (m : ℕ) → m < roster g → IsLeftSo w m (w.end m)
 
 -- who is seen to suspect a member does
 named_so : (g : Group) (V : Views) (w : World) (m by : ℕ) → Faithful g V w → IsSuspectedBy w m by
-    → IsLeftBy w m by
+    → IsSuspectedBack w m by
 named_so g V w m by f due = record {
   member = due.row.member;
   other = due.row.other;

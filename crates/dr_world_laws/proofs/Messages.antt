@@ -16,7 +16,7 @@ use Rattle.dr_history.specs.History.{GroupView, Sent, entry_of, item_at, merge, 
 use Rattle.dr_history.specs.Order.{MayFollow, first_entries}
 use Rattle.dr_history.specs.Soundness.{MayStand}
 use Rattle.dr_history_laws.specs.Laid.{laid, entry_at}
-use Rattle.dr_history_laws.specs.Courses.{ViewEnds, HasEnded, counts_taken, head_of, view_in}
+use Rattle.dr_history_laws.specs.Courses.{ViewEnds, ViewHasEnded, counts_taken, head_of, view_in}
 use Rattle.dr_history_laws.proofs.Cutting.{cut, cut_merge}
 use Rattle.dr_history_laws.proofs.Merging.{top_place}
 use Rattle.dr_faithful.specs.Chosen.{Values, endings_by}
@@ -98,7 +98,7 @@ above_none (suc mask) some = omega arith
 
 -- the head of a view holds Views and messages behind the first entries
 head_holds : (g : Group) (sent : Sent) (endings : ViewEnds) (v : ℕ)
-    → ((u : ℕ) → u < v → HasEnded g.opening sent endings u)
+    → ((u : ℕ) → u < v → ViewHasEnded g.opening sent endings u)
     → HoldsMessages g (head_of g.opening sent endings v)
 unfolding head_of
 head_holds g sent endings zero ended =

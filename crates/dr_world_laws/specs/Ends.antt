@@ -8,7 +8,7 @@ use Rattle.dr_words.specs.Masks.{IsMajorityOf, IsPartOf}
 
 -- another member of m's view, which member m doesn't suspect, suspects m: so its own word of this view
 -- says, also once it is in a later view
-pub record IsLeftBy (w : World) (m by : ℕ) : Type 0 where
+pub record IsSuspectedBack (w : World) (m by : ℕ) : Type 0 where
   pub member : has (w.members m) by ≡ true
   pub other : by ≢ m
   pub unsuspected : has (w.suspects m) by ≡ false

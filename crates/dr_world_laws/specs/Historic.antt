@@ -5,7 +5,7 @@ use Rattle.dr_entry.specs.declared.entry.Entry.TheVariants.{View, Msg}
 use Rattle.dr_history.specs.Members.{has, members_of}
 use Rattle.dr_history.specs.History.{GroupView, merge, messages_of}
 use Rattle.dr_history.specs.Order.{first_entries, messages_from}
-use Rattle.dr_history_laws.specs.Courses.{HasEnded, course, head_of, view_in}
+use Rattle.dr_history_laws.specs.Courses.{ViewHasEnded, course, head_of, view_in}
 use Rattle.dr_history_laws.specs.Laid.{GoesOn, counts_sent}
 use Rattle.dr_words.specs.Columns.{recv_column}
 use Rattle.dr_words.specs.Packing.{is_final}
@@ -37,7 +37,7 @@ pub record Historic (g : Group) (values : Values) (w : World) : Type 0 where
 
 -- a view that somebody has left ended as it may, and with a safe value
 pub record HasEndedSafely (g : Group) (values : Values) (w : World) (v : ℕ) : Type 0 where
-  pub ended : HasEnded g.opening w.past.sent (endings_by g.opening values) v
+  pub ended : ViewHasEnded g.opening w.past.sent (endings_by g.opening values) v
   -- of each member no less is taken than some member has received for good
   pub least : (s : ℕ) → has (views_by g values v) s ≡ true
       → (j : ℕ) × (has (views_by g values v) j ≡ true)

@@ -33,7 +33,7 @@ ghost use Rattle.dr_vote_laws.specs.Voting.{HaveVotedFor, IsCut};
 ghost use Rattle.dr_history.specs.Order.{first_entries, messages_from};
 ghost use Rattle.dr_history.specs.Soundness.{Sound};
 ghost use Rattle.dr_history_laws.specs.Remaining.{remaining};
-ghost use Rattle.dr_world_laws.specs.Ends.{IsLeftBy, IsLeftWith, NobodySuspects};
+ghost use Rattle.dr_world_laws.specs.Ends.{IsLeftWith, IsSuspectedBack, NobodySuspects};
 ghost use Rattle.dr_world_laws.specs.Historic.{AreLaid, HoldsMessages, IsMerged};
 ghost use Rattle.dr_world_laws.specs.Views.{AreViews, HasView, IsCovered};
 
@@ -211,7 +211,7 @@ pub fn whole_histories_leave_nothing()
 /// suspect, itself among them, and these are no majority.
 pub fn suspicion_ends_members()
     ensures suspected { (g : Group) (w : World) (m by : ℕ) → IsGroup g → IsReached g w
-        → m < roster g → w.end m ≡ Some (Suspected by) → IsLeftBy w m by }
+        → m < roster g → w.end m ≡ Some (Suspected by) → IsSuspectedBack w m by }
     ensures minority { (g : Group) (w : World) (m mask : ℕ) → IsGroup g → IsReached g w
         → m < roster g → w.end m ≡ Some (NoMajority mask) → IsLeftWith w m mask }
 {}

@@ -6,7 +6,7 @@ ghost use Rattle.dr_history.specs.Order.{messages_from};
 ghost use Rattle.dr_history.specs.Places.{is_held};
 ghost use Rattle.dr_machine.specs.Effects.{entries_of};
 ghost use Rattle.dr_program.specs.Replica.{finished, may_end, may_finish};
-ghost use Rattle.dr_replica.specs.Items.{counts_of, item_at, sender_at};
+ghost use Rattle.dr_replica.specs.Items.{counts_of, item_held_at, sender_held_at};
 ghost use Rattle.dr_replica.specs.Spots.{IsSpot};
 ghost use Rattle.dr_replica.specs.Rests.{AreWithin, fits, has_taken, merged, merged_from};
 ghost use Rattle.dr_trim.specs.Trims.{trims_by_rank};
@@ -130,9 +130,9 @@ fn added_at(items: &Items, spot: Spot, me: u8) -> (usize, usize)
     requires spot { IsSpot (length items.now.members) spot }
     requires held { is_held (counts_of items.now) spot.place ≡ true }
     ensures entries { (es : List Entry) → result.0
-        ≡ length (entries_of es (sender_at items.now spot.place) (item_at items.now spot.place)) }
+        ≡ length (entries_of es (sender_held_at items.now spot.place) (item_held_at items.now spot.place)) }
     ensures own { (es : List Entry) → result.1 ≡ length (messages_from me
-        (entries_of es (sender_at items.now spot.place) (item_at items.now spot.place))) }
+        (entries_of es (sender_held_at items.now spot.place) (item_held_at items.now spot.place))) }
     ensures few { result.1 ≤ result.0 }
     ensures one { result.0 ≤ 1 }
 {

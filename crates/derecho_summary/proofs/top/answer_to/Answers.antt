@@ -4,7 +4,7 @@ use Rattle.dr_intake.specs.declared.answer.Answer.{Answer}
 use Rattle.dr_intake.specs.Answer.{done, wordless}
 use Rattle.dr_intake.proofs.Answers.{answer_of_unread, if_some}
 use Rattle.dr_script.specs.Reading.{reading_of}
-use Rattle.derecho_summary.specs.Answer.{IsAnswer, IsAnswerFor, usage_text}
+use Rattle.derecho_summary.specs.Answer.{IsAnswerFor, IsSummaryAnswer, summary_usage}
 use Rattle.derecho_summary.proofs.top.answer_to.Goals as goal
 
 pub returns-in-Ok-clause-answer : goal.returns-in-Ok-clause-answer
@@ -19,9 +19,9 @@ returns-in-Err-clause-answer g c =
     let new = g.S.Source.left c.bytes_or_answer.new.source in
     let failed = g.S.Source.faults c.args.source.now in
     let fails = g.S.Source.faults c.bytes_or_answer.new.source in
-    if_some (λ (a : Answer). IsAnswer c.args.words.now old new failed fails (string_bytes a.text, a.status))
+    if_some (λ (a : Answer). IsSummaryAnswer c.args.words.now old new failed fails (string_bytes a.text, a.status))
     c.in-Err.answer _ c.ok_or.result c.ok_or.ensures.value
-    (λ a is. answer_of_unread usage_text IsAnswerFor c.args.words.now old new failed fails
+    (λ a is. answer_of_unread summary_usage IsAnswerFor c.args.words.now old new failed fails
     (string_bytes a.text, a.status) (c.in-Err.ensures.answer a (ap Err is)))
 
 pub returns-in-Err-clause-told : goal.returns-in-Err-clause-told

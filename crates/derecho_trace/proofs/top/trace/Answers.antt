@@ -4,7 +4,7 @@ use Rattle.dr_script.specs.Reading.{reading_of}
 use Rattle.dr_text.specs.declared.last.Last.TheVariants as lasts
 use Rattle.dr_text.specs.Report.{last_text}
 use Rattle.dr_intake.specs.Answer.{done, no_memory, no_source}
-use Rattle.derecho_trace.specs.Trace.{IsTracedFor, usage_text}
+use Rattle.derecho_trace.specs.Trace.{IsTracedFor, trace_usage}
 use Rattle.derecho_trace.specs.Words.{asked_by}
 use Rattle.derecho_trace.proofs.Statuses.{traced_known, wrote_known}
 use Rattle.derecho_trace.proofs.top.trace.Goals as goal
@@ -51,7 +51,7 @@ returns-in-Err-OutOfMemory-clause-told g c =
 pub returns-in_default-clause-statuses : goal.returns-in_default-clause-statuses
 returns-in_default-clause-statuses g c =
     wrote_known (g.K.Sink.held c.args.sink) (g.K.Sink.held c.usage.result.sink) (g.K.Sink.faults c.args.sink)
-    (g.K.Sink.faults c.usage.result.sink) c.usage.result.status 2 usage_text (1, omega arith, refl)
+    (g.K.Sink.faults c.usage.result.sink) c.usage.result.status 2 trace_usage (1, omega arith, refl)
     (c.usage.ensures (g.K.Sink.held c.args.sink) (g.K.Sink.faults c.args.sink) c.new-output.ensures)
 
 pub returns-in-Ok-clause-statuses : goal.returns-in-Ok-clause-statuses

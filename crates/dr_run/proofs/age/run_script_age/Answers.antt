@@ -14,7 +14,7 @@ use Rattle.dr_restart.specs.Groups.{group_of}
 use Rattle.dr_restart.specs.Setups.{crashes_of}
 use Rattle.dr_age.specs.Logged.{HaveCome, NoneFull}
 use Rattle.dr_age.proofs.Ends.{have_come, none_full}
-use Rattle.dr_table.specs.Cards.{HasEnded, opened}
+use Rattle.dr_table.specs.Cards.{IsAtEnd, opened}
 use Rattle.dr_threads.specs.Logs.{AreFor}
 use Rattle.dr_run.proofs.Opening.{IsAgeOver, age_over, are_for, is_dealt}
 use Rattle.dr_run.proofs.age.run_script_age.Given.{Over}
@@ -36,7 +36,7 @@ run_age-requires-clause-logs g c = λ ks within.
 
 pub ends_of-requires-clause-ended : goal.ends_of-requires-clause-ended
 ends_of-requires-clause-ended g c =
-    subst (All HasEnded) (sym c.close-members.ensures.members) c.in_ok-hand.ensures.run.over.ended
+    subst (All IsAtEnd) (sym c.close-members.ensures.members) c.in_ok-hand.ensures.run.over.ended
 
 -- the members at the end, over the words that they left
 abbrev closed : (g : Over) (c : goal.After-of g) → Program
@@ -51,7 +51,7 @@ over g c =
     c.in-Ok-begun_members.members.items c.args.logs.items c.in_ok-hand.logs.items (opened c.in-Ok-deal.board)
     (closed g c) c.requires.group c.requires.ranges.group.lists c.requires.ranges.some_turn
     c.in-Ok-begun_members.ensures c.in-Ok-deal.ensures.opened c.close-members.ensures.ran.1
-    (subst (All HasEnded) (sym c.close-members.ensures.members) c.in_ok-hand.ensures.run.over.ended)
+    (subst (All IsAtEnd) (sym c.close-members.ensures.members) c.in_ok-hand.ensures.run.over.ended)
     c.requires.logs c.in_ok-hand.ensures.run.all
     (subst (HaveServed g.D.Disk.told g.D.Disk.faults c.args.logs.items c.in_ok-hand.logs.items)
     (sym c.close-members.ensures.members) c.in_ok-hand.ensures.run.served)

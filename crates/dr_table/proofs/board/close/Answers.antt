@@ -1,7 +1,7 @@
 use Rattle.std.proofs.Common.{◌≡◌, sym, ap, ◌∙◌, subst, map}
 use Rattle.std.specs.Prelude.{All, Some, slice_get}
 use Rattle.dr_program.specs.Program.{IsRanFrom, Program, begun_program}
-use Rattle.dr_table.specs.Cards.{AreSame, Cards, HasEnded}
+use Rattle.dr_table.specs.Cards.{AreSame, Cards, IsAtEnd}
 use Rattle.dr_table.specs.Rule.{number}
 use Rattle.dr_table.proofs.Hands.{board_opened, seat_knows}
 use Rattle.dr_table.proofs.Lists.{by_table}
@@ -17,7 +17,7 @@ returns-clause-ran c =
     let items = c.hand.inside.members.items in
     let is = ap (λ (w : Cards). w.members) c.hand.view_is in
     let knows = seat_knows c.hand.inside.seat.me.0 items c.hand.invariant.ahead
-    (subst (All HasEnded) (sym is) c.requires.ended) in
+    (subst (All IsAtEnd) (sym is) c.requires.ended) in
     let mine : slice_get s.views c.hand.inside.seat.id ≡ Some items =
     by_table s.views c.hand.inside.seat.id c.hand.inside.seat.me.0 final.1.1 ∙ ap (λ v. Some v) knows in
     let all : AreSame shared.key.items items =

@@ -6,7 +6,7 @@ use Rattle.atomic_table.specs.Seated.{TableId}
 use Rattle.atomic_table.specs.Table.{Me}
 use Rattle.dr_program.specs.Running.{Running}
 use Rattle.dr_table.specs.Cards.{opened}
-use Rattle.dr_table.specs.Rule.{IsKept}
+use Rattle.dr_table.specs.Rule.{HasSuchProgram}
 use Rattle.dr_table.proofs.Hands.{ahead_same, dealt_kept, dealt_of, dealt_opened, dealt_reached, dealt_room, dealt_size, dealt_words}
 use Rattle.dr_table.proofs.board.deal.Goals as goal
 
@@ -14,7 +14,7 @@ pub of_words-requires : goal.of_words-requires
 of_words-requires c =
     let items = c.args.members.items in
     let d = c.requires.dealt in
-    subst (λ (ws : List ℕ). IsKept items ws (items ∷ []))
+    subst (λ (ws : List ℕ). HasSuchProgram items ws (items ∷ []))
     (sym (c.as_slice.ensures.value ∙ c.in_ok-words.ensures.items_if_clones_equal (λ y e. e)))
     (dealt_kept items d c.table_words.result (c.table_words.ensures ∙ dealt_size items d c.index.result.now
     c.index.ensures))

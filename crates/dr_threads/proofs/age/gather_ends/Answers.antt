@@ -3,7 +3,7 @@ use Rattle.std.specs.Prelude.{Vec, vec_capacity}
 use Rattle.std.specs.declared.alloc.AllocError.{AllocError}
 use Rattle.std.specs.declared.alloc.Global.{Global}
 use Rattle.dr_log.specs.State.{LogState}
-use Rattle.dr_threads.specs.Answers.{IsAnswer, logs_of, room_of}
+use Rattle.dr_threads.specs.Answers.{IsHandAnswer, logs_of, room_of}
 use Rattle.dr_threads.proofs.Halves.{Answer, both_longer, both_run}
 use Rattle.dr_threads.proofs.age.gather_ends.Goals as goal
 
@@ -39,8 +39,8 @@ returns-in-Ok-Ok-clause-run g c = λ before after logs more m n h k.
     (ap logs_of w.is-0) (ap logs_of w.is-1) (ap room_of w.is-0) c.requires.room c.append-room.ensures.items
     (λ fits. c.append-room.ensures.succeeds (omega (arith, fits, w.logs.ok, w.more.ok)))
     ∙ (λ z. logs_of (w.is-0 z) ++ logs_of (w.is-1 z)))
-    (subst (IsAnswer g.D.Disk.told g.D.Disk.faults c.args.board.now.table before logs) w.is-0 h)
-    (subst (IsAnswer g.D.Disk.told g.D.Disk.faults c.args.board.now.table after more) w.is-1 k)
+    (subst (IsHandAnswer g.D.Disk.told g.D.Disk.faults c.args.board.now.table before logs) w.is-0 h)
+    (subst (IsHandAnswer g.D.Disk.told g.D.Disk.faults c.args.board.now.table after more) w.is-1 k)
 
 pub returns-in-Ok-Err-clause-run : goal.returns-in-Ok-Err-clause-run
 returns-in-Ok-Err-clause-run g c = λ before after logs more m n h k.

@@ -3,7 +3,7 @@ use Rattle.dr_words.specs.Columns.{columns_of}
 use Rattle.dr_machine.specs.declared.step.Step.TheVariants.{Do}
 use Rattle.dr_program.specs.Turn.{part_of}
 use Rattle.dr_program.specs.Running.{goes, next_step}
-use Rattle.dr_member.specs.Inside.{view_of}
+use Rattle.dr_member.specs.Inside.{member_inside}
 use Rattle.dr_member.specs.Fate.{IsTimely}
 use Rattle.dr_member.specs.Search.{standing}
 use Rattle.dr_member.proofs.Fates.{IsFateBy}
@@ -22,13 +22,13 @@ by c = record {
 }
 
 told : (c : goal.After-settle-arg-4-1)
-    → IsFateAfter 0 (view_of c.self.inside) (Do c.args.act) c.take_act.new.fate
+    → IsFateAfter 0 (member_inside c.self.inside) (Do c.args.act) c.take_act.new.fate
     × IsTimely c.take_act.new.fate c.take_act.new.replica.turns
 told c = act_told 0 c.self.inside c.take_act.new.replica c.take_act.new.fate c.args.act c.self.invariant
     c.take_act.ensures.after (by c)
 
 known : (c : goal.After-settle-arg-4-1) (word : ℕ)
-    → IsTaken word (view_of c.self.inside) c.take_act.new.replica c.take_act.new.fate c.go.new.place
+    → IsTaken word (member_inside c.self.inside) c.take_act.new.replica c.take_act.new.fate c.go.new.place
 known c word =
     act_taken word c.args.self.now c.self.inside c.take_act.new.replica c.take_act.new.fate c.go.new.place
     c.args.act c.self.view_is c.self.invariant c.requires.deed

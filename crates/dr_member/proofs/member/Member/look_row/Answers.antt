@@ -1,6 +1,6 @@
 use Rattle.std.proofs.Common.{◌+◌, ◌<◌, refl, sym, ap, subst, arith}
 use Rattle.dr_program.specs.Replica.{Replica}
-use Rattle.dr_member.specs.Inside.{view_of}
+use Rattle.dr_member.specs.Inside.{member_inside}
 use Rattle.dr_member.proofs.Moves.{IsLooked, look_left, looked_row_timely, waited}
 use Rattle.dr_member.proofs.Sweeps.{HasLeft, at_column, look_index, look_on, look_row_stays, look_takes, looks_begin, looks_end, saw, stale_in, untrue, was_waited}
 use Rattle.dr_member.proofs.member.Member.look_row.Given.{Over}
@@ -125,7 +125,7 @@ leave_row-requires-clause-fate g c =
 -- and left
 left : (g : Over) (c : goal.After-leave_row g)
     → HasLeft c.look-word.result c.args.self.now
-    (view_of (at_column c.loop-column.self-inside c.loop-column.column))
+    (member_inside (at_column c.loop-column.self-inside c.loop-column.column))
     (record c.loop-column.self-inside {
       replica = c.look.new.self;
       place = c.leave_row.new.place;

@@ -1,14 +1,14 @@
 use Rattle.std.proofs.Common.{◌≡◌, ◌+◌, ◌≤◌}
 use Rattle.dr_program.specs.declared.deed.Deed.TheVariants.{Look}
 use Rattle.dr_turn.specs.Work.{deeds_left}
-use Rattle.dr_member.specs.Inside.{view_of}
+use Rattle.dr_member.specs.Inside.{member_inside}
 use Rattle.dr_member.proofs.Sweeps.{IsOnRow, at_column}
 use Rattle.dr_member.proofs.member.Member.look_row.Given as goal
 
 abbrev pub invariant-loop-column : goal.invariant-loop-column
 invariant-loop-column g l = record {
   home : g.A.Access.home l.access l.fn.board;
-  came : g.A.Access.came l.fn.access l.fn.self l.access l.fn.at (view_of (at_column l.self-inside l.column));
+  came : g.A.Access.came l.fn.access l.fn.self l.access l.fn.at (member_inside (at_column l.self-inside l.column));
   on : IsOnRow (Look (l.first + l.column)) l.fn.self (at_column l.self-inside l.column);
   row : l.self-inside.place.row ≡ l.row;
   behind : l.self-inside.place.column ≤ l.column;
@@ -16,4 +16,4 @@ invariant-loop-column g l = record {
 }
 
 abbrev pub decreases-loop-column : goal.decreases-loop-column
-decreases-loop-column g l = deeds_left (view_of (at_column l.self-inside l.column))
+decreases-loop-column g l = deeds_left (member_inside (at_column l.self-inside l.column))

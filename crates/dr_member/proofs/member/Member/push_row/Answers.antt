@@ -2,7 +2,7 @@ use Rattle.std.proofs.Common.{◌≡◌, ◌+◌, ◌<◌, ◌≤◌, refl, sym,
 use Rattle.dr_rows.specs.Words.{changed, own}
 use Rattle.dr_words.specs.Columns.{columns_of}
 use Rattle.dr_program.specs.declared.deed.Deed.TheVariants.{Push}
-use Rattle.dr_member.specs.Inside.{view_of}
+use Rattle.dr_member.specs.Inside.{member_inside}
 use Rattle.dr_member.specs.Search.{standing}
 use Rattle.dr_member.proofs.Answers.{IsAnswer}
 use Rattle.dr_member.proofs.Indices.{columns_after}
@@ -92,7 +92,7 @@ stays : (g : Over) (c : goal.Else-crashes_now g)
       fate = counted c.loop-column.self-inside.fate c.saturating_add-self-inside.result;
       place = record c.loop-column.self-inside.place { column = c.next_changed-column.result };
     })
-    × IsAnswer 0 (view_of (at_column c.loop-column.self-inside c.loop-column.column))
+    × IsAnswer 0 (member_inside (at_column c.loop-column.self-inside c.loop-column.column))
     (standing c.push-in-loop-column.new.self
     (counted c.loop-column.self-inside.fate c.saturating_add-self-inside.result)
     (record c.loop-column.self-inside.place { column = c.next_changed-column.result }))
@@ -139,7 +139,7 @@ leave_row-requires-clause-fate g c =
 
 -- behind the last changed column it left the row
 left : (g : Over) (c : goal.After-leave_row g)
-    → HasLeft 0 c.args.self.now (view_of (at_column c.loop-column.self-inside c.loop-column.column))
+    → HasLeft 0 c.args.self.now (member_inside (at_column c.loop-column.self-inside c.loop-column.column))
     (record c.loop-column.self-inside {
       replica = c.push-in-loop-column.new.self;
       place = c.leave_row.new.place;
@@ -165,12 +165,12 @@ left g c =
     ) in
     pushes_end c.args.self.now a c.push-in-loop-column.new.self c.leave_row.new.place _ _ _ _
     c.leave_row.new.ready c.loop-column.invariant.on l
-    (pushed_behind (view_of a) a.replica c.push-in-loop-column.new.self a.fate a.place c.leave_row.new.place
+    (pushed_behind (member_inside a) a.replica c.push-in-loop-column.new.self a.fate a.place c.leave_row.new.place
     _ _ 0 refl l outer c.leave_row.ensures.place) c.leave_row.ensures.ready
 
 -- before its crash it stands at the next one
 crashes : (g : Over) (c : goal.After-self-then-crashes_now-1 g)
-    → HasLeft 0 c.args.self.now (view_of (at_column c.loop-column.self-inside c.loop-column.column))
+    → HasLeft 0 c.args.self.now (member_inside (at_column c.loop-column.self-inside c.loop-column.column))
     (record c.loop-column.self-inside {
       replica = c.push-in-loop-column.new.self;
       place = record c.loop-column.self-inside.place { column = c.next_changed-column.result };
@@ -194,7 +194,7 @@ crashes g c =
           c.push-in-loop-column.ensures.after refl,
     ) in
     pushes_end c.args.self.now a c.push-in-loop-column.new.self _ _ _ _ _ a.ready c.loop-column.invariant.on l
-    (pushed_within (view_of a) a.replica c.push-in-loop-column.new.self a.fate a.place _ _ 0 refl l inner
+    (pushed_within (member_inside a) a.replica c.push-in-loop-column.new.self a.fate a.place _ _ 0 refl l inner
     (ap (λ i. changed c.push-in-loop-column.new.self.rows i c.next_changed-column.result)
     c.loop-column.invariant.row ∙ c.next_changed-column.ensures.changed inner))
     (elsewhere c.push-in-loop-column.new.self (record a.place { column = c.next_changed-column.result })

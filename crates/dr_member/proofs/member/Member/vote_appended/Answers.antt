@@ -6,7 +6,7 @@ use Rattle.dr_program.specs.Turn.{part_of}
 use Rattle.dr_program.specs.Running.{Running, goes}
 use Rattle.dr_program.specs.declared.place.Part.TheVariants as parts
 use Rattle.dr_member.proofs.Ready.{gone_elsewhere}
-use Rattle.dr_member.specs.Inside.{view_of}
+use Rattle.dr_member.specs.Inside.{member_inside}
 use Rattle.dr_member.specs.Search.{standing}
 use Rattle.dr_member.proofs.Answers.{IsAnswer, IsTaken, answer_at, is_answer, is_done}
 use Rattle.dr_member.proofs.Moves.{append_taken, inside_after, stays_timely, vote_due_at}
@@ -14,7 +14,7 @@ use Rattle.dr_member.proofs.member.Member.vote_appended.Goals as goal
 
 -- the vote was taken
 known : (c : goal.After-settle-arg-4-1) (word : ℕ)
-    → IsTaken word (view_of c.self.inside) c.vote.new.self c.self.inside.fate c.go.new.place
+    → IsTaken word (member_inside c.self.inside) c.vote.new.self c.self.inside.fate c.go.new.place
 known c word = append_taken word c.args.self.now c.self.inside c.vote.new.self c.go.new.place c.self.view_is
     c.self.invariant c.requires.due
     (c.vote.ensures.after ∙ ap (voted c.self.inside.replica) c.value_due-value.ensures

@@ -7,14 +7,14 @@ use Rattle.dr_program.specs.Replica.{accepted}
 use Rattle.dr_rows.specs.Words.{own}
 use Rattle.dr_form.proofs.Accepting.{accepted_rises}
 use Rattle.dr_replica.proofs.Insides.{accepted_after, accepted_kept}
-use Rattle.dr_replica.specs.Inside.{view_of}
+use Rattle.dr_replica.specs.Inside.{replica_inside}
 use Rattle.dr_replica.proofs.replica.Replica.accept.Goals as goal
 
 pub overflow_add-acceptance : goal.overflow_add-acceptance
 overflow_add-acceptance c =
     let f = c.self.invariant.form in
     let due = f.waits c.unwrap-vote.result c.unwrap-vote.ensures in
-    omega (arith, due.ballot, promise_within (view_of c.self.inside) f, f.members, f.rows.few)
+    omega (arith, due.ballot, promise_within (replica_inside c.self.inside) f, f.members, f.rows.few)
 
 pub rewrite-requires-clause-rises : goal.rewrite-requires-clause-rises
 rewrite-requires-clause-rises c = λ column.
@@ -22,7 +22,7 @@ rewrite-requires-clause-rises c = λ column.
     subst (λ (x : Vote). own a.rows column
     ≤ accepted_word a.shape.members a.members (x.ballot + 1) x.value column (own a.rows column))
     (ap (λ o. unwrap_or o no_vote) c.unwrap-vote.ensures)
-    (accepted_rises (view_of a) c.unwrap-vote.result column c.self.invariant.form c.unwrap-vote.ensures)
+    (accepted_rises (replica_inside a) c.unwrap-vote.result column c.self.invariant.form c.unwrap-vote.ensures)
 
 pub invariant_of-self : goal.invariant_of-self
 invariant_of-self c =

@@ -1,6 +1,6 @@
 use Rattle.std.proofs.Common.{◌≡◌, ◌+◌, ◌∙◌, ap₂, subst, length, nat_lt}
 use Rattle.dr_program.specs.Replica.{Replica, next_index}
-use Rattle.dr_replica.specs.Inside.{view_of}
+use Rattle.dr_replica.specs.Inside.{replica_inside}
 use Rattle.dr_form.proofs.Keeps.{message_left}
 use Rattle.dr_replica.proofs.replica.Replica.has_message_left.Goals as goal
 
@@ -9,4 +9,4 @@ returns c = subst (λ (r : Replica). nat_lt (c.self.inside.base + c.len.result) 
     ≡ nat_lt (next_index r) (length r.messages)) c.self.view_is
     (ap₂ (λ put messages. nat_lt (c.self.inside.base + put) messages)
     (c.len.ensures ∙ c.self.inside.sent.ok.0) (c.len-2.ensures ∙ c.self.inside.messages.ok.0)
-    ∙ message_left (view_of c.self.inside) c.self.invariant.form)
+    ∙ message_left (replica_inside c.self.inside) c.self.invariant.form)

@@ -3,7 +3,7 @@ use Rattle.dr_entry.specs.declared.end.SentItem.{SentItem}
 use Rattle.dr_entry.specs.declared.end.ViewSent.{ViewSent}
 use Rattle.dr_program.specs.Program.{member_end, sent_before}
 use Rattle.dr_program.specs.Replica.{Replica}
-use Rattle.dr_replica.specs.Inside.{view_of}
+use Rattle.dr_replica.specs.Inside.{replica_inside}
 use Rattle.dr_replica.specs.Lefts.{left_of}
 use Rattle.dr_replica.specs.declared.left.Left.{Left}
 use Rattle.dr_replica.proofs.Lefts.{end_told, put_all, put_before, put_few}
@@ -12,7 +12,7 @@ use Rattle.dr_replica.proofs.replica.Replica.into_end.Goals as goal
 pub overflow_cast-len : goal.overflow_cast-len
 overflow_cast-len c =
     let few = put_few c.loop-left.sent.items c.loop-left.yielded c.next.new.self.rest.items c.in-Some.left
-    (view_of c.self.inside) c.loop-left.invariant.told
+    (replica_inside c.self.inside) c.loop-left.invariant.told
     (ap (λ (x : List Left). map left_of (c.loop-left.yielded ++ x)) (sym c.in-Some.ensures.steps.0)
     ∙ c.loop-left.invariant.all ∙ sym (ap (λ (r : Replica). r.left) c.self.view_is)) c.self.invariant.form in
     omega (arith, few, c.len.ensures)
@@ -20,7 +20,7 @@ overflow_cast-len c =
 pub unwrap-requires : goal.unwrap-requires
 unwrap-requires c =
     let few = put_few c.loop-left.sent.items c.loop-left.yielded c.next.new.self.rest.items c.in-Some.left
-    (view_of c.self.inside) c.loop-left.invariant.told
+    (replica_inside c.self.inside) c.loop-left.invariant.told
     (ap (λ (x : List Left). map left_of (c.loop-left.yielded ++ x)) (sym c.in-Some.ensures.steps.0)
     ∙ c.loop-left.invariant.all ∙ sym (ap (λ (r : Replica). r.left) c.self.view_is)) c.self.invariant.form in
     let banks = ap (λ (r : Replica). r.banks) c.self.view_is in
@@ -45,7 +45,7 @@ loop-left-preserved c = record {
 pub unwrap-requires-2 : goal.unwrap-requires-2
 unwrap-requires-2 c =
     let all = put_all c.loop-left.sent.items c.loop-left.yielded c.loop-left.left-iterator.rest.items
-    (view_of c.self.inside) c.loop-left.invariant.told
+    (replica_inside c.self.inside) c.loop-left.invariant.told
     (c.loop-left.invariant.all ∙ sym (ap (λ (r : Replica). r.left) c.self.view_is))
     (search rules) c.self.invariant.form in
     let banks = ap (λ (r : Replica). r.banks) c.self.view_is in
@@ -54,13 +54,13 @@ unwrap-requires-2 c =
 pub returns : goal.returns
 returns c =
     let all = put_all c.loop-left.sent.items c.loop-left.yielded c.loop-left.left-iterator.rest.items
-    (view_of c.self.inside) c.loop-left.invariant.told
+    (replica_inside c.self.inside) c.loop-left.invariant.told
     (c.loop-left.invariant.all ∙ sym (ap (λ (r : Replica). r.left) c.self.view_is))
     (search rules) c.self.invariant.form in
     let pushed : c.push-2.new.self.items
     ≡ c.loop-left.sent.items ++ record { number = c.self.inside.view; items = c.of-2.result } ∷ [] =
     search rules in
-    end_told (view_of c.self.inside) c.unwrap_or.result c.of-3.result c.into_entries.result
+    end_told (replica_inside c.self.inside) c.unwrap_or.result c.of-3.result c.into_entries.result
     c.unwrap_or.ensures
     (c.of-3.ensures ∙ pushed
     ∙ ap (λ (x : List ViewSent). x ++ record {
@@ -68,6 +68,6 @@ returns c =
       items =
           c.of-2.result;
     } ∷ []) all.0
-    ∙ ap (λ (x : List SentItem). sent_before 0 (view_of c.self.inside).left
+    ∙ ap (λ (x : List SentItem). sent_before 0 (replica_inside c.self.inside).left
     ++ record { number = c.self.inside.view; items = x } ∷ []) c.of-2.ensures)
     c.into_entries.ensures ∙ ap member_end c.self.view_is

@@ -1,17 +1,17 @@
 use Rattle.std.proofs.Common.{◌≡◌, subst, arith, nat_lt}
 use Rattle.dr_program.specs.Replica.{Replica, least_seen}
 use Rattle.dr_replica.proofs.Received.{is_of_group, received_test}
-use Rattle.dr_replica.specs.Inside.{view_of}
+use Rattle.dr_replica.specs.Inside.{replica_inside}
 use Rattle.dr_words.specs.declared.column.TheConstants.{RECEIVED_COLUMN}
 use Rattle.dr_replica.proofs.replica.Replica.is_received.Goals as goal
 
 pub holds-requires : goal.holds-requires
 holds-requires c = (
-  is_of_group (view_of c.self.inside) c.self.invariant.form,
+  is_of_group (replica_inside c.self.inside) c.self.invariant.form,
   λ i member. omega (arith, c.self.invariant.form.roster i member, c.self.invariant.form.members),
 )
 
 pub returns : goal.returns
 returns c = subst (λ (r : Replica). c.holds.result ≡ nat_lt r.next (least_seen r RECEIVED_COLUMN))
     c.self.view_is
-    (received_test (view_of c.self.inside) c.holds.result c.self.invariant.form c.holds.ensures)
+    (received_test (replica_inside c.self.inside) c.holds.result c.self.invariant.form c.holds.ensures)

@@ -2,12 +2,12 @@ use Rattle.std.proofs.Common.{◌≡◌, ℕ, Option, ap, ◌∙◌, subst, arit
 use Rattle.std.specs.Option.{unwrap_or}
 use Rattle.dr_program.specs.Replica.{Replica, least_seen}
 use Rattle.dr_replica.proofs.Received.{least_by}
-use Rattle.dr_replica.specs.Inside.{view_of}
+use Rattle.dr_replica.specs.Inside.{replica_inside}
 use Rattle.dr_replica.proofs.replica.Replica.least_seen.Goals as goal
 
 pub returns : goal.returns
 returns c = subst (λ (r : Replica). c.unwrap_or.result ≡ least_seen r c.args.column) c.self.view_is
-    (least_by (view_of c.self.inside) c.args.column c.least_word.result c.unwrap_or.result
+    (least_by (replica_inside c.self.inside) c.args.column c.least_word.result c.unwrap_or.result
     c.self.invariant.form c.least_word.ensures.below c.least_word.ensures.among c.least_word.ensures.none
     (λ least is.
     let same : c.unwrap_or.result ≡ least =

@@ -8,16 +8,16 @@ use Rattle.dr_words.specs.declared.column.TheConstants.{RECEIVED_COLUMN}
 use Rattle.dr_replica.proofs.Received.{grown_received}
 use Rattle.dr_program.specs.Replica.{Replica, is_other, least_seen, looked}
 use Rattle.dr_program.specs.Form.{HasForm}
-use Rattle.dr_replica.specs.Inside.{view_of}
+use Rattle.dr_replica.specs.Inside.{replica_inside}
 use Rattle.dr_form.proofs.Keeps.{looked_keeps, looked_rises}
 use Rattle.dr_replica.proofs.Insides.{state_kept, grown_to}
 use Rattle.dr_replica.proofs.replica.Replica.look.Goals as goal
 
-there : (c : goal.After-look) → view_of (record c.self.inside { rows = c.look.new.self })
-    ≡ looked (view_of c.self.inside) c.args.row c.args.column c.args.word
-there c = ap (λ (w : Words). record (view_of c.self.inside) { rows = w }) c.look.ensures.after
+there : (c : goal.After-look) → replica_inside (record c.self.inside { rows = c.look.new.self })
+    ≡ looked (replica_inside c.self.inside) c.args.row c.args.column c.args.word
+there c = ap (λ (w : Words). record (replica_inside c.self.inside) { rows = w }) c.look.ensures.after
 
-other : (c : goal.After-look) → is_other (view_of c.self.inside) c.args.row ≡ true
+other : (c : goal.After-look) → is_other (replica_inside c.self.inside) c.args.row ≡ true
 other c = ap (λ (r : Replica). is_other r c.args.row) c.self.view_is ∙ c.requires.other
 
 column : (c : goal.After-look) → c.args.column
@@ -25,19 +25,19 @@ column : (c : goal.After-look) → c.args.column
 column c = subst (λ (n : ℕ). c.args.column < n) c.self.invariant.form.columns
     (subst (λ (r : Replica). c.args.column < r.rows.columns) (sym c.self.view_is) c.requires.column)
 
-form : (c : goal.After-look) → HasForm (looked (view_of c.self.inside) c.args.row c.args.column c.args.word)
+form : (c : goal.After-look) → HasForm (looked (replica_inside c.self.inside) c.args.row c.args.column c.args.word)
 form c =
-    looked_keeps (view_of c.self.inside) c.args.row c.args.column c.args.word c.self.invariant.form
+    looked_keeps (replica_inside c.self.inside) c.args.row c.args.column c.args.word c.self.invariant.form
     (other c) (column c)
     (subst (λ (r : Replica). IsInForm r.roster c.args.column c.args.word)
     (sym c.self.view_is) c.requires.in_form)
 
 rises : (c : goal.After-look) → Grown c.self.inside.shape.members c.self.inside.rows.words
-    (looked (view_of c.self.inside) c.args.row c.args.column c.args.word).rows.words
+    (looked (replica_inside c.self.inside) c.args.row c.args.column c.args.word).rows.words
     c.self.inside.rows.frozen
-    (looked (view_of c.self.inside) c.args.row c.args.column c.args.word).rows.frozen
+    (looked (replica_inside c.self.inside) c.args.row c.args.column c.args.word).rows.frozen
 rises c =
-    looked_rises (view_of c.self.inside) c.args.row c.args.column c.args.word c.self.invariant.form
+    looked_rises (replica_inside c.self.inside) c.args.row c.args.column c.args.word c.self.invariant.form
     (other c) (ap (λ (r : Replica). has r.suspects c.args.row) c.self.view_is ∙ c.requires.unsuspected)
     (column c)
     (subst (λ (r : Replica). HasGrown r.roster c.args.column
@@ -49,14 +49,14 @@ invariant_of-self c =
     state_kept a c.look.new.self a.logged a.durable a.turns a.acts a.end c.self.invariant
     (ap (λ (w : Words). w.me) c.look.ensures.after)
     (subst HasForm (sym (there c)) (form c))
-    (subst (λ (w : Words). least_seen (view_of a) RECEIVED_COLUMN
-    ≤ least_seen (record (view_of a) { rows = w }) RECEIVED_COLUMN) (sym c.look.ensures.after)
-    (grown_received (view_of a) (looked (view_of a) c.args.row c.args.column c.args.word) _ _ refl (rises c)))
+    (subst (λ (w : Words). least_seen (replica_inside a) RECEIVED_COLUMN
+    ≤ least_seen (record (replica_inside a) { rows = w }) RECEIVED_COLUMN) (sym c.look.ensures.after)
+    (grown_received (replica_inside a) (looked (replica_inside a) c.args.row c.args.column c.args.word) _ _ refl (rises c)))
 
 pub returns-clause-grown : goal.returns-clause-grown
 returns-clause-grown c =
-    grown_to c.args.self.now (view_of (record c.self.inside { rows = c.look.new.self }))
-    (view_of c.self.inside) (looked (view_of c.self.inside) c.args.row c.args.column c.args.word)
+    grown_to c.args.self.now (replica_inside (record c.self.inside { rows = c.look.new.self }))
+    (replica_inside c.self.inside) (looked (replica_inside c.self.inside) c.args.row c.args.column c.args.word)
     c.self.view_is (there c)
     (rises c)
 

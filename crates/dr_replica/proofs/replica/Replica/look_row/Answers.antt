@@ -10,22 +10,22 @@ use Rattle.dr_replica.proofs.Received.{grown_received}
 use Rattle.dr_program.specs.Replica.{Replica, is_other, least_seen}
 use Rattle.dr_program.specs.Form.{HasForm}
 use Rattle.dr_program.specs.Steps.{NoWordFell}
-use Rattle.dr_replica.specs.Inside.{view_of}
+use Rattle.dr_replica.specs.Inside.{replica_inside}
 use Rattle.dr_replica.proofs.Insides.{state_kept}
 use Rattle.dr_replica.proofs.replica.Replica.look_row.Goals as goal
 
 -- the replica inside after the looks
 abbrev new : goal.After-look_row → Replica
-new c = looked_on (view_of c.self.inside) c.args.row c.args.table.now c.args.first c.args.from
+new c = looked_on (replica_inside c.self.inside) c.args.row c.args.table.now c.args.first c.args.from
     (c.self.inside.rows.columns - c.args.from)
 
-there : (c : goal.After-look_row) → view_of (record c.self.inside { rows = c.look_row.new.self }) ≡ new c
-there c = ap (λ (w : Words). record (view_of c.self.inside) { rows = w }) c.look_row.ensures.after
+there : (c : goal.After-look_row) → replica_inside (record c.self.inside { rows = c.look_row.new.self }) ≡ new c
+there c = ap (λ (w : Words). record (replica_inside c.self.inside) { rows = w }) c.look_row.ensures.after
 
-may : (c : goal.After-look_row) → MayLook (view_of c.self.inside) c.args.row c.args.table.now c.args.first
+may : (c : goal.After-look_row) → MayLook (replica_inside c.self.inside) c.args.row c.args.table.now c.args.first
     c.args.from (c.self.inside.rows.columns - c.args.from)
 may c =
-    let r = view_of c.self.inside in
+    let r = replica_inside c.self.inside in
     let is = c.self.view_is in
     let from : c.args.from ≤ r.rows.columns =
     subst (λ (x : Replica). c.args.from ≤ x.rows.columns) (sym is) c.requires.from in
@@ -42,8 +42,8 @@ may c =
           (sym is) c.requires.grown d l (omega (arith, h, from));
     }
 
-keeps : (c : goal.After-look_row) → HasForm (new c) × NoWordFell (view_of c.self.inside) (new c)
-keeps c = looks_keep (view_of c.self.inside) c.args.row c.args.table.now c.args.first c.args.from
+keeps : (c : goal.After-look_row) → HasForm (new c) × NoWordFell (replica_inside c.self.inside) (new c)
+keeps c = looks_keep (replica_inside c.self.inside) c.args.row c.args.table.now c.args.first c.args.from
     (c.self.inside.rows.columns - c.args.from) (may c)
 
 pub invariant_of-self : goal.invariant_of-self
@@ -53,14 +53,14 @@ invariant_of-self c =
     (ap (λ (w : Words). w.me) (c.look_row.ensures.after
     ∙ looked_stays c.args.row c.args.table.now c.args.first a.rows c.args.from (a.rows.columns - c.args.from)))
     (subst HasForm (sym (there c)) (keeps c).0)
-    (subst (λ (w : Words). least_seen (view_of a) RECEIVED_COLUMN
-    ≤ least_seen (record (view_of a) { rows = w }) RECEIVED_COLUMN) (sym c.look_row.ensures.after)
-    (grown_received (view_of a) (new c) a.rows.frozen (new c).rows.frozen refl (keeps c).1))
+    (subst (λ (w : Words). least_seen (replica_inside a) RECEIVED_COLUMN
+    ≤ least_seen (record (replica_inside a) { rows = w }) RECEIVED_COLUMN) (sym c.look_row.ensures.after)
+    (grown_received (replica_inside a) (new c) a.rows.frozen (new c).rows.frozen refl (keeps c).1))
 
 pub returns-clause-grown : goal.returns-clause-grown
 returns-clause-grown c =
-    subst (λ (x : Replica). NoWordFell x (view_of (record c.self.inside { rows = c.look_row.new.self })))
-    c.self.view_is (subst (NoWordFell (view_of c.self.inside)) (sym (there c)) (keeps c).1)
+    subst (λ (x : Replica). NoWordFell x (replica_inside (record c.self.inside { rows = c.look_row.new.self })))
+    c.self.view_is (subst (NoWordFell (replica_inside c.self.inside)) (sym (there c)) (keeps c).1)
 
 pub returns-clause-form : goal.returns-clause-form
 returns-clause-form c = subst HasForm (sym (there c)) (keeps c).0

@@ -1,12 +1,12 @@
 use Rattle.std.proofs.Common.{◌+◌, ◌<◌, ◌∙◌, ℕ, ap, subst, sym, length}
 use Rattle.dr_machine.proofs.Sending.{only_messages}
 use Rattle.dr_program.specs.Replica.{Replica, next_index}
-use Rattle.dr_replica.specs.Inside.{view_of}
+use Rattle.dr_replica.specs.Inside.{replica_inside}
 use Rattle.dr_replica.proofs.replica.Replica.next_index.Goals as goal
 
 pub returns : goal.returns
 returns c =
-    let v : Replica = view_of c.self.inside in
+    let v : Replica = replica_inside c.self.inside in
     let left : next_index v < length v.messages =
     subst (λ (r : Replica). next_index r < length r.messages) (sym c.self.view_is) c.requires in
     ap (λ (n : ℕ). c.self.inside.base + n)

@@ -1,7 +1,7 @@
 use Rattle.std.proofs.Common.{arith}
 use Rattle.dr_words.specs.declared.column.TheConstants.{LOGGED_COLUMN}
 use Rattle.dr_form.proofs.Keeps.{published_form}
-use Rattle.dr_replica.specs.Inside.{view_of}
+use Rattle.dr_replica.specs.Inside.{replica_inside}
 use Rattle.dr_replica.proofs.Insides.{word_kept}
 use Rattle.dr_replica.proofs.replica.Replica.publish.Goals as goal
 
@@ -9,4 +9,4 @@ pub invariant_of-self : goal.invariant_of-self
 invariant_of-self c =
     let a = c.self.inside in
     word_kept a c.set_own.new.self LOGGED_COLUMN a.logged a.acts c.self.invariant c.set_own.ensures.after
-    (λ e. omega (arith, e)) (published_form (view_of a) c.self.invariant.form)
+    (λ e. omega (arith, e)) (published_form (replica_inside a) c.self.invariant.form)

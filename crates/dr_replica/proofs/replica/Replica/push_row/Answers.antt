@@ -8,7 +8,7 @@ use Rattle.dr_replica.proofs.Received.{grown_received}
 use Rattle.dr_program.specs.Replica.{Replica, least_seen}
 use Rattle.dr_program.specs.Form.{HasForm}
 use Rattle.dr_program.specs.Steps.{NoWordFell}
-use Rattle.dr_replica.specs.Inside.{view_of}
+use Rattle.dr_replica.specs.Inside.{replica_inside}
 use Rattle.dr_replica.proofs.Insides.{state_kept}
 use Rattle.dr_replica.proofs.replica.Replica.push_row.Goals as goal
 
@@ -19,14 +19,14 @@ done c = pushed_along c.args.to c.args.first
     (c.self.inside.rows.columns - c.args.from)
 
 abbrev new : goal.After-slice_known-2-1 → Replica
-new c = record (view_of c.self.inside) { rows = (done c).words }
+new c = record (replica_inside c.self.inside) { rows = (done c).words }
 
-there : (c : goal.After-slice_known-2-1) → view_of (record c.self.inside { rows = c.push_row.new.self }) ≡ new c
-there c = ap (λ (w : Words). record (view_of c.self.inside) { rows = w }) c.push_row.ensures.after.0
+there : (c : goal.After-slice_known-2-1) → replica_inside (record c.self.inside { rows = c.push_row.new.self }) ≡ new c
+there c = ap (λ (w : Words). record (replica_inside c.self.inside) { rows = w }) c.push_row.ensures.after.0
 
-keeps : (c : goal.After-slice_known-2-1) → HasForm (new c) × NoWordFell (view_of c.self.inside) (new c)
+keeps : (c : goal.After-slice_known-2-1) → HasForm (new c) × NoWordFell (replica_inside c.self.inside) (new c)
 keeps c =
-    let r = view_of c.self.inside in
+    let r = replica_inside c.self.inside in
     let start : Pushes = record { words = r.rows; table = c.args.table.now; count = 0 } in (
       pushes_keep r c.args.to c.args.first start c.args.from (r.rows.columns - c.args.from)
           (subst (λ (x : Replica). c.args.to < x.roster) (sym c.self.view_is) c.requires.to)
@@ -43,14 +43,14 @@ invariant_of-self c =
     (record { words = a.rows; table = c.args.table.now; count = 0 }) c.args.from
     (a.rows.columns - c.args.from)))
     (subst HasForm (sym (there c)) (keeps c).0)
-    (subst (λ (w : Words). least_seen (view_of a) RECEIVED_COLUMN
-    ≤ least_seen (record (view_of a) { rows = w }) RECEIVED_COLUMN) (sym c.push_row.ensures.after.0)
-    (grown_received (view_of a) (new c) a.rows.frozen (new c).rows.frozen refl (keeps c).1))
+    (subst (λ (w : Words). least_seen (replica_inside a) RECEIVED_COLUMN
+    ≤ least_seen (record (replica_inside a) { rows = w }) RECEIVED_COLUMN) (sym c.push_row.ensures.after.0)
+    (grown_received (replica_inside a) (new c) a.rows.frozen (new c).rows.frozen refl (keeps c).1))
 
 pub returns-clause-grown : goal.returns-clause-grown
 returns-clause-grown c =
-    subst (λ (x : Replica). NoWordFell x (view_of (record c.self.inside { rows = c.push_row.new.self })))
-    c.self.view_is (subst (NoWordFell (view_of c.self.inside)) (sym (there c)) (keeps c).1)
+    subst (λ (x : Replica). NoWordFell x (replica_inside (record c.self.inside { rows = c.push_row.new.self })))
+    c.self.view_is (subst (NoWordFell (replica_inside c.self.inside)) (sym (there c)) (keeps c).1)
 
 pub returns-clause-form : goal.returns-clause-form
 returns-clause-form c = subst HasForm (sym (there c)) (keeps c).0

@@ -2,7 +2,7 @@ use Rattle.std.proofs.Common.{◌≡◌, ◌≤◌, rules, sym, ap, subst, ◌�
 use Rattle.dr_program.specs.Form.{HasForm}
 use Rattle.dr_program.specs.Replica.{Replica, least_seen, put}
 use Rattle.dr_ring.specs.Slots.{IsFree}
-use Rattle.dr_replica.specs.Inside.{view_of}
+use Rattle.dr_replica.specs.Inside.{replica_inside}
 use Rattle.dr_form.specs.Puts.{MayPut}
 use Rattle.dr_form.proofs.Keeps.{put_form}
 use Rattle.dr_replica.proofs.Received.{put_received}
@@ -53,9 +53,9 @@ pub invariant_of-self : goal.invariant_of-self
 invariant_of-self c =
     let may = subst (λ (r : Replica). HasForm r → MayPut r c.args.name c.args.item) (sym c.self.view_is)
     c.requires c.self.invariant.form in
-    let there : view_of (record c.self.inside
+    let there : replica_inside (record c.self.inside
     { rows = c.show_items.new.rows; items = c.take.new.self; sent = c.push.new.self })
-    ≡ put (view_of c.self.inside) c.args.name c.args.item =
+    ≡ put (replica_inside c.self.inside) c.args.name c.args.item =
     put_after c.self.inside c.show_items.new.rows c.me-me.result c.count.result c.args.name c.args.item
     c.put.new.rows c.take.new.self c.push.new.self.items c.self.invariant may
     (was (goal.at.invariant_of-self c).After-take)
@@ -63,8 +63,8 @@ invariant_of-self c =
     items_kept c.self.inside c.show_items.new.rows c.take.new.self c.me-me.result c.args.item
     c.push.new.self c.self.invariant c.take.ensures
     (le_trans c.self.invariant.sent c.push.ensures.capacity) (ap (λ (r : Replica). r.rows.me) there)
-    (subst HasForm (sym there) (put_form (view_of c.self.inside) c.args.name c.args.item
+    (subst HasForm (sym there) (put_form (replica_inside c.self.inside) c.args.name c.args.item
     c.self.invariant.form may))
-    (subst (λ (r : Replica). least_seen (view_of c.self.inside) RECEIVED_COLUMN
+    (subst (λ (r : Replica). least_seen (replica_inside c.self.inside) RECEIVED_COLUMN
     ≤ least_seen r RECEIVED_COLUMN) (sym there)
-    (put_received (view_of c.self.inside) c.args.name c.args.item c.self.invariant.form may))
+    (put_received (replica_inside c.self.inside) c.args.name c.args.item c.self.invariant.form may))

@@ -4,7 +4,7 @@ use Rattle.std.proofs.lemmas.List.{get_or-set_same}
 use Rattle.dr_replica.specs.Items.{Held}
 use Rattle.dr_program.specs.Replica.{Replica, count, is_wedged, least_seen, may_receive, received}
 use Rattle.dr_program.specs.Form.{HasForm}
-use Rattle.dr_replica.specs.Inside.{view_of}
+use Rattle.dr_replica.specs.Inside.{replica_inside}
 use Rattle.dr_form.proofs.Keeps.{open_recv, received_form}
 use Rattle.dr_replica.proofs.Received.{received_received}
 use Rattle.dr_words.specs.declared.column.TheConstants.{RECEIVED_COLUMN}
@@ -15,7 +15,7 @@ use Rattle.dr_replica.proofs.replica.Replica.receive.Goals as goal
 
 pub show_items-requires-clause-recv : goal.show_items-requires-clause-recv
 show_items-requires-clause-recv c =
-    let r : Replica = view_of c.self.inside in
+    let r : Replica = replica_inside c.self.inside in
     let s : ℕ = c.args.sender in
     let within : s < r.roster = subst (λ (q : Replica). s < q.roster)
     (sym c.self.view_is) c.requires.sender in
@@ -36,15 +36,15 @@ show_items-requires-clause-received c =
 
 pub taken-item-requires-clause-ready : goal.taken-item-requires-clause-ready
 taken-item-requires-clause-ready c =
-    let r : Replica = view_of c.self.inside in
+    let r : Replica = replica_inside c.self.inside in
     let may : may_receive r c.args.sender ≡ true = may_of (λ (q : Replica). may_receive q c.args.sender) r
     c.args.self.now c.self.view_is c.requires.may in
     subst (λ (k : ℕ). IsReady k (slot_of r.window r.rows c.args.sender k)) (sym c.count-count.ensures.count)
     (item_waits r c.args.sender may)
 
 there : (c : goal.After-show_items)
-    → view_of (record c.self.inside { rows = c.show_items.new.rows; items = c.take.new.self })
-    ≡ received (view_of c.self.inside) c.args.sender
+    → replica_inside (record c.self.inside { rows = c.show_items.new.rows; items = c.take.new.self })
+    ≡ received (replica_inside c.self.inside) c.args.sender
 there c =
     received_after c.self.inside c.show_items.new.rows c.take.new.self c.args.sender c.count-count.result
     c.taken-item.result c.self.invariant
@@ -52,9 +52,9 @@ there c =
     c.count-count.ensures.count c.taken-item.ensures.item c.take.ensures
     c.show_items.ensures
 
-may : (c : goal.After-show_items) → may_receive (view_of c.self.inside) c.args.sender ≡ true
+may : (c : goal.After-show_items) → may_receive (replica_inside c.self.inside) c.args.sender ≡ true
 may c = may_of (λ (r : Replica). may_receive r c.args.sender)
-    (view_of c.self.inside) c.args.self.now c.self.view_is c.requires.may
+    (replica_inside c.self.inside) c.args.self.now c.self.view_is c.requires.may
 
 pub invariant_of-self : goal.invariant_of-self
 invariant_of-self c =
@@ -62,10 +62,10 @@ invariant_of-self c =
     c.self.inside.sent c.self.invariant c.take.ensures c.self.invariant.sent
     (ap (λ (r : Replica). r.rows.me) (there c))
     (subst HasForm (sym (there c))
-    (received_form (view_of c.self.inside) c.args.sender c.self.invariant.form (may c)))
-    (subst (λ (r : Replica). least_seen (view_of c.self.inside) RECEIVED_COLUMN
+    (received_form (replica_inside c.self.inside) c.args.sender c.self.invariant.form (may c)))
+    (subst (λ (r : Replica). least_seen (replica_inside c.self.inside) RECEIVED_COLUMN
     ≤ least_seen r RECEIVED_COLUMN) (sym (there c))
-    (received_received (view_of c.self.inside) c.args.sender c.self.invariant.form (may c)))
+    (received_received (replica_inside c.self.inside) c.args.sender c.self.invariant.form (may c)))
 
 pub returns : goal.returns
 returns c = there c ∙ ap (λ (r : Replica). received r c.args.sender) c.self.view_is

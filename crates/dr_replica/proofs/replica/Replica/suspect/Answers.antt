@@ -3,13 +3,13 @@ use Rattle.dr_rows.specs.Words.{own}
 use Rattle.dr_program.specs.Replica.{Replica, may_suspect, suspected}
 use Rattle.dr_words.specs.Masks.{least_of, without}
 use Rattle.dr_words.specs.Rewrites.{wedged_word}
-use Rattle.dr_replica.specs.Inside.{view_of}
+use Rattle.dr_replica.specs.Inside.{replica_inside}
 use Rattle.dr_replica.proofs.Insides.{may_of, suspected_after, suspected_kept, voter_read}
 use Rattle.dr_form.proofs.Wedging.{recv_small, suspected_rises}
 use Rattle.dr_replica.proofs.replica.Replica.suspect.Goals as goal
 
 pub rewrite-requires-clause-recv : goal.rewrite-requires-clause-recv
-rewrite-requires-clause-recv c = recv_small (view_of c.self.inside) c.self.invariant.form
+rewrite-requires-clause-recv c = recv_small (replica_inside c.self.inside) c.self.invariant.form
 
 pub rewrite-requires-clause-rises : goal.rewrite-requires-clause-rises
 rewrite-requires-clause-rises c = λ column.
@@ -17,18 +17,18 @@ rewrite-requires-clause-rises c = λ column.
     let voter = voter_read a c.add.new.self c.mask.result c.unwrap.result c.unsuspected.result
     c.self.invariant c.add.ensures.rest c.mask.ensures.value c.unsuspected.ensures.members
     (sym c.least.ensures.first ∙ c.unwrap.ensures) in
-    let may = may_of (λ (r : Replica). may_suspect r c.args.other) (view_of a) c.args.self.now
+    let may = may_of (λ (r : Replica). may_suspect r c.args.other) (replica_inside a) c.args.self.now
     c.self.view_is c.requires in
     subst (λ (p : ℕ). own a.rows column
     ≤ wedged_word a.shape.members a.members c.mask.result p column (own a.rows column)) (sym voter)
     (subst (λ (m : ℕ). own a.rows column
     ≤ wedged_word a.shape.members a.members m (least_of (without a.members m)) column (own a.rows column))
     (sym (c.mask.ensures.value ∙ c.add.ensures.suspects))
-    (suspected_rises (view_of a) c.args.other column c.self.invariant.form may))
+    (suspected_rises (replica_inside a) c.args.other column c.self.invariant.form may))
 
 there : (c : goal.After-freeze)
-    → view_of (record c.self.inside { rows = c.freeze.new.self; suspects = c.add.new.self })
-    ≡ suspected (view_of c.self.inside) c.args.other
+    → replica_inside (record c.self.inside { rows = c.freeze.new.self; suspects = c.add.new.self })
+    ≡ suspected (replica_inside c.self.inside) c.args.other
 there c =
     let voter = voter_read c.self.inside c.add.new.self c.mask.result c.unwrap.result c.unsuspected.result
     c.self.invariant c.add.ensures.rest c.mask.ensures.value c.unsuspected.ensures.members
@@ -39,7 +39,7 @@ there c =
 
 pub invariant_of-self : goal.invariant_of-self
 invariant_of-self c =
-    let may = may_of (λ (r : Replica). may_suspect r c.args.other) (view_of c.self.inside)
+    let may = may_of (λ (r : Replica). may_suspect r c.args.other) (replica_inside c.self.inside)
     c.args.self.now c.self.view_is c.requires in
     suspected_kept c.self.inside c.add.new.self c.freeze.new.self c.args.other c.self.invariant may
     c.add.ensures.rest (there c)

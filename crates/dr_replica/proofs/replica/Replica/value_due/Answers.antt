@@ -1,14 +1,14 @@
 use Rattle.std.proofs.Common.{◌≡◌, false, is_some, sym, ap, ◌∙◌}
 use Rattle.dr_program.specs.Replica.{may_propose, value_due}
-use Rattle.dr_replica.specs.Inside.{view_of}
+use Rattle.dr_replica.specs.Inside.{replica_inside}
 use Rattle.dr_replica.proofs.Choosing.{accepts, propose_told, proposes, stands}
 use Rattle.dr_replica.proofs.replica.Replica.value_due.Goals as goal
 
 pub returns-in-Some : goal.returns-in-Some
 returns-in-Some c =
-    proposes (view_of c.self.inside) c.standing-standing.result c.try_propose.result c.in-Some.value
+    proposes (replica_inside c.self.inside) c.standing-standing.result c.try_propose.result c.in-Some.value
     c.self.invariant.form
-    (stands (view_of c.self.inside) c.args.self.now c.standing-standing.result c.self.view_is
+    (stands (replica_inside c.self.inside) c.args.self.now c.standing-standing.result c.self.view_is
     c.standing-standing.ensures.form c.standing-standing.ensures.members c.standing-standing.ensures.suspects
     c.standing-standing.ensures.logged)
     c.try_propose.ensures c.in-Some.is c.has_all_trims.ensures ∙ ap value_due c.self.view_is
@@ -16,16 +16,16 @@ returns-in-Some c =
 pub returns : goal.returns
 returns c =
     let none : is_some c.try_propose.result ≡ false = ap is_some c.in_default.is in
-    let told : is_some c.try_propose.result ≡ may_propose (view_of c.self.inside) =
-    propose_told (view_of c.self.inside) c.standing-standing.result c.try_propose.result
+    let told : is_some c.try_propose.result ≡ may_propose (replica_inside c.self.inside) =
+    propose_told (replica_inside c.self.inside) c.standing-standing.result c.try_propose.result
     c.self.invariant.form
-    (stands (view_of c.self.inside) c.args.self.now c.standing-standing.result c.self.view_is
+    (stands (replica_inside c.self.inside) c.args.self.now c.standing-standing.result c.self.view_is
     c.standing-standing.ensures.form c.standing-standing.ensures.members c.standing-standing.ensures.suspects
     c.standing-standing.ensures.logged)
     c.try_propose.ensures in
-    accepts (view_of c.self.inside) c.standing-standing.result c.promised_value-value.result
+    accepts (replica_inside c.self.inside) c.standing-standing.result c.promised_value-value.result
     c.self.invariant.form
-    (stands (view_of c.self.inside) c.args.self.now c.standing-standing.result c.self.view_is
+    (stands (replica_inside c.self.inside) c.args.self.now c.standing-standing.result c.self.view_is
     c.standing-standing.ensures.form c.standing-standing.ensures.members c.standing-standing.ensures.suspects
     c.standing-standing.ensures.logged)
     (sym told ∙ none) c.promised_value-value.ensures c.has_all_trims-2.ensures

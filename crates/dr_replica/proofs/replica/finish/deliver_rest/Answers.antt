@@ -3,7 +3,7 @@ use Rattle.dr_entry.specs.declared.entry.Entry.{Entry}
 use Rattle.dr_entry.specs.declared.entry.Item.{Item}
 use Rattle.dr_machine.specs.Effects.{entries_of}
 use Rattle.dr_replica.specs.History.{Kept}
-use Rattle.dr_replica.specs.Items.{sender_at}
+use Rattle.dr_replica.specs.Items.{sender_held_at}
 use Rattle.dr_replica.proofs.Delivering.{fewer_left, history_is, merged_longer, next_merged, none_merged}
 use Rattle.dr_replica.specs.Rests.{merged_from, with_item}
 use Rattle.dr_replica.proofs.replica.finish.deliver_rest.Goals as goal
@@ -56,7 +56,7 @@ loop-spot-preserved c = record {
     entries : c.deliver.new.self.entries ≡ with_item c.args.items.now before c.in-Some.spot.place
     entries = ap (λ (h : Kept). h.entries) c.deliver.ensures
         ∙ ap (λ (s : ℕ). before ++ entries_of before s c.item_at.result.now) c.sender_at.ensures.sender
-        ∙ ap (λ (x : Item). before ++ entries_of before (sender_at c.args.items.now c.in-Some.spot.place) x)
+        ∙ ap (λ (x : Item). before ++ entries_of before (sender_held_at c.args.items.now c.in-Some.spot.place) x)
         c.item_at.ensures
 
 pub returns : goal.returns

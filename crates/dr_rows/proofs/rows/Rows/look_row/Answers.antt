@@ -1,7 +1,7 @@
 use Rattle.std.proofs.Common.{◌≡◌, ◌+◌, ◌*◌, ◌-◌, ◌<◌, ℕ, set, slice_index, sym, ap, subst, ◌∙◌, arith}
 use Rattle.std.proofs.lemmas.List.{length-set}
 use Rattle.dr_rows.specs.Along.{looked_along}
-use Rattle.dr_rows.specs.Growth.{HasGrown}
+use Rattle.dr_rows.specs.Growth.{RowsGrew}
 use Rattle.dr_rows.specs.Words.{IsWords, Words, looked, row_of, seen}
 use Rattle.dr_rows.proofs.Along.{IsInside-lent, by_columns, grown_on, look_grown, look_written, looked_more, row_beside, seen_behind}
 use Rattle.dr_rows.proofs.WordsLemmas.{IsWords-looked}
@@ -37,7 +37,7 @@ loop-column-preserved c =
           ∙ sym (looked_more i table c.args.first w c.args.from (column - c.args.from) column so_far)
           ∙ ap (looked_along i table c.args.first w c.args.from) (sym next);
       grown = grown_on w (by_columns w flat) (by_columns w (set flat c.loop-column.cell v)) before.grown
-          (subst (HasGrown (by_columns w flat)) (sym written)
+          (subst (RowsGrew (by_columns w flat)) (sym written)
           (look_grown (by_columns w flat) i column v before.form c.requires.row low c.requires.other
           c.requires.unfrozen (omega (arith, here, c.requires.grown column before.from low))));
       form = subst IsWords (sym written)

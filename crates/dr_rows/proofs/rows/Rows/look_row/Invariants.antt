@@ -1,5 +1,5 @@
 use Rattle.std.proofs.Common.{◌≡◌, ◌+◌, ◌-◌, ◌*◌, ◌≤◌}
-use Rattle.dr_rows.specs.Growth.{HasGrown}
+use Rattle.dr_rows.specs.Growth.{RowsGrew}
 use Rattle.dr_rows.specs.Along.{looked_along}
 use Rattle.dr_rows.proofs.Along.{IsFlat, by_columns}
 use Rattle.dr_rows.specs.Words.{IsWords}
@@ -13,6 +13,6 @@ invariant-loop-column l = record {
   long : IsFlat l.fn.self l.words;
   after : by_columns l.fn.self l.words
       ≡ looked_along l.row l.table l.first l.fn.self l.from (l.column - l.from);
-  grown : HasGrown l.fn.self (by_columns l.fn.self l.words);
+  grown : RowsGrew l.fn.self (by_columns l.fn.self l.words);
   form : IsWords (by_columns l.fn.self l.words);
 }

@@ -1,5 +1,5 @@
 use Rattle.std.proofs.Common.{ap, ◌∙◌, replicate, false, arith}
-use Rattle.dr_rows.specs.Inside.{view_of}
+use Rattle.dr_rows.specs.Inside.{rows_inside}
 use Rattle.dr_rows.specs.Words.{renewed}
 use Rattle.dr_rows.proofs.Vectors.{IsBlank, begun_blank, own_long, IsInside-begun, IsFresh-blank}
 use Rattle.dr_rows.specs.declared.rows.Rows.TheInside.{Inside}
@@ -13,7 +13,7 @@ blank : (c : goal.After-fill-4) → IsBlank (inside c)
 unfolding inside
 blank c = record {
   own = c.fill.ensures.items (λ y h. h) ∙ ap (λ n. replicate n 0) (let long =
-      own_long c.self.inside (view_of c.self.inside) (λ i. view_of c.self.inside) c.self.invariant in omega (arith, long));
+      own_long c.self.inside (rows_inside c.self.inside) (λ i. rows_inside c.self.inside) c.self.invariant in omega (arith, long));
   words = c.fill-2.ensures.items (λ y h. h) ∙ ap (λ n. replicate n 0) (omega arith);
   sent = c.fill-3.ensures.items (λ y h. h) ∙ ap (λ n. replicate n 0) (omega arith);
   frozen = c.fill-4.ensures.items (λ y h. h) ∙ ap (λ n. replicate n false) (omega arith);

@@ -1,5 +1,5 @@
 use Rattle.std.proofs.Common.{rules, sym, subst}
-use Rattle.dr_rows.specs.Growth.{HasGrown}
+use Rattle.dr_rows.specs.Growth.{RowsGrew}
 use Rattle.dr_rows.proofs.Vectors.{looked_written, own_place, present, IsInside-own}
 use Rattle.dr_rows.proofs.rows.Rows.set_own.Goals as goal
 
@@ -19,4 +19,4 @@ pub returns-clause-form : goal.returns-clause-form
 returns-clause-form c = (invariant_of-self c).form
 
 pub returns-clause-grown : goal.returns-clause-grown
-returns-clause-grown c = subst (HasGrown c.args.self.now) (sym (returns-clause-after c)) (search rules)
+returns-clause-grown c = subst (RowsGrew c.args.self.now) (sym (returns-clause-after c)) (search rules)
