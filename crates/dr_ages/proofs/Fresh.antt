@@ -19,7 +19,7 @@ use Rattle.dr_history.specs.declared.opening.Opening.{Opening}
 use Rattle.dr_history.specs.Agreement.{accounts_of, sent_by}
 use Rattle.dr_history.specs.History.{GroupView, IsPrefixOf, Sent, view_after, view_of}
 use Rattle.dr_history.specs.Members.{members_of}
-use Rattle.dr_history.specs.Order.{InOrder, MayFollow, first_entries}
+use Rattle.dr_history.specs.Order.{InOrder, IsSucceededBy, first_entries}
 use Rattle.dr_history.specs.Restarting.{IsLongest, next_age}
 use Rattle.dr_history.proofs.ViewLemmas.{view_of-View, view_of-Msg}
 use Rattle.dr_history_laws.proofs.Lengths.{start-few}
@@ -65,12 +65,12 @@ age_after o sent h i (suc d) u order l within e =
         → (x : Entry) × (slice_get h (i + d) ≡ Some x)
         → (w : GroupView) × (view_of (take (i + suc d) h) ≡ Some w) × (w.age ≡ u.age)
     next r (View a n m, at) =
-        let follows = IsSomeAnd-at (view_of (take (i + d) h)) (λ v. MayFollow v a n m) r.0 r.1
+        let succeeded = IsSomeAnd-at (view_of (take (i + d) h)) (λ v. IsSucceededBy v a n m) r.0 r.1
         (order.views (i + d) a n m (omega (arith, l)) at) in (
           record { age = a; number = n; members = members_of m },
           ap (λ j. view_of (take j h)) place
               ∙ (ap view_of (take-next h (i + d) (View a n m) at) ∙ view_of-View (take (i + d) h) a n m),
-          follows.same_age ∙ r.2,
+          succeeded.follows.same_age ∙ r.2,
         )
     next r (Msg s j b, at) = (
       r.0,

@@ -1,5 +1,5 @@
 -- What it is for a history to be in order.
-use Rattle.std.specs.Prelude.{◌≡◌, ◌≢◌, ⊤, ℕ, ◌+◌, ◌^◌, ◌<◌, ◌==◌, Bool, false, List, [], ◌∷◌, ◌++◌, length, map, filter, take, All, Contains, slice_get, Some, IsSome, IsSomeAnd}
+use Rattle.std.specs.Prelude.{◌≡◌, ◌≢◌, ⊤, ℕ, ◌+◌, ◌*◌, ◌^◌, ◌<◌, ◌==◌, Bool, false, List, [], ◌∷◌, ◌++◌, length, map, filter, take, All, Contains, slice_get, Some, IsSome, IsSomeAnd}
 use Rattle.std.specs.List.{enumerate_from}
 use Rattle.dr_entry.specs.declared.entry.Entry.{Entry}
 use Rattle.dr_entry.specs.declared.entry.Entry.TheVariants.{View, Msg}
@@ -24,6 +24,11 @@ pub record MayFollow (v : GroupView) (age number members : ℕ) : Type 0 where
   pub fewer : length (members_of members) < length v.members
   pub numbers : members < 2 ^ 16
 
+-- a View by which a view may be succeeded: one that may follow it, with more than half of its members
+pub record IsSucceededBy (v : GroupView) (age number members : ℕ) : Type 0 where
+  pub follows : MayFollow v age number members
+  pub majority : length v.members < 2 * length (members_of members)
+
 -- the messages of a sender among the entries
 abbrev pub messages_from : ℕ → List Entry → List Entry
 messages_from s es = filter is_from es
@@ -45,10 +50,10 @@ IsDelivered h s (Index i) = (b : List ℕ) × Contains h (Msg s i b)
 pub record InOrder (o : Opening) (sent : Sent) (h : List Entry) : Type 0 where
   -- it begins with the start, followed by View 0 of all members
   pub begins : IsPrefixOf (first_entries o) h
-  -- each later View may follow the view before it
+  -- each later View is one by which the view before it may be succeeded
   pub views : (i age number members : ℕ) → length o.start < i → slice_get h i
       ≡ Some (View age number members)
-      → IsSomeAnd (view_of (take i h)) (λ v. MayFollow v age number members)
+      → IsSomeAnd (view_of (take i h)) (λ v. IsSucceededBy v age number members)
   -- each message after the start was sent in the view in which it was delivered, by a member of it
   pub placed : (i s index : ℕ) (b : List ℕ) → length o.start < i → slice_get h i
       ≡ Some (Msg s index b)

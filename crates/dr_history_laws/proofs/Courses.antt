@@ -5,7 +5,7 @@ use Rattle.dr_entry.specs.declared.entry.Entry.TheVariants.{View}
 use Rattle.dr_history.specs.declared.opening.Opening.{Opening}
 use Rattle.dr_history.specs.Places.{front_of}
 use Rattle.dr_history.specs.History.{IsPrefixOf, Sent, merge, view_of}
-use Rattle.dr_history.specs.Order.{InOrder, MayFollow, first_entries}
+use Rattle.dr_history.specs.Order.{InOrder, IsSucceededBy, first_entries}
 use Rattle.dr_history.specs.Agreement.{SamePast}
 use Rattle.dr_history.specs.Soundness.{Sound}
 use Rattle.dr_history_laws.specs.Laid.{EndsWithView, HeldBelow, SentMore, laid}
@@ -86,8 +86,8 @@ InOrder-head o sent endings (suc v) sound may =
     (suc v) (endings v).remaining
     (InOrder-head o sent endings v sound (may_come-less o sent endings v may))
     (head-ends o sent endings v) (may.goes v (omega arith))
-    (subst (λ n. MayFollow (view_in o endings v) o.age n (endings v).remaining) next
-    (may.ended v (omega arith)).follows)
+    (subst (λ n. IsSucceededBy (view_in o endings v) o.age n (endings v).remaining) next
+    (may.ended v (omega arith)).succeeded)
 
 -- and so is what has come to a place
 pub InOrder-course : (o : Opening) (sent : Sent) (endings : ViewEnds) (v p : ℕ) → Sound o
@@ -216,7 +216,7 @@ course-steady o sent now endings v p more ended held =
 pub ended-steady : (o : Opening) (sent now : Sent) (endings : ViewEnds) (v : ℕ) → SentMore sent now
     → ViewHasEnded o sent endings v → ViewHasEnded o now endings v
 ended-steady o sent now endings v more ended = record {
-  follows = ended.follows;
+  succeeded = ended.succeeded;
   given = λ s member. longer (sent s v) (now s v) (ended.given s member) (more s v);
 }
   where

@@ -10,7 +10,7 @@ use Rattle.dr_entry.specs.declared.end.SentItem.TheVariants.{Index}
 use Rattle.dr_history.specs.declared.opening.Opening.{Opening}
 use Rattle.dr_history.specs.Places.{is_held, held_places, front_of}
 use Rattle.dr_history.specs.History.{IsPrefixOf, GroupView, Sent, messages_in, entry_of, item_at, merge}
-use Rattle.dr_history.specs.Order.{InOrder, MayFollow, messages_from}
+use Rattle.dr_history.specs.Order.{InOrder, IsSucceededBy, messages_from}
 use Rattle.dr_history_laws.specs.Laid.{laid, entry_at, EndsWithView, GoesOn, SentMore, SentMoreIn}
 use Rattle.dr_history_laws.proofs.Lists.{Contains-slice_get, slice_get-some, slice_get-take, slice_get-prefix, take-prefix}
 use Rattle.dr_history_laws.proofs.LooseOrder.{InLooseOrder, InLooseOrder-from}
@@ -128,18 +128,18 @@ cut_merge o sent v taken =
     (range_with_len 0 (top_place (map taken v.members))) (λ q held. cut_entry o sent v taken q held)) ∙
     merge-laid o (cut sent v taken) v taken (cut_counts sent v taken)
 
--- a history in order, the merge of what is taken of its view, and a View that may follow
+-- a history in order, the merge of what is taken of its view, and a View by which this may be succeeded
 pub InOrder-next_view : (o : Opening) (sent : Sent) (before : List Entry) (v : GroupView)
     (taken : ℕ → ℕ) (age number mask : ℕ)
     → InOrder o sent before → EndsWithView before v → GoesOn o sent before v
-    → MayFollow v age number mask
+    → IsSucceededBy v age number mask
     → InOrder o sent ((before ++ merge o sent v (map taken v.members)) ++ View age number mask ∷ [])
-InOrder-next_view o sent before v taken age number mask order ends goes follows =
+InOrder-next_view o sent before v taken age number mask order ends goes succeeded =
     subst (λ es. InOrder o sent ((before ++ es) ++ View age number mask ∷ []))
     (sym (cut_merge o sent v taken))
     (InOrder-steady o less sent ((before ++ laid o less v top) ++ View age number mask ∷ [])
     (cut_prefix sent v taken)
-    (InOrder-View o less (before ++ laid o less v top) v age number mask r.ordered r.view follows))
+    (InOrder-View o less (before ++ laid o less v top) v age number mask r.ordered r.view succeeded))
   where
     less : Sent
     less = cut sent v taken

@@ -1,5 +1,5 @@
--- A View that may follow puts a history in its view, and brings it in order again; what is sent in a view
--- is nothing to the history before it.
+-- A View by which the view of a history may be succeeded puts it in the new view, and brings it in order again;
+-- what is sent in a view is nothing to the history before it.
 use Rattle.std.proofs.Common.{◌≡◌, ◌≢◌, refl, ap, sym, ◌∙◌, ◌⊎◌, inl, inr, subst, ℕ, ◌<◌, ◌≤◌, arith, List, [], ◌∷◌, ◌++◌, length, take, Option, None, Some, slice_get, is_some, IsSome, IsSomeAnd, append_assoc, length-append}
 use Rattle.std.proofs.lemmas.Bool.{cases_lt}
 use Rattle.std.proofs.lemmas.List.{take_at}
@@ -9,7 +9,7 @@ use Rattle.dr_entry.specs.declared.entry.Entry.TheVariants.{View, Msg}
 use Rattle.dr_history.specs.declared.opening.Opening.{Opening}
 use Rattle.dr_history.specs.Members.{members_of}
 use Rattle.dr_history.specs.History.{IsPrefixOf, GroupView, Sent, view_of, place_of_entry, place_at}
-use Rattle.dr_history.specs.Order.{InOrder, MayFollow, numbered_messages}
+use Rattle.dr_history.specs.Order.{InOrder, IsSucceededBy, numbered_messages}
 use Rattle.dr_history.proofs.ViewLemmas.{view_of-View}
 use Rattle.dr_history.proofs.NumberedLemmas.{messages_from-View}
 use Rattle.dr_history_laws.specs.Laid.{EndsWithView}
@@ -34,8 +34,8 @@ place_at-old sent h a n m i p at =
 -- with the View the history is in loose order
 loose_View : (o : Opening) (sent : Sent) (h : List Entry) (v : GroupView) (a n m : ℕ)
     → InLooseOrder o sent h → view_of h ≡ Some v
-    → MayFollow v a n m → InLooseOrder o sent (h ++ View a n m ∷ [])
-loose_View o sent h v a n m order view follows = record {
+    → IsSucceededBy v a n m → InLooseOrder o sent (h ++ View a n m ∷ [])
+loose_View o sent h v a n m order view succeeded = record {
   begins = (
     order.begins.0 ++ View a n m ∷ [],
     sym (append_assoc _ order.begins.0 (View a n m ∷ []))
@@ -55,9 +55,9 @@ loose_View o sent h v a n m order view follows = record {
     views : (i age number members : ℕ) → length o.start < i
         → ((i < length h) × (slice_get h i ≡ Some (View age number members)))
         ⊎ ((i ≡ length h) × (View a n m ≡ View age number members))
-        → IsSomeAnd (view_of (take i (h ++ View a n m ∷ []))) (λ u. MayFollow u age number members)
+        → IsSomeAnd (view_of (take i (h ++ View a n m ∷ []))) (λ u. IsSucceededBy u age number members)
     views i age number members after (inl old) =
-        subst (λ (z : Option GroupView). IsSomeAnd z (λ u. MayFollow u age number members))
+        subst (λ (z : Option GroupView). IsSomeAnd z (λ u. IsSucceededBy u age number members))
         (sym (view_of-left h (View a n m ∷ []) i (omega (arith, old.0))))
         (order.views i age number members after old.1)
     views i age number members after (inr new) =
@@ -68,8 +68,8 @@ loose_View o sent h v a n m order view follows = record {
         let here : view_of (take i (h ++ View a n m ∷ [])) ≡ Some v =
         ap (λ k. view_of (take k (h ++ View a n m ∷ []))) new.0
         ∙ (ap view_of (take_at h (View a n m ∷ []) (length h) refl) ∙ view) in
-        subst (λ (z : Option GroupView). IsSomeAnd z (λ u. MayFollow u age number members)) (sym here)
-        (rw (← same_age, ← same_number, ← same_members) follows)
+        subst (λ (z : Option GroupView). IsSomeAnd z (λ u. IsSucceededBy u age number members)) (sym here)
+        (rw (← same_age, ← same_number, ← same_members) succeeded)
 
     placed : (i s index : ℕ) (b : List ℕ) → length o.start < i
         → ((i < length h) × (slice_get h i ≡ Some (Msg s index b)))
@@ -91,11 +91,11 @@ loose_View o sent h v a n m order view follows = record {
 -- and in order, since nothing was delivered in the new view
 pub InOrder-View : (o : Opening) (sent : Sent) (h : List Entry) (v : GroupView) (a n m : ℕ)
     → InLooseOrder o sent h → view_of h ≡ Some v
-    → MayFollow v a n m → InOrder o sent (h ++ View a n m ∷ [])
-InOrder-View o sent h v a n m order view follows = InOrder-from o sent (h ++ View a n m ∷ []) now whole
+    → IsSucceededBy v a n m → InOrder o sent (h ++ View a n m ∷ [])
+InOrder-View o sent h v a n m order view succeeded = InOrder-from o sent (h ++ View a n m ∷ []) now whole
   where
     now : InLooseOrder o sent (h ++ View a n m ∷ [])
-    now = loose_View o sent h v a n m order view follows
+    now = loose_View o sent h v a n m order view succeeded
 
     whole : LastViewWhole o sent (h ++ View a n m ∷ [])
     whole i p q w after before_i last at l =

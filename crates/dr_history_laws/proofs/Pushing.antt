@@ -7,7 +7,7 @@ use Rattle.dr_entry.specs.declared.entry.Entry.{Entry}
 use Rattle.dr_entry.specs.declared.entry.Entry.TheVariants.{View, Msg}
 use Rattle.dr_history.specs.declared.opening.Opening.{Opening}
 use Rattle.dr_history.specs.History.{IsPrefixOf, GroupView, Sent, view_of, messages_of, place_in, place_at}
-use Rattle.dr_history.specs.Order.{MayFollow, messages_from, numbered_messages}
+use Rattle.dr_history.specs.Order.{IsSucceededBy, messages_from, numbered_messages}
 use Rattle.dr_history.proofs.NumberedLemmas.{messages_from-other, messages_from-Msg, numbered_messages-more}
 use Rattle.dr_history_laws.proofs.Lists.{slice_get-seam, slice_get-push_cases}
 use Rattle.dr_history_laws.proofs.LooseOrder.{place_at-within, view_of-left, place_at-left, InLooseOrder}
@@ -59,14 +59,14 @@ views_pushed : (o : Opening) (sent : Sent) (h : List Entry) (s i : ℕ) (b : Lis
     → length o.start < j
     → slice_get (h ++ Msg s i b ∷ []) j ≡ Some (View age number members)
     → IsSomeAnd (view_of (take j (h ++ Msg s i b ∷ [])))
-    (λ v. MayFollow v age number members)
+    (λ v. IsSucceededBy v age number members)
 views_pushed o sent h s i b j age number members order after at =
     by (slice_get-push_cases h (Msg s i b) (View age number members) j at)
   where
     by : ((j < length h) × (slice_get h j ≡ Some (View age number members)))
         ⊎ ((j ≡ length h) × (Msg s i b ≡ View age number members))
-        → IsSomeAnd (view_of (take j (h ++ Msg s i b ∷ []))) (λ v. MayFollow v age number members)
-    by (inl r) = subst (λ (z : Option GroupView). IsSomeAnd z (λ v. MayFollow v age number members))
+        → IsSomeAnd (view_of (take j (h ++ Msg s i b ∷ []))) (λ v. IsSucceededBy v age number members)
+    by (inl r) = subst (λ (z : Option GroupView). IsSomeAnd z (λ v. IsSucceededBy v age number members))
         (sym (view_of-left h (Msg s i b ∷ []) j (omega (arith, r.0))))
         (order.views j age number members after r.1)
     by (inr r) = let same = r.1 in absurd (cc)

@@ -1,5 +1,5 @@
 -- Who is not of a view has no more messages behind it: no later view of its age takes it in again.
-use Rattle.std.proofs.Common.{◌≡◌, ◌⊎◌, ap, arith, inl, inr, ne_eqb, refl, subst, suc, sym, zero, Contains, List, [], ◌∷◌, ◌++◌, ℕ, ◌+◌, ◌<◌, ◌∙◌, ◌≤◌, ◌-◌, length, take, slice_get, Some}
+use Rattle.std.proofs.Common.{◌≡◌, ap, arith, ne_eqb, refl, subst, suc, sym, zero, Contains, List, ℕ, ◌+◌, ◌<◌, ◌∙◌, ◌≤◌, ◌-◌, length, take, slice_get, Some}
 use Rattle.std.proofs.lemmas.List.{take_all}
 use Rattle.std.proofs.lemmas.List.Elements.{All-contains}
 use Rattle.dr_entry.specs.declared.entry.Entry.{Entry}
@@ -7,7 +7,7 @@ use Rattle.dr_entry.specs.declared.entry.Entry.TheVariants.{View, Msg}
 use Rattle.dr_history.specs.declared.opening.Opening.{Opening}
 use Rattle.dr_history.specs.History.{GroupView, Sent, view_of}
 use Rattle.dr_history.specs.Members.{members_of}
-use Rattle.dr_history.specs.Order.{InOrder, MayFollow, messages_from}
+use Rattle.dr_history.specs.Order.{InOrder, IsSucceededBy, messages_from}
 use Rattle.dr_history.specs.Soundness.{Sound}
 use Rattle.dr_history.proofs.NumberedLemmas.{messages_from-View, messages_from-other}
 use Rattle.dr_history.proofs.ViewLemmas.{view_of-Msg, view_of-View}
@@ -29,8 +29,8 @@ quiet-next o sent h s i given (View a k m) sound order l at q = record {
   view = record { age = a; number = k; members = members_of m };
   is = ap view_of (take-next h i (View a k m) at) ∙ view_of-View (take i h) a k m;
   absent = λ there. q.absent (All-contains (λ t. Contains q.view.members t) (members_of m) s
-      (IsSomeAnd-at (view_of (take i h)) (λ v. MayFollow v a k m) q.view q.is (order.views i a k m l at)).part
-      there);
+      (IsSomeAnd-at (view_of (take i h)) (λ v. IsSucceededBy v a k m) q.view q.is
+      (order.views i a k m l at)).follows.part there);
   same = ap (messages_from s) (take-next h i (View a k m) at)
       ∙ messages_from-View s (take i h) a k m ∙ q.same;
 }

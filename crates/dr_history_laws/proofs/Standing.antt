@@ -9,12 +9,12 @@ use Rattle.dr_entry.specs.declared.entry.Entry.{Entry}
 use Rattle.dr_entry.specs.declared.entry.Entry.TheVariants.{View, Msg}
 use Rattle.dr_history.specs.declared.opening.Opening.{Opening}
 use Rattle.dr_history.specs.History.{IsPrefixOf, GroupView, Sent, view_of, messages_of, place_in, place_of_entry}
-use Rattle.dr_history.specs.Order.{InOrder, messages_from, numbered_messages}
+use Rattle.dr_history.specs.Order.{InOrder, IsSucceededBy, MayFollow, messages_from, numbered_messages}
 use Rattle.dr_history.specs.Restarting.{AllStand}
 use Rattle.dr_history.specs.Soundness.{Sound, MayStand}
 use Rattle.dr_history.proofs.NumberedLemmas.{messages_from-append, messages_from-Msg, length-numbered_messages, get_or-numbered_messages}
 use Rattle.dr_history.proofs.SentLemmas.{place_in-no_member}
-use Rattle.dr_history_laws.proofs.Lists.{slice_get-seam, slice_get-some, slice_get-prefix, take-next, take-prefix, value_of}
+use Rattle.dr_history_laws.proofs.Lists.{slice_get-seam, slice_get-some, slice_get-prefix, take-next, take-prefix, value_of, IsSomeAnd-more}
 
 -- ---- a message
 
@@ -94,7 +94,8 @@ history-stands o sent h sound order i e at = by (apart i (length o.start))
     starts = (first ∷ order.begins.0, sym (append_assoc o.start (first ∷ []) order.begins.0) ∙ order.begins.1)
 
     behind : (x : Entry) → slice_get h i ≡ Some x → length o.start < i → MayStand o (take i h) x
-    behind (View a n m) is more = inr (order.views i a n m more is)
+    behind (View a n m) is more = inr (IsSomeAnd-more (view_of (take i h)) (λ v. IsSucceededBy v a n m)
+        (λ v. MayFollow v a n m) (λ v s. s.follows) (order.views i a n m more is))
     behind (Msg s k b) is more = (
       place-member sent (view_of (take i h)) s k b
           (ap (λ z. is_some (option_and_then (place_of_entry sent (view_of (take i h))) z)) (sym is)

@@ -6,7 +6,7 @@ use Rattle.dr_entry.specs.declared.entry.Entry.TheVariants.{View, Msg}
 use Rattle.dr_history.specs.declared.opening.Opening.{Opening}
 use Rattle.dr_history.specs.Members.{members_of}
 use Rattle.dr_history.specs.History.{IsPrefixOf, GroupView, Sent, view_of}
-use Rattle.dr_history.specs.Order.{InOrder, MayFollow}
+use Rattle.dr_history.specs.Order.{InOrder, IsSucceededBy, MayFollow}
 use Rattle.dr_history.specs.Agreement.{SamePast}
 use Rattle.dr_history.specs.Restarting.{AllStand}
 use Rattle.dr_history.specs.Soundness.{Sound, MayStand}
@@ -121,12 +121,12 @@ number_after o sent h i (suc d) u order l within e =
         → (x : Entry) × (slice_get h (i + d) ≡ Some x)
         → (w : GroupView) × (view_of (take (i + suc d) h) ≡ Some w) × (u.number ≤ w.number)
     next r (View a n m, at) =
-        let follows = IsSomeAnd-at (view_of (take (i + d) h)) (λ v. MayFollow v a n m) r.0 r.1
+        let succeeded = IsSomeAnd-at (view_of (take (i + d) h)) (λ v. IsSucceededBy v a n m) r.0 r.1
         (order.views (i + d) a n m (omega arith) at) in (
           record { age = a; number = n; members = members_of m },
           ap (λ j. view_of (take j h)) place
               ∙ (ap view_of (take-next h (i + d) (View a n m) at) ∙ view_of-View (take (i + d) h) a n m),
-          omega (arith, r.2, follows.next_number),
+          omega (arith, r.2, succeeded.follows.next_number),
         )
     next r (Msg s j b, at) = (
       r.0,
@@ -146,9 +146,9 @@ number-before o sent h i j a n m u order l less at e =
     let r = number_after o sent h i (j - i) u order l
     (omega (arith, place, slice_get_within h j (View a n m) at)) e in
     let view : view_of (take j h) ≡ Some r.0 = ap (λ k. view_of (take k h)) (sym place) ∙ r.1 in
-    let follows = IsSomeAnd-at (view_of (take j h)) (λ v. MayFollow v a n m) r.0 view
+    let succeeded = IsSomeAnd-at (view_of (take j h)) (λ v. IsSucceededBy v a n m) r.0 view
     (order.views j a n m (omega (arith, l, less)) at) in
-    omega (arith, r.2, follows.next_number)
+    omega (arith, r.2, succeeded.follows.next_number)
 
 -- they do where every entry may stand
 pub ViewsRise-standing : (o : Opening) (es : List Entry) → AllStand o es → ViewsRise 0 es

@@ -6,7 +6,7 @@ use Rattle.dr_history.specs.declared.opening.Opening.{Opening}
 use Rattle.dr_history.specs.Members.{members_of}
 use Rattle.dr_history.specs.Places.{front_of}
 use Rattle.dr_history.specs.History.{GroupView, Sent, merge}
-use Rattle.dr_history.specs.Order.{MayFollow, first_entries}
+use Rattle.dr_history.specs.Order.{IsSucceededBy, first_entries}
 use Rattle.dr_history_laws.specs.Laid.{GoesOn, HeldBelow, laid}
 
 -- how a view ends: how many of its first items of each member are delivered in it, and the mask of those that
@@ -44,9 +44,10 @@ head_of o sent endings (suc v) =
 abbrev pub course : Opening → Sent → ViewEnds → ℕ → ℕ → List Entry
 course o sent endings v p = head_of o sent endings v ++ laid o sent (view_in o endings v) p
 
--- a view has ended as it may: those that remain may be the next view, and what is delivered of it was sent
+-- a view has ended as it may: it may be succeeded by the view of those that
+-- remain, and what is delivered of it was sent
 pub record ViewHasEnded (o : Opening) (sent : Sent) (endings : ViewEnds) (v : ℕ) : Type 0 where
-  pub follows : MayFollow (view_in o endings v) o.age (v + 1) (endings v).remaining
+  pub succeeded : IsSucceededBy (view_in o endings v) o.age (v + 1) (endings v).remaining
   pub given : (s : ℕ) → Contains (view_in o endings v).members s → (endings v).taken s ≤ length (sent s v)
 
 -- a history may have come to a view: those before it have ended, and in each of them, and in it, what is sent

@@ -8,7 +8,7 @@ ghost use Rattle.dr_history.specs.declared.opening.Opening.{Opening};
 ghost use Rattle.dr_history.specs.Members.{members_of};
 ghost use Rattle.dr_history.specs.History.{IsPrefixOf, GroupView, Sent, item_at, merge, messages_of, view_of};
 ghost use Rattle.dr_history.specs.Places.{front_of, is_held, rest_places};
-ghost use Rattle.dr_history.specs.Order.{InOrder, MayFollow, first_entries, messages_from};
+ghost use Rattle.dr_history.specs.Order.{InOrder, IsSucceededBy, first_entries, messages_from};
 ghost use Rattle.dr_history.specs.Agreement.{SamePast};
 ghost use Rattle.dr_history.specs.Soundness.{Sound};
 ghost use Rattle.dr_history_laws.specs.Courses.{ViewEnds, ViewHasEnded, IsUncut, MayCome, MayReach, course, view_in};
@@ -32,13 +32,13 @@ pub fn order_laws()
 {}
 
 /// A view may end with so many of the first items of each member. Their merge behind the View, and
-/// then a View that may follow, bring the history in order again. What was laid before is a prefix of
-/// it, as far as the places of these items have no gap.
+/// then a View by which the view may be succeeded, bring the history in order again. What was laid
+/// before is a prefix of it, as far as the places of these items have no gap.
 pub fn view_laws()
     ensures order { (o : Opening) (sent : Sent) (before : List Entry) (v : GroupView)
         → (taken : ℕ → ℕ) (age number mask : ℕ)
         → InOrder o sent before → EndsWithView before v → GoesOn o sent before v
-        → MayFollow v age number mask
+        → IsSucceededBy v age number mask
         → InOrder o sent
         ((before ++ merge o sent v (map taken v.members)) ++ View age number mask ∷ []) }
     ensures prefix { (o : Opening) (sent : Sent) (before : List Entry) (v : GroupView)

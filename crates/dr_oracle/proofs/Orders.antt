@@ -5,7 +5,7 @@ use Rattle.dr_entry.specs.declared.entry.Entry.{Entry}
 use Rattle.dr_entry.specs.declared.entry.Entry.TheVariants.{View}
 use Rattle.dr_history.specs.declared.opening.Opening.{Opening}
 use Rattle.dr_history.specs.History.{IsPrefixOf, GroupView, Sent, view_of, place_at}
-use Rattle.dr_history.specs.Order.{InOrder, MayFollow, first_entries}
+use Rattle.dr_history.specs.Order.{InOrder, IsSucceededBy, first_entries}
 use Rattle.dr_oracle.specs.Parts.{AllNumbered, AllPlaced, Follows, LastViewWhole, PlacesRise, ViewsFollow}
 
 slice_get-append : {A : Type 0} (xs ys : List A) → slice_get (xs ++ ys) (length xs) ≡ slice_get ys 0
@@ -46,32 +46,32 @@ begins_decides start first h b at decides = (
   λ p. decides.1 (IsPrefixOf-parts start first h p).0,
 )
 
--- the test of a View against the view before it decides whether it may follow
+-- the test of a View against the view before it decides whether it may succeed that
 pub follows_decides : (h : List Entry) (i a n m : ℕ) (v : GroupView) (b : Bool)
     → slice_get h i ≡ Some (View a n m)
-    → view_of (take i h) ≡ Some v → Decides b (MayFollow v a n m) → Decides b (Follows h i)
+    → view_of (take i h) ≡ Some v → Decides b (IsSucceededBy v a n m) → Decides b (Follows h i)
 follows_decides h i a n m v b at before decides = (
   λ t age number members there. forward t age number members
       (same_Some (View a n m) (View age number members) (sym at ∙ there)),
-  λ f. decides.1 (subst (λ (o : Option GroupView). IsSomeAnd o (λ w. MayFollow w a n m)) before
+  λ f. decides.1 (subst (λ (o : Option GroupView). IsSomeAnd o (λ w. IsSucceededBy w a n m)) before
       (f a n m at)),
 )
   where
     forward : b ≡ true → (age number members : ℕ) → View a n m ≡ View age number members
-        → IsSomeAnd (view_of (take i h)) (λ w. MayFollow w age number members)
+        → IsSomeAnd (view_of (take i h)) (λ w. IsSucceededBy w age number members)
     forward t age number members same =
         let same_age : a ≡ age = cc in
         let same_number : n ≡ number = cc in
         let same_members : m ≡ members = cc in
         rw before (rw (← same_age, ← same_number, ← same_members) (decides.0 t))
 
--- a View before which there is no view may not follow
+-- a View before which there is no view succeeds none
 pub follows_none : (h : List Entry) (i a n m : ℕ) → slice_get h i ≡ Some (View a n m)
     → view_of (take i h) ≡ None → Decides false (Follows h i)
 follows_none h i a n m at before = (
   λ t. absurd (cc),
   λ f. absurd
-      (subst (λ (o : Option GroupView). IsSomeAnd o (λ w. MayFollow w a n m)) before (f a n m at)),
+      (subst (λ (o : Option GroupView). IsSomeAnd o (λ w. IsSucceededBy w a n m)) before (f a n m at)),
 )
 
 -- an entry with a place is one of the history

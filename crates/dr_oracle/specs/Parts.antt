@@ -4,19 +4,19 @@ use Rattle.dr_entry.specs.declared.entry.Entry.{Entry}
 use Rattle.dr_entry.specs.declared.entry.Entry.TheVariants.{View, Msg}
 use Rattle.dr_history.specs.declared.opening.Opening.{Opening}
 use Rattle.dr_history.specs.History.{IsPrefixOf, GroupView, Sent, view_of, item_at, place_at}
-use Rattle.dr_history.specs.Order.{IsDelivered, MayFollow, messages_from, numbered_messages}
+use Rattle.dr_history.specs.Order.{IsDelivered, IsSucceededBy, messages_from, numbered_messages}
 
--- that the View at i may follow the view before it
+-- that the View at i is one by which the view before it may be succeeded
 abbrev pub Follows : List Entry → ℕ → Type 0
 Follows h i =
     (age number members : ℕ) → slice_get h i ≡ Some (View age number members)
-    → IsSomeAnd (view_of (take i h)) (λ v. MayFollow v age number members)
+    → IsSomeAnd (view_of (take i h)) (λ v. IsSucceededBy v age number members)
 
--- each View behind the first `start + 1` entries may follow the view before it
+-- each View behind the first `start + 1` entries is one by which the view before it may be succeeded
 abbrev pub ViewsFollow : List Entry → ℕ → Type 0
 ViewsFollow h start =
     (i age number members : ℕ) → start < i → slice_get h i ≡ Some (View age number members)
-    → IsSomeAnd (view_of (take i h)) (λ v. MayFollow v age number members)
+    → IsSomeAnd (view_of (take i h)) (λ v. IsSucceededBy v age number members)
 
 -- each message behind them was sent in the view in which it was delivered, by a member of it
 abbrev pub AllPlaced : Sent → List Entry → ℕ → Type 0

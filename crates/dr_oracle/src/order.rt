@@ -25,8 +25,8 @@ fn begins(opening: &Opening, history: &[Entry]) -> bool
     }
 }
 
-/// Whether entry `i` may stand in a history after its first entries: a View may follow the view
-/// before it.
+/// Whether entry `i` may stand in a history after its first entries: the view before a View may be
+/// succeeded by it.
 fn view_follows(history: &[Entry], i: usize) -> bool
     ensures { IsTrue result ↔ Follows history.now i }
 {
@@ -41,12 +41,13 @@ fn view_follows(history: &[Entry], i: usize) -> bool
         return true;
     };
     match view_of(&history[..i]) {
-        Some(view) => view.may_be_followed_by(*age, *number, *members),
+        Some(view) => view.may_be_succeeded_by(*age, *number, *members),
         None => false,
     }
 }
 
-/// Whether each View behind the first `start + 1` entries may follow the view before it.
+/// Whether each View behind the first `start + 1` entries is one by which the view before it may be
+/// succeeded.
 fn views_follow(history: &[Entry], start: usize) -> bool
     ensures { IsTrue result ↔ ViewsFollow history.now start }
 {
@@ -232,7 +233,8 @@ fn last_view_is_whole(ends: &[MemberEnd], history: &[Entry], start: usize) -> bo
     true
 }
 
-/// Whether a history begins as it is to, and each View behind may follow the view before it.
+/// Whether a history begins as it is to, and each View behind is one by which the view before it may
+/// be succeeded.
 fn views_are_in_order(opening: &Opening, history: &[Entry], start: usize) -> bool
     ensures { IsTrue result
         ↔ (IsPrefixOf (first_entries opening.now) history.now × ViewsFollow history.now start) }

@@ -6,7 +6,7 @@ use Rattle.std.proofs.lemmas.Bool.{cases_eq}
 use Rattle.std.proofs.lemmas.List.{get_or-map, length-map}
 use Rattle.std.proofs.lemmas.Option.{get_or_from_slice_get, slice_get-get_or}
 use Rattle.dr_history.specs.Members.{has, members_below, members_of}
-use Rattle.dr_history.specs.Order.{MayFollow}
+use Rattle.dr_history.specs.Order.{IsSucceededBy}
 use Rattle.dr_history.specs.Places.{AllHeldBelow, front_of, place_of}
 use Rattle.dr_history.proofs.Fronts.{front_is}
 use Rattle.dr_history_laws.specs.Courses.{counts_taken, view_in}
@@ -17,7 +17,7 @@ use Rattle.dr_words.proofs.Bits.{has_ones}
 use Rattle.dr_words.proofs.Masks.{has_without_mask, without_small}
 use Rattle.dr_words.proofs.Ranks.{length-members_below_suc, some_member}
 use Rattle.dr_words.specs.Columns.{recv_column}
-use Rattle.dr_words.specs.Masks.{IsPartOf, without}
+use Rattle.dr_words.specs.Masks.{IsMajorityOf, IsPartOf, without}
 use Rattle.dr_words.specs.Packing.{is_final, recv_count}
 use Rattle.dr_machine.specs.Group.{Group, IsGroup, IsPresent, roster}
 use Rattle.dr_machine.specs.Run.{PastGrew, WordsGrew}
@@ -83,7 +83,7 @@ views-within g values (suc v) i is h =
     views-within g values v i is (views-part g values v i is
     (subst (λ n. has (views_by g values n) i ≡ true) next h))
 
-stays_in : (a b : Bool) → a ≡ true → b ≡ false → (a && not b) ≡ true
+pub stays_in : (a b : Bool) → a ≡ true → b ≡ false → (a && not b) ≡ true
 stays_in a b e d = grind (arith, e, d)
 
 -- who doesn't leave is in the next one
@@ -154,6 +154,11 @@ pub fewer-members : (a b i : ℕ) → IsPartOf a b → has b i ≡ true → has 
 unfolding members_of
 fewer-members a b i part there gone l = fewer_below a b i 16 part there gone l
 
+-- a mask of which a part has more than half of some members has more than half of them itself
+pub majority-more : (a b all : ℕ) → IsPartOf a b → IsMajorityOf a all → IsMajorityOf b all
+unfolding members_of
+majority-more a b all part most = omega (arith, most, no_more_below a b 16 part)
+
 gone_out : (a b : Bool) → b ≡ true → (a && not b) ≡ false
 gone_out true b e = rw e refl
 gone_out false b e = refl
@@ -161,24 +166,36 @@ gone_out false b e = refl
 nonempty : (ms : List ℕ) → 0 < length ms → ms ≢ []
 nonempty ms l e = omega (arith, l, ap length e)
 
--- a view that somebody leaves and in which somebody remains may be followed by those that remain
-pub next-follows : (g : Group) (values : Values) (v i j : ℕ) → IsGroup g
+-- where somebody leaves a view the next one has fewer members
+pub views-fewer : (g : Group) (values : Values) (v i : ℕ) → IsGroup g
     → has (views_by g values v) i ≡ true → has (values v).leavers i ≡ true
-    → has (views_by g values (v + 1)) j ≡ true
-    → MayFollow (view_in g.opening (endings_by g.opening values) v) g.opening.age (v + 1)
+    → length (members_of (views_by g values (v + 1))) < length (members_of (views_by g values v))
+views-fewer g values v i is there leaves =
+    fewer-members (views_by g values (v + 1)) (views_by g values v) i (λ n. views-part g values v n is) there gone
+    (omega (arith, views-within g values v i is there, is.most_members))
+  where
+    gone : has (views_by g values (v + 1)) i ≡ false
+    gone = ap (λ k. has k i) (views-next g values v)
+        ∙ has_without_mask (views_by g values v) (values v).leavers i (views-small g values v is)
+        ∙ gone_out _ _ leaves
+
+-- a view that somebody leaves and in which more than half remain may be succeeded by the view of these
+pub next-succeeds : (g : Group) (values : Values) (v i : ℕ) → IsGroup g
+    → has (views_by g values v) i ≡ true → has (values v).leavers i ≡ true
+    → IsMajorityOf (views_by g values (v + 1)) (views_by g values v)
+    → IsSucceededBy (view_in g.opening (endings_by g.opening values) v) g.opening.age (v + 1)
     (endings_by g.opening values v).remaining
-next-follows g values v i j is there leaves stays = record {
-  same_age = refl;
-  next_number = refl;
-  some = nonempty (members_of (endings_by g.opening values v).remaining)
-      (some_member (endings_by g.opening values v).remaining j
-      (omega (arith, views-within g values (v + 1) j is stays, is.most_members))
-      (ap (λ k. has k j) (remaining-next g values v) ∙ stays));
-  part = λ k d l. has-member (views_by g values v) _ (members k d l) (small k d l);
-  fewer = rw (remaining-next g values v) (fewer-members (views_by g values (v + 1)) (views_by g values v) i
-      (λ n. views-part g values v n is) there gone
-      (omega (arith, views-within g values v i is there, is.most_members)));
-  numbers = rw (remaining-next g values v) (views-small g values (v + 1) is);
+next-succeeds g values v i is there leaves most = record {
+  follows = record {
+    same_age = refl;
+    next_number = refl;
+    some = nonempty (members_of (endings_by g.opening values v).remaining)
+        (rw (remaining-next g values v) (omega (arith, most)));
+    part = λ k d l. has-member (views_by g values v) _ (members k d l) (small k d l);
+    fewer = rw (remaining-next g values v) (views-fewer g values v i is there leaves);
+    numbers = rw (remaining-next g values v) (views-small g values (v + 1) is);
+  };
+  majority = rw (remaining-next g values v) most;
 }
   where
     members : (k d : ℕ) → k < length (members_of (endings_by g.opening values v).remaining)
@@ -192,11 +209,6 @@ next-follows g values v i j is there leaves stays = record {
     small : (k d : ℕ) → k < length (members_of (endings_by g.opening values v).remaining)
         → get_or (members_of (endings_by g.opening values v).remaining) k d < 16
     small k d l = omega (arith, views-within g values v _ is (members k d l), is.most_members)
-
-    gone : has (views_by g values (v + 1)) i ≡ false
-    gone = ap (λ k. has k i) (views-next g values v)
-        ∙ has_without_mask (views_by g values v) (values v).leavers i (views-small g values v is)
-        ∙ gone_out _ _ leaves
 
 -- ---- views that were left
 

@@ -31,7 +31,7 @@ pub delivered_within : (g : Group) (values : Values) (w : World) (m k : ℕ) (x 
     → w.past.view m ≡ w.past.view k
     → w.next m ≤ front_of (counts_taken g.opening (endings_by g.opening values) (w.past.view m))
 delivered_within g values w m k x is y chosen l e same = place-kept g values w m is y.faithful l (λ s there.
-    let t = (safe g values w k x y e).least s (sym (member s) ∙ there) in (
+    let t = (safe g values w k x is y e).least s (sym (member s) ∙ there) in (
       t.0,
       member t.0 ∙ t.1,
       subst (λ (z : Value). w.past.count t.0 (w.past.view m) s ≤ slice_index z.trim s) value

@@ -10,7 +10,7 @@ use Rattle.dr_machine.specs.Group.{Group, IsGroup, banks, roster}
 use Rattle.dr_machine.specs.Guards.{CanFinish, MayChoose}
 use Rattle.dr_machine.specs.World.{World}
 use Rattle.dr_faithful.specs.Chosen.{AreChosen, Values, views_by}
-use Rattle.dr_world_laws.proofs.ChosenViews.{next-follows, remaining-next, views-first, views-stays}
+use Rattle.dr_world_laws.proofs.ChosenViews.{remaining-next, views-fewer, views-first, views-stays}
 use Rattle.dr_world_laws.proofs.Reached as worlds
 use Rattle.dr_world_laws.proofs.Reached.{Known}
 use Rattle.dr_world_laws.proofs.Safety.{IsSafe}
@@ -31,7 +31,7 @@ views-few g values w (suc v) is left =
     omega (
       arith,
       views-few g values w v is (λ u l. left u (omega (arith, l))),
-      (left v (omega arith)).ended.follows.fewer,
+      (left v (omega arith)).ended.succeeded.follows.fewer,
       ap (λ mask. length (members_of mask)) (remaining-next g values v),
       ap (λ n. length (members_of (views_by g values n))) next,
     )
@@ -47,8 +47,7 @@ bank-left g values w m i is y l there stays member leaves =
     omega (
       arith,
       views-few g values w v is (λ u less. y.laid.left m u l less),
-      (next-follows g values v i m is member leaves remains).fewer,
-      ap (λ mask. length (members_of mask)) (remaining-next g values v),
+      views-fewer g values v i is member leaves,
       some_member (views_by g values (v + 1)) m (omega (arith, l, is.most_members)) remains,
     )
 
@@ -69,7 +68,7 @@ may-finish g values w m x is y chosen may e stays = record {
 }
   where
     safe : IsSafe w m x
-    safe = worlds.safe g values w m x y e
+    safe = worlds.safe g values w m x is y e
 
     one : x ≡ values (w.past.view m)
     one = chosen m x e

@@ -20,7 +20,7 @@ use Rattle.dr_history_laws.proofs.Lists.{Contains-slice_get}
 use Rattle.dr_history_laws.proofs.Members.{member-has, view-distinct}
 use Rattle.dr_history_laws.proofs.Resting.{rest-merged}
 use Rattle.dr_history_laws.proofs.SendingLemmas.{held_member}
-use Rattle.dr_words.specs.Masks.{without}
+use Rattle.dr_words.specs.Masks.{IsMajorityOf, without}
 use Rattle.dr_machine.specs.Effects.{counts_by, finished_history, with_place}
 use Rattle.dr_machine.specs.Group.{Group, IsGroup, roster}
 use Rattle.dr_machine.specs.Guards.{CanFinish}
@@ -29,7 +29,7 @@ use Rattle.dr_faithful.proofs.Finishes.{no_items}
 use Rattle.dr_faithful.specs.Chosen.{AreChosen, Values, endings_by, views_by}
 use Rattle.dr_faithful.specs.Faithful.{Faithful, GoesOnWell}
 use Rattle.dr_world_laws.specs.Historic.{AreLaid, Historic, HasEndedSafely, head_by, view_numbered}
-use Rattle.dr_world_laws.proofs.ChosenViews.{next-follows, place-kept, remaining-next, views-next, views-part, views-remain, views-stays, views-within}
+use Rattle.dr_world_laws.proofs.ChosenViews.{next-succeeds, place-kept, remaining-next, views-next, views-part, views-remain, views-within}
 use Rattle.dr_world_laws.proofs.Histories.{ComesToHead}
 use Rattle.dr_world_laws.proofs.Safety.{IsSafe}
 use Rattle.dr_world_laws.proofs.Items.{IsReceived, entries-next, item-here}
@@ -65,7 +65,6 @@ goes-any g values w v is f h = record {
 pub record Finishes (g : Group) (values : Values) (w : World) (m : ℕ) (x : Value) : Type 0 where
   pub within : m < roster g
   pub chosen : x ≡ values (w.past.view m)
-  pub stays : has (values (w.past.view m)).leavers m ≡ false
   pub safe : IsSafe w m x
   pub items : (s : ℕ) → has (views_by g values (w.past.view m)) s ≡ true
       → slice_index (values (w.past.view m)).trim s ≤ w.past.count m (w.past.view m) s
@@ -76,7 +75,6 @@ pub finishes : (g : Group) (values : Values) (w : World) (m : ℕ) → IsGroup g
 finishes g values w m is f chosen can safe = record {
   within = f.views.within (w.past.view m) m (f.views.present m can.may.alive.present);
   chosen = one;
-  stays = subst (λ (y : Value). has y.leavers m ≡ false) one can.stays;
   safe = safe;
   items = λ s member. subst (λ (y : Value). slice_index y.trim s ≤ w.past.count m (w.past.view m) s) one
       (can.items s (ap (λ k. has k s) (f.views.own m) ∙ member));
@@ -90,9 +88,8 @@ pub leaves : (g : Group) (values : Values) (w : World) (m : ℕ) (x : Value) →
     → Faithful g (views_by g values) w → Finishes g values w m x → HasEndedSafely g values w (w.past.view m)
 leaves g values w m x is f y = record {
   ended = record {
-    follows = next-follows g values v y.safe.leaver.0 m is (member y.safe.leaver.0 ∙ y.safe.leaver.1)
-        (subst (λ (z : Value). has z.leavers y.safe.leaver.0 ≡ true) y.chosen y.safe.leaver.2)
-        (views-stays g values v m is (f.views.present m (f.beginning.all m y.within)) y.stays);
+    succeeded = next-succeeds g values v y.safe.leaver.0 is (member y.safe.leaver.0 ∙ y.safe.leaver.1)
+        (subst (λ (z : Value). has z.leavers y.safe.leaver.0 ≡ true) y.chosen y.safe.leaver.2) most;
     given = λ s at.
         let there = member-has (views_by g values v) at.0 s
         (slice_get-get_or (members_of (views_by g values v)) at.0 s at.1 ∙ ap Some at.2) in
@@ -117,6 +114,11 @@ leaves g values w m x is f y = record {
 
     member : (i : ℕ) → has (views_by g values (w.past.view m)) i ≡ has (w.members m) i
     member i = sym (ap (λ k. has k i) (f.views.own m))
+
+    most : IsMajorityOf (views_by g values (w.past.view m + 1)) (views_by g values (w.past.view m))
+    most = subst (λ mask. IsMajorityOf mask (views_by g values v)) (sym (views-next g values v))
+        (subst (λ (z : Value). IsMajorityOf (without (views_by g values v) z.leavers) (views_by g values v))
+        y.chosen (subst (λ mask. IsMajorityOf (without mask x.leavers) mask) (f.views.own m) y.safe.majority))
 
 -- a place of the merge adds its entry
 rest-place : (g : Group) (values : Values) (w : World) (m : ℕ) (x : Value) → IsGroup g

@@ -105,7 +105,7 @@ head_holds g sent endings zero ended =
     ([], sym (append-nil (first_entries g.opening)), All-nil (IsOfAge g))
 head_holds g sent endings (suc v) ended =
     let rest = head_holds g sent endings v (λ u l. ended u (omega (arith, l))) in
-    let follows = (ended v (omega arith)).follows in
+    let follows = (ended v (omega arith)).succeeded.follows in
     let merged : List Entry = merge g.opening sent (view_in g.opening endings v)
     (counts_taken g.opening endings v) in
     let last : List Entry = View g.opening.age (suc v) (endings v).remaining ∷ [] in (

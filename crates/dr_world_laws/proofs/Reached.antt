@@ -63,16 +63,16 @@ pub record Known (g : Group) (values : Values) (w : World) : Type 0 where
   pub wedged : (m : ℕ) (x : Value) → w.committed m ≡ Some x → w.suspects m ≢ 0
 
 -- so a value that somebody has committed is safe
-pub safe : (g : Group) (values : Values) (w : World) (m : ℕ) (x : Value) → Known g values w
+pub safe : (g : Group) (values : Values) (w : World) (m : ℕ) (x : Value) → IsGroup g → Known g values w
     → w.committed m ≡ Some x → IsSafe w m x
-safe g values w m x y e =
-    safe-value g (views_by g values) w m x y.faithful y.voting (y.wedged m x e) e
+safe g values w m x is y e =
+    safe-value g (views_by g values) w m x is y.faithful y.voting (y.wedged m x e) e
 
 -- and whoever may end its view does so with a value of which that much is known
 pub may-end : (g : Group) (values : Values) (w : World) (m : ℕ) → IsGroup g → Known g values w
     → AreChosen values w → (can : CanFinish g w m) → Finishes g values w m can.value
 may-end g values w m is y chosen can =
-    finishes g values w m is y.faithful chosen can (safe g values w m can.value y can.committed)
+    finishes g values w m is y.faithful chosen can (safe g values w m can.value is y can.committed)
 
 -- so it goes on as it should
 pub all-go_on : (g : Group) (values : Values) (w : World) → IsGroup g → Known g values w

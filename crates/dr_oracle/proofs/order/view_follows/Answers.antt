@@ -14,8 +14,8 @@ returns-in-Some c =
     let before : view_of (take c.args.i c.args.history.now)
     ≡ Some c.in-Some.view = grind (arith, common_steps) in
     follows_decides c.args.history.now c.args.i c.in-Some-View.age c.in-Some-View.number
-    c.in-Some-View.members c.in-Some.view c.may_be_followed_by.result at before
-    c.may_be_followed_by.ensures
+    c.in-Some-View.members c.in-Some.view c.may_be_succeeded_by.result at before
+    c.may_be_succeeded_by.ensures
 
 pub returns-in-None : goal.returns-in-None
 returns-in-None c =
