@@ -19,6 +19,7 @@ pub mod Pushing
 pub mod Resting
 pub mod SendingLemmas
 pub mod Standing
+pub mod Stood
 pub mod Quiet
 pub mod Sizes
 pub mod Steady

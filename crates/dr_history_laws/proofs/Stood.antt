@@ -1,0 +1,241 @@
+-- The views of entries that may stand, and the numbers of their entries.
+use Rattle.std.proofs.Common.{◌≡◌, ◌≢◌, ◌⊎◌, refl, ap, ap₂, sym, ◌∙◌, subst, ℕ, zero, suc, ◌+◌, ◌-◌, ◌^◌, ◌<◌, ◌≤◌, inl, inr, arith, pow_mono, Bool, true, false, true≢false, List, [], ◌∷◌, ◌++◌, All, Contains, Option, None, Some, length, filter, take, if◌then◌else◌, get_or, slice_get}
+use Rattle.std.specs.Prelude.{IsSomeAnd}
+use Rattle.std.proofs.lemmas.Bool.{cases_lt}
+use Rattle.std.proofs.lemmas.List.{take_all}
+use Rattle.std.proofs.lemmas.List.Elements.{All-contains, All-weaker, filter-append}
+use Rattle.std.proofs.lemmas.Nat.Bits.{bit_at_ones_above}
+use Rattle.std.proofs.lemmas.Option.{none-some, same_Some, slice_get-get_or, slice_get_within}
+use Rattle.dr_entry.specs.declared.entry.Entry.{Entry}
+use Rattle.dr_entry.specs.declared.entry.Entry.TheVariants.{View, Msg}
+use Rattle.dr_history.specs.declared.opening.Opening.{Opening}
+use Rattle.dr_history.specs.History.{GroupView, view_of}
+use Rattle.dr_history.specs.Members.{has, members_below, members_of}
+use Rattle.dr_history.specs.Order.{MayFollow}
+use Rattle.dr_history.specs.Restarting.{AllStand}
+use Rattle.dr_history.specs.Soundness.{MayStand, Opens}
+use Rattle.dr_history.proofs.Following.{view_of-nil}
+use Rattle.dr_history.proofs.ViewLemmas.{view_of-View, view_of-Msg}
+use Rattle.dr_history_laws.proofs.Lists.{slice_get-some, take-next}
+use Rattle.dr_history_laws.proofs.Members.{has-member, member-has, members_of-few}
+
+-- what an option has
+pub some_of : {X : Type 0} (P : X → Type 0) (r : Option X) → IsSomeAnd r P → (x : X) × (r ≡ Some x) × P x
+some_of P None h = absurd h
+some_of P (Some x) h = (x, refl, h)
+
+-- the view of a View
+abbrev pub view_told : ℕ → ℕ → ℕ → GroupView
+view_told a k m = record { age = a; number = k; members = members_of m }
+
+-- one entry more
+more : (es : List Entry) (i : ℕ) (e : Entry) → slice_get es i ≡ Some e → take (suc i) es ≡ take i es ++ e ∷ []
+more es i e at =
+    let next : suc i ≡ i + 1 = omega arith in ap (λ (j : ℕ). take j es) next ∙ take-next es i e at
+
+-- the view behind a View
+pub view_behind : (es : List Entry) (i a k m : ℕ) → slice_get es i ≡ Some (View a k m)
+    → view_of (take (suc i) es) ≡ Some (view_told a k m)
+view_behind es i a k m at = ap view_of (more es i (View a k m) at) ∙ view_of-View (take i es) a k m
+
+-- what holds of each View that opens an age, and of each that follows a view of which it holds, holds of every
+-- view of entries that may stand
+pub each_view : (P : GroupView → Type 0) (o : Opening) (es : List Entry) → AllStand o es
+    → ((last : Option GroupView) (a k m : ℕ) → Opens o last a k m → P (view_told a k m))
+    → ((u : GroupView) (a k m : ℕ) → P u → MayFollow u a k m → P (view_told a k m)) → (i : ℕ) → i ≤ length es
+    → (v : GroupView) → view_of (take i es) ≡ Some v → P v
+each_view P o es stand opens follows zero within v is = absurd (none-some v (sym view_of-nil ∙ is))
+each_view P o es stand opens follows (suc i) within v is =
+    by (λ u was. each_view P o es stand opens follows i (omega (arith, within)) u was) there.0 there.1
+  where
+    there : (e : Entry) × (slice_get es i ≡ Some e)
+    there = slice_get-some es i (omega (arith, within))
+
+    come : ((u : GroupView) → view_of (take i es) ≡ Some u → P u) → (a k m : ℕ)
+        → MayStand o (take i es) (View a k m) → P (view_told a k m)
+    come before a k m (inl is) = opens (view_of (take i es)) a k m is
+    come before a k m (inr is) =
+        let u = some_of (λ u. MayFollow u a k m) (view_of (take i es)) is in
+        follows u.0 a k m (before u.0 u.1) u.2
+
+    by : ((u : GroupView) → view_of (take i es) ≡ Some u → P u) → (e : Entry) → slice_get es i ≡ Some e → P v
+    by before (View a k m) at =
+        subst P (same_Some (view_told a k m) v (sym (view_behind es i a k m at) ∙ is))
+        (come before a k m (stand i (View a k m) at))
+    by before (Msg s k b) at =
+        before v (sym (view_of-Msg (take i es) s k b) ∙ (ap view_of (sym (more es i (Msg s k b) at)) ∙ is))
+
+-- so it holds of every View
+pub each_View : (P : GroupView → Type 0) (o : Opening) (es : List Entry) → AllStand o es
+    → ((last : Option GroupView) (a k m : ℕ) → Opens o last a k m → P (view_told a k m))
+    → ((u : GroupView) (a k m : ℕ) → P u → MayFollow u a k m → P (view_told a k m)) → (i a k m : ℕ)
+    → slice_get es i ≡ Some (View a k m) → P (view_told a k m)
+each_View P o es stand opens follows i a k m at =
+    let within = slice_get_within es i (View a k m) at in
+    each_view P o es stand opens follows (suc i) (omega (arith, within)) (view_told a k m)
+    (view_behind es i a k m at)
+
+-- ---- members
+
+-- those of the members below n of a mask that a part of it has are the part's
+kept_below : (part whole n : ℕ) → n ≤ 16 → ((s : ℕ) → s < 16 → has part s ≡ true → has whole s ≡ true)
+    → filter (has part) (members_below whole n) ≡ members_below part n
+unfolding members_below
+kept_below part whole zero few within = refl
+kept_below part whole (suc n) few within =
+    filter-append (has part) (members_below whole n) (if has whole n then n ∷ [] else [])
+    ∙ ap₂ (λ xs ys. xs ++ ys) (kept_below part whole n (omega (arith, few)) within)
+    (by (has part n) (has whole n) refl refl)
+  where
+    by : (p w : Bool) → has part n ≡ p → has whole n ≡ w
+        → filter (has part) (if w then n ∷ [] else []) ≡ (if p then n ∷ [] else [])
+    by true true in_part in_whole = rw in_part refl
+    by true false in_part in_whole =
+        absurd (true≢false (sym (within n (omega (arith, few)) in_part) ∙ in_whole))
+    by false true in_part in_whole = rw in_part refl
+    by false false in_part in_whole = refl
+
+-- so are those of all its members
+pub kept_members : (part whole : ℕ) → All (Contains (members_of whole)) (members_of part)
+    → filter (has part) (members_of whole) ≡ members_of part
+unfolding members_of
+kept_members part whole inside = kept_below part whole 16 (omega arith) within
+  where
+    within : (s : ℕ) → s < 16 → has part s ≡ true → has whole s ≡ true
+    within s small is =
+        let there = All-contains (Contains (members_of whole)) (members_of part) s inside
+        (has-member part s is small) in
+        member-has whole there.0 s
+        (slice_get-get_or (members_of whole) there.0 s there.1 ∙ ap Some there.2)
+
+-- the members of the whole roster are below its size
+pub roster_below : (n : ℕ) → All (λ s. s < n) (members_of (2 ^ n - 1))
+roster_below n k d within = by (cases_lt s n)
+  where
+    s : ℕ
+    s = get_or (members_of (2 ^ n - 1)) k d
+
+    there : has (2 ^ n - 1) s ≡ true
+    there = member-has (2 ^ n - 1) k s (slice_get-get_or (members_of (2 ^ n - 1)) k d within)
+
+    by : (s < n) ⊎ (n ≤ s) → s < n
+    by (inl below) = below
+    by (inr above) =
+        let none : has (2 ^ n - 1) s ≡ false = rw (bit_at_ones_above n s above) refl in
+        absurd (true≢false (sym there ∙ none))
+
+-- the members of a view are of the roster
+pub view_below : (o : Opening) (es : List Entry) → AllStand o es → (i : ℕ)
+    → i ≤ length es → (v : GroupView) → view_of (take i es) ≡ Some v
+    → All (λ s. s < length o.messages) v.members
+view_below o es stand =
+    each_view (λ v. All (λ s. s < length o.messages) v.members) o es stand
+    (λ last a k m opens. subst (λ (mask : ℕ). All (λ s. s < length o.messages) (members_of mask))
+    (sym opens.whole) (roster_below (length o.messages)))
+    (λ u a k m before is. All-weaker (Contains u.members) (λ s. s < length o.messages)
+    (λ s c. All-contains (λ t. t < length o.messages) u.members s before c) (members_of m) is.part)
+
+-- so are those of a View
+pub named_below : (o : Opening) (es : List Entry) → AllStand o es
+    → (i a k m : ℕ) → slice_get es i ≡ Some (View a k m) → All (λ s. s < length o.messages) (members_of m)
+named_below o es stand i a k m at =
+    let within = slice_get_within es i (View a k m) at in
+    view_below o es stand (suc i) (omega (arith, within)) (view_told a k m) (view_behind es i a k m at)
+
+-- ---- numbers
+
+-- a view has lost at least as many members as its number says, of 16 at most
+numbered : (o : Opening) (es : List Entry) → AllStand o es → (i a k m : ℕ)
+    → slice_get es i ≡ Some (View a k m) → k + length (members_of m) ≤ 16
+numbered o es stand =
+    each_View (λ v. v.number + length v.members ≤ 16) o es stand
+    (λ last a k m opens. omega (arith, opens.first, members_of-few m))
+    (λ u a k m before is. omega (arith, before, is.next_number, is.fewer))
+
+-- a View's number is small, and its mask is one of members below 16, of some
+pub record IsSmallView (number members : ℕ) : Type 0 where
+  pub few : number ≤ 16
+  pub mask : members < 2 ^ 16
+  pub some : members ≢ 0
+
+nobody : members_of 0 ≡ []
+unfolding members_of members_below
+nobody = refl
+
+pub small_view : (o : Opening) (es : List Entry) → 1 ≤ length o.messages → length o.messages ≤ 16
+    → AllStand o es → (i a k m : ℕ) → slice_get es i ≡ Some (View a k m) → IsSmallView k m
+small_view o es one most stand i a k m at = record {
+  few = omega (arith, numbered o es stand i a k m at);
+  mask = small (stand i (View a k m) at);
+  some = λ none. some none (stand i (View a k m) at);
+}
+  where
+    whole : (n : ℕ) → 1 ≤ n → n ≤ 16 → (2 ^ n - 1 < 2 ^ 16) × (2 ^ n - 1 ≢ 0)
+    whole n some few =
+        let least : 2 ^ 1 ≤ 2 ^ n = pow_mono some in
+        let most : 2 ^ n ≤ 2 ^ 16 = pow_mono few in
+        (omega (arith, least, most), λ none. omega (arith, least, none))
+
+    small : MayStand o (take i es) (View a k m) → m < 2 ^ 16
+    small (inl opens) = omega (arith, opens.whole, (whole (length o.messages) one most).0)
+    small (inr follows) =
+        (some_of (λ u. MayFollow u a k m) (view_of (take i es)) follows).2.numbers
+
+    some : m ≡ 0 → MayStand o (take i es) (View a k m) → ⊥
+    some none (inl opens) = (whole (length o.messages) one most).1 (sym opens.whole ∙ none)
+    some none (inr follows) =
+        (some_of (λ u. MayFollow u a k m) (view_of (take i es)) follows).2.some (ap members_of none ∙ nobody)
+
+-- ---- ages
+
+-- the view of more entries is of no earlier age
+pub age_rises : (o : Opening) (es : List Entry) → AllStand o es → (i n : ℕ) → i + n ≤ length es
+    → (u : GroupView) → view_of (take i es) ≡ Some u
+    → (v : GroupView) × (view_of (take (i + n) es) ≡ Some v) × (u.age ≤ v.age)
+age_rises o es stand i zero within u is =
+    let same : i ≡ i + 0 = omega arith in
+    (u, ap (λ (j : ℕ). view_of (take j es)) (sym same) ∙ is, omega arith)
+age_rises o es stand i (suc n) within u is =
+    by there.0 there.1 (age_rises o es stand i n (omega (arith, within)) u is)
+  where
+    there : (e : Entry) × (slice_get es (i + n) ≡ Some e)
+    there = slice_get-some es (i + n) (omega (arith, within))
+
+    next : suc (i + n) ≡ i + suc n
+    next = omega arith
+
+    come : (a k m : ℕ) (w : GroupView) → view_of (take (i + n) es) ≡ Some w
+        → MayStand o (take (i + n) es) (View a k m) → w.age ≤ a
+    come a k m w was (inl opens) = omega (arith, opens.later w was)
+    come a k m w was (inr follows) =
+        let v = some_of (λ v. MayFollow v a k m) (view_of (take (i + n) es)) follows in
+        let same : v.0 ≡ w = same_Some v.0 w (sym v.1 ∙ was) in
+        omega (arith, v.2.same_age, ap (λ (x : GroupView). x.age) same)
+
+    by : (e : Entry) → slice_get es (i + n) ≡ Some e
+        → (w : GroupView) × (view_of (take (i + n) es) ≡ Some w) × (u.age ≤ w.age)
+        → (v : GroupView) × (view_of (take (i + suc n) es) ≡ Some v) × (u.age ≤ v.age)
+    by (View a k m) at (w, was, before) = (
+      view_told a k m,
+      ap (λ (j : ℕ). view_of (take j es)) (sym next) ∙ view_behind es (i + n) a k m at,
+      omega (arith, before, come a k m w was (stand (i + n) (View a k m) at)),
+    )
+    by (Msg s k b) at (w, was, before) = (
+      w,
+      ap (λ (j : ℕ). view_of (take j es)) (sym next)
+          ∙ (ap view_of (more es (i + n) (Msg s k b) at) ∙ (view_of-Msg (take (i + n) es) s k b ∙ was)),
+      before,
+    )
+
+-- no View is of a later age than the last
+pub age_below : (o : Opening) (es : List Entry) → AllStand o es → (i a k m : ℕ)
+    → slice_get es i ≡ Some (View a k m) → (v : GroupView) × (view_of es ≡ Some v) × (a ≤ v.age)
+age_below o es stand i a k m at =
+    let within = slice_get_within es i (View a k m) at in
+    let more : suc i + (length es - suc i) ≡ length es = omega (arith, within) in
+    let last = age_rises o es stand (suc i) (length es - suc i) (omega (arith, more)) (view_told a k m)
+    (view_behind es i a k m at) in (
+      last.0,
+      ap view_of (sym (take_all (length es) es (omega arith)) ∙ sym (ap (λ (j : ℕ). take j es) more)) ∙ last.1,
+      last.2,
+    )
