@@ -8,10 +8,10 @@ use Rattle.dr_entry.specs.declared.entry.Entry.TheVariants.{View, Msg}
 use Rattle.dr_history.specs.declared.opening.Opening.{Opening}
 use Rattle.dr_history.specs.History.{GroupView, Sent, view_after, view_of}
 use Rattle.dr_history.specs.Members.{members_of}
-use Rattle.dr_history.specs.Order.{InOrder, MayFollow}
+use Rattle.dr_history.specs.Order.{InOrder, IsSucceededBy}
 use Rattle.dr_history.proofs.ViewLemmas.{view_of-View, view_of-Msg}
 use Rattle.dr_history_laws.proofs.Lists.{slice_get-seam, slice_get-some, take-next}
-use Rattle.dr_check.proofs.Roster.{some_of}
+use Rattle.dr_history_laws.proofs.Stood.{some_of}
 
 -- a View by which the entries are in this view
 abbrev pub StandsAt : List Entry → GroupView → Type 0
@@ -83,8 +83,8 @@ view_age o sent h order (suc i) behind within v is =
     later : ((u : GroupView) → view_of (take i h) ≡ Some u → u.age ≡ o.age) → length o.start < i
         → (e : Entry) → slice_get h i ≡ Some e → v.age ≡ o.age
     later before less (View a k m) at =
-        let u = some_of (λ w. MayFollow w a k m) (view_of (take i h)) (order.views i a k m less at) in
-        sym (at_View a k m at) ∙ (u.2.same_age ∙ before u.0 u.1)
+        let u = some_of (λ w. IsSucceededBy w a k m) (view_of (take i h)) (order.views i a k m less at) in
+        sym (at_View a k m at) ∙ (u.2.follows.same_age ∙ before u.0 u.1)
     later before less (Msg s k b) at =
         before v (sym (view_of-Msg (take i h) s k b) ∙ (ap view_of (sym (more (Msg s k b) at)) ∙ is))
 

@@ -5,6 +5,8 @@ pub mod Order
 pub mod Roster
 pub mod Zips
 pub mod LastViews
+pub mod Agreed
+pub mod Fitting
 pub mod Passes
 pub mod Accepting
 pub mod Closing

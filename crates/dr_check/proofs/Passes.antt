@@ -1,5 +1,5 @@
 -- A report of ages that agree and are kept breaks no clause.
-use Rattle.std.proofs.Common.{◌≡◌, ◌⊎◌, inl, inr, refl, sym, ap, ◌∙◌, subst, ℕ, zero, suc, ◌+◌, ◌-◌, ◌*◌, ◌^◌, ◌<◌, ◌≤◌, arith, true, List, [], length, filter, take, All, Contains, None, Some, slice_get}
+use Rattle.std.proofs.Common.{◌≡◌, ◌⊎◌, inl, inr, refl, sym, ap, ◌∙◌, subst, ℕ, zero, suc, ◌+◌, ◌-◌, ◌^◌, ◌<◌, ◌≤◌, arith, true, List, [], length, filter, take, All, Contains, None, Some, slice_get}
 use Rattle.std.specs.Prelude.{Option, IfSome, IsSomeAnd}
 use Rattle.std.specs.List.{Any}
 use Rattle.std.specs.Option.{option_map_or}
@@ -14,11 +14,11 @@ use Rattle.dr_entry.specs.declared.entry.Entry.TheVariants.{View, Msg}
 use Rattle.dr_history.specs.Agreement.{accounts_of, sent_by}
 use Rattle.dr_history.specs.History.{GroupView, IsPrefixOf, view_of}
 use Rattle.dr_history.specs.Members.{has, members_of}
-use Rattle.dr_history.specs.Order.{InOrder, MayFollow}
-use Rattle.dr_history.specs.Restarting.{AllStand, Kept}
+use Rattle.dr_history.specs.Order.{IsSucceededBy}
+use Rattle.dr_history.specs.Restarting.{Kept}
 use Rattle.dr_history.specs.Soundness.{IsPresentIn, MayStand}
-use Rattle.dr_history_laws.proofs.Lists.{IsSomeAnd-at, slice_get-prefix, slice_get-some}
-use Rattle.dr_history_laws.proofs.Standing.{history-stands}
+use Rattle.dr_history_laws.proofs.Lists.{slice_get-prefix, slice_get-some}
+use Rattle.dr_history_laws.proofs.Stood.{kept_members, named_below, roster_below, some_of}
 use Rattle.dr_script.specs.declared.script.Script.{Script}
 use Rattle.dr_script.specs.Ranges.{HasGroupRanges}
 use Rattle.dr_words.proofs.Bits.{has_ones}
@@ -30,8 +30,9 @@ use Rattle.dr_check.specs.declared.report.ReportMember.{ReportMember}
 use Rattle.dr_check.specs.Clauses.{AgeItself, MemberItself, EntryItself, AreLogged, TakesPart, KeepsBytes, KeepsIndex, KeepsPrefix, KeepsSender, HasDelivered, HasSame, IsDurableView, IsKeptIn, log_of, IsLate, WasNamed, KeepsStart, KeepsView, KeepsDurable, KeepsAge, MayComeNext, MayStart, IsFirstView, FollowsView, logged_by}
 use Rattle.dr_check.specs.Firsts.{AllKeep}
 use Rattle.dr_check.specs.Flaws.{IsRight, own_entries}
-use Rattle.dr_check.specs.Values.{KeepEachOther, HasAge, HasMember, HasValues, IsAgreed, KeepsMajorities, whole_opening}
-use Rattle.dr_check.proofs.Roster.{may_start, named_below, roster_below, some_of}
+use Rattle.dr_check.specs.Values.{KeepEachOther, HasAge, HasMember, HasValues, IsAgreed, whole_opening}
+use Rattle.dr_check.proofs.Agreed.{history_of, is_here, knows, order, stand}
+use Rattle.dr_check.proofs.Roster.{may_start}
 use Rattle.dr_check.proofs.LastViews.{first_at, last_view_at, view_age}
 use Rattle.dr_check.proofs.Places.{all_at, all_below, all_from_places, any_at, if_some}
 use Rattle.dr_check.proofs.Zips.{behind_at, zip_at, zip_to}
@@ -41,11 +42,6 @@ same_at : (g h : List Entry) (i : ℕ) (x y : Entry) → IsPrefixOf g h ⊎ IsPr
     → slice_get h i ≡ Some y → x ≡ y
 same_at g h i x y (inl p) in_g in_h = same_Some x y (sym (slice_get-prefix g h i x p in_g) ∙ in_h)
 same_at g h i x y (inr p) in_g in_h = same_Some x y (sym in_g ∙ slice_get-prefix h g i y p in_h)
-
--- whoever is below the size of the roster is there
-pub is_present : (script : Script) (a : AgeEnd) (s : ℕ) → s < script.members
-    → IsPresentIn (whole_opening script a) s
-is_present script a s below = has_ones script.members s ∙ grind (arith, below)
 
 -- a message that may stand keeps what is said of messages
 message_keeps : (script : Script) (a : AgeEnd) (before : List Entry) (e : Entry)
@@ -57,29 +53,6 @@ message_keeps script a before (Msg s k b) stands = stands
 -- one age of a report
 module _ (script : Script) (a : AgeEnd) (ra : ReportAge) (ranges : HasGroupRanges script)
     (good : IsAgreed script a) (values : HasAge a ra) where
-  -- whose history this is
-  history_of : (i : ℕ) (e : MemberEnd) → slice_get a.members i ≡ Some e
-      → (accounts_of a.members i).history ≡ e.history
-  history_of i e at = ap (λ z. option_map_or (λ (e : MemberEnd). e.history) z []) at
-
-  below : (i : ℕ) (e : MemberEnd) → slice_get a.members i ≡ Some e → i < script.members
-  below i e at = omega (arith, slice_get_within a.members i e at, good.all)
-
-  is_here : (i : ℕ) (e : MemberEnd) → slice_get a.members i ≡ Some e → IsPresentIn (whole_opening script a) i
-  is_here i e at = is_present script a i (below i e at)
-
-  order : (i : ℕ) (e : MemberEnd) → slice_get a.members i ≡ Some e
-      → InOrder (whole_opening script a) (sent_by (accounts_of a.members)) e.history
-  order i e at =
-      subst (InOrder (whole_opening script a) (sent_by (accounts_of a.members))) (history_of i e at)
-      (good.agreed.agreed.ordered i (is_here i e at))
-
-  stand : (i : ℕ) (e : MemberEnd) → slice_get a.members i ≡ Some e
-      → AllStand (whole_opening script a) e.history
-  stand i e at =
-      history-stands (whole_opening script a) (sent_by (accounts_of a.members)) e.history good.sound
-      (order i e at)
-
   -- each member of the report is one of the age
   end_of : (i : ℕ) (m : ReportMember) → slice_get ra.members i ≡ Some m
       → (e : MemberEnd) × (slice_get a.members i ≡ Some e) × HasMember e m
@@ -101,7 +74,7 @@ module _ (script : Script) (a : AgeEnd) (ra : ReportAge) (ranges : HasGroupRange
     entries = subst (λ (es : List Entry). AllKeep (λ i e. MayStart script (take i es) e) es)
         (sym values.start)
         (λ i e at. may_start script (whole_opening script a) a.start refl ranges.lists ranges.some_member
-        good.sound.entries i e (slice_get_within a.start i e at) at);
+        good.sound.entries i e at);
     later = λ v is. subst (λ (n : ℕ). v.age < n) (sym values.age)
         (good.sound.later v (sym (ap view_of values.start) ∙ is));
   }
@@ -111,7 +84,7 @@ module _ (script : Script) (a : AgeEnd) (ra : ReportAge) (ranges : HasGroupRange
   module _ (i : ℕ) (m : ReportMember) (e : MemberEnd) (at : slice_get a.members i ≡ Some e)
       (same : HasMember e m) where
     first : slice_get e.history (length a.start) ≡ Some (View a.age 0 (2 ^ script.members - 1))
-    first = first_at (whole_opening script a) (sent_by (accounts_of a.members)) e.history (order i e at)
+    first = first_at (whole_opening script a) (sent_by (accounts_of a.members)) e.history (order script a good i e at)
 
     has_own : length ra.start < length m.history
     has_own =
@@ -126,7 +99,7 @@ module _ (script : Script) (a : AgeEnd) (ra : ReportAge) (ranges : HasGroupRange
           × KeepsBytes script x
       keeps_messages =
           subst (λ (h : List Entry). KeepsSender (take j h) x × KeepsIndex (take j h) x × KeepsBytes script x)
-          (sym same.history) (message_keeps script a (take j e.history) x (stand i e at j x spot))
+          (sym same.history) (message_keeps script a (take j e.history) x (stand script a good i e at j x spot))
 
       is_first : j ≡ length ra.start → IsFirstView ra x
       is_first is =
@@ -144,25 +117,25 @@ module _ (script : Script) (a : AgeEnd) (ra : ReportAge) (ranges : HasGroupRange
       goes_on (Msg s k b) spot less = tt
       goes_on (View g k mask) spot less =
           let behind : length a.start < j = omega (arith, less, starts) in
-          let u = some_of (λ v. MayFollow v g k mask) (view_of (take j e.history))
-          ((order i e at).views j g k mask behind spot) in
-          let majority = IsSomeAnd-at (view_of (take j e.history))
-          (λ v. length v.members < 2 * length (filter (has mask) v.members)) u.0 u.1
-          (all_at (λ (e : MemberEnd). KeepsMajorities a.start e.history) a.members i e good.majorities at
-          j g k mask behind spot) in
+          let u = some_of (λ v. IsSucceededBy v g k mask) (view_of (take j e.history))
+          ((order script a good i e at).views j g k mask behind spot) in
           let now : view_of (take j m.history) ≡ Some u.0 =
           ap (λ (h : List Entry). view_of (take j h)) same.history ∙ u.1 in
+          let named = last_view_at (take j e.history) u.0 u.1 in
+          let kept : filter (has mask) u.0.members ≡ members_of mask =
+          ap (filter (has mask)) (sym named.3)
+          ∙ kept_members mask named.1 (subst (λ xs. All (Contains xs) (members_of mask)) (sym named.3)
+          u.2.follows.part) in
           let next : MayComeNext script ra m j u.0 g k mask = record {
-            same_age = u.2.same_age;
-            next_number = u.2.next_number;
-            other = λ is. absurd (omega (arith, u.2.fewer, ap length is));
-            roster = named_below (whole_opening script a) script.members e.history ranges.lists
-                (stand i e at) j g k mask
-                (slice_get_within e.history j (View g k mask) spot) spot;
-            majority = majority;
+            same_age = u.2.follows.same_age;
+            next_number = u.2.follows.next_number;
+            other = λ is. absurd (omega (arith, u.2.follows.fewer, ap length is));
+            roster = subst (λ (n : ℕ). All (λ s. s < n) (members_of mask)) ranges.lists
+                (named_below (whole_opening script a) e.history (stand script a good i e at) j g k mask spot);
+            majority = omega (arith, u.2.majority, ap length kept);
             newcomers = All-weaker (Contains u.0.members)
                 (λ s. Contains u.0.members s ⊎ (IsLate ra m s × (WasNamed ra (take j m.history) s → ⊥)))
-                (λ s c. inl c) (members_of mask) u.2.part;
+                (λ s c. inl c) (members_of mask) u.2.follows.part;
           } in
           subst (λ r. IsSomeAnd r (λ v. MayComeNext script ra m j v g k mask)) (sym now) next
 
@@ -173,11 +146,12 @@ module _ (script : Script) (a : AgeEnd) (ra : ReportAge) (ranges : HasGroupRange
           → slice_get other.history j ≡ Some y → y ≡ x
       has_same k other other_at y y_at =
           let f = end_of k other other_at in
-          let along = good.agreed.agreed.prefix k i (is_here k f.0 f.1) (is_here i e at) in
+          let along = good.agreed.agreed.prefix k i (is_here script a good k f.0 f.1)
+          (is_here script a good i e at) in
           let one : IsPrefixOf f.0.history e.history ⊎ IsPrefixOf e.history f.0.history =
-          subst (λ (h : List Entry). IsPrefixOf f.0.history h ⊎ IsPrefixOf h f.0.history) (history_of i e at)
+          subst (λ (h : List Entry). IsPrefixOf f.0.history h ⊎ IsPrefixOf h f.0.history) (history_of script a good i e at)
           (subst (λ (g : List Entry). IsPrefixOf g (accounts_of a.members i).history
-          ⊎ IsPrefixOf (accounts_of a.members i).history g) (history_of k f.0 f.1) along) in
+          ⊎ IsPrefixOf (accounts_of a.members i).history g) (history_of script a good k f.0 f.1) along) in
           same_at f.0.history e.history j y x one
           (subst (λ (h : List Entry). slice_get h j ≡ Some y) f.2.history y_at) spot
 
@@ -207,32 +181,27 @@ module _ (script : Script) (a : AgeEnd) (ra : ReportAge) (ranges : HasGroupRange
             let told : logged_by ra s ≡ f.logged = ap log_of n.1 ∙ n.2.logged in
             omega (arith, log, told, length-take f.logged f.history)
 
-    knows : (v : GroupView) × (view_of e.history ≡ Some v) × AreLogged ra m v.members
-    knows =
-        let u = some_of (λ v. Contains v.members i
-        × All (λ j. (accounts_of a.members i).durable ≤ length (accounts_of a.members j).log) v.members)
-        (view_of (accounts_of a.members i).history) (good.agreed.agreed.durable i (is_here i e at)) in
-        let durable : (accounts_of a.members i).durable ≡ m.durable =
-        ap (λ z. option_map_or (λ (e : MemberEnd). e.durable) z 0) at ∙ sym same.durable in (
+    its_view : (v : GroupView) × (view_of e.history ≡ Some v) × AreLogged ra m v.members
+    its_view =
+        let u = knows script a good i e at in (
           u.0,
-          sym (ap view_of (history_of i e at)) ∙ u.1,
-          All-weaker (λ j. (accounts_of a.members i).durable ≤ length (accounts_of a.members j).log)
-              (λ s. m.durable ≤ logged_by ra s) (λ s less. omega (arith, less, durable, log_short s))
-              u.0.members u.2.1,
+          u.1,
+          All-weaker (λ j. e.durable ≤ length (accounts_of a.members j).log) (λ s. m.durable ≤ logged_by ra s)
+              (λ s less. omega (arith, less, same.durable, log_short s)) u.0.members u.3,
         )
 
-    of_age : knows.0.age ≡ ra.age
+    of_age : its_view.0.age ≡ ra.age
     of_age =
         let h = e.history in
         let within = slice_get_within h (length a.start) (View a.age 0 (2 ^ script.members - 1)) first in
-        view_age (whole_opening script a) (sent_by (accounts_of a.members)) h (order i e at) (length h) within
-        (omega arith) knows.0 (ap view_of (take_all (length h) h (omega arith)) ∙ knows.1)
+        view_age (whole_opening script a) (sent_by (accounts_of a.members)) h (order script a good i e at) (length h) within
+        (omega arith) its_view.0 (ap view_of (take_all (length h) h (omega arith)) ∙ its_view.1)
         ∙ sym values.age
 
     keeps_durable : KeepsDurable ra m
     keeps_durable =
-        let v = knows.0 in
-        let spot = last_view_at e.history v knows.1 in
+        let v = its_view.0 in
+        let spot = last_view_at e.history v its_view.1 in
         let told = all_at (λ (f : MemberEnd). f.logged ≤ length f.history) a.members i e good.agreed.told at
         in
         record {
@@ -240,9 +209,9 @@ module _ (script : Script) (a : AgeEnd) (ra : ReportAge) (ranges : HasGroupRange
           some = any_at (IsDurableView ra m) m.history spot.0 (View ra.age v.number spot.1)
               (ap (λ (h : List Entry). slice_get h spot.0) same.history
               ∙ (spot.2 ∙ ap (λ (n : ℕ). Some (View n v.number spot.1)) of_age))
-              (refl, subst (AreLogged ra m) (sym spot.3) knows.2);
+              (refl, subst (AreLogged ra m) (sym spot.3) its_view.2);
           last = λ nobody. subst (λ r. IsSomeAnd r (λ w. (w.age ≡ ra.age) × AreLogged ra m w.members))
-              (sym (ap view_of same.history ∙ knows.1)) (of_age, knows.2);
+              (sym (ap view_of same.history ∙ its_view.1)) (of_age, its_view.2);
         }
 
 -- an age keeps what the one before it had
@@ -271,7 +240,7 @@ keeps_age script p a rp ra ranges good before after kept = record {
         any_at (HasDelivered ra) rp.members i m.0 m.1 (
           m.2.present,
           subst (λ (h : List Entry). IsPrefixOf ra.start h)
-              (history_of script p rp ranges good before i e.0 e.1 ∙ sym m.2.history)
+              (history_of script p good i e.0 e.1 ∙ sym m.2.history)
               (subst (λ (es : List Entry). IsPrefixOf es (accounts_of p.members i).history) (sym after.start)
               kept.delivered.2),
         )
@@ -282,11 +251,11 @@ keeps_age script p a rp ra ranges good before after kept = record {
         let known : (accounts_of p.members i).durable ≡ m.durable =
         ap (λ z. option_map_or (λ (e : MemberEnd). e.durable) z 0) e.1 ∙ sym e.2.durable in
         let history : (accounts_of p.members i).history ≡ m.history =
-        history_of script p rp ranges good before i e.0 e.1 ∙ sym e.2.history in
+        history_of script p good i e.0 e.1 ∙ sym e.2.history in
         subst (λ (es : List Entry). IsPrefixOf (take m.durable m.history) es) (sym after.start)
         (subst (λ (h : List Entry). IsPrefixOf (take m.durable h) a.start) history
         (subst (λ (n : ℕ). IsPrefixOf (take n (accounts_of p.members i).history) a.start) known
-        (kept.durable i (is_here script p rp ranges good before i e.0 e.1))))
+        (kept.durable i (is_here script p good i e.0 e.1))))
 
     durable : All (IsKeptIn ra) rp.members
     durable = all_from_places (IsKeptIn ra) rp.members kept_in

@@ -1,14 +1,12 @@
 -- Reports of ages that have ended.
-use Rattle.std.specs.Prelude.{◌≡◌, ℕ, suc, ◌-◌, ◌*◌, ◌^◌, ◌<◌, List, All, length, filter, take, slice_get, Some, IsSomeAnd, true}
+use Rattle.std.specs.Prelude.{◌≡◌, ℕ, suc, ◌-◌, ◌^◌, ◌<◌, List, All, length, slice_get, Some, true}
 use Rattle.std.specs.List.{AllZip}
 use Rattle.dr_entry.specs.declared.end.AgeEnd.{AgeEnd}
 use Rattle.dr_entry.specs.declared.end.MemberEnd.{MemberEnd}
 use Rattle.dr_entry.specs.declared.entry.Entry.{Entry}
-use Rattle.dr_entry.specs.declared.entry.Entry.TheVariants.{View}
 use Rattle.dr_history.specs.declared.opening.Opening.{Opening}
 use Rattle.dr_history.specs.Agreement.{EndsAgreed, accounts_of}
-use Rattle.dr_history.specs.History.{IsPrefixOf, view_of}
-use Rattle.dr_history.specs.Members.{has}
+use Rattle.dr_history.specs.History.{IsPrefixOf}
 use Rattle.dr_history.specs.Restarting.{Kept}
 use Rattle.dr_history.specs.Soundness.{Sound}
 use Rattle.dr_script.specs.declared.script.Script.{Script}
@@ -44,18 +42,11 @@ pub record HasAge (e : AgeEnd) (a : ReportAge) : Type 0 where
 abbrev pub HasValues : List AgeEnd → Report → Type 0
 HasValues ages r = AllZip HasAge ages r.ages
 
--- each View of a history behind View 0 has more than half of the members of the view before it
-abbrev pub KeepsMajorities : List Entry → List Entry → Type 0
-KeepsMajorities start h =
-    (i age number members : ℕ) → length start < i → slice_get h i ≡ Some (View age number members)
-    → IsSomeAnd (view_of (take i h)) (λ v. length v.members < 2 * length (filter (has members) v.members))
-
 -- an age that has ended, and whose members, all of the roster, agree
 pub record IsAgreed (script : Script) (a : AgeEnd) : Type 0 where
   pub all : length a.members ≡ script.members
   pub sound : Sound (whole_opening script a)
   pub agreed : EndsAgreed (whole_opening script a) a.members
-  pub majorities : All (λ (e : MemberEnd). KeepsMajorities a.start e.history) a.members
 
 -- each age keeps what the one before it had
 abbrev pub KeepEachOther : Script → List AgeEnd → Type 0
@@ -79,3 +70,8 @@ pub record IsTellableAge (members : ℕ) (a : AgeEnd) : Type 0 where
   pub entries : All EntryFits a.start
   pub start : IsLong (length a.start)
   pub ends : All (IsTellable a.start) a.members
+
+-- the number of an age, and those of its members' ends, are such as its lines tell
+pub record HasSmallNumbers (a : AgeEnd) : Type 0 where
+  pub age : a.age < 2 ^ 16
+  pub ends : All (λ (e : MemberEnd). EndFits e.end) a.members

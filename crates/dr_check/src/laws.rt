@@ -9,7 +9,7 @@ ghost use Rattle.dr_check.specs.Agreeing.{AreAgreed, IsKeptBy};
 ghost use Rattle.dr_check.specs.Flaws.{IsRight};
 ghost use Rattle.dr_check.specs.Grammar.{IsNoReportAt, IsReport, IsWholeAge};
 ghost use Rattle.dr_check.specs.Lines.{LastFits};
-ghost use Rattle.dr_check.specs.Values.{HasValues, IsAgreed, IsTellableAge, KeepEachOther};
+ghost use Rattle.dr_check.specs.Values.{HasSmallNumbers, HasValues, IsAgreed, IsTellableAge, KeepEachOther};
 ghost use Rattle.dr_script.specs.Ranges.{HasGroupRanges};
 
 use crate::report::Report;
@@ -53,4 +53,15 @@ pub fn printed_ages_are_reports()
     ensures { (members : ℕ) (ages : List AgeEndOf) (last : LastOf) → members ≤ 16
         → All (IsTellableAge members) ages → LastFits last
         → (r : ReportOf) × IsReport members (report_text ages last) r × HasValues ages r }
+{}
+
+/// What is printed of ages whose members agree, each of which keeps what the one before it had, is a report
+/// that keeps every clause.
+pub fn printed_ages_are_right(_script: &Script, _ages: &[AgeEnd])
+    requires ranges { HasGroupRanges _script.now }
+    requires agreed { All (IsAgreed _script.now) _ages.now }
+    requires kept { KeepEachOther _script.now _ages.now }
+    requires small { All HasSmallNumbers _ages.now }
+    ensures { (last : LastOf) → LastFits last → (r : ReportOf)
+        × IsReport _script.now.members (report_text _ages.now last) r × IsRight _script.now r }
 {}

@@ -28,8 +28,8 @@ pub use dr_text::Clause;
 pub use flaw::Flaw;
 pub use judging::judge;
 pub use laws::{
-    printed_ages_are_reports, report_passes, reports_are_read, right_reports_agree,
-    texts_are_one_report,
+    printed_ages_are_reports, printed_ages_are_right, report_passes, reports_are_read,
+    right_reports_agree, texts_are_one_report,
 };
 pub use reading::{ParseFault, parse};
 pub use report::{Report, ReportAge, ReportMember};
