@@ -35,7 +35,7 @@ use Rattle.dr_restart.specs.Setups.{IsBegun, crashes_of}
 use Rattle.dr_restart.proofs.Setups.{are_setups}
 use Rattle.dr_vote_laws.proofs.Exclusions.{excluded_so}
 use Rattle.dr_words.proofs.Masks.{has_without_mask}
-use Rattle.dr_words.specs.Masks.{IsMajorityOf, without}
+use Rattle.dr_words.specs.Masks.{IsInRoster, IsMajorityOf, without}
 use Rattle.dr_world_laws.proofs.Agreeing.{done-lacks-none, done-same, either-prefix, the-view}
 use Rattle.dr_world_laws.proofs.ChosenViews.{views-next}
 use Rattle.dr_world_laws.proofs.HeldViews.{view-held}
@@ -431,6 +431,8 @@ has_ended g p limit points m r is all ended v = record {
   number = r.replica.view;
   members = r.replica.members;
   view = in_view g p m r is;
+  roster = subst (λ (n : ℕ). IsInRoster n r.replica.members) (is.program.of m r is.there).members
+      (is.program.form m r is.there).replica.roster;
   own = own_view g p m r is;
   reason = has_reason g p limit points m r is all ended v;
 }

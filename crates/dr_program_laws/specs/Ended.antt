@@ -11,7 +11,7 @@ use Rattle.dr_history.specs.Members.{has, members_of}
 use Rattle.dr_history.specs.Order.{first_entries, messages_from, numbered_messages}
 use Rattle.dr_history_laws.specs.Remaining.{remaining}
 use Rattle.dr_program.specs.declared.setup.CrashPoint.{CrashPoint}
-use Rattle.dr_words.specs.Masks.{IsMajorityOf, IsPartOf}
+use Rattle.dr_words.specs.Masks.{IsInRoster, IsMajorityOf, IsPartOf}
 
 -- no crash point names a turn from 1 up to this one
 abbrev pub IsBeforeCrash : List CrashPoint → ℕ → Type 0
@@ -108,12 +108,13 @@ HasReason o ends number members limit m points e =
     ⊎ (IsSpent limit points e
     ⊎ (HasCrashed points e ⊎ (HasEndedByLog points e ⊎ HasBeenLeft o ends number members m points e)))
 
--- member m has ended as it should, in the view that its history is in, as a member of it
+-- member m has ended as it should, in the view that its history is in, which is of the roster, as a member of it
 pub record HasEnded (o : Opening) (ends : List MemberEnd) (limit m : ℕ) (points : List CrashPoint)
     (e : MemberEnd) : Type 0 where
   pub number : ℕ
   pub members : ℕ
   pub view : IsInView o number members e.history
+  pub roster : IsInRoster (length o.messages) members
   pub own : has members m ≡ true
   pub reason : HasReason o ends number members limit m points e
 
