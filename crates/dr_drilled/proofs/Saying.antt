@@ -17,6 +17,7 @@ played_so : (number : ℕ) (yard : YardState) (o : Outcome) (text : List ℕ)
     → HasPlayed simulated (drill number) yard yard o
     → HasPlayed simulated (drill number) yard yard (saying o text)
 played_so number yard o text played = record {
+  ranges = played.ranges;
   run = played.run;
   line = played.line;
   accepted = played.accepted;

@@ -14,6 +14,7 @@ use Rattle.dr_intake.specs.Reading.{refusal_in}
 use Rattle.dr_intake.specs.Status.{status_of}
 use Rattle.dr_program_laws.specs.Trusting.{SuspectsNobody}
 use Rattle.dr_script.specs.declared.script.Script.{Script}
+use Rattle.dr_script.specs.Ranges.{HasRanges}
 use Rattle.dr_script.specs.Reading.{NotJson, Reading, Reads, TooLong, Wrong, reading_of}
 use Rattle.dr_text.specs.declared.last.Last.{Last}
 use Rattle.dr_text.specs.declared.last.Last.TheVariants as lasts
@@ -234,9 +235,10 @@ all_ages play script before after ages stop (Some line) run is room =
     (whole.ages_all, whole_lasts script ages stop line whole ample (sym is))
 
 pub has_played : (play : Playing) (script : Script) (before after : YardState) (o : Outcome)
-    → HasRun play.mode play.folder script before after o.ages o.stop → o.last ≡ last_of o.ages o.stop
-    → HasPlayed play script before after o
-has_played play script before after o run line = record {
+    → HasRanges script → HasRun play.mode play.folder script before after o.ages o.stop
+    → o.last ≡ last_of o.ages o.stop → HasPlayed play script before after o
+has_played play script before after o ranges run line = record {
+  ranges = ranges;
   run = run;
   line = line;
   accepted = accepts o.ages o.stop o.last line;
@@ -248,14 +250,14 @@ has_played play script before after o run line = record {
 }
 
 -- nothing was run in memory, or the run there is one that was played, and every yard is as it was
-pub memory_played : (mode : Mode) (script : Script) (yard : YardState) (o : Outcome) → o.body ≡ bodies.Report
-    → ((o.ages ≡ []) × (o.stop ≡ None) × (o.last ≡ None))
+pub memory_played : (mode : Mode) (script : Script) (yard : YardState) (o : Outcome) → HasRanges script
+    → o.body ≡ bodies.Report → ((o.ages ≡ []) × (o.stop ≡ None) × (o.last ≡ None))
     ⊎ (IsRunInMemory script mode o.ages o.stop × (o.last ≡ last_of o.ages o.stop))
     → SaysOnly None yard yard o ⊎ HasPlayed (record { mode = mode; folder = None }) script yard yard o
-memory_played mode script yard o body (inl nothing) =
+memory_played mode script yard o ranges body (inl nothing) =
     inl (says_only None yard o nothing.0 nothing.1 body nothing.2)
-memory_played mode script yard o body (inr ran) =
-    inr (has_played (record { mode = mode; folder = None }) script yard yard o (refl, ran.0) ran.1)
+memory_played mode script yard o ranges body (inr ran) =
+    inr (has_played (record { mode = mode; folder = None }) script yard yard o ranges (refl, ran.0) ran.1)
 
 -- ---- the last lines of commands
 

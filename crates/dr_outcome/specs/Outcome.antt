@@ -14,6 +14,7 @@ use Rattle.dr_intake.specs.Status.{status_of}
 use Rattle.dr_io.specs.Faults.{Rose}
 use Rattle.dr_program_laws.specs.Trusting.{SuspectsNobody}
 use Rattle.dr_script.specs.declared.script.Script.{Script}
+use Rattle.dr_script.specs.Ranges.{HasRanges}
 use Rattle.dr_script.specs.Reading.{Reading, Reads, reading_of}
 use Rattle.dr_text.specs.declared.last.Last.{Last}
 use Rattle.dr_text.specs.declared.last.Last.TheVariants as lasts
@@ -74,8 +75,9 @@ NoneFailed before after = (m : ℕ) → after.faults m ≡ before.faults m
 abbrev pub TellsDisks : YardState → YardState → Option Last → Type 0
 TellsDisks before after last = IfSome last (λ line. NoneFailed before after ⊎ (status_of line ≡ 6))
 
--- a script was played, and the last line tells how its run ended
+-- a script was played, one with the ranges of a script that was read, and the last line tells how its run ended
 pub record HasPlayed (play : Playing) (script : Script) (before after : YardState) (o : Outcome) : Type 0 where
+  pub ranges : HasRanges script
   pub run : HasRun play.mode play.folder script before after o.ages o.stop
   pub line : o.last ≡ last_of o.ages o.stop
   -- no script is refused

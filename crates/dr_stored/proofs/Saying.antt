@@ -37,6 +37,7 @@ stores key version yard o text NotJson is says = alone key version yard o text _
 stores key version yard o text (Wrong rule path) is says = alone key version yard o text _ is says
 stores key version yard o text (Reads script) is (played, report) = (
   record {
+    ranges = played.ranges;
     run = played.run;
     line = played.line;
     accepted = played.accepted;

@@ -16,7 +16,7 @@ returns-in-Some-clause-played g c =
     let after = state_by g.Y.Yard.told g.Y.Yard.faults c.run_over.new.yard in
     let o = c.run_over.result in
     let same = ap (playing c.play.inside.mode) (sym c.in-Some.is) ∙ c.play.view_is in
-    inr (has_played c.args.play.now c.args.script.now before after o
+    inr (has_played c.args.play.now c.args.script.now before after o c.requires.ranges
     (subst (λ (p : Playing). HasRun p.mode p.folder c.args.script.now before after o.ages o.stop) same
     c.run_over.ensures.run) c.run_over.ensures.last)
 
@@ -26,5 +26,5 @@ returns-in-None-clause-played g c =
     let o = c.run_in_memory.result in
     let same = ap (playing c.play.inside.mode) (sym c.in-None.is) ∙ c.play.view_is in
     subst (λ (p : Playing). SaysOnly None yard yard o ⊎ HasPlayed p c.args.script.now yard yard o) same
-    (memory_played c.play.inside.mode c.args.script.now yard o c.run_in_memory.ensures.body
+    (memory_played c.play.inside.mode c.args.script.now yard o c.requires.ranges c.run_in_memory.ensures.body
     c.run_in_memory.ensures.ran)
