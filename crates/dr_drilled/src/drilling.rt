@@ -6,8 +6,9 @@ ghost use Rattle.dr_drilled.specs.Lines.{drill_text};
 
 use crate::lines::push_ages;
 use dr_drill::make;
-use dr_entry::{AgeEnd, Text};
+use dr_entry::AgeEnd;
 use dr_outcome::{Outcome, simulate, without_ages};
+use dr_text::LongText;
 use std::alloc::{AllocError, Global};
 use std::fmt::Write;
 use std::thread::Threads;
@@ -29,11 +30,11 @@ pub fn run_drill<R: Threads + Sync>(rt: &R, alloc: Global, number: u64) -> Outco
 }
 
 /// What is said of these ages of a drill.
-fn text_of(alloc: Global, number: u64, ages: &[AgeEnd]) -> Result<Text, AllocError>
+fn text_of(alloc: Global, number: u64, ages: &[AgeEnd]) -> Result<LongText, AllocError>
     ensures { IfOk result (λ text. text ≡ drill_text number ages.now) }
 {
     let mut text = String::new(alloc);
     writeln!(text, "drill {number} members 5 messages 2000")?;
     push_ages(&mut text, ages)?;
-    Ok(Text::of(text))
+    LongText::of(alloc, text)
 }

@@ -4,8 +4,8 @@ ghost use Rattle.dr_outcome.specs.Outcome.{SaysOnly};
 ghost use Rattle.dr_outcome.specs.declared.outcome.Body.TheVariants.{Report};
 
 use dr_ages::{Mode, Stop};
-use dr_entry::{AgeEnd, Seq, Text};
-use dr_text::Last;
+use dr_entry::{AgeEnd, Seq};
+use dr_text::{Last, LongText};
 use std::alloc::Global;
 use std::marker::Model;
 
@@ -32,7 +32,7 @@ pub enum Body {
     /// Their report.
     Report,
     /// A text of the command's own.
-    Text(Text),
+    Text(LongText),
 }
 
 /// What a call comes to before it is written: its ages, what ended the run before its last age, what is said
@@ -47,7 +47,7 @@ pub struct Outcome {
 
 impl Outcome {
     /// The same, with a text that is said in place of the report.
-    pub fn saying(self, text: Text) -> Outcome
+    pub fn saying(self, text: LongText) -> Outcome
         ensures { result ≡ record self { body = Body.Text text } }
     {
         Outcome {

@@ -1,4 +1,4 @@
-ghost use Rattle.std.specs.Prelude.{◌≡◌, ◌≢◌, ◌++◌, OnOk, codes, string_bytes};
+ghost use Rattle.std.specs.Prelude.{◌≡◌, ◌≢◌, ◌++◌, IfOk, OnOk, codes, string_bytes};
 ghost use Rattle.std.specs.Fmt.{decimal};
 ghost use Rattle.std.specs.List.{join_by};
 ghost use Rattle.dr_shards.specs.Layout.{is_of_shard, shard_members};
@@ -6,31 +6,30 @@ ghost use Rattle.dr_text.specs.Report.{age_text};
 ghost use Rattle.dr_sharded.specs.Lines.{shard_line, shards_text};
 
 use dr_entry::AgeEnd;
-use dr_text::{push_age_text, push_number};
+use dr_text::{LongText, push_number};
 use std::alloc::{AllocError, Global};
 use std::fmt::Write;
 
-/// Appends what becomes of the shards of so many members, ascending: the line of each, and its age.
-pub(crate) fn push_shards(
-    out: &mut String,
+/// What becomes of the shards of so many members, ascending: the line of each, and its age.
+pub(crate) fn shards_text(
     alloc: Global,
     shards: u8,
     members: u8,
     ages: &[AgeEnd],
-) -> Result<(), AllocError>
+) -> Result<LongText, AllocError>
     requires { shards ≢ 0 }
-    ensures { OnOk result (string_bytes out.new
-        ≡ string_bytes out.old ++ shards_text shards members ages.now) }
+    ensures { IfOk result (λ text. text ≡ shards_text shards members ages.now) }
 {
+    let mut text = LongText::new(alloc);
     for (k, age) in ages.iter().enumerate() {
-        push_shard(out, alloc, shards, k, members, age)?;
+        push_shard(&mut text, alloc, shards, k, members, age)?;
     }
-    Ok(())
+    Ok(text)
 }
 
 /// Appends what becomes of shard `k`.
 fn push_shard(
-    out: &mut String,
+    out: &mut LongText,
     alloc: Global,
     shards: u8,
     k: usize,
@@ -38,22 +37,22 @@ fn push_shard(
     age: &AgeEnd,
 ) -> Result<(), AllocError>
     requires { shards ≢ 0 }
-    ensures { OnOk result (string_bytes out.new
-        ≡ string_bytes out.old ++ (shard_line shards members k ++ age_text age.now)) }
+    ensures { OnOk result (out.new ≡ out.old ++ (shard_line shards members k ++ age_text age.now)) }
 {
-    push_line(out, shards, k, members)?;
-    push_age_text(out, alloc, age)
+    out.push_string(alloc, line_of(alloc, shards, k, members)?)?;
+    out.push_age_text(alloc, age)
 }
 
-/// Appends the line of shard `k`.
-fn push_line(out: &mut String, shards: u8, k: usize, members: u8) -> Result<(), AllocError>
+/// The line of shard `k`.
+fn line_of(alloc: Global, shards: u8, k: usize, members: u8) -> Result<String, AllocError>
     requires { shards ≢ 0 }
-    ensures { OnOk result (string_bytes out.new
-        ≡ string_bytes out.old ++ shard_line shards members k) }
+    ensures { IfOk result (λ line. string_bytes line ≡ shard_line shards members k) }
 {
-    write!(out, "shard {k} of {shards} members ")?;
-    push_members(out, shards, k, members)?;
-    out.push_str("\n")
+    let mut line = String::new(alloc);
+    write!(line, "shard {k} of {shards} members ")?;
+    push_members(&mut line, shards, k, members)?;
+    line.push_str("\n")?;
+    Ok(line)
 }
 
 /// Appends the numbers of the members of shard `k`, ascending, with commas between them.

@@ -10,9 +10,9 @@ ghost use Rattle.dr_yard.specs.Yards.{YardState};
 ghost use Rattle.dr_sharded.specs.Lines.{shards_text};
 ghost use Rattle.dr_sharded.specs.Sharded.{OfLayout, RunsShards, refused_layout, shards_ends};
 
-use crate::lines::push_shards;
+use crate::lines::shards_text;
 use crate::words::Sharding;
-use dr_entry::{AgeEnd, Seq, Text};
+use dr_entry::Seq;
 use dr_intake::script_or_refusal;
 use dr_outcome::{Body, Outcome, last_of, without_ages};
 use dr_pace::Pace;
@@ -80,7 +80,7 @@ fn run_all<R: Threads + Sync, P: Pace + Sync>(
     ensures last { IfOk result (λ o. o.last ≡ last_of o.ages None) }
 {
     let ages = run_shards(rt, alloc, scripts, sharding.mode, pace)?;
-    let text = text_of(alloc, sharding, members, &ages)?;
+    let text = shards_text(alloc, sharding.count.get(), members, &ages)?;
     let last = last_of(&ages, None);
     Ok(Outcome {
         ages: Seq::of(ages),
@@ -88,20 +88,6 @@ fn run_all<R: Threads + Sync, P: Pace + Sync>(
         body: Body::Text(text),
         last,
     })
-}
-
-/// What is said of the ages of the shards of so many members.
-fn text_of(
-    alloc: Global,
-    sharding: &Sharding,
-    members: u8,
-    ages: &[AgeEnd],
-) -> Result<Text, AllocError>
-    ensures { IfOk result (λ text. text ≡ shards_text sharding.now.count members ages.now) }
-{
-    let mut text = String::new(alloc);
-    push_shards(&mut text, alloc, sharding.count.get(), members, ages)?;
-    Ok(Text::of(text))
 }
 
 /// The last line by which a layout is refused, unless memory was wanting.

@@ -1,7 +1,8 @@
 use crate::{run_sharded, sharding_of};
+use dr_io::MemorySink;
 use dr_outcome::Body;
 use dr_pace::{MeetPace, Pace, SnoozePace};
-use dr_text::push_last;
+use dr_text::{LongText, push_last};
 use std::alloc::Global;
 use std::test::Fail;
 use std::thread::Threads;
@@ -100,19 +101,21 @@ fn said<R: Threads + Sync, P: Pace + Sync>(
     words: &[&str],
     script: &[u8],
     pace: &P,
-) -> Result<String, Fail> {
+) -> Result<MemorySink, Fail> {
     let Some(sharding) = sharding_of(&strings(alloc, words)?) else {
         return Err(Fail::from("these words ask for no shards"));
     };
     let outcome = run_sharded(rt, alloc, script, &sharding, pace);
-    let mut text = String::new(alloc);
-    if let Body::Text(body) = &outcome.body {
-        text.push_str(body.as_str())?;
-    }
+    let mut line = String::new(alloc);
     if let Some(last) = &outcome.last {
-        push_last(&mut text, last)?;
+        push_last(&mut line, last)?;
     }
-    Ok(text)
+    let mut sink = MemorySink::new(alloc, 4096, &[])?;
+    match &outcome.body {
+        Body::Text(text) => text.write_with(line.as_str(), &mut sink)?,
+        Body::Report => LongText::new(alloc).write_with(line.as_str(), &mut sink)?,
+    }
+    Ok(sink)
 }
 
 #[test]
@@ -120,7 +123,7 @@ fn shards_are_told(rt: HostRuntime) -> Result<(), Fail> {
     let alloc = rt.alloc();
     for (words, script, text) in CALLS {
         let said = said(&rt, alloc, words, script, &SnoozePace)?;
-        assert_eq!(rt; said.as_str(), text);
+        assert_eq!(rt; said.bytes(), text.as_bytes());
     }
     for words in OTHERS {
         assert!(rt; sharding_of(&strings(alloc, words)?).is_none());
@@ -135,7 +138,7 @@ fn shards_run_in_threads(rt: HostRuntime) -> Result<(), Fail> {
     let pace = MeetPace::new(alloc, 4, 100_000_000)?;
     let threads = said(&rt, alloc, &["1", "run"], FOUR, &pace)?;
     let lockstep = said(&rt, alloc, &["1"], FOUR, &SnoozePace)?;
-    assert_eq!(rt; threads.as_str(), lockstep.as_str());
+    assert_eq!(rt; threads.bytes(), lockstep.bytes());
     assert!(rt; pace.missed() == 0 && pace.met() >= 4);
     Ok(())
 }

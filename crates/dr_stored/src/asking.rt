@@ -5,8 +5,9 @@ ghost use Rattle.dr_stored.specs.Stored.{Stores, store_ends};
 ghost use Rattle.dr_stored.specs.Values.{last_values_text};
 
 use crate::values::push_values;
-use dr_entry::{AgeEnd, Text};
-use dr_outcome::{Body, Outcome, simulate_text, without_ages};
+use dr_entry::AgeEnd;
+use dr_outcome::{Outcome, simulate_text, without_ages};
+use dr_text::LongText;
 use std::alloc::{AllocError, Global};
 use std::thread::Threads;
 
@@ -30,10 +31,10 @@ pub fn ask_stores<R: Threads + Sync>(
 }
 
 /// The values in the stores of the last of these ages.
-fn text_of(alloc: Global, ages: &[AgeEnd], key: &[u8], version: u64) -> Result<Text, AllocError>
+fn text_of(alloc: Global, ages: &[AgeEnd], key: &[u8], version: u64) -> Result<LongText, AllocError>
     ensures { IfOk result (λ text. text ≡ last_values_text key.now version ages.now) }
 {
     let mut text = String::new(alloc);
     push_values(&mut text, alloc, ages, key, version)?;
-    Ok(Text::of(text))
+    LongText::of(alloc, text)
 }

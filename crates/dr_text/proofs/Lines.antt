@@ -4,11 +4,8 @@ use Rattle.std.specs.List.{flat_map}
 use Rattle.std.proofs.Math.Seq.{take-append_seam, take-length, get_or-append_seam}
 use Rattle.std.proofs.Math.ListN.{get_or-append}
 use Rattle.std.proofs.lemmas.Bool.{cases_lt}
-use Rattle.std.proofs.lemmas.List.{length-append, length-take}
+use Rattle.std.proofs.lemmas.List.{length-append}
 use Rattle.std.proofs.lemmas.Grind.{get_or_default_zero}
-use Rattle.std.specs.Prelude.{IsTrue}
-use Rattle.std.specs.Str.{IsCharBoundary, IsUtf8, is_utf8}
-use Rattle.std.proofs.lemmas.Str.{IsCharBoundary-from_take, IsUtf8-from_is_utf8, IsUtf8-nil, is_utf8-from_IsUtf8}
 use Rattle.dr_entry.specs.declared.entry.Entry.{Entry}
 use Rattle.dr_text.specs.Report.{entry_text}
 use Rattle.dr_text.specs.Printed.{ArePrinted, lines}
@@ -45,20 +42,17 @@ none_printed entries text ends empty zero_alone = record {
   printed = empty;
   many = ap length zero_alone;
   each = up_to_none (IsEnd entries ends) (ap (λ xs. get_or xs 0 0) zero_alone);
-  whole = up_to_none (λ i. IsTrue (is_utf8 (lines entries i))) (is_utf8-from_IsUtf8 [] IsUtf8-nil);
 }
 
 -- one line more is printed
 pub printed_more : (entries : List Entry) (n : ℕ) (e : Entry) (text ends text' ends' : List ℕ)
     → n < length entries → e ≡ get_or entries n e → ArePrinted entries n text ends
-    → text' ≡ text ++ entry_text e → ends' ≡ ends ++ length text' ∷ [] → IsUtf8 text'
+    → text' ≡ text ++ entry_text e → ends' ≡ ends ++ length text' ∷ []
     → ArePrinted entries (n + 1) text' ends'
-printed_more entries n e text ends text' ends' below is before after marked utf8 = record {
+printed_more entries n e text ends text' ends' below is before after marked = record {
   printed = whole;
   many = rw (marked, length-append, before.many) refl;
   each = up_to_more (IsEnd entries ends') n earlier last;
-  whole = up_to_more (λ i. IsTrue (is_utf8 (lines entries i))) n before.whole
-      (is_utf8-from_IsUtf8 (lines entries (n + 1)) (subst IsUtf8 whole utf8));
 }
   where
     whole : text' ≡ lines entries (n + 1)
@@ -97,13 +91,3 @@ pub first_lines : (entries : List Entry) (text ends : List ℕ) (count end : ℕ
 first_lines entries text ends count end all within is =
     let at = first_end entries text ends count end all within is in
     rw (at, all_printed entries text ends all) (first_text entry_text entries count)
-
--- no character is cut there
-pub first_boundary : (entries : List Entry) (text ends : List ℕ) (count end : ℕ)
-    → ArePrinted entries (length entries) text ends → count ≤ length entries
-    → end ≡ get_or ends count end → IsUtf8 text → IsCharBoundary text end
-first_boundary entries text ends count end all within is utf8 =
-    let front = first_lines entries text ends count end all within is in
-    let at = first_end entries text ends count end all within is in
-    IsCharBoundary-from_take text end utf8 (omega (arith, at, ap length front, length-take end text))
-    (subst IsUtf8 (sym front) (IsUtf8-from_is_utf8 (lines entries count) (all.whole count within)))

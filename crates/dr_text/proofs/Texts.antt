@@ -28,13 +28,11 @@ concat_more xs i x below is =
     concat_is (take (i + 1) xs) ∙ text_more (λ x. x) xs i x below is
     ∙ ap (λ l. l ++ x) (sym (concat_is (take i xs)))
 
--- a text behind the others, as that of one element more
-pub concat_push : {A : Type 0} (f : A → List ℕ) (xs : List A) (i : ℕ) (x : A)
-    (old new : List (List ℕ)) (text : List ℕ) → i < length xs → x ≡ get_or xs i x
-    → concat old ≡ flat_map f (take i xs) → new ≡ old ++ text ∷ [] → text ≡ f x
-    → concat new ≡ flat_map f (take (i + 1) xs)
-concat_push f xs i x old new text below is before added of =
-    rw (added, concat-append, before, of, append-nil, text_more f xs i x below is) refl
+-- a text behind the others
+pub concat_behind : (old new : List (List ℕ)) (whole text line : List ℕ)
+    → new ≡ old ++ text ∷ [] → concat old ≡ whole → text ≡ line → concat new ≡ whole ++ line
+concat_behind old new whole text line added before is =
+    rw (added, concat-append, before, is, append-nil) refl
 
 -- one piece more
 pub piece_more : (lines : List ℕ) (old new : List Piece) (p : Piece) (own front : List ℕ)

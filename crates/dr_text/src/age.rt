@@ -1,52 +1,19 @@
 ghost use Rattle.std.specs.Prelude.{◌≡◌, ℕ, ◌≤◌, ◌++◌, All, IfOk, OnOk, OnErr, drop, length, string_bytes};
 ghost use Rattle.std.specs.List.{flat_map};
-ghost use Rattle.dr_io.specs.Faults.{HasCause};
-ghost use Rattle.dr_io.specs.Sink.{Gains};
 ghost use Rattle.dr_text.specs.Report.{age_head, age_text, entry_text, members_text, member_line, member_text};
 ghost use Rattle.dr_text.specs.Pieces.{pieces_text};
-ghost use Rattle.dr_text.specs.Writing.{WroteFront};
 
 use crate::ends::push_end;
 use crate::entries::push_entries;
-use crate::pieces::{Piece, write_pieces};
+use crate::pieces::{Piece, PiecedText};
 use crate::printed::{Printed, behind};
 use dr_entry::{AgeEnd, Entry, MemberEnd};
-use dr_io::{Failed, Sink};
 use std::alloc::{AllocError, Global};
 use std::fmt::Write;
-use std::marker::Model;
-
-/// The text of an age, in pieces.
-#[derive(Drop)]
-pub(crate) struct AgeText {
-    /// The lines that pieces end with.
-    lines: String,
-    pieces: Vec<Piece>,
-}
-
-impl Model for AgeText {
-    ghost use Rattle.std.specs.Prelude.{List, ℕ, string_bytes};
-    ghost use Rattle.dr_text.specs.Pieces.{pieces_text};
-
-    ghost Value = { List ℕ };
-
-    ghost view = { λ a. pieces_text (string_bytes a.lines) a.pieces.items };
-}
-
-impl AgeText {
-    /// Writes the text.
-    pub(crate) fn write_to<K: Sink>(&self, sink: &mut K) -> Result<(), Failed>
-        ensures ok { OnOk result (Gains (K.held sink.old) (K.held sink.new) self.now) }
-        ensures err { OnErr result (WroteFront (K.held sink.old) (K.held sink.new) self.now) }
-        ensures cause { HasCause (K.faults sink.old) (K.faults sink.new) result }
-    {
-        write_pieces(sink, self.lines.as_str().as_bytes(), self.pieces.as_slice())
-    }
-}
 
 /// The text of an age. The members' histories are mostly alike, so the lines of the longest are made
 /// once, and stand for each member as far as its own are the same.
-pub(crate) fn text_of(alloc: Global, age: &AgeEnd) -> Result<AgeText, AllocError>
+pub(crate) fn text_of(alloc: Global, age: &AgeEnd) -> Result<PiecedText, AllocError>
     ensures { IfOk result (λ text. text ≡ age_text age.now) }
 {
     let members = age.members.as_slice();
@@ -58,79 +25,20 @@ pub(crate) fn text_of(alloc: Global, age: &AgeEnd) -> Result<AgeText, AllocError
         count: 0,
     })?;
     push_members(alloc, &mut pieces, start, &printed, members)?;
-    Ok(AgeText {
-        lines: printed.into_text(),
-        pieces,
-    })
+    Ok(PiecedText::of(printed.into_text(), pieces))
 }
 
 /// The line of an age, and the entries that it started with.
 fn head_of(alloc: Global, age: &AgeEnd) -> Result<String, AllocError>
     ensures { IfOk result (λ head. string_bytes head ≡ age_head age.now) }
 {
-    let mut head = String::new(alloc);
-    push_age_head(&mut head, age)?;
-    Ok(head)
-}
-
-/// Appends the line of an age, and the entries that it started with.
-fn push_age_head(out: &mut String, age: &AgeEnd) -> Result<(), AllocError>
-    ensures { OnOk result (string_bytes out.new ≡ string_bytes out.old ++ age_head age.now) }
-{
     let start = age.start.as_slice();
     let number = age.age;
     let count = start.len();
-    writeln!(out, "age {number} start {count}")?;
-    push_entries(out, start)
-}
-
-/// Appends the text of an age. As in a report, the lines that members share are made once.
-///
-/// # Errors
-///
-/// Want of memory alone.
-pub fn push_age_text(out: &mut String, alloc: Global, age: &AgeEnd) -> Result<(), AllocError>
-    ensures { OnOk result (string_bytes out.new ≡ string_bytes out.old ++ age_text age.now) }
-{
-    let members = age.members.as_slice();
-    let start = age.start.as_slice().len();
-    let printed = Printed::of(alloc, longest(members, start))?;
-    push_age_head(out, age)?;
-    push_member_texts(out, start, &printed, members)
-}
-
-/// Appends the texts of the members of an age that started with `start` entries, ascending.
-fn push_member_texts(
-    out: &mut String,
-    start: usize,
-    printed: &Printed<'_>,
-    members: &[MemberEnd],
-) -> Result<(), AllocError>
-    ensures { OnOk result
-        (string_bytes out.new ≡ string_bytes out.old ++ members_text start members.now) }
-{
-    for (number, member) in members.iter().enumerate() {
-        push_member_text(out, start, number, printed, member)?;
-    }
-    Ok(())
-}
-
-/// Appends the text of the member numbered `number` of an age that started with `start` entries.
-fn push_member_text(
-    out: &mut String,
-    start: usize,
-    number: usize,
-    printed: &Printed<'_>,
-    member: &MemberEnd,
-) -> Result<(), AllocError>
-    ensures { OnOk result
-        (string_bytes out.new ≡ string_bytes out.old ++ member_text start number member.now) }
-{
-    let entries = own_entries(member, start);
-    let same = printed.count_same(entries);
-    push_member_line(out, number, member)?;
-    out.push_str(printed.first_lines(same))?;
-    push_entries(out, behind(entries, same))
+    let mut head = String::new(alloc);
+    writeln!(head, "age {number} start {count}")?;
+    push_entries(&mut head, start)?;
+    Ok(head)
 }
 
 /// The longest list of entries that a member has after the first `start`, empty where none has any.

@@ -50,15 +50,6 @@ impl<'a> Printed<'a> {
         self.ends[count]
     }
 
-    /// The lines of the first `count` entries.
-    pub(crate) fn first_lines(&self, count: usize) -> &str
-        requires { count ≤ length self.now.entries.now }
-        ensures { result.now ≡ lines self.now.entries.now count }
-    {
-        let end = self.ends[count];
-        &self.text.as_str()[..end]
-    }
-
     /// The text of all lines.
     pub(crate) fn into_text(self) -> String
         ensures { string_bytes result ≡ string_bytes self.entry.text }

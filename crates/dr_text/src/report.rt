@@ -1,33 +1,29 @@
-ghost use Rattle.std.specs.Prelude.{◌≡◌, ◌++◌, IfOk, OnOk, OnErr, string_bytes};
-ghost use Rattle.std.specs.List.{concat, flat_map};
+ghost use Rattle.std.specs.Prelude.{◌≡◌, IfOk, OnOk, OnErr};
 ghost use Rattle.dr_io.specs.Faults.{HasCause};
 ghost use Rattle.dr_io.specs.Sink.{Gains};
-ghost use Rattle.dr_text.specs.Report.{age_text, last_text, report_text};
+ghost use Rattle.dr_text.specs.Report.{report_text};
 ghost use Rattle.dr_text.specs.Writing.{WroteFront};
 
-use crate::age::{AgeText, text_of};
 use crate::last::{Last, push_last};
-use crate::writing::write_all;
+use crate::long_text::LongText;
 use dr_entry::AgeEnd;
 use dr_io::{Failed, Sink};
 use std::alloc::{AllocError, Global};
 use std::marker::Model;
 
-/// The text of a run: its ages, and one last line. Contracts see it as its bytes. Lines that stand in it
-/// several times are kept once.
+/// The text of a run: its ages, and one last line. Contracts see it as its bytes.
 #[derive(Drop)]
 pub struct Report {
-    ages: Vec<AgeText>,
+    ages: LongText,
     last: String,
 }
 
 impl Model for Report {
     ghost use Rattle.std.specs.Prelude.{List, ℕ, ◌++◌, string_bytes};
-    ghost use Rattle.std.specs.List.{concat};
 
     ghost Value = { List ℕ };
 
-    ghost view = { λ r. concat r.ages.items ++ string_bytes r.last };
+    ghost view = { λ r. r.ages ++ string_bytes r.last };
 }
 
 impl Report {
@@ -42,7 +38,7 @@ impl Report {
         let mut line = String::new(alloc);
         push_last(&mut line, last)?;
         Ok(Report {
-            ages: texts_of(alloc, ages)?,
+            ages: LongText::of_ages(alloc, ages)?,
             last: line,
         })
     }
@@ -58,30 +54,6 @@ impl Report {
         ensures err { OnErr result (WroteFront (K.held sink.old) (K.held sink.new) self.now) }
         ensures cause { HasCause (K.faults sink.old) (K.faults sink.new) result }
     {
-        write_ages(sink, self.ages.as_slice())?;
-        write_all(sink, self.last.as_str().as_bytes())
+        self.ages.write_with(self.last.as_str(), sink)
     }
-}
-
-/// The texts of these ages.
-fn texts_of(alloc: Global, ages: &[AgeEnd]) -> Result<Vec<AgeText>, AllocError>
-    ensures { IfOk result (λ texts. concat texts.items ≡ flat_map age_text ages.now) }
-{
-    let mut texts = Vec::with_capacity(alloc, ages.len())?;
-    for age in ages {
-        texts.push(text_of(alloc, age)?)?;
-    }
-    Ok(texts)
-}
-
-/// Writes these texts behind one another.
-fn write_ages<K: Sink>(sink: &mut K, ages: &[AgeText]) -> Result<(), Failed>
-    ensures ok { OnOk result (Gains (K.held sink.old) (K.held sink.new) (concat ages.now)) }
-    ensures err { OnErr result (WroteFront (K.held sink.old) (K.held sink.new) (concat ages.now)) }
-    ensures cause { HasCause (K.faults sink.old) (K.faults sink.new) result }
-{
-    for age in ages {
-        age.write_to(sink)?;
-    }
-    Ok(())
 }

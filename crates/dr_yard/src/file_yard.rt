@@ -1,19 +1,26 @@
 //! A yard whose disks are files of a folder.
 
-ghost use Rattle.std.specs.Prelude.{◌≡◌, ◌<◌, false, ℕ, slice_index_or};
+ghost use Rattle.std.specs.Prelude.{◌≡◌, ◌<◌, false, ℕ, slice_index_or, IfSome, if◌then◌else◌, ◌++◌, ◌∷◌, []};
+ghost use Rattle.std.specs.Path.{slash, with_separator};
 ghost use Rattle.dr_entry.specs.declared.limits.TheConstants.{MAX_MEMBERS};
+ghost use Rattle.dr_yard.specs.Files.{path_in};
 
 use crate::file_disk::FileDisk;
 use crate::yard::Yard;
+use arrayvec::ArrayString;
 use dr_entry::MAX_MEMBERS;
 use dr_io::Failed;
+use std::fmt::Write;
 use std::fs::{File, OpenOptions};
-use std::io;
 use std::marker::Model;
-use std::path::Path;
 use std::rt::Files;
 
-/// The logs of the members in a folder: the file `member-I.log` is that of member `I`.
+/// How many bytes the path of a file may have. The system opens none whose path has more.
+const MAX_PATH: usize = 4096;
+
+/// The logs of the members in a folder: the file `member-I.log` is that of member `I`. A call for a disk fails where
+/// its file can't be opened or made: where there is no folder, say, or where the path has more than 4,096 bytes.
+/// Neither `lend` nor `give_back` takes memory.
 #[derive(Drop)]
 pub struct FileYard<R: Files<File = File> + Drop> {
     rt: R,
@@ -29,7 +36,7 @@ impl<R: Files<File = File> + Drop> Model for FileYard<R> {
     ghost view = { λ a. record { lent = a.lent; faults = a.faults } };
 }
 
-impl<R: Files<File = File> + AllocGlobal + Drop> FileYard<R> {
+impl<R: Files<File = File> + Drop> FileYard<R> {
     /// A yard of which no file is lent.
     pub fn new(rt: R) -> FileYard<R>
         ensures { (m : ℕ) → m < MAX_MEMBERS → slice_index_or result.lent m false ≡ false }
@@ -43,17 +50,46 @@ impl<R: Files<File = File> + AllocGlobal + Drop> FileYard<R> {
 }
 
 /// Opens the file of a member, and makes it where there is none.
-fn open<R: Files<File = File> + AllocGlobal>(rt: &R, folder: &str, member: u8) -> io::Result<File> {
-    let name = format!(in rt.alloc(); "member-{member}.log")?;
-    let path = Path::new(folder).join(rt.alloc(), name.as_str())?;
+fn open<R: Files<File = File>>(rt: &R, folder: &str, member: u8) -> Option<File> {
+    let path = path_of(folder, member)?;
     OpenOptions::new()
         .read(true)
         .write(true)
         .create(true)
-        .open(rt, path.as_path())
+        .open(rt, path.as_str())
+        .ok()
 }
 
-impl<R: Files<File = File> + AllocGlobal + Drop> Yard for FileYard<R> {
+/// The path of the file of a member, unless it is too long.
+fn path_of(folder: &str, member: u8) -> Option<ArrayString<MAX_PATH>>
+    ensures { IfSome result (λ path. path.bytes ≡ path_in folder.now member) }
+{
+    let mut path = before_name(folder)?;
+    match write!(path, "member-{member}.log") {
+        Ok(()) => Some(path),
+        Err(_) => None,
+    }
+}
+
+/// A folder, with a slash behind it where a name needs one, unless that is too long.
+fn before_name(folder: &str) -> Option<ArrayString<MAX_PATH>>
+    ensures { IfSome result (λ path. path.bytes ≡ with_separator folder.now) }
+{
+    let mut path = ArrayString::from(folder).ok()?;
+    if !takes_name(folder.as_bytes()) {
+        path.try_push_str("/").ok()?;
+    }
+    Some(path)
+}
+
+/// Whether a name may stand right behind a folder: behind none, or behind a slash.
+fn takes_name(folder: &[u8]) -> bool
+    ensures { with_separator folder.now ≡ (if result then folder.now else folder.now ++ slash ∷ []) }
+{
+    folder.is_empty() || folder[folder.len() - 1] == b'/'
+}
+
+impl<R: Files<File = File> + Drop> Yard for FileYard<R> {
     ghost use Rattle.std.specs.Prelude.{None, slice_index_or};
 
     type Store = FileDisk;
@@ -67,11 +103,11 @@ impl<R: Files<File = File> + AllocGlobal + Drop> Yard for FileYard<R> {
     fn lend(&mut self, folder: &str, member: u8) -> Result<FileDisk, Failed> {
         let m = usize::from(member);
         match open(&self.rt, folder, member) {
-            Ok(file) => {
+            Some(file) => {
                 self.lent[m] = true;
                 Ok(FileDisk::new(file, self.faults[m]))
             }
-            Err(_) => {
+            None => {
                 self.faults[m] = self.faults[m].saturating_add(1);
                 Err(Failed)
             }

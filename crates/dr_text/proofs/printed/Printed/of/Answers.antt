@@ -1,5 +1,4 @@
 use Rattle.std.proofs.Common.{◌++◌, ◌∷◌, [], ◌∙◌, ap, length, string_bytes}
-use Rattle.std.proofs.lemmas.Str.{IsUtf8-string_bytes}
 use Rattle.dr_text.proofs.Lines.{none_printed, printed_more}
 use Rattle.dr_text.proofs.printed.Printed.of.Goals as goal
 
@@ -19,7 +18,6 @@ loop-entry-preserved c =
     c.loop-entry.invariant
     c.in_ok-push_entry.ensures
     (c.in_ok-push-2.ensures.items ∙ ap (λ end. ends ++ end ∷ []) (ap length c.as_str.ensures.value))
-    (IsUtf8-string_bytes c.push_entry.new.out)
 
 pub loop-entry-init : goal.loop-entry-init
 loop-entry-init c =

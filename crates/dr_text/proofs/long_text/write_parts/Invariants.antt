@@ -1,9 +1,9 @@
 use Rattle.std.proofs.Common.{take}
 use Rattle.std.specs.List.{concat}
 use Rattle.dr_text.proofs.Sinks.{HasWritten}
-use Rattle.dr_text.proofs.report.write_ages.Given as goal
+use Rattle.dr_text.proofs.long_text.write_parts.Given as goal
 
-abbrev pub invariant-loop-age : goal.invariant-loop-age
-invariant-loop-age g l =
+abbrev pub invariant-loop-part : goal.invariant-loop-part
+invariant-loop-part g l =
     HasWritten (g.K.Sink.held l.initial.sink) (g.K.Sink.held l.sink) (g.K.Sink.faults l.initial.sink)
-    (g.K.Sink.faults l.sink) (concat (take l.age-index l.ages))
+    (g.K.Sink.faults l.sink) (concat (take l.part-index l.parts))

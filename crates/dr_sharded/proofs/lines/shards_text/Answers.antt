@@ -1,8 +1,8 @@
-use Rattle.std.proofs.Common.{◌++◌, string_bytes, arith}
+use Rattle.std.proofs.Common.{◌++◌, [], arith}
 use Rattle.dr_sharded.specs.Lines.{shard_line}
 use Rattle.dr_text.proofs.Numbers.{numbered_texts_more}
 use Rattle.dr_text.specs.Report.{age_text}
-use Rattle.dr_sharded.proofs.lines.push_shards.Goals as goal
+use Rattle.dr_sharded.proofs.lines.shards_text.Goals as goal
 
 pub loop-k-preserved : goal.loop-k-preserved
 loop-k-preserved c =
@@ -11,9 +11,9 @@ loop-k-preserved c =
     c.args.ages.now
     c.loop-k.k
     c.index-ages-k.result
-    (string_bytes c.args.out.now)
-    (string_bytes c.loop-k.out)
-    (string_bytes c.push_shard.new.out)
+    []
+    c.loop-k.text
+    c.push_shard.new.out
     (omega arith)
     c.index-ages-k.is
     c.loop-k.invariant
