@@ -328,6 +328,10 @@ entry_due r e other =
       | inr t ↦ absurd (other t.0)
     ]
 
+-- without an end the next deed is that of the next step
+pub next_without_end : (r : Running) → r.replica.end ≡ None → next_deed r ≡ deed_of r (next_step r)
+next_without_end r none = ap (deed r) none
+
 -- the next deed is to append this entry, or this vote
 pub entry_deed : (r : Running) (entry : Entry) → r.replica.end ≡ None → steps.Append ≡ next_step r
     → slice_get r.replica.history r.replica.logged ≡ Some entry

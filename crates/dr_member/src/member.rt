@@ -105,6 +105,17 @@ impl Member {
         if let Some(end) = self.replica.end() {
             return Deed::Rest(end);
         }
+        self.due_deed()
+    }
+
+    /// What the member, which has not ended, does next. An index in it is one of the table's.
+    #[inline(always)]
+    #[tactic(auto, using(crate::proofs::Dues::next_without_end))]
+    pub fn due_deed(&self) -> Deed
+        requires going { self.now.replica.end ≡ None }
+        ensures deed { result ≡ next_deed self.now }
+        ensures within { IsWithin (table_size self.now) result }
+    {
         let Place { part, row, column } = self.place;
         // Written behind the pushes, looks, which are most of the deeds, are what the built program tests first.
         if part == PUSHES {

@@ -180,6 +180,13 @@ found_none p m xs found ended =
 
 -- ---- the choice that the code makes
 
+-- a count that is none, or isn't
+pub count_none : (n : ℕ) → (n == 0) ≡ true → n ≡ 0
+count_none n e = grind (arith, e)
+
+pub count_some : (n : ℕ) → (n == 0) ≡ false → 0 < n
+count_some n e = grind (arith, e)
+
 -- the place of the choice in the list of who goes on, and the member there
 pub record IsPicked (x : ℕ) (p : Program) (j m : ℕ) : Type 0 where
   pub within : j < length (going p)
@@ -192,7 +199,7 @@ below_some x n some = omega (arith, some)
 
 -- a member among those that go on is picked by the next state
 pub picked : (x : ℕ) (p : Program) (xs ys : List ℕ) (n j : ℕ) → xs ≡ going p → ys ≡ xs → n
-    ≡ length xs → (n == 0) ≡ false → j ≡ choice_of (next_state x) n
+    ≡ length xs → 0 < n → j ≡ choice_of (next_state x) n
     → IsPicked x p j (slice_index ys j)
 picked x p xs ys n j listed same counted left chosen = record {
   within = subst (λ k. k < length (going p)) (sym place)
@@ -208,11 +215,8 @@ picked x p xs ys n j listed same counted left chosen = record {
     count : n ≡ length (going p)
     count = counted ∙ ap length listed
 
-    positive : (k : ℕ) → (k == 0) ≡ false → 0 < k
-    positive k e = grind (arith, e)
-
     some : 0 < length (going p)
-    some = subst (λ k. 0 < k) (counted ∙ ap length listed) (positive n left)
+    some = subst (λ k. 0 < k) (counted ∙ ap length listed) left
 
     place : j ≡ choice_of (next_state x) (length (going p))
     place = chosen ∙ ap (choice_of (next_state x)) (counted ∙ ap length listed)
@@ -220,7 +224,7 @@ picked x p xs ys n j listed same counted left chosen = record {
 -- once nobody is left, the run is one of the seed
 pub seeded : {W : Type 0} {sees : W → Running → List ℕ → W → Type 0} {old new : W} (seed : ℕ)
     (begun : Program) (x : ℕ) (p : Program) (xs : List ℕ)
-    → HasChosen sees old new seed begun x p → xs ≡ going p → (length xs == 0) ≡ true
+    → HasChosen sees old new seed begun x p → xs ≡ going p → length xs ≡ 0
     → (run : HasRun (Seed seed) begun p) × WasTold sees begun run.moves old new
 seeded seed begun x p xs has listed none = (
   record {
@@ -228,12 +232,9 @@ seeded seed begun x p xs has listed none = (
     by = record {
       chosen = has.are;
       ran = has.taken;
-      ended = nobody_goes p (ap length (sym listed) ∙ zero_is (length xs) none);
+      ended = nobody_goes p (ap length (sym listed) ∙ none);
     };
     well = has.well;
   },
   has.told,
 )
-  where
-    zero_is : (n : ℕ) → (n == 0) ≡ true → n ≡ 0
-    zero_is n e = grind (arith, e)

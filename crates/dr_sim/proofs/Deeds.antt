@@ -1,17 +1,22 @@
 -- What the next deed of a member makes of it and of the table.
-use Rattle.std.proofs.Common.{◌≡◌, sym, ap, ◌∙◌, subst, ℕ, false, List, slice_index}
-use Rattle.std.specs.Prelude.{None, Some, slice_set}
+use Rattle.std.proofs.Common.{◌≡◌, refl, sym, ap, ◌∙◌, subst, ℕ, false, List, slice_index}
+use Rattle.std.specs.Prelude.{None, Some, is_some, slice_set}
 use Rattle.dr_entry.specs.declared.record.Record.{Record}
+use Rattle.dr_machine.specs.declared.step.Step.{Step}
+use Rattle.dr_machine.specs.declared.step.Step.TheVariants.{Do}
+use Rattle.dr_program.specs.declared.deed.Deed.{Deed}
 use Rattle.dr_program.specs.declared.deed.Deed.TheVariants as deeds
 use Rattle.dr_program.specs.declared.outcome.LogWhy.{LogWhy}
 use Rattle.dr_program.specs.declared.outcome.Outcome.TheVariants.{Failed, Ok}
 use Rattle.dr_program.specs.Program.{after_deed, next_sight}
 use Rattle.dr_program.specs.Reading.{step_due, step_of_member}
-use Rattle.dr_program.specs.Running.{Running, after_step, broken_off, next_deed, next_step}
+use Rattle.dr_program.specs.Running.{Running, after_step, broken_off, deed, deed_of, next_deed, next_step}
 use Rattle.dr_program.specs.Sight.{MaySee}
 use Rattle.dr_program.specs.Steps.{IsAppend, stored}
 use Rattle.dr_logged.specs.Appended.{is_append}
 use Rattle.dr_logged.proofs.Serving.{none_failed, settled_same}
+use Rattle.dr_member.specs.Deeds.{is_act}
+use Rattle.dr_turn.proofs.Parts.{end_stays, is_final}
 use Rattle.dr_age.proofs.Deeds.{IsStoreAt, after_append, any_outcome, deed_tells, stored_append}
 use Rattle.dr_sim.specs.Deeds.{SeesWell, member_after, outcome_by, stores, table_after, went_so}
 
@@ -24,6 +29,20 @@ look_seen table r index well is =
     let t = deed_tells table r (deeds.Look index) is in
     subst (MaySee r (step_of_member r)) t.says.sees
     (well t.says.row t.says.column (ap (step_due r) t.none ∙ ap Some t.says.look))
+
+-- ---- a deed that is no act
+
+only_acts_are_final : (r : Running) (s : Step) → is_act (deed_of r s) ≡ false → is_final s ≡ false
+only_acts_are_final r (Do a) other = absurd (cc)
+only_acts_are_final r s other = refl
+
+-- it leaves the member without an end
+pub stays_going : (word : ℕ) (r x : Running) (d : Deed) → next_deed r ≡ d → is_act d ≡ false
+    → r.replica.end ≡ None → x ≡ after_step word r → is_some x.replica.end ≡ false
+stays_going word r x d is other none after =
+    let step = only_acts_are_final r (next_step r) (ap is_act (sym (ap (deed r) none) ∙ is) ∙ other) in
+    ap (λ (y : Running). is_some y.replica.end) (after ∙ settled_same word r)
+    ∙ ap is_some (end_stays word r.replica (next_step r) step ∙ none)
 
 -- ---- what a deed makes of the member and the table
 

@@ -280,7 +280,7 @@ swept_served told faults base log zero words r cells q (same, is) within served 
 swept_served told faults base log (suc n) words r cells q (due, rest) within served =
     let other = (at_sweep r due).other in
     swept_served told faults base log n _ _ cells q rest (logged_on (next_sight words r) r other within)
-    (other_served told faults base log (next_sight words r) r other within served)
+    (other_served told faults base log (next_sight words r) r other (at_sweep r due).none within served)
 
 -- so it is where looks and pushes have led it
 pub come_ready : {D : Type 0} (log : LogState D) (words : List ℕ) (r : Running) (cells : List ℕ)

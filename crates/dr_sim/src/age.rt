@@ -10,7 +10,7 @@ ghost use Rattle.dr_restart.specs.Setups.{crashes_of};
 ghost use Rattle.dr_script.specs.Ranges.{HasRanges};
 ghost use Rattle.dr_log.specs.State.{LogState};
 ghost use Rattle.dr_logged.specs.Served.{AreReady, HaveServed};
-ghost use Rattle.dr_age.specs.Logged.{AreAsBefore, AreCalm, AreOpened, HaveCome, HaveVoted, IsAmple, NoneFull};
+ghost use Rattle.dr_age.specs.Logged.{AreAsBefore, AreCalm, AreOpened, HaveCome, IsAmple, NoneFull};
 ghost use Rattle.dr_sim.specs.Simulated.{HasRun, IsSimulated};
 ghost use Rattle.dr_age.specs.Sound.{IsSound};
 ghost use Rattle.dr_sim.specs.Watched.{IsWatched, WasTold};
@@ -48,11 +48,10 @@ pub fn sim_age<D: Disk>(
     ensures ended { IfOk result (λ age. HaveEnded (group_of script.now start.now).opening
         script.now.turns (crashes_of script.now.faults nth) age.members) }
     ensures trusting { IfOk result (λ age. SuspectsNobody script.now → NoneLeft age.members) }
-    // What stands on the logs, and what a crash may have left of them at any moment; the votes there are those
-    // of the members.
-    ensures logged { IfOk result (λ age. HaveCome D.told D.faults logs.old logs.new age.members) }
-    ensures voted { IfOk result (λ age. (is : IsSimulated script.now start.now nth age)
-        × HaveVoted logs.old logs.new is.over.members) }
+    // What stands on the logs, by how the members stood at the end, and what a crash may have left of them at
+    // any moment.
+    ensures logged { IfOk result (λ age. (is : IsSimulated script.now start.now nth age)
+        × HaveCome D.told D.faults logs.old logs.new is.over.members) }
     ensures ample { IfOk result (λ age. All (IsAmple (group_of script.now start.now)) logs.old
         → NoneFull age.members) }
     ensures kept { OnErr result (AreAsBefore logs.old logs.new) }
@@ -89,11 +88,10 @@ pub fn watch_age<D: Disk, W: Watcher>(
     ensures ended { IfOk result (λ age. HaveEnded (group_of script.now start.now).opening
         script.now.turns (crashes_of script.now.faults nth) age.members) }
     ensures trusting { IfOk result (λ age. SuspectsNobody script.now → NoneLeft age.members) }
-    // What stands on the logs, and what a crash may have left of them at any moment; the votes there are those
-    // of the members.
-    ensures logged { IfOk result (λ age. HaveCome D.told D.faults logs.old logs.new age.members) }
-    ensures voted { IfOk result (λ age. (is : IsSimulated script.now start.now nth age)
-        × HaveVoted logs.old logs.new is.over.members) }
+    // What stands on the logs, by how the members stood at the end, and what a crash may have left of them at
+    // any moment.
+    ensures logged { IfOk result (λ age. (is : IsSimulated script.now start.now nth age)
+        × HaveCome D.told D.faults logs.old logs.new is.over.members) }
     ensures ample { IfOk result (λ age. All (IsAmple (group_of script.now start.now)) logs.old
         → NoneFull age.members) }
     ensures kept { OnErr result (AreAsBefore logs.old logs.new) }

@@ -19,14 +19,14 @@ use dr_logged::why_of;
 use dr_member::{Deed, Member};
 
 /// The member, which has not ended, takes its next deed, over the words of the table and its log. The watcher
-/// is told of it first.
+/// is told of it first. Answers whether the member has ended, which a look or a push leaves as it is.
 #[inline(always)]
 pub fn take<D: Disk, W: Watcher>(
     member: &mut Member,
     table: &mut [u64],
     log: &mut Log<D>,
     watcher: &mut W,
-)
+) -> bool
     requires going { member.old.replica.end ≡ None }
     requires size { table_size member.old ≤ length table.old }
     requires form { IsRunningMember member.old }
@@ -35,6 +35,7 @@ pub fn take<D: Disk, W: Watcher>(
     requires ready { IsReady log.old member.old }
     ensures member { member.new ≡ member_after table.old (outcome_by member.new.failed) member.old }
     ensures table { table.new ≡ table_after table.old member.old }
+    ensures ended { result ≡ is_some member.new.replica.end }
     ensures falls { deeds_left member.new < deeds_left member.old }
     ensures ready { IsReady log.new member.new }
     ensures served { (base : LogState D) → HasServed D.told D.faults base log.old member.old
@@ -42,18 +43,27 @@ pub fn take<D: Disk, W: Watcher>(
     ensures told { W.sees watcher.old member.old table.old watcher.new }
 {
     watcher.see(member, table);
-    match member.next() {
-        Deed::Look(index) => member.looked(table[index]),
+    match member.due_deed() {
+        Deed::Look(index) => {
+            member.looked(table[index]);
+            false
+        }
         Deed::Push(index, word) => {
-            table[index] = word;
+            // The member is told first, so that nothing of it is read again behind the store.
             member.pushed();
+            table[index] = word;
+            false
         }
         Deed::Act(index, word) => {
             table[index] = word;
             member.acted();
+            member.end().is_some()
         }
-        Deed::Append(_) => append(member, log),
-        Deed::Rest(_) => {}
+        Deed::Append(_) => {
+            append(member, log);
+            member.end().is_some()
+        }
+        Deed::Rest(_) => true,
     }
 }
 
@@ -62,6 +72,7 @@ pub fn take<D: Disk, W: Watcher>(
 #[inline(never)]
 fn append<D: Disk>(member: &mut Member, log: &mut Log<D>)
     requires due { is_append (next_deed member.old) ≡ true }
+    requires going { member.old.replica.end ≡ None }
     requires form { IsRunningMember member.old }
     requires appends { AppendsWell member.old }
     requires ready { IsReady log.old member.old }
@@ -73,7 +84,7 @@ fn append<D: Disk>(member: &mut Member, log: &mut Log<D>)
     ensures served { (base : LogState D) → HasServed D.told D.faults base log.old member.old
         → HasServed D.told D.faults base log.new member.new }
 {
-    if let Deed::Append(record) = member.next() {
+    if let Deed::Append(record) = member.due_deed() {
         match log.append(&record) {
             Ok(()) => member.appended(),
             Err(fault) => member.append_failed(&why_of(fault)),
@@ -101,10 +112,12 @@ fn take_on<D: Disk, W: Watcher>(
         → HasServed D.told D.faults base log.new member.new }
 {
     let noted = watcher.takes_note();
-    match member.next() {
+    match member.due_deed() {
         Deed::Look(_) if !noted => member.look_alone(table.as_slice()),
         Deed::Push(_, _) if !noted => member.push_alone(table.as_mut_slice()),
-        _ => take(member, table.as_mut_slice(), log, watcher),
+        _ => {
+            take(member, table.as_mut_slice(), log, watcher);
+        }
     }
 }
 

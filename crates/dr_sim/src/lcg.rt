@@ -12,6 +12,9 @@ const INCREMENT: u64 = 1442695040888963407;
 #[derive(Drop)]
 pub struct Lcg {
     state: u64,
+    /// Its constants, which are fields so that a loop need not load them anew for each choice.
+    multiplier: u64,
+    increment: u64,
 }
 
 impl Model for Lcg {
@@ -19,15 +22,24 @@ impl Model for Lcg {
 
     ghost Value = { ℕ };
 
+    ghost use Rattle.dr_sim.specs.Inside.{HasConstants};
+
     ghost view = { λ a. a.state };
+
+    ghost invariant = { HasConstants };
 }
 
 impl Lcg {
-    /// The generator of this seed.
+    /// The generator of this seed. Out of line, so that in a loop its constants are read as fields.
+    #[inline(never)]
     pub fn new(seed: u64) -> Lcg
         ensures { result ≡ seed }
     {
-        Lcg { state: seed }
+        Lcg {
+            state: seed,
+            multiplier: MULTIPLIER,
+            increment: INCREMENT,
+        }
     }
 
     /// The next choice among `n`: a number below it. The generator goes on to its next state first.
@@ -36,7 +48,10 @@ impl Lcg {
         ensures state { self.new ≡ next_state self.old }
         ensures choice { result ≡ choice_of (next_state self.old) n }
     {
-        self.state = self.state.wrapping_mul(MULTIPLIER).wrapping_add(INCREMENT);
+        self.state = self
+            .state
+            .wrapping_mul(self.multiplier)
+            .wrapping_add(self.increment);
         remainder((self.state >> 33) as u32, n)
     }
 
@@ -47,7 +62,10 @@ impl Lcg {
         ensures state { self.new ≡ next_state self.old }
         ensures choice { result ≡ choice_of (next_state self.old) n }
     {
-        self.state = self.state.wrapping_mul(MULTIPLIER).wrapping_add(INCREMENT);
+        self.state = self
+            .state
+            .wrapping_mul(self.multiplier)
+            .wrapping_add(self.increment);
         (self.state >> 33) as u32 % n
     }
 }

@@ -40,32 +40,43 @@ impl Simulation {
     {
         let mut lcg = Lcg::new(seed);
         let mut going = self.going();
-        while !going.is_empty() {
-            let at = lcg.choose_few(going.len() as u32) as usize;
-            let m = going[at];
-            self.take_deed_of(m, logs, watcher);
-            if self.has_ended(m) {
-                going.remove(at);
+        'members: while !going.is_empty() {
+            // How many they are changes only as one ends, so it is asked once for all deeds until then.
+            let few = going.len() as u32;
+            'deeds: loop {
+                let at = lcg.choose_few(few) as usize;
+                let m = going[at];
+                if self.take_deed_of(m, logs, watcher) {
+                    going.remove(at);
+                    break;
+                }
             }
         }
     }
 
-    /// Member `m`, which has not ended, takes its next deed, with the log of its number.
+    /// Member `m`, which has not ended, takes its next deed, with the log of its number. Answers whether it
+    /// has ended.
     #[inline(always)]
-    fn take_deed_of<D: Disk, W: Watcher>(&mut self, m: usize, logs: &mut [Log<D>], watcher: &mut W)
+    fn take_deed_of<D: Disk, W: Watcher>(
+        &mut self,
+        m: usize,
+        logs: &mut [Log<D>],
+        watcher: &mut W,
+    ) -> bool
         ghost group: { Group }
         requires sound { IsSound group self.old }
         requires going { has_ended (slice_get self.old.members m) ≡ false }
         requires within { m < length logs.old }
         requires ready { AreReady logs.old self.old.members }
         ensures took { TookDeed group self.old m self.new }
+        ensures ended { result ≡ has_ended (slice_get self.new.members m) }
         ensures ready { AreReady logs.new self.new.members }
         ensures served { (bases : List (LogState D))
             → HaveServed D.told D.faults bases logs.old self.old.members
             → HaveServed D.told D.faults bases logs.new self.new.members }
         ensures told { AtMember self.old m (λ r. W.sees watcher.old r self.old.table watcher.new) }
     {
-        self.take_deed(m, &mut logs[m], watcher);
+        self.take_deed(m, &mut logs[m], watcher)
     }
 
     /// The numbers of the members that have not ended, ascending.

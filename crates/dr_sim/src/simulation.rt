@@ -123,13 +123,20 @@ impl Simulation {
     }
 
     /// Member `m`, which has not ended, takes its next deed, with its log. The watcher is told of it first.
+    /// Answers whether the member has ended.
     #[inline(always)]
-    pub fn take_deed<D: Disk, W: Watcher>(&mut self, m: usize, log: &mut Log<D>, watcher: &mut W)
+    pub fn take_deed<D: Disk, W: Watcher>(
+        &mut self,
+        m: usize,
+        log: &mut Log<D>,
+        watcher: &mut W,
+    ) -> bool
         ghost group: { Group }
         requires sound { IsSound group self.old }
         requires going { has_ended (slice_get self.old.members m) ≡ false }
         requires ready { AtMember self.old m (IsReady log.old) }
         ensures took { TookDeed group self.old m self.new }
+        ensures ended { result ≡ has_ended (slice_get self.new.members m) }
         ensures others { AreOthers self.old m self.new }
         ensures ready { AtMember self.new m (IsReady log.new) }
         ensures served { (base : LogState D) → AtMember self.old m (HasServed D.told D.faults base log.old)
@@ -141,7 +148,7 @@ impl Simulation {
             self.table.as_mut_slice(),
             log,
             watcher,
-        );
+        )
     }
 
     /// Member `m`, which has not ended, takes a whole turn, with its log: its deeds up to the first after

@@ -8,7 +8,7 @@ use Rattle.dr_program_laws.proofs.Worlds.{ends_agreed}
 use Rattle.dr_history.specs.Agreement.{EndsAgreed}
 use Rattle.dr_restart.specs.Groups.{group_of}
 use Rattle.dr_restart.specs.Setups.{crashes_of}
-use Rattle.dr_age.specs.Logged.{HaveCome, NoneFull}
+use Rattle.dr_age.specs.Logged.{NoneFull}
 use Rattle.dr_sim.specs.Simulated.{IsSimulated}
 use Rattle.dr_sim.proofs.Courses.{schedule_ran, schedule_ends}
 use Rattle.dr_age.proofs.Ends.{IsOver, all_failing, have_come, none_full, ready_with}
@@ -111,15 +111,7 @@ returns-clause-trusting g c = λ nobody.
 pub returns-clause-logged : goal.returns-clause-logged
 returns-clause-logged g c =
     let (p, has_run, sound, same, served, count, opened, ended, opening, moves, closing) = c.run.ensures in
-    subst (λ (age : AgeEnd).
-    HaveCome g.D.Disk.told g.D.Disk.faults c.args.logs.now c.run.new.logs age.members) (sym same)
-    (have_come _ _ _ _ _ p (over g c))
-
-pub returns-clause-voted : goal.returns-clause-voted
-returns-clause-voted g c = (
-  simulated g c,
-  λ m base log r from there at. ((over g c).served m base log r from there at).voted,
-)
+    (simulated g c, have_come _ _ _ _ _ p (over g c))
 
 pub returns-clause-run : goal.returns-clause-run
 returns-clause-run g c = simulated g c

@@ -1,4 +1,4 @@
-use Rattle.std.proofs.Common.{◌≡◌, List}
+use Rattle.std.proofs.Common.{◌≡◌, ◌<◌, List, length}
 use Rattle.dr_log.specs.State.{LogState}
 use Rattle.dr_logged.specs.Served.{AreReady, HaveServed}
 use Rattle.dr_program.specs.Schedule.{going}
@@ -10,8 +10,8 @@ use Rattle.dr_sim.proofs.simulation.Simulation.run_seeded.Given as goal
 abbrev pub ghost-take_deed_of : goal.ghost-take_deed_of
 ghost-take_deed_of g a = g.group
 
-abbrev pub invariant-loop-lcg : goal.invariant-loop-lcg
-invariant-loop-lcg g l = record {
+abbrev pub invariant-members : goal.invariant-members
+invariant-members g l = record {
   sound : IsSound g.group l.self;
   going : l.going.items ≡ going l.self;
   chosen : HasChosen g.W.Watcher.sees l.fn.watcher l.watcher l.seed l.fn.self l.lcg l.self;
@@ -21,5 +21,21 @@ invariant-loop-lcg g l = record {
       → HaveServed g.D.Disk.told g.D.Disk.faults bases l.logs l.self.members;
 }
 
-abbrev pub decreases-loop-lcg : goal.decreases-loop-lcg
-decreases-loop-lcg g l = all_left l.self
+abbrev pub decreases-members : goal.decreases-members
+decreases-members g l = length l.going.items
+
+abbrev pub invariant-deeds : goal.invariant-deeds
+invariant-deeds g l = record {
+  sound : IsSound g.group l.self;
+  going : l.going.items ≡ going l.self;
+  few : l.few ≡ length l.going.items;
+  some : 0 < l.few;
+  chosen : HasChosen g.W.Watcher.sees l.fn.watcher l.watcher l.seed l.fn.self l.lcg l.self;
+  ready : AreReady l.logs l.self.members;
+  served : (bases : List (LogState g.row.D.Denot))
+      → HaveServed g.D.Disk.told g.D.Disk.faults bases l.fn.logs l.fn.self.members
+      → HaveServed g.D.Disk.told g.D.Disk.faults bases l.logs l.self.members;
+}
+
+abbrev pub decreases-deeds : goal.decreases-deeds
+decreases-deeds g l = all_left l.self

@@ -5,7 +5,7 @@ use Rattle.std.proofs.lemmas.List.{with_items_is}
 use Rattle.std.proofs.lemmas.Option.{same_Some}
 use Rattle.dr_logged.specs.Served.{HasServed, IsReady}
 use Rattle.dr_program.specs.Program.{Program}
-use Rattle.dr_program.proofs.Holdings.{replica_kept}
+use Rattle.dr_program.proofs.Holdings.{replica_kept, replica_set}
 use Rattle.dr_program.specs.Running.{Running}
 use Rattle.dr_program.specs.Schedule.{has_ended}
 use Rattle.dr_sim.specs.Deeds.{SeesWell, member_after, outcome_by, table_after}
@@ -79,6 +79,12 @@ returns-clause-took g c =
     ∙ ap (λ (t : List ℕ). member_after t (outcome_by c.take.new.member.failed) r) cells)
     (c.take.ensures.table ∙ ap (λ (t : List ℕ). table_after t r) cells)
     c.take.ensures.falls))
+
+pub returns-clause-ended : goal.returns-clause-ended
+returns-clause-ended g c =
+    c.take.ensures.ended ∙ sym (ap has_ended (replica_set c.self.inside.members.items c.args.m c.take.new.member
+    (going_there c.self.inside.members.items c.self.inside.table.items c.args.self.now c.args.m c.self.view_is
+    c.requires.1.1.1.1.0)))
 
 pub returns-clause-ready : goal.returns-clause-ready
 returns-clause-ready g c = λ r there.

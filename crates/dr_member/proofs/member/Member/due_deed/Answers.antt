@@ -1,15 +1,16 @@
 use Rattle.std.proofs.Common.{◌≡◌, ap, sym, ◌∙◌}
 use Rattle.std.specs.Prelude.{None}
 use Rattle.dr_program.specs.Replica.{value_due, vote_of}
-use Rattle.dr_program.specs.Running.{next_deed}
+use Rattle.dr_program.specs.Running.{Running, next_deed}
 use Rattle.dr_member.specs.Inside.{member_inside}
 use Rattle.dr_member.specs.Search.{step_by}
 use Rattle.dr_member.proofs.Dues.{entry_deed, vote_deed}
-use Rattle.dr_member.proofs.member.Member.next.Goals as goal
+use Rattle.dr_member.proofs.member.Member.due_deed.Goals as goal
 
 pub returns-in-Append-clause-deed : goal.returns-in-Append-clause-deed
 returns-in-Append-clause-deed c =
-    let none : c.self.inside.replica.end ≡ None = cc in
+    let none : c.self.inside.replica.end ≡ None =
+    ap (λ (r : Running). r.replica.end) c.self.view_is ∙ c.requires.going in
     entry_deed (member_inside c.self.inside) c.next_entry.result none
     (ap (λ d. step_by d c.self.inside.place (value_due c.self.inside.replica)) (sym c.in-Append.is)
     ∙ c.due_at.ensures) c.next_entry.ensures
@@ -17,7 +18,8 @@ returns-in-Append-clause-deed c =
 
 pub returns-in-Vote-clause-deed : goal.returns-in-Vote-clause-deed
 returns-in-Vote-clause-deed c =
-    let none : c.self.inside.replica.end ≡ None = cc in
+    let none : c.self.inside.replica.end ≡ None =
+    ap (λ (r : Running). r.replica.end) c.self.view_is ∙ c.requires.going in
     vote_deed (member_inside c.self.inside) c.next_vote.result none
     (ap (λ d. step_by d c.self.inside.place (value_due c.self.inside.replica)) (sym c.in-Vote.is)
     ∙ c.due_at.ensures)
