@@ -13,13 +13,14 @@ use Rattle.dr_program.specs.declared.deed.Deed.TheVariants as deeds
 use Rattle.dr_program.specs.declared.outcome.Outcome.{Outcome}
 use Rattle.dr_program.specs.Form.{HasForm, IsRunningMember}
 use Rattle.dr_program.specs.Program.{after_deed, appended_as}
-use Rattle.dr_program.specs.Replica.{Replica}
+use Rattle.dr_entry.specs.declared.record.Value.{Value}
+use Rattle.dr_program.specs.Replica.{Replica, may_vote, vote_of}
 use Rattle.dr_program.specs.Running.{Running, after_step, crashes_now, deed, deed_of, next_deed, next_step, step_at}
 use Rattle.dr_program.specs.Turn.{part_of}
 use Rattle.dr_program.specs.declared.place.Part.{Part}
 use Rattle.dr_program.specs.declared.place.Part.TheVariants as parts
 use Rattle.dr_program.proofs.StepsAt.{append_either, push_either, vote_either}
-use Rattle.dr_program.proofs.Voting.{vote_room, vote_valid}
+use Rattle.dr_program.proofs.Voting.{vote_room, vote_valid, votes_for}
 use Rattle.dr_program.proofs.Waiting.{append_free}
 use Rattle.dr_program.specs.Steps.{IsAppend, allows, sight, stepped, stored}
 use Rattle.dr_refine.proofs.Deeds.{due_allowed}
@@ -134,15 +135,19 @@ at_act r index word is = (deed_tells [] r (deeds.Act index word) is).says.other
 may_log : (r : Running) (s : Step) → HasForm r.replica → IsAppend s → allows r.replica s ≡ true
     → r.replica.pending ≡ None → MayLog r s
 may_log r Append form is may free = ltb-true r.replica.logged (length r.replica.history) may
-may_log r (LogVote v) form is may free =
-    (vote_room r.replica v form free may, vote_valid r.replica v form may)
+may_log r (LogVote v) form is may free = record {
+  may = subst (λ (x : Value). may_vote r.replica x ≡ true) (votes_for r.replica v may) may;
+  is = ap (vote_of r.replica) (votes_for r.replica v may);
+  valid = vote_valid r.replica v form may;
+  few = vote_room r.replica v form free may;
+}
 may_log r s form is may free = absurd is
 
 -- and its record is valid where the entries of the member's history are
 pub valid_due : (r : Running) (s : Step) → All IsValidEntry r.replica.history → MayLog r s
     → IsValid (record_of r s)
 valid_due r Append valid may = valid r.replica.logged (View 0 0 0) may
-valid_due r (LogVote v) valid may = may.1
+valid_due r (LogVote v) valid may = may.valid
 valid_due r s valid may = absurd may
 
 pub at_append : (r : Running) (due : Record) → IsRunningMember r → next_deed r ≡ deeds.Append due

@@ -43,7 +43,7 @@ use Rattle.dr_room.proofs.Bounds.{history_small}
 use Rattle.dr_refine.proofs.Deeds.{program_member, replicas}
 use Rattle.dr_world_laws.proofs.Messages.{valid_history}
 use Rattle.dr_world_laws.proofs.Worlds.{holds_messages, known}
-use Rattle.dr_logged.specs.Served.{AreReady, AreRoomy, HasCome, HasServed, HaveServed, IsNext, IsReady, WentSo}
+use Rattle.dr_logged.specs.Served.{AreReady, AreRoomy, HasCome, HasServed, HaveServed, IsReady, IsRecordDue, WentSo}
 use Rattle.dr_logged.proofs.Serving.{begins}
 use Rattle.dr_age.specs.Logged.{AreOpened, HaveCome, IsAmple, IsNotFull, IsOpened, NoneFull, why_ended}
 use Rattle.dr_age.specs.Sound.{IsSound}
@@ -172,38 +172,10 @@ over_tells told count g bases logs p m r over there =
 -- so the logs have come to what their members' ends tell
 pub have_come : {D : Type 0} (told : D → Option Told) (count : D → ℕ) (g : Group)
     (bases logs : List (LogState D)) (p : Program) → IsOver told count g bases logs p
-    → HaveCome told count bases logs (map end_of p.members)
-have_come {D} told count g bases logs p over = λ m base log e from there end.
-    by m base log e from there (slice_get p.members m) refl (sym (slice_get-map end_of p.members m) ∙ end)
-  where
-    -- there are as many banks as members
-    as_many : (m : ℕ) (r : Running) → slice_get p.members m ≡ Some r
-        → r.replica.banks ≡ length (map end_of p.members)
-    as_many m r at = omega (
-      arith,
-      (over.sound.form.of m r at).banks,
-      over.sound.form.all,
-      length-map p.members end_of,
-    )
-
-    by : (m : ℕ) (base log : LogState D) (e : MemberEnd) → slice_get bases m ≡ Some base
-        → slice_get logs m ≡ Some log → (o : Option Running) → slice_get p.members m ≡ o
-        → option_map end_of o ≡ Some e
-        → (votes : List Vote)
-        × HasCome told count base log (length (map end_of p.members)) e.history e.logged votes
-        (why_ended e.end)
-    by m base log e from there None at end = absurd (cc)
-    by m base log e from there (Some r) at end = (
-      r.replica.votes,
-      subst (λ (x : MemberEnd).
-          HasCome told count base log (length (map end_of p.members)) x.history x.logged r.replica.votes
-          (why_ended x.end)) (same_Some (end_of r) e end)
-          (subst (λ n. HasCome told count base log n r.replica.history r.replica.logged r.replica.votes
-          (why_ended (end_of r).end)) (as_many m r at)
-          (subst (HasCome told count base log r.replica.banks r.replica.history r.replica.logged
-          r.replica.votes) (sym (over_tells told count g bases logs p m r over at))
-          (over.served m base log r from there at))),
-    )
+    → HaveCome told count bases logs p.members
+have_come {D} told count g bases logs p over = λ m base log r from there at.
+    subst (HasCome told count base log r.replica) (sym (over_tells told count g bases logs p m r over at))
+    (over.served m base log r from there at).come
 
 -- ---- ample logs
 
@@ -279,59 +251,68 @@ ample_log {D} told count g p m r base log len is there ample at served =
         ) in
         omega (arith, ap (λ (v : Vote). v.members) own, is.group.most_members)
 
-    went : WentSo told count base log r.replica.banks r.replica.history r.replica.logged r.replica.votes
-        (Some (whys.LogFull len))
-    went = subst
-        (WentSo told count base log r.replica.banks r.replica.history r.replica.logged r.replica.votes) at
-        served.last
+    came : HasCome told count base log r.replica r.failed
+    came = served.come
+
+    went : WentSo told count base log r.replica (Some (whys.LogFull len))
+    went = subst (WentSo told count base log r.replica) at came.last
 
     -- the entries that it has more are valid
-    more_valid : All IsValidEntry served.more.0
+    more_valid : All IsValidEntry came.more.0
     more_valid = subst (All IsValidEntry)
-        (ap (drop (length base.entries)) (sym served.entries ∙ served.more.1)
-        ∙ drop_at base.entries served.more.0 (length base.entries) refl)
+        (ap (drop (length base.entries)) (sym came.entries ∙ came.more.1)
+        ∙ drop_at base.entries came.more.0 (length base.entries) refl)
         (All-drop IsValidEntry (length base.entries) (take r.replica.logged r.replica.history)
         (All-take IsValidEntry r.replica.logged r.replica.history valid))
 
-    as_long : length log.entries ≡ length base.entries + length served.more.0
-    as_long = ap length served.more.1 ∙ length-append base.entries served.more.0
+    as_long : length log.entries ≡ length base.entries + length came.more.0
+    as_long = ap length came.more.1 ∙ length-append base.entries came.more.0
 
-    long : len ≤ base.length + 72 * length served.more.0 + 73 * length r.replica.votes
+    long : len ≤ base.length + 72 * length came.more.0 + 73 * length r.replica.votes
     long = omega (
       arith,
       went.2.long,
-      served.long,
-      short_log_length served.more.0 more_valid,
+      came.long,
+      short_log_length came.more.0 more_valid,
       short_votes r.replica.votes short,
     )
 
     logged : length log.entries ≤ r.replica.logged
     logged = omega (
       arith,
-      ap length served.entries,
+      ap length came.entries,
       length-take r.replica.logged r.replica.history,
     )
 
     all : length log.entries ≤ length r.replica.history
     all = omega (
       arith,
-      ap length served.entries,
+      ap length came.entries,
       length-take r.replica.logged r.replica.history,
     )
 
     -- the next record isn't there, as there is room for it
-    by : (next : Record) → IsNext r.replica.banks r.replica.history r.replica.logged r.replica.votes next
-        → log.limit < len + block_length next → ⊥
-    by (records.Entry e) (inr vote) over = absurd vote
-    by (records.Entry e) (inl due) over =
-        let block : block_length (records.Entry e) ≤ 72 = subst (λ x. block_length x ≤ 72) (sym due.1)
-        (short_block _ (valid r.replica.logged (View 0 0 0) due.0)) in
-        omega (arith, over, block, long, as_long, logged, due.0, small, few, ample.limit, served.limit)
-    by (records.Vote v) (inl due) over = absurd (cc (due.1))
-    by (records.Vote v) (inr vote) over =
-        let block : block_length (records.Vote v) ≤ 73 = short_vote v vote.0.members in
-        let most = mul-le-mul banks vote.0.members in
-        omega (arith, over, block, long, as_long, all, vote.1, most, small, ample.limit, served.limit)
+    by : (next : Record) → IsRecordDue r.replica next → log.limit < len + block_length next → ⊥
+    by (records.Entry e) due over =
+        let block : block_length (records.Entry e) ≤ 72 =
+        short_block e (each_at IsValidEntry r.replica.history r.replica.logged e valid due) in
+        omega (
+          arith,
+          over,
+          block,
+          long,
+          as_long,
+          logged,
+          slice_get_within r.replica.history r.replica.logged e due,
+          small,
+          few,
+          ample.limit,
+          came.limit,
+        )
+    by (records.Vote v) due over =
+        let block : block_length (records.Vote v) ≤ 73 = short_vote v due.valid.members in
+        let most = mul-le-mul banks members in
+        omega (arith, over, block, long, as_long, all, due.few, most, small, ample.limit, came.limit)
 
 -- so none is full where all are ample
 pub none_full : {D : Type 0} (told : D → Option Told) (count : D → ℕ) (g : Group)

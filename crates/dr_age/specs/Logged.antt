@@ -1,16 +1,16 @@
 -- The logs of an age: how they are before it, and what has come of each by how its member ended.
-use Rattle.std.specs.Prelude.{◌≡◌, ⊤, ℕ, ◌+◌, ◌*◌, ◌-◌, ◌≤◌, false, All, List, ◌++◌, length, slice_get, Option, None, Some}
+use Rattle.std.specs.Prelude.{◌≡◌, ⊤, ℕ, ◌+◌, ◌*◌, ◌-◌, ◌≤◌, false, All, List, length, slice_get, Option, None, Some}
 use Rattle.dr_entry.specs.declared.end.End.{End}
 use Rattle.dr_entry.specs.declared.end.End.TheVariants as ends
 use Rattle.dr_entry.specs.declared.end.MemberEnd.{MemberEnd}
 use Rattle.dr_entry.specs.declared.limits.TheConstants.{MAX_MEMBERS, MAX_MESSAGES}
-use Rattle.dr_entry.specs.declared.record.Vote.{Vote}
 use Rattle.dr_disk.specs.Disk.{Told}
 use Rattle.dr_history.specs.Order.{first_entries}
 use Rattle.dr_log.specs.State.{LogState}
 use Rattle.dr_machine.specs.Group.{Group, roster}
 use Rattle.dr_program.specs.declared.outcome.LogWhy.{LogWhy}
 use Rattle.dr_program.specs.declared.outcome.LogWhy.TheVariants as whys
+use Rattle.dr_program.specs.Program.{end_of}
 use Rattle.dr_program.specs.Running.{Running}
 use Rattle.dr_logged.specs.Served.{HasCome}
 
@@ -30,20 +30,12 @@ why_ended ends.DiskFault = Some whys.DiskFault
 why_ended (ends.LogFull len) = Some (whys.LogFull len)
 why_ended end = None
 
--- what has come of each log since `bases`, with some votes behind it, by how the member of its number ended.
--- There are as many banks as members
+-- what has come of each log since `bases`, by how the member of its number stands at its end
 abbrev pub HaveCome : {D : Type 0} → (D → Option Told) → (D → ℕ) → List (LogState D)
-    → List (LogState D) → List MemberEnd → Type 0
-HaveCome {D} told faults bases logs members = (m : ℕ) (base log : LogState D) (e : MemberEnd)
-    → slice_get bases m ≡ Some base → slice_get logs m ≡ Some log → slice_get members m ≡ Some e
-    → (votes : List Vote)
-    × HasCome told faults base log (length members) e.history e.logged votes (why_ended e.end)
-
--- each log has the votes that it had, and behind them those of the member of its number
-abbrev pub HaveVoted : {D : Type 0} → List (LogState D) → List (LogState D) → List Running → Type 0
-HaveVoted {D} bases logs members = (m : ℕ) (base log : LogState D) (r : Running)
+    → List (LogState D) → List Running → Type 0
+HaveCome {D} told faults bases logs members = (m : ℕ) (base log : LogState D) (r : Running)
     → slice_get bases m ≡ Some base → slice_get logs m ≡ Some log → slice_get members m ≡ Some r
-    → log.votes ≡ base.votes ++ r.replica.votes
+    → HasCome told faults base log r.replica (why_ended (end_of r).end)
 
 -- no member was ended by its log, or by a full one
 abbrev pub NoneStopped : List MemberEnd → Type 0

@@ -1,8 +1,7 @@
 -- Disks whose logs are refused for nothing, whatever a crash has left of them: they stay so.
-use Rattle.std.proofs.Common.{◌≡◌, refl, sym, ap, ◌∙◌, subst, ℕ, ◌*◌, ◌^◌, ◌<◌, ◌≤◌, inl, inr, arith, le_refl, List, [], ◌++◌, append-nil, length, take, get_or}
+use Rattle.std.proofs.Common.{◌≡◌, refl, sym, ap, ◌∙◌, subst, ℕ, ◌^◌, ◌<◌, ◌≤◌, inl, inr, arith, le_refl, List, [], ◌++◌, append-nil, length, take, get_or}
 use Rattle.std.specs.Prelude.{IfSome, IsSomeAnd, IsTrue, Option, None, Some, is_some, slice_get, slice_set}
 use Rattle.std.proofs.lemmas.Bool.{cases_eq, cases_lt}
-use Rattle.std.proofs.lemmas.Nat.{mul-le}
 use Rattle.std.proofs.lemmas.Option.{same_Some, slice_get-get_or, slice_get_within}
 use Rattle.dr_disk.specs.Disk.{Told, content_of, state_of}
 use Rattle.dr_disk.specs.Calls.{at_rest}
@@ -12,7 +11,6 @@ use Rattle.dr_disk.proofs.Moments.{Goes-last, Went-last}
 use Rattle.dr_entry.specs.declared.end.AgeEnd.{AgeEnd}
 use Rattle.dr_entry.specs.declared.end.MemberEnd.{MemberEnd}
 use Rattle.dr_entry.specs.declared.entry.Entry.{Entry}
-use Rattle.dr_entry.specs.declared.limits.TheConstants.{MAX_MEMBERS}
 use Rattle.dr_entry.specs.declared.record.Vote.{Vote}
 use Rattle.dr_gather.specs.CatchingUp.{HasStayed, lacked, opened_with}
 use Rattle.dr_gather.specs.Gathering.{AreAccepted, IsStartOf, entries_on}
@@ -28,6 +26,7 @@ use Rattle.dr_log.proofs.Meaning.{one_list, stands_or_damaged}
 use Rattle.dr_logged.specs.Left.{IsLeftOf}
 use Rattle.dr_logged.specs.Served.{IsSafe}
 use Rattle.dr_machine.specs.Group.{IsGroup}
+use Rattle.dr_program.specs.Replica.{Replica}
 use Rattle.dr_program.proofs.Holdings.{replica_kept, replica_set}
 use Rattle.dr_restart.specs.declared.start.Start.{Start}
 use Rattle.dr_restart.specs.Groups.{group_of}
@@ -36,7 +35,7 @@ use Rattle.dr_script.specs.Ranges.{HasGroupRanges}
 use Rattle.dr_yard.specs.Yards.{AllTell, YardState}
 use Rattle.dr_ages.specs.declared.mode.Mode.{Mode}
 use Rattle.dr_ages.specs.declared.stop.Stop.{Stop}
-use Rattle.dr_ages.specs.Ages.{IsAgeOf, start_of}
+use Rattle.dr_ages.specs.Ages.{IsAgeOf, over_of, start_of}
 use Rattle.dr_ages.specs.Fit.{AreChosen, AreFit, IsReadable, MayLeave}
 use Rattle.dr_ages.specs.Found.{AreFound, ReadsAs}
 use Rattle.dr_ages.specs.Left.{HasLeft}
@@ -46,6 +45,7 @@ use Rattle.dr_ages.specs.Stops.{HasStopped, IsBadLogs, ReadsDamaged}
 use Rattle.dr_ages.proofs.Backs.{AreAllBack, alike_back, told_at}
 use Rattle.dr_ages.proofs.Good.{IsGood, good_never}
 use Rattle.dr_ages.proofs.Keeping.{image_left, left_part}
+use Rattle.dr_ages.proofs.Votes.{EndsSo, member_over}
 use Rattle.dr_ages.proofs.Staying.{alike_stands, goes_tells, left_so}
 
 -- ---- what is found on fit disks
@@ -186,7 +186,8 @@ pub age_fit : (script : Script) (mode : Mode) (nth : ℕ) (before yard : YardSta
 age_fit script mode nth before yard age ranges is tell = record {
   readable = λ m l.
       let e = slice_get-some age.members m (omega (arith, l, is.roster)) in
-      readable (yard.told m) e.0 (is.votes m) (is.cast m) (tell m l) (is.left m e.0 e.1);
+      let x = member_over mode script (start_of script age) nth age is.run m e.0 e.1 in
+      readable (yard.told m) x.r.replica (is.votes m) (tell m l) (is.left m x.r x.at);
   accepted = λ lists chosen.
       ended_accepted script (start_of script age) age.members lists group is.agreed
       (is.roster ∙ sym ranges.lists) (parts lists chosen);
@@ -195,43 +196,38 @@ age_fit script mode nth before yard age ranges is tell = record {
     group : IsGroup (group_of script (start_of script age))
     group = start_group script is.lists (start_of script age) ranges is.small is.starts
 
-    readable : (o : Option Told) (e : MemberEnd) (found cast : List Vote) → IsTrue (is_some o)
-        → HasLeft o script.members e found cast → IsSomeAnd o (λ t. AllImages (state_of t) IsReadable)
-    readable None e found cast some left = absurd (cc)
-    readable (Some t) e found cast some (inl safe) = λ image here.
-        (take e.logged e.history, found ++ cast, safe image here)
-    readable (Some t) e found cast some (inr broken) = λ image here.
+    readable : (o : Option Told) (r : Replica) (found : List Vote) → IsTrue (is_some o)
+        → HasLeft o r found → IsSomeAnd o (λ t. AllImages (state_of t) IsReadable)
+    readable None r found some left = absurd (cc)
+    readable (Some t) r found some (inl safe) = λ image here.
+        (take r.logged r.history, found ++ r.votes, safe image here)
+    readable (Some t) r found some (inr broken) = λ image here.
         elim (broken.left image here) [
-          | inl before ↦ (take e.logged e.history, found ++ cast, before)
+          | inl before ↦ (take r.logged r.history, found ++ r.votes, before)
           | inr after ↦ (
-            with_entry broken.next (take e.logged e.history),
-            with_vote broken.next (found ++ cast),
+            with_entry broken.next (take r.logged r.history),
+            with_vote broken.next (found ++ r.votes),
             after,
           )
         ]
 
-    few : (m : ℕ) → length (is.cast m) ≤ MAX_MEMBERS * MAX_MEMBERS
-    few m = omega (
-      arith,
-      is.few m,
-      mul-le script.members script.members MAX_MEMBERS MAX_MEMBERS ranges.most_members ranges.most_members,
-    )
-
     left_of : (o : Option Told) (m : ℕ) (e : MemberEnd) (es : List Entry)
-        → HasLeft o script.members e (is.votes m) (is.cast m) → IsSomeAnd o (MayLeave es)
-        → IsLeftOf e.history e.logged es
-    left_of None m e es left may = absurd may
-    left_of (Some t) m e es left may =
-        (image_left t may.image script.members e es may.votes (is.votes m) (is.cast m) may.is may.stands
-        ranges.most_members (few m) left).entries
+        → (x : EndsSo (over_of mode script (start_of script age) nth age is.run) m e)
+        → HasLeft o x.r.replica (is.votes m) → IsSomeAnd o (MayLeave es) → IsLeftOf e.history e.logged es
+    left_of None m e es x left may = absurd may
+    left_of (Some t) m e es x left may =
+        subst (λ (end : MemberEnd). IsLeftOf end.history end.logged es) x.is
+        (image_left t may.image script.members x.r.replica es may.votes (is.votes m) may.is may.stands
+        ranges.most_members (is.few m x.r x.at) left).entries
 
     parts : (lists : List (List Entry)) → AreChosen script.members yard lists → AreFirstPartsOf age.members lists
     parts lists chosen m es at =
-        let e = slice_get-some age.members m (omega (arith, slice_get_within lists m es at, chosen.all, is.roster)) in (
+        let e = slice_get-some age.members m (omega (arith, slice_get_within lists m es at, chosen.all, is.roster)) in
+        let x = member_over mode script (start_of script age) nth age is.run m e.0 e.1 in (
           m,
           e.0,
           e.1,
-          left_part e.0 es (left_of (yard.told m) m e.0 es (is.left m e.0 e.1) (chosen.each m es at)),
+          left_part e.0 es (left_of (yard.told m) m e.0 es x (is.left m x.r x.at) (chosen.each m es at)),
         )
 
 -- so its logs are never refused

@@ -1,10 +1,10 @@
 -- What an age leaves is what the next one finds; so nothing durable is lost.
-use Rattle.std.proofs.Common.{◌≡◌, refl, sym, ap, ◌∙◌, subst, ℕ, zero, suc, ◌+◌, ◌-◌, ◌*◌, ◌<◌, ◌≤◌, inl, inr, arith, List, [], ◌∷◌, ◌++◌, length, length-append, take, drop, get_or, append-nil, append_assoc}
+use Rattle.std.proofs.Common.{◌≡◌, refl, sym, ap, ◌∙◌, subst, ℕ, zero, suc, ◌+◌, ◌-◌, ◌*◌, ◌≤◌, inl, inr, arith, List, [], ◌∷◌, ◌++◌, length, length-append, take, drop, append-nil, append_assoc}
 use Rattle.std.specs.Prelude.{IfSome, IsTrue, Option, None, Some, is_some, slice_get}
 use Rattle.std.specs.Option.{option_map_or}
 use Rattle.std.proofs.lemmas.List.{take-append-drop, take_more}
 use Rattle.std.proofs.lemmas.Nat.{mul-le}
-use Rattle.std.proofs.lemmas.Option.{slice_get_within}
+use Rattle.std.proofs.lemmas.Option.{get_or_from_slice_get, slice_get_within}
 use Rattle.dr_disk.specs.Disk.{Told, content_of, state_of}
 use Rattle.dr_disk.specs.Images.{IsImage}
 use Rattle.dr_entry.specs.declared.end.AgeEnd.{AgeEnd}
@@ -28,16 +28,19 @@ use Rattle.dr_history_laws.proofs.Lists.{slice_get-some}
 use Rattle.dr_log.specs.Standing.{StandsFor, with_entry, with_vote}
 use Rattle.dr_log.proofs.Meaning.{one_list, one_list_of_votes}
 use Rattle.dr_logged.specs.Left.{IsLeftOf}
-use Rattle.dr_logged.specs.Served.{IsNext, IsVote}
+use Rattle.dr_logged.specs.Served.{IsRecordDue}
+use Rattle.dr_program.specs.Program.{member_end}
+use Rattle.dr_program.specs.Replica.{Replica}
 use Rattle.dr_script.specs.declared.script.Script.{Script}
 use Rattle.dr_script.specs.Ranges.{HasGroupRanges}
 use Rattle.dr_yard.specs.Yards.{AllTell, YardState}
 use Rattle.dr_ages.specs.declared.mode.Mode.{Mode}
-use Rattle.dr_ages.specs.Ages.{AreAges, IsAgeOf, opening_of, start_of}
+use Rattle.dr_ages.specs.Ages.{AreAges, IsAgeOf, IsMemberOf, opening_of, start_of}
 use Rattle.dr_ages.specs.Found.{AreFound, ReadsAs}
 use Rattle.dr_ages.specs.Left.{HasLeft}
 use Rattle.dr_ages.specs.Runs.{AreKept}
 use Rattle.dr_ages.proofs.Chain.{AreBeside, beside, tell_on}
+use Rattle.dr_ages.proofs.Votes.{member_over}
 
 -- ---- one disk
 
@@ -53,79 +56,71 @@ pub record IsLeftBy (e : MemberEnd) (found : List Vote) (es : List Entry) (vs : 
   pub votes : HasFewMore found vs
 
 -- what an image stands for
-pub image_left : (t : Told) (image : List ℕ) (banks : ℕ) (e : MemberEnd) (es : List Entry)
-    (vs found cast : List Vote) → IsImage (state_of t) image → StandsFor image es vs → banks ≤ MAX_MEMBERS
-    → length cast ≤ MAX_MEMBERS * MAX_MEMBERS → HasLeft (Some t) banks e found cast → IsLeftBy e found es vs
-image_left t image banks e es vs found cast is reads most few left = by left
+pub image_left : (t : Told) (image : List ℕ) (n : ℕ) (r : Replica) (es : List Entry) (vs found : List Vote)
+    → IsImage (state_of t) image → StandsFor image es vs → n ≤ MAX_MEMBERS → IsMemberOf n r
+    → HasLeft (Some t) r found → IsLeftBy (member_end r) found es vs
+image_left t image n r es vs found is reads most of left = by left
   where
     logged : List Entry
-    logged = take e.logged e.history
+    logged = take r.logged r.history
 
-    next : Entry
-    next = get_or e.history e.logged (View 0 0 0)
+    -- the votes of a group are few
+    few : length r.votes ≤ MAX_MEMBERS * MAX_MEMBERS
+    few = omega (arith, of.few, mul-le n n MAX_MEMBERS MAX_MEMBERS most most)
 
     -- just what is logged
-    same : StandsFor image logged (found ++ cast) → IsLeftBy e found es vs
+    same : StandsFor image logged (found ++ r.votes) → IsLeftBy (member_end r) found es vs
     same s = record {
-      entries = inl (one_list image es logged vs (found ++ cast) reads s);
+      entries = inl (one_list image es logged vs (found ++ r.votes) reads s);
       votes = record {
-        more = cast;
-        parts = one_list_of_votes image es logged vs (found ++ cast) reads s;
+        more = r.votes;
+        parts = one_list_of_votes image es logged vs (found ++ r.votes) reads s;
         few = few;
       };
     }
 
-    -- with the next entry
-    entry : e.logged < length e.history → StandsFor image (logged ++ next ∷ []) (found ++ cast)
-        → IsLeftBy e found es vs
-    entry more s =
-        let is : es ≡ logged ++ next ∷ [] =
-        one_list image es (logged ++ next ∷ []) vs (found ++ cast) reads s in
+    -- with the record that is due: the next entry, or a vote
+    one_more : (next : Record) → IsRecordDue r next
+        → StandsFor image (with_entry next logged) (with_vote next (found ++ r.votes))
+        → IsLeftBy (member_end r) found es vs
+    one_more (records.Entry x) due s =
+        let is : es ≡ logged ++ x ∷ [] =
+        one_list image es (logged ++ x ∷ []) vs (found ++ r.votes) reads s in
         record {
           entries = inr (
-            next,
+            x,
             is,
             (
-              drop (e.logged + 1) e.history,
-              ap (λ (l : List Entry). l ++ drop (e.logged + 1) e.history)
-                  (is ∙ sym (take_more e.history e.logged (View 0 0 0) more))
-                  ∙ take-append-drop (e.logged + 1) e.history,
+              drop (r.logged + 1) r.history,
+              ap (λ (l : List Entry). l ++ drop (r.logged + 1) r.history)
+                  (is ∙ ap (λ y. logged ++ y ∷ []) (sym (get_or_from_slice_get r.history r.logged x x due))
+                  ∙ sym (take_more r.history r.logged x (slice_get_within r.history r.logged x due)))
+                  ∙ take-append-drop (r.logged + 1) r.history,
             ),
           );
           votes = record {
-            more = cast;
-            parts = one_list_of_votes image es (logged ++ next ∷ []) vs (found ++ cast) reads s;
+            more = r.votes;
+            parts = one_list_of_votes image es (logged ++ x ∷ []) vs (found ++ r.votes) reads s;
             few = few;
           };
         }
-
-    -- with a vote
-    vote : (v : Vote) → IsVote banks (length cast) (records.Vote v)
-        → StandsFor image logged ((found ++ cast) ++ v ∷ []) → IsLeftBy e found es vs
-    vote v due s = record {
-      entries = inl (one_list image es logged vs ((found ++ cast) ++ v ∷ []) reads s);
+    one_more (records.Vote v) due s = record {
+      entries = inl (one_list image es logged vs ((found ++ r.votes) ++ v ∷ []) reads s);
       votes = record {
-        more = cast ++ v ∷ [];
-        parts = one_list_of_votes image es logged vs ((found ++ cast) ++ v ∷ []) reads s
-            ∙ append_assoc found cast (v ∷ []);
+        more = r.votes ++ v ∷ [];
+        parts = one_list_of_votes image es logged vs ((found ++ r.votes) ++ v ∷ []) reads s
+            ∙ append_assoc found r.votes (v ∷ []);
         few = omega (
           arith,
-          length-append cast (v ∷ []),
-          due.1,
-          mul-le banks v.members MAX_MEMBERS MAX_MEMBERS most due.0.members,
+          length-append r.votes (v ∷ []),
+          due.few,
+          mul-le r.banks r.roster MAX_MEMBERS MAX_MEMBERS (omega (arith, of.banks, most))
+              (omega (arith, of.roster, most)),
         );
       };
     }
 
-    one_more : (r : Record) → IsNext banks e.history e.logged cast r
-        → StandsFor image (with_entry r logged) (with_vote r (found ++ cast)) → IsLeftBy e found es vs
-    one_more r (inl due) s =
-        entry due.0 (subst (λ (r : Record). StandsFor image (with_entry r logged)
-        (with_vote r (found ++ cast))) due.1 s)
-    one_more (records.Entry x) (inr due) s = absurd due
-    one_more (records.Vote v) (inr due) s = vote v due s
-
-    by : HasLeft (Some t) banks e found cast → IsLeftBy e found es vs
+    by : HasLeft (Some t) r found → IsLeftBy (member_end r) found es vs
     by (inl safe) = same (safe image is)
     by (inr broken) = elim (broken.left image is) [
       | inl before ↦ same before
@@ -133,12 +128,12 @@ image_left t image banks e es vs found cast is reads most few left = by left
     ]
 
 -- what a read gives
-read_left : (o : Option Told) (banks : ℕ) (e : MemberEnd) (es : List Entry) (vs found cast : List Vote)
-    → IsTrue (is_some o) → IfSome o (ReadsAs es vs) → banks ≤ MAX_MEMBERS
-    → length cast ≤ MAX_MEMBERS * MAX_MEMBERS → HasLeft o banks e found cast → IsLeftBy e found es vs
-read_left None banks e es vs found cast some reads most few left = absurd (cc)
-read_left (Some t) banks e es vs found cast some reads most few left =
-    image_left t (content_of t) banks e es vs found cast reads.image reads.stands most few left
+read_left : (o : Option Told) (n : ℕ) (r : Replica) (es : List Entry) (vs found : List Vote)
+    → IsTrue (is_some o) → IfSome o (ReadsAs es vs) → n ≤ MAX_MEMBERS → IsMemberOf n r
+    → HasLeft o r found → IsLeftBy (member_end r) found es vs
+read_left None n r es vs found some reads most of left = absurd (cc)
+read_left (Some t) n r es vs found some reads most of left =
+    image_left t (content_of t) n r es vs found reads.image reads.stands most of left
 
 -- it is a part of the history
 pub left_part : (e : MemberEnd) (es : List Entry) → IsLeftOf e.history e.logged es → IsPrefixOf es e.history
@@ -189,12 +184,11 @@ pub found_left : (script : Script) (yard : YardState) (age : AgeEnd) (lists : Li
     (votes : ℕ → List Vote) (m : ℕ) (e : MemberEnd) (es : List Entry) → (b : IsBehind script yard age lists votes)
     → slice_get age.members m ≡ Some e → slice_get lists m ≡ Some es → IsLeftBy e (b.is.votes m) es (votes m)
 found_left script yard age lists votes m e es b there here =
-    let most = b.ranges.most_members in
-    let few : length (b.is.cast m) ≤ MAX_MEMBERS * MAX_MEMBERS =
-    omega (arith, b.is.few m, mul-le script.members script.members MAX_MEMBERS MAX_MEMBERS most most) in
-    read_left (yard.told m) script.members e es (votes m) (b.is.votes m) (b.is.cast m)
+    let x = member_over b.mode script (start_of script age) b.nth age b.is.run m e there in
+    subst (λ (end : MemberEnd). IsLeftBy end (b.is.votes m) es (votes m)) x.is
+    (read_left (yard.told m) script.members x.r.replica es (votes m) (b.is.votes m)
     (b.tell m (omega (arith, slice_get_within age.members m e there, b.is.roster))) (b.found.each m es here)
-    most few (b.is.left m e there)
+    b.ranges.most_members (b.is.few m x.r x.at) (b.is.left m x.r x.at))
 
 leave_logs : (script : Script) (yard : YardState) (age : AgeEnd) (lists : List (List Entry))
     (votes : ℕ → List Vote) → IsBehind script yard age lists votes

@@ -27,6 +27,7 @@ use Rattle.dr_ages.specs.declared.stop.Stop.TheVariants.{OutOfMemory, DiskFault,
 use Rattle.dr_ages.specs.Found.{AreFound, ReadsAs}
 use Rattle.dr_ages.specs.Lent.{AreLent, AreMounted, IsMounted, WasRefused, WereRefused}
 use Rattle.dr_ages.specs.Opened.{AreLater}
+use Rattle.dr_ages.specs.Passing.{AreKeptSince}
 use Rattle.dr_ages.specs.Stops.{HasMounted, HasStopped, IsBehindMounts, NamesFaults, ReadsDamaged, in_mount}
 use Rattle.dr_ages.proofs.Caught.{entries_at}
 
@@ -254,16 +255,18 @@ were_refused tells faults n k before mid after logs AgesUsedUp below are count t
 -- so the next age was not opened, where the disks of the others are as they were then
 pub refused_stop : (script : Script) (k : ℕ) (before mid after : YardState) (stop : Stop)
     → ((m : ℕ) → mid.faults m ≤ after.faults m) → ((m : ℕ) → k ≤ m → after.told m ≡ mid.told m)
+    → AreKeptSince script.members k before after
     → WereRefused script.members k before mid stop → HasStopped script before after stop
-refused_stop script k before mid after OutOfMemory later back is = tt
-refused_stop script k before mid after (DiskFault m) later back is =
+refused_stop script k before mid after OutOfMemory later back since is = tt
+refused_stop script k before mid after (DiskFault m) later back since is =
     record {
       below = is.1.below;
       rose = le_trans is.1.rose (later m);
       at = in_mount is.1.lists is.1.votes is.1.found
-          (λ j l. back j (omega (arith, l, is.0)) ∙ (is.1.above j l).0);
+          (λ j l. back j (omega (arith, l, is.0)) ∙ (is.1.above j l).0)
+          (subst (λ (n : ℕ). AreKeptSince script.members n before after) (sym is.0) since);
     }
-refused_stop script k before mid after (Damaged m at) later back is = record {
+refused_stop script k before mid after (Damaged m at) later back since is = record {
   below = is.1.below;
   damaged = is.1.damaged;
   kept = back m (omega (arith, is.0)) ∙ is.1.kept;
@@ -271,10 +274,10 @@ refused_stop script k before mid after (Damaged m at) later back is = record {
   votes = is.1.votes;
   found = is.1.found;
 }
-refused_stop script k before mid after (LogFull m len) later back is = absurd is
-refused_stop script k before mid after (Disagree a b p) later back is = absurd is
-refused_stop script k before mid after (Foreign m p) later back is = absurd is
-refused_stop script k before mid after AgesUsedUp later back is = absurd is
+refused_stop script k before mid after (LogFull m len) later back since is = absurd is
+refused_stop script k before mid after (Disagree a b p) later back since is = absurd is
+refused_stop script k before mid after (Foreign m p) later back since is = absurd is
+refused_stop script k before mid after AgesUsedUp later back since is = absurd is
 
 -- so many were mounted then
 pub refused_mounted : (n k : ℕ) (before after : YardState) (stop : Stop) → WereRefused n k before after stop

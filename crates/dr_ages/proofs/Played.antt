@@ -1,9 +1,9 @@
 -- An age that was run over logs that were mounted and brought up to its start.
 use Rattle.std.proofs.Common.{◌≡◌, ◌≢◌, ◌⊎◌, refl, sym, ap, ◌∙◌, subst, ℕ, ◌+◌, ◌^◌, ◌<◌, inl, inr, arith, le_refl, List, [], ◌∷◌, ◌++◌, length, length-append, take, get_or, append-nil}
-use Rattle.std.specs.Prelude.{All, IfOk, OnErr, Option, None, Some, Result, Ok, Err, is_some, option_map, slice_get}
+use Rattle.std.specs.Prelude.{All, IfOk, OnErr, Option, None, Some, Result, Ok, Err, is_some, slice_get, unwrap_or}
 use Rattle.std.specs.Option.{option_map_or}
-use Rattle.std.proofs.lemmas.List.{append_cancel_left}
-use Rattle.std.proofs.lemmas.Option.{same_Some, slice_get-get_or, slice_get-map, slice_get_within}
+use Rattle.std.proofs.lemmas.List.{length-map}
+use Rattle.std.proofs.lemmas.Option.{same_Some, slice_get-get_or, slice_get_within}
 use Rattle.dr_complete.specs.Time.{HasTime}
 use Rattle.dr_disk.specs.Disk.{Told}
 use Rattle.dr_disk.specs.Images.{Goes, IsLeft}
@@ -28,10 +28,11 @@ use Rattle.dr_io.specs.Faults.{Rose}
 use Rattle.dr_log.proofs.Growing.{short_log_length}
 use Rattle.dr_log.specs.Standing.{IsBeforeOrAfter, LosesNone, StandsFor, block_length, log_length}
 use Rattle.dr_log.specs.State.{LogState}
-use Rattle.dr_logged.specs.Served.{BrokeOff, HasCome, IsFull, IsNext, IsSafe, WentSo}
+use Rattle.dr_logged.specs.Served.{AtMember, BrokeOff, HasCome, IsFull, IsRecordDue, IsSafe, WentSo}
 use Rattle.dr_program.specs.declared.outcome.LogWhy.{LogWhy}
 use Rattle.dr_program.specs.declared.outcome.LogWhy.TheVariants as logs
-use Rattle.dr_program.specs.Program.{Program, age_of, end_of}
+use Rattle.dr_program.specs.Program.{Program, end_of}
+use Rattle.dr_program.specs.Replica.{Replica}
 use Rattle.dr_program.specs.Running.{Running}
 use Rattle.dr_program_laws.specs.Ended.{AreComplete, HaveEnded}
 use Rattle.dr_program_laws.specs.Trusting.{NoneLeft, SuspectsNobody}
@@ -40,12 +41,12 @@ use Rattle.dr_restart.specs.Groups.{group_of}
 use Rattle.dr_restart.specs.Setups.{crashes_of}
 use Rattle.dr_script.specs.declared.script.Script.{Script}
 use Rattle.dr_script.specs.Ranges.{HasRanges}
-use Rattle.dr_age.specs.Logged.{AreAsBefore, AreCalm, AreOpened, HaveCome, HaveVoted, IsAmple, NoneFull, NoneStopped, why_ended}
+use Rattle.dr_age.specs.Logged.{AreAsBefore, AreCalm, AreOpened, HaveCome, IsAmple, NoneFull, NoneStopped, why_ended}
 use Rattle.dr_threads.specs.Logs.{AreLonger}
 use Rattle.dr_yard.specs.Yards.{YardState}
 use Rattle.dr_ages.specs.declared.mode.Mode.{Mode}
-use Rattle.dr_ages.specs.declared.mode.Mode.TheVariants.{Sim, Run}
-use Rattle.dr_ages.specs.Ages.{IsAgeOf, IsPlayed, over_of, start_of, votes_of}
+use Rattle.dr_ages.specs.declared.mode.Mode.TheVariants.{Sim}
+use Rattle.dr_ages.specs.Ages.{IsAgeOf, IsMemberOf, IsPlayed, over_of, start_of}
 use Rattle.dr_ages.specs.Found.{AreFew}
 use Rattle.dr_ages.specs.Left.{HasLeft, IsFullAt}
 use Rattle.dr_ages.specs.Lent.{AreMounted, IsMounted, with_logs}
@@ -57,7 +58,7 @@ use Rattle.dr_ages.proofs.Chain.{passes_none}
 use Rattle.dr_ages.proofs.Fresh.{first_valid, start_small}
 use Rattle.dr_ages.proofs.Loans.{are_found, votes_at, votes_on}
 use Rattle.dr_ages.proofs.Staying.{alike_same, fewer_kept, goes_tells, lasts_goes, later_then}
-use Rattle.dr_ages.proofs.Votes.{few_cast}
+use Rattle.dr_ages.proofs.Votes.{EndsSo, few_cast, member_over, told_by}
 
 -- logs that were all brought up to a start are those with which its age opens
 pub are_opened : {D : Type 0} (told : D → Option Told) (faults : D → ℕ) (script : Script) (start : Start)
@@ -78,25 +79,23 @@ are_opened told faults script start olds news lists all caught = record {
 
 -- ---- the logs go on
 
-come_on : {D : Type 0} (told : D → Option Told) (faults : D → ℕ) (base log : LogState D)
-    (banks : ℕ) (history : List Entry) (logged : ℕ) (votes : List Vote) (why : Option LogWhy)
-    → HasCome told faults base log banks history logged votes why → IsLater told faults base log
-come_on told faults base log banks history logged votes why come = record {
+come_on : {D : Type 0} (told : D → Option Told) (faults : D → ℕ) (base log : LogState D) (r : Replica)
+    (why : Option LogWhy) → HasCome told faults base log r why → IsLater told faults base log
+come_on told faults base log r why come = record {
   entries = (come.more.0, sym come.more.1);
-  votes = (votes, sym come.voted);
+  votes = (r.votes, sym come.voted);
   tells = goes_tells (told base.disk) (told log.disk) (λ s. LosesNone base.entries base.votes) come.moments;
   later = come.later;
   stays = λ es vs part kept left.
       lasts_goes (told base.disk) (told log.disk) (LosesNone es vs) (come.lasting es vs) left;
 }
 
-pub later_by_come : {D : Type 0} (told : D → Option Told) (faults : D → ℕ) (olds news : List (LogState D))
-    (members : List MemberEnd) → length members ≡ length olds → HaveCome told faults olds news members
+later_by_come : {D : Type 0} (told : D → Option Told) (faults : D → ℕ) (olds news : List (LogState D))
+    (members : List Running) → length members ≡ length olds → HaveCome told faults olds news members
     → AreLater told faults olds news
 later_by_come told faults olds news members all come m old new there here =
-    let e = slice_get-some members m (omega (arith, slice_get_within olds m old there, all)) in
-    let came = come m old new e.0 there here e.1 in
-    come_on told faults old new (length members) e.0.history e.0.logged came.0 (why_ended e.0.end) came.1
+    let r = slice_get-some members m (omega (arith, slice_get_within olds m old there, all)) in
+    come_on told faults old new r.0.replica (why_ended (end_of r.0).end) (come m old new r.0 there here r.1)
 
 later_by_calm : {D : Type 0} (told : D → Option Told) (faults : D → ℕ) (olds news : List (LogState D))
     → AreAsBefore olds news → AreCalm told faults olds news → AreLater told faults olds news
@@ -142,25 +141,41 @@ later_by_longer told faults olds news longer m old new there here =
         Goes-weaken (told old.disk) (told new.disk) (λ s. LosesNone old.entries old.votes) (λ s. LosesNone es vs)
         (λ s image. fewer_kept es old.entries vs old.votes image part kept) goes
 
--- an age ran as its mode says, and the votes on its logs are those of its members
-abbrev pub RanWith : {D : Type 0} → Script → Start → ℕ → AgeEnd → Mode → List (LogState D) → List (LogState D)
-    → Type 0
-RanWith script start nth age mode olds news = (is : IsPlayed mode script start nth age)
-    × HaveVoted olds news (over_of mode script start nth age is).members
+-- an age ran as its mode says, and its logs have come to what its members tell
+abbrev pub RanWith : {D : Type 0} → (D → Option Told) → (D → ℕ) → Script → Start → ℕ → AgeEnd → Mode
+    → List (LogState D) → List (LogState D) → Type 0
+RanWith told faults script start nth age mode olds news = (is : IsPlayed mode script start nth age)
+    × HaveCome told faults olds news (over_of mode script start nth age is).members
+
+-- there are as many as its end tells
+over_count : (mode : Mode) (script : Script) (start : Start) (nth : ℕ) (age : AgeEnd)
+    → (is : IsPlayed mode script start nth age)
+    → length (over_of mode script start nth age is).members ≡ length age.members
+over_count mode script start nth age is =
+    sym (ap (λ (a : AgeEnd). length a.members) (told_by mode script start nth age is)
+    ∙ length-map (over_of mode script start nth age is).members end_of)
+
+pub later_by_run : {D : Type 0} (told : D → Option Told) (faults : D → ℕ) (script : Script) (start : Start)
+    (nth : ℕ) (age : AgeEnd) (mode : Mode) (olds news : List (LogState D)) → length age.members ≡ length olds
+    → RanWith told faults script start nth age mode olds news → AreLater told faults olds news
+later_by_run told faults script start nth age mode olds news all ran =
+    later_by_come told faults olds news (over_of mode script start nth age ran.0).members
+    (over_count mode script start nth age ran.0 ∙ all) ran.1
 
 -- what holds of the value of an answer
 pub ok_at : {X E : Type 0} (P : X → Type 0) (result : Result X E) (x : X) → result ≡ Ok x → IfOk result P → P x
 ok_at P result x is so = subst (λ r. IfOk r P) is so
 
 -- an age that ran, or that had no memory to begin
-pub later_by_result : {D E : Type 0} (tells : D → Option Told) (faults : D → ℕ) (olds news : List (LogState D))
+pub later_by_result : {D E : Type 0} (tells : D → Option Told) (faults : D → ℕ) (script : Script) (start : Start)
+    (nth : ℕ) (mode : Mode) (olds news : List (LogState D))
     (result : Result AgeEnd E) → IfOk result (λ age. length age.members ≡ length olds)
-    → IfOk result (λ age. HaveCome tells faults olds news age.members)
+    → IfOk result (λ age. RanWith tells faults script start nth age mode olds news)
     → OnErr result (AreAsBefore olds news) → OnErr result (AreCalm tells faults olds news)
     → AreLater tells faults olds news
-later_by_result tells faults olds news (Ok age) all come kept calm =
-    later_by_come tells faults olds news age.members all come
-later_by_result tells faults olds news (Err error) all come kept calm =
+later_by_result tells faults script start nth mode olds news (Ok age) all ran kept calm =
+    later_by_run tells faults script start nth age mode olds news all ran
+later_by_result tells faults script start nth mode olds news (Err error) all ran kept calm =
     later_by_calm tells faults olds news kept calm
 
 pub later_on : {D : Type 0} (tells : D → Option Told) (faults : D → ℕ) (olds mids news : List (LogState D))
@@ -178,28 +193,32 @@ by_disk ends.DiskFault e = refl
 by_disk (ends.LogFull len) e = absurd (cc)
 by_disk end e = absurd (cc)
 
-left_by : {D : Type 0} (tells : D → Option Told) (faults : D → ℕ) (base log : LogState D) (banks : ℕ)
-    (e : MemberEnd) (found cast : List Vote)
-    → HasCome tells faults base log banks e.history e.logged cast (why_ended e.end)
-    → log.votes ≡ found ++ cast → HasLeft (tells log.disk) banks e found cast
-left_by {D} tells faults base log banks e found cast come kept = by (why_ended e.end) refl come.last
+-- who has ended by a disk has ended
+ended_by_disk : (o : Option End) → why_ended (unwrap_or o ends.Done) ≡ Some logs.DiskFault
+    → o ≡ Some ends.DiskFault
+ended_by_disk None e = absurd (cc)
+ended_by_disk (Some end) e = ap Some (by_disk end e)
+
+left_by : {D : Type 0} (tells : D → Option Told) (faults : D → ℕ) (base log : LogState D) (r : Running)
+    (found : List Vote) → HasCome tells faults base log r.replica (why_ended (end_of r).end)
+    → log.votes ≡ found ++ r.replica.votes → HasLeft (tells log.disk) r.replica found
+left_by {D} tells faults base log r found come kept = by (why_ended (end_of r).end) refl come.last
   where
-    safe : IsSafe tells log → HasLeft (tells log.disk) banks e found cast
-    safe is = inl (subst (λ (es : List Entry). IsLeft (tells log.disk) (λ image. StandsFor image es (found ++ cast)))
-        come.entries
+    safe : IsSafe tells log → HasLeft (tells log.disk) r.replica found
+    safe is = inl (subst (λ (es : List Entry). IsLeft (tells log.disk)
+        (λ image. StandsFor image es (found ++ r.replica.votes))) come.entries
         (subst (λ (vs : List Vote). IsLeft (tells log.disk) (λ image. StandsFor image log.entries vs)) kept is))
 
-    by : (why : Option LogWhy) → why_ended e.end ≡ why
-        → WentSo tells faults base log banks e.history e.logged cast why
-        → HasLeft (tells log.disk) banks e found cast
+    by : (why : Option LogWhy) → why_ended (end_of r).end ≡ why
+        → WentSo tells faults base log r.replica why → HasLeft (tells log.disk) r.replica found
     by None is went = safe went.1
     by (Some (logs.LogFull len)) is went = safe went.2.safe
     by (Some logs.DiskFault) is went = inr (record {
-      failed = by_disk e.end is;
+      failed = ended_by_disk r.replica.end is;
       next = went.0;
       due = went.1;
-      left = subst (λ (es : List Entry). IsLeft (tells log.disk) (IsBeforeOrAfter es (found ++ cast) went.0))
-          come.entries
+      left = subst (λ (es : List Entry). IsLeft (tells log.disk)
+          (IsBeforeOrAfter es (found ++ r.replica.votes) went.0)) come.entries
           (subst (λ (vs : List Vote). IsLeft (tells log.disk) (IsBeforeOrAfter log.entries vs went.0)) kept
           went.2.left);
     })
@@ -216,23 +235,15 @@ pub record WasPlayed {D : Type 0} (tells : D → Option Told) (faults : D → �
   pub small : start.age < 2 ^ 16
   pub caught : AreCaughtUp tells faults (opened_with start start.members) olds mids (length olds)
   pub run : IsPlayed mode script start nth age
-  pub voted : HaveVoted mids news (over_of mode script start nth age run).members
+  pub come : HaveCome tells faults mids news (over_of mode script start nth age run).members
   pub agreed : EndsAgreed (group_of script start).opening age.members
   pub ended : HaveEnded (group_of script start).opening script.turns (crashes_of script.faults nth) age.members
   pub trusting : SuspectsNobody script → NoneLeft age.members
   pub complete : mode ≡ Sim → HasTime script → NoneStopped age.members
       → AreComplete (group_of script start).opening age.members
-  pub come : HaveCome tells faults mids news age.members
   pub ample : All (IsAmple (group_of script start)) mids → NoneFull age.members
   pub count : length news ≡ length mids
   pub members : length age.members ≡ length mids
-
--- its end tells the entries of its start, its number, and how its members ended
-told_by : (mode : Mode) (script : Script) (start : Start) (nth : ℕ) (age : AgeEnd)
-    → (is : IsPlayed mode script start nth age)
-    → age ≡ age_of (group_of script start).opening (over_of mode script start nth age is)
-told_by Sim script start nth age is = is.told
-told_by Run script start nth age is = is.told
 
 -- its start is the one that its end tells
 pub same_start : (mode : Mode) (script : Script) (lists : List (List Entry)) (start : Start) (nth : ℕ)
@@ -247,7 +258,7 @@ same_start mode script lists start nth age starts run = λ i. record {
 
 -- a member of it, with its log
 record IsOf {D : Type 0} (tells : D → Option Told) (faults : D → ℕ) (whole : List Entry) (yard : YardState)
-    (olds mids news : List (LogState D)) (banks m : ℕ) (e : MemberEnd) (cast : List Vote) : Type 0 where
+    (olds mids news : List (LogState D)) (m : ℕ) (r : Running) : Type 0 where
   old : LogState D
   mid : LogState D
   new : LogState D
@@ -256,16 +267,21 @@ record IsOf {D : Type 0} (tells : D → Option Told) (faults : D → ℕ) (whole
   to : slice_get news m ≡ Some new
   mounted : IsMounted tells faults (yard.told m) (yard.faults m) old
   caught : IsCaughtUp tells faults whole old mid
-  come : HasCome tells faults mid new banks e.history e.logged cast (why_ended e.end)
+  come : HasCome tells faults mid new r.replica (why_ended (end_of r).end)
 
 is_of : {D : Type 0} (tells : D → Option Told) (faults : D → ℕ) (script : Script) (mode : Mode) (nth : ℕ)
     (before : YardState) (start : Start) (olds mids news : List (LogState D)) (age : AgeEnd) (m : ℕ)
-    (e : MemberEnd) → (w : WasPlayed tells faults script mode nth before start olds mids news age)
-    → slice_get age.members m ≡ Some e
-    → IsOf tells faults (opened_with start start.members) before olds mids news (length age.members) m e
-    (votes_of (over_of mode script start nth age w.run) m)
-is_of {D} tells faults script mode nth before start olds mids news age m e w at =
-    let within : m < length mids = omega (arith, slice_get_within age.members m e at, w.members) in
+    (r : Running) → (w : WasPlayed tells faults script mode nth before start olds mids news age)
+    → slice_get (over_of mode script start nth age w.run).members m ≡ Some r
+    → IsOf tells faults (opened_with start start.members) before olds mids news m r
+is_of tells faults script mode nth before start olds mids news age m r w at =
+    let within : m < length mids =
+    omega (
+      arith,
+      slice_get_within (over_of mode script start nth age w.run).members m r at,
+      over_count mode script start nth age w.run,
+      w.members,
+    ) in
     let old = slice_get-some olds m (omega (arith, within, w.caught.all)) in
     let mid = slice_get-some mids m within in
     let new = slice_get-some news m (omega (arith, within, w.count)) in
@@ -278,32 +294,14 @@ is_of {D} tells faults script mode nth before start olds mids news age m e w at 
       to = new.1;
       mounted = w.mounted m old.0 old.1;
       caught = w.caught.done m old.0 mid.0 (omega (arith, within, w.caught.all)) old.1 mid.1;
-      come = come mid.0 new.0 mid.1 new.1;
+      come = w.come m mid.0 new.0 r mid.1 new.1 at;
     }
-  where
-    over : Program
-    over = over_of mode script start nth age w.run
 
-    ends : slice_get age.members m ≡ option_map end_of (slice_get over.members m)
-    ends = ap (λ (a : AgeEnd). slice_get a.members m) (told_by mode script start nth age w.run)
-        ∙ slice_get-map end_of over.members m
-
-    -- the votes behind those that it had are those of its member
-    come : (mid new : LogState D) → slice_get mids m ≡ Some mid → slice_get news m ≡ Some new
-        → HasCome tells faults mid new (length age.members) e.history e.logged (votes_of over m)
-        (why_ended e.end)
-    come mid new by to = at_member (slice_get over.members m) refl
-      where
-        at_member : (o : Option Running) → slice_get over.members m ≡ o
-            → HasCome tells faults mid new (length age.members) e.history e.logged
-            (option_map_or (λ (r : Running). r.replica.votes) o []) (why_ended e.end)
-        at_member None there = absurd (cc (sym at ∙ ends ∙ ap (option_map end_of) there))
-        at_member (Some r) there =
-            let came = w.come m mid new e by to at in
-            subst (λ (vs : List Vote). HasCome tells faults mid new (length age.members) e.history e.logged vs
-            (why_ended e.end))
-            (append_cancel_left mid.votes came.0 r.replica.votes
-            (sym came.1.voted ∙ w.voted m mid new r by to there)) came.1
+-- what a member of it leaves
+record LeavesSo (members : ℕ) (found : List Vote) (told : Option Told) (r : Replica) : Type 0 where
+  few : IsMemberOf members r
+  left : HasLeft told r found
+  full : (len : ℕ) → r.end ≡ Some (ends.LogFull len) → IsFullAt r found len
 
 pub is_age : {D : Type 0} (tells : D → Option Told) (faults : D → ℕ) (script : Script) (mode : Mode) (nth : ℕ)
     (before : YardState) (start : Start) (olds mids news : List (LogState D)) (age : AgeEnd)
@@ -323,27 +321,24 @@ is_age {D} tells faults script mode nth before start olds mids news age w = reco
   trusting = w.trusting;
   complete = subst (λ (s : Start). mode ≡ Sim → HasTime script → NoneStopped age.members
       → AreComplete (group_of script s).opening age.members) same w.complete;
-  cast = cast;
-  own = ran.1;
-  few = few_cast mode script start nth age w.ranges
-      (start_group script (entries_on olds) start w.ranges.group w.small w.starts) w.run;
+  few = λ m r at. (ran.1 m r at).few;
   opened = λ m e at. subst (λ (s : Start). IsPrefixOf (first_entries (group_of script s).opening)
       (take e.logged e.history)) same (opened m e at);
-  left = left;
+  left = λ m r at. (ran.1 m r at).left;
   failed = failed;
   calm = calm;
-  full = full;
+  full = λ m r at. (ran.1 m r at).full;
   ample = λ few. w.ample (λ k d l. ample few k d l);
   passes = passed_with tells faults before before olds news w.mounted
       (later_on tells faults olds mids news w.caught.all
       (caught_later tells faults (opened_with start start.members) olds mids (length olds) w.caught)
-      (later_by_come tells faults mids news age.members w.members w.come)) (w.count ∙ w.caught.all)
+      later) (w.count ∙ w.caught.all)
       (λ m past. passes_none before m);
   since = subst (λ (k : ℕ). AreKeptSince script.members k before (with_logs tells faults before news)) w.all
       (kept_back tells faults script.members before before (with_logs tells faults before news) olds news w.mounted
       (later_on tells faults olds mids news w.caught.all
       (caught_later tells faults (opened_with start start.members) olds mids (length olds) w.caught)
-      (later_by_come tells faults mids news age.members w.members w.come)) (w.count ∙ w.caught.all)
+      later) (w.count ∙ w.caught.all)
       (λ m past. alike_same (before.told m) (before.told m) (before.faults m) (before.faults m) refl
       (le_refl (before.faults m))) (λ m. (refl, refl)));
 }
@@ -358,60 +353,96 @@ is_age {D} tells faults script mode nth before start olds mids news age w = reco
     roster : length age.members ≡ script.members
     roster = w.members ∙ (w.caught.all ∙ w.all)
 
-    cast : ℕ → List Vote
-    cast = votes_of (over_of mode script start nth age w.run)
+    -- the logs are later behind it
+    later : AreLater tells faults mids news
+    later = later_by_run tells faults script start nth age mode mids news w.members (w.run, w.come)
 
-    ran : (is : IsPlayed mode script (start_of script age) nth age)
-        × ((m : ℕ) → cast m ≡ votes_of (over_of mode script (start_of script age) nth age is) m)
-    ran = subst (λ (s : Start). (is : IsPlayed mode script s nth age)
-        × ((m : ℕ) → cast m ≡ votes_of (over_of mode script s nth age is) m)) same (w.run, λ m. refl)
+    over : Program
+    over = over_of mode script start nth age w.run
 
-    one : (m : ℕ) (e : MemberEnd) → slice_get age.members m ≡ Some e
-        → IsOf tells faults whole before olds mids news script.members m e (cast m)
-    one m e at =
-        subst (λ (banks : ℕ). IsOf tells faults whole before olds mids news banks m e (cast m)) roster
-        (is_of tells faults script mode nth before start olds mids news age m e w at)
+    one : (m : ℕ) (r : Running) → slice_get over.members m ≡ Some r
+        → IsOf tells faults whole before olds mids news m r
+    one m r at = is_of tells faults script mode nth before start olds mids news age m r w at
+
+    -- by how its member ended
+    who : (m : ℕ) (e : MemberEnd) → slice_get age.members m ≡ Some e → EndsSo over m e
+    who m e at = member_over mode script start nth age w.run m e at
 
     opened : (m : ℕ) (e : MemberEnd) → slice_get age.members m ≡ Some e
         → IsPrefixOf whole (take e.logged e.history)
     opened m e at =
-        let x = one m e at in (
+        let end = who m e at in
+        let x = one m end.r end.at in
+        subst (λ (e : MemberEnd). IsPrefixOf whole (take e.logged e.history)) end.is (
           x.come.more.0,
           ap (λ (l : List Entry). l ++ x.come.more.0) (sym x.caught.0.entries)
               ∙ (sym x.come.more.1 ∙ x.come.entries),
         )
 
-    votes : (m : ℕ) (e : MemberEnd) (at : slice_get age.members m ≡ Some e)
-        → (one m e at).new.votes ≡ votes_on olds m ++ cast m
-    votes m e at =
-        let x = one m e at in
+    votes : (m : ℕ) (r : Running) (at : slice_get over.members m ≡ Some r)
+        → (one m r at).new.votes ≡ votes_on olds m ++ r.replica.votes
+    votes m r at =
+        let x = one m r at in
         x.come.voted
-        ∙ ap (λ (vs : List Vote). vs ++ cast m) (x.caught.0.votes ∙ sym (votes_at olds m x.old x.from))
+        ∙ ap (λ (vs : List Vote). vs ++ r.replica.votes) (x.caught.0.votes ∙ sym (votes_at olds m x.old x.from))
 
     -- and it is as long as what it has
-    long : (m : ℕ) (e : MemberEnd) (at : slice_get age.members m ≡ Some e)
-        → (one m e at).new.length ≡ log_length (one m e at).new.entries (one m e at).new.votes
-    long m e at =
-        let x = one m e at in
+    long : (m : ℕ) (r : Running) (at : slice_get over.members m ≡ Some r)
+        → (one m r at).new.length ≡ log_length (one m r at).new.entries (one m r at).new.votes
+    long m r at =
+        let x = one m r at in
         let up = caught_long tells faults whole x.old x.mid x.mounted.long x.caught in
-        grown_long x.mid x.new x.come.more.0 (cast m) up x.come.more.1 x.come.voted x.come.long
+        grown_long x.mid x.new x.come.more.0 r.replica.votes up x.come.more.1 x.come.voted x.come.long
 
-    left : (m : ℕ) (e : MemberEnd) → slice_get age.members m ≡ Some e
-        → HasLeft ((with_logs tells faults before news).told m) script.members e (votes_on olds m) (cast m)
-    left m e at =
-        let x = one m e at in
-        subst (λ (o : Option Told). HasLeft o script.members e (votes_on olds m) (cast m))
+    left : (m : ℕ) (r : Running) → slice_get over.members m ≡ Some r
+        → HasLeft ((with_logs tells faults before news).told m) r.replica (votes_on olds m)
+    left m r at =
+        let x = one m r at in
+        subst (λ (o : Option Told). HasLeft o r.replica (votes_on olds m))
         (sym (told_at tells faults before news m x.new x.to))
-        (left_by tells faults x.mid x.new script.members e (votes_on olds m) (cast m) x.come (votes m e at))
+        (left_by tells faults x.mid x.new r (votes_on olds m) x.come (votes m r at))
+
+    full : (m : ℕ) (r : Running) → slice_get over.members m ≡ Some r → (len : ℕ)
+        → r.replica.end ≡ Some (ends.LogFull len) → IsFullAt r.replica (votes_on olds m) len
+    full m r at len end =
+        let x = one m r at in
+        let went : (next : Record) × (IsRecordDue r.replica next) × IsFull tells x.new len next =
+        subst (λ (o : Option End). WentSo tells faults x.mid x.new r.replica (why_ended (unwrap_or o ends.Done)))
+        end x.come.last in
+        record {
+          long = went.2.long ∙ (long m r at ∙ (ap (λ (l : List Entry). log_length l x.new.votes) x.come.entries
+              ∙ ap (log_length (take r.replica.logged r.replica.history)) (votes m r at)));
+          next = went.0;
+          due = went.1;
+          over = subst (λ (n : ℕ). n < len + block_length went.0)
+              (x.come.limit ∙ (x.caught.0.limit ∙ x.mounted.limit)) went.2.over;
+        }
+
+    -- what holds of its members, by the start that its end tells
+    ran : (is : IsPlayed mode script (start_of script age) nth age)
+        × ((m : ℕ) → AtMember (over_of mode script (start_of script age) nth age is) m
+        (λ r. LeavesSo script.members (votes_on olds m) ((with_logs tells faults before news).told m) r.replica))
+    ran = subst (λ (s : Start). (is : IsPlayed mode script s nth age)
+        × ((m : ℕ) → AtMember (over_of mode script s nth age is) m
+        (λ r. LeavesSo script.members (votes_on olds m) ((with_logs tells faults before news).told m) r.replica)))
+        same (
+          w.run,
+          λ m r at. record {
+            few = few_cast mode script start nth age w.ranges
+                (start_group script (entries_on olds) start w.ranges.group w.small w.starts) w.run m r at;
+            left = left m r at;
+            full = full m r at;
+          },
+        )
 
     failed : (m : ℕ) (e : MemberEnd) → slice_get age.members m ≡ Some e → e.end ≡ ends.DiskFault
         → Rose (before.faults m) ((with_logs tells faults before news).faults m)
     failed m e at end =
-        let x = one m e at in
-        let went : (next : Record) × (IsNext script.members e.history e.logged (cast m) next)
-        × BrokeOff tells faults x.mid x.new next =
-        subst (λ (y : End). WentSo tells faults x.mid x.new script.members e.history e.logged (cast m)
-        (why_ended y)) end x.come.last in
+        let by = who m e at in
+        let x = one m by.r by.at in
+        let went : (next : Record) × (IsRecordDue by.r.replica next) × BrokeOff tells faults x.mid x.new next =
+        subst (λ (y : End). WentSo tells faults x.mid x.new by.r.replica (why_ended y))
+        (ap (λ (x : MemberEnd). x.end) by.is ∙ end) x.come.last in
         subst (Rose (before.faults m)) (sym (faults_at tells faults before news m x.new x.to))
         (rose_since (before.faults m) (faults x.mid.disk) (faults x.new.disk)
         (omega (arith, x.mounted.on.later, x.caught.0.calm)) went.2.rose)
@@ -441,26 +472,11 @@ is_age {D} tells faults script mode nth before start olds mids news age w = reco
               w.count,
               w.members,
             )) in
-            let x = one m e.0 e.1 in
+            let by = who m e.0 e.1 in
+            let x = one m by.r by.at in
             ap (λ (log : LogState D). faults log.disk) (same_Some new x.new (sym at ∙ x.to))
-            ∙ (x.come.calm (unless_disk e.0.end (other e.0 e.1)) ∙ (x.caught.0.calm ∙ x.mounted.calm))
-
-    full : (m : ℕ) (e : MemberEnd) (len : ℕ) → slice_get age.members m ≡ Some e → e.end ≡ ends.LogFull len
-        → IsFullAt script.members e (votes_on olds m) (cast m) len
-    full m e len at end =
-        let x = one m e at in
-        let went : (next : Record) × (IsNext script.members e.history e.logged (cast m) next)
-        × IsFull tells x.new len next =
-        subst (λ (y : End). WentSo tells faults x.mid x.new script.members e.history e.logged (cast m)
-        (why_ended y)) end x.come.last in
-        record {
-          long = went.2.long ∙ (long m e at ∙ (ap (λ (l : List Entry). log_length l x.new.votes) x.come.entries
-              ∙ ap (log_length (take e.logged e.history)) (votes m e at)));
-          next = went.0;
-          due = went.1;
-          over = subst (λ (n : ℕ). n < len + block_length went.0)
-              (x.come.limit ∙ (x.caught.0.limit ∙ x.mounted.limit)) went.2.over;
-        }
+            ∙ (x.come.calm (subst (λ (y : End). why_ended y ≢ Some logs.DiskFault)
+            (sym (ap (λ (x : MemberEnd). x.end) by.is)) (unless_disk e.0.end (other e.0 e.1))) ∙ (x.caught.0.calm ∙ x.mounted.calm))
 
     ample : ((m : ℕ) → m < script.members → AreFew (votes_on olds m)) → (k : ℕ) (d : LogState D) → k < length mids
         → IsAmple (group_of script start) (get_or mids k d)

@@ -11,6 +11,7 @@ use Rattle.dr_entry.specs.declared.entry.Entry.{Entry}
 use Rattle.dr_entry.specs.declared.record.Record.{Record}
 use Rattle.dr_entry.specs.declared.record.Record.TheVariants as records
 use Rattle.dr_entry.specs.declared.record.Vote.{Vote}
+use Rattle.dr_program.specs.Replica.{Replica}
 use Rattle.dr_history.specs.History.{IsPrefixOf, view_of}
 use Rattle.dr_history.specs.Restarting.{IsLongest, next_age}
 use Rattle.dr_log.specs.Standing.{IsBeforeOrAfter, LosesNone, StandsFor, with_entry, with_vote}
@@ -20,7 +21,7 @@ use Rattle.dr_age.specs.Logged.{NoneFull}
 use Rattle.dr_yard.specs.Yards.{AllTell, AreEmpty, YardState}
 use Rattle.dr_ages.specs.declared.mode.Mode.{Mode}
 use Rattle.dr_ages.specs.declared.stop.Stop.{Stop}
-use Rattle.dr_ages.specs.Ages.{AreAges}
+use Rattle.dr_ages.specs.Ages.{AreAges, start_of}
 use Rattle.dr_ages.specs.declared.stop.Stop.TheVariants.{OutOfMemory, DiskFault, LogFull, Damaged, Disagree, Foreign, AgesUsedUp}
 use Rattle.dr_ages.specs.Fit.{AreFit}
 use Rattle.dr_ages.specs.Found.{AreFound, AreRoomy}
@@ -35,6 +36,7 @@ use Rattle.dr_ages.proofs.Good.{good_never}
 use Rattle.dr_ages.proofs.Keeping.{are_kept}
 use Rattle.dr_ages.proofs.Refusals.{refused_run}
 use Rattle.dr_ages.proofs.Staying.{first_kept, left_so}
+use Rattle.dr_ages.proofs.Votes.{member_over}
 
 -- what an age leaves is not refused
 never : (script : Script) (mode : Mode) (before : YardState) (ages : List AgeEnd) (last after : YardState)
@@ -158,40 +160,42 @@ kept_run script mode before (age ∷ ages) last after stop ranges are end passes
 }
 
 -- what was logged in the last age is kept
-logged_left : (o : Option Told) (banks : ℕ) (e : MemberEnd) (found cast : List Vote) → HasLeft o banks e found cast
-    → IsLeft o (LosesNone (take e.logged e.history) [])
-logged_left o banks e found cast (inl safe) =
-    left_so o (λ image. StandsFor image (take e.logged e.history) (found ++ cast))
-    (LosesNone (take e.logged e.history) [])
-    (λ image is. first_kept (take e.logged e.history) (take e.logged e.history) [] (found ++ cast) image
-    ([], append-nil (take e.logged e.history)) (found ++ cast, refl) is) safe
-logged_left o banks e found cast (inr broken) =
-    left_so o (IsBeforeOrAfter (take e.logged e.history) (found ++ cast) broken.next)
-    (LosesNone (take e.logged e.history) []) (either broken.next) broken.left
+logged_left : (o : Option Told) (r : Replica) (found : List Vote) → HasLeft o r found
+    → IsLeft o (LosesNone (take r.logged r.history) [])
+logged_left o r found (inl safe) =
+    left_so o (λ image. StandsFor image (take r.logged r.history) (found ++ r.votes))
+    (LosesNone (take r.logged r.history) [])
+    (λ image is. first_kept (take r.logged r.history) (take r.logged r.history) [] (found ++ r.votes) image
+    ([], append-nil (take r.logged r.history)) (found ++ r.votes, refl) is) safe
+logged_left o r found (inr broken) =
+    left_so o (IsBeforeOrAfter (take r.logged r.history) (found ++ r.votes) broken.next)
+    (LosesNone (take r.logged r.history) []) (either broken.next) broken.left
   where
     logged : List Entry
-    logged = take e.logged e.history
+    logged = take r.logged r.history
 
-    grown : (r : Record) → IsPrefixOf logged (with_entry r logged)
+    grown : (next : Record) → IsPrefixOf logged (with_entry next logged)
     grown (records.Entry x) = (x ∷ [], refl)
     grown (records.Vote v) = ([], append-nil logged)
 
-    either : (r : Record) (image : List ℕ) → IsBeforeOrAfter logged (found ++ cast) r image
+    either : (next : Record) (image : List ℕ) → IsBeforeOrAfter logged (found ++ r.votes) next image
         → LosesNone logged [] image
-    either r image (inl is) =
-        first_kept logged logged [] (found ++ cast) image ([], append-nil logged) (found ++ cast, refl) is
-    either r image (inr is) =
-        first_kept logged (with_entry r logged) [] (with_vote r (found ++ cast)) image (grown r)
-        (with_vote r (found ++ cast), refl) is
+    either next image (inl is) =
+        first_kept logged logged [] (found ++ r.votes) image ([], append-nil logged) (found ++ r.votes, refl) is
+    either next image (inr is) =
+        first_kept logged (with_entry next logged) [] (with_vote next (found ++ r.votes)) image (grown next)
+        (with_vote next (found ++ r.votes), refl) is
 
 logged_kept : (script : Script) (mode : Mode) (before : YardState) (ages : List AgeEnd) (last after : YardState)
     → AreAges script mode 0 before ages last → PassOn last after → HaveLogged ages after
 logged_kept script mode before ages last after are passes earlier age m e is at =
-    let r = ends_with script mode 0 before ages last earlier age are is in
+    let a = ends_with script mode 0 before ages last earlier age are is in
+    let x = member_over mode script (start_of script age) a.0 age a.2.run m e at in
     let logged = take e.logged e.history in
     Goes-last (last.told m) (after.told m) (LosesNone logged [])
     ((passes m).stays logged []
-    (logged_left (last.told m) script.members e (r.2.votes m) (r.2.cast m) (r.2.left m e at)))
+    (subst (λ (end : MemberEnd). IsLeft (last.told m) (LosesNone (take end.logged end.history) [])) x.is
+    (logged_left (last.told m) x.r.replica (a.2.votes m) (a.2.left m x.r x.at))))
 
 -- fit disks stay fit
 fit_last : (script : Script) (mode : Mode) (before : YardState) (ages : List AgeEnd) (last : YardState)

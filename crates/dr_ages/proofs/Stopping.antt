@@ -1,5 +1,5 @@
 -- Why the opening of an age stopped.
-use Rattle.std.proofs.Common.{◌≡◌, ◌≢◌, refl, sym, ap, ◌∙◌, subst, inl, inr, ℕ, ◌^◌, ◌<◌, ◌≤◌, List, length, arith}
+use Rattle.std.proofs.Common.{◌≡◌, ◌≢◌, refl, sym, ap, ◌∙◌, subst, inl, inr, ℕ, ◌^◌, ◌<◌, ◌≤◌, le_refl, List, length, length-set, arith}
 use Rattle.std.specs.Prelude.{IsErrOf, Option, Result, Err, None, Some, slice_get, slice_set}
 use Rattle.std.specs.Option.{option_map_or}
 use Rattle.std.proofs.lemmas.Bool.{cases_eq, cases_lt}
@@ -28,11 +28,13 @@ use Rattle.dr_ages.specs.declared.stop.Stop.{Stop}
 use Rattle.dr_ages.specs.declared.stop.Stop.TheVariants.{OutOfMemory, DiskFault, LogFull, Disagree, Foreign, AgesUsedUp}
 use Rattle.dr_ages.specs.Found.{AreFound}
 use Rattle.dr_ages.specs.Lent.{AreMounted, with_logs}
-use Rattle.dr_ages.specs.Opened.{AreCaughtUp}
+use Rattle.dr_ages.specs.Opened.{AreCaughtUp, AreLater}
+use Rattle.dr_ages.specs.Passing.{AreKeptSince}
 use Rattle.dr_ages.specs.Stops.{HasStopped, IsBehindMounts, NamesFaults, WereCaughtUp, in_start, whole_length}
-use Rattle.dr_ages.proofs.Backs.{faults_at, told_at}
+use Rattle.dr_ages.proofs.Backs.{faults_at, kept_back, told_at}
 use Rattle.dr_ages.proofs.Caught.{entries_at}
 use Rattle.dr_ages.proofs.Loans.{are_found, votes_at, votes_on}
+use Rattle.dr_ages.proofs.Staying.{alike_same}
 
 -- the logs make no start
 pub gather_stops : (S : Type 0) (script : Script) (before after : YardState) (lists : List (List Entry))
@@ -105,10 +107,24 @@ were_caught {D} tells faults script before start olds news k old new b = record 
     whole : List Entry
     whole = opened_with start start.members
 
+-- all of them are kept since
+all_kept : {D : Type 0} (tells : D → Option Told) (faults : D → ℕ) (script : Script) (before : YardState)
+    (start : Start) (olds news : List (LogState D)) (k : ℕ) (old new : LogState D)
+    → IsBroughtUp tells faults script before start olds news k old
+    → AreLater tells faults olds (slice_set news k new)
+    → AreKeptSince script.members script.members before (with_logs tells faults before (slice_set news k new))
+all_kept tells faults script before start olds news k old new b later =
+    let after = with_logs tells faults before (slice_set news k new) in
+    subst (λ (n : ℕ). AreKeptSince script.members n before after) b.all
+    (kept_back tells faults script.members before before after olds (slice_set news k new) b.mounted later
+    (length-set news k new ∙ b.so_far.all)
+    (λ m past. alike_same (before.told m) (before.told m) (before.faults m) (before.faults m) refl
+    (le_refl (before.faults m))) (λ m. (refl, refl)))
+
 pub catch_stops : {D : Type 0} (T : Type 0) (tells : D → Option Told) (faults : D → ℕ) (script : Script)
     (before : YardState) (start : Start) (olds news : List (LogState D)) (k : ℕ) (old new : LogState D)
     (fault : CatchFault) (stop : Stop) → IsBroughtUp tells faults script before start olds news k old
-    → HasStayed tells faults (opened_with start start.members) old new
+    → AreLater tells faults olds (slice_set news k new) → HasStayed tells faults (opened_with start start.members) old new
     → (fault ≢ catches.DiskFault → IsLeftAlone tells faults old new)
     → (IsErrOf {T = T} (Err fault) catches.DiskFault → Rose (faults old.disk) (faults new.disk))
     → FitsOrIsFull old.limit old.length (entries_length (lacked old (opened_with start start.members))) {T = T}
@@ -116,10 +132,10 @@ pub catch_stops : {D : Type 0} (T : Type 0) (tells : D → Option Told) (faults 
     → (fault ≡ catches.OutOfMemory → stop ≡ OutOfMemory) → (fault ≡ catches.DiskFault → stop ≡ DiskFault k)
     → ((len : ℕ) → fault ≡ catches.LogFull len → stop ≡ LogFull k len)
     → HasStopped script before (with_logs tells faults before (slice_set news k new)) stop
-catch_stops T tells faults script before start olds news k old new catches.OutOfMemory stop b stayed alone cause
+catch_stops T tells faults script before start olds news k old new catches.OutOfMemory stop b later stayed alone cause
     limit to_memory to_disk to_full =
     subst (HasStopped script before (with_logs tells faults before (slice_set news k new))) (sym (to_memory refl)) tt
-catch_stops {D} T tells faults script before start olds news k old new catches.DiskFault stop b stayed alone cause
+catch_stops {D} T tells faults script before start olds news k old new catches.DiskFault stop b later stayed alone cause
     limit to_memory to_disk to_full =
     let logs : List (LogState D) = slice_set news k new in
     subst (HasStopped script before (with_logs tells faults before logs)) (sym (to_disk refl)) (record {
@@ -130,9 +146,10 @@ catch_stops {D} T tells faults script before start olds news k old new catches.D
           (cause refl));
       at = in_start (entries_on olds) (votes_on olds) start
           (are_found tells faults before olds script.members b.mounted b.all) b.starts b.small
-          (were_caught tells faults script before start olds news k old new b);
+          (were_caught tells faults script before start olds news k old new b)
+          (all_kept tells faults script before start olds news k old new b later);
     })
-catch_stops {D} T tells faults script before start olds news k old new (catches.LogFull len) stop b stayed alone
+catch_stops {D} T tells faults script before start olds news k old new (catches.LogFull len) stop b later stayed alone
     cause limit to_memory to_disk to_full =
     let logs : List (LogState D) = slice_set news k new in
     let is = b.mounted k old b.from in

@@ -1,11 +1,12 @@
 -- The votes that are found on disks, and those that the members of an age cast.
-use Rattle.std.proofs.Common.{◌≡◌, refl, sym, subst, ℕ, ◌*◌, ◌<◌, ◌≤◌, inl, inr, arith, List, [], ◌∷◌, length}
-use Rattle.std.specs.Prelude.{All, IfSome, IsTrue, Option, None, Some, is_some, slice_get}
-use Rattle.std.specs.Option.{option_map_or}
+use Rattle.std.proofs.Common.{◌≡◌, refl, sym, ap, ◌∙◌, subst, ℕ, ◌<◌, inl, inr, arith, List, [], ◌∷◌}
+use Rattle.std.specs.Prelude.{All, IfSome, IsTrue, Option, None, Some, is_some, option_map, slice_get}
+use Rattle.std.proofs.lemmas.Option.{same_Some, slice_get-map}
 use Rattle.std.proofs.lemmas.List.Elements.{All-cons, All-nil}
 use Rattle.std.proofs.lemmas.Nat.{mul-le}
 use Rattle.dr_disk.specs.Disk.{Told, content_of}
 use Rattle.dr_entry.specs.declared.end.AgeEnd.{AgeEnd}
+use Rattle.dr_entry.specs.declared.end.MemberEnd.{MemberEnd}
 use Rattle.dr_entry.specs.declared.entry.Entry.{Entry}
 use Rattle.dr_entry.specs.declared.record.Record.{Record}
 use Rattle.dr_entry.specs.declared.record.Record.TheVariants as records
@@ -15,7 +16,8 @@ use Rattle.dr_history_laws.proofs.Lists.{slice_get-some}
 use Rattle.dr_log.specs.Grammar.{AreSpelled, Recovered}
 use Rattle.dr_log.specs.Standing.{StandsFor, votes_in}
 use Rattle.dr_machine.specs.Group.{IsGroup}
-use Rattle.dr_program.specs.Program.{IsRanFrom, Program}
+use Rattle.dr_logged.specs.Served.{AtMember}
+use Rattle.dr_program.specs.Program.{IsRanFrom, Program, age_of, end_of}
 use Rattle.dr_program.specs.Running.{Running}
 use Rattle.dr_program.proofs.Voting.{votes_within}
 use Rattle.dr_program_laws.proofs.Keeping.{deeds_kept}
@@ -30,7 +32,7 @@ use Rattle.dr_sim.proofs.Courses.{schedule_ran}
 use Rattle.dr_yard.specs.Yards.{AllTell, YardState}
 use Rattle.dr_ages.specs.declared.mode.Mode.{Mode}
 use Rattle.dr_ages.specs.declared.mode.Mode.TheVariants.{Sim, Run}
-use Rattle.dr_ages.specs.Ages.{IsPlayed, over_of, votes_of}
+use Rattle.dr_ages.specs.Ages.{IsMemberOf, IsPlayed, over_of}
 use Rattle.dr_ages.specs.Found.{AreFound, ReadsAs}
 
 -- ---- votes that are found are valid
@@ -80,8 +82,17 @@ ran_over Run script start nth age is = record { begun = is.begun; begins = is.be
 -- so a member casts in each view no more votes than there are members
 pub few_cast : (mode : Mode) (script : Script) (start : Start) (nth : ℕ) (age : AgeEnd) → HasRanges script
     → IsGroup (group_of script start) → (is : IsPlayed mode script start nth age) → (m : ℕ)
-    → length (votes_of (over_of mode script start nth age is) m) ≤ script.members * script.members
-few_cast mode script start nth age ranges group is m = by (slice_get over.members m) refl
+    → AtMember (over_of mode script start nth age is) m (λ r. IsMemberOf script.members r.replica)
+few_cast mode script start nth age ranges group is m r at = record {
+  roster = omega (arith, (form.of m r at).members, ranges.group.lists);
+  banks = omega (arith, (form.of m r at).banks, ranges.group.lists);
+  few = omega (
+    arith,
+    votes_within r.replica (form.form m r at).replica,
+    mul-le r.replica.banks r.replica.roster script.members script.members
+        (omega (arith, (form.of m r at).banks, ranges.group.lists)) (omega (arith, (form.of m r at).members, ranges.group.lists)),
+  );
+}
   where
     over : Program
     over = over_of mode script start nth age is
@@ -93,14 +104,31 @@ few_cast mode script start nth age ranges group is m = by (slice_get over.member
         (are_setups script start nth r.begins.0 ranges.group.lists r.begins.1)
         (subst (λ (b : Program). IsRanFrom b over) r.begins.2 r.ran)).0
 
-    by : (o : Option Running) → slice_get over.members m ≡ o
-        → length (option_map_or (λ (r : Running). r.replica.votes) o []) ≤ script.members * script.members
-    by None at = omega arith
-    by (Some r) at =
-        let of = form.of m r at in
-        omega (
-          arith,
-          votes_within r.replica (form.form m r at).replica,
-          mul-le r.replica.banks r.replica.roster script.members script.members
-              (omega (arith, of.banks, ranges.group.lists)) (omega (arith, of.members, ranges.group.lists)),
-        )
+-- ---- the members of an age
+
+-- its end tells the entries of its start, its number, and how its members ended
+pub told_by : (mode : Mode) (script : Script) (start : Start) (nth : ℕ) (age : AgeEnd)
+    → (is : IsPlayed mode script start nth age)
+    → age ≡ age_of (group_of script start).opening (over_of mode script start nth age is)
+told_by Sim script start nth age is = is.told
+told_by Run script start nth age is = is.told
+
+-- a member of its program, by how it ended
+pub record EndsSo (p : Program) (m : ℕ) (e : MemberEnd) : Type 0 where
+  pub r : Running
+  pub at : slice_get p.members m ≡ Some r
+  pub is : end_of r ≡ e
+
+pub member_over : (mode : Mode) (script : Script) (start : Start) (nth : ℕ) (age : AgeEnd)
+    → (is : IsPlayed mode script start nth age) → (m : ℕ) (e : MemberEnd) → slice_get age.members m ≡ Some e
+    → EndsSo (over_of mode script start nth age is) m e
+member_over mode script start nth age is m e at = by (slice_get over.members m) refl
+    (sym (slice_get-map end_of over.members m)
+    ∙ sym (ap (λ (a : AgeEnd). slice_get a.members m) (told_by mode script start nth age is)) ∙ at)
+  where
+    over : Program
+    over = over_of mode script start nth age is
+
+    by : (o : Option Running) → slice_get over.members m ≡ o → option_map end_of o ≡ Some e → EndsSo over m e
+    by None there same = absurd (cc)
+    by (Some r) there same = record { r = r; at = there; is = same_Some (end_of r) e same }

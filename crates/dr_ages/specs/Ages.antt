@@ -1,6 +1,5 @@
 -- The ages of a run.
 use Rattle.std.specs.Prelude.{◌≡◌, ◌≢◌, ℕ, ◌+◌, ◌-◌, ◌*◌, ◌^◌, ◌<◌, ◌≤◌, List, [], ◌∷◌, length, slice_get, take, Some}
-use Rattle.std.specs.Option.{option_map_or}
 use Rattle.dr_complete.specs.Time.{HasTime}
 use Rattle.dr_entry.specs.declared.end.AgeEnd.{AgeEnd}
 use Rattle.dr_entry.specs.declared.end.End.TheVariants.{DiskFault, LogFull}
@@ -13,8 +12,9 @@ use Rattle.dr_history.specs.Agreement.{EndsAgreed}
 use Rattle.dr_history.specs.History.{IsPrefixOf}
 use Rattle.dr_history.specs.Order.{first_entries}
 use Rattle.dr_io.specs.Faults.{Rose}
+use Rattle.dr_logged.specs.Served.{AtMember}
 use Rattle.dr_program.specs.Program.{Program}
-use Rattle.dr_program.specs.Running.{Running}
+use Rattle.dr_program.specs.Replica.{Replica}
 use Rattle.dr_program_laws.specs.Ended.{AreComplete, HaveEnded}
 use Rattle.dr_program_laws.specs.Trusting.{NoneLeft, SuspectsNobody}
 use Rattle.dr_restart.specs.declared.start.Start.{Start}
@@ -56,9 +56,12 @@ abbrev pub over_of : (mode : Mode) (script : Script) (start : Start) (nth : ℕ)
 over_of Sim script start nth age is = is.over
 over_of Run script start nth age is = is.over
 
--- the votes of a program's member of this number
-abbrev pub votes_of : Program → ℕ → List Vote
-votes_of p m = option_map_or (λ (r : Running). r.replica.votes) (slice_get p.members m) []
+-- a member of a group of so many: it has as many banks for its views, and has cast no more votes than one by
+-- the ballot of each member in each of them
+pub record IsMemberOf (members : ℕ) (r : Replica) : Type 0 where
+  pub roster : r.roster ≡ members
+  pub banks : r.banks ≡ members
+  pub few : length r.votes ≤ members * members
 
 -- this is age number nth of a run, from 0, over disks that were so before it and are so behind it
 pub record IsAgeOf (script : Script) (mode : Mode) (nth : ℕ) (before after : YardState) (age : AgeEnd) : Type 0 where
@@ -76,23 +79,22 @@ pub record IsAgeOf (script : Script) (mode : Mode) (nth : ℕ) (before after : Y
   pub trusting : SuspectsNobody script → NoneLeft age.members
   pub complete : mode ≡ Sim → HasTime script → NoneStopped age.members
       → AreComplete (opening_of script age) age.members
-  -- its members cast these votes, each in each view no more than there are members
-  pub cast : ℕ → List Vote
-  pub own : (m : ℕ) → cast m ≡ votes_of (over_of mode script (start_of script age) nth age run) m
-  pub few : (m : ℕ) → length (cast m) ≤ script.members * script.members
+  -- its members have cast no more votes than they may
+  pub few : (m : ℕ) → AtMember (over_of mode script (start_of script age) nth age run) m
+      (λ r. IsMemberOf script.members r.replica)
   -- each log begins with what every history of the age does
   pub opened : (m : ℕ) (e : MemberEnd) → slice_get age.members m ≡ Some e
       → IsPrefixOf (first_entries (opening_of script age)) (take e.logged e.history)
   -- whatever a crash leaves of each disk is what its member may leave, behind the votes that were found
-  pub left : (m : ℕ) (e : MemberEnd) → slice_get age.members m ≡ Some e
-      → HasLeft (after.told m) script.members e (votes m) (cast m)
+  pub left : (m : ℕ) → AtMember (over_of mode script (start_of script age) nth age run) m
+      (λ r. HasLeft (after.told m) r.replica (votes m))
   -- who ends by its disk has one that failed, no call of another disk did, and who ends by a full log has one
   pub failed : (m : ℕ) (e : MemberEnd) → slice_get age.members m ≡ Some e → e.end ≡ DiskFault
       → Rose (before.faults m) (after.faults m)
   pub calm : (m : ℕ) → ((e : MemberEnd) → slice_get age.members m ≡ Some e → e.end ≢ DiskFault)
       → after.faults m ≡ before.faults m
-  pub full : (m : ℕ) (e : MemberEnd) (len : ℕ) → slice_get age.members m ≡ Some e → e.end ≡ LogFull len
-      → IsFullAt script.members e (votes m) (cast m) len
+  pub full : (m : ℕ) → AtMember (over_of mode script (start_of script age) nth age run) m
+      (λ r. (len : ℕ) → r.replica.end ≡ Some (LogFull len) → IsFullAt r.replica (votes m) len)
   -- logs with few votes have room for all that an age may bring
   pub ample : ((m : ℕ) → m < script.members → AreFew (votes m)) → NoneFull age.members
   -- no disk has lost anything, nor would a crash have lost what was on one as the age mounted it

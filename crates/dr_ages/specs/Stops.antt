@@ -37,13 +37,15 @@ pub record WereCaughtUp (script : Script) (after : YardState) (lists : List (Lis
 
 -- when the disk of a member failed: as it was to be mounted, when the logs of those below it had been, and
 -- the disks of those above it were as before; or as its log was to be brought up to a start, when those of
--- all below it had been
+-- all below it had been. The disks that were mounted by then are kept since: those below it, or all.
 pub data FailedAt (script : Script) (before after : YardState) (member : ℕ) : Type 0 where
   in_mount : (lists : List (List Entry)) (votes : ℕ → List Vote) → AreFound member before lists votes
-      → ((m : ℕ) → member < m → after.told m ≡ before.told m) → FailedAt script before after member
+      → ((m : ℕ) → member < m → after.told m ≡ before.told m)
+      → AreKeptSince script.members member before after → FailedAt script before after member
   in_start : (lists : List (List Entry)) (votes : ℕ → List Vote) (start : Start)
       → AreFound script.members before lists votes → IsStartOf script lists start → start.age < 2 ^ 16
-      → WereCaughtUp script after lists votes start member → FailedAt script before after member
+      → WereCaughtUp script after lists votes start member
+      → AreKeptSince script.members script.members before after → FailedAt script before after member
 
 -- the disk of a member failed
 pub record HasFailed (script : Script) (before after : YardState) (member : ℕ) : Type 0 where

@@ -1,6 +1,6 @@
 //! Runs ages one after the other.
 ghost use Rattle.std.specs.Prelude.{◌≡◌, ◌≢◌, ◌<◌, ℕ, All, IfErr, IfOk, OnErr, false, length};
-ghost use Rattle.dr_age.specs.Logged.{AreOpened, HaveCome, HaveVoted, IsAmple, NoneFull, NoneStopped};
+ghost use Rattle.dr_age.specs.Logged.{AreOpened, HaveCome, IsAmple, NoneFull, NoneStopped};
 ghost use Rattle.dr_complete.specs.Time.{HasTime};
 ghost use Rattle.dr_entry.specs.declared.limits.TheConstants.{MAX_MEMBERS};
 ghost use Rattle.dr_history.specs.Agreement.{EndsAgreed};
@@ -217,9 +217,9 @@ fn play_age<R: Threads + Sync, D: Disk, P: Pace + Sync, W: Watcher>(
     requires ranges { HasRanges script.now }
     requires group { IsGroup (group_of script.now start.now) }
     requires logs { AreOpened (group_of script.now start.now) logs.items }
-    // The votes on the logs are those of the members.
     ensures run { IfOk result.0 (λ age. (is : IsPlayed mode script.now start.now nth age)
-        × HaveVoted logs.items result.1.items (over_of mode script.now start.now nth age is).members) }
+        × HaveCome D.told D.faults logs.items result.1.items
+        (over_of mode script.now start.now nth age is).members) }
     ensures agreed { IfOk result.0 (λ age.
         EndsAgreed (group_of script.now start.now).opening age.members) }
     ensures ended { IfOk result.0 (λ age. HaveEnded (group_of script.now start.now).opening
@@ -227,8 +227,6 @@ fn play_age<R: Threads + Sync, D: Disk, P: Pace + Sync, W: Watcher>(
     ensures trusting { IfOk result.0 (λ age. SuspectsNobody script.now → NoneLeft age.members) }
     ensures complete { IfOk result.0 (λ age. mode ≡ Sim → HasTime script.now → NoneStopped age.members
         → AreComplete (group_of script.now start.now).opening age.members) }
-    ensures come { IfOk result.0 (λ age.
-        HaveCome D.told D.faults logs.items result.1.items age.members) }
     ensures ample { IfOk result.0 (λ age. All (IsAmple (group_of script.now start.now)) logs.items
         → NoneFull age.members) }
     ensures members { IfOk result.0 (λ age. length age.members ≡ length logs.items) }

@@ -1,11 +1,10 @@
 -- What a mount finds of a log that its member has left.
 use Rattle.std.proofs.Common.{◌≡◌, sym, ap, ◌∙◌, subst, ℕ, ◌+◌, inl, inr, List, [], ◌∷◌, ◌++◌, take, drop, Option, Some, None}
-use Rattle.std.specs.Prelude.{slice_index_or}
+use Rattle.std.proofs.lemmas.Option.{get_or_from_slice_get, slice_get_within}
 use Rattle.std.proofs.lemmas.List.{take_more, take-append-drop}
 use Rattle.dr_disk.specs.Disk.{Told, content_of}
 use Rattle.dr_disk.specs.Images.{IsLeft, ReadsAnImage}
 use Rattle.dr_entry.specs.declared.entry.Entry.{Entry}
-use Rattle.dr_entry.specs.declared.entry.Entry.TheVariants.{View}
 use Rattle.dr_entry.specs.declared.record.Record.{Record}
 use Rattle.dr_entry.specs.declared.record.Record.TheVariants as records
 use Rattle.dr_entry.specs.declared.record.Vote.{Vote}
@@ -14,7 +13,8 @@ use Rattle.dr_log.specs.State.{LogState}
 use Rattle.dr_log.proofs.Meaning.{one_list}
 use Rattle.dr_program.specs.declared.outcome.LogWhy.{LogWhy}
 use Rattle.dr_program.specs.declared.outcome.LogWhy.TheVariants as whys
-use Rattle.dr_logged.specs.Served.{HasCome, IsNext}
+use Rattle.dr_program.specs.Replica.{Replica}
+use Rattle.dr_logged.specs.Served.{HasCome, IsRecordDue}
 use Rattle.dr_logged.specs.Left.{IsLeftOf}
 
 -- what holds of each image holds of what a read gives
@@ -23,41 +23,38 @@ of_content : (told : Option Told) (t : Told) (P : List ℕ → Type 0) → IsLef
 of_content told t P left is reads = subst (λ (o : Option Told). IsLeft o P) is left (content_of t) reads
 
 pub left_log : {D : Type 0} (told : D → Option Told) (faults : D → ℕ) (base log : LogState D)
-    (history es : List Entry) (vs votes : List Vote) (banks logged : ℕ) (why : Option LogWhy) (t : Told)
-    → HasCome told faults base log banks history logged votes why → told log.disk ≡ Some t → ReadsAnImage t
-    → StandsFor (content_of t) es vs → IsLeftOf history logged es
-left_log told faults base log history es vs votes banks logged None t come is reads found =
+    (r : Replica) (es : List Entry) (vs : List Vote) (why : Option LogWhy) (t : Told)
+    → HasCome told faults base log r why → told log.disk ≡ Some t → ReadsAnImage t
+    → StandsFor (content_of t) es vs → IsLeftOf r.history r.logged es
+left_log told faults base log r es vs None t come is reads found =
     inl (one_list (content_of t) es log.entries vs log.votes found
     (of_content (told log.disk) t (λ image. StandsFor image log.entries log.votes) come.last.1 is reads)
     ∙ come.entries)
-left_log told faults base log history es vs votes banks logged (Some (whys.LogFull len)) t come is reads
-    found =
+left_log told faults base log r es vs (Some (whys.LogFull len)) t come is reads found =
     inl (one_list (content_of t) es log.entries vs log.votes found
     (of_content (told log.disk) t (λ image. StandsFor image log.entries log.votes) come.last.2.safe is reads)
     ∙ come.entries)
-left_log told faults base log history es vs votes banks logged (Some whys.DiskFault) t come is reads found =
+left_log told faults base log r es vs (Some whys.DiskFault) t come is reads found =
     by come.last.0 come.last.1 (of_content (told log.disk) t _ come.last.2.left is reads)
   where
-    by : (next : Record) → IsNext banks history logged votes next
-        → IsBeforeOrAfter log.entries log.votes next (content_of t) → IsLeftOf history logged es
-    by next of_history (inl before) =
+    by : (next : Record) → IsRecordDue r next
+        → IsBeforeOrAfter log.entries log.votes next (content_of t) → IsLeftOf r.history r.logged es
+    by next due (inl before) =
         inl (one_list (content_of t) es log.entries vs log.votes found before ∙ come.entries)
-    by (records.Vote v) of_history (inr after) =
+    by (records.Vote v) due (inr after) =
         inl (one_list (content_of t) es log.entries vs (log.votes ++ v ∷ []) found after ∙ come.entries)
-    by (records.Entry e) (inr vote) (inr after) = absurd vote
-    by (records.Entry e) (inl due) (inr after) =
-        let next : Entry = slice_index_or history logged (View 0 0 0) in
-        let this : e ≡ next = cc (due.1) in
-        let same : es ≡ take logged history ++ next ∷ [] =
+    by (records.Entry e) due (inr after) =
+        let same : es ≡ take r.logged r.history ++ e ∷ [] =
         one_list (content_of t) es (log.entries ++ e ∷ []) vs log.votes found after
-        ∙ ap (λ (l : List Entry). l ++ e ∷ []) come.entries
-        ∙ ap (λ x. take logged history ++ x ∷ []) this in
-        let front : es ≡ take (logged + 1) history = same ∙ sym (take_more history logged (View 0 0 0) due.0) in
+        ∙ ap (λ (l : List Entry). l ++ e ∷ []) come.entries in
+        let front : es ≡ take (r.logged + 1) r.history = same
+        ∙ ap (λ x. take r.logged r.history ++ x ∷ []) (sym (get_or_from_slice_get r.history r.logged e e due))
+        ∙ sym (take_more r.history r.logged e (slice_get_within r.history r.logged e due)) in
         inr (
-          next,
+          e,
           same,
           (
-            drop (logged + 1) history,
-            ap (λ (l : List Entry). l ++ drop (logged + 1) history) front ∙ take-append-drop (logged + 1) history,
+            drop (r.logged + 1) r.history,
+            ap (λ (l : List Entry). l ++ drop (r.logged + 1) r.history) front ∙ take-append-drop (r.logged + 1) r.history,
           ),
         )

@@ -2,3 +2,4 @@ pub mod Serving
 pub mod Leaving
 pub mod Appends
 pub mod Rooms
+pub mod Dues

@@ -1,10 +1,11 @@
 -- Each deed of a member leaves its log ready and served.
-use Rattle.std.proofs.Common.{◌≡◌, refl, sym, ap, ◌∙◌, subst, ℕ, zero, suc, ◌+◌, ◌*◌, ◌-◌, ◌<◌, ◌≤◌, max, false, List, [], ◌∷◌, ◌++◌, length, take, drop, append-nil, append_assoc, length-append, le_refl, le_trans, inl, inr, arith}
+use Rattle.std.proofs.Common.{◌≡◌, ◌≢◌, refl, sym, ap, ◌∙◌, subst, ℕ, ◌+◌, ◌*◌, ◌-◌, ◌<◌, ◌≤◌, max, false, List, [], ◌∷◌, ◌++◌, length, take, drop, append-nil, append_assoc, le_refl, le_trans, arith}
 use Rattle.std.specs.Prelude.{Option, None, Some, slice_index_or, unwrap_or}
 use Rattle.std.specs.Prelude.{◌^◌}
 use Rattle.std.proofs.Math.Nat.{le-min, le-max_left, le-max_right, min-le_left, min-le_right}
 use Rattle.std.proofs.lemmas.List.Sums.{sum_by_push}
 use Rattle.dr_entry.specs.Spelling.{entry_spelling, vote_spelling}
+use Rattle.std.proofs.lemmas.Option.{same_Some, slice_get-get_or}
 use Rattle.std.proofs.lemmas.List.{length_push, take-append-drop, take-append-le, take_all, take_more}
 use Rattle.std.proofs.Math.Seq.{take-append_seam}
 use Rattle.dr_entry.specs.declared.entry.Entry.{Entry}
@@ -26,17 +27,21 @@ use Rattle.dr_machine.specs.declared.step.Step.TheVariants.{Append, LogVote}
 use Rattle.dr_machine.specs.World.{no_value}
 use Rattle.dr_program.proofs.Finishing.{finished_more}
 use Rattle.dr_program.proofs.Fixed.{Told as ToldReplica, step_told}
+use Rattle.dr_program.proofs.StepsAt.{push_either}
+use Rattle.dr_program.specs.declared.place.Part.{Part}
+use Rattle.dr_program.specs.declared.place.Part.TheVariants as parts
 use Rattle.dr_program.specs.declared.outcome.LogWhy.{LogWhy}
 use Rattle.dr_program.specs.declared.outcome.LogWhy.TheVariants as whys
 use Rattle.dr_program.specs.Replica.{Replica, acted, finished, vote_of}
-use Rattle.dr_program.specs.Running.{Running, after_step, broken_off, columns, members, next_step, took}
+use Rattle.dr_program.specs.Running.{Running, after_step, append_or_end, broken_off, columns, crashes_now, end_by, members, next_step, step_at, took}
 use Rattle.dr_program.specs.Steps.{IsAppend, stepped}
 use Rattle.dr_program.specs.Turn.{part_of, places_in}
 use Rattle.dr_program.specs.declared.place.TheConstants.{TURN}
 use Rattle.dr_turn.proofs.Failing.{append_at}
 use Rattle.dr_turn.proofs.Search.{settle_only}
 use Rattle.dr_logged.specs.Appended.{IsAppendDue, MayLog, is_append, record_due, record_of}
-use Rattle.dr_logged.specs.Served.{HasCome, HasServed, IsNext, IsReady, IsRoomy, IsSafe, LosesNothing, WentSo}
+use Rattle.dr_logged.specs.Served.{EndsNext, HasCome, HasServed, IsReady, IsRecordDue, IsRoomy, IsSafe, LosesNothing, WentSo}
+use Rattle.dr_logged.proofs.Dues.{due_still}
 
 -- ---- what a step other than an append leaves
 
@@ -78,68 +83,72 @@ settled_same word r = settle_only (places_in (members r') (columns r') TURN) r'
 
 -- ---- the log of a member that doesn't append
 
-before : (h more : List Entry) (k : ℕ) → k < length h → slice_index_or (h ++ more) k (View 0 0 0)
-    ≡ slice_index_or h k (View 0 0 0)
-before [] more k l = absurd (omega (arith, l))
-before (x ∷ h) more zero l = refl
-before (x ∷ h) more (suc k) l = before h more k (omega (arith, l))
+-- what the member has logged stays as it is while more is delivered, and so does the record at which its last
+-- append has failed, if one did
+went_on : {D : Type 0} (told : D → Option Told) (faults : D → ℕ) (base log : LogState D) (r q : Replica)
+    (why : Option LogWhy) → ((next : Record) → why ≢ None → IsRecordDue r next → IsRecordDue q next)
+    → WentSo told faults base log r why → WentSo told faults base log q why
+went_on told faults base log r q None still went = went
+went_on told faults base log r q (Some whys.DiskFault) still went =
+    (went.0, still went.0 (λ e. absurd (cc e)) went.1, went.2)
+went_on told faults base log r q (Some (whys.LogFull len)) still went =
+    (went.0, still went.0 (λ e. absurd (cc e)) went.1, went.2)
 
--- nor is what comes next
-next_on : (n : ℕ) (h more : List Entry) (k : ℕ) (vs : List Vote) (next : Record) → IsNext n h k vs next
-    → IsNext n (h ++ more) k vs next
-next_on n h more k vs next (inl t) = inl (
-  omega (arith, t.0, length-append h more),
-  t.1 ∙ sym (ap records.Entry (before h more k t.0)),
-)
-next_on n h more k vs next (inr vote) = inr vote
-
--- how the last append went is not changed by what is delivered
-went_on : {D : Type 0} (told : D → Option Told) (faults : D → ℕ) (base log : LogState D) (n : ℕ)
-    (h more : List Entry) (k : ℕ) (vs : List Vote) (why : Option LogWhy)
-    → WentSo told faults base log n h k vs why → WentSo told faults base log n (h ++ more) k vs why
-went_on told faults base log n h more k vs None went = went
-went_on told faults base log n h more k vs (Some whys.DiskFault) went =
-    (went.0, next_on n h more k vs went.0 went.1, went.2)
-went_on told faults base log n h more k vs (Some (whys.LogFull len)) went =
-    (went.0, next_on n h more k vs went.0 went.1, went.2)
-
-come_on : {D : Type 0} (told : D → Option Told) (faults : D → ℕ) (base log : LogState D) (n : ℕ)
-    (h more : List Entry) (k : ℕ) (vs : List Vote) (why : Option LogWhy) → k ≤ length h
-    → HasCome told faults base log n h k vs why → HasCome told faults base log n (h ++ more) k vs why
-come_on told faults base log n h more k vs why within come = record {
-  entries = come.entries ∙ sym (take-append-le k h more within);
+come_on : {D : Type 0} (told : D → Option Told) (faults : D → ℕ) (base log : LogState D) (r q : Replica)
+    (why : Option LogWhy) → Grows r q → r.logged ≤ length r.history
+    → ((next : Record) → why ≢ None → IsRecordDue r next → IsRecordDue q next)
+    → HasCome told faults base log r why → HasCome told faults base log q why
+come_on told faults base log r q why g within still come = record {
+  entries = come.entries ∙ sym (ap (λ k. take k q.history) g.logged ∙ ap (take r.logged) g.history
+      ∙ take-append-le r.logged r.history g.more within);
   more = come.more;
-  voted = come.voted;
-  long = come.long;
+  voted = come.voted ∙ ap (λ vs. base.votes ++ vs) (sym g.votes);
+  long = omega (arith, come.long, ap votes_length g.votes);
   limit = come.limit;
   within = come.within;
-  last = went_on told faults base log n h more k vs why come.last;
+  last = went_on told faults base log r q why still come.last;
   moments = come.moments;
   lasting = come.lasting;
   calm = come.calm;
   later = come.later;
 }
 
+-- what a member with a failed append has due it has due as it ends
+due_on : (word : ℕ) (r : Running) (why : Option LogWhy) → r.failed ≡ why → EndsNext r
+    → r.replica.end ≡ None → (next : Record) → why ≢ None → IsRecordDue r.replica next
+    → IsRecordDue (stepped word r.replica (next_step r)) next
+due_on word r None e ends none next some due = absurd (some refl)
+due_on word r (Some why) e ends none next some due =
+    subst (λ s. IsRecordDue (stepped word r.replica s) next) (sym (ends why e none))
+    (due_still r.replica (end_by why) next due)
+
+-- nothing is none and some
+none_or_some : {X : Type 0} (o : Option X) (x : X) → o ≡ None → o ≡ Some x → ⊥
+none_or_some o x none some = cc (none, some)
+
+-- a member that has found its next place
+found_place : {D : Type 0} (told : D → Option Told) (faults : D → ℕ) (base log : LogState D) (word : ℕ)
+    (r : Running) → HasCome told faults base log (stepped word r.replica (next_step r)) r.failed
+    → ((why : LogWhy) → r.failed ≡ Some why → (stepped word r.replica (next_step r)).end ≢ None)
+    → HasServed told faults base log (after_step word r)
+found_place told faults base log word r come over = record {
+  come = subst (λ (x : Running). HasCome told faults base log x.replica x.failed) (sym (settled_same word r)) come;
+  ends = λ why failed none. absurd (over why
+      (sym (ap (λ (x : Running). x.failed) (settled_same word r)) ∙ failed)
+      (sym (ap (λ (x : Running). x.replica.end) (settled_same word r)) ∙ none));
+}
+
 -- the log of a member that takes another deed than an append has served it
 pub other_served : {D : Type 0} (told : D → Option Told) (faults : D → ℕ) (base log : LogState D)
-    (word : ℕ) (r : Running) → is_append (next_step r) ≡ false → r.replica.logged ≤ length r.replica.history
+    (word : ℕ) (r : Running) → is_append (next_step r) ≡ false → r.replica.end ≡ None
+    → r.replica.logged ≤ length r.replica.history
     → HasServed told faults base log r → HasServed told faults base log (after_step word r)
-other_served told faults base log word r other within served =
-    let g = grows word r.replica (next_step r) other in
-    let banks : (stepped word r.replica (next_step r)).banks ≡ r.replica.banks =
-    ap (λ (t : ToldReplica). t.banks) (step_told word r.replica (next_step r)) in
-    subst (HasServed told faults base log) (sym (settled_same word r))
-    (subst (λ n. HasCome told faults base log n (stepped word r.replica (next_step r)).history
-    (stepped word r.replica (next_step r)).logged (stepped word r.replica (next_step r)).votes r.failed)
-    (sym banks)
-    (subst (λ vs. HasCome told faults base log r.replica.banks (stepped word r.replica (next_step r)).history
-    (stepped word r.replica (next_step r)).logged vs r.failed) (sym g.votes)
-    (subst (λ k. HasCome told faults base log r.replica.banks (stepped word r.replica (next_step r)).history k
-    r.replica.votes r.failed) (sym g.logged)
-    (subst (λ h. HasCome told faults base log r.replica.banks h r.replica.logged r.replica.votes r.failed)
-    (sym g.history)
-    (come_on told faults base log r.replica.banks r.replica.history g.more r.replica.logged r.replica.votes
-    r.failed within served)))))
+other_served told faults base log word r other none within served =
+    found_place told faults base log word r
+    (come_on told faults base log r.replica (stepped word r.replica (next_step r)) r.failed
+    (grows word r.replica (next_step r) other) within (due_on word r r.failed refl served.ends none) served.come)
+    (λ why failed unended. none_or_some (stepped word r.replica (next_step r)).end (end_by why) unended
+    (ap (λ s. (stepped word r.replica s).end) (served.ends why failed none)))
 
 -- and is ready for the next one
 pub other_ready : {D : Type 0} (log : LogState D) (word : ℕ) (r : Running) → is_append (next_step r) ≡ false
@@ -172,12 +181,25 @@ is_logged r s may = absurd may
 pub unfailed : (r : Running) → MayLog r (next_step r) → r.failed ≡ None
 unfailed r may = none_failed r (is_logged r (next_step r) may)
 
--- its record is one that comes next
-next_is : (r : Running) (s : Step) → MayLog r s
-    → IsNext r.replica.banks r.replica.history r.replica.logged r.replica.votes (record_of r s)
-next_is r Append may = inl (may, refl)
-next_is r (LogVote v) may = inr (may.1, may.0)
+-- its record is the one that is due
+pub next_is : (r : Running) (s : Step) → MayLog r s → IsRecordDue r.replica (record_of r s)
+next_is r Append may = slice_get-get_or r.replica.history r.replica.logged (View 0 0 0) may
+next_is r (LogVote v) may = may
 next_is r s may = absurd may
+
+-- a member whose append fails ends by that
+ends_at : (why : LogWhy) (r : Running) (part : Part) (i c : ℕ) → IsAppend (step_at r part i c)
+    → step_at (broken_off why r) part i c ≡ append_or_end (Some why)
+ends_at why r parts.Append i c due = refl
+ends_at why r parts.Vote i c due = refl
+ends_at why r parts.Push i c due =
+    absurd (push_either (λ s. IsAppend s → ⊥) (crashes_now r) i c (λ x. x) (λ x. x) due)
+ends_at why r part i c due = absurd due
+
+ends_next : (why : LogWhy) (r : Running) → MayLog r (next_step r) → EndsNext (broken_off why r)
+ends_next why r may reason failed none =
+    ends_at why r (part_of r.place) r.place.row r.place.column (is_logged r (next_step r) may)
+    ∙ ap (λ (x : LogWhy). append_or_end (Some x)) (same_Some why reason failed)
 
 moments_on : {D : Type 0} (told : D → Option Told) (base log new : LogState D) (r : Record)
     (es : List Entry) (vs : List Vote) → log.entries ≡ base.entries ++ es → log.votes ≡ base.votes ++ vs
@@ -217,10 +239,9 @@ record Put {D : Type 0} (told : D → Option Told) (faults : D → ℕ) (base lo
   long : log.length + block_length due ≡ base.length + (entries_length more.0 + votes_length vs)
 
 put : {D : Type 0} (told : D → Option Told) (faults : D → ℕ) (base log new : LogState D)
-    (n : ℕ) (due : Record) (h history : List Entry) (k l : ℕ) (us vs : List Vote)
-    → HasCome told faults base log n h k us None → Put told faults base log new due history l vs
-    → HasCome told faults base new n history l vs None
-put {D} told faults base log new n due h history k l us vs served p = record {
+    (due : Record) (r q : Replica) → HasCome told faults base log r None
+    → Put told faults base log new due q.history q.logged q.votes → HasCome told faults base new q None
+put {D} told faults base log new due r q served p = record {
   entries = entries ∙ p.entries;
   more = (p.more.0, entries ∙ p.more.1);
   voted = votes ∙ p.voted;
@@ -228,7 +249,7 @@ put {D} told faults base log new n due h history k l us vs served p = record {
   limit = limit ∙ served.limit;
   within = le_trans (omega (arith, p.fits, limit, grown)) (le-max_left new.limit _);
   last = (ap (λ (x : LogState D). x.failed) p.made ∙ served.last.0, p.safe);
-  moments = moments_on told base log new due served.more.0 us served.more.1 served.voted served.moments
+  moments = moments_on told base log new due served.more.0 r.votes served.more.1 served.voted served.moments
       p.goes;
   lasting = lasting_on told base log new served.lasting p.lasting;
   calm = λ unbroken. p.calm ∙ served.calm unbroken;
@@ -250,18 +271,16 @@ put {D} told faults base log new n due h history k l us vs served p = record {
 -- an append that goes well puts the record that is due on the log
 put_step : {D : Type 0} (told : D → Option Told) (faults : D → ℕ)
     (base log new : LogState D) (word : ℕ) (r : Running) (s : Step) → MayLog r s
-    → HasCome told faults base log r.replica.banks r.replica.history r.replica.logged r.replica.votes None
+    → HasCome told faults base log r.replica None
     → new ≡ appended log (record_of r s) new.disk
     → log.length + block_length (record_of r s) ≤ log.limit
     → Goes (told log.disk) (told new.disk)
     (λ calls. IsBeforeOrAfter log.entries log.votes (record_of r s))
     → LosesNothing told log new → IsSafe told new → faults new.disk ≡ faults log.disk
-    → HasCome told faults base new (stepped word r.replica s).banks (stepped word r.replica s).history
-    (stepped word r.replica s).logged (stepped word r.replica s).votes None
+    → HasCome told faults base new (stepped word r.replica s) None
 put_step told faults base log new word r Append within served made fits goes lasting safe calm =
     let e : Entry = slice_index_or r.replica.history r.replica.logged (View 0 0 0) in
-    put told faults base log new r.replica.banks (records.Entry e) r.replica.history r.replica.history
-    r.replica.logged (r.replica.logged + 1) r.replica.votes r.replica.votes served (record {
+    put told faults base log new (records.Entry e) r.replica (stepped word r.replica Append) served (record {
       made = made;
       fits = fits;
       goes = goes;
@@ -283,8 +302,7 @@ put_step told faults base log new word r Append within served made fits goes las
     })
 put_step told faults base log new word r (LogVote v) within served made fits goes lasting safe calm =
     let x : Vote = vote_of r.replica v in
-    put told faults base log new r.replica.banks (records.Vote x) r.replica.history r.replica.history
-    r.replica.logged r.replica.logged r.replica.votes (r.replica.votes ++ x ∷ []) served (record {
+    put told faults base log new (records.Vote x) r.replica (stepped word r.replica (LogVote v)) served (record {
       made = made;
       fits = fits;
       goes = goes;
@@ -311,21 +329,19 @@ pub appended_served : {D : Type 0} (told : D → Option Told) (faults : D → �
     → LosesNothing told log new → IsSafe told new → faults new.disk ≡ faults log.disk
     → HasServed told faults base new (after_step word r)
 appended_served told faults base log new word r may served made fits goes lasting safe calm =
-    subst (HasServed told faults base new) (sym (settled_same word r))
-    (subst (HasCome told faults base new (stepped word r.replica (next_step r)).banks
-    (stepped word r.replica (next_step r)).history
-    (stepped word r.replica (next_step r)).logged (stepped word r.replica (next_step r)).votes)
-    (sym (unfailed r may))
+    found_place told faults base new word r
+    (subst (HasCome told faults base new (stepped word r.replica (next_step r))) (sym (unfailed r may))
     (put_step told faults base log new word r (next_step r) may
-    (subst (HasCome told faults base log r.replica.banks r.replica.history r.replica.logged r.replica.votes)
-    (unfailed r may) served) made fits goes lasting safe calm))
+    (subst (HasCome told faults base log r.replica) (unfailed r may) served.come)
+    made fits goes lasting safe calm))
+    (λ why failed. absurd (none_or_some r.failed why (unfailed r may) failed))
 
 -- the log has a spare for the record that is due
 pub spares : {D : Type 0} (log : LogState D) (r : Running) (s : Step) → MayLog r s
     → length r.replica.history ≤ r.replica.room → r.failed ≡ None → IsReady log r
     → (as_entry (record_of r s) ≤ log.spare_entries) × (as_vote (record_of r s) ≤ log.spare_votes)
 spares log r Append may room none ready = (omega (arith, may, room, ready.spare none), omega arith)
-spares log r (LogVote v) may room none ready = (omega arith, omega (arith, may.0, ready.votes none))
+spares log r (LogVote v) may room none ready = (omega arith, omega (arith, may.few, ready.votes none))
 spares log r s may room none ready = absurd may
 
 -- and leaves it ready for the next one
@@ -344,7 +360,7 @@ ready_step {D} log new word r (LogVote v) some room none ready made = (
   omega (
     arith,
     ready.votes none,
-    some.0,
+    some.few,
     length_push r.replica.votes (vote_of r.replica v),
     ap (λ (l : LogState D). l.spare_votes) made,
   ),
@@ -368,31 +384,12 @@ pub failed_served : {D : Type 0} (told : D → Option Told) (faults : D → ℕ)
     (λ calls. IsBeforeOrAfter log.entries log.votes (record_due r))
     → LosesNothing told log new → Rose (faults log.disk) (faults new.disk) → faults log.disk ≤ faults new.disk
     → HasServed told faults base new (broken_off whys.DiskFault r)
-failed_served {D} told faults base log new r may served made goes lasting rose later = record {
-  entries = entries ∙ served.entries;
-  more = (served.more.0, entries ∙ served.more.1);
-  voted = votes ∙ served.voted;
-  limit = limit ∙ served.limit;
-  long = grown ∙ served.long;
-  within = subst (λ n. n ≤ max new.limit base.length) (sym grown)
-      (subst (λ n. log.length ≤ max n base.length) (sym limit) served.within);
-  last = (
-    record_due r,
-    next_is r (next_step r) may,
-    record {
-      failed = ap (λ (l : LogState D). l.failed) made;
-      rose = rose_since (faults base.disk) (faults log.disk) (faults new.disk) served.later rose;
-      left = rw (entries, votes) (Goes-last (told log.disk) (told new.disk)
-          (IsBeforeOrAfter log.entries log.votes (record_due r)) goes);
-    },
-  );
-  moments = moments_on told base log new (record_due r) served.more.0 r.replica.votes served.more.1
-      served.voted served.moments goes;
-  lasting = lasting_on told base log new served.lasting lasting;
-  calm = λ unbroken. absurd (unbroken refl);
-  later = le_trans served.later later;
-}
+failed_served {D} told faults base log new r may before made goes lasting rose later =
+    record { come = come; ends = ends_next whys.DiskFault r may }
   where
+    served : HasCome told faults base log r.replica r.failed
+    served = before.come
+
     entries : new.entries ≡ log.entries
     entries = ap (λ (l : LogState D). l.entries) made
 
@@ -405,34 +402,65 @@ failed_served {D} told faults base log new r may served made goes lasting rose l
     limit : new.limit ≡ log.limit
     limit = ap (λ (l : LogState D). l.limit) made
 
+    come : HasCome told faults base new r.replica (Some whys.DiskFault)
+    come = record {
+      entries = entries ∙ served.entries;
+      more = (served.more.0, entries ∙ served.more.1);
+      voted = votes ∙ served.voted;
+      limit = limit ∙ served.limit;
+      long = grown ∙ served.long;
+      within = subst (λ n. n ≤ max new.limit base.length) (sym grown)
+          (subst (λ n. log.length ≤ max n base.length) (sym limit) served.within);
+      last = (
+        record_due r,
+        next_is r (next_step r) may,
+        record {
+          failed = ap (λ (l : LogState D). l.failed) made;
+          rose = rose_since (faults base.disk) (faults log.disk) (faults new.disk) served.later rose;
+          left = rw (entries, votes) (Goes-last (told log.disk) (told new.disk)
+              (IsBeforeOrAfter log.entries log.votes (record_due r)) goes);
+        },
+      );
+      moments = moments_on told base log new (record_due r) served.more.0 r.replica.votes served.more.1
+          served.voted served.moments goes;
+      lasting = lasting_on told base log new served.lasting lasting;
+      calm = λ unbroken. absurd (unbroken refl);
+      later = le_trans served.later later;
+    }
+
 -- an append for which the log has no room
 pub full_served : {D : Type 0} (told : D → Option Told) (faults : D → ℕ) (base log : LogState D)
     (r : Running) (len : ℕ) → MayLog r (next_step r)
     → HasServed told faults base log r → len ≡ log.length
     → log.limit < len + block_length (record_due r)
     → HasServed told faults base log (broken_off (whys.LogFull len) r)
-full_served {D} told faults base log r len may served long over = record {
-  entries = served.entries;
-  more = served.more;
-  voted = served.voted;
-  long = served.long;
-  limit = served.limit;
-  within = served.within;
-  last = (
-    record_due r,
-    next_is r (next_step r) may,
-    record { whole = went.0; safe = went.1; long = long; over = over },
-  );
-  moments = served.moments;
-  lasting = served.lasting;
-  calm = λ unbroken. served.calm (rw (unfailed r may) (λ broken. cc broken));
-  later = served.later;
-}
+full_served {D} told faults base log r len may before long over =
+    record { come = come; ends = ends_next (whys.LogFull len) r may }
   where
-    went : WentSo told faults base log r.replica.banks r.replica.history r.replica.logged r.replica.votes None
-    went = subst
-        (WentSo told faults base log r.replica.banks r.replica.history r.replica.logged r.replica.votes)
-        (unfailed r may) served.last
+    served : HasCome told faults base log r.replica r.failed
+    served = before.come
+
+    went : WentSo told faults base log r.replica None
+    went = subst (WentSo told faults base log r.replica) (unfailed r may) served.last
+
+    come : HasCome told faults base log r.replica (Some (whys.LogFull len))
+    come = record {
+      entries = served.entries;
+      more = served.more;
+      voted = served.voted;
+      long = served.long;
+      limit = served.limit;
+      within = served.within;
+      last = (
+        record_due r,
+        next_is r (next_step r) may,
+        record { whole = went.0; safe = went.1; long = long; over = over },
+      );
+      moments = served.moments;
+      lasting = served.lasting;
+      calm = λ unbroken. served.calm (rw (unfailed r may) (λ broken. cc broken));
+      later = served.later;
+    }
 
 -- a log is ready for a member whose append has failed, as that one appends no more
 pub failed_ready : {D : Type 0} (log : LogState D) (why : LogWhy) (r : Running)
@@ -452,20 +480,7 @@ pub begins : {D : Type 0} (told : D → Option Told) (faults : D → ℕ) (old n
     → r.replica.logged ≡ length r.replica.history → r.replica.votes ≡ [] → r.failed ≡ None
     → HasServed told faults old new r × IsReady new r
 begins {D} told faults old new r roomy whole has all empty none = (
-  record {
-    entries = entries ∙ has ∙ sym (take_all r.replica.logged r.replica.history (omega (arith, all)));
-    more = ([], entries ∙ sym (append-nil old.entries));
-    voted = votes ∙ sym (append-nil old.votes) ∙ ap (λ vs. old.votes ++ vs) (sym empty);
-    long = omega (arith, grown, ap votes_length empty);
-    limit = ap (λ (l : LogState D). l.limit) roomy.is;
-    within = subst (λ n. n ≤ max new.limit old.length) (sym grown) (le-max_right new.limit _);
-    last = rw none (failed, roomy.safe whole);
-    moments = rw roomy.tells (stays_at (told old.disk) (λ calls. LosesNone old.entries old.votes)
-        (rw (← roomy.tells) (keeps (told new.disk) (roomy.safe whole))));
-    lasting = λ entries votes. rw roomy.tells (lasts_still (told old.disk) (LosesNone entries votes));
-    calm = λ unbroken. roomy.calm;
-    later = omega (arith, roomy.calm);
-  },
+  record { come = come; ends = λ why failed. absurd (none_or_some r.failed why none failed) },
   record {
     whole = λ n. failed;
     spare = λ n. omega (arith, roomy.spare);
@@ -496,3 +511,19 @@ begins {D} told faults old new r roomy whole has all empty none = (
         → IsLeft t (LosesNone old.entries old.votes)
     keeps None safe = tt
     keeps (Some calls) safe = λ image is. stands image (safe image is)
+
+    come : HasCome told faults old new r.replica r.failed
+    come = record {
+      entries = entries ∙ has ∙ sym (take_all r.replica.logged r.replica.history (omega (arith, all)));
+      more = ([], entries ∙ sym (append-nil old.entries));
+      voted = votes ∙ sym (append-nil old.votes) ∙ ap (λ vs. old.votes ++ vs) (sym empty);
+      long = omega (arith, grown, ap votes_length empty);
+      limit = ap (λ (l : LogState D). l.limit) roomy.is;
+      within = subst (λ n. n ≤ max new.limit old.length) (sym grown) (le-max_right new.limit _);
+      last = rw none (failed, roomy.safe whole);
+      moments = rw roomy.tells (stays_at (told old.disk) (λ calls. LosesNone old.entries old.votes)
+          (rw (← roomy.tells) (keeps (told new.disk) (roomy.safe whole))));
+      lasting = λ entries votes. rw roomy.tells (lasts_still (told old.disk) (LosesNone entries votes));
+      calm = λ unbroken. roomy.calm;
+      later = omega (arith, roomy.calm);
+    }

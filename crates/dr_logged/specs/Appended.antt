@@ -1,11 +1,10 @@
 -- Which steps append, and what an append, of the next entry or of a vote, has come to by the contract of a
 -- log.
-use Rattle.std.specs.Prelude.{◌≡◌, ℕ, ◌+◌, ◌*◌, ◌<◌, ◌≤◌, Bool, true, false, length, Option}
+use Rattle.std.specs.Prelude.{◌≡◌, ℕ, ◌+◌, ◌<◌, ◌≤◌, Bool, true, false, length, Option}
 use Rattle.dr_disk.specs.Disk.{Told}
 use Rattle.dr_disk.specs.Images.{Goes}
 use Rattle.dr_entry.specs.declared.record.Record.{Record}
 use Rattle.dr_entry.specs.declared.record.Record.TheVariants as records
-use Rattle.dr_entry.specs.Spelling.{IsValidVote}
 use Rattle.dr_io.specs.Faults.{Rose}
 use Rattle.dr_log.specs.declared.fault.LogFault.{LogFault}
 use Rattle.dr_log.specs.declared.fault.LogFault.TheVariants as faults
@@ -17,7 +16,7 @@ use Rattle.dr_program.specs.declared.outcome.LogWhy.{LogWhy}
 use Rattle.dr_program.specs.declared.outcome.LogWhy.TheVariants as whys
 use Rattle.dr_program.specs.Replica.{vote_of}
 use Rattle.dr_program.specs.Running.{Running, next_step}
-use Rattle.dr_logged.specs.Served.{IsSafe, LosesNothing, next_record}
+use Rattle.dr_logged.specs.Served.{IsDueVote, IsSafe, LosesNothing, next_record}
 
 -- the step is an append
 abbrev pub is_append : Step → Bool
@@ -25,12 +24,10 @@ is_append Append = true
 is_append (LogVote v) = true
 is_append s = false
 
--- the step is an append: of the next entry, which is there, or of a valid vote, of which the member has fewer
--- than there are ballots in all views: one for each member of the roster in each
+-- the step is an append: of the next entry, which is there, or of the vote that the member has due
 abbrev pub MayLog : Running → Step → Type 0
 MayLog r Append = r.replica.logged < length r.replica.history
-MayLog r (LogVote v) = (length r.replica.votes < r.replica.banks * r.replica.roster)
-    × IsValidVote (vote_of r.replica v)
+MayLog r (LogVote v) = IsDueVote r.replica (vote_of r.replica v)
 MayLog r s = ⊥
 
 -- the member is due to append

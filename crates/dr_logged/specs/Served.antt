@@ -1,5 +1,5 @@
 -- The logs of members that run: what comes of each while its member takes its deeds.
-use Rattle.std.specs.Prelude.{◌≡◌, ◌≢◌, ◌⊎◌, ℕ, ◌+◌, ◌*◌, ◌-◌, ◌<◌, ◌≤◌, max, true, false, List, ◌++◌, length, take, slice_get, slice_index_or, Option, None, Some}
+use Rattle.std.specs.Prelude.{◌≡◌, ◌≢◌, ℕ, ◌+◌, ◌*◌, ◌-◌, ◌<◌, ◌≤◌, max, true, false, List, ◌++◌, length, take, slice_get, slice_index_or, Option, None, Some}
 use Rattle.dr_entry.specs.declared.entry.Entry.{Entry}
 use Rattle.dr_entry.specs.declared.entry.Entry.TheVariants.{View}
 use Rattle.dr_entry.specs.declared.record.Record.{Record}
@@ -15,7 +15,8 @@ use Rattle.dr_program.specs.declared.deed.Deed.TheVariants as deeds
 use Rattle.dr_program.specs.declared.outcome.LogWhy.{LogWhy}
 use Rattle.dr_program.specs.declared.outcome.LogWhy.TheVariants as whys
 use Rattle.dr_program.specs.Program.{Program}
-use Rattle.dr_program.specs.Running.{Running, next_deed}
+use Rattle.dr_program.specs.Replica.{Replica, may_vote, value_due, vote_of}
+use Rattle.dr_program.specs.Running.{Running, append_or_end, next_deed, next_step}
 
 -- the log's own entries and votes are safe
 abbrev pub IsSafe : {D : Type 0} → (D → Option Told) → LogState D → Type 0
@@ -30,16 +31,20 @@ LosesNothing told base log = (entries : List Entry) (votes : List Vote)
 abbrev pub next_record : List Entry → ℕ → Record
 next_record history logged = records.Entry (slice_index_or history logged (View 0 0 0))
 
--- the record is a valid vote that comes behind so many. In each view, of which there is one for each bank, a
--- member votes at most once by the ballot of each member of its roster
-abbrev pub IsVote : ℕ → ℕ → Record → Type 0
-IsVote banks count (records.Entry entry) = ⊥
-IsVote banks count (records.Vote vote) = IsValidVote vote × (count < banks * vote.members)
+-- the vote is the one that the member has due
+pub record IsDueVote (r : Replica) (vote : Vote) : Type 0 where
+  -- it may vote for the value that is due, and this is its vote for it
+  pub may : may_vote r (value_due r) ≡ true
+  pub is : vote ≡ vote_of r (value_due r)
+  -- which is a valid record; and it has cast fewer than one by the ballot of each member in each view
+  pub valid : IsValidVote vote
+  pub few : length r.votes < r.banks * r.roster
 
--- the record is the one that comes behind so many entries of a history, or a vote behind these
-abbrev pub IsNext : ℕ → List Entry → ℕ → List Vote → Record → Type 0
-IsNext banks history logged votes next =
-    ((logged < length history) × (next ≡ next_record history logged)) ⊎ IsVote banks (length votes) next
+-- the record is the one that the member has due: the entry of its history behind those that it has logged, or
+-- its vote
+abbrev pub IsRecordDue : Replica → Record → Type 0
+IsRecordDue r (records.Entry entry) = slice_get r.history r.logged ≡ Some entry
+IsRecordDue r (records.Vote vote) = IsDueVote r vote
 
 -- a disk failed since `base`: whatever a crash leaves has what is on the log, or the next record besides
 pub record BrokeOff {D : Type 0} (told : D → Option Told) (faults : D → ℕ) (base log : LogState D)
@@ -56,32 +61,31 @@ pub record IsFull {D : Type 0} (told : D → Option Told) (log : LogState D) (le
   pub long : len ≡ log.length
   pub over : log.limit < len + block_length next
 
--- how the last append to a log of so many entries of a history and of these votes has gone, where the table
--- has so many banks: well, or it failed for this reason
+-- how the last append of a member to its log has gone: well, or it failed for this reason, at the record that
+-- the member has due
 abbrev pub WentSo : {D : Type 0} → (D → Option Told) → (D → ℕ) → LogState D → LogState D
-    → ℕ → List Entry → ℕ → List Vote → Option LogWhy → Type 0
-WentSo told faults base log banks history logged votes None = (log.failed ≡ false) × IsSafe told log
-WentSo told faults base log banks history logged votes (Some whys.DiskFault) =
-    (next : Record) × (IsNext banks history logged votes next) × BrokeOff told faults base log next
-WentSo told faults base log banks history logged votes (Some (whys.LogFull len)) =
-    (next : Record) × (IsNext banks history logged votes next) × IsFull told log len next
+    → Replica → Option LogWhy → Type 0
+WentSo told faults base log r None = (log.failed ≡ false) × IsSafe told log
+WentSo told faults base log r (Some whys.DiskFault) =
+    (next : Record) × (IsRecordDue r next) × BrokeOff told faults base log next
+WentSo told faults base log r (Some (whys.LogFull len)) =
+    (next : Record) × (IsRecordDue r next) × IsFull told log len next
 
--- what has come of a log since `base`, with which its member began, where the table has so many banks: it has
--- logged so many entries of its history and these votes, and its last append failed for this reason, if one
--- did
+-- what has come of a log since `base`, with which its member began: it has what the member has logged, its
+-- votes too, and the last append failed for this reason, if one did
 pub record HasCome {D : Type 0} (told : D → Option Told) (faults : D → ℕ) (base log : LogState D)
-    (banks : ℕ) (history : List Entry) (logged : ℕ) (votes : List Vote) (why : Option LogWhy) : Type 0 where
-  -- it has the first entries of the history, behind those that it had, and these votes behind those that it had
-  pub entries : log.entries ≡ take logged history
+    (r : Replica) (why : Option LogWhy) : Type 0 where
+  -- it has the first entries of the history, behind those that it had, and the votes behind those that it had
+  pub entries : log.entries ≡ take r.logged r.history
   pub more : (es : List Entry) × (log.entries ≡ base.entries ++ es)
-  pub voted : log.votes ≡ base.votes ++ votes
+  pub voted : log.votes ≡ base.votes ++ r.votes
   -- it is longer by these
-  pub long : log.length ≡ base.length + (entries_length more.0 + votes_length votes)
+  pub long : log.length ≡ base.length + (entries_length more.0 + votes_length r.votes)
   -- it keeps its limit
   pub limit : log.limit ≡ base.limit
   pub within : log.length ≤ max log.limit base.length
   -- how its last append went
-  pub last : WentSo told faults base log banks history logged votes why
+  pub last : WentSo told faults base log r why
   -- at no moment a crash would have lost what it had, nor what it could not have lost at an earlier one
   pub moments : Goes (told base.disk) (told log.disk) (λ s. LosesNone base.entries base.votes)
   pub lasting : LosesNothing told base log
@@ -89,11 +93,16 @@ pub record HasCome {D : Type 0} (told : D → Option Told) (faults : D → ℕ) 
   pub calm : why ≢ Some whys.DiskFault → faults log.disk ≡ faults base.disk
   pub later : faults base.disk ≤ faults log.disk
 
+-- where an append of a running member has failed, what it does next is to end by that
+abbrev pub EndsNext : Running → Type 0
+EndsNext r = (why : LogWhy) → r.failed ≡ Some why → r.replica.end ≡ None
+    → next_step r ≡ append_or_end (Some why)
+
 -- so it is with the log of a running member
-abbrev pub HasServed : {D : Type 0} → (D → Option Told) → (D → ℕ) → LogState D → LogState D → Running
-    → Type 0
-HasServed told faults base log r =
-    HasCome told faults base log r.replica.banks r.replica.history r.replica.logged r.replica.votes r.failed
+pub record HasServed {D : Type 0} (told : D → Option Told) (faults : D → ℕ) (base log : LogState D)
+    (r : Running) : Type 0 where
+  pub come : HasCome told faults base log r.replica r.failed
+  pub ends : EndsNext r
 
 -- the log is ready for all that its member may still append, unless an append has failed
 pub record IsReady {D : Type 0} (log : LogState D) (r : Running) : Type 0 where

@@ -10,6 +10,7 @@ ghost use Rattle.dr_log.specs.State.{LogState};
 ghost use Rattle.dr_program.specs.declared.outcome.LogWhy.{LogWhy};
 ghost use Rattle.dr_program.specs.declared.outcome.LogWhy.TheVariants as whys;
 ghost use Rattle.dr_program.specs.Form.{HasForm};
+ghost use Rattle.dr_program.specs.Replica.{Replica};
 ghost use Rattle.dr_program.specs.Running.{Running, after_step, broken_off, next_step};
 ghost use Rattle.dr_logged.specs.Served.{HasCome, HasServed, IsReady, IsRoomy};
 ghost use Rattle.dr_logged.specs.Appended.{HasAppended, HasBroken, IsAppendDue, IsOver, is_append};
@@ -25,10 +26,10 @@ pub fn logs_begin<D: Disk>()
         → HasServed D.told D.faults old new r × IsReady new r }
 {}
 
-/// A deed of the member other than an append leaves its log ready, and served.
+/// A deed of the member, which has not ended, other than an append leaves its log ready, and served.
 pub fn other_deeds_leave_logs<D: Disk>()
     ensures { (base log : LogState D) (word : ℕ) (r : Running) → is_append (next_step r) ≡ false
-        → HasForm r.replica → IsReady log r → HasServed D.told D.faults base log r
+        → r.replica.end ≡ None → HasForm r.replica → IsReady log r → HasServed D.told D.faults base log r
         → HasServed D.told D.faults base log (after_step word r) × IsReady log (after_step word r) }
 {}
 
@@ -50,9 +51,8 @@ pub fn appends_serve_logs<D: Disk>()
 /// What a mount finds on the disk of a log, once its member has ended, is what the member has logged. Where
 /// the last append has failed it may be the next entry of the history besides.
 pub fn logs_are_left<D: Disk>()
-    ensures { (base log : LogState D) (history es : List Entry) (vs votes : List Vote)
-        (banks logged : ℕ) (why : Option LogWhy) (told : Told)
-        → HasCome D.told D.faults base log banks history logged votes why
+    ensures { (base log : LogState D) (r : Replica) (es : List Entry) (vs : List Vote)
+        (why : Option LogWhy) (told : Told) → HasCome D.told D.faults base log r why
         → D.told log.disk ≡ Some told → ReadsAnImage told → StandsFor (content_of told) es vs
-        → IsLeftOf history logged es }
+        → IsLeftOf r.history r.logged es }
 {}

@@ -7,7 +7,7 @@ ghost use Rattle.dr_program_laws.specs.Trusting.{NoneLeft, SuspectsNobody};
 ghost use Rattle.dr_restart.specs.Groups.{group_of};
 ghost use Rattle.dr_restart.specs.Setups.{crashes_of};
 ghost use Rattle.dr_script.specs.Ranges.{HasRanges};
-ghost use Rattle.dr_age.specs.Logged.{AreOpened, HaveCome, HaveVoted, IsAmple, NoneFull};
+ghost use Rattle.dr_age.specs.Logged.{AreOpened, HaveCome, IsAmple, NoneFull};
 ghost use Rattle.dr_age.specs.Run.{IsRun};
 ghost use Rattle.dr_threads.specs.Logs.{AreLonger};
 
@@ -48,10 +48,9 @@ pub fn run_script_age<R: Threads + Sync, D: Disk, P: Pace + Sync>(
         script.now.turns (crashes_of script.now.faults nth) r.0.members) }
     ensures trusting { IfOk result (λ r. SuspectsNobody script.now → NoneLeft r.0.members) }
     ensures logs { MatchResult result
-        (λ r. HaveCome D.told D.faults logs.items r.1.items r.0.members)
+        (λ r. (is : IsRun script.now start.now nth r.0)
+        × HaveCome D.told D.faults logs.items r.1.items is.over.members)
         (λ r. AreLonger D.told D.faults logs.items r.0.items) }
-    ensures voted { IfOk result (λ r. (is : IsRun script.now start.now nth r.0)
-        × HaveVoted logs.items r.1.items is.over.members) }
     ensures ample { IfOk result (λ r. All (IsAmple (group_of script.now start.now)) logs.items
         → NoneFull r.0.members) }
     ensures count { IfOk result (λ r. length r.1.items ≡ length logs.items) }

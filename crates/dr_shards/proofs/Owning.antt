@@ -1,8 +1,9 @@
 -- What the members of a shard deliver is what the script gives them.
-use Rattle.std.proofs.Common.{◌≡◌, ℕ, List, [], length, get_or, Some, slice_get, ap, sym, subst, ◌∙◌, arith, refl, ◌∷◌, ◌++◌}
+use Rattle.std.proofs.Common.{◌≡◌, ℕ, List, [], length, map, get_or, Some, slice_get, ap, sym, subst, ◌∙◌, arith, refl, ◌∷◌, ◌++◌}
 use Rattle.std.specs.Prelude.{All, IfOk, Ok, Err, Option, Result}
 use Rattle.std.specs.Option.{option_map_or}
 use Rattle.std.specs.declared.alloc.AllocError.{AllocError}
+use Rattle.std.proofs.lemmas.List.{length-map}
 use Rattle.std.proofs.lemmas.Option.{slice_get-get_or}
 use Rattle.dr_age.proofs.Lasting.{none_stopped}
 use Rattle.dr_age.specs.Logged.{HaveCome, IsAmple, NoneFull, NoneStopped}
@@ -17,6 +18,7 @@ use Rattle.dr_history_laws.proofs.Standing.{history-stands}
 use Rattle.dr_log.specs.State.{LogState}
 use Rattle.dr_machine.proofs.Presence.{is_present}
 use Rattle.dr_machine.specs.Group.{IsGroup}
+use Rattle.dr_program.specs.Program.{Program, age_of, end_of}
 use Rattle.dr_program_laws.specs.Ended.{HaveEnded}
 use Rattle.dr_restart.specs.Groups.{first_group_of, first_start_of, group_of}
 use Rattle.dr_restart.specs.declared.start.Start.{Start}
@@ -85,41 +87,48 @@ module _ {D : Type 0} (told : D → Option Told) (faults : D → ℕ) (never : (
     (bases logs : List (LogState D)) (all : length bases ≡ length script.messages)
     (as_many : length logs ≡ length bases)
     (ample : All (IsAmple (group_of script start)) bases) where
-  well : (age : AgeEnd) → length age.members ≡ length bases
+  well : (age : AgeEnd) (over : Program) → age ≡ age_of (group_of script start).opening over
+      → length age.members ≡ length bases
       → EndsAgreed (group_of script start).opening age.members
       → HaveEnded (group_of script start).opening script.turns (crashes_of script.faults 0) age.members
-      → HaveCome told faults bases logs age.members
+      → HaveCome told faults bases logs over.members
       → (All (IsAmple (group_of script start)) bases → NoneFull age.members) → HasRunWell script age
-  well age members agreed ended come room = record {
+  well age over is members agreed ended come room = record {
     all = members ∙ all;
     roster = members ∙ all ∙ lists;
     agreed = subst (λ (s : Start). EndsAgreed (group_of script s).opening age.members) first agreed;
     ended = subst (λ (s : Start). HaveEnded (group_of script s).opening script.turns
         (crashes_of script.faults 0) age.members) first ended;
-    stored = none_stopped told faults never bases logs age.members as_many members come (room ample);
+    stored = subst NoneStopped (sym ends) (none_stopped told faults never bases logs over.members as_many
+        (sym (length-map over.members end_of) ∙ ap length (sym ends) ∙ members) come
+        (subst NoneFull ends (room ample)));
   }
+    where
+      ends : age.members ≡ map end_of over.members
+      ends = ap (λ (a : AgeEnd). a.members) is
 
   pub simulated_as : (r : Result AgeEnd AllocError) → IfOk r (λ age. IsSimulated script start 0 age)
       → IfOk r (λ (age : AgeEnd). length age.members ≡ length bases)
       → IfOk r (λ (age : AgeEnd). EndsAgreed (group_of script start).opening age.members)
       → IfOk r (λ (age : AgeEnd). HaveEnded (group_of script start).opening script.turns
       (crashes_of script.faults 0) age.members)
-      → IfOk r (λ (age : AgeEnd). HaveCome told faults bases logs age.members)
+      → IfOk r (λ (age : AgeEnd). (is : IsSimulated script start 0 age)
+      × HaveCome told faults bases logs is.over.members)
       → IfOk r (λ (age : AgeEnd). All (IsAmple (group_of script start)) bases → NoneFull age.members)
       → IfOk r (IsShardAge Sim script)
   simulated_as (Err why) run members agreed ended come room = tt
   simulated_as (Ok age) run members agreed ended come room =
       simulated script age is (subst (λ s. IsSimulated script s 0 age) first run)
-      (well age members agreed ended come room)
+      (well age come.0.over come.0.told members agreed ended come.1 room)
 
   pub threaded_as : (age : AgeEnd) → IsRun script start 0 age → length age.members ≡ length bases
       → EndsAgreed (group_of script start).opening age.members
       → HaveEnded (group_of script start).opening script.turns (crashes_of script.faults 0) age.members
-      → HaveCome told faults bases logs age.members
+      → (is : IsRun script start 0 age) × HaveCome told faults bases logs is.over.members
       → (All (IsAmple (group_of script start)) bases → NoneFull age.members) → IsShardAge Run script age
   threaded_as age run members agreed ended come room =
       threaded script age is (subst (λ s. IsRun script s 0 age) first run)
-      (well age members agreed ended come room)
+      (well age come.0.over come.0.told members agreed ended come.1 room)
 
 -- one more age of the shards
 pub ages_more : (mode : ShardMode) (scripts : List Script) (ages : List AgeEnd) (script : Script)

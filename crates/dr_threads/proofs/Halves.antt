@@ -104,10 +104,10 @@ module _ {D : Type 0} (told : D → Option Told) (faults : D → ℕ) where
         (omega (arith, slice_get_within logs k old from, m, as_many before members h.over.same)) in
         let come = h.served k old new x from there member in
         record {
-          entries = come.more;
-          votes = (x.replica.votes, come.voted);
-          moments = inr come.moments;
-          later = come.later;
+          entries = come.come.more;
+          votes = (x.replica.votes, come.come.voted);
+          moments = inr come.come.moments;
+          later = come.come.later;
         };
   }
 

@@ -13,7 +13,7 @@ use Rattle.dr_program.specs.declared.deed.Deed.{Deed}
 use Rattle.dr_program.specs.declared.deed.Deed.TheVariants as deeds
 use Rattle.dr_program.specs.Form.{IsRunningMember}
 use Rattle.dr_program.specs.Running.{Running, after_step, next_deed, next_step}
-use Rattle.dr_age.proofs.Deeds.{at_look, at_push}
+use Rattle.dr_age.proofs.Deeds.{at_look, at_push, deed_tells}
 use Rattle.dr_age.proofs.Sound.{appends_well}
 use Rattle.dr_turn.specs.Work.{deeds_left}
 use Rattle.dr_table.specs.Cards.{AreSame, HasFewerLeft, IsAtEnd}
@@ -40,6 +40,15 @@ swept_other r swept = by (next_deed r) refl swept
     by : (d : Deed) → next_deed r ≡ d → IsSwept d → is_append (next_step r) ≡ false
     by (deeds.Look index) next swept = at_look r index next
     by (deeds.Push index word) next swept = at_push r index word next
+    by d next swept = absurd swept
+
+-- and is for a member that has not ended
+swept_going : (r : Running) → IsSwept (next_deed r) → r.replica.end ≡ None
+swept_going r swept = by (next_deed r) refl swept
+  where
+    by : (d : Deed) → next_deed r ≡ d → IsSwept d → r.replica.end ≡ None
+    by (deeds.Look index) next swept = (deed_tells [] r (deeds.Look index) next).none
+    by (deeds.Push index word) next swept = (deed_tells [] r (deeds.Push index word) next).none
     by d next swept = absurd swept
 
 -- ---- going on
@@ -82,13 +91,13 @@ module _ {D : Type 0} (told : D → Option Told) (faults : D → ℕ) where
 
   -- by a step that is no append
   pub gone_step : (rs qs : List Running) (r : Running) (word : ℕ) (log : LogState D) → length rs ≡ 1
-      → slice_get rs 0 ≡ Some r → IsReachedMember r → is_append (next_step r) ≡ false
+      → slice_get rs 0 ≡ Some r → IsReachedMember r → r.replica.end ≡ None → is_append (next_step r) ≡ false
       → qs ≡ slice_set rs 0 (after_step word r) → HasGone told faults rs log qs log
-  gone_step rs qs r word log one there reached other to =
+  gone_step rs qs r word log one there reached none other to =
       gone_by rs qs r (after_step word r) log log one there to
       (same_number r (after_step word r) (after_told word r))
       (other_ready log word r other)
-      (λ base. other_served told faults base log word r other (reached_form r reached).replica.logged)
+      (λ base. other_served told faults base log word r other none (reached_form r reached).replica.logged)
 
   -- and goes on to have served it
   swept_served : (base log : LogState D) (words : List ℕ) (r q : Running) → HasTaken words r q
@@ -96,7 +105,7 @@ module _ {D : Type 0} (told : D → Option Told) (faults : D → ℕ) where
   swept_served base log [] r q same served = subst (HasServed told faults base log) same served
   swept_served base log (word ∷ words) r q (swept, (g, p, is, sees), rest) served =
       swept_served base log words (after_step word r) q rest
-      (other_served told faults base log word r (swept_other r swept)
+      (other_served told faults base log word r (swept_other r swept) (swept_going r swept)
       (reached_form r (g, p, is)).replica.logged served)
 
   -- by looks and pushes

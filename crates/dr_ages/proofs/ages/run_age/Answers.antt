@@ -95,7 +95,10 @@ returns-clause-stopped g c = elim c.match-mount_all.branch [
       let are_back = back g c logs (rw w.ended-is refl) in
       rw w.ended-is (refused_stop c.args.script.now (length logs) (before g c) (mid g c) (after g c)
       w.in-Err.stop (later_back told faults (mid g c) (after g c) logs c.mount_all.ensures.lent.counted are_back)
-      (λ m past. (are_back m).0 ∙ told_past told faults (mid g c) logs m past) w.in-Err.ensures.stopped)
+      (λ m past. (are_back m).0 ∙ told_past told faults (mid g c) logs m past)
+      (kept_back told faults c.args.script.now.members (before g c) (mid g c) (after g c) logs logs
+      c.mount_all.ensures.mounted (on_still told faults logs) refl c.mount_all.ensures.on are_back)
+      w.in-Err.ensures.stopped)
 ]
 
 pub returns-clause-passes : goal.returns-clause-passes

@@ -1,7 +1,7 @@
 use Rattle.std.proofs.Common.{◌∙◌, sym, ap, subst, length, List}
 use Rattle.std.specs.Prelude.{All}
 use Rattle.std.proofs.lemmas.List.{with_items_is}
-use Rattle.dr_age.specs.Logged.{AreOpened, HaveCome, HaveVoted, IsAmple}
+use Rattle.dr_age.specs.Logged.{AreOpened, HaveCome, IsAmple}
 use Rattle.dr_gather.specs.CatchingUp.{opened_with}
 use Rattle.dr_gather.specs.Gathering.{IsStartOf, entries_on}
 use Rattle.dr_log.specs.State.{LogState}
@@ -88,14 +88,12 @@ returns-in-Ok-ended-clause-age g c before mounted =
       caught = subst (λ (l : List (LogState g.row.D.Denot)). AreCaughtUp told faults
           (opened_with start start.members) l mids (length l)) value c.in-Ok.ensures.caught;
       run = run.0;
-      voted = subst (λ (l : List (LogState g.row.D.Denot)).
-          HaveVoted l news (over_of c.args.mode script start c.args.nth age run.0).members) same run.1;
+      come = subst (λ (l : List (LogState g.row.D.Denot)).
+          HaveCome told faults l news (over_of c.args.mode script start c.args.nth age run.0).members) same run.1;
       agreed = ok_at _ ended age is c.play_age-ended.ensures.agreed;
       ended = ok_at _ ended age is c.play_age-ended.ensures.ended;
       trusting = ok_at _ ended age is c.play_age-ended.ensures.trusting;
       complete = ok_at _ ended age is c.play_age-ended.ensures.complete;
-      come = subst (λ (l : List (LogState g.row.D.Denot)). HaveCome told faults l news age.members) same
-          (ok_at _ ended age is c.play_age-ended.ensures.come);
       ample = λ all. ok_at _ ended age is c.play_age-ended.ensures.ample
           (subst (λ (l : List (LogState g.row.D.Denot)). All (IsAmple (group_of script start)) l) (sym same) all);
       count = c.play_age-ended.ensures.count ∙ ap length same;

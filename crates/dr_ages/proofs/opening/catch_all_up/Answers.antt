@@ -8,11 +8,13 @@ use Rattle.dr_gather.proofs.Grouping.{start_valid, part_of_start}
 use Rattle.dr_history.specs.History.{IsPrefixOf}
 use Rattle.dr_log.specs.Standing.{entries_length}
 use Rattle.dr_log.specs.State.{LogState}
-use Rattle.dr_ages.specs.Opened.{AreCaughtUp, IsCaughtUp}
+use Rattle.dr_ages.specs.Opened.{AreCaughtUp, AreLater, IsCaughtUp}
 use Rattle.dr_ages.proofs.Caught.{all_at, caught_later, entries_at, later_set, one_more_caught, some_members, stayed_on, still_there}
 use Rattle.dr_ages.proofs.Fit.{fit_tell, stayed_on_way, way_fit, way_so_far}
 use Rattle.dr_ages.proofs.Stopping.{catch_behind, catch_names, catch_stops}
+use Rattle.dr_ages.proofs.opening.catch_all_up.Given.{Over}
 use Rattle.dr_ages.proofs.opening.catch_all_up.Goals as goal
+use Rattle.dr_ages.proofs.opening.catch_all_up.Goals.{After-of_catch}
 
 pub catch_up-requires-clause-valid : goal.catch_up-requires-clause-valid
 catch_up-requires-clause-valid g c κs h =
@@ -65,8 +67,10 @@ loop-m-preserved g c =
     (omega (arith, c.loop-m-test.true, c.loop-m.invariant.all))
     (subst (λ (k : ℕ). IsCaughtUp told faults (opened_with c.args.start.now k) old new) c.of-members.ensures caught)
 
-pub returns-in-Err-clause-later : goal.returns-in-Err-clause-later
-returns-in-Err-clause-later g c =
+-- the logs are later then
+later : (g : Over) (c : After-of_catch g)
+    → AreLater g.D.Disk.told g.D.Disk.faults c.args.logs.now (slice_set c.loop-m.logs c.loop-m.m c.catch_up.new.log)
+later g c =
     let old : LogState g.row.D.Denot = get_or c.loop-m.logs c.loop-m.m c.index-logs-m.result in
     later_set g.D.Disk.told g.D.Disk.faults c.args.logs.now c.loop-m.logs c.loop-m.m c.index-logs-m.result
     c.catch_up.new.log
@@ -75,6 +79,9 @@ returns-in-Err-clause-later g c =
     (omega (arith, c.loop-m-test.true, c.loop-m.invariant.all))
     (stayed_on g.D.Disk.told g.D.Disk.faults (opened_with c.args.start.now c.of-members.result) old
     c.catch_up.new.log c.in-Err.ensures.stayed)
+
+pub returns-in-Err-clause-later : goal.returns-in-Err-clause-later
+returns-in-Err-clause-later g c = later g c
 
 pub returns-in-Err-clause-stopped : goal.returns-in-Err-clause-stopped
 returns-in-Err-clause-stopped g c before mounted =
@@ -96,6 +103,7 @@ returns-in-Err-clause-stopped g c before mounted =
       within = omega (arith, c.loop-m-test.true, c.loop-m.invariant.all);
       so_far = c.loop-m.invariant;
     })
+    (later g c)
     (subst (λ (k : ℕ). HasStayed told faults (opened_with c.args.start.now k) old new) same c.in-Err.ensures.stayed)
     c.in-Err.ensures.left_alone c.in-Err.ensures.cause
     (subst (λ (k : ℕ). FitsOrIsFull old.limit old.length

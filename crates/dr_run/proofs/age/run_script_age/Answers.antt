@@ -12,7 +12,7 @@ use Rattle.dr_program_laws.proofs.Trusting.{none_by_script}
 use Rattle.dr_program_laws.proofs.Worlds.{ends_agreed}
 use Rattle.dr_restart.specs.Groups.{group_of}
 use Rattle.dr_restart.specs.Setups.{crashes_of}
-use Rattle.dr_age.specs.Logged.{HaveCome, NoneFull}
+use Rattle.dr_age.specs.Logged.{NoneFull}
 use Rattle.dr_age.proofs.Ends.{have_come, none_full}
 use Rattle.dr_table.specs.Cards.{IsAtEnd, opened}
 use Rattle.dr_threads.specs.Logs.{AreFor}
@@ -95,17 +95,8 @@ returns-clause-trusting g c = λ nobody.
     c.requires.group c.requires.ranges.group.lists c.requires.ranges.some_turn nobody is.begins is.ran)
 
 pub returns-clause-logs : goal.returns-clause-logs
-returns-clause-logs g c =
-    subst (λ (es : List MemberEnd). HaveCome g.D.Disk.told g.D.Disk.faults c.args.logs.items
-    c.in_ok-hand.logs.items es) (sym (c.of.ensures ∙ c.ends_of.ensures))
-    (have_come _ _ _ _ _ (closed g c) (over g c).over)
-
-pub returns-clause-voted : goal.returns-clause-voted
 unfolding returns-clause-run
-returns-clause-voted g c = (
-  returns-clause-run g c,
-  λ m base log r from there at. ((over g c).over.served m base log r from there at).voted,
-)
+returns-clause-logs g c = (returns-clause-run g c, have_come _ _ _ _ _ (closed g c) (over g c).over)
 
 pub returns-clause-ample : goal.returns-clause-ample
 returns-clause-ample g c = λ ample.

@@ -29,7 +29,7 @@ pub returns-in-Act-clause-gone : goal.returns-in-Act-clause-gone
 returns-in-Act-clause-gone g c =
     let r = c.member.result.now in
     gone_step _ _ c.args.hand.now.members c.act.new.self.members r 0 c.args.log.now c.requires.one
-    c.member.ensures.there c.member.ensures.reached (at_act r _ _ (sym c.in-Act.ensures.deed))
+    c.member.ensures.there c.member.ensures.reached (c.requires.going r c.member.ensures.there) (at_act r _ _ (sym c.in-Act.ensures.deed))
     (c.act.ensures.members r c.member.ensures.there)
 
 pub returns-in-Act-clause-falls : goal.returns-in-Act-clause-falls
