@@ -90,19 +90,19 @@ status_by held holds fell falls status due text (inr (inl whole)) = inr whole.0
 status_by held holds fell falls status due text (inr (inr part)) = inl (inr part.0)
 
 -- what is written of an outcome with this last line
-abbrev Writes : Option (List ℕ) → Option (List ℕ) → ℕ → ℕ → ℕ → Outcome → Option Last → Type 0
+abbrev pub Writes : Option (List ℕ) → Option (List ℕ) → ℕ → ℕ → ℕ → Outcome → Option Last → Type 0
 Writes held holds fell falls status o last =
     MatchOption last ((status ≡ 10) × Gains held holds [])
     (λ line. IsWritten held holds fell falls status (status_of line) (outcome_text o line))
 
-said : (held holds : Option (List ℕ)) (fell falls status : ℕ) (o : Outcome) (line : Last)
+pub said : (held holds : Option (List ℕ)) (fell falls status : ℕ) (o : Outcome) (line : Last)
     → WroteOrNot held holds fell falls status o → o.last ≡ Some line
     → IsEarly status ⊎ (status ≡ status_of line)
 said held holds fell falls status o line wrote is =
     status_by held holds fell falls status (status_of line) (outcome_text o line)
     (subst (Writes held holds fell falls status o) is wrote)
 
-unsaid : (held holds : Option (List ℕ)) (fell falls status : ℕ) (o : Outcome)
+pub unsaid : (held holds : Option (List ℕ)) (fell falls status : ℕ) (o : Outcome)
     → WroteOrNot held holds fell falls status o → o.last ≡ None → IsEarly status
 unsaid held holds fell falls status o wrote is =
     inl (subst (Writes held holds fell falls status o) is wrote).0

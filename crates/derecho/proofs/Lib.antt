@@ -1,3 +1,4 @@
 pub mod Fronts
 pub mod Verbs
 pub mod Course
+pub mod Judged

@@ -1,13 +1,16 @@
 -- What comes of a call: what each command does, the last line, and the status.
 use Rattle.std.specs.Prelude.{◌≡◌, ◌⊎◌, ℕ, List, [], Option, Contains, MatchOption, String}
 use Rattle.std.specs.declared.alloc.Global.{Global}
-use Rattle.dr_checked.specs.Checked.{Checks}
+use Rattle.dr_checked.specs.Checked.{Checks, DisksTell, IsJudgedRight}
 use Rattle.dr_drilled.specs.Drilled.{Drills}
 use Rattle.dr_intake.specs.Answer.{IsAnswer}
+use Rattle.dr_intake.specs.Reading.{WasRead}
 use Rattle.dr_intake.specs.Status.{WroteText, status_of}
 use Rattle.dr_io.specs.Sink.{Gains}
 use Rattle.dr_outcome.specs.Outcome.{HasDone, Plays, SaysOnly, outcome_text}
 use Rattle.dr_outcome.specs.declared.outcome.Outcome.{Outcome}
+use Rattle.dr_script.specs.declared.script.Script.{Script}
+use Rattle.dr_script.specs.Reading.{Reads, reading_of}
 use Rattle.dr_sharded.specs.Sharded.{RunsShards}
 use Rattle.dr_stored.specs.Stored.{Stores}
 use Rattle.dr_yard.specs.Yards.{YardState}
@@ -49,3 +52,14 @@ WroteOrNot old new failed fails status o =
 pub record Exactly (status due : ℕ) (earlier : List ℕ) (P : Type 0) : Type 0 where
   pub only : status ≡ due → P
   pub unless : P → (status ≡ due) ⊎ Contains earlier status
+
+-- What was written for a script that was read is judged right as a report of that script, where the disks of
+-- its members tell.
+pub record WasJudgedRight (folder : Option (List ℕ)) (old new held holds : Option (List ℕ)) (before : YardState)
+    : Type 0 where
+  pub bytes : List ℕ
+  pub read : WasRead old new bytes
+  pub text : List ℕ
+  pub written : Gains held holds text
+  pub right : ((script : Script) → reading_of bytes ≡ Reads script → DisksTell folder script.members before)
+      → IsJudgedRight bytes text

@@ -1,6 +1,6 @@
-ghost use Rattle.std.specs.Prelude.{◌≡◌, ◌<◌, ◌⊎◌, ◌++◌, ℕ, [], ◌∷◌, Contains, IfOk, IsTrue, false, is_some, string_bytes};
+ghost use Rattle.std.specs.Prelude.{◌≡◌, ◌<◌, ◌⊎◌, ◌++◌, ℕ, [], ◌∷◌, Contains, IfOk, IsTrue, Some, false, is_some, string_bytes};
 ghost use Rattle.dr_entry.specs.declared.limits.TheConstants.{MAX_MEMBERS};
-ghost use Rattle.dr_intake.specs.Status.{status_of};
+ghost use Rattle.dr_intake.specs.Status.{WroteText, status_of};
 ghost use Rattle.dr_io.specs.Faults.{Rose};
 ghost use Rattle.dr_io.specs.Sink.{Gains};
 ghost use Rattle.dr_text.specs.Report.{last_text, report_text};
@@ -8,7 +8,9 @@ ghost use Rattle.dr_yard.specs.Yards.{state_by};
 ghost use Rattle.dr_outcome.specs.declared.last.Kind.TheVariants.{DiskFault, LogFull, NoMajority, Spent};
 ghost use Rattle.dr_outcome.specs.declared.outcome.Outcome.{Outcome as OutcomeOf};
 ghost use Rattle.dr_outcome.specs.Last.{refusal_of, some_end, some_so};
-ghost use Rattle.derecho.specs.Outcome.{Course, Exactly, IsWritten, WroteOrNot};
+ghost use Rattle.dr_outcome.specs.Playing.{Playing};
+ghost use Rattle.derecho.specs.Outcome.{Course, Exactly, IsWritten, WasJudgedRight, WroteOrNot};
+ghost use Rattle.derecho.specs.declared.words.Command.TheVariants.{Play as PlayOf};
 ghost use Rattle.derecho.specs.Words.{IsCommand, asked_by, statuses_of};
 
 use crate::outcome::outcome_of;
@@ -18,9 +20,9 @@ use dr_intake::{Answer, OUT_OF_MEMORY, WRITE_FAULT, status_of};
 use dr_io::{Sink, Source};
 use dr_outcome::{Body, Outcome};
 use dr_pace::Pace;
-use dr_text::{Last, Report, push_last};
+use dr_text::{Last, LongText, Report};
 use dr_yard::Yard;
-use std::alloc::{AllocError, Global};
+use std::alloc::Global;
 use std::thread::Threads;
 
 /// How a call ended: its status, the ages that ran to their end, and what ended the run in the age behind
@@ -64,6 +66,11 @@ pub fn derecho<R: Threads + Sync, S: Source, K: Sink, Y: Yard, P: Pace + Sync>(
         × WroteOrNot (K.held sink.old) (K.held sink.new)
         (K.faults sink.old) (K.faults sink.new) result.status o
         × (result.ages ≡ o.ages) × (result.stop ≡ o.stop) }
+    // What `sim` and `run` print with status 0, 8 or 9 over disks that tell `check` finds right.
+    ensures judged { (play : Playing) → asked_by words.now ≡ Some (PlayOf play)
+        → Contains (0 ∷ 8 ∷ 9 ∷ []) result.status
+        → WasJudgedRight play.folder (S.left source.old) (S.left source.new)
+        (K.held sink.old) (K.held sink.new) (state_by Y.told Y.faults yard.old) }
     ensures given_up { result.status ≡ 10 → Gains (K.held sink.old) (K.held sink.new) [] }
 
     // Where each status comes: 2 for words, 3 for what was read, 4 for a read, 5 for a write, 6 for a disk,
@@ -112,7 +119,7 @@ fn tell<K: Sink>(alloc: Global, outcome: &Outcome, sink: &mut K) -> u8
     };
     match &outcome.body {
         Body::Report => tell_report(alloc, outcome.ages.as_slice(), last, sink),
-        Body::Text(text) => tell_text(alloc, text.as_str(), last, sink),
+        Body::Text(text) => tell_text(alloc, text, last, sink),
     }
 }
 
@@ -132,23 +139,25 @@ fn tell_report<K: Sink>(alloc: Global, ages: &[AgeEnd], last: &Last, sink: &mut 
 }
 
 /// Writes a text, with the last line behind it.
-fn tell_text<K: Sink>(alloc: Global, text: &str, last: &Last, sink: &mut K) -> u8
+fn tell_text<K: Sink>(alloc: Global, text: &LongText, last: &Last, sink: &mut K) -> u8
     ensures wrote { IsWritten (K.held sink.old) (K.held sink.new) (K.faults sink.old) (K.faults sink.new)
         result (status_of last.now) (text.now ++ last_text last.now) }
     ensures told { (K.faults sink.new ≡ K.faults sink.old) ⊎ (result ≡ 5) }
 {
-    let Ok(text) = with_last(alloc, text, last) else {
+    let Ok(line) = Answer::of_line(alloc, last) else {
         return OUT_OF_MEMORY;
     };
-    let status = status_of(last);
-    Answer { text, status }.write(sink)
+    write_both(text, &line, sink)
 }
 
-/// A text with the last line behind it.
-fn with_last(alloc: Global, text: &str, last: &Last) -> Result<String, AllocError>
-    ensures { IfOk result (λ whole. string_bytes whole ≡ text.now ++ last_text last.now) }
+/// Writes a text, and an answer behind it.
+fn write_both<K: Sink>(text: &LongText, answer: &Answer, sink: &mut K) -> u8
+    ensures wrote { WroteText (K.held sink.old) (K.held sink.new) (K.faults sink.old) (K.faults sink.new)
+        result answer.now.status (text.now ++ string_bytes answer.now.text) }
+    ensures told { (K.faults sink.new ≡ K.faults sink.old) ⊎ (result ≡ 5) }
 {
-    let mut whole = String::from_str(alloc, text)?;
-    push_last(&mut whole, last)?;
-    Ok(whole)
+    match text.write_with(answer.text.as_str(), sink) {
+        Ok(()) => answer.status,
+        Err(_) => WRITE_FAULT,
+    }
 }

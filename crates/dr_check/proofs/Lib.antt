@@ -7,6 +7,7 @@ pub mod Zips
 pub mod LastViews
 pub mod Agreed
 pub mod Fitting
+pub mod Flawless
 pub mod Passes
 pub mod Accepting
 pub mod Closing

@@ -1,5 +1,6 @@
 -- The fields of each line.
-use Rattle.std.proofs.Common.{◌≡◌, ◌≢◌, ◌⊎◌, inl, inr, refl, sym, ap, ◌∙◌, subst, ℕ, suc, ◌+◌, ◌<◌, ◌^◌, arith, List, [], ◌∷◌, ◌++◌, codes, length, get_or}
+use Rattle.std.proofs.Common.{◌≡◌, ◌≢◌, ◌⊎◌, inl, inr, refl, sym, ap, ◌∙◌, subst, ℕ, suc, ◌+◌, ◌<◌, ◌^◌, arith, List, [], ◌∷◌, ◌++◌, codes, length, get_or, Bool, true, false}
+use Rattle.std.specs.Bool.{then_some}
 use Rattle.std.specs.Prelude.{Option, None, Some, IfSome}
 use Rattle.std.specs.Fmt.{decimal}
 use Rattle.dr_entry.specs.declared.end.End.{End}
@@ -187,6 +188,12 @@ pub chosen_some : (l : Line) (text bytes : List ℕ) (r : Option Line) → IsLin
 chosen_some l text bytes None is found = found
 chosen_some l text bytes (Some m) is found =
     subst (IsLineText m) found.1 (subst (λ (k : Line). IsLineText k text) (sym found.0) is)
+
+-- what holds of a value that is there where a test passes
+pub some_where : {A : Type 0} (P : A → Type 0) (b : Bool) (x : A) (r : Option A) → r ≡ then_some b x
+    → (b ≡ true → P x) → IfSome r P
+some_where P true x r is holds = subst (λ o. IfSome o P) (sym is) (holds refl)
+some_where P false x r is holds = subst (λ o. IfSome o P) (sym is) tt
 
 -- a field of bytes that are a text
 pub field_of : (bytes text : List ℕ) (fs : List (List ℕ)) (k : ℕ) → bytes ≡ text → fields text ≡ fs

@@ -74,11 +74,8 @@ fn with_start(
         return Ok(member);
     }
     Ok(ReportMember {
-        line: member.line,
-        present: true,
         history: joined(alloc, start, member.history)?,
-        logged: member.logged,
-        durable: member.durable,
+        ..member
     })
 }
 

@@ -26,20 +26,10 @@ impl EndKind {
     {
         match word.len() {
             4 => EndKind::Done,
-            7 => {
-                if word[0] == b'c' {
-                    EndKind::Crashed
-                } else {
-                    EndKind::LogFull
-                }
-            }
-            9 => {
-                if word[0] == b's' {
-                    EndKind::Suspected
-                } else {
-                    EndKind::DiskFault
-                }
-            }
+            7 if word[0] == b'c' => EndKind::Crashed,
+            7 => EndKind::LogFull,
+            9 if word[0] == b's' => EndKind::Suspected,
+            9 => EndKind::DiskFault,
             8 => EndKind::Excluded,
             10 => EndKind::NoMajority,
             _ => EndKind::Spent,

@@ -72,10 +72,7 @@ pub(crate) fn field(bytes: &[u8], k: usize) -> &[u8]
 fn text_in(word: &[u8]) -> &str
     ensures { IsUtf8 word.now → result.now ≡ word.now }
 {
-    match std::str::from_utf8(word) {
-        Ok(text) => text,
-        Err(_) => "",
-    }
+    std::str::from_utf8(word).unwrap_or("")
 }
 
 /// The number below 2 ^ 8 that a field is.

@@ -1,16 +1,18 @@
 //! Laws of reports.
-ghost use Rattle.std.specs.Prelude.{◌≡◌, ◌≤◌, ◌<◌, suc, All, List, Some, slice_get, ℕ};
+ghost use Rattle.std.specs.Prelude.{◌≡◌, ◌≤◌, suc, All, List, Some, slice_get, ℕ};
 ghost use Rattle.dr_entry.specs.declared.end.AgeEnd.{AgeEnd as AgeEndOf};
 ghost use Rattle.dr_text.specs.Report.{report_text};
 ghost use Rattle.dr_text.specs.declared.last.Last.{Last as LastOf};
+ghost use Rattle.dr_check.specs.declared.flaw.Flaw.{Flaw as FlawOf};
 ghost use Rattle.dr_check.specs.declared.report.Report.{Report as ReportOf};
 ghost use Rattle.dr_check.specs.declared.report.ReportAge.{ReportAge as AgeOf};
 ghost use Rattle.dr_check.specs.Agreeing.{AreAgreed, IsKeptBy};
-ghost use Rattle.dr_check.specs.Flaws.{IsRight};
+ghost use Rattle.dr_check.specs.Flaws.{IsFirstFlaw, IsRight};
 ghost use Rattle.dr_check.specs.Grammar.{IsNoReportAt, IsReport, IsWholeAge};
 ghost use Rattle.dr_check.specs.Lines.{LastFits};
 ghost use Rattle.dr_check.specs.Values.{HasSmallNumbers, HasValues, IsAgreed, IsTellableAge, KeepEachOther};
 ghost use Rattle.dr_script.specs.Ranges.{HasGroupRanges};
+ghost use Rattle.dr_script.specs.declared.script.Script.{Script as ScriptOf};
 
 use crate::report::Report;
 use dr_entry::AgeEnd;
@@ -34,6 +36,12 @@ pub fn right_reports_agree(_script: &Script, _report: &Report)
     ensures agreed { All (AreAgreed _script.now) _report.now.ages }
     ensures kept { (i : ℕ) (a next : AgeOf) → slice_get _report.now.ages i ≡ Some a
         → slice_get _report.now.ages (suc i) ≡ Some next → IsKeptBy a next }
+{}
+
+/// A report that keeps every clause has no flaw. So `judge` finds none in it.
+pub fn right_reports_are_flawless()
+    ensures { (script : ScriptOf) (r : ReportOf) (flaw : FlawOf) → IsRight script r
+        → IsFirstFlaw script r flaw → ⊥ }
 {}
 
 /// A text that is a report is none at no line. So `parse` refuses no report, unless memory is wanting.

@@ -29,7 +29,7 @@ pub use flaw::Flaw;
 pub use judging::judge;
 pub use laws::{
     printed_ages_are_reports, printed_ages_are_right, report_passes, reports_are_read,
-    right_reports_agree, texts_are_one_report,
+    right_reports_agree, right_reports_are_flawless, texts_are_one_report,
 };
 pub use reading::{ParseFault, parse};
 pub use report::{Report, ReportAge, ReportMember};

@@ -1,5 +1,5 @@
 //! Reads a line of a report's text: the fields are read, the line is printed anew, and compared.
-ghost use Rattle.std.specs.Prelude.{◌≡◌, ◌↔◌, ◌+◌, ◌<◌, ◌≤◌, length, codes, slice_index, ◌^◌, ◌++◌, ℕ, IsTrue, IfOk, IfSome, IfNone, OnOk, Some, List, string_bytes};
+ghost use Rattle.std.specs.Prelude.{◌≡◌, ◌↔◌, ◌+◌, ◌<◌, ◌≤◌, length, codes, slice_index, ◌^◌, ◌++◌, ℕ, IsTrue, IfOk, IfSome, OnOk, Some, List, string_bytes};
 ghost use Rattle.dr_entry.specs.declared.entry.Entry.TheVariants.{View, Msg};
 ghost use Rattle.dr_entry.specs.declared.end.End.{End as EndOf};
 ghost use Rattle.dr_text.specs.Report.{entry_text, last_text};
@@ -23,11 +23,7 @@ fn chosen(text: &str, bytes: &[u8], line: Line) -> Option<Line>
     ensures some { IfSome result (λ l. (l ≡ line) × (text.now ≡ bytes.now)) }
     ensures yes { text.now ≡ bytes.now → result ≡ Some line }
 {
-    if text.as_bytes() == bytes {
-        Some(line)
-    } else {
-        None
-    }
+    (text.as_bytes() == bytes).then_some(line)
 }
 
 /// The text of the line of an age.
@@ -124,16 +120,13 @@ fn read_present(alloc: Global, bytes: &[u8]) -> Result<Option<Line>, AllocError>
     let logged = u64_in(field(bytes, behind + 3));
     let durable = u64_in(field(bytes, behind + 5));
     let text = present_text_of(alloc, member, end, history, logged, durable)?;
-    Ok(chosen(
-        text.as_str(),
-        bytes,
-        Line::Present {
-            member,
-            history,
-            logged,
-            durable,
-        },
-    ))
+    let line = Line::Present {
+        member,
+        history,
+        logged,
+        durable,
+    };
+    Ok(chosen(text.as_str(), bytes, line))
 }
 
 /// The text of the line of an entry.
@@ -167,15 +160,12 @@ fn read_view(alloc: Global, bytes: &[u8]) -> Result<Option<Line>, AllocError>
     if members == 0 {
         return Ok(None);
     }
-    entry_if_spelled(
-        alloc,
-        bytes,
-        Entry::View {
-            age,
-            number,
-            members,
-        },
-    )
+    let view = Entry::View {
+        age,
+        number,
+        members,
+    };
+    entry_if_spelled(alloc, bytes, view)
 }
 
 /// The line of a message.
@@ -191,15 +181,12 @@ fn read_message(alloc: Global, bytes: &[u8]) -> Result<Option<Line>, AllocError>
     if sender >= 16 {
         return Ok(None);
     }
-    entry_if_spelled(
-        alloc,
-        bytes,
-        Entry::Msg {
-            sender,
-            index,
-            bytes: body,
-        },
-    )
+    let message = Entry::Msg {
+        sender,
+        index,
+        bytes: body,
+    };
+    entry_if_spelled(alloc, bytes, message)
 }
 
 /// Whether bytes are this last line.
@@ -215,11 +202,7 @@ fn is_text(alloc: Global, bytes: &[u8], last: &Last) -> Result<bool, AllocError>
 fn is_text_of(alloc: Global, bytes: &[u8], member: u8, last: &Last) -> Result<bool, AllocError>
     ensures { IfOk result (λ yes. IsTrue yes ↔ ((member < 16) × (last_text last.now ≡ bytes.now))) }
 {
-    if member < 16 {
-        is_text(alloc, bytes, last)
-    } else {
-        Ok(false)
-    }
+    Ok(member < 16 && is_text(alloc, bytes, last)?)
 }
 
 /// Whether bytes tell of a fault of a disk.
@@ -356,10 +339,7 @@ fn is_last(alloc: Global, bytes: &[u8]) -> Result<bool, AllocError>
 fn byte_at(bytes: &[u8], k: usize) -> u8
     ensures { result ≡ slice_index bytes.now k }
 {
-    match bytes.get(k) {
-        Some(byte) => *byte,
-        None => 0,
-    }
+    bytes.get(k).copied().unwrap_or(0)
 }
 
 /// Whether a word is the one of an absent member.
@@ -400,11 +380,7 @@ fn read_last(alloc: Global, bytes: &[u8]) -> Result<Option<Line>, AllocError>
     ensures some { IfOk result (λ line. IfSome line (λ l. IsLineText l bytes.now)) }
     ensures only { IsLineText LastLine bytes.now → IfOk result (λ line. line ≡ Some LastLine) }
 {
-    let last = is_last(alloc, bytes)?;
-    if last {
-        return Ok(Some(Line::Last));
-    }
-    Ok(None)
+    Ok(is_last(alloc, bytes)?.then_some(Line::Last))
 }
 
 /// The line that bytes are, if they are one.

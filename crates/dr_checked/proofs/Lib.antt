@@ -1,3 +1,5 @@
 pub mod Spelling
 mod Statuses
 mod Coming
+pub mod Runs
+pub mod Judged

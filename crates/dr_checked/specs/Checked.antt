@@ -1,5 +1,5 @@
 -- What is handed in for a check, and what is said of it.
-use Rattle.std.specs.Prelude.{◌≡◌, ℕ, ◌<◌, ◌≤◌, ◌==◌, Bool, false, if◌then◌else◌, List, [], ◌∷◌, length, codes, Option, Some, None, option_map}
+use Rattle.std.specs.Prelude.{◌≡◌, ⊤, ℕ, ◌<◌, ◌≤◌, ◌==◌, Bool, false, if◌then◌else◌, List, [], ◌∷◌, length, codes, Option, Some, None, option_map}
 use Rattle.std.specs.Option.{option_map_or}
 use Rattle.serde_json.specs.Data.{Data}
 use Rattle.serde_json.specs.Find.{as_object, as_str, get}
@@ -14,7 +14,7 @@ use Rattle.dr_text.specs.declared.last.Last.{Last}
 use Rattle.dr_text.specs.declared.last.Last.TheVariants as lasts
 use Rattle.dr_outcome.specs.declared.outcome.Outcome.{Outcome}
 use Rattle.dr_outcome.specs.Outcome.{SaysOnly}
-use Rattle.dr_yard.specs.Yards.{YardState}
+use Rattle.dr_yard.specs.Yards.{AllTell, YardState}
 
 -- the value is an object with two keys
 abbrev pub has_two_keys : Data → Bool
@@ -47,6 +47,12 @@ abbrev pub SaysOfScript : Reading → List ℕ → Last → Type 0
 SaysOfScript (Reads script) text last = IsVerdict script text last
 SaysOfScript refused text last = refusal_in refused ≡ Some last
 
+-- The text is judged right, as one of a report of the script that these bytes are: that it is right is said of
+-- it, and nothing else.
+pub record IsJudgedRight (script text : List ℕ) : Type 0 where
+  pub right : SaysOfScript (reading_of script) text lasts.Right
+  pub only : (last : Last) → SaysOfScript (reading_of script) text last → last ≡ lasts.Right
+
 -- that on what is handed in
 abbrev pub SaysOfStrings : Option (List ℕ × List ℕ) → Last → Type 0
 SaysOfStrings None last = last ≡ lasts.NotCheck
@@ -61,6 +67,19 @@ SaysOfValue (Some d) last = SaysOfStrings (handed_in d) last
 pub record IsChecked (bytes : List ℕ) (last : Last) : Type 0 where
   pub long : 1048576 < length bytes → last ≡ lasts.TooLong
   pub read : length bytes ≤ 1048576 → SaysOfValue (json_of bytes) last
+
+-- bytes hand in these texts of a script and of a report: no more bytes than a script may have, which spell a
+-- value that has the two
+pub record HandsIn (bytes script text : List ℕ) : Type 0 where
+  pub few : length bytes ≤ 1048576
+  pub value : Data
+  pub spelled : json_of bytes ≡ Some value
+  pub texts : handed_in value ≡ Some (script, text)
+
+-- the disks of a script's members tell, those in a folder; in memory they do
+abbrev pub DisksTell : Option (List ℕ) → ℕ → YardState → Type 0
+DisksTell (Some folder) members yard = AllTell members yard
+DisksTell None members yard = ⊤
 
 -- the statuses of its last lines
 abbrev pub check_ends : List ℕ

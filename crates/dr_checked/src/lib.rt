@@ -3,7 +3,9 @@
 
 mod checking;
 mod handing;
+mod laws;
 mod verdict;
 
 pub use checking::check_report;
+pub use laws::{checks_tell_what_is_right, played_scripts_are_judged_right, runs_are_right};
 pub use verdict::checked_line;

@@ -1,11 +1,13 @@
 -- The clauses say in each case what the course of the call and what was written of it say.
 use Rattle.std.proofs.Common.{List, ℕ, String, inl, inr, refl}
 use Rattle.std.specs.declared.alloc.Global.{Global}
+use Rattle.dr_checked.proofs.Runs.{run_end}
 use Rattle.dr_text.specs.declared.last.Last.TheVariants.{SourceFault}
 use Rattle.dr_yard.specs.Yards.{state_by}
 use Rattle.dr_outcome.specs.declared.outcome.Outcome.{Outcome}
 use Rattle.derecho.specs.Outcome.{WroteOrNot}
 use Rattle.derecho.proofs.Course.{Call, IsCourse, Standing, disk_fault_of, disk_told_of, fault_told, log_full_of, logs_refused_of, no_majority_of, read_fault_of, standing_of, status_known, unfinished_of, usage_of}
+use Rattle.derecho.proofs.Judged.{judged_so}
 use Rattle.derecho.proofs.top.derecho.Given as given
 use Rattle.derecho.proofs.top.derecho.Goals as goal
 
@@ -39,6 +41,14 @@ returns-clause-course g c = (
   refl,
   refl,
 )
+
+pub returns-clause-judged : goal.returns-clause-judged
+returns-clause-judged g c = λ play asked end.
+    judged_so (call g c.args.words.now c.args.source.now c.outcome_of-outcome.new.source c.args.yard.now
+    c.outcome_of-outcome.new.yard c.outcome_of-outcome.result) (g.K.Sink.held c.args.sink.now)
+    (g.K.Sink.held c.tell-status.new.sink) (g.K.Sink.faults c.args.sink.now)
+    (g.K.Sink.faults c.tell-status.new.sink) c.tell-status.result play c.outcome_of-outcome.ensures.course
+    c.tell-status.ensures.wrote asked (run_end c.tell-status.result end)
 
 pub returns-clause-statuses : goal.returns-clause-statuses
 returns-clause-statuses g c =

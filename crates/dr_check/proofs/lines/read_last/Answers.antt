@@ -1,11 +1,18 @@
-use Rattle.std.proofs.lemmas.Bool.Decides.{not_from_Decides}
+use Rattle.std.proofs.Common.{◌≡◌, ap, ◌∙◌}
+use Rattle.std.specs.Bool.{then_some}
+use Rattle.dr_check.specs.declared.line.Line.{Line}
+use Rattle.dr_check.specs.declared.line.Line.TheVariants.{Last}
+use Rattle.dr_check.specs.Lines.{IsLineText}
 use Rattle.dr_check.proofs.LastFields.{last_of, of_last}
+use Rattle.dr_check.proofs.LineFields.{some_where}
 use Rattle.dr_check.proofs.lines.read_last.Goals as goal
 
-pub returns-then-last-clause-some : goal.returns-then-last-clause-some
-returns-then-last-clause-some c = last_of c.args.bytes.now (c.in_ok-last.ensures.0 c.if-last.true)
+pub returns-clause-some : goal.returns-clause-some
+returns-clause-some c =
+    some_where (λ (l : Line). IsLineText l c.args.bytes.now) _ Last c.then_some.result c.then_some.ensures
+    (λ t. last_of c.args.bytes.now (c.in_ok-is_last.ensures.0 t))
 
 pub returns-clause-only : goal.returns-clause-only
 returns-clause-only c is =
-    absurd (not_from_Decides c.in_ok-last.last c.in_ok-last.ensures c.if-last.false
-    (of_last c.args.bytes.now is.0 is.1 is.2))
+    c.then_some.ensures
+    ∙ ap (λ b. then_some b Last) (c.in_ok-is_last.ensures.1 (of_last c.args.bytes.now is.0 is.1 is.2))

@@ -1,0 +1,226 @@
+-- The report of a run whose last line has status 0, 8 or 9 is right.
+use Rattle.std.proofs.Common.{◌≡◌, ◌≢◌, ◌⊎◌, refl, sym, ap, ◌∙◌, subst, inl, inr, ℕ, zero, suc, ◌+◌, ◌^◌, ◌<◌, ◌≤◌, true, false, true≢false, pow_mono, arith, List, [], ◌∷◌, All, Contains, Option, None, Some, is_some, length, slice_get}
+use Rattle.std.specs.List.{list_any}
+use Rattle.std.proofs.lemmas.Bool.{cases_Bool, or_parts}
+use Rattle.std.proofs.lemmas.List.Elements.{All-cons, All-nil}
+use Rattle.std.proofs.lemmas.List.Folds.{list_any_at}
+use Rattle.std.proofs.lemmas.Option.{get_or_from_slice_get, slice_get_within}
+use Rattle.dr_ages.specs.Ages.{AreAges, IsAgeOf, start_of}
+use Rattle.dr_ages.specs.Runs.{AreKept, IsRunOf}
+use Rattle.dr_ages.specs.declared.mode.Mode.{Mode}
+use Rattle.dr_ages.specs.declared.stop.Stop.{Stop}
+use Rattle.dr_check.proofs.Agreed.{stand}
+use Rattle.dr_check.proofs.Flawless.{printed_right}
+use Rattle.dr_check.proofs.LastViews.{last_view_at}
+use Rattle.dr_check.proofs.Places.{all_at, all_from_places}
+use Rattle.dr_check.specs.Lines.{EndFits, LastFits}
+use Rattle.dr_check.specs.Values.{HasSmallNumbers, IsAgreed, KeepEachOther, whole_opening}
+use Rattle.dr_entry.specs.declared.end.AgeEnd.{AgeEnd}
+use Rattle.dr_entry.specs.declared.end.End.{End}
+use Rattle.dr_entry.specs.declared.end.End.TheVariants as ends
+use Rattle.dr_entry.specs.declared.end.MemberEnd.{MemberEnd}
+use Rattle.dr_gather.proofs.Grouping.{start_group}
+use Rattle.dr_history.specs.declared.opening.Opening.{Opening}
+use Rattle.dr_history.specs.History.{GroupView}
+use Rattle.dr_history.specs.Members.{has, members_of}
+use Rattle.dr_history_laws.proofs.Stood.{small_view}
+use Rattle.dr_intake.specs.Status.{status_of}
+use Rattle.dr_outcome.proofs.Due.{line_behind}
+use Rattle.dr_outcome.proofs.Lasts.{refusal_status, told_so}
+use Rattle.dr_outcome.specs.declared.last.Kind.TheVariants.{DiskFault, LogFull, NoMajority, Spent}
+use Rattle.dr_outcome.specs.Last.{first_end, first_told, is_of, last_by, last_of, refusal_of, some_end, stopped_by}
+use Rattle.dr_program_laws.specs.Ended.{HasEnded, HasReason, IsLeftOut, is_log_end}
+use Rattle.dr_restart.specs.Setups.{crashes_of}
+use Rattle.dr_script.specs.declared.script.Script.{Script}
+use Rattle.dr_script.specs.Ranges.{HasRanges}
+use Rattle.dr_text.specs.declared.last.Last.{Last}
+use Rattle.dr_text.specs.declared.last.Last.TheVariants as lasts
+use Rattle.dr_text.specs.Report.{report_text}
+use Rattle.dr_words.proofs.Bits.{has_zero}
+use Rattle.dr_words.proofs.Masks.{in_roster_small}
+use Rattle.dr_yard.specs.Yards.{AllTell, YardState}
+use Rattle.dr_checked.specs.Checked.{IsVerdict}
+
+-- ---- the last line
+
+-- one of the statuses 0, 8 and 9
+abbrev pub IsRunEnd : ℕ → Type 0
+IsRunEnd n = (n ≡ 0) ⊎ ((n ≡ 8) ⊎ (n ≡ 9))
+
+pub run_end : (n : ℕ) → Contains (0 ∷ 8 ∷ 9 ∷ []) n → IsRunEnd n
+run_end n (zero, below, is) = inl (sym is)
+run_end n (suc zero, below, is) = inr (inl (sym is))
+run_end n (suc (suc zero), below, is) = inr (inr (sym is))
+run_end n (suc (suc (suc i)), below, is) = absurd (omega (arith, below))
+
+pub apart : (known n : ℕ) → known ≢ 0 → known ≢ 8 → known ≢ 9 → n ≡ known → IsRunEnd n → ⊥
+apart known n zeroth eighth ninth same (inl is) = zeroth (sym same ∙ is)
+apart known n zeroth eighth ninth same (inr (inl is)) = eighth (sym same ∙ is)
+apart known n zeroth eighth ninth same (inr (inr is)) = ninth (sym same ∙ is)
+
+-- a last line with one of them tells of no full log, and is one of a report
+fits_by : (disk : Option ℕ) (logs : Option Last) (full turns split : Option ℕ) (line : Last)
+    → ((l : Last) → logs ≡ Some l → status_of l ≡ 7) → last_by disk logs full turns split ≡ line
+    → IsRunEnd (status_of line) → (is_some full ≡ false) × LastFits line
+fits_by (Some m) logs full turns split line seven said end =
+    absurd (apart 6 (status_of line) (λ e. omega (arith, e)) (λ e. omega (arith, e)) (λ e. omega (arith, e))
+    (ap status_of (sym said)) end)
+fits_by None (Some l) full turns split line seven said end =
+    absurd (apart 7 (status_of line) (λ e. omega (arith, e)) (λ e. omega (arith, e)) (λ e. omega (arith, e))
+    (ap status_of (sym said) ∙ seven l refl) end)
+fits_by None None (Some m) turns split line seven said end =
+    absurd (apart 11 (status_of line) (λ e. omega (arith, e)) (λ e. omega (arith, e)) (λ e. omega (arith, e))
+    (ap status_of (sym said)) end)
+fits_by None None None (Some m) split line seven said end = (refl, subst LastFits said tt)
+fits_by None None None None (Some m) line seven said end = (refl, subst LastFits said tt)
+fits_by None None None None None line seven said end = (refl, subst LastFits said tt)
+
+last_fits : (ages : List AgeEnd) (stop : Option Stop) (line : Last) → last_of ages stop ≡ Some line
+    → IsRunEnd (status_of line) → (some_end LogFull ages ≡ false) × LastFits line
+last_fits ages stop line is end =
+    let by = fits_by (first_told DiskFault ages stop) (refusal_of stop) (first_told LogFull ages stop)
+    (first_end Spent ages) (first_end NoMajority ages) line (refusal_status stop) (line_behind ages stop line is).1
+    end in (
+      (or_parts (some_end LogFull ages) (is_some (stopped_by LogFull stop))
+          (sym (told_so LogFull ages stop) ∙ by.0)).0,
+      by.1,
+    )
+
+-- ---- the ends of members
+
+-- where no member of any age ended by a full log none did
+none_full : (ages : List AgeEnd) (i : ℕ) (age : AgeEnd) (m : ℕ) (e : MemberEnd) → some_end LogFull ages ≡ false
+    → slice_get ages i ≡ Some age → slice_get age.members m ≡ Some e → is_of LogFull e.end ≡ false
+none_full ages i age m e none at there = elim (cases_Bool (is_of LogFull e.end)) [
+  | inl full ↦
+      let here : list_any (λ (x : MemberEnd). is_of LogFull x.end) age.members ≡ true =
+      list_any_at (λ (x : MemberEnd). is_of LogFull x.end) age.members m e
+      (slice_get_within age.members m e there)
+      (ap (λ (x : MemberEnd). is_of LogFull x.end) (get_or_from_slice_get age.members m e e there) ∙ full) in
+      absurd (true≢false (sym (list_any_at
+      (λ (x : AgeEnd). list_any (λ (y : MemberEnd). is_of LogFull y.end) x.members) ages i age
+      (slice_get_within ages i age at)
+      (ap (λ (x : AgeEnd). list_any (λ (y : MemberEnd). is_of LogFull y.end) x.members)
+      (get_or_from_slice_get ages i age age at) ∙ here)) ∙ none))
+  | inr other ↦ other
+]
+
+-- the end of a member that was left out
+left_fits : (o : Opening) (all : List MemberEnd) (number members m : ℕ) (end : End) → length o.messages ≤ 16
+    → number ≤ 16 → ((n : ℕ) → has members n ≡ true → n < length o.messages)
+    → IsLeftOut o all number members m end → EndFits end
+left_fits o all number members m (ends.Suspected by) few low roster out =
+    omega (arith, roster by out.0, few)
+left_fits o all number members m (ends.NoMajority mask) few low roster out =
+    let small = in_roster_small (length o.messages) mask (λ n h. roster n (out.1 n h)) in
+    let most : 2 ^ length o.messages ≤ 2 ^ 16 = pow_mono few in (
+      omega (arith, small, most),
+      λ none. true≢false (sym out.0 ∙ (ap (λ (x : ℕ). has x m) none ∙ has_zero m)),
+    )
+left_fits o all number members m (ends.Excluded view) few low roster out = omega (arith, out.0, low)
+left_fits o all number members m ends.Done few low roster out = absurd out
+left_fits o all number members m ends.Crashed few low roster out = absurd out
+left_fits o all number members m ends.DiskFault few low roster out = absurd out
+left_fits o all number members m (ends.LogFull len) few low roster out = absurd out
+left_fits o all number members m (ends.Spent turns) few low roster out = absurd out
+
+-- one by a log that was not full
+log_fits : (end : End) → is_log_end end ≡ true → is_of LogFull end ≡ false → EndFits end
+log_fits ends.DiskFault by_log other = tt
+log_fits (ends.LogFull len) by_log other = absurd (true≢false other)
+log_fits ends.Done by_log other = absurd (true≢false (sym by_log))
+log_fits ends.Crashed by_log other = absurd (true≢false (sym by_log))
+log_fits (ends.Suspected by) by_log other = absurd (true≢false (sym by_log))
+log_fits (ends.Excluded view) by_log other = absurd (true≢false (sym by_log))
+log_fits (ends.NoMajority mask) by_log other = absurd (true≢false (sym by_log))
+log_fits (ends.Spent turns) by_log other = absurd (true≢false (sym by_log))
+
+-- any but that of a full log
+end_fits : (script : Script) (a : AgeEnd) (nth m : ℕ) (e : MemberEnd) → HasRanges script → IsAgreed script a
+    → slice_get a.members m ≡ Some e
+    → HasEnded (whole_opening script a) a.members script.turns m (crashes_of script.faults nth m) e
+    → is_of LogFull e.end ≡ false → EndFits e.end
+end_fits script a nth m e ranges good here ended other = by ended.reason
+  where
+    few : length script.messages ≤ 16
+    few = omega (arith, ranges.group.most_members, ranges.group.lists)
+
+    some : 1 ≤ length script.messages
+    some = omega (arith, ranges.group.some_member, ranges.group.lists)
+
+    low : ended.number ≤ 16
+    low =
+        let view : GroupView = record { age = a.age; number = ended.number; members = members_of ended.members } in
+        let at = last_view_at e.history view ended.view in
+        (small_view (whole_opening script a) e.history some few (stand script a good m e here) at.0 a.age
+        ended.number at.1 at.2).few
+
+    by : HasReason (whole_opening script a) a.members ended.number ended.members script.turns m
+        (crashes_of script.faults nth m) e → EndFits e.end
+    by (inl done) = subst EndFits (sym done.whole.end) tt
+    by (inr (inl spent)) =
+        let small : script.turns < 2 ^ 32 = omega (arith, ranges.most_turns) in
+        subst EndFits (sym spent.end) small
+    by (inr (inr (inl crashed))) = subst EndFits (sym crashed.end) tt
+    by (inr (inr (inr (inl by_log)))) = log_fits e.end by_log.end other
+    by (inr (inr (inr (inr left)))) =
+        left_fits (whole_opening script a) a.members ended.number ended.members m e.end few low ended.roster
+        left.end
+
+-- ---- the ages of a run
+
+-- what holds of each age of a run holds of all
+all_ages : (P : AgeEnd → Type 0) (script : Script) (mode : Mode)
+    → ((nth : ℕ) (before after : YardState) (age : AgeEnd) → IsAgeOf script mode nth before after age → P age)
+    → (nth : ℕ) (before after : YardState) (ages : List AgeEnd) → AreAges script mode nth before ages after
+    → All P ages
+all_ages P script mode each nth before after [] are = All-nil P
+all_ages P script mode each nth before after (age ∷ ages) (between, is, rest) =
+    All-cons P age ages (each nth before between age is)
+    (all_ages P script mode each (nth + 1) between after ages rest)
+
+agreed_age : (script : Script) (mode : Mode) (nth : ℕ) (before after : YardState) (age : AgeEnd)
+    → HasRanges script → IsAgeOf script mode nth before after age → IsAgreed script age
+agreed_age script mode nth before after age ranges is = record {
+  all = is.roster;
+  sound = (start_group script is.lists (start_of script age) ranges.group is.small is.starts).sound;
+  agreed = is.agreed;
+}
+
+-- an age, and that its numbers are small where no log was full
+abbrev IsSmallUnlessFull : AgeEnd → Type 0
+IsSmallUnlessFull age = ((m : ℕ) (e : MemberEnd) → slice_get age.members m ≡ Some e → is_of LogFull e.end ≡ false)
+    → HasSmallNumbers age
+
+small_age : (script : Script) (mode : Mode) (nth : ℕ) (before after : YardState) (age : AgeEnd)
+    → HasRanges script → IsAgeOf script mode nth before after age → IsSmallUnlessFull age
+small_age script mode nth before after age ranges is room = record {
+  age = is.small;
+  ends = all_from_places (λ (e : MemberEnd). EndFits e.end) age.members
+      (λ m e at. end_fits script age nth m e ranges
+      (agreed_age script mode nth before after age ranges is) at (is.ended m e at) (room m e at));
+}
+
+keep_each_other : (script : Script) (ages : List AgeEnd) → AreKept script ages → KeepEachOther script ages
+keep_each_other script ages kept i a next at after =
+    let same : suc i ≡ i + 1 = omega arith in
+    kept.next i a next at (ap (slice_get ages) (sym same) ∙ after)
+
+pub run_right : (script : Script) (mode : Mode) (before after : YardState) (ages : List AgeEnd)
+    (stop : Option Stop) (last : Last) → HasRanges script → AllTell script.members before
+    → IsRunOf script mode before after ages stop → last_of ages stop ≡ Some last → IsRunEnd (status_of last)
+    → IsVerdict script (report_text ages last) lasts.Right
+run_right script mode before after ages stop last ranges tell run is end =
+    let fits = last_fits ages stop last is end in
+    let small = all_ages IsSmallUnlessFull script mode
+    (λ nth before after age is. small_age script mode nth before after age ranges is) 0 before run.last ages
+    run.course in
+    printed_right script ages last ranges.group
+    (all_ages (IsAgreed script) script mode
+    (λ nth before after age is. agreed_age script mode nth before after age ranges is) 0 before run.last ages
+    run.course)
+    (keep_each_other script ages (run.kept tell))
+    (all_from_places HasSmallNumbers ages
+    (λ i age at. all_at IsSmallUnlessFull ages i age small at
+    (λ m e there. none_full ages i age m e fits.0 at there)))
+    fits.1
