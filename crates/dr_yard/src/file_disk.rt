@@ -32,7 +32,7 @@ impl FileDisk {
     }
 }
 
-fn length_of(file: &File) -> io::Result<u64> {
+pub(crate) fn length_of(file: &File) -> io::Result<u64> {
     Ok(file.metadata()?.len())
 }
 

@@ -5,21 +5,23 @@ ghost use Rattle.std.specs.Path.{slash, with_separator};
 ghost use Rattle.dr_entry.specs.declared.limits.TheConstants.{MAX_MEMBERS};
 ghost use Rattle.dr_yard.specs.Files.{path_in};
 
-use crate::file_disk::FileDisk;
+use crate::file_disk::{FileDisk, length_of};
 use crate::yard::Yard;
 use arrayvec::ArrayString;
 use dr_entry::MAX_MEMBERS;
 use dr_io::Failed;
 use std::fmt::Write;
 use std::fs::{File, OpenOptions};
+use std::io;
 use std::marker::Model;
 use std::rt::Files;
 
 /// How many bytes the path of a file may have. The system opens none whose path has more.
 const MAX_PATH: usize = 4096;
 
-/// The logs of the members in a folder: the file `member-I.log` is that of member `I`. A call for a disk fails where
-/// its file can't be opened or made: where there is no folder, say, or where the path has more than 4,096 bytes.
+/// The logs of the members in a folder: the file `member-I.log` is that of member `I`. One that is lent is locked, so
+/// that nobody else is lent it. A call for a disk fails where its file can't be opened, made or locked: where there
+/// is no folder, say, where the path has more than 4,096 bytes, or where another run or another member has the file.
 /// Neither `lend` nor `give_back` takes memory.
 #[derive(Drop)]
 pub struct FileYard<R: Files<File = File> + Drop> {
@@ -49,19 +51,32 @@ impl<R: Files<File = File> + Drop> FileYard<R> {
     }
 }
 
-/// Opens the file of a member, and makes it where there is none.
+/// Opens the file of a member and locks it, and makes it where there is none. Nothing else that opens it, under any
+/// name, gets a lock until it is closed.
 fn open<R: Files<File = File>>(rt: &R, folder: &str, member: u8) -> Option<File> {
     let path = path_of(folder, member)?;
-    OpenOptions::new()
+    let file = OpenOptions::new()
         .read(true)
         .write(true)
         .create(true)
         .open(rt, path.as_str())
-        .ok()
+        .ok()?;
+    file.try_lock().ok()?;
+    // Nothing was ever written to an empty one: it may be new, and a crash would take its name with it.
+    if length_of(&file).ok()? == 0 {
+        sync_folder(rt, folder).ok()?;
+    }
+    Some(file)
+}
+
+/// Has the names of a folder's files outlive a crash.
+fn sync_folder<R: Files<File = File>>(rt: &R, folder: &str) -> io::Result<()> {
+    let folder = if folder.is_empty() { "." } else { folder };
+    File::open(rt, folder)?.sync_all()
 }
 
 /// The path of the file of a member, unless it is too long.
-fn path_of(folder: &str, member: u8) -> Option<ArrayString<MAX_PATH>>
+pub fn path_of(folder: &str, member: u8) -> Option<ArrayString<MAX_PATH>>
     ensures { IfSome result (λ path. path.bytes ≡ path_in folder.now member) }
 {
     let mut path = before_name(folder)?;

@@ -10,6 +10,6 @@ mod yard;
 
 pub use calm_yard::CalmYard;
 pub use file_disk::FileDisk;
-pub use file_yard::FileYard;
+pub use file_yard::{FileYard, path_of};
 pub use memory_yard::MemoryYard;
 pub use yard::Yard;
