@@ -6,8 +6,10 @@ use Rattle.std.specs.declared.alloc.Global.{Global}
 use Rattle.std.proofs.lemmas.List.{map-append}
 use Rattle.std.proofs.lemmas.Option.{same_Some, slice_get_within}
 use Rattle.atomic_table.specs.Seated.{TableId}
+use Rattle.dr_disk.proofs.Moments.{lasts_still}
 use Rattle.dr_disk.specs.Disk.{Told}
 use Rattle.dr_history_laws.proofs.Lists.{slice_get-some}
+use Rattle.dr_log.specs.Standing.{LosesNone}
 use Rattle.dr_log.specs.State.{LogState}
 use Rattle.dr_logged.specs.Served.{HaveServed}
 use Rattle.dr_program.specs.Running.{Running}
@@ -107,6 +109,7 @@ module _ {D : Type 0} (told : D → Option Told) (faults : D → ℕ) where
           entries = come.come.more;
           votes = (x.replica.votes, come.come.voted);
           moments = inr come.come.moments;
+          lasting = come.come.lasting;
           later = come.come.later;
         };
   }
@@ -143,6 +146,7 @@ module _ {D : Type 0} (told : D → Option Told) (faults : D → ℕ) where
           entries = ([], sym (append-nil old.entries));
           votes = ([], sym (append-nil old.votes));
           moments = inl refl;
+          lasting = λ es vs. lasts_still (told old.disk) (LosesNone es vs);
           later = le_refl _;
         });
   }

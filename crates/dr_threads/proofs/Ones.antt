@@ -3,7 +3,9 @@ use Rattle.std.proofs.Common.{◌≡◌, sym, ap, ◌∙◌, subst, inl, ℕ, �
 use Rattle.std.specs.Prelude.{Option, Some, slice_get, slice_set}
 use Rattle.std.proofs.lemmas.Option.{same_Some, slice_get_read, slice_get_within}
 use Rattle.atomic_table.specs.Seated.{TableId}
+use Rattle.dr_disk.proofs.Moments.{lasts_still}
 use Rattle.dr_disk.specs.Disk.{Told}
+use Rattle.dr_log.specs.Standing.{LosesNone}
 use Rattle.dr_log.specs.State.{LogState}
 use Rattle.dr_logged.specs.Served.{HasServed, IsReady, IsSafe}
 use Rattle.dr_logged.proofs.Serving.{begins}
@@ -63,6 +65,7 @@ module _ {D : Type 0} (told : D → Option Told) (faults : D → ℕ) where
           entries = ([], ap (λ (l : LogState D). l.entries) made ∙ sym (append-nil old.entries));
           votes = ([], ap (λ (l : LogState D). l.votes) made ∙ sym (append-nil old.votes));
           moments = inl tells;
+          lasting = λ es vs. rw tells (lasts_still (told old.disk) (LosesNone es vs));
           later = omega (arith, calm);
         }));
   }

@@ -6,6 +6,7 @@ use Rattle.dr_entry.specs.declared.entry.Entry.{Entry}
 use Rattle.dr_entry.specs.declared.record.Vote.{Vote}
 use Rattle.dr_log.specs.Standing.{LosesNone}
 use Rattle.dr_log.specs.State.{LogState}
+use Rattle.dr_logged.specs.Served.{LosesNothing}
 use Rattle.dr_program.specs.Running.{Running}
 
 -- a log has all of its member's history, as the age opens, no append to it has failed, and the member has not
@@ -24,13 +25,15 @@ pub record AreFor {D : Type 0} (logs : List (LogState D)) (members : List Runnin
       → slice_get members k ≡ Some r → IsFor log r
 
 -- a log has the entries and the votes that it had, and maybe more; its disk tells what it told, or at no moment
--- of what it did would a crash have lost one; and no count of faults fell
+-- of what it did would a crash have lost one; what no crash would have lost at a moment, of what was there and
+-- of what came, none would have lost later; and no count of faults fell
 pub record IsLonger {D : Type 0} (told : D → Option Told) (faults : D → ℕ) (old new : LogState D)
     : Type 0 where
   pub entries : (more : List Entry) × (new.entries ≡ old.entries ++ more)
   pub votes : (more : List Vote) × (new.votes ≡ old.votes ++ more)
   pub moments : (told new.disk ≡ told old.disk)
       ⊎ Goes (told old.disk) (told new.disk) (λ s. LosesNone old.entries old.votes)
+  pub lasting : LosesNothing told old new
   pub later : faults old.disk ≤ faults new.disk
 
 -- so it is with all of them, each at its place
