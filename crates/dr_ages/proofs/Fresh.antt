@@ -185,7 +185,7 @@ more_votes old new more parts valid few =
       few,
     )
 
-roomy_next : (script : Script) (mode : Mode) (bytes first k nth : ℕ) (before yard : YardState) (age : AgeEnd)
+pub roomy_next : (script : Script) (mode : Mode) (bytes first k nth : ℕ) (before yard : YardState) (age : AgeEnd)
     → HasGroupRanges script → IsRoomyAt script bytes first k before → IsAgeOf script mode nth before yard age
     → IsRoomyAt script bytes first (k + 1) yard
 roomy_next script mode bytes first k nth before yard age ranges roomy is = record {

@@ -190,7 +190,7 @@ found_left script yard age lists votes m e es b there here =
     (b.tell m (omega (arith, slice_get_within age.members m e there, b.is.roster))) (b.found.each m es here)
     b.ranges.most_members (b.is.few m x.r x.at) (b.is.left m x.r x.at))
 
-leave_logs : (script : Script) (yard : YardState) (age : AgeEnd) (lists : List (List Entry))
+pub leave_logs : (script : Script) (yard : YardState) (age : AgeEnd) (lists : List (List Entry))
     (votes : ℕ → List Vote) → IsBehind script yard age lists votes
     → LeaveLogs (opening_of script age) age.members lists
 leave_logs script yard age lists votes b = record {

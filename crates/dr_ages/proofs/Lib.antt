@@ -1,13 +1,13 @@
 mod Staying
 mod Backs
 mod Caught
-mod Chain
+pub mod Chain
 mod Completing
 mod Crashes
 mod Fit
-mod Fresh
-mod Good
-mod Keeping
+pub mod Fresh
+pub mod Good
+pub mod Keeping
 mod Loans
 mod Played
 mod Reading
