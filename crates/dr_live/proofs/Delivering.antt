@@ -1,0 +1,244 @@
+-- What the members of a live group deliver, and how they end.
+use Rattle.std.proofs.Common.{◌≡◌, refl, sym, ap, ◌∙◌, subst, ℕ, ◌+◌, ◌<◌, ◌≤◌, ◌⊎◌, inl, inr, arith, true, false, List, [], ◌∷◌, ◌++◌, append-nil, get_or, length, length-append, map, Some, slice_get}
+use Rattle.std.specs.Prelude.{All, None, Option}
+use Rattle.std.specs.List.{enumerate_from}
+use Rattle.std.specs.Option.{option_map_or}
+use Rattle.std.proofs.lemmas.Bool.{cases_lt}
+use Rattle.std.proofs.lemmas.List.{get_or_past}
+use Rattle.std.proofs.lemmas.List.Elements.{All-nil}
+use Rattle.std.proofs.lemmas.Option.{get_or_from_slice_get, slice_get-get_or, slice_get_within}
+use Rattle.dr_age.specs.Logged.{IsNotFull, NoneFull, NoneStopped, why_ended}
+use Rattle.dr_ages.proofs.Fresh.{roomy_ages}
+use Rattle.dr_ages.specs.Ages.{AreAges, opening_of}
+use Rattle.dr_ages.specs.declared.mode.Mode.TheVariants.{Run}
+use Rattle.dr_entry.specs.declared.end.AgeEnd.{AgeEnd}
+use Rattle.dr_entry.specs.declared.end.End.{End}
+use Rattle.dr_entry.specs.declared.end.End.TheVariants as ends
+use Rattle.dr_entry.specs.declared.end.MemberEnd.{MemberEnd}
+use Rattle.dr_entry.specs.declared.entry.Entry.{Entry}
+use Rattle.dr_entry.specs.declared.entry.Entry.TheVariants.{Msg}
+use Rattle.dr_entry.specs.declared.limits.TheConstants.{MAX_MEMBERS}
+use Rattle.dr_gather.proofs.Following.{is_there}
+use Rattle.dr_history.specs.declared.opening.Opening.{Opening}
+use Rattle.dr_history.specs.History.{IsPrefixOf}
+use Rattle.dr_history.specs.Members.{has}
+use Rattle.dr_history.specs.Order.{messages_from, numbered_messages}
+use Rattle.dr_history_laws.proofs.Keeping.{prefix_shorter, prefix_then}
+use Rattle.dr_history_laws.proofs.Lists.{slice_get-seam, slice_get-some}
+use Rattle.dr_program.specs.declared.setup.CrashPoint.{CrashPoint}
+use Rattle.dr_program_laws.specs.Ended.{HasReason, IsLeftOut, IsWhole, is_log_end}
+use Rattle.dr_program_laws.specs.Trusting.{NoneLeft}
+use Rattle.dr_restart.specs.Groups.{first_group_of}
+use Rattle.dr_restart.specs.Setups.{suspicion_in}
+use Rattle.dr_script.specs.declared.script.Fault.{Fault}
+use Rattle.dr_script.specs.declared.script.Script.{Script}
+use Rattle.dr_script.specs.Ranges.{HasGroupRanges}
+use Rattle.dr_senders.specs.Senders.{HaveGrown, Lists}
+use Rattle.dr_yard.specs.Yards.{YardState, empty_yard}
+use Rattle.dr_live.specs.Live.{AreUnderWay, AreUpTo, DeliversAll, DeliversPushed, EndAsDone, IsLastOf, HasLived, IsLivePlan, plan_with, pushed_by}
+use Rattle.dr_live.proofs.Course.{IsLiveAge, age_at, as_many, first_age, keep_each_other, range_at}
+use Rattle.dr_live.proofs.Growing.{grown_to_last, numbered_grown}
+
+-- ---- ends
+
+unstopped : (e : End) → IsNotFull e → (e ≡ ends.DiskFault → ⊥) → why_ended e ≡ None
+unstopped ends.Done room safe = refl
+unstopped ends.Crashed room safe = refl
+unstopped (ends.Suspected by) room safe = refl
+unstopped (ends.Excluded view) room safe = refl
+unstopped (ends.NoMajority mask) room safe = refl
+unstopped ends.DiskFault room safe = absurd (safe refl)
+unstopped (ends.LogFull len) room safe = absurd room
+unstopped (ends.Spent turns) room safe = refl
+
+-- no log of a live group stops a member
+pub live_stored : (plan : Script) (k : ℕ) (lists : Lists) (last : YardState) (age : AgeEnd)
+    → HasGroupRanges (plan_with plan lists) → k < 16 → ((m : ℕ) → last.faults m ≡ 0)
+    → IsLiveAge plan k lists last age → NoneStopped age.members
+live_stored plan k lists last age ranges few calm live m d within =
+    let e = get_or age.members m d in
+    let at : slice_get age.members m ≡ Some e = slice_get-get_or age.members m d within in
+    unstopped e.end (full.1 m d within)
+    (λ broken. omega (arith, live.is.failed m e at broken, live.later m, calm m))
+  where
+    one : AreAges (plan_with plan lists) Run 0 live.before (age ∷ []) live.after
+    one = (live.after, live.is, refl)
+
+    full : (age.age ≡ 0 + k + 0) × NoneFull age.members
+    full = roomy_ages (plan_with plan lists) Run 9 0 k 0 live.before (age ∷ []) live.after 0 age ranges
+        (omega arith) (omega (arith, few)) live.roomy one refl
+
+pub live_trusting : (plan : Script) (k : ℕ) (lists : Lists) (last : YardState) (age : AgeEnd)
+    → IsLivePlan plan → IsLiveAge plan k lists last age → NoneLeft age.members
+live_trusting plan k lists last age is live = live.is.trusting (record {
+  patient = is.patient;
+  unscripted = subst (All (λ (f : Fault). suspicion_in f.what ≡ None)) (sym is.no_faults)
+      (All-nil (λ (f : Fault). suspicion_in f.what ≡ None));
+})
+
+-- ---- what is delivered
+
+-- a history has first parts of the messages of the age
+numbered_in : (plan : Script) (k : ℕ) (lists : Lists) (last : YardState) (age : AgeEnd) (m : ℕ) (e : MemberEnd)
+    (s : ℕ) → IsLiveAge plan k lists last age → slice_get age.members m ≡ Some e
+    → IsPrefixOf (messages_from s e.history) (numbered_messages (opening_of (plan_with plan lists) age) s)
+numbered_in plan k lists last age m e s live at =
+    let o = opening_of (plan_with plan lists) age in
+    let there = is_there o plan.members m refl (omega (arith, slice_get_within age.members m e at, live.is.roster)) in
+    subst (λ (end : Option MemberEnd).
+    IsPrefixOf (messages_from s (option_map_or (λ (x : MemberEnd). x.history) end [])) (numbered_messages o s)) at
+    ((live.is.agreed.agreed.ordered m there).numbered s)
+
+pub live_delivers : (plan : Script) (k : ℕ) (lists pushed : Lists) (last : YardState) (age : AgeEnd)
+    → HaveGrown lists pushed → IsLiveAge plan k lists last age → DeliversPushed plan pushed age.members
+live_delivers plan k lists pushed last age grown live m d within s =
+    let e = get_or age.members m d in
+    prefix_then (messages_from s e.history) (numbered_messages (opening_of (plan_with plan lists) age) s)
+    (pushed_by plan pushed s)
+    (numbered_in plan k lists last age m e s live (slice_get-get_or age.members m d within))
+    (numbered_grown (opening_of (plan_with plan lists) age) (first_group_of (plan_with plan pushed)).opening s grown)
+
+-- who is done has all messages of the members of its view
+done_whole : (o : Opening) (members : List MemberEnd) (number view limit m : ℕ) (points : List CrashPoint)
+    (e : MemberEnd) → e.end ≡ ends.Done → HasReason o members number view limit m points e
+    → IsWhole o members number view e
+done_whole o members number view limit m points e done (inl is) = is.whole
+done_whole o members number view limit m points e done (inr (inl spent)) =
+    let other : ends.Spent limit ≡ ends.Done = sym spent.end ∙ done in absurd (cc)
+done_whole o members number view limit m points e done (inr (inr (inl crashed))) =
+    let other : ends.Crashed ≡ ends.Done = sym crashed.end ∙ done in absurd (cc)
+done_whole o members number view limit m points e done (inr (inr (inr (inl logged)))) =
+    let other : false ≡ true = sym (ap is_log_end done) ∙ logged.end in absurd (cc)
+done_whole o members number view limit m points e done (inr (inr (inr (inr left)))) =
+    absurd (subst (IsLeftOut o members number view m) done left.end)
+
+both_ways : {X : Type 0} (xs ys : List X) → IsPrefixOf xs ys → IsPrefixOf ys xs → xs ≡ ys
+both_ways {X} xs ys p q =
+    let none : length p.0 ≡ 0 =
+    omega (arith, prefix_shorter ys xs q, ap length p.1, length-append xs p.0) in
+    by p.0 p.1 none
+  where
+    by : (rest : List X) → xs ++ rest ≡ ys → length rest ≡ 0 → xs ≡ ys
+    by [] e none = sym (append-nil xs) ∙ e
+    by (x ∷ rest) e none = absurd (omega (arith, none))
+
+-- where all are done all have all messages
+pub live_whole : (plan : Script) (k : ℕ) (lists : Lists) (last : YardState) (age : AgeEnd)
+    → HasGroupRanges (plan_with plan lists) → IsLiveAge plan k lists last age → EndAsDone age.members
+    → DeliversAll plan lists age.members
+live_whole plan k lists last age ranges live done m d within s =
+    both_ways (messages_from s e.history) (numbered_messages o s) (numbered_in plan k lists last age m e s live at)
+    (by (cases_lt s (length lists)))
+  where
+    o : Opening
+    o = opening_of (plan_with plan lists) age
+
+    e : MemberEnd
+    e = get_or age.members m d
+
+    at : slice_get age.members m ≡ Some e
+    at = slice_get-get_or age.members m d within
+
+    end_at : (i : ℕ) (x : MemberEnd) → slice_get age.members i ≡ Some x → x.end ≡ ends.Done
+    end_at i x there =
+        subst (λ (y : MemberEnd). y.end ≡ ends.Done) (get_or_from_slice_get age.members i x x there)
+        (done i x (slice_get_within age.members i x there))
+
+    whole_at : (i : ℕ) (x : MemberEnd) (there : slice_get age.members i ≡ Some x)
+        → IsWhole o age.members (live.is.ended i x there).number (live.is.ended i x there).members x
+    whole_at i x there =
+        let ended = live.is.ended i x there in
+        done_whole o age.members ended.number ended.members plan.turns i _ x (end_at i x there) ended.reason
+
+    by : (s < length lists) ⊎ (length lists ≤ s)
+        → IsPrefixOf (numbered_messages o s) (messages_from s e.history)
+    by (inl l) =
+        let x = slice_get-some age.members s (omega (arith, l, ranges.lists, live.is.roster)) in
+        let own = (whole_at s x.0 x.1).whole s (live.is.ended s x.0 x.1).own in
+        let in_place = slice_get_within age.members s x.0 x.1 in
+        let same = get_or_from_slice_get age.members s x.0 x.0 x.1 in
+        subst (λ (l : List Entry). IsPrefixOf l (messages_from s e.history)) own
+        (subst (λ (y : MemberEnd). IsPrefixOf (messages_from s y.history) (messages_from s e.history)) same
+        ((whole_at m e at).lacks_none s s x.0 in_place))
+    by (inr past) =
+        let none : numbered_messages o s ≡ [] =
+        ap (λ (l : List (List ℕ)). map (λ (t : ℕ × List ℕ). Msg s t.0 t.1) (enumerate_from 0 l))
+        (get_or_past lists s [] past) in
+        (messages_from s e.history, ap (λ (l : List Entry). l ++ messages_from s e.history) none)
+
+-- ---- the ages of a live group
+
+pub all_stored : (plan : Script) (taken : List Lists) (ages : List AgeEnd) (last : YardState)
+    → AreUnderWay plan taken ages last → length ages ≤ 16
+    → All (λ (age : AgeEnd). NoneStopped age.members) ages
+all_stored plan taken ages last way few i d l =
+    let lists = slice_get-some taken i (omega (arith, l, as_many plan taken ages empty_yard last way.course)) in
+    live_stored plan (0 + i) lists.0 last (get_or ages i d) (range_at plan taken i lists.0 way.ranges lists.1).group
+    (omega (arith, l, few)) way.calm
+    (age_at plan taken ages last i lists.0 (get_or ages i d) way lists.1 (slice_get-get_or ages i d l))
+
+pub all_trusting : (plan : Script) (taken : List Lists) (ages : List AgeEnd) (last : YardState)
+    → IsLivePlan plan → AreUnderWay plan taken ages last → All (λ (age : AgeEnd). NoneLeft age.members) ages
+all_trusting plan taken ages last is way i d l =
+    let lists = slice_get-some taken i (omega (arith, l, as_many plan taken ages empty_yard last way.course)) in
+    live_trusting plan (0 + i) lists.0 last (get_or ages i d) is
+    (age_at plan taken ages last i lists.0 (get_or ages i d) way lists.1 (slice_get-get_or ages i d l))
+
+pub all_deliver : (plan : Script) (taken : List Lists) (ages : List AgeEnd) (last : YardState) (pushed : Lists)
+    → AreUnderWay plan taken ages last → IsLastOf pushed taken
+    → All (λ (age : AgeEnd). DeliversPushed plan pushed age.members) ages
+all_deliver plan taken ages last pushed way ends i d l =
+    let lists = slice_get-some taken i (omega (arith, l, as_many plan taken ages empty_yard last way.course)) in
+    live_delivers plan (0 + i) lists.0 pushed last (get_or ages i d)
+    (grown_to_last taken i lists.0 pushed way.growing lists.1 ends)
+    (age_at plan taken ages last i lists.0 (get_or ages i d) way lists.1 (slice_get-get_or ages i d l))
+
+pub last_whole : (plan : Script) (taken : List Lists) (ages : List AgeEnd) (last : YardState) (pushed : Lists)
+    (n : ℕ) (age : AgeEnd) → AreUnderWay plan taken ages last → IsLastOf pushed taken → length ages ≡ n + 1
+    → IsLastOf age ages → EndAsDone age.members → DeliversAll plan pushed age.members
+last_whole plan taken ages last pushed n age way ends long at done =
+    let there = ends n (as_many plan taken ages empty_yard last way.course ∙ long) in
+    live_whole plan (0 + n) pushed last age (range_at plan taken n pushed way.ranges there).group
+    (age_at plan taken ages last n pushed age way there (at n long)) done
+
+ends_in : (taken : List Lists) (pushed : Lists) → IsLastOf pushed (taken ++ pushed ∷ [])
+ends_in taken pushed n long =
+    let at : n ≡ length taken = omega (arith, long, length-append taken (pushed ∷ [])) in
+    ap (slice_get (taken ++ pushed ∷ [])) at ∙ slice_get-seam taken pushed []
+
+-- so this comes of it
+pub lived : (plan : Script) (rounds : ℕ) (pushed : Lists) (ages : List AgeEnd) (last : YardState)
+    → IsLivePlan plan → rounds ≤ 15 → length ages ≡ rounds + 1 → AreUpTo plan pushed ages last
+    → HasLived plan rounds pushed ages
+lived plan rounds pushed ages last is few count up = record {
+  count = count;
+  first = λ age at. first_age plan all ages last age up.way most at;
+  live = record {
+    taken = all;
+    after = last;
+    way = up.way;
+    all = ends;
+    kept = keep_each_other plan all ages last up.way;
+  };
+  delivered = all_deliver plan all ages last pushed up.way ends;
+  whole = λ age at done. last_whole plan all ages last pushed rounds age up.way ends count at done;
+  stored = all_stored plan all ages last up.way most;
+  trusting = all_trusting plan all ages last is up.way;
+}
+  where
+    all : List Lists
+    all = up.taken ++ pushed ∷ []
+
+    most : length ages ≤ 16
+    most = omega (arith, count, few)
+
+    ends : IsLastOf pushed all
+    ends = ends_in up.taken pushed
+
+-- no age has more members than a group may have
+pub all_few : (plan : Script) (taken : List Lists) (ages : List AgeEnd) (last : YardState)
+    → AreUnderWay plan taken ages last → All (λ (age : AgeEnd). length age.members ≤ MAX_MEMBERS) ages
+all_few plan taken ages last way i d l =
+    let lists = slice_get-some taken i (omega (arith, l, as_many plan taken ages empty_yard last way.course)) in
+    let live = age_at plan taken ages last i lists.0 (get_or ages i d) way lists.1 (slice_get-get_or ages i d l) in
+    omega (arith, live.is.roster, (range_at plan taken i lists.0 way.ranges lists.1).group.most_members)

@@ -1,0 +1,3 @@
+mod Course
+pub mod Delivering
+mod Growing
