@@ -7,6 +7,7 @@ use Rattle.dr_intake.specs.Answer.{IsAnswer}
 use Rattle.dr_intake.specs.Reading.{WasRead}
 use Rattle.dr_intake.specs.Status.{WroteText, status_of}
 use Rattle.dr_io.specs.Sink.{Gains}
+use Rattle.dr_lived.specs.Lived.{RunsLive}
 use Rattle.dr_outcome.specs.Outcome.{HasDone, Plays, SaysOnly, outcome_text}
 use Rattle.dr_outcome.specs.declared.outcome.Outcome.{Outcome}
 use Rattle.dr_script.specs.declared.script.Script.{Script}
@@ -15,7 +16,7 @@ use Rattle.dr_sharded.specs.Sharded.{RunsShards}
 use Rattle.dr_stored.specs.Stored.{Stores}
 use Rattle.dr_yard.specs.Yards.{YardState}
 use Rattle.derecho.specs.declared.words.Command.{Command}
-use Rattle.derecho.specs.declared.words.Command.TheVariants.{Check, Drill, Play, Shards, Store}
+use Rattle.derecho.specs.declared.words.Command.TheVariants.{Check, Drill, Live, Play, Shards, Store}
 use Rattle.derecho.specs.Words.{asked_by, ends_of, reads}
 
 -- what each command makes of what was read for it, by how the yard was and then is
@@ -24,6 +25,7 @@ Does (Play play) = Plays play
 Does (Store key version) = Stores key version
 Does (Drill number) = Drills number
 Does (Shards sharding) = RunsShards sharding
+Does (Live rounds) = RunsLive rounds
 Does Check = Checks
 
 -- What a call with these words comes to before it is written, by what its source had left and then has, how

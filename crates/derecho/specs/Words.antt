@@ -8,12 +8,14 @@ use Rattle.dr_ages.specs.declared.mode.Mode.TheVariants.{Sim, Run}
 use Rattle.dr_checked.specs.Checked.{check_ends}
 use Rattle.dr_drilled.specs.Drilled.{drill_ends}
 use Rattle.dr_literals.specs.Literals.{key_word, number_word}
+use Rattle.dr_lived.specs.Lived.{live_ends}
+use Rattle.dr_lived.specs.Words.{rounds_of}
 use Rattle.dr_outcome.specs.Playing.{play_ends}
 use Rattle.dr_sharded.specs.Sharded.{shards_ends}
 use Rattle.dr_sharded.specs.Words.{sharding_of}
 use Rattle.dr_stored.specs.Stored.{store_ends}
 use Rattle.derecho.specs.declared.words.Command.{Command}
-use Rattle.derecho.specs.declared.words.Command.TheVariants.{Check, Drill, Play, Shards, Store}
+use Rattle.derecho.specs.declared.words.Command.TheVariants.{Check, Drill, Live, Play, Shards, Store}
 use Rattle.derecho.specs.declared.words.Verb.{Verb}
 use Rattle.derecho.specs.declared.words.Verb.TheVariants as verb
 
@@ -88,13 +90,17 @@ drill_of (number ∷ rest) = with_no_more (option_map Drill (number_word number)
 abbrev pub shards_of : List (List ℕ) → Option Command
 shards_of words = option_map Shards (sharding_of words)
 
+-- to run a script live in so many rounds
+abbrev pub live_of : List (List ℕ) → Option Command
+live_of words = option_map Live (rounds_of words)
+
 -- ---- the two tables of words
 
 -- the verbs: the words that name commands
 abbrev pub verbs : List (List ℕ × Verb)
 verbs = (codes "sim", verb.Sim) ∷ (codes "run", verb.Run) ∷ (codes "store", verb.Store)
     ∷ (codes "drill", verb.Drill) ∷ (codes "shards", verb.Shards)
-    ∷ (codes "check", verb.Check) ∷ []
+    ∷ (codes "live", verb.Live) ∷ (codes "check", verb.Check) ∷ []
 
 -- what the words behind a verb ask for
 abbrev pub asked_behind : Verb → List (List ℕ) → Option Command
@@ -103,6 +109,7 @@ asked_behind verb.Run = play_of Run
 asked_behind verb.Store = store_of
 asked_behind verb.Drill = drill_of
 asked_behind verb.Shards = shards_of
+asked_behind verb.Live = live_of
 asked_behind verb.Check = with_no_more (Some Check)
 
 -- the verb that a word is, by a table of them
@@ -130,6 +137,7 @@ reads (Play play) = true
 reads (Store key version) = true
 reads (Drill number) = false
 reads (Shards sharding) = true
+reads (Live rounds) = true
 reads Check = true
 
 -- the statuses of the last lines that it may come to
@@ -138,6 +146,7 @@ ends_of (Play play) = play_ends play
 ends_of (Store key version) = store_ends
 ends_of (Drill number) = drill_ends
 ends_of (Shards sharding) = shards_ends
+ends_of (Live rounds) = live_ends
 ends_of Check = check_ends
 
 -- the statuses that a call may have besides want of memory and a fault of the sink

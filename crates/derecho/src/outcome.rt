@@ -13,6 +13,7 @@ use dr_checked::check_report;
 use dr_drilled::run_drill;
 use dr_intake::{READ_LIMIT, ReadFault, read_all};
 use dr_io::Source;
+use dr_lived::run_lived;
 use dr_outcome::{Outcome, play_text, without_ages};
 use dr_pace::Pace;
 use dr_sharded::run_sharded;
@@ -63,9 +64,11 @@ fn read_for<S: Source>(
         → S.faults source.new ≡ S.faults source.old }
 {
     match command {
-        Command::Play(_) | Command::Store { .. } | Command::Shards(_) | Command::Check => {
-            read_all(alloc, source, READ_LIMIT)
-        }
+        Command::Play(_)
+        | Command::Store { .. }
+        | Command::Shards(_)
+        | Command::Live(_)
+        | Command::Check => { read_all(alloc, source, READ_LIMIT) }
         Command::Drill { .. } => Ok(Vec::new(alloc)),
     }
 }
@@ -91,6 +94,7 @@ fn do_command<R: Threads + Sync, Y: Yard, P: Pace + Sync>(
         Command::Store { key, version } => ask_stores(rt, alloc, bytes, key.bytes(), *version),
         Command::Drill { number } => run_drill(rt, alloc, *number),
         Command::Shards(sharding) => run_sharded(rt, alloc, bytes, sharding, pace),
+        Command::Live(rounds) => run_lived(rt, alloc, bytes, rounds, pace),
         Command::Check => check_report(alloc, bytes),
     }
 }

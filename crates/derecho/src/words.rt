@@ -1,10 +1,11 @@
 ghost use Rattle.std.specs.Prelude.{◌≡◌, bytes_eq, map, option_map, string_bytes};
 ghost use Rattle.std.specs.List.{find};
-ghost use Rattle.derecho.specs.Words.{asked_at, asked_behind, behind, command_of, drill_of, option_of, own_word, play_of, shards_of, store_of, value_in, verb_by, verbs, with_no_more};
+ghost use Rattle.derecho.specs.Words.{asked_at, asked_behind, behind, command_of, drill_of, live_of, option_of, own_word, play_of, shards_of, store_of, value_in, verb_by, verbs, with_no_more};
 
 use dr_ages::Mode;
 use dr_entry::Message;
 use dr_literals::{key_word, number_word};
+use dr_lived::{Rounds, rounds_of};
 use dr_outcome::Play;
 use dr_sharded::{Sharding, sharding_of};
 
@@ -22,6 +23,9 @@ pub enum Command<'a> {
     Drill { number: u64 },
     /// To lay the script on the source out in shards, run each of them, and say what becomes of it.
     Shards(Sharding),
+    /// To run the script on the source while the messages of its members are pushed, in so many rounds, and say
+    /// how many were pushed and delivered.
+    Live(Rounds),
     /// To judge the report that stands on the source beside its script.
     Check,
 }
@@ -34,16 +38,18 @@ pub(crate) enum Verb {
     Store,
     Drill,
     Shards,
+    Live,
     Check,
 }
 
 /// How each verb is written.
-const VERBS: [(&str, Verb); 6] = [
+const VERBS: [(&str, Verb); 7] = [
     ("sim", Verb::Sim),
     ("run", Verb::Run),
     ("store", Verb::Store),
     ("drill", Verb::Drill),
     ("shards", Verb::Shards),
+    ("live", Verb::Live),
     ("check", Verb::Check),
 ];
 
@@ -86,6 +92,7 @@ fn asked_behind(verb: Verb, words: &[String]) -> Option<Command<'_>>
         Verb::Store => store_of(words),
         Verb::Drill => drill_of(words),
         Verb::Shards => shards_of(words),
+        Verb::Live => live_of(words),
         Verb::Check => with_no_more(Some(Command::Check), words),
     }
 }
@@ -130,6 +137,13 @@ fn shards_of(words: &[String]) -> Option<Command<'_>>
     ensures { result ≡ shards_of (map string_bytes words.now) }
 {
     Some(Command::Shards(sharding_of(words)?))
+}
+
+/// What the words behind `live` ask for.
+fn live_of(words: &[String]) -> Option<Command<'_>>
+    ensures { result ≡ live_of (map string_bytes words.now) }
+{
+    Some(Command::Live(rounds_of(words)?))
 }
 
 /// What is asked, where no word is left.

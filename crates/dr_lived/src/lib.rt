@@ -1,0 +1,13 @@
+//! The command `live`: the messages of each member are pushed by a thread of its own while the ages of the
+//! group run.
+#![tactic(auto)]
+
+mod lines;
+mod rounds;
+mod running;
+
+pub use rounds::{Rounds, rounds_of};
+pub use running::run_lived;
+
+#[cfg(test)]
+mod tests;
