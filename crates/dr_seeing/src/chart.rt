@@ -4,11 +4,13 @@ ghost use Rattle.dr_program.specs.Form.{IsRunningMember};
 
 use crate::deeds::news_of;
 use crate::news::News;
-use crate::turn::Turn;
+use crate::turn::{Turn, push_rest};
 use crate::waits::push_waits;
+use dr_entry::Entry;
 use dr_member::Member;
 use std::alloc::{AllocError, Global};
 use std::fmt::Write;
+use std::mem::replace;
 
 /// What stands before the first column.
 const MARGIN: usize = 6;
@@ -16,20 +18,37 @@ const MARGIN: usize = 6;
 /// A chart that is drawn as a run goes on.
 #[derive(Drop)]
 pub struct Chart {
+    alloc: Global,
     /// What is drawn and not yet taken.
     text: String,
-    /// The words of a row.
-    words: String,
+    /// The rows that are yet to be drawn.
+    rows: Vec<Row>,
     /// The turn that each member is in.
     turns: Vec<Turn>,
+    /// How many entries of the history of each member are told.
+    told: Vec<usize>,
     /// How many turns without news have ended since the last row.
     quiet: u64,
+    /// The turn of the row drawn last.
+    turn: u32,
     /// Whether each member takes whole turns, with no deed of another one in them.
     whole: bool,
     /// The member that was seen last.
     last: Option<u8>,
     /// The width of a column.
     width: u8,
+}
+
+/// A row: a turn of a member, with its news.
+#[derive(Drop)]
+struct Row {
+    me: u8,
+    turn: u32,
+    words: String,
+    /// Whether there is more to tell of it, as it ended a view.
+    waits: bool,
+    /// How many turns without news have ended before it.
+    quiet: u64,
 }
 
 impl Chart {
@@ -44,10 +63,13 @@ impl Chart {
             turns.push(Turn::new(alloc))?;
         }
         Ok(Chart {
+            alloc,
             text: String::new(alloc),
-            words: String::new(alloc),
+            rows: Vec::new(alloc),
             turns,
+            told: vec![in alloc; 0; usize::from(members)]?,
             quiet: 0,
+            turn: 0,
             whole,
             last: None,
             width: width_for(members),
@@ -70,6 +92,8 @@ impl Chart {
     ///
     /// Want of memory alone.
     pub fn open(&mut self, age: u16, entries: usize) -> Result<(), AllocError> {
+        self.turn = 0;
+        self.told.fill(entries.saturating_add(1));
         writeln!(self.text, "age {age} start {entries}")?;
         self.text.push_str("turn")?;
         let mut behind = 0;
@@ -98,6 +122,7 @@ impl Chart {
             _ => {}
         }
         self.last = Some(me);
+        self.catch_up(me, member.history())?;
         match news_of(member) {
             Some(news) => self.note(me, news),
             None => Ok(()),
@@ -110,20 +135,53 @@ impl Chart {
     ///
     /// Want of memory alone.
     pub fn close(&mut self, members: &[Member]) -> Result<(), AllocError> {
-        self.tell_quiet()?;
+        for row in self.rows.iter_mut() {
+            row.waits = false;
+        }
+        self.draw_rows()?;
+        let quiet = replace(&mut self.quiet, 0);
+        if !self.whole {
+            self.tell_quiet(quiet)?;
+        }
         for member in members {
             push_waits(&mut self.text, member, members)?;
         }
         Ok(())
     }
 
+    /// Tells of the entries of a member's history that came as it ended a view.
+    fn catch_up(&mut self, me: u8, history: &[Entry]) -> Result<(), AllocError> {
+        let Some(told) = self.told.get_mut(usize::from(me)) else {
+            return Ok(());
+        };
+        let new = &history[(*told).min(history.len())..];
+        *told = history.len();
+        if new.is_empty() {
+            return Ok(());
+        }
+        for row in self.rows.iter_mut() {
+            if row.me == me && row.waits {
+                row.waits = false;
+                push_rest(&mut row.words, new)?;
+                return self.draw_rows();
+            }
+        }
+        match self.turns.get_mut(usize::from(me)) {
+            Some(turn) => turn.note_rest(new),
+            None => Ok(()),
+        }
+    }
+
     /// Takes note of news of a member. A turn ends as the next one begins, or as the member ends.
     fn note(&mut self, me: u8, news: News<'_>) -> Result<(), AllocError> {
-        if let News::Turn(_) = news {
-            self.end_turn(me)?;
+        let members = self.turns.len();
+        match news {
+            News::Turn(_) => self.end_turn(me)?,
+            News::Delivery { .. } => self.count_delivery(me),
+            _ => {}
         }
         if let Some(turn) = self.turns.get_mut(usize::from(me)) {
-            turn.note(news)?;
+            turn.note(members, news)?;
         }
         match news {
             News::End(_) => self.end_turn(me),
@@ -131,7 +189,14 @@ impl Chart {
         }
     }
 
-    /// Draws the row of the turn that a member is in, where it has news.
+    /// A delivery of a member is told as news.
+    fn count_delivery(&mut self, me: u8) {
+        if let Some(told) = self.told.get_mut(usize::from(me)) {
+            *told = (*told).saturating_add(1);
+        }
+    }
+
+    /// Makes a row of the turn that a member is in, where it has news.
     fn end_turn(&mut self, me: u8) -> Result<(), AllocError> {
         let Some(turn) = self.turns.get_mut(usize::from(me)) else {
             return Ok(());
@@ -142,17 +207,41 @@ impl Chart {
             self.quiet = self.quiet.saturating_add(u64::from(number > 0));
             return Ok(());
         }
-        self.words.clear();
-        turn.push_to(&mut self.words)?;
+        let mut words = String::new(self.alloc);
+        turn.push_to(&mut words)?;
+        let waits = turn.ends_view();
         turn.begin(0);
-        self.tell_quiet()?;
-        push_row(&mut self.text, self.width, me, number, self.words.as_str())
+        self.rows.push(Row {
+            me,
+            turn: number,
+            words,
+            waits,
+            quiet: replace(&mut self.quiet, 0),
+        })?;
+        self.draw_rows()
+    }
+
+    /// Draws the rows that are yet to be drawn, once there is no more to tell of any of them.
+    fn draw_rows(&mut self) -> Result<(), AllocError> {
+        if self.rows.iter().any(|row| row.waits) {
+            return Ok(());
+        }
+        let rows = replace(&mut self.rows, Vec::new(self.alloc));
+        for row in rows.iter() {
+            if !self.whole {
+                self.tell_quiet(row.quiet)?;
+            } else if row.turn > self.turn.saturating_add(1) {
+                let turn = row.turn;
+                writeln!(self.text, "      (nothing new until turn {turn})")?;
+            }
+            self.turn = row.turn;
+            push_row(&mut self.text, self.width, row)?;
+        }
+        Ok(())
     }
 
     /// Tells how many turns without news have ended.
-    fn tell_quiet(&mut self) -> Result<(), AllocError> {
-        let quiet = self.quiet;
-        self.quiet = 0;
+    fn tell_quiet(&mut self, quiet: u64) -> Result<(), AllocError> {
         match quiet {
             0 => Ok(()),
             1 => self.text.push_str("      (1 turn without news)\n"),
@@ -171,20 +260,22 @@ fn width_for(members: u8) -> u8 {
 }
 
 /// Appends a row, with its words broken to the width of a column.
-fn push_row(out: &mut String, width: u8, me: u8, turn: u32, words: &str) -> Result<(), AllocError> {
-    let indent = usize::from(width) * usize::from(me);
+fn push_row(out: &mut String, width: u8, row: &Row) -> Result<(), AllocError> {
+    let indent = usize::from(width) * usize::from(row.me);
+    let turn = row.turn;
     write!(out, "{turn:>4}  ")?;
     push_blanks(out, indent)?;
     let mut at = 0usize;
-    let news = words.strip_prefix("; ").unwrap_or(words);
-    for word in news.split_ascii_whitespace() {
-        let end = at.saturating_add(word.len());
+    let words = row.words.as_str();
+    for word in words.strip_prefix(";\n").unwrap_or(words).split('\n') {
+        let wide = word.chars().count();
+        let end = at.saturating_add(wide);
         if at == 0 {
-            at = word.len();
+            at = wide;
         } else if end.saturating_add(3) > usize::from(width) {
             out.push_str("\n")?;
             push_blanks(out, MARGIN + indent)?;
-            at = word.len();
+            at = wide;
         } else {
             out.push_str(" ")?;
             at = end.saturating_add(1);

@@ -15,3 +15,4 @@ pub use chart::Chart;
 pub use deeds::{news_of, push_line};
 pub use news::News;
 pub use output::{Output, Trouble};
+pub use waits::push_waits;

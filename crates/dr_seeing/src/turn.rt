@@ -1,29 +1,32 @@
 //! What is new in a turn of a member.
 use crate::news::News;
-use crate::values::push_message;
-use dr_entry::{End, Message};
+use dr_entry::{End, Entry, Value};
+use dr_quote::push_message;
 use dr_text::{push_end, push_mask};
 use std::alloc::{AllocError, Global};
 use std::fmt::Write;
-use std::str;
 
-/// The turn that a member is in, with its news. Each list has a blank before each of its words.
+/// The turn that a member is in, with its news. Each word has a line feed before it, since texts have blanks.
 #[derive(Drop)]
 pub(crate) struct Turn {
+    alloc: Global,
     number: u32,
     took: String,
     put: String,
     delivered: String,
     logged: Option<u64>,
     durable: Option<u64>,
-    /// All else, each with a semicolon before it.
+    /// All else, each behind a semicolon.
     more: String,
+    /// Whether it ends a view, so that there is more to tell once that is done.
+    ends_view: bool,
 }
 
 impl Turn {
     /// What a member is in before its first turn, without news.
     pub(crate) fn new(alloc: Global) -> Turn {
         Turn {
+            alloc,
             number: 0,
             took: String::new(alloc),
             put: String::new(alloc),
@@ -31,6 +34,7 @@ impl Turn {
             logged: None,
             durable: None,
             more: String::new(alloc),
+            ends_view: false,
         }
     }
 
@@ -43,6 +47,12 @@ impl Turn {
         self.logged = None;
         self.durable = None;
         self.more.clear();
+        self.ends_view = false;
+    }
+
+    /// Whether it ends a view.
+    pub(crate) fn ends_view(&self) -> bool {
+        self.ends_view
     }
 
     /// Its number.
@@ -58,75 +68,98 @@ impl Turn {
             && self.logged.is_none()
             && self.durable.is_none()
             && self.more.as_str().is_empty()
+            && !self.ends_view
     }
 
     /// Appends its news, in words.
     pub(crate) fn push_to(&self, out: &mut String) -> Result<(), AllocError> {
-        push_list(out, "; took", &self.took)?;
-        push_list(out, "; put", &self.put)?;
-        push_list(out, "; delivered", &self.delivered)?;
+        push_list(out, ";\ntook", &self.took)?;
+        push_list(out, ";\nput", &self.put)?;
+        push_list(out, ";\ndelivered", &self.delivered)?;
         if let Some(count) = self.logged {
-            write!(out, "; log {count}")?;
+            write!(out, ";\nlog\n{count}")?;
         }
         if let Some(count) = self.durable {
-            write!(out, "; durable {count}")?;
+            write!(out, ";\ndurable\n{count}")?;
         }
         out.push_str(self.more.as_str())
     }
 
-    /// Takes note of news. That of a turn begins it.
-    pub(crate) fn note(&mut self, news: News<'_>) -> Result<(), AllocError> {
+    /// Takes note of news of one of so many members. That of a turn begins it.
+    pub(crate) fn note(&mut self, members: usize, news: News<'_>) -> Result<(), AllocError> {
         match news {
             News::Turn(number) => self.begin(number),
             News::Logged(count) => self.logged = Some(count),
             News::Durable(count) => self.durable = Some(count),
-            News::Taking { sender, count } => write!(self.took, " {sender}.{count}")?,
-            News::Put(message) => self.note_message(message)?,
-            News::Filler => self.put.push_str(" null")?,
-            News::Delivery { sender, index, .. } => write!(self.delivered, " {sender}.{index}")?,
-            News::Suspicion(other) => write!(self.more, "; suspects {other}")?,
-            News::Vote => self.more.push_str("; votes")?,
-            News::Proposal(_) => self.more.push_str("; proposes")?,
-            News::Acceptance => self.more.push_str("; accepts")?,
-            News::Commitment(value) => self.note_commitment(value.leavers)?,
-            News::NextView { number, .. } => write!(self.more, "; VIEW {number}")?,
+            News::Taking { sender, count } => write!(self.took, "\n{sender}#{count}")?,
+            News::Put(message) => {
+                self.put.push_str("\n")?;
+                push_message(self.alloc, &mut self.put, message)?;
+            }
+            News::Filler => self.put.push_str("\nnull")?,
+            News::Delivery { sender, index, .. } => write!(self.delivered, "\n{sender}.{index}")?,
+            News::Suspicion(other) => write!(self.more, ";\nsuspects\n{other}")?,
+            News::Vote => self.more.push_str(";\nvotes")?,
+            News::Proposal(_) => self.more.push_str(";\nproposes")?,
+            News::Acceptance => self.more.push_str(";\naccepts")?,
+            News::Commitment(value) => push_commitment(&mut self.more, members, &value)?,
+            News::NextView { .. } => self.ends_view = true,
             News::End(end) => self.note_end(end)?,
         }
         Ok(())
     }
 
-    fn note_message(&mut self, message: &Message) -> Result<(), AllocError> {
-        let bytes = message.bytes();
-        self.put.push_str(" ")?;
-        match str::from_utf8(bytes) {
-            Ok(text) if is_plain(bytes) => write!(self.put, "\"{text}\""),
-            _ => push_message(&mut self.put, bytes),
-        }
-    }
-
-    fn note_commitment(&mut self, leavers: u16) -> Result<(), AllocError> {
-        self.more.push_str("; commits that ")?;
-        push_mask(&mut self.more, leavers)?;
-        self.more.push_str(if leavers.is_power_of_two() {
-            " leaves"
-        } else {
-            " leave"
-        })
-    }
-
     fn note_end(&mut self, end: End) -> Result<(), AllocError> {
+        self.more.push_str(";\n")?;
         match end {
-            End::Done => self.more.push_str("; DONE"),
-            End::Crashed => self.more.push_str("; CRASHED"),
-            End::Suspected { by } => write!(self.more, "; SUSPECTED by {by}"),
-            End::Excluded { view } => write!(self.more, "; EXCLUDED from {view}"),
-            End::Spent { turns } => write!(self.more, "; SPENT {turns}"),
+            End::Done => self.more.push_str("DONE"),
+            End::Crashed => self.more.push_str("CRASHED"),
+            End::Suspected { by } => write!(self.more, "SUSPECTED\nby\n{by}"),
+            End::Excluded { view } => write!(self.more, "EXCLUDED\nfrom\n{view}"),
+            End::Spent { turns } => write!(self.more, "SPENT\n{turns}"),
             _ => {
-                self.more.push_str("; ENDED: ")?;
+                self.more.push_str("ENDED:\n")?;
                 push_end(&mut self.more, end)
             }
         }
     }
+
+    /// Takes note of entries that came as the view ended.
+    pub(crate) fn note_rest(&mut self, entries: &[Entry]) -> Result<(), AllocError> {
+        self.ends_view = false;
+        push_rest(&mut self.more, entries)
+    }
+}
+
+/// Appends that a value is committed: who leaves, and how many items of each member are delivered.
+fn push_commitment(out: &mut String, members: usize, value: &Value) -> Result<(), AllocError> {
+    out.push_str(";\ncommits\nthat\n")?;
+    push_mask(out, value.leavers)?;
+    out.push_str(if value.leavers.is_power_of_two() {
+        "\nleaves\nwith\nitems"
+    } else {
+        "\nleave\nwith\nitems"
+    })?;
+    for (member, count) in value.trim.iter().enumerate().take(members) {
+        write!(out, "\n{member}:{count}")?;
+    }
+    Ok(())
+}
+
+/// Appends what was delivered as a view ended, and the view behind it.
+pub(crate) fn push_rest(out: &mut String, entries: &[Entry]) -> Result<(), AllocError> {
+    let mut some = false;
+    for entry in entries {
+        match entry {
+            Entry::View { number, .. } => write!(out, ";\nVIEW\n{number}")?,
+            Entry::Msg { sender, index, .. } => {
+                out.push_str(if some { "" } else { ";\ndelivered" })?;
+                write!(out, "\n{sender}.{index}")?;
+                some = true;
+            }
+        }
+    }
+    Ok(())
 }
 
 /// Appends a list behind its title, where it has words.
@@ -136,9 +169,4 @@ fn push_list(out: &mut String, title: &str, list: &String) -> Result<(), AllocEr
     }
     out.push_str(title)?;
     out.push_str(list.as_str())
-}
-
-/// Whether a message is shown as it is: it has printable characters alone, without blanks and quotes.
-fn is_plain(bytes: &[u8]) -> bool {
-    bytes.iter().all(|byte| matches!(*byte, 0x23..=0x7e))
 }

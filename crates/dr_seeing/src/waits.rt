@@ -13,11 +13,11 @@ use std::fmt::Write;
 
 /// Appends a line for each thing that a member waits for and each member that it waits for, where its turns
 /// were spent: by what it has seen of that member, by what is true of that one, and by how it has ended.
-pub(crate) fn push_waits(
-    out: &mut String,
-    member: &Member,
-    members: &[Member],
-) -> Result<(), AllocError> {
+///
+/// # Errors
+///
+/// Want of memory alone.
+pub fn push_waits(out: &mut String, member: &Member, members: &[Member]) -> Result<(), AllocError> {
     let Some(End::Spent { .. }) = member.end() else {
         return Ok(());
     };
@@ -272,7 +272,7 @@ fn push_wait(
     };
     let has = other.replica().own(missing.kind.column());
     match missing.kind {
-        Kind::Received => write!(out, " to have received {wanted} {item} in turn")?,
+        Kind::Received => write!(out, " to have received {wanted} {item} in order")?,
         Kind::Logged => write!(out, " to have logged {wanted} {entry}")?,
         Kind::Done if has == 1 => return out.push_str(
             " to be seen to have everything, which it has\n",
