@@ -8,6 +8,3 @@ mod running;
 
 pub use rounds::{Rounds, rounds_of};
 pub use running::run_lived;
-
-#[cfg(test)]
-mod tests;
