@@ -6,6 +6,3 @@ mod live;
 
 pub use dr_senders::{App, ListApp};
 pub use live::{LiveEnd, is_live_plan, run_live};
-
-#[cfg(test)]
-mod tests;

@@ -1,10 +1,13 @@
 //! A test program: it runs each script that it reads, a script a line, live, in as many rounds as its word
 //! asks for. It prints the report of the ages, and behind the last line of that what `derecho live` says of
-//! them before its last line.
+//! them before its last line. At the line `moments` it runs apps that push at different moments, in two rounds,
+//! and prints in which ages their messages are.
 //!
 //! How messages fall into rounds is up to the threads. So the gate runs it in no round, where all of them are in
 //! the one last age, and `tools/live-runs` judges what it prints of others.
 #![tactic(auto)]
+
+mod moments;
 
 use anyhow::anyhow;
 use dr_intake::words_of;
@@ -24,6 +27,10 @@ fn main(rt: HostRuntime) -> anyhow::Result<()> {
     };
     for line in BufReader::new(alloc, rt.reader())?.lines(alloc) {
         let line = line?;
+        if line.as_str() == "moments" {
+            print!(rt; "{}", moments::told_of_moments(&rt, alloc)?)?;
+            continue;
+        }
         let outcome = run_lived(&rt, alloc, line.as_bytes(), &rounds, &SnoozePace);
         tell(&rt, alloc, outcome)?;
     }

@@ -1,16 +1,16 @@
 ghost use Rattle.std.specs.Prelude.{◌≡◌, ◌≤◌, All, IfOk, length};
 ghost use Rattle.dr_live.specs.Live.{IsLivePlan};
 
-use crate::{App, ListApp, LiveEnd, is_live_plan, run_live};
+use anyhow::anyhow;
 use dr_entry::{AgeEnd, End, Entry, Message};
+use dr_live::{App, ListApp, LiveEnd, is_live_plan, run_live};
 use dr_pace::{Pace, SnoozePace};
 use dr_script::{Script, read_script};
 use std::alloc::Global;
 use std::fmt::Write;
 use std::sync::Arc;
 use std::sync::atomic::{AtomicU64, Ordering};
-use std::test::Fail;
-use std::thread;
+use std::thread::{self, Threads};
 
 /// Three members, with turns enough for threads.
 const PLAN: &[u8] = br#"{"members":3,"window":1,"turns":1000000,"patience":0,"ages":1,
@@ -75,27 +75,27 @@ impl Pace for HoldFirst {
     }
 }
 
-fn plan(alloc: Global) -> Result<Script, Fail>
+fn plan(alloc: Global) -> anyhow::Result<Script>
     ensures live { IfOk result IsLivePlan }
     ensures members { IfOk result (λ plan. plan.members ≡ 3) }
 {
     let script = match read_script(alloc, PLAN) {
         Ok(script) => script,
-        Err(_) => return Err(Fail::from("this is no script")),
+        Err(_) => return Err(anyhow!("this is no script")),
     };
     if script.members == 3 && is_live_plan(&script) {
         Ok(script)
     } else {
-        Err(Fail::from("this is no plan"))
+        Err(anyhow!("this is no plan"))
     }
 }
 
 /// An app that gives a message once so many members have come to their ends.
-fn late_app(alloc: Global, ends: u64, counts: &Arc<Counts, Global>) -> Result<LateApp, Fail>
+fn late_app(alloc: Global, ends: u64, counts: &Arc<Counts, Global>) -> anyhow::Result<LateApp>
     ensures { IfOk result (λ app. length app.messages ≤ 4096) }
 {
     let Some(message) = Message::of(b"m") else {
-        return Err(Fail::from("the message is too long"));
+        return Err(anyhow!("the message is too long"));
     };
     let mut messages = Vec::new(alloc);
     messages.push(message)?;
@@ -107,7 +107,7 @@ fn late_app(alloc: Global, ends: u64, counts: &Arc<Counts, Global>) -> Result<La
 }
 
 /// Apps that give a message each: at once, behind the first age, and behind the second one.
-fn apps(alloc: Global, counts: &Arc<Counts, Global>) -> Result<Vec<LateApp>, Fail>
+fn apps(alloc: Global, counts: &Arc<Counts, Global>) -> anyhow::Result<Vec<LateApp>>
     ensures all { IfOk result (λ v. length v.items ≡ 3) }
     ensures few { IfOk result (λ v. All (λ app. length app.messages ≤ 4096) v.items) }
 {
@@ -119,7 +119,7 @@ fn apps(alloc: Global, counts: &Arc<Counts, Global>) -> Result<Vec<LateApp>, Fai
 }
 
 /// Whose messages each member has delivered in an age, in ascending order.
-fn delivered(alloc: Global, age: &AgeEnd) -> Result<String, Fail> {
+fn delivered(alloc: Global, age: &AgeEnd) -> anyhow::Result<String> {
     let mut text = String::new(alloc);
     for member in age.members.as_slice() {
         for sender in 0..3 {
@@ -134,11 +134,10 @@ fn delivered(alloc: Global, age: &AgeEnd) -> Result<String, Fail> {
     Ok(text)
 }
 
-/// What an app pushes while an age runs is delivered in the next one, and what it pushes behind the last round
-/// in the last age.
-#[test]
-fn apps_push_at_different_moments(rt: HostRuntime) -> Result<(), Fail> {
-    let alloc = rt.alloc();
+/// Tells, of each of three ages, whose messages each member has delivered: what an app pushes while an age runs
+/// is in the next one, and what it pushes behind the last round in the last age. What is pushed at once may be in
+/// the first age or not, so only what may not be there is told of that one.
+pub(crate) fn told_of_moments(rt: &(impl Threads + Sync), alloc: Global) -> anyhow::Result<String> {
     let counts = Arc::new(
         alloc,
         Counts {
@@ -150,16 +149,16 @@ fn apps_push_at_different_moments(rt: HostRuntime) -> Result<(), Fail> {
         counts: Arc::try_clone(&counts)?,
     };
     let apps = apps(alloc, &counts)?;
-    let LiveEnd { ages, pushed } = run_live(&rt, alloc, &plan(alloc)?, apps, 2, &pace)?;
+    let LiveEnd { ages, pushed } = run_live(rt, alloc, &plan(alloc)?, apps, 2, &pace)?;
+    let mut text = String::new(alloc);
     for list in pushed.as_slice() {
-        assert_eq!(rt; list.as_slice().len(), 1);
+        writeln!(text, "pushed {}", list.as_slice().len())?;
     }
-    let [first, second, last] = ages.as_slice() else {
-        return Err(Fail::from("there are not three ages"));
-    };
-    let first = delivered(alloc, first)?;
-    assert!(rt; first.as_str() == "..." || first.as_str() == "0.0.0.");
-    assert_eq!(rt; delivered(alloc, second)?.as_str(), "01.01.01.");
-    assert_eq!(rt; delivered(alloc, last)?.as_str(), "012.012.012.");
-    Ok(())
+    for (number, age) in ages.as_slice().iter().enumerate() {
+        let told = delivered(alloc, age)?;
+        if number > 0 || !["...", "0.0.0."].contains(&told.as_str()) {
+            writeln!(text, "age {number}: {told}")?;
+        }
+    }
+    Ok(text)
 }
