@@ -7,6 +7,3 @@ mod words;
 
 pub use running::run_sharded;
 pub use words::{ShardCount, Sharding, sharding_of};
-
-#[cfg(test)]
-mod tests;

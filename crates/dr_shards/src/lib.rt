@@ -13,6 +13,3 @@ pub use fault::LayFault;
 pub use laws::{members_keep_their_numbers, shards_repeat};
 pub use layout::lay_out;
 pub use run::{ShardMode, run_shards};
-
-#[cfg(test)]
-mod tests;

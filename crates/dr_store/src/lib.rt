@@ -16,6 +16,3 @@ mod store;
 pub use fault::AtFault;
 pub use laws::replicas_agree;
 pub use store::Store;
-
-#[cfg(test)]
-mod tests;
