@@ -1,20 +1,12 @@
 //! Runs the ages of a group by a script, and prints what each of its members delivered.
 #![tactic(auto)]
 
-mod outcome;
-mod top;
-mod words;
-
+use dr_commands::derecho;
 use dr_intake::{OUT_OF_MEMORY, words_of};
 use dr_io::{InputSource, OutputSink};
 use dr_pace::SnoozePace;
 use dr_yard::FileYard;
 use std::process::ExitCode;
-pub use top::{Ended, derecho};
-pub use words::Command;
-
-#[cfg(test)]
-mod tests;
 
 fn main(rt: HostRuntime) -> ExitCode {
     let alloc = rt.alloc();

@@ -1,5 +1,5 @@
-//! Tests of runs whose disks stop or fail, at each of their calls in turn, and of a file that has become
-//! shorter.
+//! Tests of runs whose disks stop or fail, at each of their calls in turn, of calls whose source, sink or disks
+//! fail, or whose threads wait for one another, and of a file that has become shorter.
 #![tactic(auto)]
 
 #[cfg(test)]
@@ -10,3 +10,5 @@ mod files;
 mod runs;
 #[cfg(test)]
 mod stops;
+#[cfg(test)]
+mod top;

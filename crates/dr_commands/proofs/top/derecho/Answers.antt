@@ -5,11 +5,11 @@ use Rattle.dr_checked.proofs.Runs.{run_end}
 use Rattle.dr_text.specs.declared.last.Last.TheVariants.{SourceFault}
 use Rattle.dr_yard.specs.Yards.{state_by}
 use Rattle.dr_outcome.specs.declared.outcome.Outcome.{Outcome}
-use Rattle.derecho.specs.Outcome.{WroteOrNot}
-use Rattle.derecho.proofs.Course.{Call, IsCourse, Standing, disk_fault_of, disk_told_of, fault_told, log_full_of, logs_refused_of, no_majority_of, read_fault_of, standing_of, status_known, unfinished_of, usage_of}
-use Rattle.derecho.proofs.Judged.{judged_so}
-use Rattle.derecho.proofs.top.derecho.Given as given
-use Rattle.derecho.proofs.top.derecho.Goals as goal
+use Rattle.dr_commands.specs.Outcome.{WroteOrNot}
+use Rattle.dr_commands.proofs.Course.{Call, IsCourse, Standing, disk_fault_of, disk_told_of, fault_told, log_full_of, logs_refused_of, no_majority_of, read_fault_of, standing_of, status_known, unfinished_of, usage_of}
+use Rattle.dr_commands.proofs.Judged.{judged_so}
+use Rattle.dr_commands.proofs.top.derecho.Given as given
+use Rattle.dr_commands.proofs.top.derecho.Goals as goal
 
 abbrev call : (g : given.Over) → List (String Global) → g.row.S.Denot → g.row.S.Denot → g.row.Y.Denot
     → g.row.Y.Denot → Outcome → Call

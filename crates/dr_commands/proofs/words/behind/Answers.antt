@@ -1,6 +1,6 @@
 use Rattle.std.proofs.Common.{ap, sym, ◌∙◌, ◌++◌}
-use Rattle.derecho.proofs.Fronts.{stripped}
-use Rattle.derecho.proofs.words.behind.Goals as goal
+use Rattle.dr_commands.proofs.Fronts.{stripped}
+use Rattle.dr_commands.proofs.words.behind.Goals as goal
 
 pub returns : goal.returns
 returns c =

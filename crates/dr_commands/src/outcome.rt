@@ -5,8 +5,8 @@ ghost use Rattle.dr_io.specs.Faults.{Rose};
 ghost use Rattle.dr_text.specs.declared.last.Last.TheVariants.{SourceFault};
 ghost use Rattle.dr_yard.specs.Yards.{state_by};
 ghost use Rattle.dr_outcome.specs.Outcome.{HasDone, SaysOnly};
-ghost use Rattle.derecho.specs.Outcome.{Course, Does};
-ghost use Rattle.derecho.specs.Words.{ends_of, reads};
+ghost use Rattle.dr_commands.specs.Outcome.{Course, Does};
+ghost use Rattle.dr_commands.specs.Words.{ends_of, reads};
 
 use crate::words::{Command, command_of};
 use dr_checked::check_report;

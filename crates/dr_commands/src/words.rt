@@ -1,6 +1,6 @@
 ghost use Rattle.std.specs.Prelude.{◌≡◌, bytes_eq, map, option_map, string_bytes};
 ghost use Rattle.std.specs.List.{find};
-ghost use Rattle.derecho.specs.Words.{asked_at, asked_behind, behind, command_of, drill_of, live_of, option_of, own_word, play_of, shards_of, store_of, value_in, verb_by, verbs, with_no_more};
+ghost use Rattle.dr_commands.specs.Words.{asked_at, asked_behind, behind, command_of, drill_of, live_of, option_of, own_word, play_of, shards_of, store_of, value_in, verb_by, verbs, with_no_more};
 
 use dr_ages::Mode;
 use dr_entry::Message;

@@ -2,8 +2,8 @@
 use Rattle.std.proofs.Common.{◌≡◌, refl, ℕ, Bool, true, false, if◌then◌else◌, List, [], ◌∷◌, map, Option, Some, option_map, Bor}
 use Rattle.std.specs.Prelude.{bytes_eq}
 use Rattle.std.specs.List.{find}
-use Rattle.derecho.specs.declared.words.Verb.{Verb}
-use Rattle.derecho.specs.Words.{verb_by}
+use Rattle.dr_commands.specs.declared.words.Verb.{Verb}
+use Rattle.dr_commands.specs.Words.{verb_by}
 
 abbrev pub Held : Type 0
 Held = Bor (List ℕ) × Verb

@@ -5,7 +5,7 @@ use Rattle.std.proofs.lemmas.Bool.{cases_Bool}
 use Rattle.std.proofs.lemmas.Slice.Eq.{bytes_eq-Decides}
 use Rattle.std.proofs.Math.Seq.{drop-append_seam, take-append_seam}
 use Rattle.std.proofs.lemmas.List.{take-append-drop}
-use Rattle.derecho.specs.Words.{behind}
+use Rattle.dr_commands.specs.Words.{behind}
 
 -- as the strip of a front says it
 pub stripped : (front word : List ℕ) (r : Option (Bor (List ℕ))) {P : Type 0} {Q : Bor (List ℕ) → Type 0}

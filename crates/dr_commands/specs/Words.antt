@@ -14,10 +14,10 @@ use Rattle.dr_outcome.specs.Playing.{play_ends}
 use Rattle.dr_sharded.specs.Sharded.{shards_ends}
 use Rattle.dr_sharded.specs.Words.{sharding_of}
 use Rattle.dr_stored.specs.Stored.{store_ends}
-use Rattle.derecho.specs.declared.words.Command.{Command}
-use Rattle.derecho.specs.declared.words.Command.TheVariants.{Check, Drill, Live, Play, Shards, Store}
-use Rattle.derecho.specs.declared.words.Verb.{Verb}
-use Rattle.derecho.specs.declared.words.Verb.TheVariants as verb
+use Rattle.dr_commands.specs.declared.words.Command.{Command}
+use Rattle.dr_commands.specs.declared.words.Command.TheVariants.{Check, Drill, Live, Play, Shards, Store}
+use Rattle.dr_commands.specs.declared.words.Verb.{Verb}
+use Rattle.dr_commands.specs.declared.words.Verb.TheVariants as verb
 
 -- ---- options, each in two spellings: `--NAME VALUE` and `--NAME=VALUE`
 

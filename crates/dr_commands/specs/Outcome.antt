@@ -15,9 +15,9 @@ use Rattle.dr_script.specs.Reading.{Reads, reading_of}
 use Rattle.dr_sharded.specs.Sharded.{RunsShards}
 use Rattle.dr_stored.specs.Stored.{Stores}
 use Rattle.dr_yard.specs.Yards.{YardState}
-use Rattle.derecho.specs.declared.words.Command.{Command}
-use Rattle.derecho.specs.declared.words.Command.TheVariants.{Check, Drill, Live, Play, Shards, Store}
-use Rattle.derecho.specs.Words.{asked_by, ends_of, reads}
+use Rattle.dr_commands.specs.declared.words.Command.{Command}
+use Rattle.dr_commands.specs.declared.words.Command.TheVariants.{Check, Drill, Live, Play, Shards, Store}
+use Rattle.dr_commands.specs.Words.{asked_by, ends_of, reads}
 
 -- what each command makes of what was read for it, by how the yard was and then is
 abbrev pub Does : Command → List ℕ → YardState → YardState → Outcome → Type 0

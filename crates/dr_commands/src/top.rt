@@ -9,9 +9,9 @@ ghost use Rattle.dr_outcome.specs.declared.last.Kind.TheVariants.{DiskFault, Log
 ghost use Rattle.dr_outcome.specs.declared.outcome.Outcome.{Outcome as OutcomeOf};
 ghost use Rattle.dr_outcome.specs.Last.{refusal_of, some_end, some_so};
 ghost use Rattle.dr_outcome.specs.Playing.{Playing};
-ghost use Rattle.derecho.specs.Outcome.{Course, Exactly, IsWritten, WasJudgedRight, WroteOrNot};
-ghost use Rattle.derecho.specs.declared.words.Command.TheVariants.{Play as PlayOf};
-ghost use Rattle.derecho.specs.Words.{IsCommand, asked_by, statuses_of};
+ghost use Rattle.dr_commands.specs.Outcome.{Course, Exactly, IsWritten, WasJudgedRight, WroteOrNot};
+ghost use Rattle.dr_commands.specs.declared.words.Command.TheVariants.{Play as PlayOf};
+ghost use Rattle.dr_commands.specs.Words.{IsCommand, asked_by, statuses_of};
 
 use crate::outcome::outcome_of;
 use dr_ages::Stop;

@@ -14,9 +14,9 @@ use Rattle.dr_outcome.specs.Last.{first_end, first_told, last_by, last_of, refus
 use Rattle.dr_outcome.specs.Outcome.{HasDone, TellsDisks, by_run, outcome_text, unrun}
 use Rattle.dr_outcome.proofs.Lasts.{end_so, refusal_status, told_so}
 use Rattle.dr_outcome.proofs.Due.{contains_more, line_behind}
-use Rattle.derecho.specs.declared.words.Command.{Command}
-use Rattle.derecho.specs.Outcome.{Course, Does, Exactly, IsWritten, WroteOrNot}
-use Rattle.derecho.specs.Words.{IsCommand, asked_by, ends_of, reads, statuses_of, told_by}
+use Rattle.dr_commands.specs.declared.words.Command.{Command}
+use Rattle.dr_commands.specs.Outcome.{Course, Does, Exactly, IsWritten, WroteOrNot}
+use Rattle.dr_commands.specs.Words.{IsCommand, asked_by, ends_of, reads, statuses_of, told_by}
 
 -- a call: its words, its source and its yard before and after, and what it came to
 pub record Call : Type 0 where

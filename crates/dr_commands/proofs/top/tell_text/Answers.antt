@@ -1,7 +1,7 @@
 use Rattle.std.proofs.Common.{◌++◌, List, ℕ, inr, subst}
 use Rattle.dr_intake.specs.Status.{WroteText}
 use Rattle.dr_text.specs.Report.{last_text}
-use Rattle.derecho.proofs.top.tell_text.Goals as goal
+use Rattle.dr_commands.proofs.top.tell_text.Goals as goal
 
 pub returns-clause-wrote : goal.returns-clause-wrote
 returns-clause-wrote g c =

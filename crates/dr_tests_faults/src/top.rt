@@ -1,11 +1,11 @@
 ghost use Rattle.std.specs.Prelude.{◌≡◌, ◌<◌, ℕ, IfOk, false};
 ghost use Rattle.dr_entry.specs.declared.limits.TheConstants.{MAX_MEMBERS};
 
-use super::*;
+use dr_commands::{Ended, derecho};
 use dr_disk::MemoryDisk;
 use dr_entry::End;
 use dr_io::{MemorySink, MemorySource};
-use dr_pace::{HoldPace, MeetPace, Pace};
+use dr_pace::{HoldPace, MeetPace, Pace, SnoozePace};
 use dr_yard::{CalmYard, MemoryYard, Yard};
 use std::alloc::Global;
 use std::process::Abort;

@@ -1,10 +1,10 @@
 use Rattle.std.proofs.Common.{◌⊎◌, None, subst, sym}
 use Rattle.dr_outcome.specs.Outcome.{HasDone, SaysOnly}
 use Rattle.dr_yard.specs.Yards.{state_by}
-use Rattle.derecho.specs.declared.words.Command.{Command}
-use Rattle.derecho.specs.Outcome.{Does}
-use Rattle.derecho.specs.Words.{ends_of}
-use Rattle.derecho.proofs.outcome.do_command.Goals as goal
+use Rattle.dr_commands.specs.declared.words.Command.{Command}
+use Rattle.dr_commands.specs.Outcome.{Does}
+use Rattle.dr_commands.specs.Words.{ends_of}
+use Rattle.dr_commands.proofs.outcome.do_command.Goals as goal
 
 pub returns-in-Drill-clause-done : goal.returns-in-Drill-clause-done
 returns-in-Drill-clause-done g c =

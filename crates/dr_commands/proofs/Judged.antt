@@ -10,11 +10,11 @@ use Rattle.dr_outcome.specs.declared.outcome.Outcome.{Outcome}
 use Rattle.dr_outcome.specs.Outcome.{Plays, outcome_text}
 use Rattle.dr_outcome.specs.Playing.{Playing}
 use Rattle.dr_text.specs.declared.last.Last.{Last}
-use Rattle.derecho.specs.declared.words.Command.{Command}
-use Rattle.derecho.specs.declared.words.Command.TheVariants.{Play}
-use Rattle.derecho.specs.Outcome.{Does, IsWritten, WasJudgedRight, WroteOrNot}
-use Rattle.derecho.specs.Words.{asked_by, reads}
-use Rattle.derecho.proofs.Course.{Call, IsCourse, Writes, unsaid}
+use Rattle.dr_commands.specs.declared.words.Command.{Command}
+use Rattle.dr_commands.specs.declared.words.Command.TheVariants.{Play}
+use Rattle.dr_commands.specs.Outcome.{Does, IsWritten, WasJudgedRight, WroteOrNot}
+use Rattle.dr_commands.specs.Words.{asked_by, reads}
+use Rattle.dr_commands.proofs.Course.{Call, IsCourse, Writes, unsaid}
 
 -- the status is not one that comes before all others
 not_early : (status : ℕ) → IsRunEnd status → (status ≡ 10) ⊎ (status ≡ 5) → ⊥

@@ -3,9 +3,9 @@ use Rattle.dr_intake.specs.Answer.{done, no_memory, no_source}
 use Rattle.dr_io.specs.Faults.{Rose}
 use Rattle.dr_outcome.specs.Outcome.{HasDone}
 use Rattle.dr_yard.specs.Yards.{state_by}
-use Rattle.derecho.specs.Outcome.{Does}
-use Rattle.derecho.specs.Words.{ends_of, reads}
-use Rattle.derecho.proofs.outcome.outcome_of.Goals as goal
+use Rattle.dr_commands.specs.Outcome.{Does}
+use Rattle.dr_commands.specs.Words.{ends_of, reads}
+use Rattle.dr_commands.proofs.outcome.outcome_of.Goals as goal
 
 pub returns-in-Ok-clause-course : goal.returns-in-Ok-clause-course
 returns-in-Ok-clause-course g c = elim c.do_command.ensures.done [
