@@ -1,0 +1,4 @@
+mod Advising
+mod Fronts
+mod Saying
+mod Taking

@@ -1,0 +1,10 @@
+use Rattle.std.proofs.Common.{◌≡◌, ◌≢◌, ◌<◌, ℕ}
+use Rattle.std.specs.Prelude.{Some, slice_get}
+use Rattle.dr_folder.specs.declared.survey.Survey.{Survey}
+use Rattle.dr_folder.specs.Advice.{IsIntact}
+use Rattle.dr_folder.proofs.advice.are_intact_but.Given as goal
+
+-- those before are intact
+abbrev pub invariant-loop-number : goal.invariant-loop-number
+invariant-loop-number l = (m : ℕ) (survey : Survey) → m < l.number → m ≢ l.member
+    → slice_get l.surveys m ≡ Some survey → IsIntact survey

@@ -1,0 +1,53 @@
+-- Which log may be moved away.
+use Rattle.std.specs.Prelude.{◌≡◌, ◌≢◌, ◌⊎◌, ⊤, ℕ, ◌+◌, ◌<◌, ◌≤◌, true, List, length, slice_get, slice_set, Option, None, Some}
+use Rattle.dr_restart.specs.declared.start.Start.{Start}
+use Rattle.dr_script.specs.declared.script.Script.{Script}
+use Rattle.dr_text.specs.declared.last.Last.{Last}
+use Rattle.dr_folder.specs.declared.advice.Advice.{Advice}
+use Rattle.dr_folder.specs.declared.advice.Advice.TheVariants as advised
+use Rattle.dr_folder.specs.declared.file.LogFile.{LogFile}
+use Rattle.dr_folder.specs.declared.file.LogFile.TheVariants.{Missing}
+use Rattle.dr_folder.specs.declared.survey.Survey.{Survey}
+use Rattle.dr_folder.specs.declared.survey.Survey.TheVariants.{Log}
+use Rattle.dr_folder.specs.Foretold.{IsBarred, IsForetold}
+
+-- a file has a log with entries, and nothing stands behind its closed gate
+abbrev pub IsIntact : Survey → Type 0
+IsIntact (Log len entries votes at true) = (len ≡ at + 1) × (0 < length entries)
+IsIntact survey = ⊥
+
+-- there are others than this member, and all of them have intact logs
+pub record AreIntactBut (surveys : List Survey) (member : ℕ) : Type 0 where
+  pub some : 1 < length surveys
+  pub others : (m : ℕ) (survey : Survey) → m ≢ member → slice_get surveys m ≡ Some survey → IsIntact survey
+
+-- without the log of this member the others, all of them intact, make a run start so
+pub record MakesStartAlone (script : Script) (files : List LogFile) (surveys : List Survey) (member : ℕ)
+    (start : Start) : Type 0 where
+  pub intact : AreIntactBut surveys member
+  pub starts : IsForetold script (slice_set files member Missing) start
+
+-- without the log of this member the others aren't all intact, or a run over them is refused
+abbrev pub CanNotGo : Script → List LogFile → List Survey → ℕ → Type 0
+CanNotGo script files surveys member =
+    (AreIntactBut surveys member → ⊥) ⊎ ((last : Last) × IsBarred script (slice_set files member Missing) last)
+
+-- The log of this member may be moved away: it is the only one without which the others, all of them intact, make
+-- a run start. So if one log alone is bad, it is this one, and what was durable stands on another one.
+pub record MayGo (script : Script) (files : List LogFile) (surveys : List Survey) (member : ℕ) (start : Start)
+    : Type 0 where
+  pub makes : MakesStartAlone script files surveys member start
+  pub only : (m : ℕ) → m < script.members → m ≢ member → CanNotGo script files surveys m
+
+-- what is advised: a log is told that may be moved away
+abbrev pub IsAdvice : Script → List LogFile → List Survey → Advice → Type 0
+IsAdvice script files surveys (advised.Away member start) = MayGo script files surveys member start
+IsAdvice script files surveys advice = ⊤
+
+-- the first member from this one on without whose log the others make a run start, or that there is none
+abbrev pub IsNextAway : Script → List LogFile → List Survey → ℕ → Option (ℕ × Start) → Type 0
+IsNextAway script files surveys from None =
+    (m : ℕ) → from ≤ m → m < script.members → CanNotGo script files surveys m
+IsNextAway script files surveys from (Some (member, start)) =
+    (from ≤ member) × (member < script.members) × MakesStartAlone script files surveys member start
+    × ((m : ℕ) → from ≤ m → m < member → CanNotGo script files surveys m)

@@ -1,0 +1,5 @@
+pub mod Foretold
+pub mod Surveys
+pub mod Advice
+pub mod Checked
+pub mod Told

@@ -1,0 +1,124 @@
+//! Which log may be moved away where logs are bad.
+
+ghost use Rattle.std.specs.Prelude.{◌≡◌, ◌↔◌, ◌<◌, IfOk, IsTrue, MatchOption, length};
+ghost use Rattle.dr_script.specs.Ranges.{HasGroupRanges};
+ghost use Rattle.dr_folder.specs.Advice.{AreIntactBut, CanNotGo, IsAdvice, IsIntact, IsNextAway, MakesStartAlone};
+
+use crate::file::LogFile;
+use crate::foretelling::foretell_without;
+use crate::survey::Survey;
+use dr_restart::Start;
+use dr_script::Script;
+use std::alloc::{AllocError, Global};
+
+/// What may be done where a run over a folder is refused.
+#[derive(Debug, Drop)]
+pub enum Advice {
+    /// It isn't, or not for its logs.
+    NotNeeded,
+    /// The log of this member may be moved away: it is the only one without which the others, all of them there
+    /// and intact, make a start, and this is it.
+    Away { member: usize, start: Start },
+    /// One of these two is wrong, or both are, and nothing tells which.
+    Unclear { one: usize, other: usize },
+    /// No log is the only bad one.
+    Nothing,
+}
+
+/// What may be done with these files, of which this is known.
+pub(crate) fn advice_on(
+    alloc: Global,
+    script: &Script,
+    files: &mut [LogFile],
+    surveys: &[Survey],
+) -> Result<Advice, AllocError>
+    requires ranges { HasGroupRanges script.now }
+    requires all { length files.old ≡ script.now.members }
+    requires each { length surveys.now ≡ length files.old }
+    ensures advice { IfOk result (IsAdvice script.now files.old surveys.now) }
+    ensures kept { files.new ≡ files.old }
+{
+    let Some((member, start)) = next_away(alloc, script, files, surveys, 0)? else {
+        return Ok(Advice::Nothing);
+    };
+    match next_away(alloc, script, files, surveys, member + 1)? {
+        Some((other, _)) => Ok(Advice::Unclear { one: member, other }),
+        None => Ok(Advice::Away { member, start }),
+    }
+}
+
+/// The first member from this one on without whose log the others, all of them intact, make a start, and that.
+fn next_away(
+    alloc: Global,
+    script: &Script,
+    files: &mut [LogFile],
+    surveys: &[Survey],
+    from: usize,
+) -> Result<Option<(usize, Start)>, AllocError>
+    requires ranges { HasGroupRanges script.now }
+    requires all { length files.old ≡ script.now.members }
+    requires each { length surveys.now ≡ length files.old }
+    ensures next { IfOk result (IsNextAway script.now files.old surveys.now from) }
+    ensures kept { files.new ≡ files.old }
+{
+    for member in from..surveys.len() {
+        if let Some(start) = start_without(alloc, script, files, surveys, member)? {
+            return Ok(Some((member, start)));
+        }
+    }
+    Ok(None)
+}
+
+/// What the next age starts with where the log of a member is moved away, if all others are intact and make a
+/// start.
+fn start_without(
+    alloc: Global,
+    script: &Script,
+    files: &mut [LogFile],
+    surveys: &[Survey],
+    member: usize,
+) -> Result<Option<Start>, AllocError>
+    requires ranges { HasGroupRanges script.now }
+    requires all { length files.old ≡ script.now.members }
+    requires member { member < length files.old }
+    ensures start { IfOk result (λ found. MatchOption found
+        (CanNotGo script.now files.old surveys.now member)
+        (MakesStartAlone script.now files.old surveys.now member)) }
+    ensures kept { files.new ≡ files.old }
+{
+    if !are_intact_but(surveys, member) {
+        return Ok(None);
+    }
+    match foretell_without(alloc, script, files, member) {
+        Ok(start) => Ok(Some(start)),
+        Err(None) => Err(AllocError),
+        Err(Some(_)) => Ok(None),
+    }
+}
+
+/// Whether there are others than this member, and all of them have intact logs.
+pub(crate) fn are_intact_but(surveys: &[Survey], member: usize) -> bool
+    ensures { IsTrue result ↔ AreIntactBut surveys.now member }
+{
+    for number in 0..surveys.len() {
+        if number != member && !is_intact(&surveys[number]) {
+            return false;
+        }
+    }
+    surveys.len() > 1
+}
+
+fn is_intact(survey: &Survey) -> bool
+    ensures { IsTrue result ↔ IsIntact survey.now }
+{
+    match survey {
+        Survey::Log {
+            len,
+            entries,
+            at,
+            closed,
+            ..
+        } => *closed && len.saturating_sub(*at) == 1 && !entries.as_slice().is_empty(),
+        _ => false,
+    }
+}
