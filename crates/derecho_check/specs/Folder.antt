@@ -1,0 +1,54 @@
+-- What a call comes to.
+use Rattle.std.specs.Prelude.{◌≡◌, ℕ, true, ◌==◌, if◌then◌else◌, List, [], ◌∷◌, length, codes, Option, None, Some, IsSomeAnd, String, string_bytes}
+use Rattle.std.specs.declared.alloc.Global.{Global}
+use Rattle.dr_folder.specs.declared.checking.FolderCheck.{FolderCheck}
+use Rattle.dr_folder.specs.declared.file.LogFile.{LogFile}
+use Rattle.dr_folder.specs.Checked.{IsFolderCheck}
+use Rattle.dr_folder.specs.Told.{IsStatusFor, TellsNext}
+use Rattle.dr_intake.specs.Answer.{IsAnswer, IsLine, Said, ToldBy}
+use Rattle.dr_intake.specs.Reading.{refusal_in}
+use Rattle.dr_intake.specs.Status.{status_of}
+use Rattle.dr_script.specs.declared.script.Script.{Script}
+use Rattle.dr_script.specs.Reading.{Reading, Reads, reading_of}
+use Rattle.dr_text.specs.Report.{last_text}
+
+-- the folder that a word names: it is not empty, and begins with no dash
+abbrev pub folder_in : List ℕ → Option (List ℕ)
+folder_in [] = None
+folder_in (byte ∷ bytes) = if byte == 45 then None else Some (byte ∷ bytes)
+
+-- the folder that the words name: it is the only one
+abbrev pub folder_named : List (String Global) → Option (List ℕ)
+folder_named (word ∷ []) = folder_in (string_bytes word)
+folder_named words = None
+
+-- the text tells what the next run of the script over some files, one for each member, starts with or is refused
+-- by, and the status is the one for that
+pub record IsFolderAnswer (script : Script) (text : List ℕ) (status : ℕ) : Type 0 where
+  pub files : List LogFile
+  pub all : length files ≡ script.members
+  pub check : FolderCheck
+  pub is : IsFolderCheck script files check
+  pub told : TellsNext check.next text
+  pub due : IsStatusFor check.next status
+
+-- what is said of what was read, and the status: of what is no script, the last line by which it is refused
+abbrev pub IsSaidOf : Reading → Said → Type 0
+IsSaidOf (Reads script) said = IsFolderAnswer script said.0 said.1
+IsSaidOf refused said =
+    IsSomeAnd (refusal_in refused) (λ line. (said.0 ≡ last_text line) × (said.1 ≡ status_of line))
+
+-- how the program is called
+abbrev pub folder_usage : List ℕ
+folder_usage = codes "usage: derecho_check FOLDER < SCRIPT\n"
+
+-- what a call has to say, and the status that is due, by its words and by what its source had left and then has
+abbrev pub IsCheckAnswer : List (String Global) → Option (List ℕ) → Option (List ℕ) → ℕ → ℕ → Said → Type 0
+IsCheckAnswer words =
+    IsAnswer (λ folder. true) (λ line said. IsSomeAnd line (λ l. IsLine folder_usage l said))
+    (λ folder bytes said. IsSaidOf (reading_of bytes) said) (folder_named words)
+
+-- memory was wanting and nothing was written, or an answer was
+abbrev pub CheckTold : List (String Global) → Option (List ℕ) → Option (List ℕ) → ℕ → ℕ → Option (List ℕ)
+    → Option (List ℕ) → ℕ → ℕ → ℕ → Type 0
+CheckTold words old new failed fails = ToldBy (IsCheckAnswer words old new failed fails)
