@@ -20,7 +20,7 @@ use Rattle.dr_script.specs.Reading.{Reading, NotJson, Reads, TooLong, Wrong}
 use Rattle.dr_text.specs.declared.last.Last.{Last}
 use Rattle.derecho_trace.specs.declared.words.Form.{Form}
 use Rattle.derecho_trace.specs.declared.words.Form.TheVariants.{Chart, Lines, Picture}
-use Rattle.derecho_trace.specs.Trace.{AreLines, IsToldOf, IsTraced, IsTracedFor, Wrote, WroteOne, deed_line, end_status, ending, moves_text, traced_end_line}
+use Rattle.derecho_trace.specs.Trace.{AreLines, IsToldOf, IsTraced, IsTracedFor, Wrote, WroteOne, deed_line, end_status, ending, moves_text, picture_ending, traced_end_line}
 
 -- what `Lines` does as it is told of an age, of a deed and of the end
 abbrev pub Opens : Written → Start → Written → Type 0
@@ -197,15 +197,15 @@ hung drawn line closing held fell old first then new told a b c =
     (c held fell (drawn ++ line) (b held fell drawn (a held fell [] told)))
 
 -- a picture was written, with the last line in it
-pub picture_wrote : (script : Script) (ages : List AgeEnd) (stop : Option Stop) (last : Last)
+pub picture_wrote : (from to : ℕ) (script : Script) (ages : List AgeEnd) (stop : Option Stop) (last : Last)
     (held holds : Option (List ℕ)) (fell falls status : ℕ) (told : List ℕ)
     → HasRun script ages stop (Some last)
-    → Wrote held holds fell falls status (end_status (Some last)) (told ++ ending Picture (Some last))
-    → WroteOne (IsTraced Picture script) held holds fell falls status
-picture_wrote script ages stop last held holds fell falls status told (inl none) wrote =
+    → Wrote held holds fell falls status (end_status (Some last)) (told ++ picture_ending (Some last))
+    → WroteOne (IsTraced (Picture from to) script) held holds fell falls status
+picture_wrote from to script ages stop last held holds fell falls status told (inl none) wrote =
     absurd (none-some last (sym none.2))
-picture_wrote script ages stop last held holds fell falls status told (inr ran) wrote =
-    run_wrote Picture script ages stop (Some last) held holds fell falls status told ran.0 ran.1 tt wrote
+picture_wrote from to script ages stop last held holds fell falls status told (inr ran) wrote =
+    run_wrote (Picture from to) script ages stop (Some last) held holds fell falls status told ran.0 ran.1 tt wrote
 
 -- what was written of a text that is no script
 pub refused_wrote : (form : Form) (r : Reading) (line : Option Last) (held holds : Option (List ℕ))

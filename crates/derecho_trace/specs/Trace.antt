@@ -47,7 +47,7 @@ AreLines script nth (age ∷ ages) text =
 abbrev pub IsToldOf : Form → Script → List AgeEnd → List ℕ → Type 0
 IsToldOf Lines script ages text = AreLines script 0 ages text
 IsToldOf Chart script ages text = ⊤
-IsToldOf Picture script ages text = ⊤
+IsToldOf (Picture from to) script ages text = ⊤
 
 -- behind what is told comes the last line, with its status; where memory was wanting there is none, with
 -- status 10
@@ -58,8 +58,11 @@ abbrev pub end_status : Option Last → ℕ
 end_status last = option_map_or status_of last 10
 
 -- how a text of a form ends: with the last line, behind which a picture is closed
+abbrev pub picture_ending : Option Last → List ℕ
+picture_ending last = traced_end_line last ++ codes "</text>\n</svg>\n"
+
 abbrev pub ending : Form → Option Last → List ℕ
-ending Picture last = traced_end_line last ++ codes "</text>\n</svg>\n"
+ending (Picture from to) last = picture_ending last
 ending form last = traced_end_line last
 
 -- nothing is told, as memory was wanting for it
@@ -88,7 +91,7 @@ IsTracedFor form refused text due =
 
 -- how the program is called
 abbrev pub trace_usage : List ℕ
-trace_usage = codes "usage: derecho_trace [lines|svg] < SCRIPT\n"
+trace_usage = codes "usage: derecho_trace [lines|svg [FROM TO]] < SCRIPT\n"
 
 -- What a call is to write, and the status that is due, by the form that its words ask for, and by what its
 -- source had left and then has.

@@ -1,7 +1,8 @@
 //! The watcher that draws a picture.
 use dr_member::Member;
-use dr_picture::Picture;
+use dr_picture::{Picture, Window};
 use dr_restart::Start;
+use dr_script::{Schedule, Script};
 use dr_sim::Watcher;
 use std::alloc::{AllocError, Global};
 
@@ -14,10 +15,14 @@ pub(crate) struct Picturing {
 }
 
 impl Picturing {
-    /// A watcher that draws on an empty picture of so many members.
-    pub(crate) fn new(alloc: Global, members: u8) -> Result<Picturing, AllocError> {
+    /// A watcher that draws on an empty picture these turns of a run of the script.
+    pub(crate) fn new(
+        alloc: Global,
+        script: &Script,
+        window: Window,
+    ) -> Result<Picturing, AllocError> {
         Ok(Picturing {
-            picture: Picture::new(alloc, members)?,
+            picture: Picture::new(alloc, script.members, is_lockstep(script), window)?,
             is_wanting: false,
         })
     }
@@ -31,6 +36,11 @@ impl Picturing {
         self.picture.push_to(&mut text)?;
         Ok(text)
     }
+}
+
+/// Whether a script runs by whole turns.
+pub(crate) fn is_lockstep(script: &Script) -> bool {
+    matches!(script.schedule, Schedule::Lockstep)
 }
 
 impl Watcher for Picturing {
@@ -59,9 +69,9 @@ impl Watcher for Picturing {
         }
     }
 
-    fn close(&mut self, _members: &[Member], _table: &[u64]) {
+    fn close(&mut self, members: &[Member], _table: &[u64]) {
         if !self.is_wanting {
-            self.is_wanting = self.picture.close().is_err();
+            self.is_wanting = self.picture.close(members).is_err();
         }
     }
 }

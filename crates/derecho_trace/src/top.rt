@@ -3,11 +3,11 @@ ghost use Rattle.dr_progress.specs.Progress.{IsQuiet};
 ghost use Rattle.dr_script.specs.Ranges.{HasRanges};
 ghost use Rattle.dr_script.specs.Reading.{reading_of};
 ghost use Rattle.dr_seeing.specs.Output.{HasTold};
-ghost use Rattle.derecho_trace.specs.Trace.{IsTraceAnswer, IsTraced, IsTracedFor, Wrote, WroteOne, end_status, ending, trace_usage, traced_end_line};
+ghost use Rattle.derecho_trace.specs.Trace.{IsTraceAnswer, IsTraced, IsTracedFor, Wrote, WroteOne, end_status, picture_ending, trace_usage, traced_end_line};
 
 use crate::chart::Drawing;
 use crate::lines::Lines;
-use crate::picture::Picturing;
+use crate::picture::{Picturing, is_lockstep};
 use crate::words::{Form, form_of};
 use dr_intake::{
     OUT_OF_MEMORY, READ_FAULT, READ_LIMIT, ReadFault, USAGE, WRITE_FAULT, read_all,
@@ -15,15 +15,16 @@ use dr_intake::{
 };
 use dr_io::{Sink, Source};
 use dr_outcome::watch_in_memory;
+use dr_picture::Window;
 use dr_progress::{Progress, Timer, watch_with_progress};
-use dr_script::{Schedule, Script};
+use dr_script::Script;
 use dr_seeing::{Chart, Output, Trouble};
 use dr_text::Last;
 use std::alloc::Global;
 use std::thread::Threads;
 
 /// How the program is called.
-const USAGE_TEXT: &str = "usage: derecho_trace [lines|svg] < SCRIPT\n";
+const USAGE_TEXT: &str = "usage: derecho_trace [lines|svg [FROM TO]] < SCRIPT\n";
 
 /// What closes a picture.
 const CLOSING: &str = "</text>\n</svg>\n";
@@ -39,9 +40,9 @@ pub struct Traced<K: Sink> {
 /// tells the sink what happens, in order. The last line and the status are those of `derecho sim`.
 ///
 /// Without words it is told as a chart; with the word `lines` as a line for each event; with the word `svg` as
-/// a picture, in which the last line stands. A picture is written at the end, and while it is drawn the
-/// progress says how far it is; the other texts are written as the run goes on. Where memory is wanting, and
-/// where a call of the sink fails, a front part of it is written.
+/// a picture, of all turns or of those from one to another, in which the last line stands. A picture is written
+/// at the end, and while it is drawn the progress says how far it is; the other texts are written as the run
+/// goes on. Where memory is wanting, and where a call of the sink fails, a front part of it is written.
 pub fn trace<R: Threads + Sync, S: Source, K: Sink, T: Timer, E: Sink>(
     rt: &R,
     alloc: Global,
@@ -125,16 +126,11 @@ fn trace_script<R: Threads + Sync, K: Sink, T: Timer, E: Sink>(
             Ok(chart) => trace_chart(rt, alloc, script, Drawing { output, chart }),
             Err(_) => end(output, None),
         },
-        Form::Picture => match Picturing::new(alloc, script.members) {
+        Form::Picture { from, to } => match Picturing::new(alloc, script, Window { from, to }) {
             Ok(picturing) => trace_picture(rt, alloc, script, picturing, output, progress),
             Err(_) => end(output, None),
         },
     }
-}
-
-/// Whether a script runs by whole turns.
-fn is_lockstep(script: &Script) -> bool {
-    matches!(script.schedule, Schedule::Lockstep)
 }
 
 /// Tells the run of a script, a line for each event.
@@ -181,8 +177,8 @@ fn trace_picture<R: Threads + Sync, K: Sink, T: Timer, E: Sink>(
     progress: &mut Progress<T, E>,
 ) -> Traced<K>
     requires { HasRanges script.now }
-    ensures wrote { (held : Option (List ℕ)) (fell : ℕ) → HasTold held fell [] output
-        → WroteOne (IsTraced Form.Picture script.now) held (K.held result.sink)
+    ensures wrote { (from to : ℕ) (held : Option (List ℕ)) (fell : ℕ) → HasTold held fell [] output
+        → WroteOne (IsTraced (Form.Picture from to) script.now) held (K.held result.sink)
         fell (K.faults result.sink) result.status }
     ensures quiet { IsQuiet progress.old progress.new }
 {
@@ -201,7 +197,7 @@ fn trace_picture<R: Threads + Sync, K: Sink, T: Timer, E: Sink>(
 fn hang<K: Sink>(output: Output<K>, drawn: &str, last: &Last) -> Traced<K>
     ensures { (held : Option (List ℕ)) (fell : ℕ) → HasTold held fell [] output
         → Wrote held (K.held result.sink) fell (K.faults result.sink) result.status
-        (end_status (Some last.now)) (drawn.now ++ ending Form.Picture (Some last.now)) }
+        (end_status (Some last.now)) (drawn.now ++ picture_ending (Some last.now)) }
 {
     let mut output = output;
     output.tell(drawn);

@@ -10,5 +10,7 @@ grown_same d = record {
   marks = ([], append-nil d.marks);
   words = ([], append-nil d.words);
   lane = refl;
+  width = refl;
+  row = omega arith;
   left = omega arith;
 }

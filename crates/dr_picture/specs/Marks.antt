@@ -1,5 +1,5 @@
 -- The texts of what is drawn, in the words of SVG.
-use Rattle.std.specs.Prelude.{ℕ, List, [], ◌∷◌, codes}
+use Rattle.std.specs.Prelude.{ℕ, ◌==◌, if◌then◌else◌, List, [], ◌∷◌, codes}
 use Rattle.std.specs.Fmt.{decimal}
 use Rattle.std.specs.List.{concat}
 use Rattle.dr_picture.specs.declared.shapes.Point.{Point}
@@ -11,7 +11,7 @@ abbrev pub outline : Shape → List ℕ
 outline Square = codes "m-4.5-4.5h9v9h-9z"
 outline HollowSquare = codes "m-4.5-4.5h9v9h-9z"
 outline Dot = codes "m-4 0a4 4 0 1 0 8 0a4 4 0 1 0-8 0z"
-outline Bar = codes "m-7-1h14v2h-14z"
+outline Bar = codes "m-4.5-1h9v2h-9z"
 outline Cross = codes "m-4-4l8 8m0-8l-8 8"
 outline Diamond = codes "m0-5.5l5.5 5.5-5.5 5.5-5.5-5.5z"
 outline HollowDiamond = codes "m0-5.5l5.5 5.5-5.5 5.5-5.5-5.5z"
@@ -50,7 +50,9 @@ ground_text at width height colour = concat
 abbrev pub layer_text : List ℕ → List ℕ → List ℕ
 layer_text look drawn = concat (codes "<g " ∷ look ∷ codes ">\n" ∷ drawn ∷ codes "</g>\n" ∷ [])
 
--- the heading of an age, by its number and the number of its entries
+-- the heading of an age, by its number and the number of the entries that it starts with
 abbrev pub heading_text : ℕ → ℕ → List ℕ
-heading_text age entries = concat
-    (codes "age " ∷ decimal age ∷ codes ", which starts with " ∷ decimal entries ∷ codes " entries" ∷ [])
+heading_text age entries =
+    if entries == 0 then concat (codes "age " ∷ decimal age ∷ [])
+    else if entries == 1 then concat (codes "age " ∷ decimal age ∷ codes ", on 1 entry" ∷ [])
+    else concat (codes "age " ∷ decimal age ∷ codes ", on " ∷ decimal entries ∷ codes " entries" ∷ [])

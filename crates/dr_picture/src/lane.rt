@@ -1,44 +1,116 @@
-//! The lane of a member.
+//! The lane of a member: what is kept of it through an age.
+ghost use Rattle.std.specs.Prelude.{◌≡◌, IfOk, vec_len};
 
-/// How far the lane of a member is drawn.
-#[derive(Clone, Copy, Debug)]
+use dr_entry::MAX_MEMBERS;
+use std::alloc::{AllocError, Global};
+
+/// What is kept of a member.
+#[derive(Drop)]
 pub(crate) struct Lane {
-    /// The view that it is in, if it is in one.
-    pub band: Option<Band>,
-    /// Behind which row its entries at the end of a view are to be drawn, if rows are left free for them.
-    pub reserved: Option<u32>,
-    /// The number of its turn.
-    pub turn: u32,
-    /// Whether that number is drawn.
-    pub turn_is_told: bool,
+    alloc: Global,
+    /// The view that it is in, and its heading, which may be yet to be told.
+    pub view: u8,
+    pub heading: String,
+    pub is_headed: bool,
+    /// For each view, the number of the band of each item that it has put.
+    pub items: Vec<Vec<u32>>,
+    /// How many messages of each member it has delivered in this age.
+    pub delivered: [u32; MAX_MEMBERS],
+    /// How many messages it has put in this age, without those that it put once more, and the labels of all.
+    pub put: usize,
+    pub labels: Vec<String>,
 }
 
-/// The ground of a view that a member is in.
-#[derive(Clone, Copy, Debug)]
-pub(crate) struct Band {
-    /// The number of the view.
-    pub view: u8,
-    /// The row of its heading.
-    pub top: u32,
+/// The lanes of so many members before they do anything.
+pub(crate) fn lanes_of(alloc: Global, members: u8) -> Result<Vec<Lane>, AllocError>
+    ensures { IfOk result (λ lanes. vec_len lanes ≡ members) }
+{
+    let mut lanes = Vec::new(alloc);
+    for _ in 0..members {
+        lanes.push(Lane::new(alloc))?;
+    }
+    Ok(lanes)
+}
+
+/// An age opens: nobody has done anything in it.
+pub(crate) fn reset(alloc: Global, lanes: &mut [Lane]) {
+    for lane in lanes {
+        *lane = Lane::new(alloc);
+    }
+}
+
+/// How many messages of a member somebody has delivered in this age.
+pub(crate) fn delivered_of(lanes: &[Lane], sender: u8) -> usize {
+    let mut most = 0;
+    for lane in lanes {
+        most = lane.delivered_of(sender).max(most);
+    }
+    most
 }
 
 impl Lane {
     /// The lane of a member before it does anything.
-    pub(crate) fn new() -> Lane {
+    pub(crate) fn new(alloc: Global) -> Lane {
         Lane {
-            band: None,
-            reserved: None,
-            turn: 0,
-            turn_is_told: true,
+            alloc,
+            view: 0,
+            heading: String::new(alloc),
+            is_headed: true,
+            items: Vec::new(alloc),
+            delivered: [0; MAX_MEMBERS],
+            put: 0,
+            labels: Vec::new(alloc),
         }
     }
 
-    /// The number of its turn, where it isn't drawn yet. It is drawn from now on.
-    pub(crate) fn take_turn(&mut self) -> Option<u32> {
-        if self.turn_is_told {
-            return None;
+    /// It puts an item in the band of this number.
+    pub(crate) fn count_item(&mut self, band: u32) -> Result<(), AllocError> {
+        let view = usize::from(self.view);
+        for _ in self.items.len()..=view {
+            self.items.push(Vec::new(self.alloc))?;
         }
-        self.turn_is_told = true;
-        Some(self.turn)
+        match self.items.get_mut(view) {
+            Some(items) => Ok(items.push(band)?),
+            None => Ok(()),
+        }
+    }
+
+    /// In which band it has put the item of this number in a view.
+    pub(crate) fn band_of(&self, view: u8, number: u32) -> Option<u32> {
+        let items = self.items.get(usize::from(view))?;
+        items.get(number as usize).copied()
+    }
+
+    /// It puts a message with this label.
+    pub(crate) fn count_message(&mut self, label: &String) -> Result<(), AllocError> {
+        if self.put >= self.labels.len() {
+            self.labels.push(label.clone()?)?;
+        }
+        self.put = self.put.saturating_add(1);
+        Ok(())
+    }
+
+    /// The labels of what it has put but for so many at their front.
+    pub(crate) fn lost(&self, delivered: usize) -> &[String] {
+        &self.labels[delivered.min(self.labels.len())..]
+    }
+
+    /// How many messages of a member it has delivered.
+    fn delivered_of(&self, sender: u8) -> usize {
+        self.delivered[usize::from(sender % 16)] as usize
+    }
+
+    /// It delivers a message of a member.
+    pub(crate) fn count_delivery(&mut self, sender: u8) {
+        let count = &mut self.delivered[usize::from(sender % 16)];
+        *count = count.saturating_add(1);
+    }
+
+    /// It enters a view, with this heading: the messages that it puts there are those that are not delivered.
+    pub(crate) fn enter(&mut self, me: u8, view: u8, heading: String) {
+        self.view = view;
+        self.put = self.delivered_of(me);
+        self.heading = heading;
+        self.is_headed = false;
     }
 }

@@ -9,14 +9,18 @@ use std::alloc::AllocError;
 /// The marks that are told of, each with its place from the left, and what it means.
 const KEYS: [(Shape, u32, &str); 5] = [
     (Shape::Square, 24, "puts a message"),
-    (Shape::HollowSquare, 142, "puts a null"),
+    (Shape::HollowSquare, 130, "puts a null"),
     (
         Shape::Dot,
-        234,
-        "delivers, in the colour of the sender; a line joins the same entry",
+        216,
+        "delivers, in the colour of the sender; an arrow: an item is taken",
     ),
-    (Shape::Bar, 612, "entries that are durable"),
-    (Shape::HollowDiamond, 784, "a change of the view"),
+    (Shape::Bar, 560, "entries that are durable"),
+    (
+        Shape::Diamond,
+        706,
+        "a change of the view; N:K: K items of N count",
+    ),
 ];
 
 /// Appends what the marks mean, in a row.
@@ -36,7 +40,7 @@ fn push_key(out: &mut String, shape: Shape, at: Point, meaning: &str) -> Result<
 {
     push_shape(out, shape, at, key_colour(shape))?;
     let words_at = Point {
-        x: at.x.saturating_add(10),
+        x: at.x.saturating_add(9),
         y: at.y.saturating_add(4),
     };
     push_words(out, words_at, "", INK, meaning)
@@ -46,7 +50,7 @@ fn push_key(out: &mut String, shape: Shape, at: Point, meaning: &str) -> Result<
 fn key_colour(shape: Shape) -> &'static str {
     match shape {
         Shape::Bar => INK,
-        Shape::HollowDiamond => VIOLET,
+        Shape::Diamond => VIOLET,
         _ => member_colour(0),
     }
 }

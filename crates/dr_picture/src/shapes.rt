@@ -26,14 +26,14 @@ const MEMBERS: [&str; 8] = [
 const VIEWS: [&str; 4] = ["#eef3fa", "#fbf3df", "#eaf5e8", "#f6ecf5"];
 
 /// A point of a picture, in pixels from its left and its top.
-#[derive(Clone, Copy, Debug, PartialEq, Eq)]
+#[derive(Clone, Copy)]
 pub(crate) struct Point {
     pub x: u32,
     pub y: u32,
 }
 
 /// What a mark looks like.
-#[derive(Clone, Copy, Debug, PartialEq, Eq)]
+#[derive(Clone, Copy, PartialEq)]
 pub(crate) enum Shape {
     Square,
     HollowSquare,
@@ -52,7 +52,7 @@ impl Shape {
         match self {
             Shape::Square | Shape::HollowSquare => "m-4.5-4.5h9v9h-9z",
             Shape::Dot => "m-4 0a4 4 0 1 0 8 0a4 4 0 1 0-8 0z",
-            Shape::Bar => "m-7-1h14v2h-14z",
+            Shape::Bar => "m-4.5-1h9v2h-9z",
             Shape::Cross => "m-4-4l8 8m0-8l-8 8",
             Shape::Diamond | Shape::HollowDiamond => "m0-5.5l5.5 5.5-5.5 5.5-5.5-5.5z",
         }

@@ -1,43 +1,36 @@
 //! The sheet that a picture is drawn on.
-ghost use Rattle.std.specs.Prelude.{◌≡◌, ◌+◌, ◌-◌, ◌++◌, OnOk, codes, nat_eq, string_bytes};
-ghost use Rattle.std.specs.Fmt.{decimal};
+ghost use Rattle.std.specs.Prelude.{◌≡◌, ◌-◌, ◌++◌, OnOk, nat_eq, string_bytes};
 ghost use Rattle.dr_history.specs.History.{IsPrefixOf};
 ghost use Rattle.dr_picture.specs.Marks.{ground_text, join_text, layer_text, mark_text, words_text};
-ghost use Rattle.dr_picture.specs.Sheet.{IsBlank, IsDrawnIn, Keeps, capped, layers_text, left_of, mark_point, next_row, words_point};
+ghost use Rattle.dr_picture.specs.Sheet.{IsBlank, IsDrawnIn, Keeps, advanced, layers_text, left_of};
 
 use crate::legend::{push_left_out, push_legend};
-use crate::shapes::{GREY, INK, Point, Shape, push_shape, push_words};
+use crate::shapes::{Point, Shape, push_shape, push_words};
 use std::alloc::{AllocError, Global};
 use std::fmt::Write;
 use std::marker::Model;
-use std::mem::replace;
 
-/// So many rows are drawn at most.
-const MAX_ROWS: u32 = 20_000;
+/// So high a picture gets at most.
+const MAX_HEIGHT: u32 = 24_000;
 
-/// The height of a row.
-pub(crate) const ROW: u32 = 16;
-
-/// What is left free at the left, at the right and at the top.
+/// What is left free at the right and at the top.
 pub(crate) const MARGIN: u32 = 16;
 
+/// What is left free at the left, for the numbers of turns.
+pub(crate) const GUTTER: u32 = 40;
+
 /// The width that the legend takes.
-const LEAST_WIDTH: u32 = 920;
+const LEAST_WIDTH: u32 = 950;
 
 /// What is left free between two lanes.
-const GAP: u32 = 12;
-
-/// How far behind the left of its lane a mark stands, and the words behind it.
-const MARK_INDENT: u32 = 40;
-
-const WORDS_INDENT: u32 = 54;
+const GAP: u32 = 8;
 
 /// A sheet: what is drawn lies in four layers, one over the other.
 #[derive(Drop)]
 pub(crate) struct Sheet {
     /// The grounds of views.
     grounds: String,
-    /// The lines that join deliveries.
+    /// The arrows between lanes.
     joins: String,
     marks: String,
     words: String,
@@ -45,9 +38,9 @@ pub(crate) struct Sheet {
     lane: u32,
     /// The width of all lanes.
     width: u32,
-    /// The middle of the row drawn last.
+    /// The row at which what is drawn next begins.
     row: u32,
-    /// How many rows may still be drawn.
+    /// How much higher it may get.
     left: u32,
 }
 
@@ -74,158 +67,86 @@ impl Sheet {
     pub(crate) fn new(alloc: Global, members: u8) -> Sheet
         ensures { IsBlank result }
     {
-        let lane = match members {
-            0..=3 => 290,
-            4 => 220,
-            5 => 180,
-            _ => 150,
-        };
+        let lane = (1100 / u32::from(members.max(1))).max(72).min(280);
         Sheet {
             grounds: String::new(alloc),
             joins: String::new(alloc),
             marks: String::new(alloc),
             words: String::new(alloc),
             lane,
-            width: lane * u32::from(members),
+            width: lane.saturating_add(GAP).saturating_mul(u32::from(members)),
             row: MARGIN,
-            left: MAX_ROWS,
+            left: MAX_HEIGHT,
         }
     }
 
-    /// Whether no more rows may be drawn.
+    /// Whether it may get no higher.
     pub(crate) fn is_full(&self) -> bool
         ensures { result ≡ nat_eq self.now.left 0 }
     {
         self.left == 0
     }
 
-    /// Goes on to the next row, and answers its middle.
-    pub(crate) fn next_row(&mut self) -> u32
-        ensures row { result ≡ self.new.row }
-        ensures moves { self.new ≡ next_row self.old }
-        ensures keeps { Keeps self.old self.new }
+    /// The row at which what is drawn next begins.
+    pub(crate) fn row(&self) -> u32
+        ensures { result ≡ self.now.row }
     {
-        self.left = self.left.saturating_sub(1);
-        self.row = self.row.saturating_add(ROW);
         self.row
     }
 
-    /// Leaves so many rows free, and answers the row before them.
-    pub(crate) fn skip_rows(&mut self, count: u32) -> u32
-        ensures row { result ≡ self.old.row }
-        ensures moves { self.new ≡ record self.old { row = self.new.row; left = self.old.left - count } }
-        ensures keeps { Keeps self.old self.new }
+    /// The width of a lane.
+    pub(crate) fn lane(&self) -> u32
+        ensures { result ≡ self.now.lane }
     {
-        let before = self.row;
-        self.left = self.left.saturating_sub(count);
-        self.row = before.saturating_add(ROW.saturating_mul(count));
-        before
+        self.lane
     }
 
-    /// Goes to another row, and answers the one that was drawn last.
-    pub(crate) fn go_to(&mut self, row: u32) -> u32
-        ensures row { result ≡ self.old.row }
-        ensures moves { self.new ≡ record self.old { row = row } }
+    /// Goes on by so much.
+    pub(crate) fn advance(&mut self, height: u32)
+        ensures moves { self.new ≡ advanced self.old height }
         ensures keeps { Keeps self.old self.new }
     {
-        replace(&mut self.row, row)
+        self.left = self.left.saturating_sub(height);
+        self.row = self.row.saturating_add(height);
     }
 
     /// The left of a lane.
-    fn left_of(&self, member: u8) -> u32
+    pub(crate) fn left_of(&self, member: u8) -> u32
         ensures { result ≡ left_of self.now member }
     {
         self.lane
+            .saturating_add(GAP)
             .saturating_mul(u32::from(member))
-            .saturating_add(MARGIN)
+            .saturating_add(GUTTER)
     }
 
-    /// The point in the row drawn last where the marks of a member stand.
-    pub(crate) fn mark_point(&self, member: u8) -> Point
-        ensures { result ≡ mark_point self.now member }
-    {
-        Point {
-            x: self.left_of(member).saturating_add(MARK_INDENT),
-            y: self.row,
-        }
-    }
-
-    /// The point in a row where words of a member begin, so far behind the left of its lane.
-    fn words_point(&self, member: u8, indent: u32, row: u32) -> Point
-        ensures { result ≡ words_point self.now member indent row }
-    {
-        Point {
-            x: self.left_of(member).saturating_add(indent),
-            y: row.saturating_add(4),
-        }
-    }
-
-    /// Draws a mark of a member in the row drawn last.
-    pub(crate) fn draw(&mut self, member: u8, shape: Shape, colour: &str) -> Result<(), AllocError>
+    /// Draws a mark around a point.
+    pub(crate) fn draw(&mut self, at: Point, shape: Shape, colour: &str) -> Result<(), AllocError>
         ensures adds { OnOk result (self.new ≡ record self.old {
-          marks = self.old.marks ++ mark_text shape (mark_point self.old member) colour.now;
+          marks = self.old.marks ++ mark_text shape at colour.now;
         }) }
         ensures keeps { OnOk result (Keeps self.old self.new) }
     {
-        let at = self.mark_point(member);
         push_shape(&mut self.marks, shape, at, colour)
     }
 
-    /// Writes words of a member into the row drawn last.
-    pub(crate) fn write(&mut self, member: u8, colour: &str, words: &str) -> Result<(), AllocError>
+    /// Writes words that begin at a point, in a style.
+    pub(crate) fn write(
+        &mut self,
+        at: Point,
+        style: &str,
+        colour: &str,
+        words: &str,
+    ) -> Result<(), AllocError>
         ensures adds { OnOk result (self.new ≡ record self.old {
-          words = self.old.words
-              ++ words_text (words_point self.old member 54 self.old.row) (codes "") colour.now words.now;
+          words = self.old.words ++ words_text at style.now colour.now words.now;
         }) }
         ensures keeps { OnOk result (Keeps self.old self.new) }
     {
-        let at = self.words_point(member, WORDS_INDENT, self.row);
-        push_words(&mut self.words, at, "", colour, words)
+        push_words(&mut self.words, at, style, colour, words)
     }
 
-    /// Writes the number of a turn of a member into the row drawn last.
-    pub(crate) fn write_turn(&mut self, member: u8, turn: u32) -> Result<(), AllocError>
-        ensures adds { OnOk result (self.new ≡ record self.old {
-          words = self.old.words
-              ++ words_text (words_point self.old member 6 self.old.row) (codes " font-size='9'")
-              (codes "#789") (decimal turn);
-        }) }
-        ensures keeps { OnOk result (Keeps self.old self.new) }
-    {
-        let Point { x, y } = self.words_point(member, 6, self.row);
-        writeln!(
-            self.words,
-            "<text x='{x}' y='{y}' font-size='9' fill='{GREY}'>{turn}</text>"
-        )
-    }
-
-    /// Writes a heading into the row drawn last, over the lane of a member.
-    pub(crate) fn write_heading(&mut self, member: u8, words: &str) -> Result<(), AllocError>
-        ensures adds { OnOk result (self.new ≡ record self.old {
-          words = self.old.words
-              ++ words_text (words_point self.old member 0 self.old.row) (codes " font-weight='bold'")
-              (codes "#333") words.now;
-        }) }
-        ensures keeps { OnOk result (Keeps self.old self.new) }
-    {
-        let at = self.words_point(member, 0, self.row);
-        push_words(&mut self.words, at, " font-weight='bold'", INK, words)
-    }
-
-    /// Writes the words of a view of a member into a row.
-    pub(crate) fn write_view(&mut self, member: u8, row: u32, words: &str) -> Result<(), AllocError>
-        ensures adds { OnOk result (self.new ≡ record self.old {
-          words = self.old.words
-              ++ words_text (words_point self.old member 6 row) (codes " font-style='italic'")
-              (codes "#333") words.now;
-        }) }
-        ensures keeps { OnOk result (Keeps self.old self.new) }
-    {
-        let at = self.words_point(member, 6, row);
-        push_words(&mut self.words, at, " font-style='italic'", INK, words)
-    }
-
-    /// Joins two points by a line.
+    /// Draws an arrow from one point to another.
     pub(crate) fn join(&mut self, one: Point, other: Point, colour: &str) -> Result<(), AllocError>
         ensures adds { OnOk result (self.new ≡ record self.old {
           joins = self.old.joins ++ join_text one other colour.now;
@@ -240,24 +161,16 @@ impl Sheet {
         )
     }
 
-    /// Draws a ground of this colour in the lane of a member, from one row down to the row drawn last.
-    pub(crate) fn draw_ground(
-        &mut self,
-        member: u8,
-        top: u32,
-        colour: &str,
-    ) -> Result<(), AllocError>
+    /// Draws the ground of a lane from one row to another in this colour.
+    pub(crate) fn draw_ground(&mut self, at: Point, to: u32, colour: &str) -> Result<(), AllocError>
         ensures adds { OnOk result (self.new ≡ record self.old {
-          grounds = self.old.grounds
-              ++ ground_text (record { x = left_of self.old member; y = top - 8 }) (self.old.lane - 12)
-              (capped (self.old.row - top + 16)) colour.now;
+          grounds = self.old.grounds ++ ground_text at self.old.lane (to - at.y) colour.now;
         }) }
         ensures keeps { OnOk result (Keeps self.old self.new) }
     {
-        let x = self.left_of(member);
-        let y = top.saturating_sub(ROW / 2);
-        let width = self.lane.saturating_sub(GAP);
-        let height = self.row.saturating_sub(top).saturating_add(ROW);
+        let Point { x, y } = at;
+        let width = self.lane;
+        let height = to.saturating_sub(y);
         writeln!(
             self.grounds,
             "<rect x='{x}' y='{y}' width='{width}' height='{height}' fill='{colour}'/>"
@@ -268,9 +181,13 @@ impl Sheet {
     pub(crate) fn push_to(&self, out: &mut String) -> Result<(), AllocError>
         ensures { OnOk result (IsDrawnIn self.now (string_bytes out.old) (string_bytes out.new)) }
     {
-        let width = self.width.max(LEAST_WIDTH).saturating_add(MARGIN * 2);
-        let legend = self.row.saturating_add(ROW * 2);
-        let last = legend.saturating_add(ROW + 8);
+        let width = self
+            .width
+            .saturating_add(GUTTER)
+            .max(LEAST_WIDTH)
+            .saturating_add(MARGIN);
+        let legend = self.row.saturating_add(MARGIN);
+        let last = legend.saturating_add(MARGIN + 8);
         push_head(out, width, last.saturating_add(MARGIN))?;
         self.push_layers(out)?;
         push_foot(out, legend, last, self.is_full())
@@ -281,8 +198,9 @@ impl Sheet {
     fn push_layers(&self, out: &mut String) -> Result<(), AllocError>
         ensures { OnOk result (string_bytes out.new ≡ string_bytes out.old ++ layers_text self.now) }
     {
-        push_layer(out, "stroke='#c9d6e8'", &self.grounds)?;
-        push_layer(out, "fill='none' stroke-opacity='0.55'", &self.joins)?;
+        push_layer(out, "stroke='#d5dfec'", &self.grounds)?;
+        let arrows = "fill='none' stroke-opacity='0.5' marker-end='url(#head)'";
+        push_layer(out, arrows, &self.joins)?;
         let seam = "stroke='white' stroke-width='3' stroke-opacity='0.8'";
         push_layer(out, seam, &self.words)?;
         push_layer(out, "stroke-width='1.5'", &self.marks)?;
@@ -296,8 +214,12 @@ fn push_head(out: &mut String, width: u32, height: u32) -> Result<(), AllocError
 {
     out.push_str("<svg xmlns='http://www.w3.org/2000/svg' version='1.1' ")?;
     write!(out, "width='{width}' height='{height}' ")?;
-    out.push_str("font-family='sans-serif' font-size='11'>\n")?;
+    out.push_str("font-family='sans-serif' font-size='10'>\n")?;
     out.push_str("<title>A simulated run of a group</title>\n")?;
+    out.push_str("<defs><marker id='head' viewBox='0 0 6 6' refX='6' refY='3' markerWidth='6' ")?;
+    out.push_str(
+        "markerHeight='6' orient='auto'><path d='M0 0L6 3L0 6z' fill='#888'/></marker></defs>\n",
+    )?;
     out.push_str("<rect width='100%' height='100%' fill='white'/>\n")
 }
 
@@ -318,7 +240,7 @@ fn push_foot(out: &mut String, legend: u32, last: u32, is_full: bool) -> Result<
 {
     push_legend(out, legend)?;
     if is_full {
-        push_left_out(out, legend.saturating_sub(ROW))?;
+        push_left_out(out, legend.saturating_sub(MARGIN))?;
     }
     write!(
         out,

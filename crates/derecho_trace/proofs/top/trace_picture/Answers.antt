@@ -4,9 +4,9 @@ use Rattle.derecho_trace.proofs.Traces.{HasRun, picture_wrote}
 use Rattle.derecho_trace.proofs.top.trace_picture.Goals as goal
 
 pub returns-in-Some-clause-wrote : goal.returns-in-Some-clause-wrote
-returns-in-Some-clause-wrote g c = λ held fell told.
+returns-in-Some-clause-wrote g c = λ from to held fell told.
     let outcome = c.watch_with_progress-outcome.result in
-    picture_wrote c.args.script.now outcome.ages outcome.stop c.in-Some.last held (g.K.Sink.held
+    picture_wrote from to c.args.script.now outcome.ages outcome.stop c.in-Some.last held (g.K.Sink.held
     c.hang.result.sink) fell
     (g.K.Sink.faults c.hang.result.sink) c.hang.result.status c.as_str.result.now
     (subst (λ (l : Option Last). HasRun c.args.script.now outcome.ages outcome.stop l) c.in-Some.is

@@ -30,7 +30,7 @@ returns-in-Ok-new-clause-wrote g c = λ held fell told.
     subst (λ (f : Form). WroteOne (IsTraced f c.args.script.now) held (g.K.Sink.held
     c.trace_picture.result.sink) fell
     (g.K.Sink.faults c.trace_picture.result.sink) c.trace_picture.result.status) (sym c.in-Picture.is)
-    (c.trace_picture.ensures.wrote held fell told)
+    (c.trace_picture.ensures.wrote c.in-Picture.from c.in-Picture.to held fell told)
 
 pub returns-in-Err-new-clause-wrote : goal.returns-in-Err-new-clause-wrote
 returns-in-Err-new-clause-wrote g c = λ held fell told. record {

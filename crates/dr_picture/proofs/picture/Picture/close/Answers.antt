@@ -1,15 +1,6 @@
-use Rattle.std.proofs.Common.{◌∙◌, ap}
-use Rattle.dr_picture.specs.Sheet.{Drawn}
+use Rattle.std.proofs.lemmas.Result.{on_ok_weaker}
 use Rattle.dr_picture.proofs.picture.Picture.close.Goals as goal
-
-pub loop-member-preserved : goal.loop-member-preserved
-loop-member-preserved c = (
-  λ first is. c.in_ok-leave.ensures.keeps first (c.loop-member.invariant.0 first is),
-  c.in_ok-leave.ensures.lanes ∙ c.loop-member.invariant.1,
-  c.in_ok-leave.ensures.grounds
-      ∙ ap (λ (d : Drawn). record d { grounds = c.leave.new.self.sheet.grounds }) c.loop-member.invariant.2,
-)
 
 pub returns-clause-keeps : goal.returns-clause-keeps
 returns-clause-keeps c =
-    λ first is. c.next_row.ensures.keeps first (c.loop-member.invariant.0 first is)
+    on_ok_weaker c.lay.result (λ keeps first is. keeps first (c.in_ok-draw_bands.ensures first is)) c.lay.ensures

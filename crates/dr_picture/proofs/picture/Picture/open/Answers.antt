@@ -1,20 +1,17 @@
-use Rattle.std.proofs.Common.{ℕ, List, ◌∙◌, subst}
+use Rattle.std.proofs.Common.{ℕ, List, subst}
+use Rattle.std.proofs.lemmas.Result.{on_ok_weaker}
 use Rattle.dr_history.specs.History.{IsPrefixOf}
 use Rattle.dr_picture.proofs.Growing.{grown_same}
 use Rattle.dr_picture.proofs.picture.Picture.open.Goals as goal
 
-pub loop-member-preserved : goal.loop-member-preserved
-loop-member-preserved c = (
-  λ first is. c.in_ok-head_lane.ensures.keeps first (c.loop-member.invariant.0 first is),
-  c.in_ok-head_lane.ensures.lanes ∙ c.loop-member.invariant.1,
-)
-
 pub returns-clause-keeps : goal.returns-clause-keeps
-returns-clause-keeps c = λ first is. c.next_row-self.ensures.keeps first
-    (c.loop-member.invariant.0 first (c.in_ok-head_age.ensures.keeps first is))
+returns-clause-keeps c =
+    on_ok_weaker c.lay.result (λ keeps first is. keeps first (c.in_ok-head_age.ensures.keeps first is)) c.lay.ensures
 
 pub returns-clause-heading : goal.returns-clause-heading
-returns-clause-heading c = λ some.
-    let now = c.head_age.new.self.sheet in
-    subst (λ (l : List ℕ). IsPrefixOf l c.next_row-self.new.self.words) c.in_ok-head_age.ensures.heading
-    (c.next_row-self.ensures.keeps now (c.loop-member.invariant.0 now (grown_same now))).words
+returns-clause-heading c =
+    let now = c.head_age.new.sheet in
+    on_ok_weaker c.lay.result
+    (λ keeps some. subst (λ (l : List ℕ). IsPrefixOf l c.lay.new.sheet.words) c.in_ok-head_age.ensures.heading
+    (keeps now (grown_same now)).words)
+    c.lay.ensures
