@@ -1,5 +1,5 @@
 -- What is said of a text, by what is read of it, and with which status.
-use Rattle.std.proofs.Common.{◌≡◌, ◌⊎◌, ◌∙◌, inl, inr, sym, ap, subst, ℕ, zero, suc, List, Option, Some, None, [], ◌∷◌, Contains, String, Result, Ok, Err, IfOk, string_bytes, arith}
+use Rattle.std.proofs.Common.{◌≡◌, ◌⊎◌, ◌∙◌, inl, inr, refl, sym, ap, subst, ℕ, zero, suc, List, Option, Some, None, [], ◌∷◌, Contains, String, Result, Ok, Err, IfOk, map, string_bytes, arith}
 use Rattle.std.proofs.lemmas.Option.{none-some, same_Some}
 use Rattle.std.specs.declared.alloc.Global.{Global}
 use Rattle.dr_ages.specs.declared.mode.Mode.TheVariants.{Sim}
@@ -7,8 +7,10 @@ use Rattle.dr_ages.specs.declared.stop.Stop.{Stop}
 use Rattle.dr_entry.specs.declared.end.AgeEnd.{AgeEnd}
 use Rattle.dr_intake.specs.declared.answer.Answer.{Answer}
 use Rattle.dr_intake.specs.Answer.{done, no_memory, no_source, usage}
-use Rattle.dr_intake.specs.Reading.{refusal_in}
+use Rattle.dr_intake.specs.Reading.{WasRead, refusal_in}
 use Rattle.dr_intake.specs.Status.{WroteText, status_of}
+use Rattle.dr_io.specs.Faults.{Rose}
+use Rattle.dr_io.specs.Source.{Loses}
 use Rattle.dr_outcome.proofs.Runs.{memory_lasts}
 use Rattle.dr_outcome.specs.Last.{last_of}
 use Rattle.dr_outcome.specs.Outcome.{IsRunInMemory}
@@ -17,7 +19,9 @@ use Rattle.dr_script.specs.Reading.{Reading, TooLong, NotJson, Wrong, Reads, rea
 use Rattle.dr_text.specs.declared.last.Last.{Last}
 use Rattle.dr_text.specs.declared.last.Last.TheVariants as lasts
 use Rattle.dr_text.specs.Report.{last_text}
-use Rattle.derecho_summary.specs.Answer.{IsAnswerFor, IsRefusal, IsRunAnswer, IsSummaryAnswer}
+use Rattle.derecho_summary.specs.Answer.{IsAnswerFor, IsRefusal, IsRunAnswer, IsSummaryAnswer, summary_usage}
+use Rattle.derecho_summary.specs.Words.{wording_of}
+use Rattle.derecho_summary.specs.declared.words.Wording.{Wording}
 
 -- the run behind a last line
 pub run_behind : (script : Script) (ages : List AgeEnd) (stop : Option Stop) (last : Option Last) (line : Last)
@@ -29,35 +33,68 @@ run_behind script ages stop last line (inl (none, unstopped, silent)) is =
 run_behind script ages stop last line (inr (run, told)) is = (run, sym told ∙ is)
 
 -- the answer to a script
-script_answer : (r : Reading) (s : Script) (text : List ℕ) (status : ℕ) → r ≡ Reads s
-    → IsRunAnswer s text status → IsAnswerFor r text status
-script_answer r s text status is answer =
-    subst (λ (x : Reading). IsAnswerFor x text status) (sym is) answer
+script_answer : (w : Wording) (r : Reading) (s : Script) (text : List ℕ) (status : ℕ) → r ≡ Reads s
+    → IsRunAnswer w s text status → IsAnswerFor w r text status
+script_answer w r s text status is answer =
+    subst (λ (x : Reading). IsAnswerFor w x text status) (sym is) answer
 
 -- the answer to a text that is refused
-refused_answer : (r : Reading) (line : Last) (text : List ℕ) (status : ℕ) → refusal_in r ≡ Some line
-    → text ≡ last_text line → status ≡ status_of line → IsAnswerFor r text status
-refused_answer TooLong line text status is refused due =
+refused_answer : (w : Wording) (r : Reading) (line : Last) (text : List ℕ) (status : ℕ) → refusal_in r ≡ Some line
+    → text ≡ last_text line → status ≡ status_of line → IsAnswerFor w r text status
+refused_answer w TooLong line text status is refused due =
     record { last = line; line = is; refused = refused; due = due }
-refused_answer NotJson line text status is refused due =
+refused_answer w NotJson line text status is refused due =
     record { last = line; line = is; refused = refused; due = due }
-refused_answer (Wrong rule path) line text status is refused due =
+refused_answer w (Wrong rule path) line text status is refused due =
     record { last = line; line = is; refused = refused; due = due }
-refused_answer (Reads script) line text status is refused due = absurd (none-some line is)
+refused_answer w (Reads script) line text status is refused due = absurd (none-some line is)
 
 -- the same, where there was memory for the answer
-pub script_if : {E : Type 0} (answer : Result Answer E) (r : Reading) (s : Script) → r ≡ Reads s
-    → IfOk answer (λ a. IsRunAnswer s (string_bytes a.text) a.status)
-    → IfOk answer (λ a. IsAnswerFor r (string_bytes a.text) a.status)
-script_if (Ok a) r s is answer = script_answer r s (string_bytes a.text) a.status is answer
-script_if (Err e) r s is answer = tt
+pub script_if : {E : Type 0} (answer : Result Answer E) (w : Wording) (r : Reading) (s : Script) → r ≡ Reads s
+    → IfOk answer (λ a. IsRunAnswer w s (string_bytes a.text) a.status)
+    → IfOk answer (λ a. IsAnswerFor w r (string_bytes a.text) a.status)
+script_if (Ok a) w r s is answer = script_answer w r s (string_bytes a.text) a.status is answer
+script_if (Err e) w r s is answer = tt
 
-pub refused_if : {E : Type 0} (answer : Result Answer E) (r : Reading) (line : Last)
+pub refused_if : {E : Type 0} (answer : Result Answer E) (w : Wording) (r : Reading) (line : Last)
     → refusal_in r ≡ Some line → IfOk answer (λ a. string_bytes a.text ≡ last_text line)
     → IfOk answer (λ a. a.status ≡ status_of line)
-    → IfOk answer (λ a. IsAnswerFor r (string_bytes a.text) a.status)
-refused_if (Ok a) r line is refused due = refused_answer r line (string_bytes a.text) a.status is refused due
-refused_if (Err e) r line is refused due = tt
+    → IfOk answer (λ a. IsAnswerFor w r (string_bytes a.text) a.status)
+refused_if (Ok a) w r line is refused due =
+    refused_answer w r line (string_bytes a.text) a.status is refused due
+refused_if (Err e) w r line is refused due = tt
+
+-- ---- what a call comes to, by how far it came
+
+loses_nothing : (left : Option (List ℕ)) → Loses left left []
+loses_nothing None = tt
+loses_nothing (Some left) = refl
+
+-- the words are those of no call
+pub usage_if : {E : Type 0} (r : Result Answer E) (words : List (String Global)) (left : Option (List ℕ))
+    (failed : ℕ) → wording_of (map string_bytes words) ≡ None
+    → IfOk r (λ a. string_bytes a.text ≡ summary_usage) → IfOk r (λ a. a.status ≡ 2)
+    → IfOk r (λ a. IsSummaryAnswer words left left failed failed (string_bytes a.text, a.status))
+usage_if (Ok a) words left failed none text due = usage none (loses_nothing left) (text, due)
+usage_if (Err e) words left failed none text due = tt
+
+-- the source failed
+pub source_if : {E : Type 0} (r : Result Answer E) (words : List (String Global)) (old new : Option (List ℕ))
+    (failed fails : ℕ) (w : Wording) → wording_of (map string_bytes words) ≡ Some w → Rose failed fails
+    → IfOk r (λ a. string_bytes a.text ≡ last_text lasts.SourceFault)
+    → IfOk r (λ a. a.status ≡ status_of lasts.SourceFault)
+    → IfOk r (λ a. IsSummaryAnswer words old new failed fails (string_bytes a.text, a.status))
+source_if (Ok a) words old new failed fails w asked rose text due = no_source w asked refl rose (text, due)
+source_if (Err e) words old new failed fails w asked rose text due = tt
+
+-- what was read is told of
+pub told_if : {E : Type 0} (r : Result Answer E) (words : List (String Global)) (old new : Option (List ℕ))
+    (failed fails : ℕ) (w : Wording) (bytes : List ℕ) → wording_of (map string_bytes words) ≡ Some w
+    → WasRead old new bytes
+    → IfOk r (λ a. IsAnswerFor w (reading_of bytes) (string_bytes a.text) a.status)
+    → IfOk r (λ a. IsSummaryAnswer words old new failed fails (string_bytes a.text, a.status))
+told_if (Ok a) words old new failed fails w bytes asked was says = done w asked bytes was says
+told_if (Err e) words old new failed fails w bytes asked was says = tt
 
 -- the status of each call is one of these
 abbrev IsKnown : ℕ → Type 0
@@ -78,11 +115,12 @@ refused_known (Reads script) line is = absurd (none-some line is)
 refusal_known : (r : Reading) (text : List ℕ) (status : ℕ) → IsRefusal r text status → IsKnown status
 refusal_known r text status is = (2, omega arith, sym (is.due ∙ refused_known r is.last is.line))
 
-answer_known : (r : Reading) (text : List ℕ) (status : ℕ) → IsAnswerFor r text status → IsKnown status
-answer_known TooLong text status is = refusal_known TooLong text status is
-answer_known NotJson text status is = refusal_known NotJson text status is
-answer_known (Wrong rule path) text status is = refusal_known (Wrong rule path) text status is
-answer_known (Reads script) text status is =
+answer_known : (w : Wording) (r : Reading) (text : List ℕ) (status : ℕ) → IsAnswerFor w r text status
+    → IsKnown status
+answer_known w TooLong text status is = refusal_known TooLong text status is
+answer_known w NotJson text status is = refusal_known NotJson text status is
+answer_known w (Wrong rule path) text status is = refusal_known (Wrong rule path) text status is
+answer_known w (Reads script) text status is =
     subst IsKnown (sym is.due)
     (run_known (status_of is.last) (memory_lasts script Sim is.ages is.stop is.last is.run is.line))
 
@@ -92,7 +130,7 @@ due_known words old new failed fails text status answer = elim answer [
   | usage none kept said ↦ (1, omega arith, sym said.1)
   | no_source k asked reads rose said ↦ (3, omega arith, sym said.1)
   | no_memory k asked said ↦ absurd said
-  | done k asked bytes was is ↦ answer_known (reading_of bytes) text status is
+  | done k asked bytes was is ↦ answer_known k (reading_of bytes) text status is
 ]
 
 -- so is the status that is left by the sink

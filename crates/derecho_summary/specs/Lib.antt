@@ -1,2 +1,4 @@
+pub mod Words
 pub mod Summary
+pub mod Object
 pub mod Answer

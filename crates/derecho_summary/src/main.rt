@@ -1,11 +1,14 @@
 //! Runs a script as `derecho sim` does, and prints for each age one history with the members as columns, and
-//! what nobody delivered, which faults never came, how the members ended, and how many turns were enough.
+//! what nobody delivered, which faults never came, how the members ended, and how many turns were enough; or
+//! the same as a JSON object.
 #![tactic(auto)]
 
 mod ages;
+mod object;
 mod text;
 mod top;
 mod turns;
+mod words;
 
 use dr_intake::{OUT_OF_MEMORY, words_of};
 use dr_io::{InputSource, OutputSink};

@@ -1,16 +1,39 @@
 ghost use Rattle.std.specs.Prelude.{◌≡◌, IfOk, string_bytes};
 ghost use Rattle.dr_script.specs.Ranges.{HasRanges};
+ghost use Rattle.derecho_summary.specs.Object.{summary_by};
 ghost use Rattle.derecho_summary.specs.Summary.{AreAgreed, summary_text};
 
 use crate::ages::push_ages;
+use crate::object::object_of;
 use crate::turns::push_turns;
+use crate::words::Wording;
 use dr_entry::AgeEnd;
 use dr_script::Script;
 use dr_text::{Last, push_last};
 use std::alloc::{AllocError, Global};
 
+/// The summary of a run of a script in this wording: these are its ages, each of whose members agree, and its
+/// last line.
+pub(crate) fn summary_by(
+    alloc: Global,
+    wording: Wording,
+    script: &Script,
+    ages: &[AgeEnd],
+    last: &Last,
+) -> Result<String, AllocError>
+    requires ranges { HasRanges script.now }
+    requires agreed { AreAgreed ages.now }
+    ensures { IfOk result
+        (λ text. string_bytes text ≡ summary_by wording script.now ages.now last.now) }
+{
+    match wording {
+        Wording::People => summary_of(alloc, script, ages, last),
+        Wording::Programs => object_of(alloc, script, ages, last),
+    }
+}
+
 /// The summary of a run of a script: these are its ages, each of whose members agree, and its last line.
-pub(crate) fn summary_of(
+fn summary_of(
     alloc: Global,
     script: &Script,
     ages: &[AgeEnd],

@@ -2,23 +2,28 @@ ghost use Rattle.std.specs.Prelude.{◌≡◌, ◌⊎◌, ◌∷◌, [], IfOk, C
 ghost use Rattle.dr_progress.specs.Progress.{IsQuiet};
 ghost use Rattle.dr_script.specs.Ranges.{HasRanges};
 ghost use Rattle.dr_script.specs.Reading.{reading_of};
-ghost use Rattle.derecho_summary.specs.Answer.{IsAnswerFor, IsRunAnswer, IsSummaryAnswer, SummaryTold};
+ghost use Rattle.derecho_summary.specs.Answer.{IsAnswerFor, IsRunAnswer, IsSummaryAnswer, SummaryTold, summary_usage};
 
-use crate::text::summary_of;
-use dr_intake::{Answer, OUT_OF_MEMORY, bytes_or_answer, script_or_refusal, status_of};
+use crate::text::summary_by;
+use crate::words::{Wording, wording_of};
+use dr_intake::{
+    Answer, OUT_OF_MEMORY, READ_LIMIT, ReadFault, USAGE, read_all, script_or_refusal, status_of,
+};
 use dr_io::{Sink, Source};
 use dr_outcome::Outcome;
 use dr_progress::{Progress, Timer, watch_with_progress};
 use dr_script::Script;
 use dr_sim::Unwatched;
+use dr_text::Last;
 use std::alloc::{AllocError, Global};
 use std::thread::Threads;
 
 /// Reads a script from the source, runs it as `derecho sim` does, writes the summary of its ages to the sink,
 /// and answers the status of `derecho`.
 ///
-/// A text that is no script is refused as `derecho` refuses it, by the last line alone. It takes no words:
-/// with any it writes how it is called. While the run goes on, the progress says how far it is.
+/// Without words it is told in tables, and with the word `json` as a JSON object; with any others it writes how
+/// it is called. A text that is no script is refused as `derecho` refuses it, by the last line alone. While the
+/// run goes on, the progress says how far it is.
 pub fn summarize<R: Threads + Sync, S: Source, K: Sink, T: Timer, E: Sink>(
     rt: &R,
     alloc: Global,
@@ -61,24 +66,40 @@ fn answer_to<R: Threads + Sync, S: Source, T: Timer, E: Sink>(
         (λ a. (S.faults source.new ≡ S.faults source.old) ⊎ (a.status ≡ 4)) }
     ensures quiet { IsQuiet progress.old progress.new }
 {
-    match bytes_or_answer(alloc, "usage: derecho_summary < SCRIPT\n", words, source) {
-        Ok(bytes) => answer_for(rt, alloc, &bytes, progress),
-        Err(answer) => answer.ok_or(AllocError),
+    let Some(wording) = wording_of(words) else {
+        return usage(alloc);
+    };
+    match read_all(alloc, source, READ_LIMIT) {
+        Ok(bytes) => answer_for(rt, alloc, wording, &bytes, progress),
+        Err(ReadFault::Failed) => Answer::of_line(alloc, &Last::SourceFault),
+        Err(ReadFault::OutOfMemory) => Err(AllocError),
     }
+}
+
+/// How the program is called.
+fn usage(alloc: Global) -> Result<Answer, AllocError>
+    ensures text { IfOk result (λ a. string_bytes a.text ≡ summary_usage) }
+    ensures due { IfOk result (λ a. a.status ≡ 2) }
+{
+    Ok(Answer {
+        text: String::from_str(alloc, "usage: derecho_summary [json] < SCRIPT\n")?,
+        status: USAGE,
+    })
 }
 
 /// What is to be said of these bytes.
 fn answer_for<R: Threads + Sync, T: Timer, E: Sink>(
     rt: &R,
     alloc: Global,
+    wording: Wording,
     bytes: &[u8],
     progress: &mut Progress<T, E>,
 ) -> Result<Answer, AllocError>
-    ensures answer { IfOk result (λ a. IsAnswerFor (reading_of bytes.now) (string_bytes a.text) a.status) }
+    ensures answer { IfOk result (λ a. IsAnswerFor wording (reading_of bytes.now) (string_bytes a.text) a.status) }
     ensures quiet { IsQuiet progress.old progress.new }
 {
     match script_or_refusal(alloc, bytes) {
-        Ok(script) => answer_to_script(rt, alloc, &script, progress),
+        Ok(script) => answer_to_script(rt, alloc, wording, &script, progress),
         Err(Some(line)) => Answer::of_line(alloc, &line),
         Err(None) => Err(AllocError),
     }
@@ -88,11 +109,12 @@ fn answer_for<R: Threads + Sync, T: Timer, E: Sink>(
 fn answer_to_script<R: Threads + Sync, T: Timer, E: Sink>(
     rt: &R,
     alloc: Global,
+    wording: Wording,
     script: &Script,
     progress: &mut Progress<T, E>,
 ) -> Result<Answer, AllocError>
     requires { HasRanges script.now }
-    ensures answer { IfOk result (λ a. IsRunAnswer script.now (string_bytes a.text) a.status) }
+    ensures answer { IfOk result (λ a. IsRunAnswer wording script.now (string_bytes a.text) a.status) }
     ensures quiet { IsQuiet progress.old progress.new }
 {
     let Outcome { ages, last, .. } = watch_with_progress(
@@ -106,7 +128,7 @@ fn answer_to_script<R: Threads + Sync, T: Timer, E: Sink>(
         return Err(AllocError);
     };
     Ok(Answer {
-        text: summary_of(alloc, script, ages.as_slice(), &last)?,
+        text: summary_by(alloc, wording, script, ages.as_slice(), &last)?,
         status: status_of(&last),
     })
 }

@@ -41,7 +41,7 @@ fn push_enough(out: &mut String, turns: u32) -> Result<(), AllocError>
 }
 
 /// Whether some member has spent its turns.
-fn some_spent(ages: &[AgeEnd]) -> bool
+pub(crate) fn some_spent(ages: &[AgeEnd]) -> bool
     ensures { result ≡ some_spent ages.now }
 {
     ages.iter().any(|age| has_spent(age.members.as_slice()))
@@ -60,14 +60,14 @@ fn is_spent(end: End) -> bool
 }
 
 /// Whether a script is in lockstep without faults.
-fn is_calm(script: &Script) -> bool
+pub(crate) fn is_calm(script: &Script) -> bool
     ensures { result ≡ is_calm script.now }
 {
     script.faults.as_slice().is_empty() && matches!(script.schedule, Schedule::Lockstep)
 }
 
 /// The most turns that a member of any age has taken.
-fn most_turns(ages: &[AgeEnd]) -> u32
+pub(crate) fn most_turns(ages: &[AgeEnd]) -> u32
     ensures { result ≡ most_turns ages.now }
 {
     let mut most = 0;

@@ -3,3 +3,4 @@ pub mod Table
 pub mod Marks
 pub mod Notes
 pub mod Summary
+pub mod Objects

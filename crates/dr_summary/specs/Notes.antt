@@ -99,6 +99,23 @@ abbrev pub faults_text : List Fault → ℕ → List MemberEnd → List ℕ
 faults_text faults nth members =
     flat_map (λ t. fault_in faults nth members t.0 t.1) (enumerate_from 0 faults)
 
+-- whether what was planned for a member that ended so never came
+abbrev pub was_missed : List Fault → Fault → Option MemberEnd → Bool
+was_missed faults f None = false
+was_missed faults f (Some e) = not (has_come faults f.age f.member e f.what)
+
+-- whether a fault is one of this age of the run and never came
+abbrev pub never_came : List Fault → ℕ → List MemberEnd → Fault → Bool
+never_came faults nth members f = (f.age == nth) && was_missed faults f (slice_get members f.member)
+
+-- the number of a fault, where it is one of those
+abbrev pub missed_in : List Fault → ℕ → List MemberEnd → ℕ → Fault → List ℕ
+missed_in faults nth members number f = if never_came faults nth members f then number ∷ [] else []
+
+-- the numbers of the faults of this age of the run that never came
+abbrev pub missed : List Fault → ℕ → List MemberEnd → List ℕ
+missed faults nth members = flat_map (λ t. missed_in faults nth members t.0 t.1) (enumerate_from 0 faults)
+
 -- how a member of this number ended, and in which turn of how many
 abbrev pub end_line : ℕ → ℕ → MemberEnd → List ℕ
 end_line limit number m =

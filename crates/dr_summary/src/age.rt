@@ -78,7 +78,7 @@ fn push_notes(
 }
 
 /// The entries after the first `count`.
-fn behind(entries: &[Entry], count: usize) -> &[Entry]
+pub(crate) fn behind(entries: &[Entry], count: usize) -> &[Entry]
     ensures { result.now ≡ drop count entries.now }
 {
     &entries[count.min(entries.len())..]

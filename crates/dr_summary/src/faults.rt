@@ -1,9 +1,9 @@
-ghost use Rattle.std.specs.Prelude.{◌≡◌, ◌++◌, OnOk, slice_get, string_bytes};
-ghost use Rattle.dr_summary.specs.Notes.{fault_in, fault_text, faults_text, has_come, is_crashed, is_forestalled, is_sooner, never_line};
+ghost use Rattle.std.specs.Prelude.{◌≡◌, ◌++◌, IfOk, OnOk, slice_get, string_bytes};
+ghost use Rattle.dr_summary.specs.Notes.{fault_in, fault_text, faults_text, has_come, is_crashed, is_forestalled, is_sooner, missed, missed_in, never_came, never_line, was_missed};
 
 use dr_entry::{End, MemberEnd};
 use dr_script::{Fault, What};
-use std::alloc::AllocError;
+use std::alloc::{AllocError, Global};
 use std::fmt::Write;
 
 /// Appends the faults of this age of the run, from 0, that never came.
@@ -68,6 +68,57 @@ fn push_never(out: &mut String, number: usize, member: u8, turns: u32) -> Result
         out,
         "fault {number} never came: member {member} ended in turn {turns}"
     )
+}
+
+/// The numbers of the faults of this age of the run, from 0, that never came.
+pub(crate) fn missed(
+    alloc: Global,
+    faults: &[Fault],
+    nth: usize,
+    members: &[MemberEnd],
+) -> Result<Vec<usize>, AllocError>
+    ensures { IfOk result (λ numbers. numbers.items ≡ missed faults.now nth members.now) }
+{
+    let mut numbers = Vec::new(alloc);
+    for (number, fault) in faults.iter().enumerate() {
+        push_missed_in(&mut numbers, faults, nth, number, fault, members)?;
+    }
+    Ok(numbers)
+}
+
+/// Appends the number of a fault, where it is one of those.
+fn push_missed_in(
+    numbers: &mut Vec<usize>,
+    faults: &[Fault],
+    nth: usize,
+    number: usize,
+    fault: &Fault,
+    members: &[MemberEnd],
+) -> Result<(), AllocError>
+    ensures { OnOk result (numbers.new.items
+        ≡ numbers.old.items ++ missed_in faults.now nth members.now number fault.now) }
+{
+    if never_came(faults, nth, fault, members) {
+        numbers.push(number)?;
+    }
+    Ok(())
+}
+
+/// Whether a fault is one of this age of the run and never came.
+fn never_came(faults: &[Fault], nth: usize, fault: &Fault, members: &[MemberEnd]) -> bool
+    ensures { result ≡ never_came faults.now nth members.now fault.now }
+{
+    usize::from(fault.age) == nth && was_missed(faults, fault, members)
+}
+
+/// Whether what was planned for one of these members never came.
+fn was_missed(faults: &[Fault], fault: &Fault, members: &[MemberEnd]) -> bool
+    ensures { result ≡ was_missed faults.now fault.now (slice_get members.now fault.now.member) }
+{
+    match members.get(usize::from(fault.member)) {
+        Some(end) => !has_come(faults, fault, end),
+        None => false,
+    }
 }
 
 /// Whether a fault has come, as its member ended so.

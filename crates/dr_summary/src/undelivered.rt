@@ -59,7 +59,7 @@ fn first_of(names: &[(usize, usize)]) -> &[(usize, usize)]
 }
 
 /// The messages of the script that are not in this history, each as its sender and its number.
-fn undelivered(
+pub(crate) fn undelivered(
     alloc: Global,
     script: &Script,
     history: &[Entry],

@@ -1,32 +1,34 @@
-use Rattle.std.proofs.Common.{◌≡◌, ◌⊎◌, Err, ℕ, List, ap, string_bytes, subst}
-use Rattle.std.proofs.lemmas.Result.{IfOk-weaker}
-use Rattle.dr_intake.specs.declared.answer.Answer.{Answer}
-use Rattle.dr_intake.specs.Answer.{done, wordless}
-use Rattle.dr_intake.proofs.Answers.{answer_of_unread, if_some}
+use Rattle.std.proofs.Common.{◌≡◌, ◌∙◌, ℕ, List, IfOk, None, Some, map, rules, string_bytes, subst, sym}
+use Rattle.dr_io.specs.Faults.{Rose}
 use Rattle.dr_script.specs.Reading.{reading_of}
-use Rattle.derecho_summary.specs.Answer.{IsAnswerFor, IsSummaryAnswer, summary_usage}
+use Rattle.derecho_summary.specs.Answer.{IsAnswerFor}
+use Rattle.derecho_summary.specs.Words.{wording_of}
+use Rattle.derecho_summary.proofs.Answers.{source_if, told_if, usage_if}
 use Rattle.derecho_summary.proofs.top.answer_to.Goals as goal
 
 pub returns-in-Ok-clause-answer : goal.returns-in-Ok-clause-answer
-returns-in-Ok-clause-answer g c = IfOk-weaker c.answer_for.result _ _
-    (λ a is. done tt (ap wordless c.in-Ok.ensures.wordless) c.in-Ok.bytes.items c.in-Ok.ensures.bytes
-    (subst (λ (l : List ℕ). IsAnswerFor (reading_of l) (string_bytes a.text) a.status)
-    c.deref.ensures.value is)) c.answer_for.ensures.answer
+returns-in-Ok-clause-answer g c =
+    let asked : wording_of (map string_bytes c.args.words.now) ≡ Some c.in-Some.wording =
+    sym c.wording_of.ensures ∙ c.in-Some.is in
+    told_if c.answer_for.result c.args.words.now (g.S.Source.left c.args.source.now)
+    (g.S.Source.left c.read_all.new.source) (g.S.Source.faults c.args.source.now)
+    (g.S.Source.faults c.read_all.new.source) c.in-Some.wording c.in-Ok.bytes.items asked c.in-Ok.ensures.bytes
+    (subst (λ (l : List ℕ). IfOk c.answer_for.result (λ a. IsAnswerFor c.in-Some.wording (reading_of l)
+    (string_bytes a.text) a.status)) c.deref.ensures.value c.answer_for.ensures.answer)
 
-pub returns-in-Err-clause-answer : goal.returns-in-Err-clause-answer
-returns-in-Err-clause-answer g c =
-    let old = g.S.Source.left c.args.source.now in
-    let new = g.S.Source.left c.bytes_or_answer.new.source in
-    let failed = g.S.Source.faults c.args.source.now in
-    let fails = g.S.Source.faults c.bytes_or_answer.new.source in
-    if_some (λ (a : Answer). IsSummaryAnswer c.args.words.now old new failed fails (string_bytes a.text, a.status))
-    c.in-Err.answer _ c.ok_or.result c.ok_or.ensures.value
-    (λ a is. answer_of_unread summary_usage IsAnswerFor c.args.words.now old new failed fails
-    (string_bytes a.text, a.status) (c.in-Err.ensures.answer a (ap Err is)))
+pub returns-in-Err-Failed-clause-answer : goal.returns-in-Err-Failed-clause-answer
+returns-in-Err-Failed-clause-answer g c =
+    let asked : wording_of (map string_bytes c.args.words.now) ≡ Some c.in-Some.wording =
+    sym c.wording_of.ensures ∙ c.in-Some.is in
+    let rose : Rose (g.S.Source.faults c.args.source.now) (g.S.Source.faults c.read_all.new.source) =
+    search rules in
+    source_if c.of_line.result c.args.words.now (g.S.Source.left c.args.source.now)
+    (g.S.Source.left c.read_all.new.source) (g.S.Source.faults c.args.source.now)
+    (g.S.Source.faults c.read_all.new.source) c.in-Some.wording asked rose c.of_line.ensures.text
+    c.of_line.ensures.due
 
-pub returns-in-Err-clause-told : goal.returns-in-Err-clause-told
-returns-in-Err-clause-told g c =
-    if_some
-    (λ (a : Answer). (g.S.Source.faults c.bytes_or_answer.new.source ≡ g.S.Source.faults c.args.source.now)
-    ⊎ (a.status ≡ 4)) c.in-Err.answer _ c.ok_or.result c.ok_or.ensures.value
-    (λ a is. c.in-Err.ensures.told a (ap Err is))
+pub returns-in_default-clause-answer : goal.returns-in_default-clause-answer
+returns-in_default-clause-answer g c =
+    let none : wording_of (map string_bytes c.args.words.now) ≡ None = search rules in
+    usage_if c.usage.result c.args.words.now (g.S.Source.left c.args.source.now)
+    (g.S.Source.faults c.args.source.now) none c.usage.ensures.text c.usage.ensures.due

@@ -5,8 +5,8 @@ use Rattle.derecho_summary.proofs.Agreed.{agreed_run}
 use Rattle.derecho_summary.proofs.Answers.{run_behind}
 use Rattle.derecho_summary.proofs.top.answer_to_script.Goals as goal
 
-pub summary_of-requires-clause-agreed : goal.summary_of-requires-clause-agreed
-summary_of-requires-clause-agreed g c =
+pub summary_by-requires-clause-agreed : goal.summary_by-requires-clause-agreed
+summary_by-requires-clause-agreed g c =
     let outcome = c.watch_with_progress-ages.result in
     let is : outcome.last ≡ Some c.in-Some.last = search rules in
     let run = run_behind c.args.script.now outcome.ages outcome.stop outcome.last c.in-Some.last

@@ -1,0 +1,49 @@
+-- A summary as a JSON object.
+use Rattle.std.specs.Prelude.{ℕ, if◌then◌else◌, List, [], ◌∷◌, ◌++◌, codes}
+use Rattle.std.specs.Fmt.{decimal}
+use Rattle.std.specs.List.{concat, enumerate_from, flat_map}
+use Rattle.dr_enough.specs.Enough.{turns_enough}
+use Rattle.dr_entry.specs.declared.end.AgeEnd.{AgeEnd}
+use Rattle.dr_intake.specs.Status.{status_of}
+use Rattle.dr_script.specs.declared.script.Script.{Script}
+use Rattle.dr_summary.specs.Objects.{age_object}
+use Rattle.dr_text.specs.declared.last.Last.{Last}
+use Rattle.derecho_summary.specs.Summary.{is_calm, most_turns, some_spent, summary_text}
+use Rattle.derecho_summary.specs.declared.words.Wording.{Wording}
+use Rattle.derecho_summary.specs.declared.words.Wording.TheVariants.{People, Programs}
+
+-- the ages of a run
+abbrev pub age_objects : Script → List AgeEnd → List ℕ
+age_objects script ages = flat_map (λ t. age_object script t.0 t.1) (enumerate_from 0 ages)
+
+-- how many turns would have been enough: where nobody has spent its own, the most that a member took; else the
+-- number that is enough in lockstep without faults, where the script is so, and nothing where it isn't
+abbrev pub enough_digits : Script → List AgeEnd → List ℕ
+enough_digits script ages =
+    if some_spent ages then (if is_calm script then decimal (turns_enough script) else codes "null")
+    else decimal (most_turns ages)
+
+-- the ages of a run, as a summary begins
+abbrev pub ages_part : Script → List AgeEnd → List ℕ
+ages_part script ages = codes "{\"ages\": [" ++ age_objects script ages
+
+-- the status, and how many turns the script has
+abbrev pub status_part : ℕ → ℕ → List ℕ
+status_part status turns =
+    concat
+    (codes "],\n \"status\": " ∷ decimal status ∷ codes ",\n \"turns\": " ∷ decimal turns
+    ∷ codes ",\n \"turns_enough\": " ∷ [])
+
+-- how many would have been enough, as a summary ends
+abbrev pub enough_part : Script → List AgeEnd → List ℕ
+enough_part script ages = enough_digits script ages ++ codes "}\n"
+
+-- the summary of a run of a script, with its ages, and the status of its last line
+abbrev pub summary_object : Script → List AgeEnd → Last → List ℕ
+summary_object script ages last =
+    ages_part script ages ++ (status_part (status_of last) script.turns ++ enough_part script ages)
+
+-- the summary in a wording
+abbrev pub summary_by : Wording → Script → List AgeEnd → Last → List ℕ
+summary_by People script ages last = summary_text script ages last
+summary_by Programs script ages last = summary_object script ages last
