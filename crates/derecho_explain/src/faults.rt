@@ -1,3 +1,4 @@
+use crate::found::Found;
 use crate::keys::push_keys;
 use crate::values::{push_found, push_value, push_whole};
 use serde_json::Value;
@@ -8,21 +9,17 @@ use std::fmt::Write;
 const MAX_PUSH: u64 = 65_535;
 
 /// Appends why the faults, or the one at this path, have not the form that is wanted.
-pub(crate) fn push_form(
-    out: &mut String,
-    found: Option<&Value>,
-    path: &str,
-) -> Result<(), AllocError> {
-    match found {
+pub(crate) fn push_form(out: &mut String, found: Found<'_>, path: &str) -> Result<(), AllocError> {
+    match found.value {
         _ if path == "/faults" => push_found(out, found, "an array of at most 256 objects"),
-        Some(fault) if fault.is_object() => push_fault_keys(out, fault),
+        Some(fault) if fault.is_object() => push_fault_keys(out, found),
         _ => push_found(out, found, "an object"),
     }
 }
 
-fn push_fault_keys(out: &mut String, fault: &Value) -> Result<(), AllocError> {
-    let crash = fault.get("crash").is_some();
-    let suspect = fault.get("suspect").is_some();
+fn push_fault_keys(out: &mut String, fault: Found<'_>) -> Result<(), AllocError> {
+    let crash = fault.part("crash").value.is_some();
+    let suspect = fault.part("suspect").value.is_some();
     match (crash, suspect) {
         (true, true) => {
             out.push_str("both \"crash\" and \"suspect\"; wanted one of them\n")?;
@@ -40,16 +37,16 @@ fn push_fault_keys(out: &mut String, fault: &Value) -> Result<(), AllocError> {
 /// Appends which of a fault's age and member are none of the script's.
 pub(crate) fn push_place(
     out: &mut String,
-    script: &Value,
-    fault: Option<&Value>,
+    script: Found<'_>,
+    fault: Found<'_>,
 ) -> Result<(), AllocError> {
     let ages = size_of(script, "ages");
     let members = size_of(script, "members");
-    push_outside(out, "age", part_of(fault, "age"), 0, ages.saturating_sub(1))?;
+    push_outside(out, "age", fault.part("age"), 0, ages.saturating_sub(1))?;
     push_outside(
         out,
         "member",
-        part_of(fault, "member"),
+        fault.part("member"),
         0,
         members.saturating_sub(1),
     )
@@ -58,39 +55,31 @@ pub(crate) fn push_place(
 /// Appends why a fault is no crash and no suspicion of the script's turns and members.
 pub(crate) fn push_deed(
     out: &mut String,
-    script: &Value,
-    fault: Option<&Value>,
+    script: Found<'_>,
+    fault: Found<'_>,
 ) -> Result<(), AllocError> {
     let turns = size_of(script, "turns");
     let members = size_of(script, "members");
-    match (part_of(fault, "crash"), part_of(fault, "suspect")) {
+    let (crash, suspect) = (fault.part("crash"), fault.part("suspect"));
+    match (crash.value, suspect.value) {
         (Some(Value::Array(pair)), _) if pair.len() == 2 => {
-            push_outside(out, "turn", pair.get(0), 1, turns)?;
-            push_outside(out, "push", pair.get(1), 0, MAX_PUSH)
+            push_outside(out, "turn", crash.nth(0), 1, turns)?;
+            push_outside(out, "push", crash.nth(1), 0, MAX_PUSH)
         }
         (None, Some(Value::Array(pair))) if pair.len() == 2 => {
-            push_outside(out, "turn", pair.get(0), 1, turns)?;
-            push_outside(
-                out,
-                "other member",
-                pair.get(1),
-                0,
-                members.saturating_sub(1),
-            )?;
-            push_itself(out, part_of(fault, "member"), pair.get(1))
+            let other = suspect.nth(1);
+            push_outside(out, "turn", suspect.nth(0), 1, turns)?;
+            push_outside(out, "other member", other, 0, members.saturating_sub(1))?;
+            push_itself(out, fault.part("member"), other)
         }
-        (None, deed) => push_found(out, deed, "an array of a turn and another member"),
-        (deed, _) => push_found(out, deed, "an array of a turn and the number of a push"),
+        (None, _) => push_found(out, suspect, "an array of a turn and another member"),
+        _ => push_found(out, crash, "an array of a turn and the number of a push"),
     }
 }
 
-fn push_itself(
-    out: &mut String,
-    member: Option<&Value>,
-    other: Option<&Value>,
-) -> Result<(), AllocError> {
-    let number = member.and_then(Value::as_u64);
-    if number.is_some() && number == other.and_then(Value::as_u64) {
+fn push_itself(out: &mut String, member: Found<'_>, other: Found<'_>) -> Result<(), AllocError> {
+    let number = member.value.and_then(Value::as_u64);
+    if number.is_some() && number == other.value.and_then(Value::as_u64) {
         return out.push_str("a member does not suspect itself\n");
     }
     Ok(())
@@ -100,11 +89,11 @@ fn push_itself(
 fn push_outside(
     out: &mut String,
     what: &str,
-    found: Option<&Value>,
+    found: Found<'_>,
     low: u64,
     high: u64,
 ) -> Result<(), AllocError> {
-    if let Some(number) = found.and_then(Value::as_u64) {
+    if let Some(number) = found.value.and_then(Value::as_u64) {
         if low <= number && number <= high {
             return Ok(());
         }
@@ -115,11 +104,8 @@ fn push_outside(
     push_whole(out, found)
 }
 
-fn part_of<'a>(fault: Option<&'a Value>, key: &str) -> Option<&'a Value> {
-    fault?.get(key)
-}
-
 /// A number of the script; 0 where it has none.
-fn size_of(script: &Value, key: &str) -> u64 {
-    script.get(key).and_then(Value::as_u64).unwrap_or(0)
+fn size_of(script: Found<'_>, key: &str) -> u64 {
+    let size = script.part(key).value;
+    size.and_then(Value::as_u64).unwrap_or(0)
 }

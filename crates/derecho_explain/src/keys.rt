@@ -1,9 +1,17 @@
+use crate::found::Found;
 use serde_json::Value;
 use std::alloc::AllocError;
 use std::fmt::Write;
 
 /// Appends which of these keys a value has not, and which others it has.
-pub(crate) fn push_keys(out: &mut String, value: &Value, names: &[&str]) -> Result<(), AllocError> {
+pub(crate) fn push_keys(
+    out: &mut String,
+    found: Found<'_>,
+    names: &[&str],
+) -> Result<(), AllocError> {
+    let Some(value) = found.value else {
+        return Ok(());
+    };
     push_missing(out, value, names)?;
     push_unknown(out, value, names)
 }

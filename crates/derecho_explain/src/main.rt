@@ -3,6 +3,7 @@
 #![tactic(auto)]
 
 mod faults;
+mod found;
 mod keys;
 mod late;
 mod reasons;

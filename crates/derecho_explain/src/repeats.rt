@@ -31,7 +31,7 @@ pub(crate) fn push_repeat(alloc: Global, out: &mut String, text: &[u8]) -> Resul
 }
 
 /// The line and the byte in the line of a place, both counted from 1.
-fn place_of(text: &[u8], at: usize) -> (usize, usize) {
+pub(crate) fn place_of(text: &[u8], at: usize) -> (usize, usize) {
     let before = &text[..at.min(text.len())];
     let lines = before.iter().filter(|byte| **byte == b'\n').count();
     let column = before
@@ -71,7 +71,7 @@ fn first_repeat(alloc: Global, text: &[u8]) -> Result<Option<Repeat>, AllocError
 }
 
 /// Where the string ends that begins at `from`: the place of its closing quote, or the end of the text.
-fn string_end(text: &[u8], from: usize) -> usize
+pub(crate) fn string_end(text: &[u8], from: usize) -> usize
     requires { from ≤ length text.now }
     ensures { (from ≤ result) × (result ≤ length text.now) }
 {

@@ -3,10 +3,11 @@ ghost use Rattle.dr_intake.specs.Status.{status_of};
 ghost use Rattle.dr_script.specs.Ranges.{HasRanges};
 ghost use Rattle.dr_script.specs.Reading.{reading_of};
 ghost use Rattle.dr_text.specs.Report.{last_text};
-ghost use Rattle.derecho_explain.specs.Answer.{BeginsWith, ExplainTold, IsAnswerFor, IsExplainAnswer, turns_line};
+ghost use Rattle.derecho_explain.specs.Answer.{BeginsWith, ExplainTold, IsAnswerFor, IsExplainAnswer, TellsTurns};
 
 use crate::reasons::{reasons_for, words_for};
-use crate::turns::push_turns;
+use crate::turns::{push_taken, push_turns, turns_taken};
+use dr_enough::most_messages;
 use dr_intake::{Answer, DONE, OUT_OF_MEMORY, bytes_or_answer, script_or_refusal, status_of};
 use dr_io::{Sink, Source};
 use dr_script::Script;
@@ -17,8 +18,8 @@ use std::alloc::{AllocError, Global};
 ///
 /// Of a text that is no script the first line is the last one that `derecho` writes, and the status that of
 /// `derecho`; the lines behind it give the reason. Of a script the first line tells how many turns are enough
-/// for its group in lockstep, and the others which faults never come. It takes no words: with any it writes
-/// how it is called.
+/// for its group in lockstep, the second how many it takes so, and the others which faults never come. It takes
+/// no words: with any it writes how it is called.
 pub fn explain<S: Source, K: Sink>(
     alloc: Global,
     words: &[String],
@@ -61,24 +62,35 @@ fn answer_for(alloc: Global, bytes: &[u8]) -> Result<Answer, AllocError>
     ensures { IfOk result (λ a. IsAnswerFor (reading_of bytes.now) (string_bytes a.text) a.status) }
 {
     match script_or_refusal(alloc, bytes) {
-        Ok(script) => answer_to_script(alloc, bytes, &script),
+        Ok(script) => answer_to_script(alloc, bytes, script),
         Err(Some(line)) => answer_to_refusal(alloc, bytes, &line),
         Err(None) => Err(AllocError),
     }
 }
 
-/// How many turns are enough for a script, and what more is to be said of it.
-fn answer_to_script(alloc: Global, bytes: &[u8], script: &Script) -> Result<Answer, AllocError>
-    requires { HasRanges script.now }
-    ensures begins { IfOk result
-        (λ a. BeginsWith (turns_line script.now) (string_bytes a.text)) }
+/// How many turns are enough for a script, how many it takes, and what more is to be said of it.
+fn answer_to_script(alloc: Global, bytes: &[u8], script: Script) -> Result<Answer, AllocError>
+    requires { HasRanges script }
+    ensures turns { IfOk result (λ a. TellsTurns script (string_bytes a.text)) }
     ensures due { IfOk result (λ a. a.status ≡ 0) }
 {
-    let mut text = String::new(alloc);
-    push_turns(&mut text, script)?;
-    let more = words_for(alloc, bytes, script)?;
-    text.push_str(more.as_str())?;
+    let more = words_for(alloc, bytes, &script)?;
+    let text = turns_of(alloc, script, more.as_str())?;
     Ok(Answer { text, status: DONE })
+}
+
+/// How many turns are enough for a script, and how many it takes, and behind that this text.
+fn turns_of(alloc: Global, script: Script, more: &str) -> Result<String, AllocError>
+    requires { HasRanges script }
+    ensures { IfOk result (λ text. TellsTurns script (string_bytes text)) }
+{
+    let mut text = String::new(alloc);
+    push_turns(&mut text, &script)?;
+    let most = most_messages(&script);
+    let taken = turns_taken(alloc, script)?;
+    push_taken(&mut text, most, taken)?;
+    text.push_str(more)?;
+    Ok(text)
 }
 
 /// The last line by which a text is refused, and the reasons.

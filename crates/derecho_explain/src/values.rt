@@ -1,3 +1,4 @@
+use crate::found::Found;
 use serde_json::Value;
 use std::alloc::AllocError;
 use std::fmt::Write;
@@ -8,7 +9,7 @@ const SHOWN: usize = 40;
 /// Appends what was found in the place of something else, and what was wanted there.
 pub(crate) fn push_found(
     out: &mut String,
-    found: Option<&Value>,
+    found: Found<'_>,
     wanted: &str,
 ) -> Result<(), AllocError> {
     out.push_str("found ")?;
@@ -18,8 +19,8 @@ pub(crate) fn push_found(
 }
 
 /// Appends what a whole number is, where another number was found.
-pub(crate) fn push_whole(out: &mut String, found: Option<&Value>) -> Result<(), AllocError> {
-    match found {
+pub(crate) fn push_whole(out: &mut String, found: Found<'_>) -> Result<(), AllocError> {
+    match found.value {
         Some(value) if value.is_number() && !value.is_u64() => out.push_str(
             "a whole number is written in digits alone, without sign, point and exponent, and is below 2^64\n",
         ),
@@ -27,15 +28,18 @@ pub(crate) fn push_whole(out: &mut String, found: Option<&Value>) -> Result<(), 
     }
 }
 
-/// Appends a value in words, or as JSON where it is short.
-pub(crate) fn push_value(out: &mut String, value: Option<&Value>) -> Result<(), AllocError> {
-    match value {
+/// Appends a value in words, or as JSON where it is short, a number as it is written.
+pub(crate) fn push_value(out: &mut String, found: Found<'_>) -> Result<(), AllocError> {
+    match found.value {
         Some(Value::Array(list)) => push_count(out, "an array", list.len(), "element"),
         Some(Value::Object(object)) => push_count(out, "an object", object.len(), "key"),
         Some(Value::String(text)) if text.len() > SHOWN => {
             push_count(out, "a text", text.len(), "byte")
         }
-        Some(value) => write!(out, "{value}"),
+        Some(value) => match found.written() {
+            Some(digits) if value.is_number() => out.push_str(digits),
+            _ => write!(out, "{value}"),
+        },
         None => out.push_str("nothing"),
     }
 }

@@ -8,7 +8,7 @@ pub returns-in-Ok : goal.returns-in-Ok
 returns-in-Ok c =
     let is : reading_of c.args.bytes.now ≡ Reads c.in-Ok.script = search rules in
     script_if c.answer_to_script.result (reading_of c.args.bytes.now) c.in-Ok.script is
-    c.answer_to_script.ensures.begins c.answer_to_script.ensures.due
+    c.answer_to_script.ensures.turns c.answer_to_script.ensures.due
 
 pub returns-in-Err-Some : goal.returns-in-Err-Some
 returns-in-Err-Some c =
