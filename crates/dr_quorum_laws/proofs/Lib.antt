@@ -1,4 +1,6 @@
+mod AllThere
 mod Beginning
+mod ByMessages
 mod Chosen
 mod Ended
 mod Extra
@@ -6,12 +8,12 @@ mod Grown
 mod Handing
 mod Keeping
 mod LastViews
-mod Lists
+pub mod Lists
 mod Longest
 mod Missing
-mod OnLogs
+pub mod OnLogs
 mod OneValue
 mod Paths
-mod Refusals
-mod Sounding
+pub mod Refusals
+pub mod Sounding
 mod Tried

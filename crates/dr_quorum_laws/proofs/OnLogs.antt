@@ -29,7 +29,7 @@ above-none zero some = absurd (some refl)
 above-none (suc mask) some = omega arith
 
 -- of a mask of 16 bits each member is in the list
-in-list : (mask s : ℕ) → mask < 2 ^ 16 → has mask s ≡ true → Contains (members_of mask) s
+pub in-list : (mask s : ℕ) → mask < 2 ^ 16 → has mask s ≡ true → Contains (members_of mask) s
 in-list mask s small h = has-member mask s h (by (cases_lt s 16))
   where
     by : (s < 16) ⊎ (16 ≤ s) → s < 16
@@ -48,7 +48,7 @@ in-roster n m h = by (has_ones n m) h
     by is there = grind (arith, is, there)
 
 -- which has somebody
-above-whole : (n : ℕ) → 1 ≤ n → 0 < 2 ^ n - 1
+pub above-whole : (n : ℕ) → 1 ≤ n → 0 < 2 ^ n - 1
 above-whole n some = by (2 ^ n - 1) refl
   where
     first : has (2 ^ n - 1) 0 ≡ true

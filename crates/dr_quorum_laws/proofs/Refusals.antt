@@ -24,14 +24,14 @@ apart i j = grind arith
 
 -- ---- the last age, and the start
 
-one-last : (h : Handed) (a b : ℕ) → IsLastAge h a → IsLastAge h b → a ≡ b
+pub one-last : (h : Handed) (a b : ℕ) → IsLastAge h a → IsLastAge h b → a ≡ b
 one-last h a b x y = omega (
   arith,
   x.greatest y.some.0 b y.some.1 y.some.2 y.some.3,
   y.greatest x.some.0 a x.some.1 x.some.2 x.some.3,
 )
 
-no-last : (h : Handed) (es : List Entry) (age : ℕ) → AreOfNobody h es → IsLastAge h age → ⊥
+pub no-last : (h : Handed) (es : List Entry) (age : ℕ) → AreOfNobody h es → IsLastAge h age → ⊥
 no-last h es age n x =
     none-some x.some.3.0 (sym (n.nobody x.some.0 x.some.1 x.some.2) ∙ x.some.3.1)
 
@@ -89,11 +89,11 @@ one-start o h s t x y =
 
 -- ---- what each reason excludes
 
-foreign-no : (o : Opening) (h : Handed) (m place : ℕ) → IsFirstForeignOf o h m place → HaveNothingForeign o h → ⊥
+pub foreign-no : (o : Opening) (h : Handed) (m place : ℕ) → IsFirstForeignOf o h m place → HaveNothingForeign o h → ⊥
 foreign-no o h m place x sound =
     x.foreign.foreign (sound m x.log x.here place x.foreign.entry x.foreign.here)
 
-lacks-no : (h : Handed) (members have need : ℕ) → LacksQuorum h members have need → HasQuorum h members → ⊥
+pub lacks-no : (h : Handed) (members have need : ℕ) → LacksQuorum h members have need → HasQuorum h members → ⊥
 lacks-no h members have need x q =
     by (length (members_of (handed_of h members))) (length (members_of members)) x.count x.half q
   where
@@ -195,7 +195,7 @@ one-split h age a b p i j q x y = by (apart b j) (apart a i)
     by (inr (inl f)) (inr (inl e)) = same e f
 
 -- a log has one View of a number
-one-view : (es : List Entry) (a n f g : ℕ) → ViewsRise 0 es → Contains es (View a n f) → Contains es (View a n g)
+pub one-view : (es : List Entry) (a n f g : ℕ) → ViewsRise 0 es → Contains es (View a n f) → Contains es (View a n g)
     → f ≡ g
 one-view es a n f g rise c d =
     let s = read-in es (View a n f) c in

@@ -19,6 +19,7 @@ ghost use Rattle.dr_restart.specs.Groups.{group_of};
 ghost use Rattle.dr_restart.specs.Left.{AreLeft, IsLeftByOther, entries_on_logs, votes_on_logs};
 ghost use Rattle.dr_restart.specs.OnLogs.{AllStandOnLog, StartsSoundly};
 ghost use Rattle.dr_restart.specs.Refusing.{IsRefusedFor, Refusal};
+ghost use Rattle.dr_restart.specs.Refusing.Refusal.{AgesUsedUp};
 ghost use Rattle.dr_restart.specs.Trying.{IsTry, opened_by};
 ghost use Rattle.dr_script.specs.declared.script.Script.{Script as ScriptOf};
 ghost use Rattle.dr_vote_laws.specs.Voting.{HaveVotedFor};
@@ -65,11 +66,30 @@ pub fn choices_are_one()
         → IsRefusedFor o h other → one ≡ other }
 {}
 
+/// What logs make goes by the roster and the messages alone, so it is the same for each age of a script.
+pub fn choices_go_by_messages()
+    ensures start { (o p : Opening) (h : Handed) (start : StartOf) → o.messages ≡ p.messages
+        → IsChosenStart o h start → IsChosenStart p h start }
+    ensures refusal { (o p : Opening) (h : Handed) (why : Refusal) → o.messages ≡ p.messages
+        → IsRefusedFor o h why → IsRefusedFor p h why }
+{}
+
 /// Where no log is missing, and of any two of them one is a front of the other, the longest is chosen.
 pub fn all_logs_give_the_longest()
     ensures { (o : Opening) (logs : List LogListsOf) (set : ℕ) (start : StartOf)
         → IsChosenStart o (of_set logs set) start → ((m : ℕ) → m < length logs → has set m ≡ true)
         → AreAllAlong (entries_on_logs logs) → IsLongest (entries_on_logs logs) start.entries }
+{}
+
+/// Where no log is missing, all of their entries may stand, and of any two of them one is a front of the
+/// other, they are refused only where one knows the last age.
+pub fn all_logs_are_enough()
+    ensures { (o : Opening) (logs : List LogListsOf) (set : ℕ) (why : Refusal) → 1 ≤ length o.messages
+        → length o.messages ≤ 16 → length logs ≡ length o.messages
+        → ((m : ℕ) → m < length logs → has set m ≡ true)
+        → ((m : ℕ) (log : LogListsOf) → slice_get logs m ≡ Some log
+        → AllStandOnLog o.messages log.entries)
+        → AreAllAlong (entries_on_logs logs) → IsRefusedFor o (of_set logs set) why → why ≡ AgesUsedUp }
 {}
 
 /// In every world that a group reaches of which more than half of the roster is there, and whatever stops

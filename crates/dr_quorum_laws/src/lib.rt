@@ -9,6 +9,7 @@
 mod laws;
 
 pub use laws::{
-    all_logs_give_the_longest, choices_are_one, choices_are_sound, held_by_try, kept_after_choice,
-    kept_by_majority, missing_logs_are_of_earlier_ages, votes_left_are_one,
+    all_logs_are_enough, all_logs_give_the_longest, choices_are_one, choices_are_sound,
+    choices_go_by_messages, held_by_try, kept_after_choice, kept_by_majority,
+    missing_logs_are_of_earlier_ages, votes_left_are_one,
 };

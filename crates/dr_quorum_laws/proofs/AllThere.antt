@@ -1,0 +1,191 @@
+-- Where no log is missing, all may stand, and of any two one is a front of the other, they are refused only
+-- where one knows the last age.
+use Rattle.std.proofs.Common.{◌≡◌, ◌≢◌, refl, ap, sym, ◌∙◌, subst, ℕ, zero, suc, ◌^◌, ◌<◌, ◌≤◌, ◌&&◌, not, nat_lt, arith, Bool, true, false, List, [], ◌∷◌, filter, length, Contains, Option, None, Some, is_some, slice_get, if◌then◌else◌, option_and_then, option_map}
+use Rattle.std.specs.Option.{option_map_or}
+use Rattle.std.proofs.lemmas.Option.{none-some, same_Some}
+use Rattle.dr_entry.specs.declared.entry.Entry.{Entry}
+use Rattle.dr_entry.specs.declared.entry.Entry.TheVariants.{View}
+use Rattle.dr_entry.specs.declared.record.Vote.{Vote}
+use Rattle.dr_history.specs.declared.opening.Opening.{Opening}
+use Rattle.dr_history.specs.Members.{has, members_of}
+use Rattle.dr_history.specs.Restarting.{AreAllAlong}
+use Rattle.dr_history.specs.Soundness.{whole_roster}
+use Rattle.dr_history_laws.proofs.Differing.{differ_not_along}
+use Rattle.dr_history_laws.proofs.Lists.{slice_get-some}
+use Rattle.dr_restart.specs.declared.lists.LogLists.{LogLists}
+use Rattle.dr_restart.specs.Choosing.{AreFirst, Handed, HasQuorum, handed_of, highest, names_next, next_on_path, next_votes, of_set, on_path}
+use Rattle.dr_restart.specs.Left.{entries_on_logs}
+use Rattle.dr_restart.specs.OnLogs.{AllStandOnLog, AreOfRoster}
+use Rattle.dr_restart.specs.Refusing.{HaveNothingForeign, IsRefusedFor, Refusal}
+use Rattle.dr_restart.specs.Refusing.Refusal.{AgesUsedUp, Disagree, Foreign, NoQuorum}
+use Rattle.dr_restart.proofs.Listed.{listed}
+use Rattle.dr_words.proofs.Bits.{has_ones, has_zero}
+use Rattle.dr_words.proofs.Masks.{has_mask_of, has_without_mask, mask_of_small, same_masks}
+use Rattle.dr_words.specs.Masks.{mask_of, without}
+use Rattle.dr_quorum_laws.proofs.Handing.{log-of_set, set-log}
+use Rattle.dr_quorum_laws.proofs.Lists.{filter-in, flat_map-in, highest-in, in-nothing, read-in}
+use Rattle.dr_quorum_laws.proofs.OnLogs.{above-whole, in-list}
+use Rattle.dr_quorum_laws.proofs.Refusals.{foreign-no, lacks-no}
+
+-- ---- masks of some members of the roster
+
+-- a mask with members below 16 alone has 16 bits
+small-mask : (n mask : ℕ) → n ≤ 16 → ((m : ℕ) → has mask m ≡ true → m < n) → mask < 2 ^ 16
+small-mask n mask most within = subst (λ k. k < 2 ^ 16) same (mask_of_small (has mask))
+  where
+    by : (i : ℕ) (b : Bool) → has mask i ≡ b → (nat_lt i 16 && has mask i) ≡ has mask i
+    by i true e = let l : i < 16 = omega (arith, within i e, most) in grind (arith, e, l)
+    by i false e = grind (arith, e)
+
+    same : mask_of (has mask) ≡ mask
+    same = same_masks (mask_of (has mask)) mask (λ i. has_mask_of (has mask) i ∙ by i (has mask i) refl)
+
+-- one that isn't 0 has a member
+some-members : (mask : ℕ) → mask < 2 ^ 16 → mask ≢ 0 → 0 < length (members_of mask)
+some-members mask small some = by (members_of mask) refl
+  where
+    none : members_of mask ≡ [] → (i : ℕ) (b : Bool) → has mask i ≡ b → has mask i ≡ has 0 i
+    none e i true t = absurd (in-nothing i (subst (λ ms. Contains ms i) e (in-list mask i small t)))
+    none e i false t = t ∙ sym (has_zero i)
+
+    by : (ms : List ℕ) → members_of mask ≡ ms → 0 < length (members_of mask)
+    by [] e = absurd (some (same_masks mask 0 (λ i. none e i (has mask i) refl)))
+    by (m ∷ ms) e = omega (arith, ap length e)
+
+-- members of the roster, and somebody
+record AreSomeOf (n mask : ℕ) : Type 0 where
+  small : mask < 2 ^ 16
+  some : mask ≢ 0
+  within : (m : ℕ) → has mask m ≡ true → m < n
+
+some-of : (n mask : ℕ) → n ≤ 16 → AreOfRoster n mask → AreSomeOf n mask
+some-of n mask most of = record {
+  small = small-mask n mask most of.within;
+  some = λ e. omega (arith, of.some, e);
+  within = of.within;
+}
+
+-- where all have handed in their logs, so have more than half of them
+all-handed : (h : Handed) (n mask : ℕ) → n ≤ 16 → ((m : ℕ) → m < n → is_some (h m) ≡ true) → AreSomeOf n mask
+    → HasQuorum h mask
+all-handed h n mask most all of =
+    let some = some-members mask of.small of.some in
+    omega (arith, some, ap (λ k. length (members_of k)) same)
+  where
+    by : (i : ℕ) (b : Bool) → has mask i ≡ b → (nat_lt i 16 && (has mask i && is_some (h i))) ≡ has mask i
+    by i true e =
+        let l : i < 16 = omega (arith, of.within i e, most) in
+        let there = all i (of.within i e) in
+        grind (arith, e, l, there)
+    by i false e = grind (arith, e)
+
+    same : handed_of h mask ≡ mask
+    same = same_masks (handed_of h mask) mask
+        (λ i. has_mask_of (λ j. has mask j && is_some (h j)) i ∙ by i (has mask i) refl)
+
+-- ---- the path
+
+-- so are the members of the view after such a view
+next-of : (h : Handed) (n age v members next : ℕ) → AreSomeOf n members
+    → next_on_path h n age v members ≡ Some next → AreSomeOf n next
+next-of h n age v members next of e = by (highest (next_votes h n age v members)) refl e
+  where
+    left : (x : Vote) → Contains (next_votes h n age v members) x → without members x.value.leavers ≢ 0
+    left x c =
+        let t = flat_map-in (λ m. filter (names_next n age v members) (option_map_or (λ (log : LogLists). log.votes) (h m) []))
+        (members_of members) x c in
+        let f = filter-in (names_next n age v members) (option_map_or (λ (log : LogLists). log.votes) (h t.0) []) x t.2 in
+        λ z. absurd (grind (arith, f.1, z))
+
+    part : (x : Vote) (m : ℕ) → has (without members x.value.leavers) m ≡ true → m < n
+    part x m there =
+        let mine : has members m ≡ true = grind (
+          arith,
+          has_without_mask members x.value.leavers m of.small,
+          there,
+        ) in
+        of.within m mine
+
+    by : (o : Option Vote) → highest (next_votes h n age v members) ≡ o
+        → option_map (λ x. without members x.value.leavers) (highest (next_votes h n age v members)) ≡ Some next
+        → AreSomeOf n next
+    by None f g = absurd (none-some next (ap (option_map (λ (x : Vote). without members x.value.leavers)) (sym f) ∙ g))
+    by (Some x) f g = subst (AreSomeOf n)
+        (same_Some (without members x.value.leavers) next
+        (ap (option_map (λ (y : Vote). without members y.value.leavers)) (sym f) ∙ g))
+        (record {
+          small = mask_of_small (λ i. has members i && not (has x.value.leavers i));
+          some = left x (highest-in (next_votes h n age v members) x f);
+          within = part x;
+        })
+
+path-of : (h : Handed) (n age first v members : ℕ) → AreSomeOf n first → on_path h n age first v ≡ Some members
+    → AreSomeOf n members
+unfolding on_path
+path-of h n age first zero members of e = subst (AreSomeOf n) (same_Some first members e) of
+path-of h n age first (suc v) members of e =
+    go (λ u is. path-of h n age first v u of is) (nat_lt v 255) (on_path h n age first v) refl e
+  where
+    go : ((u : ℕ) → on_path h n age first v ≡ Some u → AreSomeOf n u) → (b : Bool) (o : Option ℕ)
+        → on_path h n age first v ≡ o
+        → (if b then option_and_then (next_on_path h n age v) (on_path h n age first v) else None) ≡ Some members
+        → AreSomeOf n members
+    go old false o f g = absurd (none-some members g)
+    go old true None f g = absurd (none-some members (ap (option_and_then (next_on_path h n age v)) (sym f) ∙ g))
+    go old true (Some u) f g =
+        next-of h n age v u members (old u f) (ap (option_and_then (next_on_path h n age v)) (sym f) ∙ g)
+
+-- ---- all logs
+
+some_is : (o : Option LogLists) (log : LogLists) → o ≡ Some log → is_some o ≡ true
+some_is o log e = ap is_some e
+
+pub all-pass : (o : Opening) (logs : List LogLists) (set : ℕ) (why : Refusal) → 1 ≤ length o.messages
+    → length o.messages ≤ 16 → length logs ≡ length o.messages
+    → ((m : ℕ) → m < length logs → has set m ≡ true)
+    → ((m : ℕ) (log : LogLists) → slice_get logs m ≡ Some log → AllStandOnLog o.messages log.entries)
+    → AreAllAlong (entries_on_logs logs) → IsRefusedFor o (of_set logs set) why → why ≡ AgesUsedUp
+all-pass o logs set why least most long all stand along = by why
+  where
+    n : ℕ
+    n = length o.messages
+
+    h : Handed
+    h = of_set logs set
+
+    sound : HaveNothingForeign o h
+    sound m log at = stand m log (set-log logs set m log at).1
+
+    given : (m : ℕ) → m < n → is_some (h m) ≡ true
+    given m l =
+        let t = slice_get-some logs m (omega (arith, l, long)) in
+        some_is (h m) t.0 (log-of_set logs set m t.0 (all m (omega (arith, l, long))) t.1)
+
+    roster : AreOfRoster n (whole_roster o)
+    roster = record { some = above-whole n least; within = λ m e. below m e (has_ones n m) }
+      where
+        below : (m : ℕ) → has (whole_roster o) m ≡ true → has (whole_roster o) m ≡ nat_lt m n → m < n
+        below m e is = grind (arith, e, is)
+
+    first-some : (age first : ℕ) → AreFirst h age first → AreSomeOf n first
+    first-some age first (es, (m, log, at, ends, same), c) =
+        some-of n first most (stand m log (set-log logs set m log at).1 k.0 (View age 0 first) k.1).0
+      where
+        k : (i : ℕ) × (slice_get log.entries i ≡ Some (View age 0 first))
+        k = read-in log.entries (View age 0 first) (subst (λ l. Contains l (View age 0 first)) same c)
+
+    by : (r : Refusal) → IsRefusedFor o h r → r ≡ AgesUsedUp
+    by (Foreign m place) x = absurd (foreign-no o h m place x sound)
+    by (NoQuorum None have need) x = absurd (lacks-no h (whole_roster o) have need x.1
+        (all-handed h n (whole_roster o) most given (some-of n (whole_roster o) most roster)))
+    by (Disagree a b place) x = absurd (differ_not_along x.3.one x.3.other place x.3.differ
+        (along a b x.3.one x.3.other x.3.below (on a x.3.one x.3.in_a.0 x.3.in_a.1 x.3.in_a.3)
+        (on b x.3.other x.3.in_b.0 x.3.in_b.1 x.3.in_b.3)))
+      where
+        on : (m : ℕ) (es : List Entry) (log : LogLists) → h m ≡ Some log → es ≡ log.entries
+            → slice_get (entries_on_logs logs) m ≡ Some es
+        on m es log at e = listed logs m log (set-log logs set m log at).1 ∙ ap Some (sym e)
+    by (NoQuorum (Some v) have need) x = absurd (lacks-no h x.6.members have need x.6.lacks
+        (all-handed h n x.6.members most given
+        (path-of h n x.1 x.4 v x.6.members (first-some x.1 x.4 x.5) x.6.here)))
+    by AgesUsedUp x = refl
