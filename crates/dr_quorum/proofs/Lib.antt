@@ -1,0 +1,13 @@
+mod Along
+mod Choices
+mod Exact
+mod Firsts
+mod Holding
+mod Knowing
+mod Masks
+mod Options
+mod Paths
+mod Stands
+mod Valid
+mod Votes
+mod Walks

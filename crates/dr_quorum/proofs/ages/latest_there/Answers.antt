@@ -1,0 +1,12 @@
+use Rattle.std.proofs.Common.{sym, subst, None}
+use Rattle.dr_restart.specs.Choosing.{HasAge}
+use Rattle.dr_quorum.specs.Knowing.{IsGreatestAge, OfLog}
+use Rattle.dr_quorum.proofs.Knowing.{nothing_known}
+use Rattle.dr_quorum.proofs.ages.latest_there.Goals as goal
+
+pub returns-in-Some : goal.returns-in-Some
+returns-in-Some c =
+    subst (λ o. IsGreatestAge (OfLog HasAge o) c.latest_on.result) (sym c.in-Some.is) c.latest_on.ensures
+
+pub returns-in-None : goal.returns-in-None
+returns-in-None c = subst (λ o. IsGreatestAge (OfLog HasAge o) None) (sym c.in-None.is) (nothing_known HasAge)

@@ -1,0 +1,16 @@
+use Rattle.std.proofs.Common.{◌≡◌, ℕ}
+use Rattle.dr_entry.specs.declared.record.Vote.{Vote}
+use Rattle.dr_quorum.proofs.Knowing.{all_known, more_aged, none_known}
+use Rattle.dr_quorum.proofs.ages.latest_vote.Goals as goal
+
+pub loop-vote-init : goal.loop-vote-init
+loop-vote-init c = none_known (λ (x : Vote) (a : ℕ). x.age ≡ a)
+
+pub loop-vote-preserved : goal.loop-vote-preserved
+loop-vote-preserved c =
+    more_aged (λ (x : Vote). x.age) c.args.votes.now c.loop-vote.vote-index _ c.loop-vote.best c.later-best.result
+    c.loop-vote-test.true c.loop-vote.invariant c.later-best.ensures
+
+pub returns : goal.returns
+returns c = all_known (λ (x : Vote) (a : ℕ). x.age ≡ a) c.args.votes.now c.loop-vote.vote-index c.loop-vote.best
+    c.loop-vote-test.false c.loop-vote.invariant

@@ -1,0 +1,5 @@
+use Rattle.dr_quorum.proofs.Valid.{chosen_valid}
+use Rattle.dr_quorum.proofs.laws.chosen_entries_are_valid.Goals as goal
+
+pub returns : goal.returns
+returns c = chosen_valid

@@ -1,0 +1,47 @@
+//! A test program: it reads scripts and logs, a line each, and prints what the next age starts with. What it
+//! has to print was worked out by hand.
+//!
+//! A line that begins with a brace is a script, and takes away the logs; one that begins with `#` says what
+//! the lines behind it show. `log M` and what stands on it is the log of a member: `vA.N.L` is a View of an
+//! age, a number and members, `mS.I.T` a message of a sender, an index and a text, `bA.N.B.R.L` a vote of an
+//! age, a view, a ballot, a roster and leavers, and `aA.L` an age vote of an age and members. Members are
+//! listed as digits. `choose` and members chooses a start by the logs of all others.
+#![tactic(auto)]
+
+mod printing;
+mod reading;
+
+use dr_quorum::choose;
+use dr_script::read_script;
+use printing::text_of;
+use reading::lists_of;
+use std::alloc::Global;
+use std::io::{BufRead, BufReader};
+
+fn main(rt: HostRuntime) -> anyhow::Result<()> {
+    let alloc = rt.alloc();
+    let mut script = String::new(alloc);
+    let mut logs = Vec::new(alloc);
+    for line in BufReader::new(alloc, rt.reader())?.lines(alloc) {
+        let line = line?;
+        let line = line.as_str();
+        println!(rt; "{line}")?;
+        if line.starts_with('{') {
+            script = String::from_str(alloc, line)?;
+            logs.clear();
+        } else if let Some(log) = line.strip_prefix("log ") {
+            logs.push(String::from_str(alloc, log)?)?;
+        } else if let Some(missing) = line.strip_prefix("choose") {
+            let said = chosen(alloc, script.as_str(), logs.as_slice(), missing)?;
+            println!(rt; "{said}")?;
+        }
+    }
+    Ok(())
+}
+
+/// What the logs of all but the missing make of a script.
+fn chosen(alloc: Global, script: &str, logs: &[String], missing: &str) -> anyhow::Result<String> {
+    let script = read_script(alloc, script.as_bytes())?;
+    let lists = lists_of(alloc, script.members, logs, missing)?;
+    text_of(alloc, choose(alloc, &script, lists.as_slice()))
+}
