@@ -9,9 +9,6 @@ use std::alloc::AllocError;
 /// How many characters stand before the marks of a row.
 const LABEL_WIDTH: usize = 40;
 
-/// How many characters the number of an entry takes at least.
-const NUMBER_WIDTH: usize = 5;
-
 /// Appends so many blanks.
 pub(crate) fn push_blanks(out: &mut String, count: usize) -> Result<(), AllocError>
     ensures { OnOk result (string_bytes out.new ≡ string_bytes out.old ++ replicate count 32) }
@@ -32,14 +29,18 @@ pub(crate) fn push_dashes(out: &mut String, count: usize) -> Result<(), AllocErr
     Ok(())
 }
 
-/// Appends the number of an entry, with blanks before it.
-pub(crate) fn push_number(out: &mut String, number: usize) -> Result<(), AllocError>
+/// Appends a number, with blanks before it, so that it takes at least so many characters.
+///
+/// # Errors
+///
+/// Want of memory alone.
+pub fn push_aligned(out: &mut String, width: usize, number: usize) -> Result<(), AllocError>
     ensures { OnOk result
-        (string_bytes out.new ≡ string_bytes out.old ++ behind_blanks 5 (decimal number)) }
+        (string_bytes out.new ≡ string_bytes out.old ++ behind_blanks width (decimal number)) }
 {
     let mut buffer = Buffer::new();
     let digits = buffer.format(number as u64);
-    push_blanks(out, NUMBER_WIDTH.saturating_sub(digits.len()))?;
+    push_blanks(out, width.saturating_sub(digits.len()))?;
     out.push_str(digits)
 }
 

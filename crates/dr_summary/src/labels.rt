@@ -1,12 +1,15 @@
 ghost use Rattle.std.specs.Prelude.{◌≡◌, ◌++◌, IfOk, OnOk, string_bytes};
 ghost use Rattle.dr_summary.specs.Table.{before_dashes, label_text, rule_text};
 
-use crate::columns::{push_dashes, push_number};
+use crate::columns::{push_aligned, push_dashes};
 use dr_entry::Entry;
 use dr_quote::push_message;
 use dr_text::push_mask;
 use std::alloc::{AllocError, Global};
 use std::fmt::Write;
+
+/// How many characters the number of an entry takes at least.
+const NUMBER_WIDTH: usize = 5;
 
 /// How many characters the rule of a view takes at least.
 const RULE_WIDTH: usize = 38;
@@ -19,7 +22,7 @@ pub(crate) fn label_of(alloc: Global, number: usize, entry: &Entry) -> Result<St
     ensures { IfOk result (λ label. string_bytes label ≡ label_text number entry.now) }
 {
     let mut label = String::with_capacity(alloc, LABEL_ROOM)?;
-    push_number(&mut label, number)?;
+    push_aligned(&mut label, NUMBER_WIDTH, number)?;
     match entry {
         Entry::View {
             number,

@@ -15,6 +15,7 @@ mod rows;
 mod undelivered;
 
 pub use age::push_age;
+pub use columns::push_aligned;
 pub use histories::longest;
 pub use laws::histories_are_fronts;
 pub use objects::push_age_object;

@@ -1,0 +1,71 @@
+-- How a run ends, as a line.
+use Rattle.std.specs.Prelude.{◌≡◌, ℕ, ◌==◌, ◌||◌, if◌then◌else◌, Bool, false, List, [], ◌∷◌, ◌++◌, bytes_eq, codes, Option, Some}
+use Rattle.std.specs.List.{concat, enumerate_from, flat_map}
+use Rattle.dr_ages.specs.declared.mode.Mode.TheVariants.{Sim}
+use Rattle.dr_ages.specs.declared.stop.Stop.{Stop}
+use Rattle.dr_entry.specs.declared.end.AgeEnd.{AgeEnd}
+use Rattle.dr_entry.specs.declared.end.MemberEnd.{MemberEnd}
+use Rattle.dr_json.specs.Json.{comma_before}
+use Rattle.dr_outcome.specs.Last.{last_of}
+use Rattle.dr_outcome.specs.Outcome.{IsRunInMemory}
+use Rattle.dr_script.specs.declared.script.Schedule.TheVariants.{Seed}
+use Rattle.dr_script.specs.declared.script.Script.{Script}
+use Rattle.dr_script.specs.Reading.{Reading, Reads, reading_of}
+use Rattle.dr_text.specs.declared.last.Last.{Last}
+use Rattle.dr_text.specs.Report.{end_text, last_text}
+
+-- how the member with this number ended
+abbrev pub member_ending : ℕ → MemberEnd → List ℕ
+member_ending number m = comma_before number ++ end_text m.end
+
+abbrev pub members_endings : List MemberEnd → List ℕ
+members_endings members = flat_map (λ t. member_ending t.0 t.1) (enumerate_from 0 members)
+
+-- the bar before all ages but the first
+abbrev pub bar_before : ℕ → List ℕ
+bar_before nth = if nth == 0 then [] else codes " | "
+
+-- how the members of the age with this number ended
+abbrev pub age_ending : ℕ → AgeEnd → List ℕ
+age_ending nth age = bar_before nth ++ members_endings age.members
+
+abbrev pub ages_endings : List AgeEnd → List ℕ
+ages_endings ages = flat_map (λ t. age_ending t.0 t.1) (enumerate_from 0 ages)
+
+-- the outcome of a run: how its members ended, age by age, and its last line
+abbrev pub outcome_line : List AgeEnd → Last → List ℕ
+outcome_line ages last = concat (ages_endings ages ∷ codes ": " ∷ last_text last ∷ [])
+
+-- a simulated run of the script over empty disks, and its last line
+pub record Ran (script : Script) : Type 0 where
+  pub ages : List AgeEnd
+  pub stop : Option Stop
+  pub run : IsRunInMemory script Sim ages stop
+  pub last : Last
+  pub line : last_of ages stop ≡ Some last
+
+-- such a run has this outcome
+pub record ComesTo (script : Script) (line : List ℕ) : Type 0 where
+  pub ran : Ran script
+  pub outcome : line ≡ outcome_line ran.ages ran.last
+
+-- whether an outcome is the one that is wanted, or its last line is
+abbrev pub is_wanted : List ℕ → List AgeEnd → Last → Bool
+is_wanted wanted ages last = bytes_eq wanted (outcome_line ages last) || bytes_eq wanted (last_text last)
+
+-- whether a run of the script has the outcome that is wanted
+pub record EndsSo (script : Script) (wanted : List ℕ) (shows : Bool) : Type 0 where
+  pub ran : Ran script
+  pub is : shows ≡ is_wanted wanted ran.ages ran.last
+
+-- the same of the script that a text is; one that is no script has no outcome
+abbrev pub ReadsSo : Reading → List ℕ → Bool → Type 0
+ReadsSo (Reads script) wanted shows = EndsSo script wanted shows
+ReadsSo refused wanted shows = shows ≡ false
+
+abbrev pub TextEndsSo : List ℕ → List ℕ → Bool → Type 0
+TextEndsSo text = ReadsSo (reading_of text)
+
+-- the script by this seed, in place of its own schedule
+abbrev pub by_seed : Script → ℕ → Script
+by_seed script seed = record script { schedule = Seed seed }
