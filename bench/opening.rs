@@ -14,7 +14,7 @@ use std::os::unix::fs::FileExt;
 use std::path::Path;
 use std::process::ExitCode;
 
-const MAGIC: &[u8; 8] = b"DERLOG01";
+const MAGIC: &[u8; 8] = b"DERLOG02";
 const CLOSED: u8 = 0;
 const OPEN: u8 = 1;
 

@@ -3,7 +3,7 @@
 use crate::records::{Entry, MAX_RECORD, Record, Vote};
 use std::hint::black_box;
 
-const MAGIC: &[u8; 8] = b"DERLOG01";
+const MAGIC: &[u8; 8] = b"DERLOG02";
 const CLOSED: u8 = 0;
 const OPEN: u8 = 1;
 /// The length of a log without a record. A file that is no longer is taken for a new log.

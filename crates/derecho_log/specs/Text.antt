@@ -1,12 +1,13 @@
 -- What is printed of a log.
-use Rattle.std.specs.Prelude.{◌≡◌, ◌≢◌, ◌⊎◌, ℕ, ◌+◌, ◌-◌, ◌<◌, ◌≤◌, List, [], ◌∷◌, ◌++◌, length, take, codes, ◌==◌, if◌then◌else◌}
+use Rattle.std.specs.Prelude.{◌≡◌, ◌≢◌, ◌⊎◌, ℕ, ◌+◌, ◌-◌, ◌<◌, ◌≤◌, Bool, true, List, [], ◌∷◌, ◌++◌, length, take, codes, ◌==◌, if◌then◌else◌}
 use Rattle.std.specs.Fmt.{decimal}
 use Rattle.std.specs.List.{concat, enumerate_from, flat_map}
+use Rattle.dr_entry.specs.declared.record.AgeVote.{AgeVote}
 use Rattle.dr_entry.specs.declared.record.Record.{Record}
 use Rattle.dr_entry.specs.declared.record.Record.TheVariants as records
 use Rattle.dr_entry.specs.declared.record.Vote.{Vote}
-use Rattle.dr_log.specs.Grammar.{BreaksAt, IsLog, blocks, magic}
-use Rattle.dr_log.specs.Standing.{block_length}
+use Rattle.dr_log_bytes.specs.Content.{block_length}
+use Rattle.dr_log_bytes.specs.Grammar.{BreaksAt, IsLog, blocks, magic_of}
 use Rattle.dr_text.specs.declared.last.Last.TheVariants as lasts
 use Rattle.dr_text.specs.Report.{entry_text, last_text, mask_text}
 
@@ -38,10 +39,22 @@ trim_text v = concat
 abbrev pub vote_text : Vote → List ℕ
 vote_text v = place_text v ++ (ballot_text v ++ trim_text v)
 
+-- a vote for an age
+abbrev pub age_vote_text : AgeVote → List ℕ
+age_vote_text v = concat
+    (codes " age vote  age " ∷ decimal v.age ∷ codes " members " ∷ mask_text v.members ∷ codes "\n" ∷ [])
+
+-- a cut, by how many entries it keeps
+abbrev pub cut_text : ℕ → List ℕ
+cut_text keep = concat (codes " cut   keeps " ∷ decimal keep ∷ codes "\n" ∷ [])
+
 -- a record before which this many entries stand: an entry has its number, and then is as in a report
 abbrev pub record_text : ℕ → Record → List ℕ
 record_text number (records.Entry entry) = concat (codes " entry " ∷ decimal number ∷ entry_text entry ∷ [])
 record_text number (records.Vote vote) = vote_text vote
+record_text number (records.AgeVote vote) = age_vote_text vote
+record_text number (records.Cut keep) = cut_text keep
+record_text number records.Upgrade = codes " upgrade\n"
 
 -- the line of a record at this place, before which this many entries stand
 abbrev pub record_line : ℕ → ℕ → Record → List ℕ
@@ -51,6 +64,17 @@ record_line at number r = decimal at ++ record_text number r
 abbrev pub number_behind : ℕ → Record → ℕ
 number_behind number (records.Entry entry) = number + 1
 number_behind number (records.Vote vote) = number
+number_behind number (records.AgeVote vote) = number
+number_behind number (records.Cut keep) = keep
+number_behind number records.Upgrade = number
+
+-- whether what is behind a record is of the newer format
+abbrev pub format_behind : Bool → Record → Bool
+format_behind newer (records.Entry entry) = newer
+format_behind newer (records.Vote vote) = newer
+format_behind newer (records.AgeVote vote) = newer
+format_behind newer (records.Cut keep) = newer
+format_behind newer records.Upgrade = true
 
 -- the lines of records, where the first begins at this place behind this many entries
 abbrev pub records_text : ℕ → ℕ → List Record → List ℕ
@@ -73,13 +97,13 @@ pub data IsTold (bytes text : List ℕ) (status : ℕ) : Type 0 where
   -- a log that is being made
   empty : length bytes ≤ 9 → text ≡ codes "empty\n" → status ≡ 0 → IsTold bytes text status
   -- a log of these records
-  whole : 9 < length bytes → (rs : List Record) → IsLog bytes rs
+  whole : 9 < length bytes → (newer : Bool) (rs : List Record) → IsLog bytes newer rs
       → text ≡ records_text 9 0 rs
       ++ closed_line (8 + length (blocks rs)) (length bytes - (9 + length (blocks rs)))
       → status ≡ 0 → IsTold bytes text status
   -- bytes that don't begin as a log
-  no_log : 9 < length bytes → take 8 bytes ≢ magic → text ≡ damaged_line 0 → status ≡ 7
-      → IsTold bytes text status
+  no_log : 9 < length bytes → ((newer : Bool) → take 8 bytes ≢ magic_of newer) → text ≡ damaged_line 0
+      → status ≡ 7 → IsTold bytes text status
   -- records that break off
   broken : 9 < length bytes → (at : ℕ) (front : BreaksAt bytes at)
       → text ≡ records_text 9 0 front.records ++ damaged_line at → status ≡ 7 → IsTold bytes text status

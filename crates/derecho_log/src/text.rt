@@ -3,13 +3,13 @@ ghost use Rattle.std.specs.Fmt.{decimal};
 ghost use Rattle.std.specs.List.{concat};
 ghost use Rattle.dr_entry.specs.Spelling.{Fits, IsValid};
 ghost use Rattle.dr_text.specs.Report.{entry_text};
-ghost use Rattle.derecho_log.specs.Text.{IsSaid, IsTold, closed_line, damaged_line, number_behind, record_text};
+ghost use Rattle.derecho_log.specs.Text.{IsSaid, IsTold, age_vote_text, closed_line, cut_text, damaged_line, format_behind, number_behind, record_text};
 
 use crate::votes::push_vote;
-use dr_entry::{Entry, Record};
+use dr_entry::{AgeVote, Entry, Record};
 use dr_intake::{Answer, DONE, LOGS_REFUSED};
-use dr_log::{Block, FIRST_GATE, begins_as_log, block_at};
-use dr_text::{Last, push_entry};
+use dr_log_bytes::{Block, FIRST_GATE, block_at, format_of, may_follow};
+use dr_text::{Last, push_entry, push_mask};
 use std::alloc::{AllocError, Global};
 use std::fmt::Write;
 
@@ -39,16 +39,21 @@ fn log_text(alloc: Global, bytes: &[u8]) -> Result<Answer, AllocError>
         text.push_str("empty\n")?;
         return Ok(Answer { text, status: DONE });
     }
-    if !begins_as_log(bytes) {
+    let Some(format) = format_of(bytes) else {
         return damaged(text, 0);
-    }
+    };
     let mut at = FIRST_GATE;
     let mut number = 0;
+    let mut newer = format;
     loop {
         match block_at(bytes, at) {
             Block::Record(record, len) => {
+                if !may_follow(newer, number, &record) {
+                    return damaged(text, at);
+                }
                 push_record(&mut text, at + 1, number, &record)?;
                 number = number_behind(number, &record);
+                newer = format_behind(newer, &record);
                 at += 1 + len;
             }
             Block::Closed => return closed(text, at, bytes.len() - (at + 1)),
@@ -96,7 +101,25 @@ fn push_record(out: &mut String, at: usize, number: usize, r: &Record) -> Result
     match r {
         Record::Entry(entry) => push_numbered(out, number, entry),
         Record::Vote(vote) => push_vote(out, vote),
+        Record::AgeVote(vote) => push_age_vote(out, vote),
+        Record::Cut { keep } => push_cut(out, *keep),
+        Record::Upgrade => out.push_str(" upgrade\n"),
     }
+}
+
+fn push_age_vote(out: &mut String, vote: &AgeVote) -> Result<(), AllocError>
+    ensures { OnOk result (string_bytes out.new ≡ string_bytes out.old ++ age_vote_text vote.now) }
+{
+    let age = vote.age;
+    write!(out, " age vote  age {age} members ")?;
+    push_mask(out, vote.members)?;
+    out.push_str("\n")
+}
+
+fn push_cut(out: &mut String, keep: u32) -> Result<(), AllocError>
+    ensures { OnOk result (string_bytes out.new ≡ string_bytes out.old ++ cut_text keep) }
+{
+    writeln!(out, " cut   keeps {keep}")
 }
 
 fn push_numbered(out: &mut String, number: usize, entry: &Entry) -> Result<(), AllocError>
@@ -114,6 +137,17 @@ fn number_behind(number: usize, r: &Record) -> usize
 {
     match r {
         Record::Entry(_) => number + 1,
-        Record::Vote(_) => number,
+        Record::Cut { keep } => *keep as usize,
+        Record::Vote(_) | Record::AgeVote(_) | Record::Upgrade => number,
+    }
+}
+
+/// Whether what is behind a record is of the newer format.
+fn format_behind(newer: bool, r: &Record) -> bool
+    ensures { result ≡ format_behind newer r.now }
+{
+    match r {
+        Record::Upgrade => true,
+        Record::Entry(_) | Record::Vote(_) | Record::AgeVote(_) | Record::Cut { .. } => newer,
     }
 }

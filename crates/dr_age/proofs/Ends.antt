@@ -20,8 +20,9 @@ use Rattle.dr_entry.specs.Spelling.{IsValidEntry, vote_spelling}
 use Rattle.dr_entry.proofs.Trims.{counts_length}
 use Rattle.dr_history.specs.Order.{first_entries}
 use Rattle.dr_log.specs.State.{LogState}
-use Rattle.dr_log.specs.Standing.{block_length, log_length, votes_length}
+use Rattle.dr_log.specs.Standing.{log_length, votes_length}
 use Rattle.dr_log.proofs.Growing.{short_block, short_log_length}
+use Rattle.dr_log_bytes.specs.Content.{block_length}
 use Rattle.dr_machine.specs.Group.{Group, IsGroup, roster}
 use Rattle.dr_program.specs.declared.outcome.LogWhy.{LogWhy}
 use Rattle.dr_program.specs.declared.outcome.LogWhy.TheVariants as whys
@@ -188,7 +189,7 @@ short_vote v few = omega (
   length-take v.members v.value.trim,
 )
 
-short_votes : (vs : List Vote) → All (λ (v : Vote). v.members ≤ MAX_MEMBERS) vs
+pub short_votes : (vs : List Vote) → All (λ (v : Vote). v.members ≤ MAX_MEMBERS) vs
     → votes_length vs ≤ 73 * length vs
 short_votes vs few =
     let votes = sum_by-le (λ (v : Vote). 1 + length (vote_spelling v)) 73 vs
@@ -260,15 +261,15 @@ ample_log {D} told count g p m r base log len is there ample at served =
     -- the entries that it has more are valid
     more_valid : All IsValidEntry came.more.0
     more_valid = subst (All IsValidEntry)
-        (ap (drop (length base.entries)) (sym came.entries ∙ came.more.1)
-        ∙ drop_at base.entries came.more.0 (length base.entries) refl)
-        (All-drop IsValidEntry (length base.entries) (take r.replica.logged r.replica.history)
+        (ap (drop (length base.content.entries)) (sym came.entries ∙ came.more.1)
+        ∙ drop_at base.content.entries came.more.0 (length base.content.entries) refl)
+        (All-drop IsValidEntry (length base.content.entries) (take r.replica.logged r.replica.history)
         (All-take IsValidEntry r.replica.logged r.replica.history valid))
 
-    as_long : length log.entries ≡ length base.entries + length came.more.0
-    as_long = ap length came.more.1 ∙ length-append base.entries came.more.0
+    as_long : length log.content.entries ≡ length base.content.entries + length came.more.0
+    as_long = ap length came.more.1 ∙ length-append base.content.entries came.more.0
 
-    long : len ≤ base.length + 72 * length came.more.0 + 73 * length r.replica.votes
+    long : len ≤ base.content.length + 72 * length came.more.0 + 73 * length r.replica.votes
     long = omega (
       arith,
       went.2.long,
@@ -277,14 +278,14 @@ ample_log {D} told count g p m r base log len is there ample at served =
       short_votes r.replica.votes short,
     )
 
-    logged : length log.entries ≤ r.replica.logged
+    logged : length log.content.entries ≤ r.replica.logged
     logged = omega (
       arith,
       ap length came.entries,
       length-take r.replica.logged r.replica.history,
     )
 
-    all : length log.entries ≤ length r.replica.history
+    all : length log.content.entries ≤ length r.replica.history
     all = omega (
       arith,
       ap length came.entries,
@@ -313,6 +314,9 @@ ample_log {D} told count g p m r base log len is there ample at served =
         let block : block_length (records.Vote v) ≤ 73 = short_vote v due.valid.members in
         let most = mul-le-mul banks members in
         omega (arith, over, block, long, as_long, all, due.few, most, small, ample.limit, came.limit)
+    by (records.AgeVote v) due over = due
+    by (records.Cut keep) due over = due
+    by records.Upgrade due over = due
 
 -- so none is full where all are ample
 pub none_full : {D : Type 0} (told : D → Option Told) (count : D → ℕ) (g : Group)

@@ -16,7 +16,7 @@ use Rattle.dr_logged.specs.Served.{HasCome}
 
 -- a log holds what every history of the age begins with, and no append to it has failed
 pub record IsOpened {D : Type 0} (g : Group) (log : LogState D) : Type 0 where
-  pub entries : log.entries ≡ first_entries g.opening
+  pub entries : log.content.entries ≡ first_entries g.opening
   pub whole : log.failed ≡ false
 
 -- the logs of the members of the group, by number
@@ -52,14 +52,13 @@ NoneFull members = All (λ (e : MemberEnd). IsNotFull e.end) members
 -- entry that it has not yet, of those of the start, 16 Views, and 4,096 messages of each of 16 members, and 73
 -- for each vote more, of which there may be 16 in each view.
 pub record IsAmple {D : Type 0} (g : Group) (log : LogState D) : Type 0 where
-  pub limit : log.length
-      + 72 * (length g.opening.start + MAX_MEMBERS + MAX_MESSAGES * MAX_MEMBERS - length log.entries)
+  pub limit : log.content.length
+      + 72 * (length g.opening.start + MAX_MEMBERS + MAX_MESSAGES * MAX_MEMBERS - length log.content.entries)
       + 73 * (MAX_MEMBERS * MAX_MEMBERS) ≤ log.limit
 
--- a log has the entries and votes of before
-pub record IsAsBefore {D : Type 0} (old new : LogState D) : Type 0 where
-  pub entries : new.entries ≡ old.entries
-  pub votes : new.votes ≡ old.votes
+-- what is on a log is what was on it before
+abbrev pub IsAsBefore : {D : Type 0} → LogState D → LogState D → Type 0
+IsAsBefore old new = new.content ≡ old.content
 
 abbrev pub AreAsBefore : {D : Type 0} → List (LogState D) → List (LogState D) → Type 0
 AreAsBefore {D} olds news = (m : ℕ) (old new : LogState D) → slice_get olds m ≡ Some old

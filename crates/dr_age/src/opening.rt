@@ -1,6 +1,6 @@
 //! The members that an age opens with.
 ghost use Rattle.std.specs.Prelude.{IfOk};
-ghost use Rattle.dr_machine.specs.Group.{IsGroup};
+ghost use Rattle.dr_machine.specs.Group.{AllPresent, IsGroup};
 ghost use Rattle.dr_restart.specs.Groups.{group_of};
 ghost use Rattle.dr_script.specs.Ranges.{HasRanges};
 ghost use Rattle.dr_age.specs.Begun.{HaveBegun};
@@ -24,6 +24,7 @@ pub fn begun_members(
 ) -> Result<Vec<Member>, AllocError>
     requires ranges { HasRanges script.now }
     requires group { IsGroup (group_of script.now start.now) }
+    requires present { AllPresent (group_of script.now start.now) }
     ensures { IfOk result (λ members. HaveBegun script.now start.now nth script.now.members members.items) }
 {
     let mut members = Vec::with_capacity(alloc, usize::from(script.members))?;

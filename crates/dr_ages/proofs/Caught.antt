@@ -1,5 +1,5 @@
 -- Logs that are brought up to a start, one after the other.
-use Rattle.std.proofs.Common.{◌≡◌, refl, sym, ap, ◌∙◌, subst, inl, inr, ℕ, ◌+◌, ◌<◌, ◌≤◌, false, All, List, [], ◌++◌, append-nil, drop, drop_at, length, length-set, le_refl, get_or, arith}
+use Rattle.std.proofs.Common.{◌≡◌, refl, sym, ap, ◌∙◌, subst, inl, inr, ℕ, ◌+◌, ◌<◌, ◌≤◌, false, All, List, ◌++◌, length, length-set, le_refl, get_or, arith}
 use Rattle.std.specs.Prelude.{◌^◌, ◌-◌, Option, Some, option_map, slice_get, slice_set}
 use Rattle.std.proofs.Math.Pow.{pow_mono}
 use Rattle.std.proofs.lemmas.Bool.{cases_eq, cases_lt}
@@ -8,17 +8,15 @@ use Rattle.dr_disk.specs.Disk.{Told}
 use Rattle.dr_disk.specs.Images.{Goes}
 use Rattle.dr_disk.proofs.Moments.{Goes-weaken}
 use Rattle.dr_entry.specs.declared.entry.Entry.{Entry}
-use Rattle.dr_entry.specs.declared.record.Vote.{Vote}
 use Rattle.dr_gather.specs.CatchingUp.{HasStayed, lacked}
 use Rattle.dr_gather.specs.Gathering.{entries_on}
-use Rattle.dr_history.specs.History.{IsPrefixOf}
-use Rattle.dr_history_laws.proofs.Keeping.{prefix_then}
-use Rattle.dr_log.specs.Standing.{IsNoneOrAll, LosesNone, entries_length, log_length, votes_length}
+use Rattle.dr_log.specs.Standing.{HasAllOf, IsNoneOrAll, LosesNone, entries_length}
 use Rattle.dr_log.specs.State.{LogState}
-use Rattle.dr_log.proofs.Growing.{length_of_both}
+use Rattle.dr_log.proofs.Ordinary.{entries_has, has_itself, none_lost_all}
+use Rattle.dr_log_bytes.specs.Content.{OnLog}
 use Rattle.dr_program.proofs.Holdings.{replica_kept, replica_set}
 use Rattle.dr_ages.specs.Opened.{AreCaughtUp, AreLater, IsCaughtUp, IsLater}
-use Rattle.dr_ages.proofs.Staying.{first_kept, goes_tells, later_same, later_then}
+use Rattle.dr_ages.proofs.Staying.{goes_tells, later_same, later_then}
 
 -- before the first
 pub none_caught : {D : Type 0} (told : D → Option Told) (faults : D → ℕ) (whole : List Entry)
@@ -67,10 +65,10 @@ all_at {D} logs k log within all at =
 
 -- its entries
 pub entries_at : {D : Type 0} (logs : List (LogState D)) (k : ℕ) (log : LogState D)
-    → slice_get logs k ≡ Some log → slice_get (entries_on logs) k ≡ Some log.entries
+    → slice_get logs k ≡ Some log → slice_get (entries_on logs) k ≡ Some log.content.entries
 entries_at {D} logs k log at =
-    slice_get-map (λ (log : LogState D). log.entries) logs k
-    ∙ ap (option_map (λ (log : LogState D). log.entries)) at
+    slice_get-map (λ (log : LogState D). log.content.entries) logs k
+    ∙ ap (option_map (λ (log : LogState D). log.content.entries)) at
 
 -- a roster has members
 pub some_members : (n k : ℕ) → 1 ≤ n → k ≡ 2 ^ n - 1 → 0 < k
@@ -83,28 +81,18 @@ pub on_still : {D : Type 0} (told : D → Option Told) (faults : D → ℕ) (log
 on_still told faults logs m old new there here =
     subst (λ z. IsLater told faults old z) (same_Some old new (sym there ∙ here)) (later_same told faults old)
 
--- what each image has that stands for these entries and votes, or for more entries too
-none_or_more : {D : Type 0} (old : LogState D) (news es : List Entry) (vs : List Vote) (image : List ℕ)
-    → IsPrefixOf es old.entries → IsPrefixOf vs old.votes → IsNoneOrAll old.entries old.votes news image
-    → LosesNone es vs image
-none_or_more old news es vs image part kept (inl none) = first_kept es old.entries vs old.votes image part kept none
-none_or_more old news es vs image part kept (inr all) =
-    first_kept es (old.entries ++ news) vs old.votes image
-    (prefix_then es old.entries (old.entries ++ news) part (news, refl)) kept all
-
 -- a log whose disk went so has gone on, with what it had
 on_by : {D : Type 0} (told : D → Option Told) (faults : D → ℕ) (news : List Entry) (old new : LogState D)
-    → IsPrefixOf old.entries new.entries → new.votes ≡ old.votes
-    → Goes (told old.disk) (told new.disk) (λ s. IsNoneOrAll old.entries old.votes news)
+    → HasAllOf old.content new.content
+    → Goes (told old.disk) (told new.disk) (λ s. IsNoneOrAll old.content news)
     → faults old.disk ≤ faults new.disk → IsLater told faults old new
-on_by told faults news old new part votes moments later = record {
-  entries = part;
-  votes = ([], append-nil old.votes ∙ sym votes);
-  tells = goes_tells (told old.disk) (told new.disk) (λ s. IsNoneOrAll old.entries old.votes news) moments;
+on_by told faults news old new has moments later = record {
+  has = has;
+  tells = goes_tells (told old.disk) (told new.disk) (λ s. IsNoneOrAll old.content news) moments;
   later = later;
-  stays = λ es vs first kept left.
-      Goes-weaken (told old.disk) (told new.disk) (λ s. IsNoneOrAll old.entries old.votes news)
-      (λ s. LosesNone es vs) (λ s image has. none_or_more old news es vs image first kept has) moments;
+  stays = λ first part left.
+      Goes-weaken (told old.disk) (told new.disk) (λ s. IsNoneOrAll old.content news)
+      (λ s. LosesNone first) (λ s image here. none_lost_all first old.content news image part here) moments;
 }
 
 -- a log that was brought up, and one that was not
@@ -112,14 +100,14 @@ pub caught_on : {D : Type 0} (told : D → Option Told) (faults : D → ℕ) (wh
     (old new : LogState D) → IsCaughtUp told faults whole old new → IsLater told faults old new
 caught_on told faults whole old new up =
     on_by told faults (lacked old whole) old new
-    (subst (λ (l : List Entry). IsPrefixOf old.entries l) (sym up.0.entries) up.1) up.0.votes up.0.moments
+    (subst (HasAllOf old.content) (sym up.0.content) (entries_has (lacked old whole) old.content)) up.0.moments
     (omega (arith, up.0.calm))
 
 pub stayed_on : {D : Type 0} (told : D → Option Told) (faults : D → ℕ) (whole : List Entry)
     (old new : LogState D) → HasStayed told faults whole old new → IsLater told faults old new
 stayed_on told faults whole old new is =
-    on_by told faults (lacked old whole) old new ([], append-nil old.entries ∙ sym is.entries) is.votes is.moments
-    is.later
+    on_by told faults (lacked old whole) old new
+    (subst (HasAllOf old.content) (sym is.content) (has_itself old.content)) is.moments is.later
 
 pub caught_later : {D : Type 0} (told : D → Option Told) (faults : D → ℕ) (whole : List Entry)
     (olds news : List (LogState D)) (n : ℕ) → AreCaughtUp told faults whole olds news n
@@ -145,23 +133,19 @@ later_set told faults olds news k x new later within is = λ m old y there here.
       (later_then told faults old (get_or news k x) new before is)
 ]
 
--- ---- each log is as long as what it has
+-- ---- what is on each log then
 
--- it is so with entries and votes more
-pub grown_long : {D : Type 0} (old new : LogState D) (es : List Entry) (vs : List Vote)
-    → old.length ≡ log_length old.entries old.votes → new.entries ≡ old.entries ++ es
-    → new.votes ≡ old.votes ++ vs → new.length ≡ old.length + (entries_length es + votes_length vs)
-    → new.length ≡ log_length new.entries new.votes
-grown_long old new es vs long entries votes grown =
-    let is : new.length ≡ log_length (old.entries ++ es) (old.votes ++ vs) =
-    omega (arith, long, grown, length_of_both old.entries es old.votes vs) in
-    is ∙ (ap (λ (l : List Entry). log_length l (old.votes ++ vs)) (sym entries) ∙ ap (log_length new.entries) (sym votes))
-
-pub caught_long : {D : Type 0} (told : D → Option Told) (faults : D → ℕ) (whole : List Entry)
-    (old new : LogState D) → old.length ≡ log_length old.entries old.votes
-    → IsCaughtUp told faults whole old new → new.length ≡ log_length new.entries new.votes
-caught_long told faults whole old new long up =
-    let rest : up.1.0 ≡ lacked old whole = sym (drop_at old.entries up.1.0 (length old.entries) refl)
-    ∙ ap (drop (length old.entries)) up.1.1 in
-    grown_long old new up.1.0 [] long (up.0.entries ∙ sym up.1.1) (up.0.votes ∙ sym (append-nil old.votes))
-    (omega (arith, up.0.long, ap entries_length rest))
+-- what was found, and all of what the age begins with
+pub caught_content : {D : Type 0} (told : D → Option Told) (faults : D → ℕ) (whole : List Entry)
+    (old new : LogState D) → IsCaughtUp told faults whole old new
+    → new.content ≡ record old.content {
+      entries = whole;
+      length = old.content.length + entries_length (lacked old whole);
+    }
+caught_content told faults whole old new up =
+    let whole_is : old.content.entries ++ lacked old whole ≡ whole =
+    sym (ap (λ (c : OnLog). c.entries) up.0.content) ∙ up.0.entries in
+    up.0.content ∙ (λ i. record old.content {
+      entries = whole_is i;
+      length = old.content.length + entries_length (lacked old whole);
+    })

@@ -1,5 +1,5 @@
 -- Disks whose logs are refused for nothing, whatever a crash has left of them: they stay so.
-use Rattle.std.proofs.Common.{◌≡◌, refl, sym, ap, ◌∙◌, subst, ℕ, ◌^◌, ◌<◌, ◌≤◌, inl, inr, arith, le_refl, List, [], ◌++◌, append-nil, length, take, get_or}
+use Rattle.std.proofs.Common.{◌≡◌, refl, sym, ap, ◌∙◌, subst, ℕ, ◌-◌, ◌^◌, ◌<◌, ◌≤◌, true, inl, inr, arith, le_refl, List, [], ◌++◌, append-nil, length, get_or}
 use Rattle.std.specs.Prelude.{IfSome, IsSomeAnd, IsTrue, Option, None, Some, is_some, slice_get, slice_set}
 use Rattle.std.proofs.lemmas.Bool.{cases_eq, cases_lt}
 use Rattle.std.proofs.lemmas.Option.{same_Some, slice_get-get_or, slice_get_within}
@@ -11,7 +11,6 @@ use Rattle.dr_disk.proofs.Moments.{Goes-last, Went-last}
 use Rattle.dr_entry.specs.declared.end.AgeEnd.{AgeEnd}
 use Rattle.dr_entry.specs.declared.end.MemberEnd.{MemberEnd}
 use Rattle.dr_entry.specs.declared.entry.Entry.{Entry}
-use Rattle.dr_entry.specs.declared.record.Vote.{Vote}
 use Rattle.dr_gather.specs.CatchingUp.{HasStayed, lacked, opened_with}
 use Rattle.dr_gather.specs.Gathering.{AreAccepted, IsStartOf, entries_on}
 use Rattle.dr_gather.specs.Parts.{AreFirstPartsOf}
@@ -20,9 +19,11 @@ use Rattle.dr_gather.proofs.Catching.{lacked_is}
 use Rattle.dr_gather.proofs.Grouping.{start_group}
 use Rattle.dr_history.specs.History.{IsPrefixOf}
 use Rattle.dr_history_laws.proofs.Lists.{slice_get-some}
-use Rattle.dr_log.specs.Standing.{IsNoneOrAll, KeepsRecords, StandsFor, with_entry, with_vote}
+use Rattle.dr_log.specs.Standing.{IsNoneOrAll, KeepsRecords, with_entries}
 use Rattle.dr_log.specs.State.{LogState}
-use Rattle.dr_log.proofs.Meaning.{one_list, stands_or_damaged}
+use Rattle.dr_log_bytes.specs.Content.{OnLog, empty_of, with_record}
+use Rattle.dr_log_bytes.specs.Grammar.{StandFor}
+use Rattle.dr_log_bytes.proofs.Meaning.{content_once, stands_or_damaged}
 use Rattle.dr_logged.specs.Left.{IsLeftOf}
 use Rattle.dr_logged.specs.Served.{IsSafe}
 use Rattle.dr_machine.specs.Group.{IsGroup}
@@ -38,15 +39,15 @@ use Rattle.dr_ages.specs.declared.stop.Stop.{Stop}
 use Rattle.dr_ages.specs.Ages.{IsAgeOf, over_of, start_of}
 use Rattle.dr_ages.specs.Fit.{AreChosen, AreFit, IsReadable, MayLeave}
 use Rattle.dr_ages.specs.Found.{AreFound, ReadsAs}
-use Rattle.dr_ages.specs.Left.{HasLeft}
+use Rattle.dr_ages.specs.Left.{HasLeft, with_logged}
 use Rattle.dr_ages.specs.Lent.{AreMounted, IsAlike, with_logs}
 use Rattle.dr_ages.specs.Opened.{AreCaughtUp, IsCaughtUp}
 use Rattle.dr_ages.specs.Stops.{HasStopped, IsBadLogs, ReadsDamaged}
 use Rattle.dr_ages.proofs.Backs.{AreAllBack, alike_back, told_at}
 use Rattle.dr_ages.proofs.Good.{IsGood, good_never}
-use Rattle.dr_ages.proofs.Keeping.{image_left, left_part}
+use Rattle.dr_ages.proofs.Keeping.{image_entries, left_part}
 use Rattle.dr_ages.proofs.Votes.{EndsSo, member_over}
-use Rattle.dr_ages.proofs.Staying.{alike_stands, goes_tells, left_so}
+use Rattle.dr_ages.proofs.Staying.{goes_tells, left_so}
 
 -- ---- what is found on fit disks
 
@@ -58,37 +59,38 @@ fit_tell script yard fit m l = by (yard.told m) (fit.readable m l)
     by (Some t) is = refl
 
 -- a crash may leave what a read gives
-pub found_chosen : (n : ℕ) (yard : YardState) (lists : List (List Entry)) (votes : ℕ → List Vote) → AllTell n yard
-    → AreFound n yard lists votes → AreChosen n yard lists
-found_chosen n yard lists votes tell found = record {
+pub found_chosen : (n : ℕ) (yard : YardState) (lists : List (List Entry)) (contents : ℕ → OnLog) → AllTell n yard
+    → AreFound n yard lists contents → AreChosen n yard lists
+found_chosen n yard lists contents tell found = record {
   all = found.all;
   each = λ m es at.
-      by (yard.told m) es (votes m) (tell m (omega (arith, slice_get_within lists m es at, found.all)))
-      (found.each m es at);
+      let is = found.each m es at in
+      by (yard.told m) es (contents m) (tell m (omega (arith, slice_get_within lists m es at, found.all)))
+      is.reads is.entries;
 }
   where
-    by : (o : Option Told) (es : List Entry) (vs : List Vote) → IsTrue (is_some o) → IfSome o (ReadsAs es vs)
-        → IsSomeAnd o (MayLeave es)
-    by None es vs some reads = absurd (cc)
-    by (Some t) es vs some reads =
-        record { image = content_of t; is = reads.image; votes = vs; stands = reads.stands }
+    by : (o : Option Told) (es : List Entry) (c : OnLog) → IsTrue (is_some o) → IfSome o (ReadsAs c)
+        → c.entries ≡ es → IsSomeAnd o (MayLeave es)
+    by None es c some reads same = absurd (cc)
+    by (Some t) es c some reads same =
+        record { image = content_of t; is = reads.image; content = c; stands = reads.stands; entries = same }
 
-found_accepted : (script : Script) (yard : YardState) (lists : List (List Entry)) (votes : ℕ → List Vote)
-    → AreFit script yard → AreFound script.members yard lists votes → AreAccepted script lists
-found_accepted script yard lists votes fit found =
-    fit.accepted lists (found_chosen script.members yard lists votes (fit_tell script yard fit) found)
+found_accepted : (script : Script) (yard : YardState) (lists : List (List Entry)) (contents : ℕ → OnLog)
+    → AreFit script yard → AreFound script.members yard lists contents → AreAccepted script lists
+found_accepted script yard lists contents fit found =
+    fit.accepted lists (found_chosen script.members yard lists contents (fit_tell script yard fit) found)
 
 undamaged : (o : Option Told) (at : ℕ) → IsSomeAnd o (λ t. AllImages (state_of t) IsReadable)
     → IfSome o (ReadsDamaged at) → ⊥
 undamaged None at is reads = is
 undamaged (Some t) at is reads =
     let r = is (content_of t) reads.image in
-    stands_or_damaged (content_of t) r.0 r.1 at r.2 reads.damaged
+    stands_or_damaged (content_of t) r.0 at r.1 reads.damaged
 
 -- so they are good, as they are found, and their logs are never refused
 pub fit_good : (script : Script) (yard : YardState) → AreFit script yard → IsGood script yard
 fit_good script yard fit = record {
-  accepted = λ lists votes found. found_accepted script yard lists votes fit found;
+  accepted = λ lists contents found. found_accepted script yard lists contents fit found;
   whole = λ m at l reads. undamaged (yard.told m) at (fit.readable m l) reads;
 }
 
@@ -108,13 +110,8 @@ blank_fit script yard blank = record {
       (chosen.each m es at));
 }
   where
-    stands : (image : List ℕ) → image ≡ [] → StandsFor image [] []
-    stands image is = record {
-      records = [];
-      recovered = inl (omega (arith, ap length is), refl);
-      entries = refl;
-      votes = refl;
-    }
+    stands : (image : List ℕ) → image ≡ [] → StandFor image (empty_of true)
+    stands image is = inl (omega (arith, ap length is), refl)
 
     empty : (t : Told) (image : List ℕ) → state_of t ≡ at_rest [] → IsImage (state_of t) image → image ≡ []
     empty t image rest is = image_at_rest [] image (subst (λ s. IsImage s image) rest is)
@@ -122,13 +119,14 @@ blank_fit script yard blank = record {
     readable : (o : Option Told) → IsSomeAnd o (λ t. state_of t ≡ at_rest [])
         → IsSomeAnd o (λ t. AllImages (state_of t) IsReadable)
     readable None is = absurd is
-    readable (Some t) is = λ image here. ([], [], stands image (empty t image is here))
+    readable (Some t) is = λ image here. (empty_of true, stands image (empty t image is here))
 
     nothing : (o : Option Told) (es : List Entry) → IsSomeAnd o (λ t. state_of t ≡ at_rest [])
         → IsSomeAnd o (MayLeave es) → es ≡ []
     nothing None es is may = absurd is
     nothing (Some t) es is may =
-        one_list may.image es [] may.votes [] may.stands (stands may.image (empty t may.image is may.is))
+        sym may.entries ∙ ap (λ (c : OnLog). c.entries) (content_once may.image may.content (empty_of true) may.stands
+        (stands may.image (empty t may.image is may.is)))
 
 -- ---- disks that went on
 
@@ -153,7 +151,7 @@ fit_alike script before after fit alike = record {
     readable (Some t) (Some u) goes is = λ image here.
         let k = Went-last t u (KeepsRecords (state_of t)) goes image here in
         let r = is k.before k.was in
-        (r.0, r.1, alike_stands k.before image r.0 r.1 (λ rs. (k.alike rs).0) r.2)
+        (r.0, (k.alike r.0).0 r.1)
 
     left : (o now : Option Told) (es : List Entry) → Goes o now KeepsRecords → IsSomeAnd now (MayLeave es)
         → IsSomeAnd o (MayLeave es)
@@ -165,8 +163,9 @@ fit_alike script before after fit alike = record {
         record {
           image = k.before;
           is = k.was;
-          votes = may.votes;
-          stands = alike_stands may.image k.before es may.votes (λ rs. (k.alike rs).1) may.stands;
+          content = may.content;
+          stands = (k.alike may.content).1 may.stands;
+          entries = may.entries;
         }
 
 -- so under logs that are as they were mounted
@@ -187,38 +186,35 @@ age_fit script mode nth before yard age ranges is tell = record {
   readable = λ m l.
       let e = slice_get-some age.members m (omega (arith, l, is.roster)) in
       let x = member_over mode script (start_of script age) nth age is.run m e.0 e.1 in
-      readable (yard.told m) x.r.replica (is.votes m) (tell m l) (is.left m x.r x.at);
+      readable (yard.told m) x.r.replica (is.contents m) (tell m l) (is.left m x.r x.at);
   accepted = λ lists chosen.
-      ended_accepted script (start_of script age) age.members lists group is.agreed
+      ended_accepted script (start_of script age) age.members lists group
+      (ap (λ (n : ℕ). 2 ^ n - 1) (sym ranges.lists)) is.agreed
       (is.roster ∙ sym ranges.lists) (parts lists chosen);
 }
   where
     group : IsGroup (group_of script (start_of script age))
     group = start_group script is.lists (start_of script age) ranges is.small is.starts
 
-    readable : (o : Option Told) (r : Replica) (found : List Vote) → IsTrue (is_some o)
+    readable : (o : Option Told) (r : Replica) (found : OnLog) → IsTrue (is_some o)
         → HasLeft o r found → IsSomeAnd o (λ t. AllImages (state_of t) IsReadable)
     readable None r found some left = absurd (cc)
-    readable (Some t) r found some (inl safe) = λ image here.
-        (take r.logged r.history, found ++ r.votes, safe image here)
+    readable (Some t) r found some (inl safe) = λ image here. (with_logged found r, safe image here)
     readable (Some t) r found some (inr broken) = λ image here.
         elim (broken.left image here) [
-          | inl before ↦ (take r.logged r.history, found ++ r.votes, before)
-          | inr after ↦ (
-            with_entry broken.next (take r.logged r.history),
-            with_vote broken.next (found ++ r.votes),
-            after,
-          )
+          | inl before ↦ (with_logged found r, before)
+          | inr after ↦ (with_record broken.next (with_logged found r), after)
         ]
 
+    -- what is on a log that its member has left has its first entries
     left_of : (o : Option Told) (m : ℕ) (e : MemberEnd) (es : List Entry)
         → (x : EndsSo (over_of mode script (start_of script age) nth age is.run) m e)
-        → HasLeft o x.r.replica (is.votes m) → IsSomeAnd o (MayLeave es) → IsLeftOf e.history e.logged es
+        → HasLeft o x.r.replica (is.contents m) → IsSomeAnd o (MayLeave es) → IsLeftOf e.history e.logged es
     left_of None m e es x left may = absurd may
     left_of (Some t) m e es x left may =
         subst (λ (end : MemberEnd). IsLeftOf end.history end.logged es) x.is
-        (image_left t may.image script.members x.r.replica es may.votes (is.votes m) may.is may.stands
-        ranges.most_members (is.few m x.r x.at) left).entries
+        (subst (IsLeftOf x.r.replica.history x.r.replica.logged) may.entries
+        (image_entries t may.image x.r.replica may.content (is.contents m) may.is may.stands left))
 
     parts : (lists : List (List Entry)) → AreChosen script.members yard lists → AreFirstPartsOf age.members lists
     parts lists chosen m es at =
@@ -239,16 +235,16 @@ age_leaves_good script mode nth before yard age ranges is tell =
 
 -- ---- logs on the way to a start
 
--- bytes stand for the first of these entries, and for these votes
-pub record IsFrontOf (whole : List Entry) (vs : List Vote) (image : List ℕ) : Type 0 where
-  pub entries : List Entry
-  pub part : IsPrefixOf entries whole
-  pub stands : StandsFor image entries vs
+-- bytes stand for the first of these entries
+pub record IsFrontOf (whole : List Entry) (image : List ℕ) : Type 0 where
+  pub content : OnLog
+  pub part : IsPrefixOf content.entries whole
+  pub stands : StandFor image content
 
 -- a log goes on telling, or not telling, and whatever a crash leaves of it has the first of the entries
 pub record IsComing {D : Type 0} (tells : D → Option Told) (whole : List Entry) (old new : LogState D) : Type 0 where
   pub tells_on : is_some (tells old.disk) ≡ is_some (tells new.disk)
-  pub left : IsLeft (tells new.disk) (IsFrontOf whole old.votes)
+  pub left : IsLeft (tells new.disk) (IsFrontOf whole)
 
 abbrev pub AreComing : {D : Type 0} → (D → Option Told) → List Entry → List (LogState D) → List (LogState D) → Type 0
 AreComing {D} tells whole olds news = (m : ℕ) (old new : LogState D) → slice_get olds m ≡ Some old
@@ -256,26 +252,25 @@ AreComing {D} tells whole olds news = (m : ℕ) (old new : LogState D) → slice
 
 -- a log of which a crash leaves what it had, or all that it lacked besides
 on_way_by : {D : Type 0} (tells : D → Option Told) (whole : List Entry) (old new : LogState D)
-    → IsPrefixOf old.entries whole
-    → Goes (tells old.disk) (tells new.disk) (λ s. IsNoneOrAll old.entries old.votes (lacked old whole))
+    → IsPrefixOf old.content.entries whole
+    → Goes (tells old.disk) (tells new.disk) (λ s. IsNoneOrAll old.content (lacked old whole))
     → IsComing tells whole old new
 on_way_by tells whole old new part moments = record {
   tells_on = goes_tells (tells old.disk) (tells new.disk)
-      (λ s. IsNoneOrAll old.entries old.votes (lacked old whole)) moments;
-  left = left_so (tells new.disk) (IsNoneOrAll old.entries old.votes (lacked old whole)) (IsFrontOf whole old.votes)
-      front
-      (Goes-last (tells old.disk) (tells new.disk) (IsNoneOrAll old.entries old.votes (lacked old whole)) moments);
+      (λ s. IsNoneOrAll old.content (lacked old whole)) moments;
+  left = left_so (tells new.disk) (IsNoneOrAll old.content (lacked old whole)) (IsFrontOf whole) front
+      (Goes-last (tells old.disk) (tells new.disk) (IsNoneOrAll old.content (lacked old whole)) moments);
 }
   where
-    all : old.entries ++ lacked old whole ≡ whole
-    all = ap (λ (l : List Entry). old.entries ++ l) (sym (lacked_is old.entries part.0 whole part.1)) ∙ part.1
+    all : old.content.entries ++ lacked old whole ≡ whole
+    all = ap (λ (l : List Entry). old.content.entries ++ l)
+        (sym (lacked_is old.content.entries part.0 whole part.1)) ∙ part.1
 
-    front : (image : List ℕ) → IsNoneOrAll old.entries old.votes (lacked old whole) image
-        → IsFrontOf whole old.votes image
-    front image (inl none) = record { entries = old.entries; part = part; stands = none }
+    front : (image : List ℕ) → IsNoneOrAll old.content (lacked old whole) image → IsFrontOf whole image
+    front image (inl none) = record { content = old.content; part = part; stands = none }
     front image (inr every) = record {
-      entries = old.entries ++ lacked old whole;
-      part = ([], append-nil (old.entries ++ lacked old whole) ∙ all);
+      content = with_entries (lacked old whole) old.content;
+      part = ([], append-nil (old.content.entries ++ lacked old whole) ∙ all);
       stands = every;
     }
 
@@ -284,24 +279,24 @@ pub caught_on_way : {D : Type 0} (tells : D → Option Told) (faults : D → ℕ
 caught_on_way tells faults whole old new up = on_way_by tells whole old new up.1 up.0.moments
 
 pub stayed_on_way : {D : Type 0} (tells : D → Option Told) (faults : D → ℕ) (whole : List Entry)
-    (old new : LogState D) → IsPrefixOf old.entries whole → HasStayed tells faults whole old new
+    (old new : LogState D) → IsPrefixOf old.content.entries whole → HasStayed tells faults whole old new
     → IsComing tells whole old new
 stayed_on_way tells faults whole old new part is = on_way_by tells whole old new part is.moments
 
 still_on_way : {D : Type 0} (tells : D → Option Told) (whole : List Entry) (old : LogState D)
-    → IsPrefixOf old.entries whole → IsSafe tells old → IsComing tells whole old old
+    → IsPrefixOf old.content.entries whole → IsSafe tells old → IsComing tells whole old old
 still_on_way tells whole old part safe = record {
   tells_on = refl;
-  left = left_so (tells old.disk) (λ image. StandsFor image old.entries old.votes) (IsFrontOf whole old.votes)
-      (λ image stands. record { entries = old.entries; part = part; stands = stands }) safe;
+  left = left_so (tells old.disk) (λ image. StandFor image old.content) (IsFrontOf whole)
+      (λ image stands. record { content = old.content; part = part; stands = stands }) safe;
 }
 
 -- the first of the logs have come to the start, the next is on its way, and the others are as they were
 pub way_so_far : {D : Type 0} (tells : D → Option Told) (faults : D → ℕ) (whole : List Entry)
     (olds news : List (LogState D)) (k : ℕ) (x new : LogState D) → AreCaughtUp tells faults whole olds news k
-    → ((m : ℕ) (old : LogState D) → slice_get olds m ≡ Some old → IsPrefixOf old.entries whole × IsSafe tells old)
+    → ((m : ℕ) (old : LogState D) → slice_get olds m ≡ Some old → IsPrefixOf old.content.entries whole × IsSafe tells old)
     → k < length news
-    → (IsPrefixOf (get_or news k x).entries whole → IsComing tells whole (get_or news k x) new)
+    → (IsPrefixOf (get_or news k x).content.entries whole → IsComing tells whole (get_or news k x) new)
     → AreComing tells whole olds (slice_set news k new)
 way_so_far {D} tells faults whole olds news k x new so_far each within way m old y there here =
     elim (cases_eq m k) [
@@ -319,7 +314,7 @@ way_so_far {D} tells faults whole olds news k x new so_far each within way m old
           ∙ ap (slice_get (slice_set news k new)) (sym at) ∙ here) in
           let same_old = same_Some (get_or news k x) old (sym (slice_get-get_or news k x within)
           ∙ so_far.others k (le_refl k) ∙ ap (slice_get olds) (sym at) ∙ there) in
-          let part = subst (λ (z : LogState D). IsPrefixOf z.entries whole) (sym same_old) (each m old there).0 in
+          let part = subst (λ (z : LogState D). IsPrefixOf z.content.entries whole) (sym same_old) (each m old there).0 in
           subst (λ (z : LogState D). IsComing tells whole z y) same_old
           (subst (λ (z : LogState D). IsComing tells whole (get_or news k x) z) same_new (way part))
     ]
@@ -330,7 +325,7 @@ record IsThere {D : Type 0} (tells : D → Option Told) (faults : D → ℕ) (be
   new : LogState D
   at : (with_logs tells faults before news).told m ≡ tells new.disk
   some : IsTrue (is_some (tells new.disk))
-  left : IsLeft (tells new.disk) (IsFrontOf whole old.votes)
+  left : IsLeft (tells new.disk) (IsFrontOf whole)
 
 -- so their disks are fit
 pub way_fit : {D : Type 0} (tells : D → Option Told) (faults : D → ℕ) (script : Script) (before : YardState)
@@ -343,10 +338,10 @@ way_fit {D} tells faults script before start olds news ranges all count small st
   readable = λ m l.
       let x = both m l in
       subst (λ (o : Option Told). IsSomeAnd o (λ t. AllImages (state_of t) IsReadable)) (sym x.at)
-      (readable (tells x.new.disk) x.old.votes x.some x.left);
+      (readable (tells x.new.disk) x.some x.left);
   accepted = λ lists chosen. parts_accepted script (entries_on olds) lists start ranges small starts (λ m es at.
       let x = both m (omega (arith, slice_get_within lists m es at, chosen.all)) in
-      part (tells x.new.disk) x.old.votes es x.left
+      part (tells x.new.disk) es x.left
       (subst (λ (o : Option Told). IsSomeAnd o (MayLeave es)) x.at (chosen.each m es at)));
 }
   where
@@ -367,17 +362,18 @@ way_fit {D} tells faults script before start olds news ranges all count small st
           left = w.left;
         }
 
-    readable : (o : Option Told) (vs : List Vote) → IsTrue (is_some o) → IsLeft o (IsFrontOf whole vs)
+    readable : (o : Option Told) → IsTrue (is_some o) → IsLeft o (IsFrontOf whole)
         → IsSomeAnd o (λ t. AllImages (state_of t) IsReadable)
-    readable None vs some left = absurd (cc)
-    readable (Some t) vs some left = λ image here.
+    readable None some left = absurd (cc)
+    readable (Some t) some left = λ image here.
         let f = left image here in
-        (f.entries, vs, f.stands)
+        (f.content, f.stands)
 
-    part : (o : Option Told) (vs : List Vote) (es : List Entry) → IsLeft o (IsFrontOf whole vs)
+    part : (o : Option Told) (es : List Entry) → IsLeft o (IsFrontOf whole)
         → IsSomeAnd o (MayLeave es) → IsPrefixOf es whole
-    part None vs es left may = absurd may
-    part (Some t) vs es left may =
+    part None es left may = absurd may
+    part (Some t) es left may =
         let f = left may.image may.is in
         subst (λ (l : List Entry). IsPrefixOf l whole)
-        (sym (one_list may.image es f.entries may.votes vs may.stands f.stands)) f.part
+        (ap (λ (c : OnLog). c.entries) (content_once may.image f.content may.content f.stands may.stands)
+        ∙ may.entries) f.part

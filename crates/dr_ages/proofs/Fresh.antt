@@ -1,17 +1,16 @@
 -- Runs whose logs have room for all that they bring, as those over empty disks.
-use Rattle.std.proofs.Common.{◌≡◌, refl, sym, ap, ◌∙◌, subst, ℕ, zero, suc, ◌+◌, ◌*◌, ◌^◌, ◌<◌, ◌≤◌, arith, List, [], ◌∷◌, ◌++◌, length, take, drop, length-append, length-drop, take_at, drop_at}
+use Rattle.std.proofs.Common.{◌≡◌, refl, sym, ap, ◌∙◌, subst, ℕ, zero, suc, ◌+◌, ◌*◌, ◌^◌, ◌<◌, ◌≤◌, arith, List, [], ◌∷◌, length, take, drop, filter, length-append, take_at, drop_at}
 use Rattle.std.specs.Prelude.{All, IsSomeAnd, IsTrue, Option, None, Some, is_some, slice_get}
-use Rattle.std.proofs.Math.Pow.{pow_mono}
-use Rattle.std.proofs.lemmas.List.Elements.{All-append, All-cons, All-drop, All-nil, All-take}
-use Rattle.std.proofs.lemmas.List.Sums.{sum_by-le}
+use Rattle.std.proofs.lemmas.List.Elements.{All-head, All-tail}
+use Rattle.std.proofs.lemmas.List.Sums.{sum_by-cons}
 use Rattle.std.proofs.lemmas.Option.{same_Some, slice_get_within}
 use Rattle.dr_disk.specs.Disk.{Told, content_of}
 use Rattle.dr_entry.specs.declared.end.AgeEnd.{AgeEnd}
+use Rattle.dr_entry.specs.declared.end.MemberEnd.{MemberEnd}
+use Rattle.dr_logged.specs.Left.{IsLeftOf}
 use Rattle.dr_entry.specs.declared.entry.Entry.{Entry}
 use Rattle.dr_entry.specs.declared.entry.Entry.TheVariants.{View, Msg}
-use Rattle.dr_entry.specs.declared.limits.TheConstants.{MAX_MEMBERS}
-use Rattle.dr_entry.specs.declared.record.Vote.{Vote}
-use Rattle.dr_entry.specs.Spelling.{IsValidEntry, IsValidVote, entry_spelling}
+use Rattle.dr_entry.specs.Spelling.{IsValidEntry, entry_spelling}
 use Rattle.dr_gather.specs.Gathering.{IsStartOf}
 use Rattle.dr_gather.proofs.Catching.{part_of_opened}
 use Rattle.dr_gather.proofs.Grouping.{part_of_start, start_group, start_valid}
@@ -22,16 +21,16 @@ use Rattle.dr_history.specs.Members.{members_of}
 use Rattle.dr_history.specs.Order.{InOrder, IsSucceededBy, first_entries}
 use Rattle.dr_history.specs.Restarting.{IsLongest, next_age}
 use Rattle.dr_history.proofs.ViewLemmas.{view_of-View, view_of-Msg}
-use Rattle.dr_history_laws.proofs.Lengths.{start-few}
+use Rattle.dr_history_laws.proofs.Lengths.{is_message, start-few, stood-told}
 use Rattle.dr_history_laws.proofs.Lists.{IsSomeAnd-at, slice_get-some, take-next}
-use Rattle.dr_log.specs.Standing.{entries_length, log_length}
-use Rattle.dr_log.proofs.Growing.{short_block, short_log_length}
+use Rattle.dr_log.specs.Standing.{entries_length}
+use Rattle.dr_log.proofs.Growing.{entries_length-append, short_block}
+use Rattle.dr_log_bytes.specs.Content.{OnLog}
 use Rattle.dr_restart.specs.declared.start.Start.{Start}
 use Rattle.dr_restart.specs.Groups.{group_of}
 use Rattle.dr_script.specs.declared.script.Script.{Script}
 use Rattle.dr_script.specs.Ranges.{HasGroupRanges}
 use Rattle.dr_age.specs.Logged.{NoneFull}
-use Rattle.dr_age.proofs.Ends.{long_log}
 use Rattle.dr_yard.specs.Yards.{AllTell, AreEmpty, YardState}
 use Rattle.dr_ages.specs.declared.mode.Mode.{Mode}
 use Rattle.dr_ages.specs.declared.stop.Stop.{Stop}
@@ -42,9 +41,8 @@ use Rattle.dr_ages.specs.Stops.{HasStopped, IsOutside, IsTooFull}
 use Rattle.dr_ages.proofs.Chain.{tell_on}
 use Rattle.dr_ages.proofs.Fit.{age_leaves_good}
 use Rattle.dr_ages.proofs.Good.{IsGood, empty_found, empty_good, good_never, part_of_history}
-use Rattle.dr_ages.proofs.Keeping.{IsBehind, behind, found_left, longest_begins}
+use Rattle.dr_ages.proofs.Keeping.{IsBehind, behind, found_begins, found_left, left_begins, longest_begins}
 use Rattle.dr_ages.proofs.Reading.{found_read, longest_once, read_once}
-use Rattle.dr_ages.proofs.Votes.{found_valid}
 
 -- ---- the view of what an age leaves
 
@@ -108,14 +106,15 @@ no_age = refl
 
 -- ---- disks behind so many ages from the first
 
--- The logs of disks behind k ages: no more bytes of votes than at first, and what these ages bring, and the next age
--- has the number behind them.
+-- The logs of disks behind k ages: but for their entries no more bytes than at first, and what these ages bring, and
+-- the next age has the number behind them.
 pub record IsRoomyAt (script : Script) (bytes first k : ℕ) (yard : YardState) : Type 0 where
   pub tell : AllTell script.members yard
   pub good : IsGood script yard
-  pub few : (lists : List (List Entry)) (votes : ℕ → List Vote) → AreFound script.members yard lists votes
-      → (m : ℕ) → m < script.members → log_length [] (votes m) ≤ bytes + 18688 * k
-  pub next : (lists : List (List Entry)) (votes : ℕ → List Vote) → AreFound script.members yard lists votes
+  pub few : (lists : List (List Entry)) (contents : ℕ → OnLog) → AreFound script.members yard lists contents
+      → (m : ℕ) → m < script.members
+      → (contents m).length ≤ bytes + 18688 * k + entries_length (contents m).entries
+  pub next : (lists : List (List Entry)) (contents : ℕ → OnLog) → AreFound script.members yard lists contents
       → (es : List Entry) → IsLongest lists es → next_age (view_of es) ≡ first + k
 
 -- empty ones
@@ -123,12 +122,12 @@ pub fresh_first : (script : Script) (yard : YardState) → AreEmpty script.membe
 fresh_first script yard empty = record {
   tell = λ m l. tells (yard.told m) (empty m l);
   good = empty_good script yard empty;
-  few = λ lists votes found m l.
+  few = λ lists contents found m l.
       let es = slice_get-some lists m (omega (arith, l, found.all)) in
-      omega (arith, ap (log_length []) (empty_found script yard lists votes m es.0 empty found es.1).1);
-  next = λ lists votes found es longest.
+      omega (arith, ap (λ (c : OnLog). c.length) (empty_found script yard lists contents m es.0 empty found es.1).1);
+  next = λ lists contents found es longest.
       ap (λ (l : List Entry). next_age (view_of l))
-      (empty_found script yard lists votes longest.place es empty found longest.one).0 ∙ no_age;
+      (empty_found script yard lists contents longest.place es empty found longest.one).0 ∙ no_age;
 }
   where
     tells : (o : Option Told) → IsSomeAnd o (λ t. content_of t ≡ []) → IsTrue (is_some o)
@@ -139,14 +138,14 @@ fresh_first script yard empty = record {
 age_number : {mode : Mode} (script : Script) (bytes first k nth : ℕ) (before yard : YardState) (age : AgeEnd)
     → IsRoomyAt script bytes first k before → IsAgeOf script mode nth before yard age → age.age ≡ first + k
 age_number script bytes first k nth before yard age roomy is =
-    is.starts.restart.next ∙ roomy.next is.lists is.votes is.found age.start is.starts.restart.longest
+    is.starts.restart.next ∙ roomy.next is.lists is.contents is.found age.start is.starts.restart.longest
 
--- the votes on each log are few
-few_at : (script : Script) (bytes first k : ℕ) (yard : YardState) (lists : List (List Entry)) (votes : ℕ → List Vote)
+-- on each log there is little but entries
+few_at : (script : Script) (bytes first k : ℕ) (yard : YardState) (lists : List (List Entry)) (contents : ℕ → OnLog)
     (m : ℕ) → IsRoomyAt script bytes first k yard → bytes ≤ 536870912 → k ≤ 16
-    → AreFound script.members yard lists votes → m < script.members → AreFew (votes m)
-few_at script bytes first k yard lists votes m roomy short small found l =
-    record { few = omega (arith, roomy.few lists votes found m l, small, short) }
+    → AreFound script.members yard lists contents → m < script.members → AreFew (contents m)
+few_at script bytes first k yard lists contents m roomy short small found l =
+    record { few = omega (arith, roomy.few lists contents found m l, small, short) }
 
 -- the first age starts with nothing
 pub fresh_start : (script : Script) (mode : Mode) (nth : ℕ) (before : YardState) (ages : List AgeEnd) (last : YardState)
@@ -155,35 +154,30 @@ pub fresh_start : (script : Script) (mode : Mode) (nth : ℕ) (before : YardStat
 fresh_start script mode nth before [] last a empty are at = absurd (omega (arith, slice_get_within [] 0 a at))
 fresh_start script mode nth before (one ∷ ages) last a empty are at =
     ap (λ (x : AgeEnd). x.start) (sym (same_Some one a at))
-    ∙ (empty_found script before are.1.lists are.1.votes are.1.starts.restart.longest.place one.start empty
+    ∙ (empty_found script before are.1.lists are.1.contents are.1.starts.restart.longest.place one.start empty
     are.1.found are.1.starts.restart.longest.one).0
 
 -- the number behind an age, by what it leaves
 pub age_next : (script : Script) (mode : Mode) (nth : ℕ) (before yard : YardState) (age : AgeEnd)
-    (lists : List (List Entry)) (votes : ℕ → List Vote) (es : List Entry) → HasGroupRanges script
+    (lists : List (List Entry)) (contents : ℕ → OnLog) (es : List Entry) → HasGroupRanges script
     → IsAgeOf script mode nth before yard age → AllTell script.members yard
-    → AreFound script.members yard lists votes → IsLongest lists es → next_age (view_of es) ≡ age.age + 1
-age_next script mode nth before yard age lists votes es ranges is tell found longest =
-    let after : IsBehind script yard age lists votes =
-    behind script mode nth before yard age ranges is tell lists votes found in
-    let p = part_of_history script yard age lists votes longest.place es after longest.one in
+    → AreFound script.members yard lists contents → IsLongest lists es → next_age (view_of es) ≡ age.age + 1
+age_next script mode nth before yard age lists contents es ranges is tell found longest =
+    let after : IsBehind script yard age lists contents =
+    behind script mode nth before yard age ranges is tell lists contents found in
+    let p = part_of_history script yard age lists contents longest.place es after longest.one in
     next_of_part (opening_of script age) (sent_by (accounts_of age.members)) es
     (accounts_of age.members longest.place).history (is.agreed.agreed.ordered longest.place p.0)
-    (longest_begins script yard age lists votes es after longest) p.1
+    (longest_begins script yard age lists contents es after longest) p.1
 
--- votes behind which there are some more
-more_votes : (old new more : List Vote) → new ≡ old ++ more → All IsValidVote new
-    → length more ≤ MAX_MEMBERS * MAX_MEMBERS → log_length [] new ≤ log_length [] old + 18688
-more_votes old new more parts valid few =
-    let behind : All IsValidVote more =
-    subst (All IsValidVote) (ap (drop (length old)) parts ∙ drop_at old more (length old) refl)
-    (All-drop IsValidVote (length old) new valid) in
-    omega (
-      arith,
-      ap (log_length []) parts,
-      long_log old [] more (All-nil IsValidEntry) (λ k d l. (behind k d l).members),
-      few,
-    )
+-- what its member left begins with the entries that were found
+left_of_found : (script : Script) (yard : YardState) (age : AgeEnd) (lists : List (List Entry))
+    (contents : ℕ → OnLog) (m : ℕ) (e : MemberEnd) → (b : IsBehind script yard age lists contents)
+    → slice_get age.members m ≡ Some e → IsLeftOf e.history e.logged (contents m).entries
+    → IsPrefixOf (b.is.contents m).entries (contents m).entries
+left_of_found script yard age lists contents m e b there left =
+    left_begins (b.is.contents m).entries e (contents m).entries
+    (found_begins script yard age lists contents m e b there) left
 
 pub roomy_next : (script : Script) (mode : Mode) (bytes first k nth : ℕ) (before yard : YardState) (age : AgeEnd)
     → HasGroupRanges script → IsRoomyAt script bytes first k before → IsAgeOf script mode nth before yard age
@@ -191,19 +185,25 @@ pub roomy_next : (script : Script) (mode : Mode) (bytes first k nth : ℕ) (befo
 roomy_next script mode bytes first k nth before yard age ranges roomy is = record {
   tell = tell;
   good = age_leaves_good script mode nth before yard age ranges is tell;
-  few = λ lists votes found m l.
+  few = λ lists contents found m l.
       let e = slice_get-some age.members m (omega (arith, l, is.roster)) in
       let es = slice_get-some lists m (omega (arith, l, found.all)) in
-      let now = (found_left script yard age lists votes m e.0 es.0
-      (behind script mode nth before yard age ranges is tell lists votes found) e.1 es.1).votes in
+      let b = behind script mode nth before yard age ranges is tell lists contents found in
+      let now = (found_left script yard age lists contents m e.0 es.0 b e.1 es.1).0 in
+      let old = (is.contents m).entries in
+      let parts = left_of_found script yard age lists contents m e.0 b e.1 now.entries in
+      let rest : drop (length old) (contents m).entries ≡ parts.0 =
+      ap (drop (length old)) (sym parts.1) ∙ drop_at old parts.0 (length old) refl in
       omega (
         arith,
-        more_votes (is.votes m) (votes m) now.more now.parts
-            (found_valid script.members yard lists votes m tell found l) now.few,
-        roomy.few is.lists is.votes is.found m l,
+        now.long,
+        ap entries_length rest,
+        ap entries_length parts.1,
+        entries_length-append old parts.0,
+        roomy.few is.lists is.contents is.found m l,
       );
-  next = λ lists votes found es longest.
-      age_next script mode nth before yard age lists votes es ranges is tell found longest
+  next = λ lists contents found es longest.
+      age_next script mode nth before yard age lists contents es ranges is tell found longest
       ∙ omega (arith, age_number script bytes first k nth before yard age roomy is);
 }
   where
@@ -231,7 +231,7 @@ roomy_ages script mode bytes first k nth before (age ∷ ages) last zero a range
     let number = age_number script bytes first k nth before are.0 age roomy are.1 in
     subst (λ (x : AgeEnd). (x.age ≡ first + k + 0) × NoneFull x.members) (same_Some age a at) (
       omega (arith, number),
-      are.1.ample (λ m l. few_at script bytes first k before are.1.lists are.1.votes m roomy short
+      are.1.ample (λ m l. few_at script bytes first k before are.1.lists are.1.contents m roomy short
           (omega (arith, small)) are.1.found l),
     )
 roomy_ages script mode bytes first k nth before (age ∷ ages) last (suc i) a ranges short small roomy are at =
@@ -240,11 +240,11 @@ roomy_ages script mode bytes first k nth before (age ∷ ages) last (suc i) a ra
     (omega (arith, r.0), r.1)
 
 -- those of a run over fit disks that are roomy
-pub roomy_first : (script : Script) (yard : YardState) (lists : List (List Entry)) (votes : ℕ → List Vote)
+pub roomy_first : (script : Script) (yard : YardState) (lists : List (List Entry)) (contents : ℕ → OnLog)
     (es : List Entry) → AllTell script.members yard → IsGood script yard → AreRoomy script yard
-    → AreFound script.members yard lists votes → IsLongest lists es
+    → AreFound script.members yard lists contents → IsLongest lists es
     → IsRoomyAt script 536870912 (next_age (view_of es)) 0 yard
-roomy_first script yard lists votes es tell good roomy found longest = record {
+roomy_first script yard lists contents es tell good roomy found longest = record {
   tell = tell;
   good = good;
   few = λ ls vs there m l.
@@ -254,61 +254,88 @@ roomy_first script yard lists votes es tell good roomy found longest = record {
       ap (λ (l : List Entry). next_age (view_of l))
       (longest_once ls fs es (good.accepted ls vs there).along most
       (subst (λ (x : List (List Entry)). IsLongest x es)
-      (read_once script.members yard lists ls (found_read script.members yard lists votes tell found)
+      (read_once script.members yard lists ls (found_read script.members yard lists contents tell found)
       (found_read script.members yard ls vs tell there)) longest))
       ∙ omega arith;
 }
 
 -- ---- no log is full
 
--- a start has at most 2^21 entries
-pub start_small : (script : Script) (lists : List (List Entry)) (start : Start) → HasGroupRanges script
-    → start.age < 2 ^ 16 → IsStartOf script lists start → length start.entries ≤ 2097152
-start_small script lists start ranges small is =
-    let g = start_group script lists start ranges small is in
-    start-few (group_of script start).opening g.sound small g.some_member g.most_members g.messages
-
--- what an age begins with is valid
-pub first_valid : (script : Script) (lists : List (List Entry)) (start : Start) → HasGroupRanges script
-    → IsStartOf script lists start → All IsValidEntry (first_entries (group_of script start).opening)
-first_valid script lists start ranges is =
-    All-append IsValidEntry start.entries (View start.age 0 start.members ∷ [])
-    (start_valid script lists start ranges is) one
-  where
-    some : 0 < start.members
-    some = let l : 2 ^ 1 ≤ 2 ^ script.members = pow_mono ranges.some_member in omega (arith, l, is.members)
-
-    one : All IsValidEntry (View start.age 0 start.members ∷ [])
-    one = All-cons IsValidEntry (View start.age 0 start.members) [] some (All-nil IsValidEntry)
-
-full_never : (script : Script) (before after : YardState) (m len : ℕ) → HasGroupRanges script
-    → (is : IsTooFull script before after m len) → AreFew (is.votes m) → ⊥
-full_never script before after m len ranges is votes =
-    let whole = first_entries (group_of script is.start).opening in
-    let valid = first_valid script is.lists is.start ranges is.starts in
-    let few = start_small script is.lists is.start ranges is.small is.starts in
-    let part = part_of_opened is.entries is.start.entries (View is.start.age 0 is.start.members)
-    (part_of_start script is.lists is.start m is.entries is.starts is.has) in
-    let front : take (length is.entries) whole ≡ is.entries =
-    ap (take (length is.entries)) (sym part.1) ∙ take_at is.entries part.0 (length is.entries) refl in
-    let log = short_log_length is.entries (subst (All IsValidEntry) front
-    (All-take IsValidEntry (length is.entries) whole valid)) in
-    let rest : entries_length (drop (length is.entries) whole) ≤ length (drop (length is.entries) whole) * 72 =
-    sum_by-le (λ (e : Entry). 1 + length (entry_spelling e)) 72 (drop (length is.entries) whole)
-    (λ k d l. short_block _ (All-drop IsValidEntry (length is.entries) whole valid k d l)) in
+-- a View takes 7 bytes, and a message 72 at most
+entries_short : (es : List Entry) → All IsValidEntry es
+    → entries_length es ≤ 7 * length es + 65 * length (filter is_message es)
+entries_short [] valid = omega arith
+entries_short (View a k m ∷ es) valid =
+    let block : 1 + length (entry_spelling (View a k m)) ≤ 7 = omega arith in
+    let told : length (filter is_message (View a k m ∷ es)) ≡ length (filter is_message es) = refl in
     omega (
       arith,
-      few,
-      log,
-      rest,
-      length-drop (length is.entries) whole,
-      is.over,
-      is.long,
-      ap length part.1,
-      length-append is.entries part.0,
-      votes.few,
-      length-append is.start.entries (View is.start.age 0 is.start.members ∷ []),
+      block,
+      told,
+      sum_by-cons (λ (e : Entry). 1 + length (entry_spelling e)) (View a k m) es,
+      entries_short es (All-tail IsValidEntry (View a k m) es valid),
     )
+entries_short (Msg s i b ∷ es) valid =
+    let block = short_block (Msg s i b) (All-head IsValidEntry (Msg s i b) es valid) in
+    let told : length (filter is_message (Msg s i b ∷ es)) ≡ suc (length (filter is_message es)) = refl in
+    omega (
+      arith,
+      block,
+      told,
+      sum_by-cons (λ (e : Entry). 1 + length (entry_spelling e)) (Msg s i b) es,
+      entries_short es (All-tail IsValidEntry (Msg s i b) es valid),
+    )
+
+-- so many bytes has what an age begins with at most: 256 Views of each of 65,536 ages, 4096 messages of each of
+-- 16 members, and View 0
+pub opened_short : (script : Script) (lists : List (List Entry)) (start : Start) → HasGroupRanges script
+    → start.age < 2 ^ 16 → IsStartOf script lists start
+    → entries_length (first_entries (group_of script start).opening) ≤ 122159111
+opened_short script lists start ranges small is =
+    let g = start_group script lists start ranges small is in
+    let o = (group_of script start).opening in
+    let more = entries_length-append start.entries (View start.age 0 start.members ∷ []) in
+    let block : 1 + length (entry_spelling (View start.age 0 start.members)) ≤ 7 = omega arith in
+    let last = sum_by-cons (λ (e : Entry). 1 + length (entry_spelling e)) (View start.age 0 start.members) [] in
+    omega (
+      arith,
+      more,
+      block,
+      last,
+      entries_short start.entries (start_valid script lists start ranges is),
+      start-few o g.sound small g.some_member g.most_members g.messages,
+      stood-told o start.entries g.sound.entries g.messages,
+    )
+
+full_never : (script : Script) (before after : YardState) (m len : ℕ) → HasGroupRanges script
+    → (is : IsTooFull script before after m len) → AreFew (is.contents m) → ⊥
+full_never script before after m len ranges is little = omega (
+  arith,
+  opened_short script is.lists is.start ranges is.small is.starts,
+  total,
+  is.over,
+  little.few,
+)
+  where
+    found : List Entry
+    found = (is.contents m).entries
+
+    whole : List Entry
+    whole = first_entries (group_of script is.start).opening
+
+    part : IsPrefixOf found whole
+    part =
+        let here = slice_get-some is.lists m (omega (arith, is.below, is.found.all)) in
+        subst (λ (es : List Entry). IsPrefixOf es whole) (sym (is.found.each m here.0 here.1).entries)
+        (part_of_opened here.0 is.start.entries (View is.start.age 0 is.start.members)
+        (part_of_start script is.lists is.start m here.0 is.starts here.1))
+
+    rest : drop (length found) whole ≡ part.0
+    rest = ap (drop (length found)) (sym part.1) ∙ drop_at found part.0 (length found) refl
+
+    total : entries_length found + entries_length (drop (length found) whole) ≡ entries_length whole
+    total = ap (λ (es : List Entry). entries_length found + entries_length es) rest
+        ∙ (sym (entries_length-append found part.0) ∙ ap entries_length part.1)
 
 -- ---- what stops a run
 
@@ -319,7 +346,7 @@ roomy_stop script bytes first k last after OutOfMemory ranges short small number
 roomy_stop script bytes first k last after (DiskFault m) ranges short small number roomy is = tt
 roomy_stop script bytes first k last after (LogFull m len) ranges short small number roomy is =
     full_never script last after m len ranges is
-    (few_at script bytes first k last is.lists is.votes m roomy short small is.found is.below)
+    (few_at script bytes first k last is.lists is.contents m roomy short small is.found is.below)
 roomy_stop script bytes first k last after (Damaged m at) ranges short small number roomy is =
     good_never script last after (Damaged m at) roomy.good is tt
 roomy_stop script bytes first k last after (Disagree a b p) ranges short small number roomy is =

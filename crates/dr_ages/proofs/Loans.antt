@@ -8,23 +8,22 @@ use Rattle.std.proofs.lemmas.Option.{same_Some, slice_get_within}
 use Rattle.dr_disk.specs.Calls.{Sync}
 use Rattle.dr_disk.specs.Disk.{Told, added, content_of}
 use Rattle.dr_disk.specs.Images.{Goes, ReadsAnImage}
-use Rattle.dr_entry.specs.declared.entry.Entry.{Entry}
-use Rattle.dr_entry.specs.declared.record.Vote.{Vote}
 use Rattle.dr_gather.specs.Gathering.{entries_on}
 use Rattle.dr_history_laws.proofs.Lists.{slice_get-left, slice_get-push_cases, slice_get-seam, slice_get-some}
 use Rattle.dr_io.specs.Faults.{Rose}
 use Rattle.dr_log.specs.declared.fault.MountWhy.{MountWhy}
 use Rattle.dr_log.specs.declared.fault.MountWhy.TheVariants as whys
 use Rattle.dr_log.specs.Appending as mounts
-use Rattle.dr_log.specs.Grammar.{IsDamaged}
-use Rattle.dr_log.specs.Standing.{KeepsRecords, StandsFor, log_length}
+use Rattle.dr_log.specs.Standing.{KeepsRecords, least_length}
 use Rattle.dr_log.specs.State.{LogState}
+use Rattle.dr_log_bytes.specs.Content.{OnLog, empty_of}
+use Rattle.dr_log_bytes.specs.Grammar.{IsDamaged, StandFor}
 use Rattle.dr_logged.specs.Served.{IsSafe}
 use Rattle.dr_script.specs.declared.script.Script.{Script}
 use Rattle.dr_yard.specs.Yards.{YardState}
 use Rattle.dr_ages.specs.declared.stop.Stop.{Stop}
 use Rattle.dr_ages.specs.declared.stop.Stop.TheVariants.{OutOfMemory, DiskFault, LogFull, Damaged, Disagree, Foreign, AgesUsedUp}
-use Rattle.dr_ages.specs.Found.{AreFound, ReadsAs}
+use Rattle.dr_ages.specs.Found.{AreFound, ReadsAs, WasFound}
 use Rattle.dr_ages.specs.Lent.{AreLent, AreMounted, IsMounted, WasRefused, WereRefused}
 use Rattle.dr_ages.specs.Opened.{AreLater}
 use Rattle.dr_ages.specs.Passing.{AreKeptSince}
@@ -122,15 +121,15 @@ mounted_more {D} tells faults before logs log k are at is m x here = by (slice_g
 -- a log that was mounted from a disk that was lent
 pub was_mounted : {D : Type 0} (tells : D → Option Told) (faults : D → ℕ) (told : Option Told) (count : ℕ)
     (disk : D) (log : LogState D) → tells disk ≡ told → IfSome (tells disk) ReadsAnImage
-    → IfSome (tells disk) (λ t. StandsFor (content_of t) log.entries log.votes) → IsSafe tells log
-    → log.length ≡ log_length log.entries log.votes → log.limit ≡ 2147483648 → log.failed ≡ false
+    → IfSome (tells disk) (λ t. StandFor (content_of t) log.content) → IsSafe tells log
+    → least_length log.content ≤ log.content.length → log.limit ≡ 2147483648 → log.failed ≡ false
     → Goes (tells disk) (tells log.disk) KeepsRecords → faults log.disk ≡ count
     → mounts.IsMounted (tells disk) (tells log.disk) → IsMounted tells faults told count log
-was_mounted {D} tells faults told count disk log same image stands safe long limit whole goes calm calls = record {
+was_mounted {D} tells faults told count disk log same image stands safe least limit whole goes calm calls = record {
   found = both told (subst (λ (o : Option Told). IfSome o ReadsAnImage) same image)
-      (subst (λ (o : Option Told). IfSome o (λ t. StandsFor (content_of t) log.entries log.votes)) same stands);
+      (subst (λ (o : Option Told). IfSome o (λ t. StandFor (content_of t) log.content)) same stands);
   safe = safe;
-  long = long;
+  least = least;
   limit = limit;
   whole = whole;
   on = record {
@@ -142,8 +141,8 @@ was_mounted {D} tells faults told count disk log same image stands safe long lim
 }
   where
     both : (o : Option Told) → IfSome o ReadsAnImage
-        → IfSome o (λ t. StandsFor (content_of t) log.entries log.votes)
-        → IfSome o (ReadsAs log.entries log.votes)
+        → IfSome o (λ t. StandFor (content_of t) log.content)
+        → IfSome o (ReadsAs log.content)
     both None i s = tt
     both (Some t) i s = record { image = i; stands = s }
 
@@ -161,30 +160,31 @@ lent_later is_lent yard_faults tells faults yard olds news are later count = rec
 
 -- ---- what was found on them
 
--- the votes of each log, by number
-abbrev pub votes_on : {D : Type 0} → List (LogState D) → ℕ → List Vote
-votes_on {D} logs m = option_map_or (λ (log : LogState D). log.votes) (slice_get logs m) []
+-- what is on each log, by number
+abbrev pub contents_on : {D : Type 0} → List (LogState D) → ℕ → OnLog
+contents_on {D} logs m = option_map_or (λ (log : LogState D). log.content) (slice_get logs m) (empty_of true)
 
-pub votes_at : {D : Type 0} (logs : List (LogState D)) (m : ℕ) (log : LogState D)
-    → slice_get logs m ≡ Some log → votes_on logs m ≡ log.votes
-votes_at {D} logs m log here =
-    ap (λ (o : Option (LogState D)). option_map_or (λ (log : LogState D). log.votes) o []) here
+pub contents_at : {D : Type 0} (logs : List (LogState D)) (m : ℕ) (log : LogState D)
+    → slice_get logs m ≡ Some log → contents_on logs m ≡ log.content
+contents_at {D} logs m log here =
+    ap (λ (o : Option (LogState D)). option_map_or (λ (log : LogState D). log.content) o (empty_of true)) here
 
 pub are_found : {D : Type 0} (tells : D → Option Told) (faults : D → ℕ) (before : YardState)
     (logs : List (LogState D)) (n : ℕ) → AreMounted tells faults before logs → length logs ≡ n
-    → AreFound n before (entries_on logs) (votes_on logs)
+    → AreFound n before (entries_on logs) (contents_on logs)
 are_found {D} tells faults before logs n are count = record {
-  all = length-map logs (λ (log : LogState D). log.entries) ∙ count;
+  all = length-map logs (λ (log : LogState D). log.content.entries) ∙ count;
   each = λ m es at.
       let log = slice_get-some logs m (omega (
         arith,
         slice_get_within (entries_on logs) m es at,
-        length-map logs (λ (log : LogState D). log.entries),
+        length-map logs (λ (log : LogState D). log.content.entries),
       )) in
-      let same : log.0.entries ≡ es = same_Some log.0.entries es (sym (entries_at logs m log.0 log.1) ∙ at) in
-      subst (λ (vs : List Vote). IfSome (before.told m) (ReadsAs es vs)) (sym (votes_at logs m log.0 log.1))
-      (subst (λ (l : List Entry). IfSome (before.told m) (ReadsAs l log.0.votes)) same
-      (are m log.0 log.1).found);
+      subst (WasFound (before.told m) es) (sym (contents_at logs m log.0 log.1)) (record {
+        entries = same_Some log.0.content.entries es (sym (entries_at logs m log.0 log.1) ∙ at);
+        least = (are m log.0 log.1).least;
+        reads = (are m log.0 log.1).found;
+      });
 }
 
 -- ---- why one was not mounted
@@ -226,7 +226,7 @@ were_refused tells faults n k before mid after logs (DiskFault m) below are coun
     rose = subst (λ (j : ℕ). Rose (before.faults j) (after.faults j)) (sym is.0)
         (subst (λ (x : ℕ). Rose x (after.faults k)) same is.1);
     lists = entries_on logs;
-    votes = votes_on logs;
+    contents = contents_on logs;
     found = are_found tells faults before logs m are (count ∙ sym is.0);
     above = λ j l. above j (omega (arith, l, is.0));
   },
@@ -239,7 +239,7 @@ were_refused tells faults n k before mid after logs (Damaged m at) below are cou
         (subst (λ (o : Option Told). IfSome o (ReadsDamaged at)) told is.1);
     kept = subst (λ (j : ℕ). after.told j ≡ added Sync (before.told j)) (sym is.0) (is.2 ∙ ap (added Sync) told);
     lists = entries_on logs;
-    votes = votes_on logs;
+    contents = contents_on logs;
     found = are_found tells faults before logs m are (count ∙ sym is.0);
   },
   λ j l. ⊎_elim
@@ -262,7 +262,7 @@ refused_stop script k before mid after (DiskFault m) later back since is =
     record {
       below = is.1.below;
       rose = le_trans is.1.rose (later m);
-      at = in_mount is.1.lists is.1.votes is.1.found
+      at = in_mount is.1.lists is.1.contents is.1.found
           (λ j l. back j (omega (arith, l, is.0)) ∙ (is.1.above j l).0)
           (subst (λ (n : ℕ). AreKeptSince script.members n before after) (sym is.0) since);
     }
@@ -271,7 +271,7 @@ refused_stop script k before mid after (Damaged m at) later back since is = reco
   damaged = is.1.damaged;
   kept = back m (omega (arith, is.0)) ∙ is.1.kept;
   lists = is.1.lists;
-  votes = is.1.votes;
+  contents = is.1.contents;
   found = is.1.found;
 }
 refused_stop script k before mid after (LogFull m len) later back since is = absurd is

@@ -1,5 +1,5 @@
 -- An age that was run over logs that were mounted and brought up to its start.
-use Rattle.std.proofs.Common.{◌≡◌, ◌≢◌, ◌⊎◌, refl, sym, ap, ◌∙◌, subst, ℕ, ◌+◌, ◌^◌, ◌<◌, inl, inr, arith, le_refl, List, [], ◌∷◌, ◌++◌, length, length-append, take, get_or, append-nil}
+use Rattle.std.proofs.Common.{◌≡◌, ◌≢◌, ◌⊎◌, refl, sym, ap, ◌∙◌, subst, ℕ, ◌+◌, ◌^◌, ◌<◌, inl, inr, arith, le_refl, List, [], ◌∷◌, ◌++◌, length, length-append, take, drop, drop_at, get_or, append_assoc}
 use Rattle.std.specs.Prelude.{All, IfOk, OnErr, Option, None, Some, Result, Ok, Err, is_some, slice_get, unwrap_or}
 use Rattle.std.specs.Option.{option_map_or}
 use Rattle.std.proofs.lemmas.List.{length-map}
@@ -15,8 +15,7 @@ use Rattle.dr_entry.specs.declared.end.MemberEnd.{MemberEnd}
 use Rattle.dr_entry.specs.declared.entry.Entry.{Entry}
 use Rattle.dr_entry.specs.declared.entry.Entry.TheVariants.{View}
 use Rattle.dr_entry.specs.declared.record.Record.{Record}
-use Rattle.dr_entry.specs.declared.record.Vote.{Vote}
-use Rattle.dr_gather.specs.CatchingUp.{opened_with}
+use Rattle.dr_gather.specs.CatchingUp.{lacked, opened_with}
 use Rattle.dr_gather.specs.Gathering.{IsStartOf, entries_on}
 use Rattle.dr_gather.proofs.Catching.{rose_since}
 use Rattle.dr_gather.proofs.Grouping.{start_group}
@@ -25,9 +24,13 @@ use Rattle.dr_history.specs.History.{IsPrefixOf}
 use Rattle.dr_history.specs.Order.{first_entries}
 use Rattle.dr_history_laws.proofs.Lists.{slice_get-some}
 use Rattle.dr_io.specs.Faults.{Rose}
-use Rattle.dr_log.proofs.Growing.{short_log_length}
-use Rattle.dr_log.specs.Standing.{IsBeforeOrAfter, LosesNone, StandsFor, block_length, log_length}
+use Rattle.dr_log.proofs.Growing.{entries_length-append}
+use Rattle.dr_log.proofs.Ordinary.{has_itself, less_lost}
+use Rattle.dr_log.specs.Standing.{HasAllOf, IsBeforeOrAfter, LosesNone, entries_length, votes_length}
 use Rattle.dr_log.specs.State.{LogState}
+use Rattle.dr_log_bytes.specs.Content.{OnLog, block_length}
+use Rattle.dr_log_bytes.specs.Grammar.{StandFor}
+use Rattle.dr_logged.proofs.Serving.{has_base}
 use Rattle.dr_logged.specs.Served.{AtMember, BrokeOff, HasCome, IsFull, IsRecordDue, IsSafe, WentSo}
 use Rattle.dr_program.specs.declared.outcome.LogWhy.{LogWhy}
 use Rattle.dr_program.specs.declared.outcome.LogWhy.TheVariants as logs
@@ -48,16 +51,16 @@ use Rattle.dr_ages.specs.declared.mode.Mode.{Mode}
 use Rattle.dr_ages.specs.declared.mode.Mode.TheVariants.{Sim}
 use Rattle.dr_ages.specs.Ages.{IsAgeOf, IsMemberOf, IsPlayed, over_of, start_of}
 use Rattle.dr_ages.specs.Found.{AreFew}
-use Rattle.dr_ages.specs.Left.{HasLeft, IsFullAt}
+use Rattle.dr_ages.specs.Left.{HasLeft, IsFullAt, with_logged}
 use Rattle.dr_ages.specs.Lent.{AreMounted, IsMounted, with_logs}
 use Rattle.dr_ages.specs.Opened.{AreCaughtUp, AreLater, IsCaughtUp, IsLater}
 use Rattle.dr_ages.specs.Passing.{AreKeptSince}
 use Rattle.dr_ages.proofs.Backs.{faults_at, kept_back, passed_with, told_at}
-use Rattle.dr_ages.proofs.Caught.{caught_later, caught_long, grown_long}
+use Rattle.dr_ages.proofs.Caught.{caught_later}
 use Rattle.dr_ages.proofs.Chain.{passes_none}
-use Rattle.dr_ages.proofs.Fresh.{first_valid, start_small}
-use Rattle.dr_ages.proofs.Loans.{are_found, votes_at, votes_on}
-use Rattle.dr_ages.proofs.Staying.{alike_same, fewer_kept, goes_tells, lasts_goes, later_then}
+use Rattle.dr_ages.proofs.Fresh.{opened_short}
+use Rattle.dr_ages.proofs.Loans.{are_found, contents_at, contents_on}
+use Rattle.dr_ages.proofs.Staying.{alike_same, goes_tells, lasts_goes, later_then}
 use Rattle.dr_ages.proofs.Votes.{EndsSo, few_cast, member_over, told_by}
 
 -- logs that were all brought up to a start are those with which its age opens
@@ -82,12 +85,11 @@ are_opened told faults script start olds news lists all caught = record {
 come_on : {D : Type 0} (told : D → Option Told) (faults : D → ℕ) (base log : LogState D) (r : Replica)
     (why : Option LogWhy) → HasCome told faults base log r why → IsLater told faults base log
 come_on told faults base log r why come = record {
-  entries = (come.more.0, sym come.more.1);
-  votes = (r.votes, sym come.voted);
-  tells = goes_tells (told base.disk) (told log.disk) (λ s. LosesNone base.entries base.votes) come.moments;
+  has = has_base told faults base log r why come;
+  tells = goes_tells (told base.disk) (told log.disk) (λ s. LosesNone base.content) come.moments;
   later = come.later;
-  stays = λ es vs part kept left.
-      lasts_goes (told base.disk) (told log.disk) (LosesNone es vs) (come.lasting es vs) left;
+  stays = λ first part left.
+      lasts_goes (told base.disk) (told log.disk) (LosesNone first) (come.lasting first) left;
 }
 
 later_by_come : {D : Type 0} (told : D → Option Told) (faults : D → ℕ) (olds news : List (LogState D))
@@ -103,12 +105,11 @@ later_by_calm told faults olds news kept calm m old new there here =
     let is = kept m old new there here in
     let still = calm m old new there here in
     record {
-      entries = ([], append-nil old.entries ∙ sym is.entries);
-      votes = ([], append-nil old.votes ∙ sym is.votes);
+      has = subst (HasAllOf old.content) (sym is) (has_itself old.content);
       tells = ap (λ o. is_some o) (sym still.0);
       later = omega (arith, still.1);
-      stays = λ es vs part had left. subst (λ (o : Option Told). Goes (told old.disk) o (λ s. LosesNone es vs))
-          (sym still.0) (stays_at (told old.disk) (λ s. LosesNone es vs) left);
+      stays = λ first part left. subst (λ (o : Option Told). Goes (told old.disk) o (λ s. LosesNone first))
+          (sym still.0) (stays_at (told old.disk) (λ s. LosesNone first) left);
     }
 
 pub later_by_longer : {D : Type 0} (told : D → Option Told) (faults : D → ℕ) (olds news : List (LogState D))
@@ -116,30 +117,28 @@ pub later_by_longer : {D : Type 0} (told : D → Option Told) (faults : D → �
 later_by_longer told faults olds news longer m old new there here =
     let is = longer.each m old new there here in
     record {
-      entries = (is.entries.0, sym is.entries.1);
-      votes = (is.votes.0, sym is.votes.1);
+      has = is.has;
       tells = tells is.moments;
       later = is.later;
-      stays = λ es vs part kept left. stays es vs part kept left is.moments;
+      stays = λ first part left. stays first part left is.moments;
     }
   where
     tells : (told new.disk ≡ told old.disk)
-        ⊎ Goes (told old.disk) (told new.disk) (λ s. LosesNone old.entries old.votes)
+        ⊎ Goes (told old.disk) (told new.disk) (λ s. LosesNone old.content)
         → is_some (told old.disk) ≡ is_some (told new.disk)
     tells (inl same) = ap (λ o. is_some o) (sym same)
-    tells (inr goes) = goes_tells (told old.disk) (told new.disk) (λ s. LosesNone old.entries old.votes) goes
+    tells (inr goes) = goes_tells (told old.disk) (told new.disk) (λ s. LosesNone old.content) goes
 
-    stays : (es : List Entry) (vs : List Vote) → IsPrefixOf es old.entries → IsPrefixOf vs old.votes
-        → IsLeft (told old.disk) (LosesNone es vs)
+    stays : (first : OnLog) → HasAllOf first old.content → IsLeft (told old.disk) (LosesNone first)
         → (told new.disk ≡ told old.disk)
-        ⊎ Goes (told old.disk) (told new.disk) (λ s. LosesNone old.entries old.votes)
-        → Goes (told old.disk) (told new.disk) (λ s. LosesNone es vs)
-    stays es vs part kept left (inl same) =
-        subst (λ (o : Option Told). Goes (told old.disk) o (λ s. LosesNone es vs)) (sym same)
-        (stays_at (told old.disk) (λ s. LosesNone es vs) left)
-    stays es vs part kept left (inr goes) =
-        Goes-weaken (told old.disk) (told new.disk) (λ s. LosesNone old.entries old.votes) (λ s. LosesNone es vs)
-        (λ s image. fewer_kept es old.entries vs old.votes image part kept) goes
+        ⊎ Goes (told old.disk) (told new.disk) (λ s. LosesNone old.content)
+        → Goes (told old.disk) (told new.disk) (λ s. LosesNone first)
+    stays first part left (inl same) =
+        subst (λ (o : Option Told). Goes (told old.disk) o (λ s. LosesNone first)) (sym same)
+        (stays_at (told old.disk) (λ s. LosesNone first) left)
+    stays first part left (inr goes) =
+        Goes-weaken (told old.disk) (told new.disk) (λ s. LosesNone old.content) (λ s. LosesNone first)
+        (λ s image. less_lost first old.content image part) goes
 
 -- an age ran as its mode says, and its logs have come to what its members tell
 abbrev pub RanWith : {D : Type 0} → (D → Option Told) → (D → ℕ) → Script → Start → ℕ → AgeEnd → Mode
@@ -200,14 +199,12 @@ ended_by_disk None e = absurd (cc)
 ended_by_disk (Some end) e = ap Some (by_disk end e)
 
 left_by : {D : Type 0} (tells : D → Option Told) (faults : D → ℕ) (base log : LogState D) (r : Running)
-    (found : List Vote) → HasCome tells faults base log r.replica (why_ended (end_of r).end)
-    → log.votes ≡ found ++ r.replica.votes → HasLeft (tells log.disk) r.replica found
+    (found : OnLog) → HasCome tells faults base log r.replica (why_ended (end_of r).end)
+    → log.content ≡ with_logged found r.replica → HasLeft (tells log.disk) r.replica found
 left_by {D} tells faults base log r found come kept = by (why_ended (end_of r).end) refl come.last
   where
     safe : IsSafe tells log → HasLeft (tells log.disk) r.replica found
-    safe is = inl (subst (λ (es : List Entry). IsLeft (tells log.disk)
-        (λ image. StandsFor image es (found ++ r.replica.votes))) come.entries
-        (subst (λ (vs : List Vote). IsLeft (tells log.disk) (λ image. StandsFor image log.entries vs)) kept is))
+    safe is = inl (subst (λ (c : OnLog). IsLeft (tells log.disk) (λ image. StandFor image c)) kept is)
 
     by : (why : Option LogWhy) → why_ended (end_of r).end ≡ why
         → WentSo tells faults base log r.replica why → HasLeft (tells log.disk) r.replica found
@@ -217,11 +214,51 @@ left_by {D} tells faults base log r found come kept = by (why_ended (end_of r).e
       failed = ended_by_disk r.replica.end is;
       next = went.0;
       due = went.1;
-      left = subst (λ (es : List Entry). IsLeft (tells log.disk)
-          (IsBeforeOrAfter es (found ++ r.replica.votes) went.0)) come.entries
-          (subst (λ (vs : List Vote). IsLeft (tells log.disk) (IsBeforeOrAfter log.entries vs went.0)) kept
-          went.2.left);
+      left = subst (λ (c : OnLog). IsLeft (tells log.disk) (IsBeforeOrAfter c went.0)) kept went.2.left;
     })
+
+-- what has come of a log in an age, by what was on it as it was mounted
+content_of_come : {D : Type 0} (tells : D → Option Told) (faults : D → ℕ) (whole : List Entry)
+    (old mid new : LogState D) (r : Replica) (why : Option LogWhy) → IsCaughtUp tells faults whole old mid
+    → HasCome tells faults mid new r why → new.content ≡ with_logged old.content r
+content_of_come {D} tells faults whole old mid new r why up come = λ i. record {
+  entries = come.entries i;
+  votes = votes i;
+  age_votes = age_votes i;
+  newer = newer i;
+  length = long i;
+}
+  where
+    es : List Entry
+    es = old.content.entries
+
+    votes : new.content.votes ≡ old.content.votes ++ r.votes
+    votes = come.voted ∙ ap (λ (c : OnLog). c.votes ++ r.votes) up.0.content
+
+    age_votes : new.content.age_votes ≡ old.content.age_votes
+    age_votes = come.age_votes ∙ ap (λ (c : OnLog). c.age_votes) up.0.content
+
+    newer : new.content.newer ≡ old.content.newer
+    newer = come.newer ∙ ap (λ (c : OnLog). c.newer) up.0.content
+
+    -- what its member has logged is what was found, what was lacked, and what came behind
+    parts : take r.logged r.history ≡ es ++ (lacked old whole ++ come.more.0)
+    parts = sym come.entries ∙ come.more.1
+        ∙ ap (λ (c : OnLog). c.entries ++ come.more.0) up.0.content
+        ∙ append_assoc es (lacked old whole) come.more.0
+
+    rest : drop (length es) (take r.logged r.history) ≡ lacked old whole ++ come.more.0
+    rest = ap (drop (length es)) parts ∙ drop_at es (lacked old whole ++ come.more.0) (length es) refl
+
+    long : new.content.length ≡ old.content.length
+        + (entries_length (drop (length es) (take r.logged r.history)) + votes_length r.votes)
+    long = omega (
+      arith,
+      come.long,
+      ap (λ (c : OnLog). c.length) up.0.content,
+      ap entries_length rest,
+      entries_length-append (lacked old whole) come.more.0,
+    )
 
 -- ---- the age
 
@@ -298,7 +335,7 @@ is_of tells faults script mode nth before start olds mids news age m r w at =
     }
 
 -- what a member of it leaves
-record LeavesSo (members : ℕ) (found : List Vote) (told : Option Told) (r : Replica) : Type 0 where
+record LeavesSo (members : ℕ) (found : OnLog) (told : Option Told) (r : Replica) : Type 0 where
   few : IsMemberOf members r
   left : HasLeft told r found
   full : (len : ℕ) → r.end ≡ Some (ends.LogFull len) → IsFullAt r found len
@@ -309,7 +346,7 @@ pub is_age : {D : Type 0} (tells : D → Option Told) (faults : D → ℕ) (scri
     → IsAgeOf script mode nth before (with_logs tells faults before news) age
 is_age {D} tells faults script mode nth before start olds mids news age w = record {
   lists = entries_on olds;
-  votes = votes_on olds;
+  contents = contents_on olds;
   found = are_found tells faults before olds script.members w.mounted w.all;
   starts = subst (IsStartOf script (entries_on olds)) same w.starts;
   small = omega (arith, w.small, ap (λ (s : Start). s.age) same);
@@ -379,39 +416,31 @@ is_age {D} tells faults script mode nth before start olds mids news age w = reco
               ∙ (sym x.come.more.1 ∙ x.come.entries),
         )
 
-    votes : (m : ℕ) (r : Running) (at : slice_get over.members m ≡ Some r)
-        → (one m r at).new.votes ≡ votes_on olds m ++ r.replica.votes
-    votes m r at =
+    -- what is on its log then
+    content : (m : ℕ) (r : Running) (at : slice_get over.members m ≡ Some r)
+        → (one m r at).new.content ≡ with_logged (contents_on olds m) r.replica
+    content m r at =
         let x = one m r at in
-        x.come.voted
-        ∙ ap (λ (vs : List Vote). vs ++ r.replica.votes) (x.caught.0.votes ∙ sym (votes_at olds m x.old x.from))
-
-    -- and it is as long as what it has
-    long : (m : ℕ) (r : Running) (at : slice_get over.members m ≡ Some r)
-        → (one m r at).new.length ≡ log_length (one m r at).new.entries (one m r at).new.votes
-    long m r at =
-        let x = one m r at in
-        let up = caught_long tells faults whole x.old x.mid x.mounted.long x.caught in
-        grown_long x.mid x.new x.come.more.0 r.replica.votes up x.come.more.1 x.come.voted x.come.long
+        subst (λ (c : OnLog). x.new.content ≡ with_logged c r.replica) (sym (contents_at olds m x.old x.from))
+        (content_of_come tells faults whole x.old x.mid x.new r.replica (why_ended (end_of r).end) x.caught x.come)
 
     left : (m : ℕ) (r : Running) → slice_get over.members m ≡ Some r
-        → HasLeft ((with_logs tells faults before news).told m) r.replica (votes_on olds m)
+        → HasLeft ((with_logs tells faults before news).told m) r.replica (contents_on olds m)
     left m r at =
         let x = one m r at in
-        subst (λ (o : Option Told). HasLeft o r.replica (votes_on olds m))
+        subst (λ (o : Option Told). HasLeft o r.replica (contents_on olds m))
         (sym (told_at tells faults before news m x.new x.to))
-        (left_by tells faults x.mid x.new r (votes_on olds m) x.come (votes m r at))
+        (left_by tells faults x.mid x.new r (contents_on olds m) x.come (content m r at))
 
     full : (m : ℕ) (r : Running) → slice_get over.members m ≡ Some r → (len : ℕ)
-        → r.replica.end ≡ Some (ends.LogFull len) → IsFullAt r.replica (votes_on olds m) len
+        → r.replica.end ≡ Some (ends.LogFull len) → IsFullAt r.replica (contents_on olds m) len
     full m r at len end =
         let x = one m r at in
         let went : (next : Record) × (IsRecordDue r.replica next) × IsFull tells x.new len next =
         subst (λ (o : Option End). WentSo tells faults x.mid x.new r.replica (why_ended (unwrap_or o ends.Done)))
         end x.come.last in
         record {
-          long = went.2.long ∙ (long m r at ∙ (ap (λ (l : List Entry). log_length l x.new.votes) x.come.entries
-              ∙ ap (log_length (take r.replica.logged r.replica.history)) (votes m r at)));
+          long = went.2.long ∙ ap (λ (c : OnLog). c.length) (content m r at);
           next = went.0;
           due = went.1;
           over = subst (λ (n : ℕ). n < len + block_length went.0)
@@ -421,10 +450,10 @@ is_age {D} tells faults script mode nth before start olds mids news age w = reco
     -- what holds of its members, by the start that its end tells
     ran : (is : IsPlayed mode script (start_of script age) nth age)
         × ((m : ℕ) → AtMember (over_of mode script (start_of script age) nth age is) m
-        (λ r. LeavesSo script.members (votes_on olds m) ((with_logs tells faults before news).told m) r.replica))
+        (λ r. LeavesSo script.members (contents_on olds m) ((with_logs tells faults before news).told m) r.replica))
     ran = subst (λ (s : Start). (is : IsPlayed mode script s nth age)
         × ((m : ℕ) → AtMember (over_of mode script s nth age is) m
-        (λ r. LeavesSo script.members (votes_on olds m) ((with_logs tells faults before news).told m) r.replica)))
+        (λ r. LeavesSo script.members (contents_on olds m) ((with_logs tells faults before news).told m) r.replica)))
         same (
           w.run,
           λ m r at. record {
@@ -457,6 +486,7 @@ is_age {D} tells faults script mode nth before start olds mids news age w = reco
     unless_disk (ends.Excluded view) other = λ e. absurd (cc e)
     unless_disk (ends.NoMajority mask) other = λ e. absurd (cc e)
     unless_disk (ends.Spent turns) other = λ e. absurd (cc e)
+    unless_disk ends.Absent other = λ e. absurd (cc e)
 
     calm : (m : ℕ) → ((e : MemberEnd) → slice_get age.members m ≡ Some e → e.end ≢ ends.DiskFault)
         → (with_logs tells faults before news).faults m ≡ before.faults m
@@ -478,28 +508,28 @@ is_age {D} tells faults script mode nth before start olds mids news age w = reco
             ∙ (x.come.calm (subst (λ (y : End). why_ended y ≢ Some logs.DiskFault)
             (sym (ap (λ (x : MemberEnd). x.end) by.is)) (unless_disk e.0.end (other e.0 e.1))) ∙ (x.caught.0.calm ∙ x.mounted.calm))
 
-    ample : ((m : ℕ) → m < script.members → AreFew (votes_on olds m)) → (k : ℕ) (d : LogState D) → k < length mids
+    ample : ((m : ℕ) → m < script.members → AreFew (contents_on olds m)) → (k : ℕ) (d : LogState D) → k < length mids
         → IsAmple (group_of script start) (get_or mids k d)
     ample few k d l =
         let old = slice_get-some olds k (omega (arith, l, w.caught.all)) in
         let up = w.caught.done k old.0 (get_or mids k d) (omega (arith, l, w.caught.all)) old.1
         (slice_get-get_or mids k d l) in
-        let votes = few k (omega (arith, l, w.caught.all, w.all)) in
+        let little = few k (omega (arith, l, w.caught.all, w.all)) in
         let mid = get_or mids k d in
-        let is : mid.length ≡ log_length whole (votes_on olds k) =
-        caught_long tells faults whole old.0 mid (w.mounted k old.0 old.1).long up
-        ∙ (ap (λ (l : List Entry). log_length l mid.votes) up.0.entries
-        ∙ ap (log_length whole) (up.0.votes ∙ sym (votes_at olds k old.0 old.1))) in
+        let was = contents_at olds k old.0 old.1 in
+        let parts = ap (λ (c : OnLog). c.entries) up.0.content in
         record {
           limit = omega (
             arith,
-            is,
+            ap (λ (c : OnLog). c.length) up.0.content,
             ap length up.0.entries,
+            ap entries_length up.0.entries,
+            ap entries_length parts,
+            entries_length-append old.0.content.entries (lacked old.0 whole),
             length-append start.entries (View start.age 0 start.members ∷ []),
-            short_log_length whole (first_valid script (entries_on olds) start w.ranges.group w.starts),
-            votes.few,
+            (subst AreFew was little).few,
             up.0.limit,
             (w.mounted k old.0 old.1).limit,
-            start_small script (entries_on olds) start w.ranges.group w.small w.starts,
+            opened_short script (entries_on olds) start w.ranges.group w.small w.starts,
           );
         }

@@ -5,36 +5,38 @@ use Rattle.std.proofs.lemmas.List.{ext_get_or}
 use Rattle.std.proofs.lemmas.Option.{get_or_from_slice_get, same_Some, slice_get_within}
 use Rattle.dr_disk.specs.Disk.{Told, content_of}
 use Rattle.dr_entry.specs.declared.entry.Entry.{Entry}
-use Rattle.dr_entry.specs.declared.record.Vote.{Vote}
 use Rattle.dr_history.specs.History.{IsPrefixOf}
 use Rattle.dr_history.specs.Restarting.{AreAllAlong, AreAlong, IsLongest}
 use Rattle.dr_history_laws.proofs.Lists.{slice_get-some}
-use Rattle.dr_log.specs.Standing.{StandsFor}
-use Rattle.dr_log.proofs.Meaning.{one_list}
+use Rattle.dr_log_bytes.specs.Content.{OnLog}
+use Rattle.dr_log_bytes.specs.Grammar.{StandFor}
+use Rattle.dr_log_bytes.proofs.Meaning.{content_once}
 use Rattle.dr_yard.specs.Yards.{AllTell, YardState}
 use Rattle.dr_ages.specs.Found.{AreFound, ReadsAs}
 use Rattle.dr_ages.specs.Refused.{AreRead}
 
 -- what is found is what is read
-pub found_read : (n : ℕ) (yard : YardState) (lists : List (List Entry)) (votes : ℕ → List Vote) → AllTell n yard
-    → AreFound n yard lists votes → AreRead n yard lists
-found_read n yard lists votes tell found = record {
+pub found_read : (n : ℕ) (yard : YardState) (lists : List (List Entry)) (contents : ℕ → OnLog) → AllTell n yard
+    → AreFound n yard lists contents → AreRead n yard lists
+found_read n yard lists contents tell found = record {
   all = found.all;
   each = λ m es at.
-      by (yard.told m) es (votes m) (tell m (omega (arith, slice_get_within lists m es at, found.all)))
-      (found.each m es at);
+      let is = found.each m es at in
+      by (yard.told m) es (contents m) (tell m (omega (arith, slice_get_within lists m es at, found.all)))
+      is.reads is.entries;
 }
   where
-    by : (o : Option Told) (es : List Entry) (vs : List Vote) → IsTrue (is_some o) → IfSome o (ReadsAs es vs)
-        → IsSomeAnd o (λ t. (ws : List Vote) × StandsFor (content_of t) es ws)
-    by None es vs some reads = absurd (cc)
-    by (Some t) es vs some reads = (vs, reads.stands)
+    by : (o : Option Told) (es : List Entry) (c : OnLog) → IsTrue (is_some o) → IfSome o (ReadsAs c)
+        → c.entries ≡ es → IsSomeAnd o (λ t. (d : OnLog) × StandFor (content_of t) d × (d.entries ≡ es))
+    by None es c some reads same = absurd (cc)
+    by (Some t) es c some reads same = (c, reads.stands, same)
 
 one_read : (o : Option Told) (es fs : List Entry)
-    → IsSomeAnd o (λ t. (vs : List Vote) × StandsFor (content_of t) es vs)
-    → IsSomeAnd o (λ t. (vs : List Vote) × StandsFor (content_of t) fs vs) → es ≡ fs
+    → IsSomeAnd o (λ t. (c : OnLog) × StandFor (content_of t) c × (c.entries ≡ es))
+    → IsSomeAnd o (λ t. (c : OnLog) × StandFor (content_of t) c × (c.entries ≡ fs)) → es ≡ fs
 one_read None es fs a b = absurd a
-one_read (Some t) es fs a b = one_list (content_of t) es fs a.0 b.0 a.1 b.1
+one_read (Some t) es fs a b =
+    sym a.2 ∙ ap (λ (c : OnLog). c.entries) (content_once (content_of t) a.0 b.0 a.1 b.1) ∙ b.2
 
 pub read_once : (n : ℕ) (yard : YardState) (xs ys : List (List Entry)) → AreRead n yard xs → AreRead n yard ys
     → xs ≡ ys

@@ -4,15 +4,14 @@ use Rattle.std.specs.Prelude.{IfSome, IsSomeAnd, IsTrue, Option, None, Some, is_
 use Rattle.dr_disk.specs.Disk.{Told, content_of}
 use Rattle.dr_entry.specs.declared.end.AgeEnd.{AgeEnd}
 use Rattle.dr_entry.specs.declared.entry.Entry.{Entry}
-use Rattle.dr_entry.specs.declared.record.Vote.{Vote}
 use Rattle.dr_gather.specs.Gathering.{AreUsedUp, IsStartOf, judged_by}
 use Rattle.dr_gather.proofs.Refusing.{disagreement_not_along, foreign_not_sound, one_disagreement, one_foreign}
 use Rattle.dr_history.specs.History.{view_of}
 use Rattle.dr_history.specs.Restarting.{AreSound, IsFirstDisagreement, IsFirstForeign, next_age}
 use Rattle.dr_history_laws.proofs.Lists.{slice_get-some}
-use Rattle.dr_log.specs.Grammar.{IsDamaged}
-use Rattle.dr_log.specs.Standing.{StandsFor}
-use Rattle.dr_log.proofs.Meaning.{damaged_once, stands_or_damaged}
+use Rattle.dr_log_bytes.specs.Content.{OnLog}
+use Rattle.dr_log_bytes.specs.Grammar.{IsDamaged, StandFor}
+use Rattle.dr_log_bytes.proofs.Meaning.{damaged_once, stands_or_damaged}
 use Rattle.dr_restart.specs.declared.start.Start.{Start}
 use Rattle.dr_script.specs.declared.script.Script.{Script}
 use Rattle.dr_script.specs.Ranges.{HasRanges}
@@ -40,7 +39,7 @@ stop_refusal script before after (Damaged m at) tell is of = record {
   below = is.below;
   damaged = damaged (before.told m) (tell m is.below) is.damaged;
   lists = is.lists;
-  read = found_read m before is.lists is.votes
+  read = found_read m before is.lists is.contents
       (fewer_tell m script.members before (omega (arith, is.below)) tell) is.found;
 }
   where
@@ -62,10 +61,10 @@ stop_refusal script before after (LogFull m len) tell is of = absurd of
 
 -- a disk that reads as a log is not damaged
 readable : (o : Option Told) (es : List Entry) (at : ℕ)
-    → IsSomeAnd o (λ t. (vs : List Vote) × StandsFor (content_of t) es vs)
+    → IsSomeAnd o (λ t. (c : OnLog) × StandFor (content_of t) c × (c.entries ≡ es))
     → IsSomeAnd o (λ t. IsDamaged (content_of t) at) → ⊥
 readable None es at stands damaged = stands
-readable (Some t) es at stands damaged = stands_or_damaged (content_of t) es stands.0 at stands.1 damaged
+readable (Some t) es at stands damaged = stands_or_damaged (content_of t) stands.0 at stands.1 damaged
 
 read_undamaged : (n k : ℕ) (yard : YardState) (lists : List (List Entry)) (m at : ℕ) → AreRead k yard lists
     → m < k → IsFirstDamaged n yard m at → ⊥
@@ -190,7 +189,7 @@ first_stop script before after s OutOfMemory tell due is = inr tt
 first_stop script before after s (DiskFault m) tell due is = inr tt
 first_stop script before after s (LogFull m len) tell due is =
     absurd (started script before s is.lists is.start due
-    (found_read script.members before is.lists is.votes tell is.found) is.starts is.small)
+    (found_read script.members before is.lists is.contents tell is.found) is.starts is.small)
 first_stop script before after s (Damaged m at) tell due is =
     inl (one_refusal script before s (Damaged m at) due (stop_refusal script before after (Damaged m at) tell is tt))
 first_stop script before after s (Disagree a b p) tell due is =
@@ -213,13 +212,13 @@ used_up_alone (LogFull m len) good of = absurd of
 
 -- behind the last age no start has a number
 last_stop : (script : Script) (last after : YardState) (s : Stop) → (IsBadLogs s → ⊥)
-    → ((lists : List (List Entry)) (votes : ℕ → List Vote) (start : Start)
-    → AreFound script.members last lists votes → IsStartOf script lists start → start.age ≡ 65536)
+    → ((lists : List (List Entry)) (contents : ℕ → OnLog) (start : Start)
+    → AreFound script.members last lists contents → IsStartOf script lists start → start.age ≡ 65536)
     → HasStopped script last after s → (s ≡ AgesUsedUp) ⊎ IsOutside s
 last_stop script last after OutOfMemory good next is = inr tt
 last_stop script last after (DiskFault m) good next is = inr tt
 last_stop script last after (LogFull m len) good next is =
-    absurd (omega (arith, is.small, next is.lists is.votes is.start is.found is.starts))
+    absurd (omega (arith, is.small, next is.lists is.contents is.start is.found is.starts))
 last_stop script last after (Damaged m at) good next is = absurd (good tt)
 last_stop script last after (Disagree a b p) good next is = absurd (good tt)
 last_stop script last after (Foreign m p) good next is = absurd (good tt)
@@ -262,7 +261,7 @@ refused_run script mode before ages last after stop ranges are end good tell = r
     )
     due s is (age ∷ ages) stop are end =
         absurd (started script before s are.1.lists (start_of script age) is
-        (found_read script.members before are.1.lists are.1.votes tell are.1.found) are.1.starts are.1.small)
+        (found_read script.members before are.1.lists are.1.contents tell are.1.found) are.1.starts are.1.small)
 
     later : (stop : Option Stop) → IfSome stop (λ s. IsBadLogs s → ⊥)
         → IfSome stop (λ s. IsOfLogs s → s ≡ AgesUsedUp)
@@ -294,7 +293,7 @@ refused_run script mode before ages last after stop ranges are end good tell = r
     no_more earlier age is number (Some s) end good =
         let r = ends_with script mode 0 before ages last earlier age are is in
         inr (last_stop script last after s good
-        (λ lists votes start found starts.
-        let next = age_next script mode r.0 r.1 last age lists votes start.entries ranges.group r.2 tell_last found
+        (λ lists contents start found starts.
+        let next = age_next script mode r.0 r.1 last age lists contents start.entries ranges.group r.2 tell_last found
         starts.restart.longest in
         omega (arith, starts.restart.next, next, number)) end.1)

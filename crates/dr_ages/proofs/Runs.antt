@@ -10,11 +10,14 @@ use Rattle.dr_entry.specs.declared.end.MemberEnd.{MemberEnd}
 use Rattle.dr_entry.specs.declared.entry.Entry.{Entry}
 use Rattle.dr_entry.specs.declared.record.Record.{Record}
 use Rattle.dr_entry.specs.declared.record.Record.TheVariants as records
-use Rattle.dr_entry.specs.declared.record.Vote.{Vote}
 use Rattle.dr_program.specs.Replica.{Replica}
-use Rattle.dr_history.specs.History.{IsPrefixOf, view_of}
+use Rattle.dr_history.specs.History.{view_of}
 use Rattle.dr_history.specs.Restarting.{IsLongest, next_age}
-use Rattle.dr_log.specs.Standing.{IsBeforeOrAfter, LosesNone, StandsFor, with_entry, with_vote}
+use Rattle.dr_log.specs.Standing.{HasAllOf, IsBeforeOrAfter, LosesNone}
+use Rattle.dr_log.proofs.Ordinary.{IsOrdinary, none_lost, none_lost_by}
+use Rattle.dr_log_bytes.specs.Content.{OnLog}
+use Rattle.dr_log_bytes.specs.Grammar.{StandFor}
+use Rattle.dr_logged.specs.Served.{IsRecordDue}
 use Rattle.dr_script.specs.declared.script.Script.{Script}
 use Rattle.dr_script.specs.Ranges.{HasRanges}
 use Rattle.dr_age.specs.Logged.{NoneFull}
@@ -25,9 +28,9 @@ use Rattle.dr_ages.specs.Ages.{AreAges, start_of}
 use Rattle.dr_ages.specs.declared.stop.Stop.TheVariants.{OutOfMemory, DiskFault, LogFull, Damaged, Disagree, Foreign, AgesUsedUp}
 use Rattle.dr_ages.specs.Fit.{AreFit}
 use Rattle.dr_ages.specs.Found.{AreFound, AreRoomy}
-use Rattle.dr_ages.specs.Left.{HasLeft}
+use Rattle.dr_ages.specs.Left.{HasLeft, with_logged}
 use Rattle.dr_ages.specs.Passing.{AreKeptSince, PassOn}
-use Rattle.dr_ages.specs.Runs.{HasFinished, HaveLogged, IsFitRun, IsFreshRun, IsKeptRun, IsRoomyRun, IsRunOf}
+use Rattle.dr_ages.specs.Runs.{HasFinished, HaveLogged, IsFitRun, IsFreshRun, IsKeptRun, IsRoomyRun, IsRunOf, with_these}
 use Rattle.dr_ages.specs.Stops.{HasKept, HasStopped, IsBadLogs, IsOutside}
 use Rattle.dr_ages.proofs.Chain.{ages_pass, ends_with, kept_passes, last_age, passes_on, tell_on}
 use Rattle.dr_ages.proofs.Fit.{age_fit, age_leaves_good, fit_good, fit_never, fit_tell}
@@ -35,7 +38,7 @@ use Rattle.dr_ages.proofs.Fresh.{IsRoomyAt, fresh_first, fresh_start, roomy_ages
 use Rattle.dr_ages.proofs.Good.{good_never}
 use Rattle.dr_ages.proofs.Keeping.{are_kept}
 use Rattle.dr_ages.proofs.Refusals.{refused_run}
-use Rattle.dr_ages.proofs.Staying.{first_kept, left_so}
+use Rattle.dr_ages.proofs.Staying.{left_so}
 use Rattle.dr_ages.proofs.Votes.{member_over}
 
 -- what an age leaves is not refused
@@ -92,11 +95,11 @@ roomy_run script mode before ages last after stop ranges are end fit roomy = rec
   stopped = stopped stop ages are end;
 }
   where
-    begins : (lists : List (List Entry)) (votes : ℕ → List Vote) (es : List Entry)
-        → AreFound script.members before lists votes → IsLongest lists es
+    begins : (lists : List (List Entry)) (contents : ℕ → OnLog) (es : List Entry)
+        → AreFound script.members before lists contents → IsLongest lists es
         → IsRoomyAt script 536870912 (next_age (view_of es)) 0 before
-    begins lists votes es found longest =
-        roomy_first script before lists votes es (fit_tell script before fit) (fit_good script before fit) roomy
+    begins lists contents es found longest =
+        roomy_first script before lists contents es (fit_tell script before fit) (fit_good script before fit) roomy
         found longest
 
     each : (ages : List AgeEnd) → AreAges script mode 0 before ages last → HasFinished script last after ages stop
@@ -106,7 +109,7 @@ roomy_run script mode before ages last after stop ranges are end fit roomy = rec
         let first = next_age (view_of one.start) in
         let r = roomy_ages script mode 536870912 first 0 0 before (one ∷ ages) last i age ranges.group (omega arith)
         (omega (arith, few_ages script last after (one ∷ ages) stop ranges end))
-        (begins are.1.lists are.1.votes one.start are.1.found are.1.starts.restart.longest) are at in
+        (begins are.1.lists are.1.contents one.start are.1.found are.1.starts.restart.longest) are at in
         (0, r.1)
 
     early : (s : Stop) → HasStopped script before after s → IsOutside s
@@ -116,8 +119,8 @@ roomy_run script mode before ages last after stop ranges are end fit roomy = rec
         let longest = is.starts.restart.longest in
         roomy_stop script 536870912 (next_age (view_of is.start.entries)) 0 before after (LogFull m len) ranges.group
         (omega arith) (omega arith)
-        (omega (arith, roomy.numbered is.lists is.votes is.found is.start.entries longest, ranges.some_age))
-        (begins is.lists is.votes is.start.entries is.found longest) is
+        (omega (arith, roomy.numbered is.lists is.contents is.found is.start.entries longest, ranges.some_age))
+        (begins is.lists is.contents is.start.entries is.found longest) is
     early (Damaged m at) is = fit_never script before after (Damaged m at) fit is tt
     early (Disagree a b p) is = fit_never script before after (Disagree a b p) fit is tt
     early (Foreign m p) is = fit_never script before after (Foreign m p) fit is tt
@@ -132,11 +135,11 @@ roomy_run script mode before ages last after stop ranges are end fit roomy = rec
     stopped (Some s) (one ∷ ages) are is =
         let few = few_ages script last after (one ∷ ages) (Some s) ranges is in
         let first = next_age (view_of one.start) in
-        let number = roomy.numbered are.1.lists are.1.votes are.1.found one.start are.1.starts.restart.longest in
+        let number = roomy.numbered are.1.lists are.1.contents are.1.found one.start are.1.starts.restart.longest in
         roomy_stop script 536870912 first (0 + length (one ∷ ages)) last after s ranges.group (omega arith)
         (omega (arith, few)) (omega (arith, number, is.0))
         (roomy_last script mode 536870912 first 0 0 before (one ∷ ages) last ranges.group
-        (begins are.1.lists are.1.votes one.start are.1.found are.1.starts.restart.longest) are) is.1
+        (begins are.1.lists are.1.contents one.start are.1.found are.1.starts.restart.longest) are) is.1
 
 -- what was found on the disks is kept
 kept_run : (script : Script) (mode : Mode) (before : YardState) (ages : List AgeEnd) (last after : YardState)
@@ -160,42 +163,50 @@ kept_run script mode before (age ∷ ages) last after stop ranges are end passes
 }
 
 -- what was logged in the last age is kept
-logged_left : (o : Option Told) (r : Replica) (found : List Vote) → HasLeft o r found
-    → IsLeft o (LosesNone (take r.logged r.history) [])
-logged_left o r found (inl safe) =
-    left_so o (λ image. StandsFor image (take r.logged r.history) (found ++ r.votes))
-    (LosesNone (take r.logged r.history) [])
-    (λ image is. first_kept (take r.logged r.history) (take r.logged r.history) [] (found ++ r.votes) image
-    ([], append-nil (take r.logged r.history)) (found ++ r.votes, refl) is) safe
-logged_left o r found (inr broken) =
-    left_so o (IsBeforeOrAfter (take r.logged r.history) (found ++ r.votes) broken.next)
-    (LosesNone (take r.logged r.history) []) (either broken.next) broken.left
+logged_left : (o : Option Told) (r : Replica) (found : OnLog) → HasLeft o r found
+    → IsLeft o (LosesNone (with_these (take r.logged r.history)))
+logged_left o r found left = by left
   where
-    logged : List Entry
-    logged = take r.logged r.history
+    logged : OnLog
+    logged = with_these (take r.logged r.history)
 
-    grown : (next : Record) → IsPrefixOf logged (with_entry next logged)
-    grown (records.Entry x) = (x ∷ [], refl)
-    grown (records.Vote v) = ([], append-nil logged)
+    -- a log with what the member has logged has these entries
+    has : HasAllOf logged (with_logged found r)
+    has = record {
+      more_entries = [];
+      more_votes = found.votes ++ r.votes;
+      more_age_votes = found.age_votes;
+      entries = sym (append-nil (take r.logged r.history));
+      votes = refl;
+      age_votes = refl;
+    }
 
-    either : (next : Record) (image : List ℕ) → IsBeforeOrAfter logged (found ++ r.votes) next image
-        → LosesNone logged [] image
-    either next image (inl is) =
-        first_kept logged logged [] (found ++ r.votes) image ([], append-nil logged) (found ++ r.votes, refl) is
-    either next image (inr is) =
-        first_kept logged (with_entry next logged) [] (with_vote next (found ++ r.votes)) image (grown next)
-        (with_vote next (found ++ r.votes), refl) is
+    ordinary : (next : Record) → IsRecordDue r next → IsOrdinary next
+    ordinary (records.Entry x) due = tt
+    ordinary (records.Vote v) due = tt
+    ordinary (records.AgeVote v) due = absurd due
+    ordinary (records.Cut keep) due = absurd due
+    ordinary records.Upgrade due = absurd due
+
+    by : HasLeft o r found → IsLeft o (LosesNone logged)
+    by (inl safe) =
+        left_so o (λ image. StandFor image (with_logged found r)) (LosesNone logged)
+        (λ image is. none_lost logged (with_logged found r) image has is) safe
+    by (inr broken) =
+        left_so o (IsBeforeOrAfter (with_logged found r) broken.next) (LosesNone logged)
+        (λ image is. none_lost_by logged (with_logged found r) broken.next image
+        (ordinary broken.next broken.due) has is) broken.left
 
 logged_kept : (script : Script) (mode : Mode) (before : YardState) (ages : List AgeEnd) (last after : YardState)
     → AreAges script mode 0 before ages last → PassOn last after → HaveLogged ages after
 logged_kept script mode before ages last after are passes earlier age m e is at =
     let a = ends_with script mode 0 before ages last earlier age are is in
     let x = member_over mode script (start_of script age) a.0 age a.2.run m e at in
-    let logged = take e.logged e.history in
-    Goes-last (last.told m) (after.told m) (LosesNone logged [])
-    ((passes m).stays logged []
-    (subst (λ (end : MemberEnd). IsLeft (last.told m) (LosesNone (take end.logged end.history) [])) x.is
-    (logged_left (last.told m) x.r.replica (a.2.votes m) (a.2.left m x.r x.at))))
+    let logged = with_these (take e.logged e.history) in
+    Goes-last (last.told m) (after.told m) (LosesNone logged)
+    ((passes m).stays logged
+    (subst (λ (end : MemberEnd). IsLeft (last.told m) (LosesNone (with_these (take end.logged end.history)))) x.is
+    (logged_left (last.told m) x.r.replica (a.2.contents m) (a.2.left m x.r x.at))))
 
 -- fit disks stay fit
 fit_last : (script : Script) (mode : Mode) (before : YardState) (ages : List AgeEnd) (last : YardState)

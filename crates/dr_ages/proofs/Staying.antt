@@ -1,19 +1,16 @@
 -- What no crash would have lost of a disk none would lose later on.
-use Rattle.std.proofs.Common.{◌≡◌, refl, sym, ◌∙◌, subst, ℕ, ◌≤◌, false, arith, le_refl, List, [], ◌∷◌, ◌++◌, append-nil}
+use Rattle.std.proofs.Common.{◌≡◌, refl, sym, ◌∙◌, subst, ℕ, ◌≤◌, false, arith, le_refl, List, [], ◌∷◌}
 use Rattle.std.specs.Prelude.{IfSome, Option, None, Some, is_some}
 use Rattle.dr_disk.specs.Calls.{Call, State, run}
 use Rattle.dr_disk.specs.Disk.{Told, Calls, Now, content_of, state_of}
 use Rattle.dr_disk.specs.Images.{AllImages, During, Goes, IsLeft, Lasts, LastsDuring}
 use Rattle.dr_disk.proofs.Moments.{Goes-last, Went-weaken, goes_on, stays_at}
-use Rattle.dr_entry.specs.declared.entry.Entry.{Entry}
-use Rattle.dr_entry.specs.declared.record.Record.{Record}
-use Rattle.dr_entry.specs.declared.record.Vote.{Vote}
-use Rattle.dr_history.specs.History.{IsPrefixOf}
-use Rattle.dr_history_laws.proofs.Keeping.{prefix_then}
-use Rattle.dr_log.specs.Grammar.{Recovered, StandAlike}
-use Rattle.dr_log.specs.Standing.{KeepsRecords, LosesNone, StandsFor}
+use Rattle.dr_log.specs.Standing.{HasAllOf, KeepsRecords, LosesNone, StandAlike}
 use Rattle.dr_log.specs.State.{LogState}
-use Rattle.dr_log.proofs.Meaning.{one_list, one_list_of_votes}
+use Rattle.dr_log.proofs.Ordinary.{has_itself, has_through, none_lost}
+use Rattle.dr_log_bytes.specs.Content.{OnLog}
+use Rattle.dr_log_bytes.specs.Grammar.{StandFor}
+use Rattle.dr_log_bytes.proofs.Meaning.{content_once}
 use Rattle.dr_logged.specs.Served.{IsSafe}
 use Rattle.dr_ages.specs.Found.{ReadsAs}
 use Rattle.dr_ages.specs.Lent.{IsAlike, IsMounted}
@@ -22,48 +19,17 @@ use Rattle.dr_ages.specs.Passing.{GoesOn, IsKeptSince, IsUnreadable}
 
 -- ---- bytes
 
--- bytes that stand for entries and votes have lost none of the first of them
-pub first_kept : (es fs : List Entry) (vs ws : List Vote) (image : List ℕ) → IsPrefixOf es fs → IsPrefixOf vs ws
-    → StandsFor image fs ws → LosesNone es vs image
-first_kept es fs vs ws image part kept stands = record {
-  more_entries = part.0;
-  more_votes = kept.0;
-  stands = subst (λ (l : List Entry). StandsFor image l (vs ++ kept.0)) (sym part.1)
-      (subst (λ (l : List Vote). StandsFor image fs l) (sym kept.1) stands);
-}
-
--- those that have lost none have lost none of the first of them
-pub fewer_kept : (es fs : List Entry) (vs ws : List Vote) (image : List ℕ) → IsPrefixOf es fs → IsPrefixOf vs ws
-    → LosesNone fs ws image → LosesNone es vs image
-fewer_kept es fs vs ws image part kept none =
-    first_kept es (fs ++ none.more_entries) vs (ws ++ none.more_votes) image
-    (prefix_then es fs (fs ++ none.more_entries) part (none.more_entries, refl))
-    (prefix_then vs ws (ws ++ none.more_votes) kept (none.more_votes, refl)) none.stands
-
--- bytes that stand for all records that others stood for
-pub alike_stands : (first second : List ℕ) (es : List Entry) (vs : List Vote)
-    → ((rs : List Record) → Recovered first rs → Recovered second rs) → StandsFor first es vs
-    → StandsFor second es vs
-alike_stands first second es vs alike stands = record {
-  records = stands.records;
-  recovered = alike stands.records stands.recovered;
-  entries = stands.entries;
-  votes = stands.votes;
-}
-
 -- bytes that stand for the same have lost the same
-loses_alike : (es : List Entry) (vs : List Vote) (first second : List ℕ) → StandAlike first second
-    → LosesNone es vs first → LosesNone es vs second
-loses_alike es vs first second alike none = record {
-  more_entries = none.more_entries;
-  more_votes = none.more_votes;
-  stands = alike_stands first second (es ++ none.more_entries) (vs ++ none.more_votes) (λ rs. (alike rs).0)
-      none.stands;
+loses_alike : (c : OnLog) (first second : List ℕ) → StandAlike first second → LosesNone c first
+    → LosesNone c second
+loses_alike c first second alike none = record {
+  content = none.content;
+  stands = (alike none.content).0 none.stands;
+  has = none.has;
 }
 
 unread_alike : (first second : List ℕ) → StandAlike first second → IsUnreadable first → IsUnreadable second
-unread_alike first second alike none es vs stands =
-    none es vs (alike_stands second first es vs (λ rs. (alike rs).1) stands)
+unread_alike first second alike none c stands = none c ((alike c).1 stands)
 
 -- ---- disks
 
@@ -137,7 +103,7 @@ alike_same told now count faults same later = record {
   where
     own : (o : Option Told) → IfSome o (λ t. AllImages (state_of t) (KeepsRecords (state_of t)))
     own None = tt
-    own (Some t) = λ image is. record { before = image; was = is; alike = λ rs. (λ r. r, λ r. r) }
+    own (Some t) = λ image is. record { before = image; was = is; alike = λ c. (λ r. r, λ r. r) }
 
 -- where a crash leaves what it might have left before, as far as records go
 pub on_alike : (told now : Option Told) (count faults : ℕ) → IsAlike told count now faults
@@ -145,7 +111,7 @@ pub on_alike : (told now : Option Told) (count faults : ℕ) → IsAlike told co
 on_alike told now count faults is = record {
   tells = goes_tells told now KeepsRecords is.moments;
   later = is.later;
-  stays = λ es vs left. alike_goes told now (LosesNone es vs) (loses_alike es vs) is.moments left;
+  stays = λ c left. alike_goes told now (LosesNone c) (loses_alike c) is.moments left;
   unread = λ left. alike_goes told now IsUnreadable unread_alike is.moments left;
 }
 
@@ -158,9 +124,9 @@ pub on_then : (a b c : Option Told) (k m n : ℕ) → GoesOn a k b m → GoesOn 
 on_then a b c k m n first next = record {
   tells = first.tells ∙ next.tells;
   later = omega (arith, first.later, next.later);
-  stays = λ es vs left.
-      let one = first.stays es vs left in
-      goes_then a b c (LosesNone es vs) one (next.stays es vs (Goes-last a b (LosesNone es vs) one));
+  stays = λ x left.
+      let one = first.stays x left in
+      goes_then a b c (LosesNone x) one (next.stays x (Goes-last a b (LosesNone x) one));
   unread = λ left.
       let one = first.unread left in
       goes_then a b c IsUnreadable one (next.unread (Goes-last a b IsUnreadable one));
@@ -172,25 +138,23 @@ on_then a b c k m n first next = record {
 pub later_same : {D : Type 0} (told : D → Option Told) (faults : D → ℕ) (log : LogState D)
     → IsLater told faults log log
 later_same told faults log = record {
-  entries = ([], append-nil log.entries);
-  votes = ([], append-nil log.votes);
+  has = has_itself log.content;
   tells = refl;
   later = le_refl (faults log.disk);
-  stays = λ es vs part kept left. stays_at (told log.disk) (λ s. LosesNone es vs) left;
+  stays = λ c has left. stays_at (told log.disk) (λ s. LosesNone c) left;
 }
 
 pub later_then : {D : Type 0} (told : D → Option Told) (faults : D → ℕ) (a b c : LogState D)
     → IsLater told faults a b → IsLater told faults b c → IsLater told faults a c
 later_then told faults a b c first next = record {
-  entries = prefix_then a.entries b.entries c.entries first.entries next.entries;
-  votes = prefix_then a.votes b.votes c.votes first.votes next.votes;
+  has = has_through a.content b.content c.content first.has next.has;
   tells = first.tells ∙ next.tells;
   later = omega (arith, first.later, next.later);
-  stays = λ es vs part kept left.
-      let one = first.stays es vs part kept left in
-      goes_then (told a.disk) (told b.disk) (told c.disk) (LosesNone es vs) one
-      (next.stays es vs (prefix_then es a.entries b.entries part first.entries)
-      (prefix_then vs a.votes b.votes kept first.votes) (Goes-last (told a.disk) (told b.disk) (LosesNone es vs) one));
+  stays = λ x has left.
+      let one = first.stays x has left in
+      goes_then (told a.disk) (told b.disk) (told c.disk) (LosesNone x) one
+      (next.stays x (has_through x a.content b.content has first.has)
+      (Goes-last (told a.disk) (told b.disk) (LosesNone x) one));
 }
 
 -- the disk of a log that was mounted, and went on since
@@ -200,7 +164,7 @@ pub on_since : {D : Type 0} (tells : D → Option Told) (faults : D → ℕ) (to
 on_since {D} tells faults told count old new is later = record {
   tells = same;
   later = omega (arith, is.on.later, later.later);
-  stays = λ es vs left. kept es vs told same is.found left (mounted.stays es vs left);
+  stays = λ c left. kept c told same is.found left (mounted.stays c left);
   unread = λ left. unread told same is.found left;
 }
   where
@@ -210,57 +174,50 @@ on_since {D} tells faults told count old new is later = record {
     same : is_some told ≡ is_some (tells new.disk)
     same = mounted.tells ∙ later.tells
 
-    kept : (es : List Entry) (vs : List Vote) (o : Option Told) → is_some o ≡ is_some (tells new.disk)
-        → IfSome o (ReadsAs old.entries old.votes) → IsLeft o (LosesNone es vs)
-        → Goes o (tells old.disk) (λ s. LosesNone es vs) → Goes o (tells new.disk) (λ s. LosesNone es vs)
-    kept es vs None alike found left mid = silent (tells new.disk) (LosesNone es vs) alike
-    kept es vs (Some t) alike found left mid =
+    kept : (c : OnLog) (o : Option Told) → is_some o ≡ is_some (tells new.disk)
+        → IfSome o (ReadsAs old.content) → IsLeft o (LosesNone c)
+        → Goes o (tells old.disk) (λ s. LosesNone c) → Goes o (tells new.disk) (λ s. LosesNone c)
+    kept c None alike found left mid = silent (tells new.disk) (LosesNone c) alike
+    kept c (Some t) alike found left mid =
         let none = left (content_of t) found.image in
-        let fs = es ++ none.more_entries in
-        let ws = vs ++ none.more_votes in
-        goes_then (Some t) (tells old.disk) (tells new.disk) (LosesNone es vs) mid
-        (later.stays es vs
-        (none.more_entries, one_list (content_of t) fs old.entries ws old.votes none.stands found.stands)
-        (none.more_votes, one_list_of_votes (content_of t) fs old.entries ws old.votes none.stands found.stands)
-        (Goes-last (Some t) (tells old.disk) (LosesNone es vs) mid))
+        goes_then (Some t) (tells old.disk) (tells new.disk) (LosesNone c) mid
+        (later.stays c
+        (subst (HasAllOf c) (content_once (content_of t) none.content old.content none.stands found.stands) none.has)
+        (Goes-last (Some t) (tells old.disk) (LosesNone c) mid))
 
     unread : (o : Option Told) → is_some o ≡ is_some (tells new.disk)
-        → IfSome o (ReadsAs old.entries old.votes) → IsLeft o IsUnreadable
+        → IfSome o (ReadsAs old.content) → IsLeft o IsUnreadable
         → Goes o (tells new.disk) (λ s. IsUnreadable)
     unread None alike found left = silent (tells new.disk) IsUnreadable alike
     unread (Some t) alike found left =
-        absurd (left (content_of t) found.image old.entries old.votes found.stands)
+        absurd (left (content_of t) found.image old.content found.stands)
 
 -- ---- a disk is kept since it was mounted
 
 -- what is safe on a log has not been lost
 pub safe_kept : {D : Type 0} (tells : D → Option Told) (log : LogState D) → IsSafe tells log
-    → IsLeft (tells log.disk) (LosesNone log.entries log.votes)
+    → IsLeft (tells log.disk) (LosesNone log.content)
 safe_kept tells log safe =
-    left_so (tells log.disk) (λ image. StandsFor image log.entries log.votes) (LosesNone log.entries log.votes)
-    (λ image. first_kept log.entries log.entries log.votes log.votes image ([], append-nil log.entries)
-    ([], append-nil log.votes)) safe
+    left_so (tells log.disk) (λ image. StandFor image log.content) (LosesNone log.content)
+    (λ image is. none_lost log.content log.content image (has_itself log.content) is) safe
 
 pub kept_since : {D : Type 0} (tells : D → Option Told) (faults : D → ℕ) (told : Option Told) (count : ℕ)
     (old new : LogState D) → IsMounted tells faults told count old → IsLater tells faults old new
     → IsKeptSince told (tells new.disk)
 kept_since tells faults told count old new is later = record {
-  entries = old.entries;
-  votes = old.votes;
+  content = old.content;
   found = is.found;
   mounted = tells old.disk;
   by = is.calls;
-  since = later.stays old.entries old.votes ([], append-nil old.entries) ([], append-nil old.votes)
-      (safe_kept tells old is.safe);
+  since = later.stays old.content (has_itself old.content) (safe_kept tells old is.safe);
 }
 
 pub kept_on : (a b c : Option Told) (m n : ℕ) → IsKeptSince a b → GoesOn b m c n → IsKeptSince a c
 kept_on a b c m n kept on = record {
-  entries = kept.entries;
-  votes = kept.votes;
+  content = kept.content;
   found = kept.found;
   mounted = kept.mounted;
   by = kept.by;
-  since = goes_then kept.mounted b c (LosesNone kept.entries kept.votes) kept.since
-      (on.stays kept.entries kept.votes (Goes-last kept.mounted b (LosesNone kept.entries kept.votes) kept.since));
+  since = goes_then kept.mounted b c (LosesNone kept.content) kept.since
+      (on.stays kept.content (Goes-last kept.mounted b (LosesNone kept.content) kept.since));
 }

@@ -3,11 +3,10 @@ use Rattle.std.proofs.Common.{◌≡◌, ◌≢◌, refl, sym, ap, ◌∙◌, su
 use Rattle.std.specs.Prelude.{IsErrOf, Option, Result, Err, None, Some, slice_get, slice_set}
 use Rattle.std.specs.Option.{option_map_or}
 use Rattle.std.proofs.lemmas.Bool.{cases_eq, cases_lt}
-use Rattle.std.proofs.lemmas.Option.{same_Some, slice_get_within}
+use Rattle.std.proofs.lemmas.Option.{slice_get_within}
 use Rattle.dr_disk.specs.Disk.{Told}
 use Rattle.dr_disk.specs.Images.{IsLeft}
 use Rattle.dr_entry.specs.declared.entry.Entry.{Entry}
-use Rattle.dr_entry.specs.declared.record.Vote.{Vote}
 use Rattle.dr_gather.specs.declared.catching_up.CatchFault.{CatchFault}
 use Rattle.dr_gather.specs.declared.catching_up.CatchFault.TheVariants as catches
 use Rattle.dr_gather.specs.declared.gathering.GatherFault.{GatherFault}
@@ -18,8 +17,10 @@ use Rattle.dr_gather.proofs.Catching.{rose_since}
 use Rattle.dr_history.specs.Restarting.{AreSound, IsFirstDisagreement, IsFirstForeign}
 use Rattle.dr_history_laws.proofs.Lists.{slice_get-some}
 use Rattle.dr_io.specs.Faults.{Rose}
-use Rattle.dr_log.specs.Standing.{StandsFor, entries_length, log_length}
+use Rattle.dr_log.specs.Standing.{entries_length}
 use Rattle.dr_log.specs.State.{LogState}
+use Rattle.dr_log_bytes.specs.Content.{OnLog}
+use Rattle.dr_log_bytes.specs.Grammar.{StandFor}
 use Rattle.dr_program.proofs.Holdings.{replica_kept, replica_set}
 use Rattle.dr_restart.specs.declared.start.Start.{Start}
 use Rattle.dr_script.specs.declared.script.Script.{Script}
@@ -30,16 +31,16 @@ use Rattle.dr_ages.specs.Found.{AreFound}
 use Rattle.dr_ages.specs.Lent.{AreMounted, with_logs}
 use Rattle.dr_ages.specs.Opened.{AreCaughtUp, AreLater}
 use Rattle.dr_ages.specs.Passing.{AreKeptSince}
-use Rattle.dr_ages.specs.Stops.{HasStopped, IsBehindMounts, NamesFaults, WereCaughtUp, in_start, whole_length}
+use Rattle.dr_ages.specs.Stops.{HasStopped, IsBehindMounts, NamesFaults, WereCaughtUp, brought_up, in_start}
 use Rattle.dr_ages.proofs.Backs.{faults_at, kept_back, told_at}
-use Rattle.dr_ages.proofs.Caught.{entries_at}
-use Rattle.dr_ages.proofs.Loans.{are_found, votes_at, votes_on}
+use Rattle.dr_ages.proofs.Caught.{caught_content}
+use Rattle.dr_ages.proofs.Loans.{are_found, contents_at, contents_on}
 use Rattle.dr_ages.proofs.Staying.{alike_same}
 
 -- the logs make no start
 pub gather_stops : (S : Type 0) (script : Script) (before after : YardState) (lists : List (List Entry))
-    (votes : ℕ → List Vote) (fault : GatherFault) (stop : Stop)
-    → AreFound script.members before lists votes
+    (contents : ℕ → OnLog) (fault : GatherFault) (stop : Stop)
+    → AreFound script.members before lists contents
     → ((m p : ℕ) → ◌≡◌ {A = Result S GatherFault} (Err fault) (Err (gathers.Foreign m p))
     → IsFirstForeign (judged_by script) lists m p)
     → ((a b p : ℕ) → ◌≡◌ {A = Result S GatherFault} (Err fault) (Err (gathers.Disagree a b p))
@@ -49,18 +50,18 @@ pub gather_stops : (S : Type 0) (script : Script) (before after : YardState) (li
     → ((m p : ℕ) → fault ≡ gathers.Foreign m p → stop ≡ Foreign m p)
     → ((a b p : ℕ) → fault ≡ gathers.Disagree a b p → stop ≡ Disagree a b p)
     → (fault ≡ gathers.AgesUsedUp → stop ≡ AgesUsedUp) → HasStopped script before after stop
-gather_stops S script before after lists votes gathers.OutOfMemory stop found foreign differ up to_memory
+gather_stops S script before after lists contents gathers.OutOfMemory stop found foreign differ up to_memory
     to_foreign to_differ to_up =
     subst (HasStopped script before after) (sym (to_memory refl)) tt
-gather_stops S script before after lists votes (gathers.Foreign m p) stop found foreign differ up to_memory
+gather_stops S script before after lists contents (gathers.Foreign m p) stop found foreign differ up to_memory
     to_foreign to_differ to_up =
-    subst (HasStopped script before after) (sym (to_foreign m p refl)) (lists, votes, found, foreign m p refl)
-gather_stops S script before after lists votes (gathers.Disagree a b p) stop found foreign differ up to_memory
+    subst (HasStopped script before after) (sym (to_foreign m p refl)) (lists, contents, found, foreign m p refl)
+gather_stops S script before after lists contents (gathers.Disagree a b p) stop found foreign differ up to_memory
     to_foreign to_differ to_up =
-    subst (HasStopped script before after) (sym (to_differ a b p refl)) (lists, votes, found, differ a b p refl)
-gather_stops S script before after lists votes gathers.AgesUsedUp stop found foreign differ up to_memory
+    subst (HasStopped script before after) (sym (to_differ a b p refl)) (lists, contents, found, differ a b p refl)
+gather_stops S script before after lists contents gathers.AgesUsedUp stop found foreign differ up to_memory
     to_foreign to_differ to_up =
-    subst (HasStopped script before after) (sym (to_up refl)) (lists, votes, found, up refl)
+    subst (HasStopped script before after) (sym (to_up refl)) (lists, contents, found, up refl)
 
 -- a log that is brought up to a start, of those that were mounted
 pub record IsBroughtUp {D : Type 0} (tells : D → Option Told) (faults : D → ℕ) (script : Script)
@@ -78,34 +79,28 @@ pub record IsBroughtUp {D : Type 0} (tells : D → Option Told) (faults : D → 
 were_caught : {D : Type 0} (tells : D → Option Told) (faults : D → ℕ) (script : Script) (before : YardState)
     (start : Start) (olds news : List (LogState D)) (k : ℕ) (old new : LogState D)
     → IsBroughtUp tells faults script before start olds news k old
-    → WereCaughtUp script (with_logs tells faults before (slice_set news k new)) (entries_on olds) (votes_on olds)
+    → WereCaughtUp script (with_logs tells faults before (slice_set news k new)) (entries_on olds) (contents_on olds)
     start k
 were_caught {D} tells faults script before start olds news k old new b = record {
   room = λ m es l at.
       let was = slice_get-some olds m (omega (arith, l, b.below, b.all)) in
       let is = slice_get-some news m (omega (arith, l, b.within)) in
-      let same : was.0.entries ≡ es = same_Some was.0.entries es (sym (entries_at olds m was.0 was.1) ∙ at) in
       let up = b.so_far.done m was.0 is.0 l was.1 is.1 in
-      subst (λ (x : List Entry). whole_length script start x (votes_on olds m) ≤ 2147483648) same
-      (subst (λ (vs : List Vote). whole_length script start was.0.entries vs ≤ 2147483648)
-      (sym (votes_at olds m was.0 was.1))
-      (omega (arith, up.2, (b.mounted m was.0 was.1).long, (b.mounted m was.0 was.1).limit)));
+      subst (λ (c : OnLog). (brought_up script start c).length ≤ 2147483648)
+      (sym (contents_at olds m was.0 was.1)) (omega (arith, up.2, (b.mounted m was.0 was.1).limit));
   left = λ m l.
       let was = slice_get-some olds m (omega (arith, l, b.below, b.all)) in
       let is = slice_get-some news m (omega (arith, l, b.within)) in
       let up = b.so_far.done m was.0 is.0 l was.1 is.1 in
       let here : slice_get (slice_set news k new) m ≡ Some is.0 =
       replica_kept news k m new (λ e. omega (arith, l, e)) ∙ is.1 in
-      let votes : is.0.votes ≡ votes_on olds m = up.0.votes ∙ sym (votes_at olds m was.0 was.1) in
-      subst (λ (o : Option Told). IsLeft o (λ image. StandsFor image whole (votes_on olds m)))
+      subst (λ (o : Option Told). IsLeft o (λ image. StandFor image (brought_up script start (contents_on olds m))))
       (sym (told_at tells faults before (slice_set news k new) m is.0 here))
-      (subst (λ (vs : List Vote). IsLeft (tells is.0.disk) (λ image. StandsFor image whole vs)) votes
-      (subst (λ (es : List Entry). IsLeft (tells is.0.disk) (λ image. StandsFor image es is.0.votes)) up.0.entries
-      up.0.safe));
+      (subst (λ (c : OnLog). IsLeft (tells is.0.disk) (λ image. StandFor image (brought_up script start c)))
+      (sym (contents_at olds m was.0 was.1))
+      (subst (λ (c : OnLog). IsLeft (tells is.0.disk) (λ image. StandFor image c))
+      (caught_content tells faults (opened_with start start.members) was.0 is.0 up) up.0.safe));
 }
-  where
-    whole : List Entry
-    whole = opened_with start start.members
 
 -- all of them are kept since
 all_kept : {D : Type 0} (tells : D → Option Told) (faults : D → ℕ) (script : Script) (before : YardState)
@@ -127,7 +122,7 @@ pub catch_stops : {D : Type 0} (T : Type 0) (tells : D → Option Told) (faults 
     → AreLater tells faults olds (slice_set news k new) → HasStayed tells faults (opened_with start start.members) old new
     → (fault ≢ catches.DiskFault → IsLeftAlone tells faults old new)
     → (IsErrOf {T = T} (Err fault) catches.DiskFault → Rose (faults old.disk) (faults new.disk))
-    → FitsOrIsFull old.limit old.length (entries_length (lacked old (opened_with start start.members))) {T = T}
+    → FitsOrIsFull old.limit old.content.length (entries_length (lacked old (opened_with start start.members))) {T = T}
     (Err fault)
     → (fault ≡ catches.OutOfMemory → stop ≡ OutOfMemory) → (fault ≡ catches.DiskFault → stop ≡ DiskFault k)
     → ((len : ℕ) → fault ≡ catches.LogFull len → stop ≡ LogFull k len)
@@ -144,7 +139,7 @@ catch_stops {D} T tells faults script before start olds news k old new catches.D
           (sym (faults_at tells faults before logs k new (replica_set news k new b.within)))
           (rose_since (before.faults k) (faults old.disk) (faults new.disk) (b.mounted k old b.from).on.later
           (cause refl));
-      at = in_start (entries_on olds) (votes_on olds) start
+      at = in_start (entries_on olds) (contents_on olds) start
           (are_found tells faults before olds script.members b.mounted b.all) b.starts b.small
           (were_caught tells faults script before start olds news k old new b)
           (all_kept tells faults script before start olds news k old new b later);
@@ -153,27 +148,25 @@ catch_stops {D} T tells faults script before start olds news k old new (catches.
     cause limit to_memory to_disk to_full =
     let logs : List (LogState D) = slice_set news k new in
     let is = b.mounted k old b.from in
-    let votes : votes_on olds k ≡ old.votes = votes_at olds k old b.from in
-    let safe : IsLeft (tells new.disk) (λ image. StandsFor image old.entries old.votes) =
-    rw (← stayed.entries, ← stayed.votes) (alone (λ e. absurd (cc e))).safe in
+    let contents : contents_on olds k ≡ old.content = contents_at olds k old b.from in
+    let safe : IsLeft (tells new.disk) (λ image. StandFor image old.content) =
+    subst (λ (c : OnLog). IsLeft (tells new.disk) (λ image. StandFor image c)) stayed.content
+    (alone (λ e. absurd (cc e))).safe in
     subst (HasStopped script before (with_logs tells faults before logs)) (sym (to_full len refl)) (record {
       below = b.below;
       lists = entries_on olds;
-      votes = votes_on olds;
+      contents = contents_on olds;
       found = are_found tells faults before olds script.members b.mounted b.all;
       start = start;
       starts = b.starts;
       small = b.small;
-      entries = old.entries;
-      has = entries_at olds k old b.from;
-      long = limit.0 ∙ is.long ∙ ap (log_length old.entries) (sym votes);
-      over = subst (λ (vs : List Vote). 2147483648 < whole_length script start old.entries vs) (sym votes)
-          (omega (arith, limit.1, is.long, is.limit));
+      long = limit.0 ∙ ap (λ (c : OnLog). c.length) (sym contents);
+      over = subst (λ (c : OnLog). 2147483648 < (brought_up script start c).length) (sym contents)
+          (omega (arith, limit.1, is.limit));
       first = were_caught tells faults script before start olds news k old new b;
-      left = subst (λ (o : Option Told). IsLeft o (λ image. StandsFor image old.entries (votes_on olds k)))
+      left = subst (λ (o : Option Told). IsLeft o (λ image. StandFor image (contents_on olds k)))
           (sym (told_at tells faults before logs k new (replica_set news k new b.within)))
-          (subst (λ (vs : List Vote). IsLeft (tells new.disk) (λ image. StandsFor image old.entries vs)) (sym votes)
-          safe);
+          (subst (λ (c : OnLog). IsLeft (tells new.disk) (λ image. StandFor image c)) (sym contents) safe);
     })
 
 -- ---- whose calls failed

@@ -2,7 +2,7 @@
 use Rattle.std.proofs.Common.{◌≡◌, refl, sym, ap, ◌∙◌, subst, ℕ, ◌<◌, inl, inr, arith, List, [], ◌∷◌}
 use Rattle.std.specs.Prelude.{All, IfSome, IsTrue, Option, None, Some, is_some, option_map, slice_get}
 use Rattle.std.proofs.lemmas.Option.{same_Some, slice_get-map}
-use Rattle.std.proofs.lemmas.List.Elements.{All-cons, All-nil}
+use Rattle.std.proofs.lemmas.List.Elements.{All-append, All-cons, All-nil}
 use Rattle.std.proofs.lemmas.Nat.{mul-le}
 use Rattle.dr_disk.specs.Disk.{Told, content_of}
 use Rattle.dr_entry.specs.declared.end.AgeEnd.{AgeEnd}
@@ -10,11 +10,10 @@ use Rattle.dr_entry.specs.declared.end.MemberEnd.{MemberEnd}
 use Rattle.dr_entry.specs.declared.entry.Entry.{Entry}
 use Rattle.dr_entry.specs.declared.record.Record.{Record}
 use Rattle.dr_entry.specs.declared.record.Record.TheVariants as records
-use Rattle.dr_entry.specs.declared.record.Vote.{Vote}
-use Rattle.dr_entry.specs.Spelling.{IsValidVote}
+use Rattle.dr_entry.specs.Spelling.{IsValid, IsValidVote}
 use Rattle.dr_history_laws.proofs.Lists.{slice_get-some}
-use Rattle.dr_log.specs.Grammar.{AreSpelled, Recovered}
-use Rattle.dr_log.specs.Standing.{StandsFor, votes_in}
+use Rattle.dr_log_bytes.specs.Content.{OnLog, content_after, empty_of, with_record}
+use Rattle.dr_log_bytes.specs.Grammar.{AreSpelled, StandFor}
 use Rattle.dr_machine.specs.Group.{IsGroup}
 use Rattle.dr_logged.specs.Served.{AtMember}
 use Rattle.dr_program.specs.Program.{IsRanFrom, Program, age_of, end_of}
@@ -37,29 +36,35 @@ use Rattle.dr_ages.specs.Found.{AreFound, ReadsAs}
 
 -- ---- votes that are found are valid
 
-spelled_valid : (rs : List Record) → AreSpelled rs → All IsValidVote (votes_in rs)
-spelled_valid [] are = All-nil IsValidVote
-spelled_valid (records.Entry entry ∷ rs) are = spelled_valid rs are.1
-spelled_valid (records.Vote vote ∷ rs) are =
-    All-cons IsValidVote vote (votes_in rs) are.0.0 (spelled_valid rs are.1)
-
-stands_valid : (bytes : List ℕ) (es : List Entry) (vs : List Vote) → StandsFor bytes es vs → All IsValidVote vs
-stands_valid bytes es vs stands = subst (All IsValidVote) stands.votes (by stands.records stands.recovered)
+-- records that are valid bring valid votes
+made_valid : (rs : List Record) (c : OnLog) → AreSpelled rs → All IsValidVote c.votes
+    → All IsValidVote (content_after c rs).votes
+made_valid [] c are so_far = so_far
+made_valid (r ∷ rs) c are so_far = made_valid rs (with_record r c) are.1 (more r are.0.0)
   where
-    by : (rs : List Record) → Recovered bytes rs → All IsValidVote (votes_in rs)
-    by rs (inl few) = subst (λ (rs : List Record). All IsValidVote (votes_in rs)) (sym few.1) (All-nil IsValidVote)
-    by rs (inr more) = spelled_valid rs more.1.spelled
+    more : (r : Record) → IsValid r → All IsValidVote (with_record r c).votes
+    more (records.Entry entry) valid = so_far
+    more (records.Vote vote) valid =
+        All-append IsValidVote c.votes (vote ∷ []) so_far (All-cons IsValidVote vote [] valid (All-nil IsValidVote))
+    more (records.AgeVote vote) valid = so_far
+    more (records.Cut keep) valid = so_far
+    more records.Upgrade valid = so_far
 
-pub found_valid : (n : ℕ) (yard : YardState) (lists : List (List Entry)) (votes : ℕ → List Vote) (m : ℕ)
-    → AllTell n yard → AreFound n yard lists votes → m < n → All IsValidVote (votes m)
-found_valid n yard lists votes m tell found l =
+stands_valid : (bytes : List ℕ) (c : OnLog) → StandFor bytes c → All IsValidVote c.votes
+stands_valid bytes c (inl few) = subst (λ (d : OnLog). All IsValidVote d.votes) (sym few.1) (All-nil IsValidVote)
+stands_valid bytes c (inr more) = subst (λ (d : OnLog). All IsValidVote d.votes) more.1.content
+    (made_valid more.1.records (empty_of more.1.newer) more.1.log.spelled (All-nil IsValidVote))
+
+pub found_valid : (n : ℕ) (yard : YardState) (lists : List (List Entry)) (contents : ℕ → OnLog) (m : ℕ)
+    → AllTell n yard → AreFound n yard lists contents → m < n → All IsValidVote (contents m).votes
+found_valid n yard lists contents m tell found l =
     let es = slice_get-some lists m (omega (arith, l, found.all)) in
-    read (yard.told m) es.0 (tell m l) (found.each m es.0 es.1)
+    read (yard.told m) (tell m l) (found.each m es.0 es.1).reads
   where
-    read : (o : Option Told) (es : List Entry) → IsTrue (is_some o) → IfSome o (ReadsAs es (votes m))
-        → All IsValidVote (votes m)
-    read None es some reads = absurd (cc)
-    read (Some t) es some reads = stands_valid (content_of t) es (votes m) reads.stands
+    read : (o : Option Told) → IsTrue (is_some o) → IfSome o (ReadsAs (contents m))
+        → All IsValidVote (contents m).votes
+    read None some reads = absurd (cc)
+    read (Some t) some reads = stands_valid (content_of t) (contents m) reads.stands
 
 -- ---- the votes that an age brings
 

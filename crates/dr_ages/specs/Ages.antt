@@ -5,13 +5,13 @@ use Rattle.dr_entry.specs.declared.end.AgeEnd.{AgeEnd}
 use Rattle.dr_entry.specs.declared.end.End.TheVariants.{DiskFault, LogFull}
 use Rattle.dr_entry.specs.declared.end.MemberEnd.{MemberEnd}
 use Rattle.dr_entry.specs.declared.entry.Entry.{Entry}
-use Rattle.dr_entry.specs.declared.record.Vote.{Vote}
 use Rattle.dr_gather.specs.Gathering.{IsStartOf}
 use Rattle.dr_history.specs.declared.opening.Opening.{Opening}
 use Rattle.dr_history.specs.Agreement.{EndsAgreed}
 use Rattle.dr_history.specs.History.{IsPrefixOf}
 use Rattle.dr_history.specs.Order.{first_entries}
 use Rattle.dr_io.specs.Faults.{Rose}
+use Rattle.dr_log_bytes.specs.Content.{OnLog}
 use Rattle.dr_logged.specs.Served.{AtMember}
 use Rattle.dr_program.specs.Program.{Program}
 use Rattle.dr_program.specs.Replica.{Replica}
@@ -67,8 +67,8 @@ pub record IsMemberOf (members : ℕ) (r : Replica) : Type 0 where
 pub record IsAgeOf (script : Script) (mode : Mode) (nth : ℕ) (before after : YardState) (age : AgeEnd) : Type 0 where
   -- it starts with what is found on the disks
   pub lists : List (List Entry)
-  pub votes : ℕ → List Vote
-  pub found : AreFound script.members before lists votes
+  pub contents : ℕ → OnLog
+  pub found : AreFound script.members before lists contents
   pub starts : IsStartOf script lists (start_of script age)
   pub small : age.age < 2 ^ 16
   -- it is the run of the script's program from there on, and its members agree, and end as they should
@@ -85,18 +85,18 @@ pub record IsAgeOf (script : Script) (mode : Mode) (nth : ℕ) (before after : Y
   -- each log begins with what every history of the age does
   pub opened : (m : ℕ) (e : MemberEnd) → slice_get age.members m ≡ Some e
       → IsPrefixOf (first_entries (opening_of script age)) (take e.logged e.history)
-  -- whatever a crash leaves of each disk is what its member may leave, behind the votes that were found
+  -- whatever a crash leaves of each disk is what its member may leave, behind what was found
   pub left : (m : ℕ) → AtMember (over_of mode script (start_of script age) nth age run) m
-      (λ r. HasLeft (after.told m) r.replica (votes m))
+      (λ r. HasLeft (after.told m) r.replica (contents m))
   -- who ends by its disk has one that failed, no call of another disk did, and who ends by a full log has one
   pub failed : (m : ℕ) (e : MemberEnd) → slice_get age.members m ≡ Some e → e.end ≡ DiskFault
       → Rose (before.faults m) (after.faults m)
   pub calm : (m : ℕ) → ((e : MemberEnd) → slice_get age.members m ≡ Some e → e.end ≢ DiskFault)
       → after.faults m ≡ before.faults m
   pub full : (m : ℕ) → AtMember (over_of mode script (start_of script age) nth age run) m
-      (λ r. (len : ℕ) → r.replica.end ≡ Some (LogFull len) → IsFullAt r.replica (votes m) len)
-  -- logs with few votes have room for all that an age may bring
-  pub ample : ((m : ℕ) → m < script.members → AreFew (votes m)) → NoneFull age.members
+      (λ r. (len : ℕ) → r.replica.end ≡ Some (LogFull len) → IsFullAt r.replica (contents m) len)
+  -- logs on which there is little but entries have room for all that an age may bring
+  pub ample : ((m : ℕ) → m < script.members → AreFew (contents m)) → NoneFull age.members
   -- no disk has lost anything, nor would a crash have lost what was on one as the age mounted it
   pub passes : PassOn before after
   pub since : AreKeptSince script.members script.members before after

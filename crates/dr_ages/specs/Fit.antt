@@ -3,22 +3,23 @@ use Rattle.std.specs.Prelude.{◌≡◌, ℕ, ◌<◌, List, length, slice_get, 
 use Rattle.dr_disk.specs.Disk.{Told, state_of}
 use Rattle.dr_disk.specs.Images.{AllImages, IsImage}
 use Rattle.dr_entry.specs.declared.entry.Entry.{Entry}
-use Rattle.dr_entry.specs.declared.record.Vote.{Vote}
 use Rattle.dr_gather.specs.Gathering.{AreAccepted}
-use Rattle.dr_log.specs.Standing.{StandsFor}
+use Rattle.dr_log_bytes.specs.Content.{OnLog}
+use Rattle.dr_log_bytes.specs.Grammar.{StandFor}
 use Rattle.dr_script.specs.declared.script.Script.{Script}
 use Rattle.dr_yard.specs.Yards.{YardState}
 
--- bytes stand for some entries and votes
+-- bytes stand for something
 abbrev pub IsReadable : List ℕ → Type 0
-IsReadable bytes = (es : List Entry) × (vs : List Vote) × StandsFor bytes es vs
+IsReadable bytes = (c : OnLog) × StandFor bytes c
 
 -- a crash may leave of a disk that tells this a log of these entries
 pub record MayLeave (es : List Entry) (t : Told) : Type 0 where
   pub image : List ℕ
   pub is : IsImage (state_of t) image
-  pub votes : List Vote
-  pub stands : StandsFor image es votes
+  pub content : OnLog
+  pub stands : StandFor image content
+  pub entries : content.entries ≡ es
 
 -- crashes may leave of the disks of the first n members logs of these entries, by number: one image was
 -- chosen of each disk, whichever

@@ -6,12 +6,12 @@ use Rattle.dr_disk.specs.Disk.{Told, added}
 use Rattle.dr_disk.specs.Images.{Goes}
 use Rattle.dr_entry.specs.declared.entry.Entry.{Entry}
 use Rattle.dr_entry.specs.declared.limits.TheConstants.{MAX_MEMBERS}
-use Rattle.dr_entry.specs.declared.record.Vote.{Vote}
 use Rattle.dr_io.specs.Faults.{Rose}
 use Rattle.dr_log.specs.Appending as mounts
 use Rattle.dr_log.specs.Standing.{KeepsRecords}
-use Rattle.dr_log.specs.Standing.{log_length}
+use Rattle.dr_log.specs.Standing.{least_length}
 use Rattle.dr_log.specs.State.{LogState}
+use Rattle.dr_log_bytes.specs.Content.{OnLog}
 use Rattle.dr_logged.specs.Served.{IsSafe}
 use Rattle.dr_yard.specs.Yards.{YardState}
 use Rattle.dr_ages.specs.declared.stop.Stop.{Stop}
@@ -38,9 +38,9 @@ pub record IsAlike (told : Option Told) (count : ℕ) (now : Option Told) (fault
 -- is what was read, and safe
 pub record IsMounted {D : Type 0} (tells : D → Option Told) (faults : D → ℕ) (told : Option Told) (count : ℕ)
     (log : LogState D) : Type 0 where
-  pub found : IfSome told (ReadsAs log.entries log.votes)
+  pub found : IfSome told (ReadsAs log.content)
   pub safe : IsSafe tells log
-  pub long : log.length ≡ log_length log.entries log.votes
+  pub least : least_length log.content ≤ log.content.length
   pub limit : log.limit ≡ 2147483648
   pub whole : log.failed ≡ false
   pub on : IsAlike told count (tells log.disk) (faults log.disk)
@@ -74,8 +74,8 @@ pub record IsKeptBack (n : ℕ) (before after : YardState) (member : ℕ) : Type
   pub below : member < n
   pub rose : Rose (before.faults member) (after.faults member)
   pub lists : List (List Entry)
-  pub votes : ℕ → List Vote
-  pub found : AreFound member before lists votes
+  pub contents : ℕ → OnLog
+  pub found : AreFound member before lists contents
   pub above : (m : ℕ) → member < m → (after.told m ≡ before.told m) × (after.faults m ≡ before.faults m)
 
 -- why the logs of the first n members were not all mounted, but those of the first k

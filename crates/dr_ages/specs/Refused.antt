@@ -2,11 +2,10 @@
 use Rattle.std.specs.Prelude.{◌≡◌, ℕ, ◌<◌, List, length, slice_get, IsSomeAnd, Some}
 use Rattle.dr_disk.specs.Disk.{content_of}
 use Rattle.dr_entry.specs.declared.entry.Entry.{Entry}
-use Rattle.dr_entry.specs.declared.record.Vote.{Vote}
 use Rattle.dr_gather.specs.Gathering.{AreUsedUp, judged_by}
 use Rattle.dr_history.specs.Restarting.{AreSound, IsFirstDisagreement, IsFirstForeign}
-use Rattle.dr_log.specs.Grammar.{IsDamaged}
-use Rattle.dr_log.specs.Standing.{StandsFor}
+use Rattle.dr_log_bytes.specs.Content.{OnLog}
+use Rattle.dr_log_bytes.specs.Grammar.{IsDamaged, StandFor}
 use Rattle.dr_script.specs.declared.script.Script.{Script}
 use Rattle.dr_yard.specs.Yards.{YardState}
 use Rattle.dr_ages.specs.declared.stop.Stop.{Stop}
@@ -16,7 +15,7 @@ use Rattle.dr_ages.specs.declared.stop.Stop.TheVariants.{OutOfMemory, DiskFault,
 pub record AreRead (n : ℕ) (yard : YardState) (lists : List (List Entry)) : Type 0 where
   pub all : length lists ≡ n
   pub each : (m : ℕ) (es : List Entry) → slice_get lists m ≡ Some es
-      → IsSomeAnd (yard.told m) (λ t. (vs : List Vote) × StandsFor (content_of t) es vs)
+      → IsSomeAnd (yard.told m) (λ t. (c : OnLog) × StandFor (content_of t) c × (c.entries ≡ es))
 
 -- the disk reads as damaged at this place, and those below it as logs
 pub record IsFirstDamaged (n : ℕ) (yard : YardState) (member at : ℕ) : Type 0 where

@@ -1,12 +1,14 @@
 -- What a run of ages is.
-use Rattle.std.specs.Prelude.{◌≡◌, ◌≢◌, ◌⊎◌, ℕ, ◌+◌, ◌<◌, All, List, [], ◌∷◌, ◌++◌, length, slice_get, take, Option, None, Some, IfSome, IsSomeAnd}
+use Rattle.std.specs.Prelude.{◌≡◌, ◌≢◌, ◌⊎◌, ℕ, ◌+◌, ◌<◌, All, true, List, [], ◌∷◌, ◌++◌, length, slice_get, take, Option, None, Some, IfSome, IsSomeAnd}
 use Rattle.dr_disk.specs.Images.{IsLeft}
 use Rattle.dr_entry.specs.declared.end.AgeEnd.{AgeEnd}
 use Rattle.dr_entry.specs.declared.end.MemberEnd.{MemberEnd}
+use Rattle.dr_entry.specs.declared.entry.Entry.{Entry}
 use Rattle.dr_history.specs.Agreement.{accounts_of}
 use Rattle.dr_history.specs.History.{IsPrefixOf}
 use Rattle.dr_history.specs.Restarting.{Kept}
-use Rattle.dr_log.specs.Standing.{LosesNone}
+use Rattle.dr_log.specs.Standing.{LosesNone, with_entries}
+use Rattle.dr_log_bytes.specs.Content.{OnLog, empty_of}
 use Rattle.dr_script.specs.declared.script.Script.{Script}
 use Rattle.dr_age.specs.Logged.{NoneFull}
 use Rattle.dr_yard.specs.Yards.{AllTell, AreEmpty, YardState}
@@ -74,11 +76,15 @@ pub record IsKeptRun (script : Script) (before after : YardState) (ages : List A
   pub all : ages ≢ [] → mounted ≡ script.members
   pub count : ages ≡ [] → IfSome stop (HasMounted script.members mounted)
 
+-- a log of these entries
+abbrev pub with_these : List Entry → OnLog
+with_these es = with_entries es (empty_of true)
+
 -- whatever a crash leaves of a disk behind the last of these ages begins with what its member has logged
 abbrev pub HaveLogged : List AgeEnd → YardState → Type 0
 HaveLogged ages after = (earlier : List AgeEnd) (age : AgeEnd) (m : ℕ) (e : MemberEnd)
     → ages ≡ earlier ++ age ∷ [] → slice_get age.members m ≡ Some e
-    → IsLeft (after.told m) (LosesNone (take e.logged e.history) [])
+    → IsLeft (after.told m) (LosesNone (with_these (take e.logged e.history)))
 
 -- so many ages ran as the script asks for, or fewer, and this is why the next one was not opened, by which no
 -- disk has lost anything, and only the one that is named has failed

@@ -4,13 +4,13 @@ use Rattle.dr_disk.specs.Calls.{Sync}
 use Rattle.dr_disk.specs.Disk.{Told, added, content_of}
 use Rattle.dr_disk.specs.Images.{IsLeft, ReadsAnImage}
 use Rattle.dr_entry.specs.declared.entry.Entry.{Entry}
-use Rattle.dr_entry.specs.declared.record.Vote.{Vote}
 use Rattle.dr_gather.specs.Gathering.{AreUsedUp, IsStartOf, judged_by}
 use Rattle.dr_history.specs.Order.{first_entries}
 use Rattle.dr_history.specs.Restarting.{AreSound, IsFirstDisagreement, IsFirstForeign}
 use Rattle.dr_io.specs.Faults.{Rose}
-use Rattle.dr_log.specs.Grammar.{IsDamaged}
-use Rattle.dr_log.specs.Standing.{StandsFor, entries_length, log_length}
+use Rattle.dr_log.specs.Standing.{entries_length}
+use Rattle.dr_log_bytes.specs.Content.{OnLog}
+use Rattle.dr_log_bytes.specs.Grammar.{IsDamaged, StandFor}
 use Rattle.dr_restart.specs.declared.start.Start.{Start}
 use Rattle.dr_restart.specs.Groups.{group_of}
 use Rattle.dr_script.specs.declared.script.Script.{Script}
@@ -20,31 +20,34 @@ use Rattle.dr_ages.specs.declared.stop.Stop.TheVariants.{OutOfMemory, DiskFault,
 use Rattle.dr_ages.specs.Found.{AreFound}
 use Rattle.dr_ages.specs.Passing.{AreKeptSince}
 
--- how long a log of these entries and votes is with all that it lacks of what an age begins with
-abbrev pub whole_length : Script → Start → List Entry → List Vote → ℕ
-whole_length script start es vs =
-    log_length es vs + entries_length (drop (length es) (first_entries (group_of script start).opening))
+-- what is on a log once it has all of what an age begins with, whose first entries are its own
+abbrev pub brought_up : Script → Start → OnLog → OnLog
+brought_up script start c = record c {
+  entries = first_entries (group_of script start).opening;
+  length = c.length
+      + entries_length (drop (length c.entries) (first_entries (group_of script start).opening));
+}
 
 -- The logs of the first members were brought up to a start: each had room for what it lacked of the entries
--- that the age begins with, and whatever a crash leaves of its disk has all of these, behind it the votes
--- that were found.
+-- that the age begins with, and whatever a crash leaves of its disk has all of these, with all else that was
+-- found.
 pub record WereCaughtUp (script : Script) (after : YardState) (lists : List (List Entry))
-    (votes : ℕ → List Vote) (start : Start) (count : ℕ) : Type 0 where
+    (contents : ℕ → OnLog) (start : Start) (count : ℕ) : Type 0 where
   pub room : (m : ℕ) (es : List Entry) → m < count → slice_get lists m ≡ Some es
-      → whole_length script start es (votes m) ≤ 2147483648
+      → (brought_up script start (contents m)).length ≤ 2147483648
   pub left : (m : ℕ) → m < count → IsLeft (after.told m)
-      (λ image. StandsFor image (first_entries (group_of script start).opening) (votes m))
+      (λ image. StandFor image (brought_up script start (contents m)))
 
 -- when the disk of a member failed: as it was to be mounted, when the logs of those below it had been, and
 -- the disks of those above it were as before; or as its log was to be brought up to a start, when those of
 -- all below it had been. The disks that were mounted by then are kept since: those below it, or all.
 pub data FailedAt (script : Script) (before after : YardState) (member : ℕ) : Type 0 where
-  in_mount : (lists : List (List Entry)) (votes : ℕ → List Vote) → AreFound member before lists votes
+  in_mount : (lists : List (List Entry)) (contents : ℕ → OnLog) → AreFound member before lists contents
       → ((m : ℕ) → member < m → after.told m ≡ before.told m)
       → AreKeptSince script.members member before after → FailedAt script before after member
-  in_start : (lists : List (List Entry)) (votes : ℕ → List Vote) (start : Start)
-      → AreFound script.members before lists votes → IsStartOf script lists start → start.age < 2 ^ 16
-      → WereCaughtUp script after lists votes start member
+  in_start : (lists : List (List Entry)) (contents : ℕ → OnLog) (start : Start)
+      → AreFound script.members before lists contents → IsStartOf script lists start → start.age < 2 ^ 16
+      → WereCaughtUp script after lists contents start member
       → AreKeptSince script.members script.members before after → FailedAt script before after member
 
 -- the disk of a member failed
@@ -59,17 +62,15 @@ pub record HasFailed (script : Script) (before after : YardState) (member : ℕ)
 pub record IsTooFull (script : Script) (before after : YardState) (member len : ℕ) : Type 0 where
   pub below : member < script.members
   pub lists : List (List Entry)
-  pub votes : ℕ → List Vote
-  pub found : AreFound script.members before lists votes
+  pub contents : ℕ → OnLog
+  pub found : AreFound script.members before lists contents
   pub start : Start
   pub starts : IsStartOf script lists start
   pub small : start.age < 2 ^ 16
-  pub entries : List Entry
-  pub has : slice_get lists member ≡ Some entries
-  pub long : len ≡ log_length entries (votes member)
-  pub over : 2147483648 < whole_length script start entries (votes member)
-  pub first : WereCaughtUp script after lists votes start member
-  pub left : IsLeft (after.told member) (λ image. StandsFor image entries (votes member))
+  pub long : len ≡ (contents member).length
+  pub over : 2147483648 < (brought_up script start (contents member)).length
+  pub first : WereCaughtUp script after lists contents start member
+  pub left : IsLeft (after.told member) (λ image. StandFor image (contents member))
 
 -- what a read gives of a disk that tells this is what a crash may leave of it, and damaged at this place
 pub record ReadsDamaged (at : ℕ) (t : Told) : Type 0 where
@@ -83,13 +84,13 @@ pub record HasDamaged (n : ℕ) (before after : YardState) (member at : ℕ) : T
   -- its bytes were synced, and are as they were
   pub kept : after.told member ≡ added Sync (before.told member)
   pub lists : List (List Entry)
-  pub votes : ℕ → List Vote
-  pub found : AreFound member before lists votes
+  pub contents : ℕ → OnLog
+  pub found : AreFound member before lists contents
 
 -- the logs that are found have P
 abbrev pub AreFoundSo : Script → YardState → (List (List Entry) → Type 0) → Type 0
 AreFoundSo script before P =
-    (lists : List (List Entry)) × (votes : ℕ → List Vote) × AreFound script.members before lists votes × P lists
+    (lists : List (List Entry)) × (contents : ℕ → OnLog) × AreFound script.members before lists contents × P lists
 
 -- why the next age was not opened, over disks that were so before and are so now
 abbrev pub HasStopped : Script → YardState → YardState → Stop → Type 0

@@ -5,7 +5,7 @@ ghost use Rattle.dr_complete.specs.Time.{HasTime};
 ghost use Rattle.dr_entry.specs.declared.limits.TheConstants.{MAX_MEMBERS};
 ghost use Rattle.dr_history.specs.Agreement.{EndsAgreed};
 ghost use Rattle.dr_log.specs.State.{LogState};
-ghost use Rattle.dr_machine.specs.Group.{IsGroup};
+ghost use Rattle.dr_machine.specs.Group.{AllPresent, IsGroup};
 ghost use Rattle.dr_program_laws.specs.Ended.{AreComplete, HaveEnded};
 ghost use Rattle.dr_program_laws.specs.Trusting.{NoneLeft, SuspectsNobody};
 ghost use Rattle.dr_restart.specs.Groups.{group_of};
@@ -216,6 +216,7 @@ fn play_age<R: Threads + Sync, D: Disk, P: Pace + Sync, W: Watcher>(
 ) -> (Result<AgeEnd, AllocError>, Vec<Log<D>>)
     requires ranges { HasRanges script.now }
     requires group { IsGroup (group_of script.now start.now) }
+    requires present { AllPresent (group_of script.now start.now) }
     requires logs { AreOpened (group_of script.now start.now) logs.items }
     ensures run { IfOk result.0 (λ age. (is : IsPlayed mode script.now start.now nth age)
         × HaveCome D.told D.faults logs.items result.1.items

@@ -3,7 +3,7 @@ ghost use Rattle.std.specs.Prelude.{◌≡◌, ◌<◌, ◌^◌, All, IfErr, IfO
 ghost use Rattle.dr_gather.specs.CatchingUp.{opened_with};
 ghost use Rattle.dr_gather.specs.Gathering.{IsStartOf, entries_on};
 ghost use Rattle.dr_log.specs.State.{LogState};
-ghost use Rattle.dr_machine.specs.Group.{IsGroup};
+ghost use Rattle.dr_machine.specs.Group.{AllPresent, IsGroup};
 ghost use Rattle.dr_restart.specs.Groups.{group_of};
 ghost use Rattle.dr_script.specs.Ranges.{HasGroupRanges};
 ghost use Rattle.dr_yard.specs.Yards.{YardState};
@@ -33,6 +33,7 @@ pub(crate) fn open_age<D: Disk>(
     ensures start { IfOk result (IsStartOf script.now (entries_on logs.old)) }
     ensures small { IfOk result (λ start. start.age < 2 ^ 16) }
     ensures group { IfOk result (λ start. IsGroup (group_of script.now start)) }
+    ensures present { IfOk result (λ start. AllPresent (group_of script.now start)) }
     ensures caught { IfOk result (λ start. AreCaughtUp D.told D.faults
         (opened_with start start.members) logs.old logs.new (length logs.old)) }
     ensures stopped { IfErr result (λ stop. (before : YardState)

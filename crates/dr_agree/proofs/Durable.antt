@@ -1,18 +1,16 @@
 -- What a world has delivered durably.
-use Rattle.std.proofs.Common.{ℕ, ◌<◌, ◌≤◌, arith, length}
+use Rattle.std.proofs.Common.{ℕ, ◌≤◌, arith, length}
 use Rattle.dr_history_laws.proofs.Keeping.{durable_logged, prefix_shorter}
-use Rattle.dr_machine.proofs.Presence.{is_present}
-use Rattle.dr_machine.specs.Group.{Group, IsGroup, roster}
+use Rattle.dr_machine.specs.Group.{Group, IsGroup, IsPresent}
 use Rattle.dr_machine.specs.Run.{IsReached, accounts_in}
 use Rattle.dr_machine.specs.World.{World}
 use Rattle.dr_world_laws.proofs.Worlds.{agreed, known}
 
 -- a member has delivered all that it knows to be durable
-pub durable_delivered : (g : Group) (w : World) (m : ℕ) → IsGroup g → IsReached g w → m < roster g
+pub durable_delivered : (g : Group) (w : World) (m : ℕ) → IsGroup g → IsReached g w → IsPresent g m
     → w.past.durable m ≤ length (w.past.history m)
-durable_delivered g w m is reached l =
+durable_delivered g w m is reached there =
     let agrees = agreed g w is (known g w is reached) in
-    let there = is_present g m is l in
     omega (
       arith,
       durable_logged (accounts_in w) m (agrees.durable m there),

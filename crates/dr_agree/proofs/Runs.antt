@@ -1,13 +1,12 @@
 -- Runs of the executable world.
-use Rattle.std.proofs.Common.{◌≡◌, subst, ℕ, ◌<◌, ◌⊎◌, List}
+use Rattle.std.proofs.Common.{◌≡◌, subst, ℕ, ◌⊎◌, List}
 use Rattle.dr_entry.specs.declared.entry.Entry.{Entry}
 use Rattle.dr_history.specs.History.{IsPrefixOf}
 use Rattle.dr_script.specs.declared.script.Script.{Script}
 use Rattle.dr_restart.specs.declared.start.Start.{Start}
 use Rattle.dr_restart.specs.Groups.{group_of}
 use Rattle.dr_machine.specs.declared.event.Event.{Event}
-use Rattle.dr_machine.proofs.Presence.{is_present}
-use Rattle.dr_machine.specs.Group.{Group, IsGroup, roster}
+use Rattle.dr_machine.specs.Group.{Group, IsPresent}
 use Rattle.dr_machine.specs.World.{World, opening_world}
 use Rattle.dr_machine.specs.Run.{Run, WorldAgreed}
 use Rattle.dr_world.specs.Held.{Held, its_group, its_world}
@@ -23,9 +22,9 @@ from_opening script start h k events same likewise opening run =
     (subst (λ g. Run g (its_world h) events (its_world k)) (λ z. group_of (same z) (likewise z)) run)
 
 -- of two histories that agree one is a prefix of the other
-pub either_prefix : (g : Group) (w : World) (i j : ℕ) (one other : List Entry) → IsGroup g
-    → WorldAgreed g w → i < roster g → j < roster g
+pub either_prefix : (g : Group) (w : World) (i j : ℕ) (one other : List Entry)
+    → WorldAgreed g w → IsPresent g i → IsPresent g j
     → one ≡ w.past.history i → other ≡ w.past.history j → IsPrefixOf one other
     ⊎ IsPrefixOf other one
-either_prefix g w i j one other group agrees here there is likewise =
-    rw (is, likewise) (agrees.prefix i j (is_present g i group here) (is_present g j group there))
+either_prefix g w i j one other agrees here there is likewise =
+    rw (is, likewise) (agrees.prefix i j here there)

@@ -1,40 +1,33 @@
 //! Ages that keep what earlier ones have delivered durably.
 ghost use Rattle.std.specs.Prelude.{◌≡◌, ◌↔◌, ◌<◌, IsTrue, take, ℕ};
 ghost use Rattle.dr_history.specs.History.{IsPrefixOf};
-ghost use Rattle.dr_history.specs.Restarting.{IsLongest, Kept};
+ghost use Rattle.dr_history.specs.Restarting.{AreLeftBy, IsLongest, Kept};
 ghost use Rattle.dr_machine.specs.Group.{IsGroup, IsPresent, roster};
 ghost use Rattle.dr_machine.specs.Run.{ComesOfEvents, IsReached, Run, accounts_in};
 ghost use Rattle.dr_machine.specs.World.{World as WorldOf, opening_world};
 ghost use Rattle.dr_restart.specs.declared.start.Start.{Start as StartOf};
 ghost use Rattle.dr_restart.specs.Groups.{group_of};
+ghost use Rattle.dr_restart.specs.Left.{entries_on_logs};
 ghost use Rattle.dr_world.specs.Held.{its_group, its_world};
-ghost use Rattle.dr_agree.specs.Left.{AreLeftIn, entries_of};
 
-use dr_entry::{Entry, Seq, Vote};
+use dr_entry::Entry;
 use dr_oracle::is_prefix;
-use dr_restart::Start;
+use dr_restart::{LogLists, Start};
 use dr_script::Script;
 use dr_world::{Event, World};
 
-/// What stands on the log of a member: its entries and its votes, each kind in order.
-#[derive(Debug, PartialEq, Eq, Drop)]
-pub struct LogLists {
-    pub entries: Seq<Entry>,
-    pub votes: Seq<Vote>,
-}
-
-/// A law: after any list of events, and whatever stops leave of the logs of the members, by number, an age
-/// with a greater number that starts with the longest of these lists of entries keeps what the group has
-/// delivered durably.
+/// A law: after any list of events, and whatever entries stops leave on the logs of the members, by number, an
+/// age with a greater number that starts with the longest of these lists keeps what the group has delivered
+/// durably. Any votes may stand beside the entries.
 pub fn kept_after(script: &Script, start: &Start, events: &[Event], choice: &[LogLists], age: u16)
     requires group { IsGroup (group_of script.now start.now) }
     requires choice { (w : WorldOf) → Run (group_of script.now start.now)
         (opening_world (group_of script.now start.now)) events.now w
-        → AreLeftIn (group_of script.now start.now) w choice.now }
+        → AreLeftBy (group_of script.now start.now).opening (accounts_in w) (entries_on_logs choice.now) }
     requires later { start.now.age < age }
     ensures { (w : WorldOf) (next : StartOf) → Run (group_of script.now start.now)
         (opening_world (group_of script.now start.now)) events.now w
-        → next.age ≡ age → IsLongest (entries_of choice.now) next.entries
+        → next.age ≡ age → IsLongest (entries_on_logs choice.now) next.entries
         → Kept (group_of script.now start.now).opening (accounts_in w) (group_of script.now next).opening }
 {}
 
@@ -44,8 +37,8 @@ pub fn kept_wherever_reached(script: &Script, start: &Start, choice: &[LogLists]
     requires group { IsGroup (group_of script.now start.now) }
     requires later { start.now.age < age }
     ensures { (w : WorldOf) (next : StartOf) → IsReached (group_of script.now start.now) w
-        → AreLeftIn (group_of script.now start.now) w choice.now
-        → next.age ≡ age → IsLongest (entries_of choice.now) next.entries
+        → AreLeftBy (group_of script.now start.now).opening (accounts_in w) (entries_on_logs choice.now)
+        → next.age ≡ age → IsLongest (entries_on_logs choice.now) next.entries
         → Kept (group_of script.now start.now).opening (accounts_in w) (group_of script.now next).opening }
 {}
 
@@ -96,6 +89,7 @@ fn durable_entries(world: &World, m: u8) -> &[Entry]
     requires group { IsGroup (its_group world.now) }
     requires events { ComesOfEvents (its_group world.now) (its_world world.now) }
     requires member { m < roster (its_group world.now) }
+    requires present { IsPresent (its_group world.now) m }
     ensures { result.now
         ≡ take ((its_world world.now).past.durable m) ((its_world world.now).past.history m) }
 {

@@ -8,5 +8,5 @@
 mod keeping;
 mod run;
 
-pub use keeping::{LogLists, kept, kept_after, kept_wherever_reached};
+pub use keeping::{kept, kept_after, kept_wherever_reached};
 pub use run::{agree, agreed_run};

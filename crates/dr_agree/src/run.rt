@@ -1,7 +1,7 @@
 //! Runs of the executable world, and what is certain of them.
 ghost use Rattle.std.specs.Prelude.{◌≡◌, ◌↔◌, ◌⊎◌, IfOk, IsTrue};
 ghost use Rattle.dr_history.specs.History.{IsPrefixOf};
-ghost use Rattle.dr_machine.specs.Group.{IsGroup};
+ghost use Rattle.dr_machine.specs.Group.{AllPresent, IsGroup};
 ghost use Rattle.dr_machine.specs.Run.{NoLaterItem, Run, WorldAgreed};
 ghost use Rattle.dr_machine.specs.World.{opening_world};
 ghost use Rattle.dr_script.specs.Ranges.{HasGroupRanges};
@@ -32,6 +32,7 @@ pub fn agreed_run(
 ) -> Result<World, AllocError>
     requires ranges { HasGroupRanges script.now }
     requires group { IsGroup (group_of script.now start.now) }
+    requires present { AllPresent (group_of script.now start.now) }
     ensures run { IfOk result (λ w. Run (group_of script.now start.now)
         (opening_world (group_of script.now start.now)) events.now (its_world w)) }
     ensures agreed { IfOk result (λ w. WorldAgreed (group_of script.now start.now) (its_world w)) }

@@ -1,6 +1,7 @@
 ghost use Rattle.std.specs.Prelude.{◌≡◌, ◌≤◌, false, IfOk};
 ghost use Rattle.dr_entry.specs.Spelling.{IsValid};
-ghost use Rattle.dr_log.specs.State.{as_entry, as_vote};
+ghost use Rattle.dr_log.specs.State.{as_entry, as_other, as_vote};
+ghost use Rattle.dr_log_bytes.specs.Content.{IsPlaced, OnLog};
 
 use crate::bytes::Bytes;
 use crate::group::{Tally, mixed};
@@ -80,6 +81,8 @@ fn append_all<D: Disk>(log: &mut Log<D>, r: &Record, count: u32)
     requires valid { IsValid r.now }
     requires entry { as_entry r.now ≡ 1 }
     requires vote { as_vote r.now ≡ 0 }
+    requires other { as_other r.now ≡ 0 }
+    requires placed { (c : OnLog) → IsPlaced c r.now }
 {
     for done in 0..count {
         if log.append(r).is_err() {
@@ -94,6 +97,8 @@ fn message() -> Record
     ensures valid { IsValid result }
     ensures entry { as_entry result ≡ 1 }
     ensures vote { as_vote result ≡ 0 }
+    ensures other { as_other result ≡ 0 }
+    ensures placed { (c : OnLog) → IsPlaced c result }
 {
     let bytes: &[u8; MAX_MESSAGE_LENGTH] =
         b"abcdefghijklmnopqrstuvwxyzabcdefghijklmnopqrstuvwxyzabcdefghijkl";

@@ -14,9 +14,10 @@ use Rattle.dr_history.specs.Agreement.{accounts_of, sent_by}
 use Rattle.dr_history.specs.History.{GroupView, messages_of, view_of}
 use Rattle.dr_history.specs.Restarting.{AllStand, next_age}
 use Rattle.dr_history_laws.proofs.Lengths.{stood-short}
-use Rattle.dr_history_laws.proofs.Stood.{age_below, small_view, some_of, view_below}
+use Rattle.dr_history_laws.proofs.Stood.{age_below, small_number, some_of, view_below}
 use Rattle.dr_script.specs.declared.script.Script.{Script}
 use Rattle.dr_script.specs.Ranges.{HasGroupRanges}
+use Rattle.dr_words.proofs.Masks.{in_roster_small}
 use Rattle.dr_check.specs.Lines.{EndFits, EntryFits, IsLong}
 use Rattle.dr_check.specs.Values.{HasSmallNumbers, IsAgreed, IsTellable, IsTellableAge, whole_opening}
 use Rattle.dr_check.proofs.Agreed.{durable_within, order, stand}
@@ -47,10 +48,13 @@ module _ (script : Script) (o : Opening) (es : List Entry) (ranges : HasGroupRan
       each : (i : ℕ) (e : Entry) → slice_get es i ≡ Some e → EntryFits e
       each i (View a k m) at =
           let last = age_below o es stand i a k m at in
-          let view = small_view o es one few stand i a k m at in (
+          let stands = stand i (View a k m) at in (
             omega (arith, last.2, small last.0 last.1),
-            omega (arith, view.few),
-            (view.mask, view.some),
+            small_number o (take i es) a k m stands,
+            (
+              in_roster_small 16 m (λ j there. omega (arith, stands.0.within j there, few)),
+              λ none. omega (arith, stands.0.some, none),
+            ),
           )
       each i (Msg s k b) at =
           let stands = stand i (Msg s k b) at in
@@ -80,7 +84,7 @@ module _ (script : Script) (o : Opening) (es : List Entry) (ranges : HasGroupRan
           (few_at script.messages s 4096 ranges.few)
 
       by : (z : Option GroupView) → ((v : GroupView) → z ≡ Some v → v.age < 2 ^ 16)
-          → length es ≤ 16 * next_age z + 16 * 4096 → IsLong (length es)
+          → length es ≤ 256 * next_age z + 16 * 4096 → IsLong (length es)
       by None below short = omega (arith, short)
       by (Some v) below short = omega (arith, short, below v refl)
 

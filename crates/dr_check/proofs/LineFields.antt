@@ -4,7 +4,7 @@ use Rattle.std.specs.Bool.{then_some}
 use Rattle.std.specs.Prelude.{Option, None, Some, IfSome}
 use Rattle.std.specs.Fmt.{decimal}
 use Rattle.dr_entry.specs.declared.end.End.{End}
-use Rattle.dr_entry.specs.declared.end.End.TheVariants.{Done, Crashed, Suspected, Excluded, NoMajority, DiskFault, LogFull, Spent}
+use Rattle.dr_entry.specs.declared.end.End.TheVariants.{Done, Crashed, Suspected, Excluded, NoMajority, DiskFault, LogFull, Spent, Absent as AbsentEnd}
 use Rattle.dr_entry.specs.declared.entry.Entry.TheVariants.{View, Msg}
 use Rattle.dr_text.specs.Report.{end_text, entry_text, last_text, mask_text, message_text}
 use Rattle.dr_check.specs.declared.ends.EndKind.{EndKind}
@@ -91,6 +91,7 @@ end_are (LogFull len) rest fits =
 end_are (Spent turns) rest fits =
     ap (λ fs. codes "spent" ∷ fs) (next_field (decimal turns) rest
     (plain_decimal turns (omega (arith, fits))))
+end_are AbsentEnd rest fits = absurd fits
 
 pub present_fields : (member : ℕ) (e : End) (h l d : ℕ) → member < 16 → EndFits e → h < 2 ^ 64 → l < 2 ^ 64
     → d < 2 ^ 64
@@ -113,6 +114,7 @@ rebuilt kinds.NoMajority n = NoMajority n
 rebuilt kinds.DiskFault n = DiskFault
 rebuilt kinds.LogFull n = LogFull n
 rebuilt kinds.Spent n = Spent n
+rebuilt kinds.Absent n = AbsentEnd
 
 rebuilt_end : (e : End) → rebuilt (kind_of_end e) (number_of e) ≡ e
 rebuilt_end Done = refl
@@ -123,6 +125,7 @@ rebuilt_end (NoMajority x) = refl
 rebuilt_end DiskFault = refl
 rebuilt_end (LogFull x) = refl
 rebuilt_end (Spent x) = refl
+rebuilt_end AbsentEnd = refl
 
 pub told_kind : (e : End) → kind_of (get_or (end_fields e) 0 []) ≡ kind_of_end e
 told_kind Done = refl
@@ -133,6 +136,7 @@ told_kind (NoMajority x) = refl
 told_kind DiskFault = refl
 told_kind (LogFull x) = refl
 told_kind (Spent x) = refl
+told_kind AbsentEnd = refl
 
 pub told_width : (e : End) → width_of (kind_of_end e) ≡ length (end_fields e)
 told_width Done = refl
@@ -143,6 +147,7 @@ told_width (NoMajority x) = refl
 told_width DiskFault = refl
 told_width (LogFull x) = refl
 told_width (Spent x) = refl
+told_width AbsentEnd = refl
 
 told_number : (e : End) (rest : List (List ℕ)) (word : List ℕ) (n : ℕ) → EndFits e
     → word ≡ get_or (end_fields e ++ rest) 1 [] → NumberIs (kind_of_end e) n word
@@ -155,6 +160,7 @@ told_number (NoMajority x) rest word n fits same is = ap NoMajority (is x fits s
 told_number DiskFault rest word n fits same is = refl
 told_number (LogFull x) rest word n fits same is = ap LogFull (is x fits same)
 told_number (Spent x) rest word n fits same is = ap Spent (is x fits same)
+told_number AbsentEnd rest word n fits same is = refl
 
 -- an end that has the kind and the number that the fields of an end tell
 pub told_end : (r e : End) (k : EndKind) (rest : List (List ℕ)) (word : List ℕ) → EndFits e
@@ -212,17 +218,19 @@ word_first (NoMajority x) rest = refl
 word_first DiskFault rest = refl
 word_first (LogFull x) rest = refl
 word_first (Spent x) rest = refl
+word_first AbsentEnd rest = refl
 
--- no end is told as an absent member is
-pub not_absent : (e : End) → get_or (end_fields e) 0 [] ≡ codes "absent" → ⊥
-not_absent Done is = absurd (omega (arith, ap length is))
-not_absent Crashed is = absurd (omega (arith, ap length is))
-not_absent (Suspected x) is = absurd (omega (arith, ap length is))
-not_absent (Excluded x) is = absurd (omega (arith, ap length is))
-not_absent (NoMajority x) is = absurd (omega (arith, ap length is))
-not_absent DiskFault is = absurd (omega (arith, ap length is))
-not_absent (LogFull x) is = absurd (omega (arith, ap length is))
-not_absent (Spent x) is = absurd (omega (arith, ap length is))
+-- no member that took part is told as an absent one is
+pub not_absent : (e : End) → EndFits e → get_or (end_fields e) 0 [] ≡ codes "absent" → ⊥
+not_absent Done fits is = absurd (omega (arith, ap length is))
+not_absent Crashed fits is = absurd (omega (arith, ap length is))
+not_absent (Suspected x) fits is = absurd (omega (arith, ap length is))
+not_absent (Excluded x) fits is = absurd (omega (arith, ap length is))
+not_absent (NoMajority x) fits is = absurd (omega (arith, ap length is))
+not_absent DiskFault fits is = absurd (omega (arith, ap length is))
+not_absent (LogFull x) fits is = absurd (omega (arith, ap length is))
+not_absent (Spent x) fits is = absurd (omega (arith, ap length is))
+not_absent AbsentEnd fits is = absurd fits
 
 -- ---- the first letter of a line
 
@@ -310,7 +318,7 @@ present_word bytes member h l d is absent =
     let at = field_of bytes (present_text member e h l d) (codes "member" ∷ decimal member
     ∷ (end_fields e ++ rest)) 2
     is.4.2 (present_fields member e h l d is.0 is.4.1 is.1 is.2 is.3) in
-    not_absent e (sym (word_first e rest) ∙ (sym at ∙ absent))
+    not_absent e is.4.1 (sym (word_first e rest) ∙ (sym at ∙ absent))
 
 -- a line whose first letter is that of a member
 pub of_member : (l : Line) (bytes : List ℕ) → get_or bytes 0 0 ≡ 109 → IsLineText l bytes

@@ -73,7 +73,7 @@ module _ (script : Script) (a : AgeEnd) (ra : ReportAge) (ranges : HasGroupRange
   keeps_start = record {
     entries = subst (λ (es : List Entry). AllKeep (λ i e. MayStart script (take i es) e) es)
         (sym values.start)
-        (λ i e at. may_start script (whole_opening script a) a.start refl ranges.lists ranges.some_member
+        (λ i e at. may_start script (whole_opening script a) a.start refl ranges.lists ranges.most_members
         good.sound.entries i e at);
     later = λ v is. subst (λ (n : ℕ). v.age < n) (sym values.age)
         (good.sound.later v (sym (ap view_of values.start) ∙ is));

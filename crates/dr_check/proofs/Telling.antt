@@ -7,13 +7,13 @@ use Rattle.std.proofs.lemmas.List.Elements.{All-cons, All-head, All-nil, All-tai
 use Rattle.std.proofs.lemmas.List.Folds.{concat-append}
 use Rattle.dr_entry.specs.declared.end.AgeEnd.{AgeEnd}
 use Rattle.dr_entry.specs.declared.end.End.{End}
-use Rattle.dr_entry.specs.declared.end.End.TheVariants.{Done, Crashed, Suspected, Excluded, NoMajority, DiskFault, LogFull, Spent}
+use Rattle.dr_entry.specs.declared.end.End.TheVariants.{Done, Crashed, Suspected, Excluded, NoMajority, DiskFault, LogFull, Spent, Absent}
 use Rattle.dr_entry.specs.declared.end.MemberEnd.{MemberEnd}
 use Rattle.dr_entry.specs.declared.entry.Entry.{Entry}
 use Rattle.dr_entry.specs.declared.entry.Entry.TheVariants.{View, Msg}
 use Rattle.dr_text.specs.declared.last.Last.{Last}
 use Rattle.dr_text.specs.declared.last.Last.TheVariants as lasts
-use Rattle.dr_text.specs.Report.{age_head, age_text, end_text, entry_text, last_text, mask_text, member_text, message_text, report_text, whole_text}
+use Rattle.dr_text.specs.Report.{age_head, age_text, end_text, entry_text, is_absent, last_text, mask_text, member_line, member_text, message_text, report_text, whole_text}
 use Rattle.dr_check.specs.declared.line.Line.{Line}
 use Rattle.dr_check.specs.declared.line.Line.TheVariants as lines
 use Rattle.dr_check.specs.declared.report.Report.{Report}
@@ -102,6 +102,7 @@ end_free DiskFault fits = refl
 end_free (LogFull len) fits = free_both (codes "logfull ") (decimal len) refl (number_free len fits)
 end_free (Spent turns) fits =
     free_both (codes "spent ") (decimal turns) refl (number_free turns (omega (arith, fits)))
+end_free Absent fits = absurd fits
 
 present_fed : (member : ℕ) (e : End) (history logged durable : ℕ) → member < 16 → EndFits e → history < 2 ^ 64
     → logged < 2 ^ 64 → durable < 2 ^ 64 → IsFed (present_text member e history logged durable)
@@ -269,14 +270,37 @@ members_printed start i line (e ∷ es) few fit =
     (entries_printed own (fit_behind (length start) e.history head.entries)))
     (members_printed start (i + 1) next es (omega (arith, few)) (All-tail (IsTellable start) e es fit))
 
-members_told_text : (start i : ℕ) (es : List MemberEnd)
-    → concat (members_texts start i es) ≡ flat_map (λ t. member_text start t.0 t.1) (enumerate_from i es)
-members_told_text start i [] = refl
-members_told_text start i (e ∷ es) =
-    concat-append (member_texts start i e) (members_texts start (i + 1) es)
+took_part : (e : End) → EndFits e → is_absent e ≡ false
+took_part Done fits = refl
+took_part Crashed fits = refl
+took_part (Suspected by) fits = refl
+took_part (Excluded view) fits = refl
+took_part (NoMajority mask) fits = refl
+took_part DiskFault fits = refl
+took_part (LogFull len) fits = refl
+took_part (Spent turns) fits = refl
+took_part Absent fits = absurd fits
+
+line_told : (i : ℕ) (e : MemberEnd) → EndFits e.end
+    → present_text i e.end (length e.history) e.logged e.durable ≡ member_line i e
+line_told i e fits =
+    rw (took_part e.end fits) (concat-append
+    (codes "member " ∷ decimal i ∷ codes " " ∷ end_text e.end ∷ [])
+    (codes " history " ∷ decimal (length e.history)
+    ∷ codes " logged " ∷ decimal e.logged ∷ codes " durable " ∷ decimal e.durable ∷ codes "\n" ∷ []))
+
+members_told_text : (start : List Entry) (n i : ℕ) (es : List MemberEnd) → All (IsTellable start) es
+    → concat (members_texts n i es) ≡ flat_map (λ t. member_text n t.0 t.1) (enumerate_from i es)
+members_told_text start n i [] fit = refl
+members_told_text start n i (e ∷ es) fit =
+    let rest = concat (members_texts n (i + 1) es) in
+    concat-append (member_texts n i e) (members_texts n (i + 1) es)
     ∙ (ap (λ z. (present_text i e.end (length e.history) e.logged e.durable ++ z)
-    ++ concat (members_texts start (i + 1) es)) (entries_text (drop start e.history))
-    ∙ ap (λ z. member_text start i e ++ z) (members_told_text start (i + 1) es))
+    ++ rest) (entries_text (drop n e.history))
+    ∙ (ap (λ z. (z ++ flat_map entry_text (drop n e.history)) ++ rest)
+    (line_told i e (All-head (IsTellable start) e es fit).ended)
+    ∙ ap (λ z. member_text n i e ++ z)
+    (members_told_text start n (i + 1) es (All-tail (IsTellable start) e es fit))))
 
 members_from : (start line : ℕ) (es : List MemberEnd) → MembersFrom start line (told_members start line es)
 members_from start line [] = tt
@@ -351,8 +375,8 @@ head_text a =
     let starts = flat_map entry_text a.start in
     ap (λ z. concat parts ++ z) (sym (append-nil starts)) ∙ sym (concat-append parts (starts ∷ []))
 
-age_told_text : (a : AgeEnd) → concat (age_texts a) ≡ age_text a
-age_told_text a =
+age_told_text : (a : AgeEnd) → All (IsTellable a.start) a.members → concat (age_texts a) ≡ age_text a
+age_told_text a fit =
     let first = age_start_text a.age (length a.start) in
     let starts = map entry_text a.start in
     let members = members_texts (length a.start) 0 a.members in
@@ -360,7 +384,7 @@ age_told_text a =
     ∙ (sym (append_assoc first (concat starts) (concat members))
     ∙ (ap (λ z. (first ++ z) ++ concat members) (entries_text a.start)
     ∙ (ap (λ z. z ++ concat members) (head_text a)
-    ∙ ap (λ z. age_head a ++ z) (members_told_text (length a.start) 0 a.members))))
+    ∙ ap (λ z. age_head a ++ z) (members_told_text a.start (length a.start) 0 a.members fit))))
 
 ages_printed : (members line : ℕ) (ages : List AgeEnd) → members ≤ 16 → All (IsTellableAge members) ages
     → Printed (flat_map age_lines (told_ages line ages)) (ages_texts ages)
@@ -372,12 +396,14 @@ ages_printed members line (a ∷ ages) few fit =
     (age_printed members line a few (All-head (IsTellableAge members) a ages fit))
     (ages_printed members next ages few (All-tail (IsTellableAge members) a ages fit))
 
-ages_told_text : (ages : List AgeEnd) → concat (ages_texts ages) ≡ flat_map age_text ages
-ages_told_text [] = refl
-ages_told_text (a ∷ ages) =
+ages_told_text : (members : ℕ) (ages : List AgeEnd) → All (IsTellableAge members) ages
+    → concat (ages_texts ages) ≡ flat_map age_text ages
+ages_told_text members [] fit = refl
+ages_told_text members (a ∷ ages) fit =
     concat-append (age_texts a) (ages_texts ages)
-    ∙ (ap (λ z. z ++ concat (ages_texts ages)) (age_told_text a)
-    ∙ ap (λ z. age_text a ++ z) (ages_told_text ages))
+    ∙ (ap (λ z. z ++ concat (ages_texts ages))
+    (age_told_text a (All-head (IsTellableAge members) a ages fit).ends)
+    ∙ ap (λ z. age_text a ++ z) (ages_told_text members ages (All-tail (IsTellableAge members) a ages fit)))
 
 ages_whole : (members line : ℕ) (ages : List AgeEnd) → All (IsTellableAge members) ages
     → All (IsWholeAge members) (told_ages line ages)
@@ -427,7 +453,7 @@ told members ages last few fit last_fits =
     none_printed) in
     let text : concat texts ++ [] ≡ report_text ages last =
     append-nil (concat texts) ∙ (concat-append (ages_texts ages) (last_text last ∷ [])
-    ∙ (ap (λ z. z ++ (last_text last ++ [])) (ages_told_text ages)
+    ∙ (ap (λ z. z ++ (last_text last ++ [])) (ages_told_text members ages fit)
     ∙ ap (λ z. flat_map age_text ages ++ z) (append-nil (last_text last)))) in
     let all : lines_of (report_text ages last) ≡ texts =
     ap lines_of (sym text) ∙ (lines_fed texts [] printed.1

@@ -6,7 +6,7 @@ use Rattle.dr_entry.specs.declared.end.End.{End}
 use Rattle.dr_entry.specs.declared.end.End.TheVariants as ends
 use Rattle.dr_text.specs.Report.{mask_text}
 use Rattle.dr_check.specs.declared.ends.EndKind.{EndKind}
-use Rattle.dr_check.specs.declared.ends.EndKind.TheVariants.{Done, Crashed, Suspected, Excluded, NoMajority, DiskFault, LogFull, Spent}
+use Rattle.dr_check.specs.declared.ends.EndKind.TheVariants.{Done, Crashed, Suspected, Excluded, NoMajority, DiskFault, LogFull, Spent, Absent}
 use Rattle.dr_check.specs.Lines.{IsMask}
 
 abbrev pub is_end : ℕ → Bool
@@ -25,13 +25,15 @@ kind_of word =
     else (if length word == 7 then (if slice_index word 0 == 99 then Crashed else LogFull)
     else (if length word == 9 then (if slice_index word 0 == 115 then Suspected else DiskFault)
     else (if length word == 8 then Excluded
-    else (if length word == 10 then NoMajority else Spent))))
+    else (if length word == 10 then NoMajority
+    else (if length word == 6 then Absent else Spent)))))
 
 -- how many fields an end of a kind has
 abbrev pub width_of : EndKind → ℕ
 width_of Done = 1
 width_of Crashed = 1
 width_of DiskFault = 1
+width_of Absent = 1
 width_of _ = 2
 
 -- the kind of an end
@@ -44,6 +46,7 @@ kind_of_end (ends.NoMajority mask) = NoMajority
 kind_of_end ends.DiskFault = DiskFault
 kind_of_end (ends.LogFull len) = LogFull
 kind_of_end (ends.Spent turns) = Spent
+kind_of_end ends.Absent = Absent
 
 -- its number, or 0
 abbrev pub number_of : End → ℕ
@@ -73,3 +76,4 @@ end_fields (ends.NoMajority mask) = codes "nomajority" ∷ mask_text mask ∷ []
 end_fields ends.DiskFault = codes "diskfault" ∷ []
 end_fields (ends.LogFull len) = codes "logfull" ∷ decimal len ∷ []
 end_fields (ends.Spent turns) = codes "spent" ∷ decimal turns ∷ []
+end_fields ends.Absent = codes "absent" ∷ []

@@ -39,13 +39,14 @@ abbrev pub EntryFits : Entry → Type 0
 EntryFits (View age number members) = (age < 2 ^ 16) × (number < 2 ^ 8) × IsMask members
 EntryFits (Msg sender index bytes) = IsMemberNumber sender × (index < 2 ^ 32) × IsMessage bytes
 
--- and those of an end
+-- and those of an end of a member that took part
 abbrev pub EndFits : End → Type 0
 EndFits (ends.Suspected by) = IsMemberNumber by
 EndFits (ends.Excluded view) = view < 2 ^ 8
 EndFits (ends.NoMajority mask) = IsMask mask
 EndFits (ends.LogFull len) = IsLong len
 EndFits (ends.Spent turns) = turns < 2 ^ 32
+EndFits ends.Absent = ⊥
 EndFits _ = ⊤
 
 -- a last line behind ages: not one of those that stand alone

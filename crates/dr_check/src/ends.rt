@@ -17,6 +17,7 @@ pub(crate) enum EndKind {
     DiskFault,
     LogFull,
     Spent,
+    Absent,
 }
 
 impl EndKind {
@@ -32,6 +33,7 @@ impl EndKind {
             9 => EndKind::DiskFault,
             8 => EndKind::Excluded,
             10 => EndKind::NoMajority,
+            6 => EndKind::Absent,
             _ => EndKind::Spent,
         }
     }
@@ -42,7 +44,7 @@ impl EndKind {
         ensures small { result ≤ 2 }
     {
         match self {
-            EndKind::Done | EndKind::Crashed | EndKind::DiskFault => 1,
+            EndKind::Done | EndKind::Crashed | EndKind::DiskFault | EndKind::Absent => 1,
             _ => 2,
         }
     }
@@ -65,17 +67,19 @@ impl EndKind {
             EndKind::Spent => End::Spent {
                 turns: u32_in(field),
             },
+            EndKind::Absent => End::Absent,
         }
     }
 }
 
-/// Whether the numbers of an end are in their ranges.
+/// Whether a member that took part may have ended so: the numbers of the end are in their ranges.
 pub(crate) fn fits_end(end: End) -> bool
     ensures { IsTrue result ↔ EndFits end }
 {
     match end {
         End::Suspected { by } => by < 16,
         End::NoMajority { mask } => mask != 0,
+        End::Absent => false,
         _ => true,
     }
 }

@@ -9,9 +9,8 @@ use Rattle.dr_ages.specs.Ages.{AreAges, IsAgeOf, start_of}
 use Rattle.dr_ages.specs.Runs.{AreKept, IsRunOf}
 use Rattle.dr_ages.specs.declared.mode.Mode.{Mode}
 use Rattle.dr_ages.specs.declared.stop.Stop.{Stop}
-use Rattle.dr_check.proofs.Agreed.{stand}
+use Rattle.dr_check.proofs.Agreed.{order}
 use Rattle.dr_check.proofs.Flawless.{printed_right}
-use Rattle.dr_check.proofs.LastViews.{last_view_at}
 use Rattle.dr_check.proofs.Places.{all_at, all_from_places}
 use Rattle.dr_check.specs.Lines.{EndFits, LastFits}
 use Rattle.dr_check.specs.Values.{HasSmallNumbers, IsAgreed, KeepEachOther, whole_opening}
@@ -21,9 +20,10 @@ use Rattle.dr_entry.specs.declared.end.End.TheVariants as ends
 use Rattle.dr_entry.specs.declared.end.MemberEnd.{MemberEnd}
 use Rattle.dr_gather.proofs.Grouping.{start_group}
 use Rattle.dr_history.specs.declared.opening.Opening.{Opening}
+use Rattle.dr_history.specs.Agreement.{accounts_of, sent_by}
 use Rattle.dr_history.specs.History.{GroupView}
 use Rattle.dr_history.specs.Members.{has, members_of}
-use Rattle.dr_history_laws.proofs.Stood.{small_view}
+use Rattle.dr_history_laws.proofs.Standing.{last-few}
 use Rattle.dr_intake.specs.Status.{status_of}
 use Rattle.dr_outcome.proofs.Due.{line_behind}
 use Rattle.dr_outcome.proofs.Lasts.{refusal_status, told_so}
@@ -123,6 +123,7 @@ left_fits o all number members m ends.Crashed few low roster out = absurd out
 left_fits o all number members m ends.DiskFault few low roster out = absurd out
 left_fits o all number members m (ends.LogFull len) few low roster out = absurd out
 left_fits o all number members m (ends.Spent turns) few low roster out = absurd out
+left_fits o all number members m ends.Absent few low roster out = absurd out
 
 -- one by a log that was not full
 log_fits : (end : End) → is_log_end end ≡ true → is_of LogFull end ≡ false → EndFits end
@@ -134,6 +135,7 @@ log_fits (ends.Suspected by) by_log other = absurd (true≢false (sym by_log))
 log_fits (ends.Excluded view) by_log other = absurd (true≢false (sym by_log))
 log_fits (ends.NoMajority mask) by_log other = absurd (true≢false (sym by_log))
 log_fits (ends.Spent turns) by_log other = absurd (true≢false (sym by_log))
+log_fits ends.Absent by_log other = absurd (true≢false (sym by_log))
 
 -- any but that of a full log
 end_fits : (script : Script) (a : AgeEnd) (nth m : ℕ) (e : MemberEnd) → HasRanges script → IsAgreed script a
@@ -145,15 +147,12 @@ end_fits script a nth m e ranges good here ended other = by ended.reason
     few : length script.messages ≤ 16
     few = omega (arith, ranges.group.most_members, ranges.group.lists)
 
-    some : 1 ≤ length script.messages
-    some = omega (arith, ranges.group.some_member, ranges.group.lists)
-
     low : ended.number ≤ 16
     low =
         let view : GroupView = record { age = a.age; number = ended.number; members = members_of ended.members } in
-        let at = last_view_at e.history view ended.view in
-        (small_view (whole_opening script a) e.history some few (stand script a good m e here) at.0 a.age
-        ended.number at.1 at.2).few
+        let last = last-few (whole_opening script a) (sent_by (accounts_of a.members)) e.history view good.sound
+        (order script a good m e here) ended.view in
+        omega (arith, last)
 
     by : HasReason (whole_opening script a) a.members ended.number ended.members script.turns m
         (crashes_of script.faults nth m) e → EndFits e.end

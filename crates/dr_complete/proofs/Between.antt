@@ -6,6 +6,7 @@ use Rattle.dr_entry.specs.declared.end.End.{End}
 use Rattle.dr_entry.specs.declared.end.End.TheVariants as ends
 use Rattle.dr_history_laws.proofs.Lists.{slice_get-some}
 use Rattle.dr_words.specs.declared.column.TheConstants.{BEAT_COLUMN, LOGGED_COLUMN}
+use Rattle.dr_machine.proofs.Presence.{all_present}
 use Rattle.dr_machine.specs.Group.{Group, columns, roster}
 use Rattle.dr_machine.specs.World.{World}
 use Rattle.dr_program.proofs.Holdings.{Holding, held, held_same}
@@ -18,6 +19,7 @@ use Rattle.dr_refine.proofs.Deeds.{replicas}
 use Rattle.dr_suspect.specs.Waits.{beat_of, turns_without_news}
 use Rattle.dr_program_laws.proofs.Programs.{AllStand}
 use Rattle.dr_program_laws.proofs.Trusting.{stay_first}
+use Rattle.dr_program_laws.proofs.Worlds.{all_there}
 use Rattle.dr_world_laws.proofs.Worlds.{known}
 use Rattle.dr_turn_laws.specs.Steady.{IsSteady}
 use Rattle.dr_program_laws.specs.Trusting.{AreAtEase}
@@ -106,6 +108,7 @@ pub first_of : (g : Group) (p : Program) → IsSteady g p → AreAtEase p → Is
 first_of g p steady ease = record {
   group = steady.group;
   known = known g (world g p) steady.group steady.reached;
+  whole = all_present g steady.group (λ m l. all_there g p m steady.program l);
   view = λ m. stay_first g p m ease;
 }
 

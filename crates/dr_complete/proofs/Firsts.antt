@@ -6,17 +6,18 @@ use Rattle.dr_history_laws.proofs.Courses.{head-first}
 use Rattle.dr_faithful.specs.Chosen.{endings_by, views_by}
 use Rattle.dr_faithful.specs.Faithful.{Faithful}
 use Rattle.dr_machine.proofs.Presence.{is_present}
-use Rattle.dr_machine.specs.Group.{Group, IsGroup, roster}
+use Rattle.dr_machine.specs.Group.{AllPresent, Group, IsGroup, roster}
 use Rattle.dr_machine.specs.World.{World, items_received, own_word}
 use Rattle.dr_world_laws.proofs.ChosenViews.{views-first}
 use Rattle.dr_world_laws.proofs.Remaining.{start_messages}
 use Rattle.dr_world_laws.proofs.Worlds.{Known}
 use Rattle.dr_world_laws.specs.Historic.{head_by}
 
--- a world that is reached, in which everybody is in the first view
+-- a world that is reached, in which everybody of the roster is there, and in the first view
 pub record IsFirst (g : Group) (w : World) : Type 0 where
   pub group : IsGroup g
   pub known : Known g w
+  pub whole : AllPresent g
   pub view : (m : ℕ) → w.past.view m ≡ 0
 
 pub told : {g : Group} {w : World} (y : IsFirst g w) → Faithful g (views_by g y.known.values) w
@@ -36,7 +37,7 @@ pub of_members : {g : Group} {w : World} → IsFirst g w → (i : ℕ) → i < r
     → has g.opening.members i ≡ true
 of_members {g = g} y i l = subst (λ mask. has mask i ≡ true) (views-first g y.known.values)
     (subst (λ v. has (views_by g y.known.values v) i ≡ true) (y.view i)
-    ((told y).views.present i (is_present g i y.group l)))
+    ((told y).views.present i (is_present g i y.whole l)))
 
 -- what a member has in its view it has in the first one
 pub count_first : {g : Group} {w : World} → IsFirst g w → (m s : ℕ) → items_received w m s ≡ w.past.count m 0 s

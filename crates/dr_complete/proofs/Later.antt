@@ -9,7 +9,6 @@ use Rattle.dr_history.specs.Agreement.{accounts_of}
 use Rattle.dr_history.specs.declared.opening.Opening.{Opening}
 use Rattle.dr_history.specs.Order.{first_entries}
 use Rattle.dr_history.specs.Restarting.{AreLeftBy, IsLeftBy, IsLongest}
-use Rattle.dr_history.specs.Soundness.{Sound}
 use Rattle.dr_history_laws.proofs.Keeping.{prefix_shorter}
 use Rattle.dr_history_laws.proofs.Lists.{slice_get-some}
 use Rattle.dr_history_laws.specs.Remaining.{remaining}
@@ -55,8 +54,8 @@ starts_whole g next ends lists is all complete left longest =
 
 pub leaves_none : (g : Group) (next : Opening) (ends : List MemberEnd) (lists : List (List Entry))
     → IsGroup g → length ends ≡ roster g → AreComplete g.opening ends
-    → AreLeftBy g.opening (accounts_of ends) lists → IsLongest lists next.start → Sound next
-    → g.opening.messages ≡ next.messages → remaining next ≡ []
-leaves_none g next ends lists is all complete left longest sound same =
-    whole-leaves_none g.opening next is.sound sound same
+    → AreLeftBy g.opening (accounts_of ends) lists → IsLongest lists next.start
+    → next.members ≡ g.opening.members → g.opening.messages ≡ next.messages → remaining next ≡ []
+leaves_none g next ends lists is all complete left longest members same =
+    whole-leaves_none g.opening next is.sound members same
     (starts_whole g next ends lists is all complete left longest)

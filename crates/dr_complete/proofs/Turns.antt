@@ -73,6 +73,7 @@ proper_end limit turns (Some (ends.LogFull len)) proper logs kept = absurd (cc)
 proper_end limit turns (Some (ends.Suspected by)) proper logs kept = absurd (cc)
 proper_end limit turns (Some (ends.NoMajority mask)) proper logs kept = absurd (cc)
 proper_end limit turns (Some (ends.Excluded view)) proper logs kept = absurd (cc)
+proper_end limit turns (Some ends.Absent) proper logs kept = absurd proper
 
 uncrashed : (limit turns : ℕ) (end : Option End) → IsUprightOrSpent limit turns end
     → end ≢ Some ends.Crashed

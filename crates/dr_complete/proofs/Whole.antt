@@ -15,7 +15,7 @@ use Rattle.dr_history_laws.proofs.Indices.{messages_in-le}
 use Rattle.dr_history_laws.proofs.Members.{view-distinct}
 use Rattle.dr_history_laws.proofs.Openings.{first-ends, first-members}
 use Rattle.dr_history_laws.specs.Laid.{first_view, laid}
-use Rattle.dr_machine.specs.Group.{Group, IsGroup, roster}
+use Rattle.dr_machine.specs.Group.{AllPresent, Group, IsGroup, roster}
 use Rattle.dr_machine.specs.Guards.{HoldsAll}
 use Rattle.dr_machine.specs.World.{World}
 use Rattle.dr_world_laws.proofs.Remaining.{start_messages}
@@ -57,15 +57,16 @@ round_lt n a b s p h l = lt_of_mul-lt-mul_right n {m = a} {n = b} (omega (arith,
 
 -- ---- the members of the first view
 
-pub members_first : (g : Group) → IsGroup g → members_of g.opening.members ≡ range_with_len 0 (roster g)
-members_first g is = first-members g.opening is.sound is.most_members
+pub members_first : (g : Group) → IsGroup g → AllPresent g
+    → members_of g.opening.members ≡ range_with_len 0 (roster g)
+members_first g is whole = first-members g.opening (sym is.joined ∙ whole) is.most_members
 
-ranks : (g : Group) → IsGroup g → length (members_of g.opening.members) ≡ roster g
-ranks g is = ap length (members_first g is) ∙ length-range_with_len 0 (roster g)
+ranks : (g : Group) → IsGroup g → AllPresent g → length (members_of g.opening.members) ≡ roster g
+ranks g is whole = ap length (members_first g is whole) ∙ length-range_with_len 0 (roster g)
 
-at_rank : (g : Group) (s : ℕ) → IsGroup g → s < roster g
+at_rank : (g : Group) (s : ℕ) → IsGroup g → AllPresent g → s < roster g
     → slice_get (members_of g.opening.members) s ≡ Some s
-at_rank g s is l = ap (λ ms. slice_get ms s) (members_first g is) ∙ range_at 0 (roster g) s l
+at_rank g s is whole l = ap (λ ms. slice_get ms s) (members_first g is whole) ∙ range_at 0 (roster g) s l
     ∙ ap Some (zero-add s)
 
 -- ---- what a member holds
@@ -102,7 +103,7 @@ messages_laid g w m s y l within = (
     c : Counted g.opening w.past.sent (first_view g.opening) s s (w.next m)
     c = counted g.opening w.past.sent (first_entries g.opening) v s s (w.next m)
         (goes_first g w y.group y.known)
-        (view-distinct (first_entries g.opening) v (first-ends g.opening)) (at_rank g s y.group within)
+        (view-distinct (first_entries g.opening) v (first-ends g.opening)) (at_rank g s y.group y.whole within)
 
 -- the member has all messages that are left to s
 has_left : (g : Group) (w : World) (m s : ℕ) → IsFirst g w → m < roster g → s < roster g
@@ -132,7 +133,7 @@ has_left g w m s y l within past put = omega (
     many : (n : ℕ) → messages_left g.opening s ≡ n → n ≤ laid_so.0.0
     many zero e = omega arith
     many (suc k) e = round_lt (roster g) k laid_so.0.0 s (w.next m) (past s k within (omega (arith, e)))
-        (subst (λ (z : ℕ). w.next m ≤ laid_so.0.0 * z + s) (ranks g y.group) laid_so.0.1.low)
+        (subst (λ (z : ℕ). w.next m ≤ laid_so.0.0 * z + s) (ranks g y.group y.whole) laid_so.0.1.low)
 
 -- a member whose next place is behind all messages holds them all
 pub holds_all : (g : Group) (w : World) (m : ℕ) → IsFirst g w → m < roster g

@@ -8,9 +8,8 @@ ghost use Rattle.dr_history.specs.Agreement.{accounts_of};
 ghost use Rattle.dr_history.specs.declared.opening.Opening.{Opening};
 ghost use Rattle.dr_history.specs.Order.{first_entries};
 ghost use Rattle.dr_history.specs.Restarting.{AreLeftBy, IsLongest};
-ghost use Rattle.dr_history.specs.Soundness.{Sound};
 ghost use Rattle.dr_history_laws.specs.Remaining.{messages_left, remaining};
-ghost use Rattle.dr_machine.specs.Group.{Group, IsGroup, roster};
+ghost use Rattle.dr_machine.specs.Group.{Group, IsGroup, IsPresent, roster};
 ghost use Rattle.dr_machine.specs.Guards.{IsOther, seen_slot};
 ghost use Rattle.dr_machine.specs.Run.{IsReached};
 ghost use Rattle.dr_machine.specs.World.{World, items_received};
@@ -32,11 +31,11 @@ pub fn rings_keep_their_items()
     ensures { (g : Group) (w : World) → IsGroup g → IsReached g w → RingsKeep g w.past }
 {}
 
-/// In every world that is reached a member that has seen the slot of a sender's next item as it stands, and
-/// finds no item ready there, has all that the sender has put.
+/// In every world that is reached a member that is there and has seen the slot of a sender's next item as it
+/// stands, and finds no item ready there, has all that the sender has put.
 pub fn nothing_ready_is_overlooked()
     ensures { (g : Group) (w : World) (m s : ℕ) → IsGroup g → IsReached g w
-        → m < roster g → IsOther w m s → SeesSlot g w m s
+        → IsPresent g m → IsOther w m s → SeesSlot g w m s
         → ¬ IsReady (items_received w m s) (seen_slot g w m s (items_received w m s))
         → items_received w m s ≡ w.past.count s (w.past.view m) s }
 {}
@@ -71,8 +70,8 @@ pub fn scripts_complete()
 {}
 
 /// Where all members of an age are complete, whatever they leave of their logs makes the next age start with
-/// their whole history, and leaves no message to it. So a member that is complete there has the start and
-/// View 0, and nothing else.
+/// their whole history, and leaves no message to it, if it has the same members. So a member that is complete
+/// there has the start and View 0, and nothing else.
 pub fn complete_ages_leave_nothing()
     ensures start { (g : Group) (next : Opening) (ends : List MemberEnd) (lists : List (List Entry))
         → IsGroup g → length ends ≡ roster g → AreComplete g.opening ends
@@ -80,6 +79,6 @@ pub fn complete_ages_leave_nothing()
         → next.start ≡ first_entries g.opening ++ remaining g.opening }
     ensures nothing { (g : Group) (next : Opening) (ends : List MemberEnd) (lists : List (List Entry))
         → IsGroup g → length ends ≡ roster g → AreComplete g.opening ends
-        → AreLeftBy g.opening (accounts_of ends) lists → IsLongest lists next.start → Sound next
-        → g.opening.messages ≡ next.messages → remaining next ≡ [] }
+        → AreLeftBy g.opening (accounts_of ends) lists → IsLongest lists next.start
+        → next.members ≡ g.opening.members → g.opening.messages ≡ next.messages → remaining next ≡ [] }
 {}

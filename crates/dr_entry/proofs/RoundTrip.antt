@@ -12,11 +12,12 @@ use Rattle.dr_entry.specs.declared.limits.TheConstants.{MAX_MEMBERS, MAX_MESSAGE
 use Rattle.dr_entry.specs.declared.entry.Entry.TheVariants.{View, Msg}
 use Rattle.dr_entry.specs.declared.record.Record.{Record}
 use Rattle.dr_entry.specs.declared.record.Record.TheVariants as records
+use Rattle.dr_entry.specs.declared.record.AgeVote.{AgeVote}
 use Rattle.dr_entry.specs.declared.record.Vote.{Vote}
 use Rattle.dr_entry.specs.declared.reading.DecodeFault.{DecodeFault}
 use Rattle.dr_entry.specs.declared.reading.DecodeFault.TheVariants.{BadKind}
 use Rattle.dr_entry.specs.Spelling.{IsValid, IsValidVote, Fits, FitsEntry, FitsVote, entry_spelling, vote_spelling, spelling, Spells}
-use Rattle.dr_entry.specs.Grammar.{number_at, free, first_fault, view_fields, message_fields, vote_fields, view_at, message_at, vote_at, trims_at, unless, vote_of, decoded}
+use Rattle.dr_entry.specs.Grammar.{number_at, free, first_fault, view_fields, message_fields, vote_fields, view_at, message_at, vote_at, trims_at, unless, vote_of, decoded, age_vote_at, age_vote_fields, cut_at, cut_fields, upgrade_at}
 use Rattle.dr_entry.proofs.Trims.{vote_length}
 use Rattle.dr_entry.proofs.Fields.{IsBytes, drop-byte, drop-number_2, drop-number_4, drop-bytes, Passes, all_pass, no_fault, number_below_2, number_below_4}
 
@@ -66,6 +67,31 @@ message_again sender index text rest fits known short =
       ),
     ) in
     rw (none, text-is) (ap (λ (n : ℕ). ok (records.Entry (Msg sender n text), 7 + length text)) index-is)
+
+age_vote_again : (vote : AgeVote) (rest : List ℕ) → Fits (records.AgeVote vote) → 0 < vote.members
+    → decoded (spelling (records.AgeVote vote) ++ rest) ≡ Ok (records.AgeVote vote, 5)
+age_vote_again vote rest fits some =
+    let bytes = spelling (records.AgeVote vote) ++ rest in
+    let age-is : number_at w16 1 bytes ≡ vote.age = from_be_bytes-to_be_bytes_2 vote.age fits.0 in
+    let members-is : number_at w16 3 bytes ≡ vote.members = from_be_bytes-to_be_bytes_2 vote.members fits.1 in
+    let kept : not (number_at w16 3 bytes == 0) ≡ true = grind (arith, nat_tests) in
+    let none : first_fault age_vote_fields bytes
+    ≡ None = no_fault age_vote_fields bytes (
+      free_passes 1 2 bytes (omega arith),
+      (record { whole = omega arith; kept = kept }, tt),
+    ) in
+    rw none (ap (λ (n : ℕ). ok
+    (records.AgeVote (record { age = n; members = number_at w16 3 bytes }), 5)) age-is
+    ∙ ap (λ (n : ℕ). ok (records.AgeVote (record { age = vote.age; members = n }), 5)) members-is)
+
+cut_again : (keep : ℕ) (rest : List ℕ) → keep < 2 ^ 32
+    → decoded (spelling (records.Cut keep) ++ rest) ≡ Ok (records.Cut keep, 5)
+cut_again keep rest fits =
+    let bytes = spelling (records.Cut keep) ++ rest in
+    let keep-is : number_at w32 1 bytes ≡ keep = from_be_bytes-to_be_bytes_4 keep fits in
+    let none : first_fault cut_fields bytes
+    ≡ None = no_fault cut_fields bytes (free_passes 1 4 bytes (omega arith), tt) in
+    rw none (ap (λ (n : ℕ). ok (records.Cut n, 5)) keep-is)
 
 -- ---- the trims
 
@@ -261,6 +287,46 @@ view_spelled bytes fits kind none =
       count = refl;
     }
 
+age_vote_spelled : (bytes : List ℕ) → IsBytes bytes → slice_index bytes 0 ≡ 4
+    → first_fault age_vote_fields bytes ≡ None → Spells bytes (age_vote_at bytes).0 5
+age_vote_spelled bytes fits kind none =
+    let p = all_pass age_vote_fields bytes none in
+    let long : 5 ≤ length bytes = p.1.0.whole in
+    let age = number_at w16 1 bytes in
+    let members = number_at w16 3 bytes in
+    let e0 : bytes ≡ slice_index bytes 0 ∷ drop 1 bytes = drop-byte 0 bytes (omega arith) in
+    let e1 : drop 1 bytes ≡ to_be_bytes w16 age
+    ++ drop 3 bytes = drop-number_2 1 bytes fits (omega arith) in
+    let e3 : drop 3 bytes ≡ to_be_bytes w16 members
+    ++ drop 5 bytes = drop-number_2 3 bytes fits (omega arith) in
+    let parts : bytes ≡ spelling (age_vote_at bytes).0 ++ drop 5 bytes =
+    e0 ∙ ap (λ (k : ℕ). k ∷ drop 1 bytes) kind
+    ∙ ap (λ (rest : List ℕ). 4 ∷ rest) (e1 ∙ ap (λ (rest : List ℕ). to_be_bytes w16 age ++ rest) e3) in
+    record {
+      valid = grind (arith, nat_tests, p.1.0.kept);
+      fits = (number_below_2 1 bytes fits, number_below_2 3 bytes fits);
+      front = ap (take 5) parts ∙ take_at (spelling (age_vote_at bytes).0) (drop 5 bytes) 5 refl;
+      count = refl;
+    }
+
+cut_spelled : (bytes : List ℕ) → IsBytes bytes → slice_index bytes 0 ≡ 5
+    → first_fault cut_fields bytes ≡ None → Spells bytes (cut_at bytes).0 5
+cut_spelled bytes fits kind none =
+    let p = all_pass cut_fields bytes none in
+    let long : 5 ≤ length bytes = p.0.whole in
+    let keep = number_at w32 1 bytes in
+    let e0 : bytes ≡ slice_index bytes 0 ∷ drop 1 bytes = drop-byte 0 bytes (omega arith) in
+    let e1 : drop 1 bytes ≡ to_be_bytes w32 keep
+    ++ drop 5 bytes = drop-number_4 1 bytes fits (omega arith) in
+    let parts : bytes ≡ spelling (cut_at bytes).0 ++ drop 5 bytes =
+    e0 ∙ ap (λ (k : ℕ). k ∷ drop 1 bytes) kind ∙ ap (λ (rest : List ℕ). 5 ∷ rest) e1 in
+    record {
+      valid = tt;
+      fits = number_below_4 1 bytes fits;
+      front = ap (take 5) parts ∙ take_at (spelling (cut_at bytes).0) (drop 5 bytes) 5 refl;
+      count = refl;
+    }
+
 message_spelled : (bytes : List ℕ) → IsBytes bytes → slice_index bytes 0 ≡ 2
     → first_fault (message_fields (slice_index bytes 6)) bytes ≡ None
     → Spells bytes (message_at bytes).0 (7 + slice_index bytes 6)
@@ -391,6 +457,9 @@ decoded_again (records.Entry (Msg sender index text)) rest valid fits =
 decoded_again (records.Vote vote) rest valid fits =
     vote_again vote rest fits valid
     ∙ ap (λ (n : ℕ). ok (records.Vote vote, n)) (sym (vote_length vote fits.places valid.members))
+decoded_again (records.AgeVote vote) rest valid fits = age_vote_again vote rest fits valid
+decoded_again (records.Cut keep) rest valid fits = cut_again keep rest fits
+decoded_again records.Upgrade rest valid fits = refl
 
 unless_ok : (fault : Option DecodeFault) (y x : Record × ℕ) → unless fault y ≡ Ok x
     → (fault ≡ None) × (y ≡ x)
@@ -400,7 +469,8 @@ unless_ok (Some fault) y x e = absurd (cc)
 decoded_spells : (bytes : List ℕ) (x : Record × ℕ) → IsBytes bytes → decoded bytes ≡ Ok x
     → Spells bytes x.0 x.1
 decoded_spells [] x fits e = absurd (cc)
-decoded_spells (kind ∷ rest) x fits e = by (kind == 1) (kind == 2) (kind == 3) refl refl refl
+decoded_spells (kind ∷ rest) x fits e =
+    by (kind == 1) (kind == 2) (kind == 3) (kind == 4) (kind == 5) (kind == 6) refl refl refl refl refl refl
   where
     bytes : List ℕ
     bytes = kind ∷ rest
@@ -408,19 +478,33 @@ decoded_spells (kind ∷ rest) x fits e = by (kind == 1) (kind == 2) (kind == 3)
     is : (y : Record × ℕ) → Found bytes y → y ≡ x → Found bytes x
     is y found same = subst (λ (z : Record × ℕ). Found bytes z) same found
 
-    by : (first second third : Bool) → (kind == 1) ≡ first → (kind == 2) ≡ second → (kind == 3)
-        ≡ third → Found bytes x
-    by true second third p q r = let u =
+    by : (k1 k2 k3 k4 k5 k6 : Bool) → (kind == 1) ≡ k1 → (kind == 2) ≡ k2 → (kind == 3) ≡ k3
+        → (kind == 4) ≡ k4 → (kind == 5) ≡ k5 → (kind == 6) ≡ k6 → Found bytes x
+    by true k2 k3 k4 k5 k6 p q r s t v = let u =
         unless_ok (first_fault view_fields bytes) (view_at bytes) x (rw p at e) in
         is _ (view_spelled bytes fits (eqb-true kind 1 p) u.0) u.1
-    by false true third p q r = let u =
+    by false true k3 k4 k5 k6 p q r s t v = let u =
         unless_ok (first_fault (message_fields (slice_index bytes 6)) bytes) (message_at bytes) x
         (rw (p, q) at e) in is _ (message_spelled bytes fits (eqb-true kind 2 q) u.0) u.1
-    by false false true p q r = let u =
+    by false false true k4 k5 k6 p q r s t v = let u =
         unless_ok (first_fault (vote_fields (slice_index bytes 7)) bytes) (vote_at bytes) x
         (rw (p, q, r) at e) in is _ (vote_spelled bytes fits (eqb-true kind 3 r) u.0) u.1
-    by false false false p q r = let u =
-        unless_ok (Some (BadKind 0 kind)) (vote_at bytes) x (rw (p, q, r) at e) in absurd (cc (u.0))
+    by false false false true k5 k6 p q r s t v = let u =
+        unless_ok (first_fault age_vote_fields bytes) (age_vote_at bytes) x (rw (p, q, r, s) at e) in
+        is _ (age_vote_spelled bytes fits (eqb-true kind 4 s) u.0) u.1
+    by false false false false true k6 p q r s t v = let u =
+        unless_ok (first_fault cut_fields bytes) (cut_at bytes) x (rw (p, q, r, s, t) at e) in
+        is _ (cut_spelled bytes fits (eqb-true kind 5 t) u.0) u.1
+    by false false false false false true p q r s t v = let u =
+        unless_ok None upgrade_at x (rw (p, q, r, s, t, v) at e) in
+        is _ (record {
+          valid = tt;
+          fits = tt;
+          count = refl;
+          front = ap (λ (k : ℕ). k ∷ []) (eqb-true kind 6 v);
+        }) u.1
+    by false false false false false false p q r s t v = let u =
+        unless_ok (Some (BadKind 0 kind)) upgrade_at x (rw (p, q, r, s, t, v) at e) in absurd (cc (u.0))
 
 -- ---- one spelling
 

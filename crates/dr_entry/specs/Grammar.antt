@@ -51,6 +51,14 @@ vote_fields members =
     ∷ tested 5 w16 (λ leavers. nat_lt leavers (2 ^ members)) ∷ [])
     ++ trim_fields members
 
+-- kind 4: age and members of an age vote
+abbrev pub age_vote_fields : List Field
+age_vote_fields = free 1 2 ∷ tested 3 w16 (λ members. not (members == 0)) ∷ []
+
+-- kind 5: how many entries a cut keeps
+abbrev pub cut_fields : List Field
+cut_fields = free 1 4 ∷ []
+
 -- the first of these fields that isn't whole or breaks its rule
 abbrev pub first_fault : List Field → List ℕ → Option DecodeFault
 first_fault [] bytes = None
@@ -63,7 +71,10 @@ fault_by_kind kind bytes =
     if kind == 1 then first_fault view_fields bytes
     else (if kind == 2 then first_fault (message_fields (slice_index bytes 6)) bytes
     else (if kind == 3 then first_fault (vote_fields (slice_index bytes 7)) bytes
-    else Some (BadKind 0 kind)))
+    else (if kind == 4 then first_fault age_vote_fields bytes
+    else (if kind == 5 then first_fault cut_fields bytes
+    else (if kind == 6 then None
+    else Some (BadKind 0 kind))))))
 
 -- what is wrong with the record that begins these bytes
 abbrev pub fault_of : List ℕ → Option DecodeFault
@@ -99,9 +110,25 @@ vote_of bytes = record {
 abbrev pub vote_at : List ℕ → Record × ℕ
 vote_at bytes = (records.Vote (vote_of bytes), 8 + 4 * slice_index bytes 7)
 
+abbrev pub age_vote_at : List ℕ → Record × ℕ
+age_vote_at bytes = (
+  records.AgeVote (record { age = number_at w16 1 bytes; members = number_at w16 3 bytes }),
+  5,
+)
+
+abbrev pub cut_at : List ℕ → Record × ℕ
+cut_at bytes = (records.Cut (number_at w32 1 bytes), 5)
+
+-- kind 6: an upgrade has no fields
+abbrev pub upgrade_at : Record × ℕ
+upgrade_at = (records.Upgrade, 1)
+
 abbrev pub found_by_kind : ℕ → List ℕ → Record × ℕ
 found_by_kind kind bytes = if kind == 1 then view_at bytes else
-    (if kind == 2 then message_at bytes else vote_at bytes)
+    (if kind == 2 then message_at bytes else
+    (if kind == 3 then vote_at bytes else
+    (if kind == 4 then age_vote_at bytes else
+    (if kind == 5 then cut_at bytes else upgrade_at))))
 
 -- the fault, or what is found where there is none
 abbrev pub unless : {A : Type 0} → Option DecodeFault → A → Result A DecodeFault

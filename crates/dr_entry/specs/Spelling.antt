@@ -1,5 +1,5 @@
 -- What a valid record is, and the one spelling of each.
-use Rattle.std.specs.Prelude.{◌≡◌, ℕ, ◌<◌, ◌≤◌, ◌^◌, List, ◌∷◌, ◌++◌, length, take, slice_index}
+use Rattle.std.specs.Prelude.{◌≡◌, ⊤, ℕ, ◌<◌, ◌≤◌, ◌^◌, List, [], ◌∷◌, ◌++◌, length, take, slice_index}
 use Rattle.std.specs.List.{flat_map}
 use Rattle.std.specs.Int.{w16, w32, to_be_bytes}
 use Rattle.dr_entry.specs.declared.entry.Entry.{Entry}
@@ -24,6 +24,9 @@ pub record IsValidVote (v : Vote) : Type 0 where
 abbrev pub IsValid : Record → Type 0
 IsValid (records.Entry entry) = IsValidEntry entry
 IsValid (records.Vote vote) = IsValidVote vote
+IsValid (records.AgeVote vote) = 0 < vote.members
+IsValid (records.Cut keep) = ⊤
+IsValid records.Upgrade = ⊤
 
 -- each number fits its field
 abbrev pub FitsEntry : Entry → Type 0
@@ -39,6 +42,9 @@ pub record FitsVote (v : Vote) : Type 0 where
 abbrev pub Fits : Record → Type 0
 Fits (records.Entry entry) = FitsEntry entry
 Fits (records.Vote vote) = FitsVote vote
+Fits (records.AgeVote vote) = (vote.age < 2 ^ 16) × (vote.members < 2 ^ 16)
+Fits (records.Cut keep) = keep < 2 ^ 32
+Fits records.Upgrade = ⊤
 
 abbrev pub entry_spelling : Entry → List ℕ
 entry_spelling (View age number members) = 1 ∷ to_be_bytes w16 age ++ number ∷ to_be_bytes w16 members
@@ -53,6 +59,9 @@ vote_spelling v =
 abbrev pub spelling : Record → List ℕ
 spelling (records.Entry entry) = entry_spelling entry
 spelling (records.Vote vote) = vote_spelling vote
+spelling (records.AgeVote vote) = 4 ∷ to_be_bytes w16 vote.age ++ to_be_bytes w16 vote.members
+spelling (records.Cut keep) = 5 ∷ to_be_bytes w32 keep
+spelling records.Upgrade = 6 ∷ []
 
 -- the first n bytes are the spelling of the valid record r
 pub record Spells (bytes : List ℕ) (r : Record) (n : ℕ) : Type 0 where

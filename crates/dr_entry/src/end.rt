@@ -21,6 +21,8 @@ pub enum End {
     LogFull { len: u64 },
     /// It had taken `turns` turns, as many as the script allows.
     Spent { turns: u32 },
+    /// Its log was missing: it took no part.
+    Absent,
 }
 
 /// What a member put into one of its places: a null, or its message with this index.

@@ -22,7 +22,7 @@ pub use laws::{limits_law, one_spelling};
 pub use limits::{MAX_MEMBERS, MAX_MESSAGE_LENGTH, MAX_MESSAGES};
 pub use message::Message;
 pub use reading::{DecodeFault, decode};
-pub use record::{Record, Value, Vote};
+pub use record::{AgeVote, Record, Value, Vote};
 pub use seq::Seq;
 pub use text::Text;
 pub use writing::{MAX_RECORD, RECORD_ROOM, encode};

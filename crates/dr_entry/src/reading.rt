@@ -7,10 +7,11 @@ ghost use Rattle.dr_entry.specs.Spelling.{Spells};
 ghost use Rattle.dr_entry.specs.Grammar.{decoded, fault_of, unless, first_fault, number_at};
 ghost use Rattle.dr_entry.specs.Grammar.{view_fields, view_at, message_fields, message_at};
 ghost use Rattle.dr_entry.specs.Grammar.{vote_fields, vote_at, trim_fields, trims_at};
+ghost use Rattle.dr_entry.specs.Grammar.{age_vote_at, age_vote_fields, cut_at, cut_fields};
 
-use crate::record::{MESSAGE, VIEW, VOTE};
+use crate::record::{AGE_VOTE, CUT, MESSAGE, UPGRADE, VIEW, VOTE};
 use crate::writing::MAX_RECORD;
-use crate::{Entry, MAX_MEMBERS, MAX_MESSAGE_LENGTH, Message, Record, Value, Vote};
+use crate::{AgeVote, Entry, MAX_MEMBERS, MAX_MESSAGE_LENGTH, Message, Record, Value, Vote};
 use thiserror::Error;
 
 /// Why bytes do not begin with a record. Places count bytes from 0.
@@ -39,6 +40,9 @@ pub fn decode(from: &[u8]) -> Result<(Record, usize), DecodeFault>
         [VIEW, ..] => view_from(from),
         [MESSAGE, ..] => message_from(from),
         [VOTE, ..] => vote_from(from),
+        [AGE_VOTE, ..] => age_vote_from(from),
+        [CUT, ..] => cut_from(from),
+        [UPGRADE, ..] => Ok((Record::Upgrade, 1)),
         [kind, ..] => Err(DecodeFault::BadKind { at: 0, kind: *kind }),
     }
 }
@@ -124,6 +128,24 @@ fn trims_from(from: &[u8], members: u8) -> Result<[u32; MAX_MEMBERS], DecodeFaul
         trim[s] = u32_at(from, 8 + 4 * s)?;
     }
     Ok(trim)
+}
+
+fn age_vote_from(from: &[u8]) -> Result<(Record, usize), DecodeFault>
+    ensures { result ≡ unless (first_fault age_vote_fields from.now) (age_vote_at from.now) }
+{
+    let age = u16_at(from, 1)?;
+    let members = u16_at(from, 3)?;
+    if members == 0 {
+        return Err(DecodeFault::BadField { at: 3 });
+    }
+    Ok((Record::AgeVote(AgeVote { age, members }), 5))
+}
+
+fn cut_from(from: &[u8]) -> Result<(Record, usize), DecodeFault>
+    ensures { result ≡ unless (first_fault cut_fields from.now) (cut_at from.now) }
+{
+    let keep = u32_at(from, 1)?;
+    Ok((Record::Cut { keep }, 5))
 }
 
 fn u8_at(from: &[u8], at: usize) -> Result<u8, DecodeFault>

@@ -9,6 +9,12 @@ pub(crate) const MESSAGE: u8 = 2;
 
 pub(crate) const VOTE: u8 = 3;
 
+pub(crate) const AGE_VOTE: u8 = 4;
+
+pub(crate) const CUT: u8 = 5;
+
+pub(crate) const UPGRADE: u8 = 6;
+
 /// The value of a proposal: who leaves the view, and how many items of each sender are delivered
 /// before they leave.
 #[derive(Clone, Copy, Debug, PartialEq, Eq)]
@@ -31,6 +37,14 @@ pub struct Vote {
     pub value: Value,
 }
 
+/// That an age was about to open: its number, and the members of its first view, as a mask. It stands on the
+/// log of each of these before the age begins.
+#[derive(Clone, Copy, Debug, PartialEq, Eq)]
+pub struct AgeVote {
+    pub age: u16,
+    pub members: u16,
+}
+
 /// What a member writes on its log.
 #[derive(Debug, PartialEq, Eq, Drop)]
 pub enum Record {
@@ -38,6 +52,12 @@ pub enum Record {
     Entry(Entry),
     /// A vote of its own.
     Vote(Vote),
+    /// That an age was about to open.
+    AgeVote(AgeVote),
+    /// Of the entries before, the first `keep` stay, and no other.
+    Cut { keep: u32 },
+    /// From here on the log, which began in the older format, may hold age votes and cuts.
+    Upgrade,
 }
 
 impl Value {
@@ -58,6 +78,15 @@ impl Vote {
     }
 }
 
+impl AgeVote {
+    /// An equal age vote.
+    pub fn copy(&self) -> AgeVote
+        ensures { result ≡ self.now }
+    {
+        *self
+    }
+}
+
 impl Record {
     /// An equal record.
     pub fn copy(&self) -> Record
@@ -66,6 +95,9 @@ impl Record {
         match self {
             Record::Entry(entry) => Record::Entry(entry.copy()),
             Record::Vote(vote) => Record::Vote(vote.copy()),
+            Record::AgeVote(vote) => Record::AgeVote(vote.copy()),
+            Record::Cut { keep } => Record::Cut { keep: *keep },
+            Record::Upgrade => Record::Upgrade,
         }
     }
 }

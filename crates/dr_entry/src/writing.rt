@@ -3,7 +3,7 @@ ghost use Rattle.std.specs.List.{flat_map};
 ghost use Rattle.std.specs.Int.{w32, to_be_bytes};
 ghost use Rattle.dr_entry.specs.Spelling.{IsValid, IsValidVote, Fits, FitsVote, spelling, vote_spelling};
 
-use crate::record::{MESSAGE, VIEW, VOTE};
+use crate::record::{AGE_VOTE, CUT, MESSAGE, UPGRADE, VIEW, VOTE};
 use crate::{Entry, Record, Vote};
 use arrayvec::ArrayVec;
 
@@ -49,6 +49,16 @@ pub fn encode(r: &Record, into: &mut ArrayVec<u8, RECORD_ROOM>)
             put(into, bytes.bytes());
         }
         Record::Vote(vote) => put_vote(into, vote),
+        Record::AgeVote(vote) => {
+            into.push(AGE_VOTE);
+            put(into, &vote.age.to_be_bytes());
+            put(into, &vote.members.to_be_bytes());
+        }
+        Record::Cut { keep } => {
+            into.push(CUT);
+            put(into, &keep.to_be_bytes());
+        }
+        Record::Upgrade => into.push(UPGRADE),
     }
 }
 

@@ -1,7 +1,8 @@
 //! A log alone, over a disk of the program's own.
 ghost use Rattle.std.specs.Prelude.{◌≡◌, false, IfOk};
 ghost use Rattle.dr_entry.specs.Spelling.{IsValid};
-ghost use Rattle.dr_log.specs.State.{as_entry, as_vote};
+ghost use Rattle.dr_log.specs.State.{as_entry, as_other, as_vote};
+ghost use Rattle.dr_log_bytes.specs.Content.{IsPlaced, OnLog};
 
 use crate::disk::CountedDisk;
 use anyhow::anyhow;
@@ -43,6 +44,8 @@ fn greeting() -> Record
     ensures valid { IsValid result }
     ensures entry { as_entry result ≡ 1 }
     ensures vote { as_vote result ≡ 0 }
+    ensures other { as_other result ≡ 0 }
+    ensures placed { (c : OnLog) → IsPlaced c result }
 {
     Record::Entry(Entry::Msg {
         sender: 0,

@@ -1,7 +1,7 @@
 //! The members of a group, led deed by deed.
 ghost use Rattle.std.specs.Prelude.{◌<◌, IfOk, length};
 ghost use Rattle.dr_age.specs.Sound.{IsSound};
-ghost use Rattle.dr_machine.specs.Group.{Group, IsGroup};
+ghost use Rattle.dr_machine.specs.Group.{AllPresent, Group, IsGroup};
 ghost use Rattle.dr_restart.specs.Groups.{group_of};
 ghost use Rattle.dr_script.specs.Ranges.{HasRanges};
 
@@ -45,6 +45,7 @@ pub(crate) fn opened(
 ) -> Result<(Vec<Member>, Vec<u64>), AllocError>
     requires ranges { HasRanges script.now }
     requires group { IsGroup (group_of script.now start.now) }
+    requires present { AllPresent (group_of script.now start.now) }
     ensures { IfOk result (λ r. IsSound (group_of script.now start.now)
         (record { members = r.0.items; table = r.1.items })) }
 {

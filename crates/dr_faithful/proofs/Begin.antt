@@ -16,7 +16,7 @@ use Rattle.dr_history.specs.Places.{first, front_of}
 use Rattle.dr_history.specs.Soundness.{Sound}
 use Rattle.dr_history.specs.declared.opening.Opening.{Opening}
 use Rattle.dr_history_laws.proofs.Lengths.{start-short}
-use Rattle.dr_machine.proofs.Presence.{is_present}
+use Rattle.dr_machine.proofs.Presence.{in_first, is_there}
 use Rattle.dr_machine.specs.Group.{Group, IsGroup, IsPresent, roster}
 use Rattle.dr_machine.specs.World.{no_value, opening_world}
 use Rattle.dr_faithful.proofs.Pasts.{tells_logged, tells_nothing}
@@ -135,7 +135,7 @@ pub begun : (g : Group) (V : Views) → IsGroup g → V 0 ≡ g.opening.members
     → ((v m : ℕ) → has (V v) m ≡ true → m < roster g) → Faithful g V (opening_world g)
 begun g V is opens within = record {
   beginning = record {
-    all = λ m l. is_present g m is l;
+    all = λ m first. is_there g m is first;
   };
   views = record { own = λ m. sym opens; present = λ m l. present m l; within = within };
   items = record {
@@ -199,7 +199,7 @@ begun g V is opens within = record {
 }
   where
     present : (m : ℕ) → IsPresent g m → has (V 0) m ≡ true
-    present m there = rw (opens, is.sound.whole) (rw (← is.sound.present) there)
+    present m there = ap (λ mask. has mask m) opens ∙ in_first g m is there
 
     none : (m c : ℕ) → (recv_column (roster g) ≤ c) × (c < head_column (roster g) 0)
         → (opening_world g).past.own m 0 c ≡ 0

@@ -7,7 +7,6 @@ use Rattle.dr_entry.specs.declared.record.Value.{Value}
 use Rattle.dr_entry.specs.declared.end.SentItem.{SentItem}
 use Rattle.dr_entry.specs.declared.end.SentItem.TheVariants.{Index, Null}
 use Rattle.dr_history.specs.Members.{has}
-use Rattle.dr_machine.proofs.Presence.{is_present}
 use Rattle.dr_machine.specs.Acts.{CanDo, CanTake, Guard, does, effect, effect_of}
 use Rattle.dr_machine.specs.Effects.{appends, logs_vote, puts, stamped, finishes, finishes_by, stamped_in}
 use Rattle.dr_machine.specs.Group.{Group, IsGroup, IsPresent, roster}
@@ -100,9 +99,9 @@ faithful_begins = begun
 pub all_told : (g : Group) (V : Views) (w : World) → Faithful g V w → SuspicionsTold g w
 all_told = suspicions_told
 
-pub waits_for : (g : Group) (V : Views) (w : World) (m : ℕ) → IsGroup g → Faithful g V w → m < roster g
+pub waits_for : (g : Group) (V : Views) (w : World) (m : ℕ) → IsGroup g → Faithful g V w → IsPresent g m
     → w.suspects m ≢ 0 → IsLeastOf (unsuspected_of w m) (w.promise m)
-waits_for g V w m is f l some = promise_least g V w m is f (is_present g m is l) some
+waits_for = promise_least
 
 -- ---- growth
 

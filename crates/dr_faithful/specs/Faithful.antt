@@ -33,11 +33,11 @@ Numbers = ℕ → ℕ → ℕ → ℕ
 abbrev pub Items : Type 0
 Items = ℕ → ℕ → ℕ → Item
 
--- so far every member is there
+-- every member of the first view is there
 pub record IsBeginning (g : Group) : Type 0 where
-  pub all : (m : ℕ) → m < roster g → IsPresent g m
+  pub all : (m : ℕ) → has g.opening.members m ≡ true → IsPresent g m
 
--- each member that is there is in a view of the roster
+-- each member that is there is in a view, and each view is of members of the roster
 pub record AreInViews (g : Group) (V : Views) (view members : ℕ → ℕ) : Type 0 where
   pub own : (m : ℕ) → members m ≡ V (view m)
   pub present : (m : ℕ) → IsPresent g m → has (V (view m)) m ≡ true

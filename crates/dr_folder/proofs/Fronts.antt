@@ -1,83 +1,60 @@
--- How the reading of what bytes begin with goes on from record to record, and how it ends.
-use Rattle.std.proofs.Common.{◌≡◌, inr, refl, ap, sym, subst, ◌∙◌, arith, ℕ, ◌+◌, ◌≤◌, Bool, false, List, [], ◌∷◌, ◌++◌, length, take, drop, length-append}
-use Rattle.dr_entry.specs.declared.entry.Entry.{Entry}
+-- How the reading of what bytes begin with ends.
+use Rattle.std.proofs.Common.{◌≡◌, inr, sym, subst, ℕ, Bool, false, List, drop}
 use Rattle.dr_entry.specs.declared.record.Record.{Record}
-use Rattle.dr_entry.specs.declared.record.Record.TheVariants as records
-use Rattle.dr_entry.specs.declared.record.Vote.{Vote}
-use Rattle.dr_log.specs.declared.block.Block.TheVariants as found
-use Rattle.dr_log.specs.Blocks.{IsBlockAt}
-use Rattle.dr_log.specs.Grammar.{magic}
-use Rattle.dr_log.specs.Parsed.{IsReadTo}
-use Rattle.dr_log.specs.Standing.{votes_in, with_entry, with_vote}
-use Rattle.dr_log.specs.State.{as_vote}
-use Rattle.dr_log.proofs.Growing.{entries-added, votes-added}
-use Rattle.dr_log.proofs.Reading.{begun_read, closed_read, next_read}
-use Rattle.dr_folder.specs.Surveys.{AreSuchRecords, HasBrokenLog, HasClosedLog, HasLog}
+use Rattle.dr_log_bytes.specs.declared.block.Block.TheVariants as found
+use Rattle.dr_log_bytes.specs.Blocks.{IsBlockAt}
+use Rattle.dr_log_bytes.specs.Content.{IsPlaced, OnLog}
+use Rattle.dr_log_bytes.specs.Grammar.{IsBroken}
+use Rattle.dr_log_bytes.specs.Parsed.{IsParsed}
+use Rattle.dr_log_bytes.proofs.Reading.{closed_read, misplaced_breaks, no_record}
+use Rattle.dr_folder.specs.Surveys.{HasClosedLog, HasLog}
 
--- the blocks of such records end at this place
-pub record IsFrontRead (bytes : List ℕ) (entries : List Entry) (votes at : ℕ) : Type 0 where
-  pub records : List Record
-  pub read : IsReadTo bytes records at
-  pub are : AreSuchRecords records entries votes
-  pub few : votes ≤ at
-
-pub begun_front : (bytes : List ℕ) → take 8 bytes ≡ magic → IsFrontRead bytes [] 0 8
-begun_front bytes is = record {
-  records = [];
-  read = begun_read bytes is;
-  are = record { entries_are = refl; votes_are = refl };
-  few = omega arith;
-}
-
--- a record more
-vote_added : (r : Record) (vs : List Vote) → length (with_vote r vs) ≡ length vs + as_vote r
-vote_added (records.Entry entry) vs = omega arith
-vote_added (records.Vote vote) vs = length-append vs (vote ∷ [])
-
-one_at_most : (r : Record) → as_vote r ≤ 1
-one_at_most (records.Entry entry) = omega arith
-one_at_most (records.Vote vote) = omega arith
-
-pub next_front : (bytes : List ℕ) (es news : List Entry) (votes count at place n : ℕ) (r : Record)
-    → IsFrontRead bytes es votes at → IsBlockAt bytes at (found.Record r n) → news ≡ with_entry r es
-    → count ≡ votes + as_vote r → place ≡ at → IsFrontRead bytes news count (place + (1 + n))
-next_front bytes es news votes count at place n r is block entries counted same = record {
-  records = is.records ++ r ∷ [];
-  read = subst (λ (k : ℕ). IsReadTo bytes (is.records ++ r ∷ []) (k + (1 + n))) (sym same)
-      (next_read bytes is.records at n r is.read block);
-  are = record {
-    entries_are = entries-added is.records r ∙ ap (with_entry r) is.are.entries_are ∙ sym entries;
-    votes_are = ap (λ (l : List Vote). length l) (votes-added is.records r)
-        ∙ vote_added r (votes_in is.records) ∙ ap (λ (k : ℕ). k + as_vote r) is.are.votes_are ∙ sym counted;
+-- at a closed gate
+pub closed_front : (bytes : List ℕ) (c : OnLog) (at : ℕ) → IsParsed bytes c at → IsBlockAt bytes at found.Closed
+    → HasClosedLog bytes c at
+closed_front bytes c at is block = record {
+  log = record {
+    newer = is.newer;
+    records = is.records;
+    log = closed_read bytes is.newer is.records at is.read block;
+    content = is.content;
   };
-  few = omega (arith, is.few, counted, same, one_at_most r);
-}
-
--- a closed gate ends it, and so does what is none
-pub closed_front : (bytes : List ℕ) (es : List Entry) (votes at : ℕ) → IsFrontRead bytes es votes at
-    → IsBlockAt bytes at found.Closed → HasClosedLog bytes es votes at
-closed_front bytes es votes at is block = record {
-  records = is.records;
-  log = closed_read bytes is.records at is.read block;
   place = is.read.place;
-  are = is.are;
 }
 
-pub broken_front : (bytes : List ℕ) (es : List Entry) (votes at : ℕ) → IsFrontRead bytes es votes at
-    → IsBlockAt bytes at found.Broken → HasBrokenLog bytes es votes at
-broken_front bytes es votes at is block = record {
+-- where blocks break off
+broken_front : (bytes : List ℕ) (c : OnLog) (at : ℕ) → IsParsed bytes c at → IsBroken c (drop at bytes)
+    → HasLog bytes c at false
+broken_front bytes c at is broken = inr (record {
   breaks = record {
+    newer = is.newer;
     records = is.records;
     spelled = is.read.spelled;
+    placed = is.read.placed;
     rest = drop at bytes;
-    broken = block;
+    broken = subst (λ (d : OnLog). IsBroken d (drop at bytes)) (sym is.content) broken;
     parts = is.read.parts;
     place = is.read.place;
   };
-  are = is.are;
-}
+  content = is.content;
+})
 
-pub broken_log : (bytes : List ℕ) (es : List Entry) (votes at : ℕ) (closed : Bool) → closed ≡ false
-    → IsFrontRead bytes es votes at → IsBlockAt bytes at found.Broken → HasLog bytes es votes at closed
-broken_log bytes es votes at closed shut is block =
-    subst (λ (b : Bool). HasLog bytes es votes at b) (sym shut) (inr (broken_front bytes es votes at is block))
+-- the same of what is told of it
+told_front : (bytes : List ℕ) (c told : OnLog) (at place : ℕ) (closed : Bool) → IsParsed bytes c at
+    → IsBroken c (drop at bytes) → told ≡ c → place ≡ at → closed ≡ false → HasLog bytes told place closed
+told_front bytes c told at place closed is broken all here shut =
+    subst (λ (b : Bool). HasLog bytes told place b) (sym shut)
+    (subst (λ (k : ℕ). HasLog bytes told k false) (sym here)
+    (subst (λ (d : OnLog). HasLog bytes d at false) (sym all) (broken_front bytes c at is broken)))
+
+-- so at what is no gate, and at a misplaced record
+pub gateless_front : (bytes : List ℕ) (c told : OnLog) (at place : ℕ) (closed : Bool) → IsParsed bytes c at
+    → IsBlockAt bytes at found.Broken → told ≡ c → place ≡ at → closed ≡ false → HasLog bytes told place closed
+gateless_front bytes c told at place closed is block =
+    told_front bytes c told at place closed is (no_record c (drop at bytes) block)
+
+pub misplaced_front : (bytes : List ℕ) (c told : OnLog) (at place n : ℕ) (closed : Bool) (r : Record)
+    → IsParsed bytes c at → IsBlockAt bytes at (found.Record r n) → ¬ IsPlaced c r → told ≡ c → place ≡ at
+    → closed ≡ false → HasLog bytes told place closed
+misplaced_front bytes c told at place n closed r is block misplaced =
+    told_front bytes c told at place closed is (misplaced_breaks bytes c at n r block misplaced)

@@ -45,12 +45,12 @@ taken_more n files lists es are is = record {
 }
 
 pub log_taken : {D : Type 0} (n : ℕ) (files : List LogFile) (logs : List (LogState D)) (log : LogState D)
-    → AreTakenFor n files (entries_on logs) → IsTakenFor (file_in files n) log.entries
+    → AreTakenFor n files (entries_on logs) → IsTakenFor (file_in files n) log.content.entries
     → AreTakenFor (n + 1) files (entries_on (logs ++ log ∷ []))
 log_taken {D} n files logs log are is =
     subst (λ (lists : List (List Entry)). AreTakenFor (n + 1) files lists)
-    (sym (map-append (λ (log : LogState D). log.entries) logs (log ∷ [])))
-    (taken_more n files (entries_on logs) log.entries are is)
+    (sym (map-append (λ (log : LogState D). log.content.entries) logs (log ∷ [])))
+    (taken_more n files (entries_on logs) log.content.entries are is)
 
 -- a file that was moved away is put back
 pub put_back : (files : List LogFile) (member : ℕ) (away file d : LogFile) → file ≡ get_or files member d

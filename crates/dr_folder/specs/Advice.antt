@@ -13,7 +13,7 @@ use Rattle.dr_folder.specs.Foretold.{IsBarred, IsForetold}
 
 -- a file has a log with entries, and nothing stands behind its closed gate
 abbrev pub IsIntact : Survey → Type 0
-IsIntact (Log len entries votes at true) = (len ≡ at + 1) × (0 < length entries)
+IsIntact (Log len content at true) = (len ≡ at + 1) × (0 < length content.entries)
 IsIntact survey = ⊥
 
 -- there are others than this member, and all of them have intact logs

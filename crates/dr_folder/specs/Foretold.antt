@@ -1,11 +1,10 @@
 -- What the next run over the files of a folder begins with, or is refused by.
 use Rattle.std.specs.Prelude.{◌≡◌, ◌⊎◌, ℕ, ◌<◌, ◌^◌, List, [], length, get_or, slice_get, Some}
 use Rattle.dr_entry.specs.declared.entry.Entry.{Entry}
-use Rattle.dr_entry.specs.declared.record.Vote.{Vote}
 use Rattle.dr_gather.specs.Gathering.{AreUsedUp, IsStartOf, judged_by}
 use Rattle.dr_history.specs.Restarting.{AreSound, IsFirstDisagreement, IsFirstForeign}
-use Rattle.dr_log.specs.Grammar.{IsDamaged}
-use Rattle.dr_log.specs.Standing.{StandsFor}
+use Rattle.dr_log_bytes.specs.Content.{OnLog}
+use Rattle.dr_log_bytes.specs.Grammar.{IsDamaged, StandFor}
 use Rattle.dr_restart.specs.declared.start.Start.{Start}
 use Rattle.dr_script.specs.declared.script.Script.{Script}
 use Rattle.dr_text.specs.declared.last.Last.{Last}
@@ -19,7 +18,7 @@ file_in files m = get_or files m Missing
 
 -- bytes are a log with these entries
 abbrev pub StandsIn : List ℕ → List Entry → Type 0
-StandsIn bytes es = (vs : List Vote) × StandsFor bytes es vs
+StandsIn bytes es = (c : OnLog) × StandFor bytes c × (c.entries ≡ es)
 
 -- a run takes a file for the log with these entries; no file is as good as one without bytes
 abbrev pub IsTakenFor : LogFile → List Entry → Type 0

@@ -114,11 +114,10 @@ fn is_intact(survey: &Survey) -> bool
     match survey {
         Survey::Log {
             len,
-            entries,
+            content,
             at,
             closed,
-            ..
-        } => *closed && len.saturating_sub(*at) == 1 && !entries.as_slice().is_empty(),
+        } => *closed && len.saturating_sub(*at) == 1 && !content.entries.is_empty(),
         _ => false,
     }
 }

@@ -21,7 +21,7 @@ pub(crate) fn push_differences(out: &mut String, surveys: &[Survey]) -> Result<(
 /// The entries of a log; none where there is no log.
 pub(crate) fn entries_of(survey: &Survey) -> &[Entry] {
     match survey {
-        Survey::Log { entries, .. } => entries.as_slice(),
+        Survey::Log { content, .. } => content.entries.as_slice(),
         _ => &[],
     }
 }

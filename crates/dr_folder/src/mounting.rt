@@ -41,7 +41,7 @@ pub(crate) fn mount_files(
 
 /// The log in the file of a member. Where there is none a run makes an empty one.
 fn mount_file(alloc: Global, file: &LogFile, member: u8) -> Result<Log<CalmDisk>, Option<Last>>
-    ensures taken { IfOk result (λ log. IsTakenFor file.now log.entries) }
+    ensures taken { IfOk result (λ log. IsTakenFor file.now log.content.entries) }
     ensures refused { (last : LastOf) → IsErrOf result (Some last) → IsRefusedBy file.now member last }
 {
     match file {
@@ -56,7 +56,7 @@ fn mount_file(alloc: Global, file: &LogFile, member: u8) -> Result<Log<CalmDisk>
 
 /// The log of a member on a disk that never fails.
 fn mount(alloc: Global, disk: CalmDisk, member: u8) -> Result<Log<CalmDisk>, Option<Last>>
-    ensures taken { IfOk result (λ log. StandsIn disk.state.content log.entries) }
+    ensures taken { IfOk result (λ log. StandsIn disk.state.content log.content.entries) }
     ensures refused { (last : LastOf) → IsErrOf result (Some last)
         → IsRefusedWith disk.state.content member last }
 {

@@ -2,6 +2,7 @@
 
 use crate::survey::Survey;
 use dr_entry::Entry;
+use dr_log_bytes::Content;
 use dr_text::push_entry;
 use std::alloc::AllocError;
 use std::fmt::Write;
@@ -24,21 +25,28 @@ fn push_row(out: &mut String, number: usize, survey: &Survey) -> Result<(), Allo
         Survey::Empty { len } => writeln!(out, "member-{number}.log: bytes {len}, empty"),
         Survey::Log {
             len,
-            entries,
-            votes,
+            content,
             at,
             closed,
         } => {
-            let entries = entries.as_slice();
-            let count = entries.len();
-            write!(
-                out,
-                "member-{number}.log: bytes {len}, entries {count}, votes {votes}, "
-            )?;
+            write!(out, "member-{number}.log: bytes {len}, ")?;
+            push_content(out, content)?;
             push_end(out, *len, *at, *closed)?;
-            push_last_view(out, entries)
+            push_last_view(out, content.entries.as_slice())
         }
     }
+}
+
+/// Appends what is on a log, by number; of age votes only where there are some.
+fn push_content(out: &mut String, content: &Content) -> Result<(), AllocError> {
+    let entries = content.entries.len();
+    let votes = content.votes.len();
+    let age_votes = content.age_votes.len();
+    write!(out, "entries {entries}, votes {votes}, ")?;
+    if age_votes == 0 {
+        return Ok(());
+    }
+    write!(out, "age votes {age_votes}, ")
 }
 
 /// Appends where the records of a log end, and how.

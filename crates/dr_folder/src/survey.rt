@@ -1,14 +1,12 @@
 //! What a file has.
 
-ghost use Rattle.std.specs.Prelude.{◌≡◌, ◌+◌, ◌^◌, ◌<◌, IfOk, OnOk, length};
-ghost use Rattle.dr_log.specs.Standing.{with_entry};
-ghost use Rattle.dr_log.specs.State.{as_vote};
+ghost use Rattle.std.specs.Prelude.{◌≡◌, false, IfOk};
 ghost use Rattle.dr_folder.specs.declared.file.LogFile.TheVariants as files;
 ghost use Rattle.dr_folder.specs.Surveys.{AreSurveys, HasLog, IsSurvey};
 
 use crate::file::LogFile;
-use dr_entry::{Entry, Record, Seq, Text};
-use dr_log::{Block, FIRST_GATE, begins_as_log, block_at};
+use dr_entry::{Seq, Text};
+use dr_log_bytes::{Block, Content, FIRST_GATE, block_at, format_of};
 use std::alloc::{AllocError, Global};
 
 /// A file that is no longer is a log that is being made.
@@ -26,12 +24,11 @@ pub enum Survey {
     Empty {
         len: usize,
     },
-    /// A file of so many bytes, which begins with these entries and so many votes. Then at this place a gate is
-    /// closed, or the bytes are damaged.
+    /// A file of so many bytes, which begins as a log on which this is. Then at this place a gate is closed, or
+    /// the bytes are damaged.
     Log {
         len: usize,
-        entries: Seq<Entry>,
-        votes: usize,
+        content: Content,
         at: usize,
         closed: bool,
     },
@@ -74,8 +71,7 @@ fn survey_bytes(alloc: Global, bytes: &Seq<u8>) -> Result<Survey, AllocError>
     let front = front_of(alloc, bytes)?;
     Ok(Survey::Log {
         len,
-        entries: Seq::of(front.entries),
-        votes: front.votes,
+        content: front.content,
         at: front.at,
         closed: front.closed,
     })
@@ -84,53 +80,52 @@ fn survey_bytes(alloc: Global, bytes: &Seq<u8>) -> Result<Survey, AllocError>
 /// What bytes begin with.
 #[derive(Drop)]
 struct Front {
-    entries: Vec<Entry>,
-    votes: usize,
+    content: Content,
     at: usize,
     closed: bool,
 }
 
 /// Reads the records of a log up to the first closed gate, or as far as they go.
 fn front_of(alloc: Global, bytes: &[u8]) -> Result<Front, AllocError>
-    ensures { IfOk result (λ front.
-        HasLog bytes.now front.entries.items front.votes front.at front.closed) }
+    ensures { IfOk result (λ front. HasLog bytes.now front.content front.at front.closed) }
 {
-    let mut front = Front {
-        entries: Vec::new(alloc),
-        votes: 0,
-        at: 0,
-        closed: false,
+    let Some(newer) = format_of(bytes) else {
+        let content = Content::empty(alloc, true);
+        return Ok(broken_off(content, 0));
     };
-    if !begins_as_log(bytes) {
-        return Ok(front);
-    }
-    front.at = FIRST_GATE;
+    let mut content = Content::empty(alloc, newer);
+    let mut at = FIRST_GATE;
     loop {
-        match block_at(bytes, front.at) {
+        match block_at(bytes, at) {
             Block::Record(record, len) => {
-                sort(record, &mut front)?;
-                front.at += 1 + len;
+                if !content.may_take(&record) {
+                    return Ok(broken_off(content, at));
+                }
+                let size = 1 + len;
+                content.take(record, size as u64)?;
+                at += size;
             }
             Block::Closed => {
-                front.closed = true;
-                return Ok(front);
+                return Ok(Front {
+                    content,
+                    at,
+                    closed: true,
+                });
             }
-            Block::Broken => return Ok(front),
+            Block::Broken => return Ok(broken_off(content, at)),
         }
     }
 }
 
-/// Sorts a record in with what bytes begin with.
-fn sort(r: Record, front: &mut Front) -> Result<(), AllocError>
-    requires { front.old.votes + 1 < 2 ^ 64 }
-    ensures entries { OnOk result (front.new.entries.items ≡ with_entry r front.old.entries.items) }
-    ensures votes { OnOk result (front.new.votes ≡ front.old.votes + as_vote r) }
-    ensures at { front.new.at ≡ front.old.at }
-    ensures closed { front.new.closed ≡ front.old.closed }
+/// What bytes begin with that break off at a place.
+fn broken_off(content: Content, at: usize) -> Front
+    ensures content { result.content ≡ content }
+    ensures at { result.at ≡ at }
+    ensures closed { result.closed ≡ false }
 {
-    match r {
-        Record::Entry(entry) => front.entries.push(entry)?,
-        Record::Vote(_) => front.votes += 1,
+    Front {
+        content,
+        at,
+        closed: false,
     }
-    Ok(())
 }

@@ -5,14 +5,13 @@ use Rattle.dr_ages.specs.declared.stop.Stop.TheVariants as stops
 use Rattle.dr_ages.specs.Refused.{AreRead, IsFirstDamaged, IsRefusal}
 use Rattle.dr_disk.specs.Disk.{Told, content_of}
 use Rattle.dr_entry.specs.declared.entry.Entry.{Entry}
-use Rattle.dr_entry.specs.declared.record.Vote.{Vote}
 use Rattle.dr_folder.specs.declared.file.LogFile.{LogFile}
 use Rattle.dr_folder.specs.declared.file.LogFile.TheVariants.{Missing, Unread, Bytes}
 use Rattle.dr_folder.specs.Foretold.{AreTakenFor, IsBarred, IsForetold, IsRefusedBy, IsTakenFor, file_in}
 use Rattle.dr_foretold.specs.Held.{HoldFiles, IsDiskOf}
 use Rattle.dr_gather.specs.Gathering.{IsStartOf}
-use Rattle.dr_log.specs.Grammar.{IsDamaged}
-use Rattle.dr_log.specs.Standing.{StandsFor}
+use Rattle.dr_log_bytes.specs.Content.{OnLog}
+use Rattle.dr_log_bytes.specs.Grammar.{IsDamaged, StandFor}
 use Rattle.dr_restart.specs.declared.start.Start.{Start}
 use Rattle.dr_script.specs.declared.script.Script.{Script}
 use Rattle.dr_text.specs.declared.last.Last.TheVariants as lasts
@@ -20,14 +19,14 @@ use Rattle.dr_yard.specs.Yards.{YardState}
 
 -- a disk reads as the log that its file is taken for
 one_read : (file : LogFile) (told : Option Told) (es : List Entry) → IsDiskOf file told → IsTakenFor file es
-    → IsSomeAnd told (λ t. (vs : List Vote) × StandsFor (content_of t) es vs)
+    → IsSomeAnd told (λ t. (c : OnLog) × StandFor (content_of t) c × (c.entries ≡ es))
 one_read Missing None es disk taken = absurd disk
 one_read Missing (Some t) es same taken =
-    (taken.0, subst (λ (l : List ℕ). StandsFor l es taken.0) (sym same) taken.1)
+    (taken.0, subst (λ (l : List ℕ). StandFor l taken.0) (sym same) taken.1, taken.2)
 one_read (Unread why) told es disk taken = absurd taken
 one_read (Bytes bytes) None es disk taken = absurd disk
 one_read (Bytes bytes) (Some t) es same taken =
-    (taken.0, subst (λ (l : List ℕ). StandsFor l es taken.0) (sym same) taken.1)
+    (taken.0, subst (λ (l : List ℕ). StandFor l taken.0) (sym same) taken.1, taken.2)
 
 taken_read : (n : ℕ) (files : List LogFile) (yard : YardState) (lists : List (List Entry))
     → HoldFiles yard files → AreTakenFor n files lists → AreRead n yard lists

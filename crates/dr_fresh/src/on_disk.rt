@@ -2,9 +2,8 @@
 ghost use Rattle.std.specs.Prelude.{◌≡◌, ◌≢◌, ◌<◌, ◌≤◌, ◌↔◌, IfOk, IfErr, IfSome, IsErrOf, MatchResult, OnOk, []};
 ghost use Rattle.dr_disk.specs.Disk.{content_of};
 ghost use Rattle.dr_io.specs.Faults.{Rose};
-ghost use Rattle.dr_log.specs.Standing.{StandsFor};
 ghost use Rattle.dr_fresh.specs.declared.on_disk.FreshWhy.TheVariants as whys;
-ghost use Rattle.dr_fresh.specs.Fresh.{IsEmpty, IsFresh};
+ghost use Rattle.dr_fresh.specs.Fresh.{HasNoRecord, IsEmpty, IsFresh};
 
 use dr_disk::Disk;
 use dr_entry::{Entry, Record};
@@ -59,7 +58,7 @@ pub fn fresh_log<D: Disk>(
 ) -> Result<Log<D>, FreshFault<D>>
     requires { 0 < start.now.members }
     ensures fresh { IfOk result (IsFresh start.now limit) }
-    ensures unused { IfOk result (λ _. IfSome (D.told disk) (λ told. StandsFor (content_of told) [] [])) }
+    ensures unused { IfOk result (λ _. IfSome (D.told disk) HasNoRecord) }
     ensures used { IfErr result (λ e. e.why ≡ whys.Used → IfSome (D.told disk)
         (λ told. content_of told ≢ [])) }
     ensures fault { IfErr result (λ e. e.why ≡ whys.DiskFault → Rose (D.faults disk) (D.faults e.disk)) }
@@ -88,7 +87,7 @@ pub fn fresh_log<D: Disk>(
 fn empty_log<D: Disk>(alloc: Global, disk: D, limit: u64) -> Result<Log<D>, FreshFault<D>>
     requires { 9 ≤ limit }
     ensures empty { IfOk result (IsEmpty limit) }
-    ensures unused { IfOk result (λ _. IfSome (D.told disk) (λ told. StandsFor (content_of told) [] [])) }
+    ensures unused { IfOk result (λ _. IfSome (D.told disk) HasNoRecord) }
     ensures used { IfErr result (λ e. e.why ≡ whys.Used → IfSome (D.told disk)
         (λ told. content_of told ≢ [])) }
     ensures fault { IfErr result (λ e. e.why ≡ whys.DiskFault → Rose (D.faults disk) (D.faults e.disk)) }
@@ -98,7 +97,7 @@ fn empty_log<D: Disk>(alloc: Global, disk: D, limit: u64) -> Result<Log<D>, Fres
 {
     match Log::mount(alloc, disk, limit) {
         Ok(log) => {
-            if log.entries().is_empty() && log.votes().is_empty() {
+            if log.is_empty() {
                 return Ok(log);
             }
             Err(FreshFault {

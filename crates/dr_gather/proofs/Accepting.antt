@@ -14,7 +14,7 @@ use Rattle.dr_history_laws.proofs.Keeping.{prefix_beside, prefix_shorter}
 use Rattle.dr_history_laws.proofs.Openings.{InOrder-first}
 use Rattle.dr_history_laws.proofs.Parts.{both_along, parts_all_along, parts_sound}
 use Rattle.dr_history_laws.proofs.Standing.{history-stands, part-stands, stands-by}
-use Rattle.dr_machine.specs.Group.{IsGroup, roster}
+use Rattle.dr_machine.specs.Group.{AllPresent, IsGroup, roster}
 use Rattle.dr_machine.proofs.Presence.{is_present}
 use Rattle.dr_restart.specs.declared.start.Start.{Start}
 use Rattle.dr_restart.specs.Groups.{group_of}
@@ -53,28 +53,28 @@ none_accepted script lists none = record {
 
 -- first parts of the histories of its members, by their accounts
 first_parts : (script : Script) (start : Start) (ends : List MemberEnd) (lists : List (List Entry))
-    → IsGroup (group_of script start) → length ends ≡ roster (group_of script start)
+    → AllPresent (group_of script start) → length ends ≡ roster (group_of script start)
     → AreFirstPartsOf ends lists → AreFirstParts (group_of script start).opening (accounts_of ends) lists
-first_parts script start ends lists group all parts m es at =
+first_parts script start ends lists present all parts m es at =
     let part = parts m es at in (
       part.0,
-      is_present (group_of script start) part.0 group
+      is_present (group_of script start) part.0 present
           (omega (arith, slice_get_within ends part.0 part.1 part.2, all)),
       subst (λ (end : Option MemberEnd).
           IsPrefixOf es (option_map_or (λ (e : MemberEnd). e.history) end [])) (sym part.2) part.3,
     )
 
 pub ended_accepted : (script : Script) (start : Start) (ends : List MemberEnd) (lists : List (List Entry))
-    → IsGroup (group_of script start) → EndsAgreed (group_of script start).opening ends
-    → length ends ≡ roster (group_of script start) → AreFirstPartsOf ends lists → AreAccepted script lists
-ended_accepted script start ends lists group agreed all parts = record {
+    → IsGroup (group_of script start) → AllPresent (group_of script start)
+    → EndsAgreed (group_of script start).opening ends → length ends ≡ roster (group_of script start) → AreFirstPartsOf ends lists → AreAccepted script lists
+ended_accepted script start ends lists group present agreed all parts = record {
   sound = parts_sound (group_of script start).opening (judged_by script) (accounts_of ends) lists group.sound
       agreed.agreed firsts refl;
   along = parts_all_along (group_of script start).opening (accounts_of ends) lists agreed.agreed firsts;
 }
   where
     firsts : AreFirstParts (group_of script start).opening (accounts_of ends) lists
-    firsts = first_parts script start ends lists group all parts
+    firsts = first_parts script start ends lists present all parts
 
 -- ---- where the opening of an age has stopped
 

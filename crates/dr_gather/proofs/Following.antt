@@ -13,7 +13,7 @@ use Rattle.dr_history.specs.Members.{has}
 use Rattle.dr_history.specs.Order.{first_entries}
 use Rattle.dr_history.specs.Agreement.{EndsAgreed, accounts_of}
 use Rattle.dr_history.specs.Restarting.{AreLeftBy, IsLeftBy, IsLongest, Kept}
-use Rattle.dr_history.specs.Soundness.{IsPresentIn, Sound}
+use Rattle.dr_history.specs.Soundness.{IsPresentIn, Sound, whole_roster}
 use Rattle.dr_history_laws.proofs.Keeping.{longest_keeps, sound_later}
 use Rattle.dr_history_laws.proofs.Lists.{slice_get-some}
 use Rattle.dr_logged.specs.Left.{IsLeftOf}
@@ -38,22 +38,22 @@ there_is o n m whole is =
     let small : nat_lt m n ≡ true = sym (has_ones n m) ∙ (ap (λ (k : ℕ). has k m) (sym whole) ∙ is) in
     ltb-true m n small
 
-are_left : (o : Opening) (ends : List MemberEnd) (lists : List (List Entry)) → Sound o
+are_left : (o : Opening) (ends : List MemberEnd) (lists : List (List Entry)) → o.present ≡ whole_roster o
     → LeaveLogs o ends lists → AreLeftBy o (accounts_of ends) lists
-are_left o ends lists sound is = record { each = each; all = all }
+are_left o ends lists whole is = record { each = each; all = all }
   where
     each : (i : ℕ) (l : List Entry) → slice_get lists i ≡ Some l
         → IsPresentIn o i × IsLeftBy (accounts_of ends i) l
     each i l at =
         let within : i < length lists = slice_get_within lists i l at in
         let e = slice_get-some ends i (omega (arith, within, is.logs)) in (
-          is_there o (length o.messages) i sound.present (omega (arith, within, is.logs, is.roster)),
+          is_there o (length o.messages) i whole (omega (arith, within, is.logs, is.roster)),
           left_by ends i e.0 l e.1 (is.each i e.0 l e.1 at).left,
         )
 
     all : (i : ℕ) → IsPresentIn o i → (l : List Entry) × (slice_get lists i ≡ Some l)
     all i present = slice_get-some lists i
-        (omega (arith, there_is o (length o.messages) i sound.present present, is.logs, is.roster))
+        (omega (arith, there_is o (length o.messages) i whole present, is.logs, is.roster))
 
 -- a longest of the logs begins with the age's first entries
 pub next_begins : (o : Opening) (ends : List MemberEnd) (lists : List (List Entry)) (es : List Entry)
@@ -63,9 +63,9 @@ next_begins o ends lists es is longest =
     let e = slice_get-some ends longest.place (omega (arith, within, is.logs)) in
     (is.each longest.place e.0 es e.1 longest.one).begins
 
-pub next_keeps : (o next : Opening) (ends : List MemberEnd) (lists : List (List Entry)) → Sound o
-    → EndsAgreed o ends → LeaveLogs o ends lists → Sound next → IsLongest lists next.start
+pub next_keeps : (o next : Opening) (ends : List MemberEnd) (lists : List (List Entry))
+    → o.present ≡ whole_roster o → EndsAgreed o ends → LeaveLogs o ends lists → Sound next → IsLongest lists next.start
     → Kept o (accounts_of ends) next
-next_keeps o next ends lists sound agreed is sound_next longest =
-    longest_keeps o next (accounts_of ends) lists agreed.agreed (are_left o ends lists sound is)
+next_keeps o next ends lists whole agreed is sound_next longest =
+    longest_keeps o next (accounts_of ends) lists agreed.agreed (are_left o ends lists whole is)
     longest (sound_later o next sound_next (next_begins o ends lists next.start is longest))

@@ -1,26 +1,24 @@
 -- The start that logs make is that of a group of the script.
-use Rattle.std.proofs.Common.{◌≡◌, ◌≢◌, refl, sym, ap, ◌∙◌, ℕ, ◌+◌, ◌-◌, ◌^◌, ◌<◌, ◌≤◌, ◌⊎◌, inl, inr, arith, All, List, [], length, take, None, Some, zero, suc, append-nil, slice_get, get_or}
-use Rattle.std.specs.Prelude.{Option, IsSomeAnd}
-use Rattle.std.proofs.Math.Pow.{pow_mono}
+use Rattle.std.proofs.Common.{◌≡◌, refl, sym, ap, ◌∙◌, subst, ℕ, ◌+◌, ◌-◌, ◌^◌, ◌<◌, ◌≤◌, ◌⊎◌, inl, inr, true, arith, All, List, [], length, take, Some, append-nil, slice_get, get_or}
+use Rattle.std.specs.Prelude.{Option}
 use Rattle.std.proofs.lemmas.Option.{slice_get-get_or, same_Some}
 use Rattle.dr_entry.specs.declared.entry.Entry.{Entry}
 use Rattle.dr_entry.specs.declared.entry.Entry.TheVariants.{View, Msg}
 use Rattle.dr_entry.specs.Spelling.{IsValidEntry}
-use Rattle.dr_history.specs.Members.{members_below, members_of}
+use Rattle.dr_history.specs.Members.{has}
 use Rattle.dr_history.specs.History.{GroupView, IsPrefixOf, view_of}
-use Rattle.dr_history.specs.Order.{MayFollow}
 use Rattle.dr_history.specs.Restarting.{AreAlong, next_age}
-use Rattle.dr_history.specs.Soundness.{MayStand}
+use Rattle.dr_history.specs.Soundness.{AreOfRoster, MayStand}
 use Rattle.dr_history_laws.proofs.Keeping.{prefix_beside}
 use Rattle.dr_history_laws.proofs.Standing.{stands-by}
-use Rattle.dr_machine.specs.Group.{IsGroup}
+use Rattle.dr_machine.specs.Group.{AllPresent, IsGroup}
 use Rattle.dr_restart.proofs.Groups.{first_group}
 use Rattle.dr_restart.specs.declared.start.Start.{Start}
 use Rattle.dr_restart.specs.Groups.{group_of}
 use Rattle.dr_script.specs.declared.script.Script.{Script}
 use Rattle.dr_script.specs.Ranges.{HasGroupRanges}
 use Rattle.dr_gather.specs.Gathering.{IsStartOf, judged_by}
-use Rattle.dr_gather.proofs.Stands.{sender_small}
+use Rattle.dr_quorum.proofs.Stands.{sender_small}
 
 -- the entries of the start are those of a log that was found sound
 start_stands : (script : Script) (lists : List (List Entry)) (start : Start) → IsStartOf script lists start
@@ -50,35 +48,24 @@ start_group script lists start ranges small is =
         entries = λ i e at. stands-by (judged_by script) (group_of script start).opening
             (take i start.entries) e refl (start_stands script lists start is i e at);
         later = λ v some. later_age (view_of start.entries) start.age v is.restart.next some;
-        whole = is.members ∙ ap (λ (n : ℕ). 2 ^ n - 1) (sym ranges.lists);
-        present = is.present ∙ ap (λ (n : ℕ). 2 ^ n - 1) (sym ranges.lists);
+        members = subst (AreOfRoster (length script.messages)) (sym is.members) first.sound.members;
+        part = λ m there. subst (λ mask. has mask m ≡ true) (sym is.present)
+            (subst (λ mask. has mask m ≡ true) is.members there);
+        present = λ m there. first.sound.present m (subst (λ mask. has mask m ≡ true) is.present there);
       };
+      joined = is.present ∙ sym is.members;
     }
+
+-- all of the roster are there
+pub start_whole : (script : Script) (lists : List (List Entry)) (start : Start) → HasGroupRanges script
+    → IsStartOf script lists start → AllPresent (group_of script start)
+start_whole script lists start ranges is = is.present ∙ ap (λ (n : ℕ). 2 ^ n - 1) (sym ranges.lists)
 
 -- ---- its entries are valid
 
-none_in_none : members_of 0 ≡ []
-unfolding members_of members_below
-none_in_none = refl
-
-some_in : (m : ℕ) → members_of m ≢ [] → 0 < m
-some_in m some = by m refl
-  where
-    by : (n : ℕ) → m ≡ n → 0 < m
-    by zero e = absurd (some (ap members_of e ∙ none_in_none))
-    by (suc n) e = omega (arith, e)
-
 valid_entry : (script : Script) (read : List Entry) (e : Entry) → HasGroupRanges script
     → MayStand (judged_by script) read e → IsValidEntry e
-valid_entry script read (View a n m) ranges (inl opens) =
-    let few : 1 ≤ length script.messages = omega (arith, ranges.some_member, ranges.lists) in
-    let some : 2 ^ 1 ≤ 2 ^ length script.messages = pow_mono few in
-    omega (arith, some, opens.whole)
-valid_entry script read (View a n m) ranges (inr follows) = by (view_of read) follows
-  where
-    by : (o : Option GroupView) → IsSomeAnd o (λ v. MayFollow v a n m) → 0 < m
-    by None h = absurd h
-    by (Some v) h = some_in m h.some
+valid_entry script read (View a n m) ranges stands = stands.0.some
 valid_entry script read (Msg s i b) ranges stands =
     (sender_small script s i b ranges stands.2, (first_group script ranges).short s i b stands.2)
 

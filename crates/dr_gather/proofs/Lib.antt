@@ -4,5 +4,4 @@ pub mod Following
 pub mod Grouping
 pub mod Logs
 pub mod Refusing
-pub mod Stands
-pub mod Walks
+mod Rosters

@@ -5,7 +5,7 @@ use Rattle.dr_entry.specs.declared.entry.Entry.TheVariants.{View}
 use Rattle.dr_disk.specs.Disk.{Told}
 use Rattle.dr_disk.specs.Images.{Goes}
 use Rattle.dr_log.specs.Grouping.{added_all, group}
-use Rattle.dr_log.specs.Standing.{IsNoneOrAll, as_records, entries_length}
+use Rattle.dr_log.specs.Standing.{IsNoneOrAll, as_records, with_entries}
 use Rattle.dr_log.specs.State.{LogState}
 use Rattle.dr_logged.specs.Served.{IsSafe}
 use Rattle.dr_restart.specs.declared.start.Start.{Start}
@@ -18,20 +18,19 @@ opened_with start members = start.entries ++ View start.age 0 members ∷ []
 
 -- what a log lacks of a list whose first entries are its own
 abbrev pub lacked : {D : Type 0} → LogState D → List Entry → List Entry
-lacked log whole = drop (length log.entries) whole
+lacked log whole = drop (length log.content.entries) whole
 
 -- A log has come to a list whose first entries it had: what it lacked was written behind one gate, and is
 -- safe. At each moment a crash would have left none of it, or all.
 pub record HasCaughtUp {D : Type 0} (told : D → Option Told) (faults : D → ℕ) (whole : List Entry)
     (old new : LogState D) : Type 0 where
-  pub entries : new.entries ≡ whole
-  pub votes : new.votes ≡ old.votes
-  pub long : new.length ≡ old.length + entries_length (lacked old whole)
+  pub entries : new.content.entries ≡ whole
+  pub content : new.content ≡ with_entries (lacked old whole) old.content
   pub limit : new.limit ≡ old.limit
   pub unfailed : new.failed ≡ false
-  pub calls : told new.disk ≡ added_all (group old.length (as_records (lacked old whole))) (told old.disk)
+  pub calls : told new.disk ≡ added_all (group old.content.length (as_records (lacked old whole))) (told old.disk)
   pub moments : Goes (told old.disk) (told new.disk)
-      (λ s. IsNoneOrAll old.entries old.votes (lacked old whole))
+      (λ s. IsNoneOrAll old.content (lacked old whole))
   pub safe : IsSafe told new
   pub calm : faults new.disk ≡ faults old.disk
 
@@ -39,12 +38,10 @@ pub record HasCaughtUp {D : Type 0} (told : D → Option Told) (faults : D → �
 -- lacked, or all.
 pub record HasStayed {D : Type 0} (told : D → Option Told) (faults : D → ℕ) (whole : List Entry)
     (old new : LogState D) : Type 0 where
-  pub entries : new.entries ≡ old.entries
-  pub votes : new.votes ≡ old.votes
-  pub long : new.length ≡ old.length
+  pub content : new.content ≡ old.content
   pub limit : new.limit ≡ old.limit
   pub moments : Goes (told old.disk) (told new.disk)
-      (λ s. IsNoneOrAll old.entries old.votes (lacked old whole))
+      (λ s. IsNoneOrAll old.content (lacked old whole))
   pub later : faults old.disk ≤ faults new.disk
 
 -- no call was made of its disk, and what is on it is safe

@@ -22,7 +22,7 @@ pub record AreAccepted (script : Script) (lists : List (List Entry)) : Type 0 wh
 
 -- the entries of each log
 abbrev pub entries_on : {D : Type 0} → List (LogState D) → List (List Entry)
-entries_on logs = map (λ log. log.entries) logs
+entries_on logs = map (λ log. log.content.entries) logs
 
 -- the start of the next age, in which the whole roster takes part
 pub record IsStartOf (script : Script) (lists : List (List Entry)) (start : Start) : Type 0 where
@@ -37,9 +37,3 @@ pub record AreUsedUp (script : Script) (lists : List (List Entry)) : Type 0 wher
   pub entries : List Entry
   pub longest : IsLongest lists entries
   pub last : 2 ^ 16 ≤ next_age (view_of entries)
-
--- what is known of the entries that were read: the view, and how many messages of each sender there are
-pub record IsRead (read : List Entry) (view : Option GroupView) (counts : List ℕ) : Type 0 where
-  pub in_view : view ≡ view_of read
-  pub places : length counts ≡ 16
-  pub counted : (s : ℕ) → s < 16 → slice_index_or counts s 0 ≡ length (messages_from s read)

@@ -57,7 +57,7 @@ fn fault_of(fault: LogFault) -> CatchFault
 pub fn catch_up<D: Disk>(start: &Start, members: Mask, log: &mut Log<D>) -> Result<(), CatchFault>
     requires valid { All IsValidEntry start.now.entries }
     requires some { 0 < members }
-    requires part { IsPrefixOf log.old.entries start.now.entries }
+    requires part { IsPrefixOf log.old.content.entries start.now.entries }
     requires whole { log.old.failed ≡ false }
     ensures caught { OnOk result
         (HasCaughtUp D.told D.faults (opened_with start.now members) log.old log.new) }
@@ -68,7 +68,7 @@ pub fn catch_up<D: Disk>(start: &Start, members: Mask, log: &mut Log<D>) -> Resu
         (λ why. why ≢ faults.DiskFault → IsLeftAlone D.told D.faults log.old log.new) }
     ensures failed { IsErrOf result faults.DiskFault → log.new.failed ≡ true }
     ensures cause { IsErrOf result faults.DiskFault → Rose (D.faults log.old.disk) (D.faults log.new.disk) }
-    ensures limit { FitsOrIsFull log.old.limit log.old.length
+    ensures limit { FitsOrIsFull log.old.limit log.old.content.length
         (entries_length (lacked log.old (opened_with start.now members))) result }
 {
     let entries = start.entries.as_slice();

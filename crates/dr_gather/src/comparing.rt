@@ -1,33 +1,12 @@
 //! Compares the entries of logs.
-ghost use Rattle.std.specs.Prelude.{◌≡◌, ◌↔◌, ◌<◌, IsTrue, IfSome, IfNone, List, length, slice_get, Some};
+ghost use Rattle.std.specs.Prelude.{◌≡◌, ◌<◌, IsTrue, IfSome, IfNone, List, length, slice_get, Some};
 ghost use Rattle.dr_entry.specs.declared.entry.Entry.{Entry as EntryOf};
-ghost use Rattle.dr_history.specs.Restarting.{AreAlong, DifferAt, AreAllAlong, IsFirstDisagreement, IsLongest};
+ghost use Rattle.dr_history.specs.Restarting.{AreAllAlong, IsFirstDisagreement, IsLongest};
 ghost use Rattle.dr_gather.specs.Gathering.{entries_on};
 
 use dr_disk::Disk;
-use dr_entry::Entry;
 use dr_log::Log;
-
-/// Whether both are one entry.
-fn is_same(one: &Entry, other: &Entry) -> bool
-    ensures { IsTrue result ↔ (one.now ≡ other.now) }
-{
-    one == other
-}
-
-/// The first place at which two lists both have an entry, and differ.
-pub(crate) fn first_difference(one: &[Entry], other: &[Entry]) -> Option<usize>
-    ensures none { IfNone result (AreAlong one.now other.now) }
-    ensures some { IfSome result (DifferAt one.now other.now) }
-{
-    let shorter = one.len().min(other.len());
-    for at in 0..shorter {
-        if !is_same(&one[at], &other[at]) {
-            return Some(at);
-        }
-    }
-    None
-}
+use dr_quorum::first_difference;
 
 /// Whether each log is a front of the longest: then of any two one is a front of the other.
 fn are_fronts<D: Disk>(logs: &[Log<D>]) -> bool

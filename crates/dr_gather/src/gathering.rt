@@ -7,11 +7,11 @@ ghost use Rattle.dr_gather.specs.declared.gathering.GatherFault.TheVariants.{For
 ghost use Rattle.dr_gather.specs.Gathering.{AreUsedUp, IsStartOf, entries_on, judged_by};
 
 use crate::comparing::{find_disagreement, longest};
-use crate::reading::first_foreign;
 use dr_disk::Disk;
-use dr_entry::{Entry, Seq};
+use dr_entry::Entry;
 use dr_history::view_of;
 use dr_log::Log;
+use dr_quorum::{copy_of, first_foreign};
 use dr_restart::Start;
 use dr_script::Script;
 use dr_words::Mask;
@@ -89,17 +89,6 @@ fn start_with(alloc: Global, script: &Script, entries: &[Entry]) -> Result<Start
         present: roster,
         entries: copy_of(alloc, entries)?,
     })
-}
-
-/// Equal entries.
-fn copy_of(alloc: Global, entries: &[Entry]) -> Result<Seq<Entry>, AllocError>
-    ensures { IfOk result (λ copy. copy ≡ entries.now) }
-{
-    let mut copy = Vec::with_capacity(alloc, entries.len())?;
-    for entry in entries {
-        copy.push(entry.copy())?;
-    }
-    Ok(Seq::of(copy))
 }
 
 /// What the next age starts with, by the logs of all members, ascending: the longest of them, where each is

@@ -7,7 +7,7 @@ ghost use Rattle.dr_history.specs.declared.opening.Opening.{Opening};
 ghost use Rattle.dr_history.specs.Agreement.{EndsAgreed, accounts_of};
 ghost use Rattle.dr_history.specs.History.{IsPrefixOf};
 ghost use Rattle.dr_history.specs.Restarting.{AreAllAlong, AreSound, IsFirstDisagreement, IsFirstForeign, IsLongest, Kept};
-ghost use Rattle.dr_machine.specs.Group.{IsGroup, roster};
+ghost use Rattle.dr_machine.specs.Group.{AllPresent, IsGroup, roster};
 ghost use Rattle.dr_restart.specs.declared.start.Start.{Start};
 ghost use Rattle.dr_restart.specs.Groups.{group_of};
 ghost use Rattle.dr_script.specs.declared.script.Script.{Script};
@@ -17,11 +17,13 @@ ghost use Rattle.dr_gather.specs.Gathering.{AreAccepted, IsStartOf, judged_by};
 ghost use Rattle.dr_gather.specs.Leaving.{LeaveLogs};
 ghost use Rattle.dr_gather.specs.Parts.{AreFirstPartsOf, AreOnTheWay};
 
-/// The start that logs make is that of a group of the script, if there is a number left for its age. Its
-/// entries can be written on a log, and each of the logs has the first ones of them.
+/// The start that logs make is that of a group of the script, if there is a number left for its age, and the
+/// whole roster is there. Its entries can be written on a log, and each of the logs has the first ones of them.
 pub fn starts_are_sound()
     ensures group { (script : Script) (lists : List (List Entry)) (start : Start) → HasGroupRanges script
         → start.age < 2 ^ 16 → IsStartOf script lists start → IsGroup (group_of script start) }
+    ensures present { (script : Script) (lists : List (List Entry)) (start : Start) → HasGroupRanges script
+        → IsStartOf script lists start → AllPresent (group_of script start) }
     ensures valid { (script : Script) (lists : List (List Entry)) (start : Start) → HasGroupRanges script
         → IsStartOf script lists start → All IsValidEntry start.entries }
     ensures part { (script : Script) (lists : List (List Entry)) (start : Start) (m : ℕ) (es : List Entry)
@@ -41,11 +43,12 @@ pub fn refusals_are_one()
         → (a ≡ i) × (b ≡ j) × (p ≡ q) }
 {}
 
-/// An age that starts with what the members of an earlier one have left on their logs, once they have ended,
-/// is a later one, and keeps all that some member of that one knew to be durable.
+/// An age that starts with what the members of an earlier one of the whole roster have left on their logs, once
+/// they have ended, is a later one, and keeps all that some member of that one knew to be durable.
 pub fn ages_keep()
     ensures { (script : Script) (start next : Start) (ends : List MemberEnd) (lists : List (List Entry))
-        → HasGroupRanges script → IsGroup (group_of script start) → next.age < 2 ^ 16
+        → HasGroupRanges script → IsGroup (group_of script start) → AllPresent (group_of script start)
+        → next.age < 2 ^ 16
         → EndsAgreed (group_of script start).opening ends
         → LeaveLogs (group_of script start).opening ends lists
         → IsStartOf script lists next
@@ -64,12 +67,12 @@ pub fn accepted_logs_are_not_refused()
         → ((m : ℕ) (es : List Entry) → slice_get lists m ≡ Some es → es ≡ []) → AreAccepted script lists }
 {}
 
-/// Logs that hold first parts of the histories of an age that has ended are accepted.
+/// Logs that hold first parts of the histories of an age of the whole roster that has ended are accepted.
 pub fn ended_ages_leave_good_logs()
     ensures { (script : Script) (start : Start) (ends : List MemberEnd) (lists : List (List Entry))
-        → IsGroup (group_of script start) → EndsAgreed (group_of script start).opening ends
-        → length ends ≡ roster (group_of script start) → AreFirstPartsOf ends lists
-        → AreAccepted script lists }
+        → IsGroup (group_of script start) → AllPresent (group_of script start)
+        → EndsAgreed (group_of script start).opening ends → length ends ≡ roster (group_of script start)
+        → AreFirstPartsOf ends lists → AreAccepted script lists }
 {}
 
 /// Where the opening of an age stops while its logs are brought up to its start, these are accepted too. And

@@ -5,8 +5,6 @@ mod catching_up;
 mod comparing;
 mod gathering;
 mod laws;
-mod reading;
-mod standing;
 
 pub use catching_up::{CatchFault, catch_up};
 pub use gathering::{GatherFault, gather};

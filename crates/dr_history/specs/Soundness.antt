@@ -1,11 +1,11 @@
 -- What an age may start with.
-use Rattle.std.specs.Prelude.{◌≡◌, ℕ, ◌-◌, ◌^◌, ◌<◌, ◌⊎◌, true, List, length, take, Contains, slice_get, Option, Some, IsSomeAnd}
+use Rattle.std.specs.Prelude.{◌≡◌, ◌≢◌, ℕ, ◌+◌, ◌-◌, ◌^◌, ◌<◌, ◌⊎◌, true, List, length, take, Contains, slice_get, Option, Some, IsSomeAnd}
 use Rattle.dr_entry.specs.declared.entry.Entry.{Entry}
 use Rattle.dr_entry.specs.declared.entry.Entry.TheVariants.{View, Msg}
 use Rattle.dr_history.specs.declared.opening.Opening.{Opening}
-use Rattle.dr_history.specs.Members.{has}
+use Rattle.dr_history.specs.Members.{has, members_of}
 use Rattle.dr_history.specs.History.{GroupView, view_of, messages_of}
-use Rattle.dr_history.specs.Order.{MayFollow, messages_from}
+use Rattle.dr_history.specs.Order.{messages_from}
 
 -- the member is there in this age
 abbrev pub IsPresentIn : Opening → ℕ → Type 0
@@ -15,23 +15,35 @@ IsPresentIn o m = has o.present m ≡ true
 abbrev pub whole_roster : Opening → ℕ
 whole_roster o = 2 ^ length o.messages - 1
 
+-- a mask of some members of a roster of so many
+pub record AreOfRoster (n members : ℕ) : Type 0 where
+  pub some : 0 < members
+  pub within : (m : ℕ) → has members m ≡ true → m < n
+
 -- an age is above that of the last view, if there is one
 abbrev pub IsLaterAge : Option GroupView → ℕ → Type 0
 IsLaterAge last age = (v : GroupView) → last ≡ Some v → v.age < age
 
--- a View that opens an age: number 0 of a later age, with the whole roster
-pub record Opens (o : Opening) (last : Option GroupView) (age number members : ℕ) : Type 0 where
+-- a View that opens an age: number 0 of a later age
+pub record Opens (last : Option GroupView) (age number : ℕ) : Type 0 where
   pub later : IsLaterAge last age
   pub first : number ≡ 0
-  pub whole : members ≡ whole_roster o
 
--- an entry may stand behind these entries: a View opens an age or follows the last view, and a message is
--- the next of its
--- sender, a member of the last view, with the script's bytes
+-- a View that goes on in the age of the last view: with the next number, and other members
+pub record ContinuesAge (v : GroupView) (age number members : ℕ) : Type 0 where
+  pub same_age : age ≡ v.age
+  pub next_number : number ≡ v.number + 1
+  pub other : members_of members ≢ v.members
+  pub numbers : (number < 2 ^ 8) × (members < 2 ^ 16)
+
+-- an entry may stand behind these entries: a View of some members of the roster opens an age or goes on in that
+-- of the last view, and a message is the next of its sender, a member of the last view, with the script's
+-- bytes
 abbrev pub MayStand : Opening → List Entry → Entry → Type 0
 MayStand o before (View age number members) =
-    Opens o (view_of before) age number members
-    ⊎ IsSomeAnd (view_of before) (λ v. MayFollow v age number members)
+    AreOfRoster (length o.messages) members
+    × (Opens (view_of before) age number
+    ⊎ IsSomeAnd (view_of before) (λ v. ContinuesAge v age number members))
 MayStand o before (Msg s index bytes) =
     IsSomeAnd (view_of before) (λ v. Contains v.members s)
     × (index ≡ length (messages_from s before))
@@ -43,6 +55,7 @@ pub record Sound (o : Opening) : Type 0 where
   pub entries : (i : ℕ) (e : Entry) → slice_get o.start i ≡ Some e → MayStand o (take i o.start) e
   -- the age is later than every age of the start
   pub later : IsLaterAge (view_of o.start) o.age
-  -- its first view has the whole roster, and so far every member is there
-  pub whole : o.members ≡ whole_roster o
-  pub present : o.present ≡ whole_roster o
+  -- its first view has some of the members that are there, and these are of the roster
+  pub members : AreOfRoster (length o.messages) o.members
+  pub part : (m : ℕ) → has o.members m ≡ true → IsPresentIn o m
+  pub present : (m : ℕ) → IsPresentIn o m → m < length o.messages

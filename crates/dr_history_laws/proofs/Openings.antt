@@ -10,7 +10,7 @@ use Rattle.dr_history.specs.Members.{members_of}
 use Rattle.dr_history.specs.History.{IsPrefixOf, Sent}
 use Rattle.dr_history.specs.Order.{InOrder, first_entries, messages_from, numbered_messages}
 use Rattle.dr_history.specs.Restarting.{AllStand}
-use Rattle.dr_history.specs.Soundness.{Sound, MayStand}
+use Rattle.dr_history.specs.Soundness.{Sound, MayStand, whole_roster}
 use Rattle.dr_history.proofs.NumberedLemmas.{messages_from-View}
 use Rattle.dr_history_laws.specs.Laid.{EndsWithView, first_view}
 use Rattle.dr_history_laws.proofs.Lists.{slice_get-some, take-next}
@@ -74,7 +74,7 @@ InOrder-first o sent sound = record {
 pub first-ends : (o : Opening) → EndsWithView (first_entries o) (first_view o)
 first-ends o = record { before = o.start; mask = o.members; ends = refl; members = refl }
 
--- whose members are all of the roster
-pub first-members : (o : Opening) → Sound o → length o.messages ≤ 16 → members_of o.members
-    ≡ range_with_len 0 (length o.messages)
-first-members o sound few = ap members_of sound.whole ∙ members_of-ones (length o.messages) few
+-- whose members are all of the roster, where it opens with all
+pub first-members : (o : Opening) → o.members ≡ whole_roster o → length o.messages ≤ 16
+    → members_of o.members ≡ range_with_len 0 (length o.messages)
+first-members o whole few = ap members_of whole ∙ members_of-ones (length o.messages) few

@@ -1,9 +1,9 @@
 -- The views of entries that may stand, and the numbers of their entries.
-use Rattle.std.proofs.Common.{◌≡◌, ◌≢◌, ◌⊎◌, refl, ap, ap₂, sym, ◌∙◌, subst, ℕ, zero, suc, ◌+◌, ◌-◌, ◌^◌, ◌<◌, ◌≤◌, inl, inr, arith, pow_mono, Bool, true, false, true≢false, List, [], ◌∷◌, ◌++◌, All, Contains, Option, None, Some, length, filter, take, if◌then◌else◌, get_or, slice_get}
+use Rattle.std.proofs.Common.{◌≡◌, ◌≢◌, ◌⊎◌, refl, ap, ap₂, sym, ◌∙◌, subst, ℕ, zero, suc, ◌+◌, ◌-◌, ◌^◌, ◌<◌, ◌≤◌, inl, inr, arith, Bool, true, false, true≢false, List, [], ◌∷◌, ◌++◌, All, Contains, Option, None, Some, length, filter, take, if◌then◌else◌, get_or, slice_get}
 use Rattle.std.specs.Prelude.{IsSomeAnd}
 use Rattle.std.proofs.lemmas.Bool.{cases_lt}
 use Rattle.std.proofs.lemmas.List.{take_all}
-use Rattle.std.proofs.lemmas.List.Elements.{All-contains, All-weaker, filter-append}
+use Rattle.std.proofs.lemmas.List.Elements.{All-contains, filter-append}
 use Rattle.std.proofs.lemmas.Nat.Bits.{bit_at_ones_above}
 use Rattle.std.proofs.lemmas.Option.{none-some, same_Some, slice_get-get_or, slice_get_within}
 use Rattle.dr_entry.specs.declared.entry.Entry.{Entry}
@@ -11,13 +11,12 @@ use Rattle.dr_entry.specs.declared.entry.Entry.TheVariants.{View, Msg}
 use Rattle.dr_history.specs.declared.opening.Opening.{Opening}
 use Rattle.dr_history.specs.History.{GroupView, view_of}
 use Rattle.dr_history.specs.Members.{has, members_below, members_of}
-use Rattle.dr_history.specs.Order.{MayFollow}
 use Rattle.dr_history.specs.Restarting.{AllStand}
-use Rattle.dr_history.specs.Soundness.{MayStand, Opens}
+use Rattle.dr_history.specs.Soundness.{AreOfRoster, ContinuesAge, MayStand}
 use Rattle.dr_history.proofs.Following.{view_of-nil}
 use Rattle.dr_history.proofs.ViewLemmas.{view_of-View, view_of-Msg}
 use Rattle.dr_history_laws.proofs.Lists.{slice_get-some, take-next}
-use Rattle.dr_history_laws.proofs.Members.{has-member, member-has, members_of-few}
+use Rattle.dr_history_laws.proofs.Members.{has-member, member-has}
 
 -- what an option has
 pub some_of : {X : Type 0} (P : X → Type 0) (r : Option X) → IsSomeAnd r P → (x : X) × (r ≡ Some x) × P x
@@ -38,42 +37,23 @@ pub view_behind : (es : List Entry) (i a k m : ℕ) → slice_get es i ≡ Some 
     → view_of (take (suc i) es) ≡ Some (view_told a k m)
 view_behind es i a k m at = ap view_of (more es i (View a k m) at) ∙ view_of-View (take i es) a k m
 
--- what holds of each View that opens an age, and of each that follows a view of which it holds, holds of every
--- view of entries that may stand
+-- what holds of each View with members of the roster holds of every view of entries that may stand
 pub each_view : (P : GroupView → Type 0) (o : Opening) (es : List Entry) → AllStand o es
-    → ((last : Option GroupView) (a k m : ℕ) → Opens o last a k m → P (view_told a k m))
-    → ((u : GroupView) (a k m : ℕ) → P u → MayFollow u a k m → P (view_told a k m)) → (i : ℕ) → i ≤ length es
+    → ((a k m : ℕ) → AreOfRoster (length o.messages) m → P (view_told a k m)) → (i : ℕ) → i ≤ length es
     → (v : GroupView) → view_of (take i es) ≡ Some v → P v
-each_view P o es stand opens follows zero within v is = absurd (none-some v (sym view_of-nil ∙ is))
-each_view P o es stand opens follows (suc i) within v is =
-    by (λ u was. each_view P o es stand opens follows i (omega (arith, within)) u was) there.0 there.1
+each_view P o es stand views zero within v is = absurd (none-some v (sym view_of-nil ∙ is))
+each_view P o es stand views (suc i) within v is =
+    by (λ u was. each_view P o es stand views i (omega (arith, within)) u was) there.0 there.1
   where
     there : (e : Entry) × (slice_get es i ≡ Some e)
     there = slice_get-some es i (omega (arith, within))
 
-    come : ((u : GroupView) → view_of (take i es) ≡ Some u → P u) → (a k m : ℕ)
-        → MayStand o (take i es) (View a k m) → P (view_told a k m)
-    come before a k m (inl is) = opens (view_of (take i es)) a k m is
-    come before a k m (inr is) =
-        let u = some_of (λ u. MayFollow u a k m) (view_of (take i es)) is in
-        follows u.0 a k m (before u.0 u.1) u.2
-
     by : ((u : GroupView) → view_of (take i es) ≡ Some u → P u) → (e : Entry) → slice_get es i ≡ Some e → P v
     by before (View a k m) at =
         subst P (same_Some (view_told a k m) v (sym (view_behind es i a k m at) ∙ is))
-        (come before a k m (stand i (View a k m) at))
+        (views a k m (stand i (View a k m) at).0)
     by before (Msg s k b) at =
         before v (sym (view_of-Msg (take i es) s k b) ∙ (ap view_of (sym (more es i (Msg s k b) at)) ∙ is))
-
--- so it holds of every View
-pub each_View : (P : GroupView → Type 0) (o : Opening) (es : List Entry) → AllStand o es
-    → ((last : Option GroupView) (a k m : ℕ) → Opens o last a k m → P (view_told a k m))
-    → ((u : GroupView) (a k m : ℕ) → P u → MayFollow u a k m → P (view_told a k m)) → (i a k m : ℕ)
-    → slice_get es i ≡ Some (View a k m) → P (view_told a k m)
-each_View P o es stand opens follows i a k m at =
-    let within = slice_get_within es i (View a k m) at in
-    each_view P o es stand opens follows (suc i) (omega (arith, within)) (view_told a k m)
-    (view_behind es i a k m at)
 
 -- ---- members
 
@@ -124,67 +104,31 @@ roster_below n k d within = by (cases_lt s n)
         let none : has (2 ^ n - 1) s ≡ false = rw (bit_at_ones_above n s above) refl in
         absurd (true≢false (sym there ∙ none))
 
+-- so are those of any mask of its members
+pub of_roster_below : (n m : ℕ) → AreOfRoster n m → All (λ s. s < n) (members_of m)
+of_roster_below n m of k d within = of.within (get_or (members_of m) k d)
+    (member-has m k (get_or (members_of m) k d) (slice_get-get_or (members_of m) k d within))
+
 -- the members of a view are of the roster
 pub view_below : (o : Opening) (es : List Entry) → AllStand o es → (i : ℕ)
     → i ≤ length es → (v : GroupView) → view_of (take i es) ≡ Some v
     → All (λ s. s < length o.messages) v.members
 view_below o es stand =
     each_view (λ v. All (λ s. s < length o.messages) v.members) o es stand
-    (λ last a k m opens. subst (λ (mask : ℕ). All (λ s. s < length o.messages) (members_of mask))
-    (sym opens.whole) (roster_below (length o.messages)))
-    (λ u a k m before is. All-weaker (Contains u.members) (λ s. s < length o.messages)
-    (λ s c. All-contains (λ t. t < length o.messages) u.members s before c) (members_of m) is.part)
+    (λ a k m of. of_roster_below (length o.messages) m of)
 
 -- so are those of a View
 pub named_below : (o : Opening) (es : List Entry) → AllStand o es
     → (i a k m : ℕ) → slice_get es i ≡ Some (View a k m) → All (λ s. s < length o.messages) (members_of m)
-named_below o es stand i a k m at =
-    let within = slice_get_within es i (View a k m) at in
-    view_below o es stand (suc i) (omega (arith, within)) (view_told a k m) (view_behind es i a k m at)
+named_below o es stand i a k m at = of_roster_below (length o.messages) m (stand i (View a k m) at).0
 
 -- ---- numbers
 
--- a view has lost at least as many members as its number says, of 16 at most
-numbered : (o : Opening) (es : List Entry) → AllStand o es → (i a k m : ℕ)
-    → slice_get es i ≡ Some (View a k m) → k + length (members_of m) ≤ 16
-numbered o es stand =
-    each_View (λ v. v.number + length v.members ≤ 16) o es stand
-    (λ last a k m opens. omega (arith, opens.first, members_of-few m))
-    (λ u a k m before is. omega (arith, before, is.next_number, is.fewer))
-
--- a View's number is small, and its mask is one of members below 16, of some
-pub record IsSmallView (number members : ℕ) : Type 0 where
-  pub few : number ≤ 16
-  pub mask : members < 2 ^ 16
-  pub some : members ≢ 0
-
-nobody : members_of 0 ≡ []
-unfolding members_of members_below
-nobody = refl
-
-pub small_view : (o : Opening) (es : List Entry) → 1 ≤ length o.messages → length o.messages ≤ 16
-    → AllStand o es → (i a k m : ℕ) → slice_get es i ≡ Some (View a k m) → IsSmallView k m
-small_view o es one most stand i a k m at = record {
-  few = omega (arith, numbered o es stand i a k m at);
-  mask = small (stand i (View a k m) at);
-  some = λ none. some none (stand i (View a k m) at);
-}
-  where
-    whole : (n : ℕ) → 1 ≤ n → n ≤ 16 → (2 ^ n - 1 < 2 ^ 16) × (2 ^ n - 1 ≢ 0)
-    whole n some few =
-        let least : 2 ^ 1 ≤ 2 ^ n = pow_mono some in
-        let most : 2 ^ n ≤ 2 ^ 16 = pow_mono few in
-        (omega (arith, least, most), λ none. omega (arith, least, none))
-
-    small : MayStand o (take i es) (View a k m) → m < 2 ^ 16
-    small (inl opens) = omega (arith, opens.whole, (whole (length o.messages) one most).0)
-    small (inr follows) =
-        (some_of (λ u. MayFollow u a k m) (view_of (take i es)) follows).2.numbers
-
-    some : m ≡ 0 → MayStand o (take i es) (View a k m) → ⊥
-    some none (inl opens) = (whole (length o.messages) one most).1 (sym opens.whole ∙ none)
-    some none (inr follows) =
-        (some_of (λ u. MayFollow u a k m) (view_of (take i es)) follows).2.some (ap members_of none ∙ nobody)
+-- a View's number has 8 bits
+pub small_number : (o : Opening) (es : List Entry) (a k m : ℕ) → MayStand o es (View a k m) → k < 2 ^ 8
+small_number o es a k m (of, inl opens) = omega (arith, opens.first)
+small_number o es a k m (of, inr goes) =
+    (some_of (λ v. ContinuesAge v a k m) (view_of es) goes).2.numbers.0
 
 -- ---- ages
 
@@ -206,9 +150,9 @@ age_rises o es stand i (suc n) within u is =
 
     come : (a k m : ℕ) (w : GroupView) → view_of (take (i + n) es) ≡ Some w
         → MayStand o (take (i + n) es) (View a k m) → w.age ≤ a
-    come a k m w was (inl opens) = omega (arith, opens.later w was)
-    come a k m w was (inr follows) =
-        let v = some_of (λ v. MayFollow v a k m) (view_of (take (i + n) es)) follows in
+    come a k m w was (of, inl opens) = omega (arith, opens.later w was)
+    come a k m w was (of, inr goes) =
+        let v = some_of (λ v. ContinuesAge v a k m) (view_of (take (i + n) es)) goes in
         let same : v.0 ≡ w = same_Some v.0 w (sym v.1 ∙ was) in
         omega (arith, v.2.same_age, ap (λ (x : GroupView). x.age) same)
 

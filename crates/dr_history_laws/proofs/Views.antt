@@ -9,7 +9,7 @@ use Rattle.dr_history.specs.History.{IsPrefixOf, GroupView, Sent, view_of}
 use Rattle.dr_history.specs.Order.{InOrder, IsSucceededBy, MayFollow}
 use Rattle.dr_history.specs.Agreement.{SamePast}
 use Rattle.dr_history.specs.Restarting.{AllStand}
-use Rattle.dr_history.specs.Soundness.{Sound, MayStand}
+use Rattle.dr_history.specs.Soundness.{ContinuesAge, Sound, MayStand}
 use Rattle.dr_history.proofs.ViewLemmas.{view_of-View, view_of-Msg}
 use Rattle.dr_history_laws.proofs.Lists.{slice_get-some, slice_get-prefix, take-next, take-prefix, IsSomeAnd-at}
 use Rattle.dr_history_laws.proofs.LooseOrder.{InLooseOrder}
@@ -98,10 +98,10 @@ View-once h i j age number m n rise at_i at_j = by (apart i j)
     by (inr (inr l)) = let r = View-later h 0 j i age number n age number m rise
         (omega arith) l at_j at_i in grind arith
 
--- a View that may follow a view is later
-pub MayFollow-later : (u : GroupView) (age number members : ℕ) → MayFollow u age number members
+-- a View that goes on in the age of a view is later
+pub ContinuesAge-later : (u : GroupView) (age number members : ℕ) → ContinuesAge u age number members
     → IsLater u age number
-MayFollow-later u age number members f = inr (sym f.same_age, omega (arith, f.next_number))
+ContinuesAge-later u age number members f = inr (sym f.same_age, omega (arith, f.next_number))
 
 -- the numbers of the views behind View 0 rise
 number_after : (o : Opening) (sent : Sent) (h : List Entry) (i d : ℕ) (u : GroupView)
@@ -155,9 +155,9 @@ pub ViewsRise-standing : (o : Opening) (es : List Entry) → AllStand o es → V
 ViewsRise-standing o es stand i age number members l at u e = by (stand i (View age number members) at)
   where
     by : MayStand o (take i es) (View age number members) → IsLater u age number
-    by (inl opens) = inl (opens.later u e)
-    by (inr follows) = MayFollow-later u age number members
-        (IsSomeAnd-at (view_of (take i es)) (λ v. MayFollow v age number members) u e follows)
+    by (some, inl opens) = inl (opens.later u e)
+    by (some, inr goes) = ContinuesAge-later u age number members
+        (IsSomeAnd-at (view_of (take i es)) (λ v. ContinuesAge v age number members) u e goes)
 
 -- so they do in a history in order with a sound start
 ViewsRise-sound : (o : Opening) (sent : Sent) (h : List Entry) → Sound o → InOrder o sent h

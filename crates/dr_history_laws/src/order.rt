@@ -10,7 +10,7 @@ ghost use Rattle.dr_history.specs.History.{IsPrefixOf, GroupView, Sent, item_at,
 ghost use Rattle.dr_history.specs.Places.{front_of, is_held, rest_places};
 ghost use Rattle.dr_history.specs.Order.{InOrder, IsSucceededBy, first_entries, messages_from};
 ghost use Rattle.dr_history.specs.Agreement.{SamePast};
-ghost use Rattle.dr_history.specs.Soundness.{Sound};
+ghost use Rattle.dr_history.specs.Soundness.{Sound, whole_roster};
 ghost use Rattle.dr_history_laws.specs.Courses.{ViewEnds, ViewHasEnded, IsUncut, MayCome, MayReach, course, view_in};
 ghost use Rattle.dr_history_laws.specs.Laid.{entry_at, laid, HeldBelow, EndsWithView, GoesOn, SentMore, first_view};
 
@@ -97,7 +97,7 @@ pub fn rest_law()
 pub fn opening_laws()
     ensures order { (o : Opening) (sent : Sent) → Sound o → InOrder o sent (first_entries o) }
     ensures view { (o : Opening) → EndsWithView (first_entries o) (first_view o) }
-    ensures members { (o : Opening) → Sound o → length o.messages ≤ 16
+    ensures members { (o : Opening) → o.members ≡ whole_roster o → length o.messages ≤ 16
         → members_of o.members ≡ range_with_len 0 (length o.messages) }
     ensures short { (o : Opening) → Sound o → o.age < 2 ^ 16
         → 1 ≤ length o.messages → length o.messages ≤ 16

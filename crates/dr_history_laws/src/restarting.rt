@@ -26,7 +26,7 @@ pub fn restarting_laws()
 /// Each entry of a history in order may stand behind those before it, where the age starts soundly. So lists
 /// that hold first parts of the histories of an age are good for each age of the same script: no entry of
 /// them is foreign, and of any two one is a prefix of the other. The logs that the members leave are such
-/// lists. Entries that may stand are few: an age has at most 16 views, and a member at most 4096 messages
+/// lists. Entries that may stand are few: an age has at most 256 views, and a member at most 4096 messages
 /// over all ages.
 pub fn standing_laws()
     ensures stand { (o : Opening) (sent : Sent) (h : List Entry) → Sound o → InOrder o sent h
@@ -40,5 +40,5 @@ pub fn standing_laws()
         → Agreed o accounts → AreLeftBy o accounts lists → AreFirstParts o accounts lists }
     ensures short { (o : Opening) (es : List Entry) → AllStand o es → 1 ≤ length o.messages
         → length o.messages ≤ 16 → ((s : ℕ) → length (messages_of o s) ≤ 4096)
-        → length es ≤ 16 * next_age (view_of es) + 16 * 4096 }
+        → length es ≤ 256 * next_age (view_of es) + 16 * 4096 }
 {}

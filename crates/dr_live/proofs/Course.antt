@@ -1,5 +1,5 @@
 -- The ages of a live group, from the first on.
-use Rattle.std.proofs.Common.{◌≡◌, refl, sym, ap, ◌∙◌, subst, ℕ, zero, suc, ◌+◌, ◌<◌, ◌≤◌, arith, le_trans, le_refl, List, [], ◌∷◌, ◌++◌, length, Some, slice_get}
+use Rattle.std.proofs.Common.{◌≡◌, refl, sym, ap, ◌∙◌, subst, ℕ, zero, suc, ◌+◌, ◌-◌, ◌^◌, ◌<◌, ◌≤◌, arith, le_trans, le_refl, List, [], ◌∷◌, ◌++◌, length, Some, slice_get}
 use Rattle.std.specs.Prelude.{All, None, Option}
 use Rattle.std.proofs.Math.Path.{fun_ext}
 use Rattle.std.proofs.lemmas.List.Elements.{All-append, All-cons, All-head, All-nil, All-tail}
@@ -264,10 +264,10 @@ pair_keeps : (plan : Script) (old new : Lists) (a b : AgeEnd) → HasGroupRanges
 pair_keeps plan old new a b ranges more r =
     let first = plan_with plan old in
     let second = plan_with plan new in
-    let left = leave_logs first r.mid a r.second.lists r.second.votes
-    (behind first Run 0 r.before r.mid a ranges r.first r.tell r.second.lists r.second.votes r.second.found) in
+    let left = leave_logs first r.mid a r.second.lists r.second.contents
+    (behind first Run 0 r.before r.mid a ranges r.first r.tell r.second.lists r.second.contents r.second.found) in
     next_keeps (opening_of first a) (opening_of second b) a.members r.second.lists
-    (sound_age first 0 r.before r.mid a ranges r.first) r.first.agreed left
+    (ap (λ (n : ℕ). 2 ^ n - 1) (sym ranges.lists)) r.first.agreed left
     (sound_age second 0 r.mid r.after b more r.second) r.second.starts.restart.longest
 
 pub keep_each_other : (plan : Script) (taken : List Lists) (ages : List AgeEnd) (last : YardState)

@@ -21,7 +21,6 @@ use Rattle.dr_entry.specs.declared.limits.TheConstants.{MAX_MEMBERS}
 use Rattle.dr_gather.proofs.Following.{is_there}
 use Rattle.dr_history.specs.declared.opening.Opening.{Opening}
 use Rattle.dr_history.specs.History.{IsPrefixOf}
-use Rattle.dr_history.specs.Members.{has}
 use Rattle.dr_history.specs.Order.{messages_from, numbered_messages}
 use Rattle.dr_history_laws.proofs.Keeping.{prefix_shorter, prefix_then}
 use Rattle.dr_history_laws.proofs.Lists.{slice_get-seam, slice_get-some}
@@ -50,6 +49,7 @@ unstopped (ends.NoMajority mask) room safe = refl
 unstopped ends.DiskFault room safe = absurd (safe refl)
 unstopped (ends.LogFull len) room safe = absurd room
 unstopped (ends.Spent turns) room safe = refl
+unstopped ends.Absent room safe = refl
 
 -- no log of a live group stops a member
 pub live_stored : (plan : Script) (k : ℕ) (lists : Lists) (last : YardState) (age : AgeEnd)

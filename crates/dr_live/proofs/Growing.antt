@@ -1,5 +1,5 @@
 -- Messages that have grown: what stood stands, and what was accepted is.
-use Rattle.std.proofs.Common.{◌≡◌, refl, sym, ap, ◌∙◌, subst, ℕ, zero, suc, ◌+◌, ◌-◌, ◌^◌, ◌<◌, ◌≤◌, ◌⊎◌, inl, inr, arith, List, [], ◌∷◌, ◌++◌, length, length-append, map, take, Some, slice_get}
+use Rattle.std.proofs.Common.{◌≡◌, refl, sym, ap, ◌∙◌, subst, ℕ, zero, suc, ◌+◌, ◌-◌, ◌<◌, ◌≤◌, ◌⊎◌, inl, inr, arith, List, [], ◌∷◌, ◌++◌, length, length-append, map, take, Some, slice_get}
 use Rattle.std.specs.Prelude.{All, slice_index_or}
 use Rattle.std.specs.List.{enumerate_from}
 use Rattle.std.proofs.lemmas.Bool.{cases_lt}
@@ -64,12 +64,13 @@ numbered_grown o other s grown =
 
 stands_grown : (o other : Opening) (es : List Entry) (e : Entry) → HaveGrown o.messages other.messages
     → MayStand o es e → MayStand other es e
-stands_grown o other es (View age number members) grown (inl opens) = inl (record {
-  later = opens.later;
-  first = opens.first;
-  whole = opens.whole ∙ ap (λ (n : ℕ). 2 ^ n - 1) (sym (grown_length o.messages other.messages grown));
-})
-stands_grown o other es (View age number members) grown (inr follows) = inr follows
+stands_grown o other es (View age number members) grown (of, stands) = (
+  record {
+    some = of.some;
+    within = λ m there. omega (arith, of.within m there, grown_length o.messages other.messages grown);
+  },
+  stands,
+)
 stands_grown o other es (Msg s index bytes) grown is = (
   is.0,
   is.1,
@@ -80,8 +81,8 @@ stands_grown o other es (Msg s index bytes) grown is = (
 good_grown : (plan : Script) (old new : Lists) (yard : YardState) → HaveGrown old new
     → IsGood (plan_with plan old) yard → IsGood (plan_with plan new) yard
 good_grown plan old new yard grown good = record {
-  accepted = λ lists votes found.
-      let are = good.accepted lists votes found in
+  accepted = λ lists contents found.
+      let are = good.accepted lists contents found in
       record {
         sound = λ m es at i e here.
             stands_grown (judged_by (plan_with plan old)) (judged_by (plan_with plan new)) (take i es) e grown

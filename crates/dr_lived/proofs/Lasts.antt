@@ -60,6 +60,7 @@ by_no_disk (ends.NoMajority mask) is calm = refl
 by_no_disk ends.DiskFault is calm = absurd (none-some _ (sym is))
 by_no_disk (ends.LogFull len) is calm = refl
 by_no_disk (ends.Spent turns) is calm = refl
+by_no_disk ends.Absent is calm = refl
 
 by_no_full_log : (e : End) → why_ended e ≡ None → is_left_out e ≡ false → is_of LogFull e ≡ false
 by_no_full_log ends.Done is calm = refl
@@ -70,6 +71,7 @@ by_no_full_log (ends.NoMajority mask) is calm = refl
 by_no_full_log ends.DiskFault is calm = refl
 by_no_full_log (ends.LogFull len) is calm = absurd (none-some _ (sym is))
 by_no_full_log (ends.Spent turns) is calm = refl
+by_no_full_log ends.Absent is calm = refl
 
 by_no_split : (e : End) → why_ended e ≡ None → is_left_out e ≡ false → is_of NoMajority e ≡ false
 by_no_split ends.Done is calm = refl
@@ -80,6 +82,7 @@ by_no_split (ends.NoMajority mask) is calm = absurd (true≢false calm)
 by_no_split ends.DiskFault is calm = refl
 by_no_split (ends.LogFull len) is calm = refl
 by_no_split (ends.Spent turns) is calm = refl
+by_no_split ends.Absent is calm = refl
 
 -- so no member ended so
 none_so : (kind : Kind)

@@ -4,17 +4,15 @@ use Rattle.std.proofs.lemmas.List.{drop_more, length-take-le}
 use Rattle.std.proofs.lemmas.List.Sums.{sum_by-cons}
 use Rattle.dr_entry.specs.declared.entry.Entry.{Entry}
 use Rattle.dr_entry.specs.declared.record.Record.{Record}
-use Rattle.dr_entry.specs.declared.record.Record.TheVariants as records
-use Rattle.dr_entry.specs.declared.record.Vote.{Vote}
 use Rattle.dr_entry.specs.Spelling.{IsValidEntry, FitsEntry, spelling, entry_spelling}
 use Rattle.dr_disk.specs.Calls.{Call, Write, FailedWrite, Sync, State, at_rest, written, step}
 use Rattle.dr_disk.specs.Disk.{Told, content_of, after, added}
 use Rattle.dr_disk.specs.Images.{IsImage}
 use Rattle.dr_disk.proofs.Images.{written_before, written_behind, length-written}
 use Rattle.dr_disk.proofs.Moments.{state-after}
-use Rattle.dr_log.specs.Grammar.{blocks, AreSpelled}
 use Rattle.dr_log.specs.Grouping.{StopsAmong, added_all, gate_of, opening, writes}
-use Rattle.dr_log.specs.Standing.{as_records, entries_in, entries_length, votes_in}
+use Rattle.dr_log.specs.Standing.{as_records, entries_length}
+use Rattle.dr_log_bytes.specs.Grammar.{AreSpelled, blocks}
 
 -- ---- the records and the bytes of a group
 
@@ -27,25 +25,6 @@ blocks-append (r ∷ rs) ss = ap (λ (l : List ℕ). 1 ∷ l)
 pub spelled-append : (rs ss : List Record) → AreSpelled rs → AreSpelled ss → AreSpelled (rs ++ ss)
 spelled-append [] ss all more = more
 spelled-append (r ∷ rs) ss all more = (all.0, spelled-append rs ss all.1 more)
-
-pub entries-append : (rs ss : List Record) → entries_in (rs ++ ss) ≡ entries_in rs ++ entries_in ss
-entries-append [] ss = refl
-entries-append (records.Entry entry ∷ rs) ss = ap (λ (l : List Entry). entry ∷ l) (entries-append rs ss)
-entries-append (records.Vote vote ∷ rs) ss = entries-append rs ss
-
-pub votes-append : (rs ss : List Record) → votes_in (rs ++ ss) ≡ votes_in rs ++ votes_in ss
-votes-append [] ss = refl
-votes-append (records.Entry entry ∷ rs) ss = votes-append rs ss
-votes-append (records.Vote vote ∷ rs) ss = ap (λ (l : List Vote). vote ∷ l) (votes-append rs ss)
-
--- of entries alone
-pub entries_among : (es : List Entry) → entries_in (as_records es) ≡ es
-entries_among [] = refl
-entries_among (e ∷ es) = ap (λ (l : List Entry). e ∷ l) (entries_among es)
-
-pub votes_among : (es : List Entry) → votes_in (as_records es) ≡ []
-votes_among [] = refl
-votes_among (e ∷ es) = votes_among es
 
 -- what stands behind the gate of a group
 abbrev pub bytes_of : List Record → List ℕ

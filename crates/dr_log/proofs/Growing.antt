@@ -1,112 +1,80 @@
--- What one record more is to blocks, to entries and to votes, how long a log is, and that it stands for its
--- records.
-use Rattle.std.proofs.Common.{◌≡◌, ℕ, ◌+◌, ◌*◌, ◌<◌, ◌≤◌, List, All, [], ◌∷◌, ◌++◌, length, inl, inr, ⊎_elim, refl, sym, ap, ◌∙◌, append_assoc, append-nil, arith, length-append}
+-- What more records are to what is on a log and to its length, and that a log stands for what its records make.
+use Rattle.std.proofs.Common.{◌≡◌, ℕ, ◌+◌, ◌*◌, ◌<◌, ◌≤◌, ◌⊎◌, Bool, true, false, List, All, [], ◌∷◌, ◌++◌, length, take, drop, inl, inr, refl, sym, ap, subst, ◌∙◌, append_assoc, append-nil, arith, length-append, length-take}
 use Rattle.std.proofs.lemmas.Bool.{cases_lt}
+use Rattle.std.proofs.lemmas.List.{take-append-drop}
 use Rattle.std.proofs.lemmas.List.Sums.{sum_by-append, sum_by-cons, sum_by-le, sum_by_push}
 use Rattle.dr_entry.specs.declared.entry.Entry.{Entry}
 use Rattle.dr_entry.specs.declared.entry.Entry.TheVariants.{View, Msg}
+use Rattle.dr_entry.specs.declared.record.AgeVote.{AgeVote}
 use Rattle.dr_entry.specs.declared.record.Record.{Record}
 use Rattle.dr_entry.specs.declared.record.Record.TheVariants as records
 use Rattle.dr_entry.specs.declared.record.Vote.{Vote}
-use Rattle.dr_entry.specs.Spelling.{IsValid, IsValidEntry, Fits, spelling, entry_spelling, vote_spelling}
-use Rattle.dr_log.specs.Grammar.{blocks, AreSpelled, IsLog, Recovered}
-use Rattle.dr_log.specs.Standing.{StandsFor, entries_in, votes_in, with_entry, with_vote, block_length, entries_length, log_length, votes_length}
-use Rattle.dr_log.specs.State.{as_entry, as_vote}
+use Rattle.dr_entry.specs.Spelling.{IsValidEntry, spelling, entry_spelling, vote_spelling}
+use Rattle.dr_log.specs.Standing.{as_records, entries_length, least_length, log_length, votes_length, with_entries}
+use Rattle.dr_log.specs.State.{as_entry, as_other, as_vote}
+use Rattle.dr_log_bytes.specs.Content.{ArePlaced, OnLog, block_length, content_after, empty_of, with_record}
+use Rattle.dr_log_bytes.specs.Grammar.{IsLog, IsLogOf, StandFor, blocks, magic_of}
+use Rattle.dr_log_bytes.proofs.Reading.{length-magic}
 
--- one block more
-pub blocks-added : (rs : List Record) (r : Record) (rest : List ℕ)
-    → blocks (rs ++ r ∷ []) ++ rest ≡ blocks rs ++ (1 ∷ (spelling r ++ rest))
-blocks-added [] r rest = ap (λ (l : List ℕ). 1 ∷ l)
-    (ap (λ (l : List ℕ). l ++ rest) (append-nil (spelling r)))
-blocks-added (s ∷ rs) r rest = ap (λ (l : List ℕ). 1 ∷ l)
-    (append_assoc (spelling s) (blocks (rs ++ r ∷ [])) rest ∙ ap (λ (l : List ℕ). spelling s ++ l)
-    (blocks-added rs r rest)
-    ∙ sym (append_assoc (spelling s) (blocks rs) (1 ∷ (spelling r ++ rest))))
+-- ---- what more records make
 
-pub length-blocks-added : (rs : List Record) (r : Record) → length (blocks (rs ++ r ∷ [])) ≡ length
-    (blocks rs) + block_length r
-length-blocks-added rs r =
-    let e = ap length (blocks-added rs r []) in
-    omega (
-      arith,
-      e,
-      length-append (blocks (rs ++ r ∷ [])) [],
-      length-append (blocks rs)
-          (1 ∷ (spelling r ++ [])),
-      length-append (spelling r) [],
-    )
+pub content-append : (c : OnLog) (rs ss : List Record)
+    → content_after c (rs ++ ss) ≡ content_after (content_after c rs) ss
+content-append c [] ss = refl
+content-append c (r ∷ rs) ss = content-append (with_record r c) rs ss
 
-pub spelled-added : (rs : List Record) (r : Record) → AreSpelled rs → IsValid r → Fits r
-    → AreSpelled (rs ++ r ∷ [])
-spelled-added [] r all valid fits = ((valid, fits), tt)
-spelled-added (s ∷ rs) r all valid fits = (all.0, spelled-added rs r all.1 valid fits)
+pub placed-append : (c : OnLog) (rs ss : List Record) → ArePlaced c rs → ArePlaced (content_after c rs) ss
+    → ArePlaced c (rs ++ ss)
+placed-append c [] ss all more = more
+placed-append c (r ∷ rs) ss all more = (all.0, placed-append (with_record r c) rs ss all.1 more)
 
-pub entries-added : (rs : List Record) (r : Record) → entries_in (rs ++ r ∷ []) ≡ with_entry r
-    (entries_in rs)
-entries-added [] (records.Entry entry) = refl
-entries-added [] (records.Vote vote) = refl
-entries-added (records.Entry first ∷ rs) (records.Entry entry) = ap (λ (l : List Entry). first ∷ l)
-    (entries-added rs (records.Entry entry))
-entries-added (records.Entry first ∷ rs) (records.Vote vote) = ap (λ (l : List Entry). first ∷ l)
-    (entries-added rs (records.Vote vote))
-entries-added (records.Vote first ∷ rs) (records.Entry entry) = entries-added rs (records.Entry entry)
-entries-added (records.Vote first ∷ rs) (records.Vote vote) = entries-added rs (records.Vote vote)
+-- entries stand behind the others, and may stand anywhere
+pub content-entries : (c : OnLog) (es : List Entry) → content_after c (as_records es) ≡ with_entries es c
+content-entries c [] =
+    let same : c.entries ≡ c.entries ++ [] = sym (append-nil c.entries) in
+    let long : c.length ≡ c.length + entries_length [] = omega arith in
+    λ i. record c { entries = same i; length = long i }
+content-entries c (e ∷ es) =
+    let same : (c.entries ++ e ∷ []) ++ es ≡ c.entries ++ (e ∷ es) = append_assoc c.entries (e ∷ []) es in
+    let long : c.length + block_length (records.Entry e) + entries_length es ≡ c.length + entries_length (e ∷ es) =
+    omega (arith, sum_by-cons (λ (x : Entry). 1 + length (entry_spelling x)) e es) in
+    content-entries (with_record (records.Entry e) c) es ∙ (λ i. record c { entries = same i; length = long i })
 
-pub votes-added : (rs : List Record) (r : Record) → votes_in (rs ++ r ∷ []) ≡ with_vote r (votes_in rs)
-votes-added [] (records.Entry entry) = refl
-votes-added [] (records.Vote vote) = refl
-votes-added (records.Entry first ∷ rs) (records.Entry entry) = votes-added rs (records.Entry entry)
-votes-added (records.Entry first ∷ rs) (records.Vote vote) = votes-added rs (records.Vote vote)
-votes-added (records.Vote first ∷ rs) (records.Entry entry) = ap (λ (l : List Vote). first ∷ l)
-    (votes-added rs (records.Entry entry))
-votes-added (records.Vote first ∷ rs) (records.Vote vote) = ap (λ (l : List Vote). first ∷ l)
-    (votes-added rs (records.Vote vote))
+pub placed-entries : (c : OnLog) (es : List Entry) → ArePlaced c (as_records es)
+placed-entries c [] = tt
+placed-entries c (e ∷ es) = (tt, placed-entries (with_record (records.Entry e) c) es)
 
--- the length of a log by its records
-pub length_of_log : (rs : List Record) → 9 + length (blocks rs) ≡ log_length (entries_in rs) (votes_in rs)
-length_of_log [] = refl
-length_of_log (records.Entry entry ∷ rs) =
-    let longer = sum_by-cons (λ (e : Entry). 1 + length (entry_spelling e)) entry (entries_in rs) in
-    omega (arith, length_of_log rs, length-append (entry_spelling entry) (blocks rs), longer)
-length_of_log (records.Vote vote ∷ rs) =
-    let longer = sum_by-cons (λ (v : Vote). 1 + length (vote_spelling v)) vote (votes_in rs) in
-    omega (arith, length_of_log rs, length-append (vote_spelling vote) (blocks rs), longer)
+-- a record takes one place of its kind
+pub length-entries : (r : Record) (c : OnLog) → length (with_record r c).entries ≤ length c.entries + as_entry r
+length-entries (records.Entry entry) c = omega (arith, length-append c.entries (entry ∷ []))
+length-entries (records.Vote vote) c = omega arith
+length-entries (records.AgeVote vote) c = omega arith
+length-entries (records.Cut keep) c = omega (arith, length-take keep c.entries)
+length-entries records.Upgrade c = omega arith
 
--- one record more makes it longer by its block
-pub length_of_more : (es : List Entry) (vs : List Vote) (r : Record) → log_length (with_entry r es)
-    (with_vote r vs) ≡ log_length es vs + block_length r
-length_of_more es vs (records.Entry entry) =
-    let longer = sum_by_push (λ (e : Entry). 1 + length (entry_spelling e)) es entry in
-    omega (arith, longer)
-length_of_more es vs (records.Vote vote) =
-    let longer = sum_by_push (λ (v : Vote). 1 + length (vote_spelling v)) vs vote in
-    omega (arith, longer)
+pub length-votes : (r : Record) (c : OnLog) → length (with_record r c).votes ≡ length c.votes + as_vote r
+length-votes (records.Entry entry) c = omega arith
+length-votes (records.Vote vote) c = length-append c.votes (vote ∷ [])
+length-votes (records.AgeVote vote) c = omega arith
+length-votes (records.Cut keep) c = omega arith
+length-votes records.Upgrade c = omega arith
 
--- so do entries more
-pub length_of_entries : (es : List Entry) (vs : List Vote) (news : List Entry)
-    → log_length (es ++ news) vs ≡ log_length es vs + entries_length news
-length_of_entries es vs news =
-    omega (arith, sum_by-append (λ (e : Entry). 1 + length (entry_spelling e)) es news)
+pub length-age_votes : (r : Record) (c : OnLog)
+    → length (with_record r c).age_votes ≤ length c.age_votes + as_other r
+length-age_votes (records.Entry entry) c = omega arith
+length-age_votes (records.Vote vote) c = omega arith
+length-age_votes (records.AgeVote vote) c = omega (arith, length-append c.age_votes (vote ∷ []))
+length-age_votes (records.Cut keep) c = omega arith
+length-age_votes records.Upgrade c = omega arith
 
--- and votes
-pub length_of_both : (es fs : List Entry) (vs ws : List Vote)
-    → log_length (es ++ fs) (vs ++ ws) ≡ log_length es vs + (entries_length fs + votes_length ws)
-length_of_both es fs vs ws =
-    omega (
-      arith,
-      sum_by-append (λ (e : Entry). 1 + length (entry_spelling e)) es fs,
-      sum_by-append (λ (v : Vote). 1 + length (vote_spelling v)) vs ws,
-    )
+pub one_kind : (r : Record) → as_entry r + as_vote r + as_other r ≡ 1
+one_kind (records.Entry entry) = refl
+one_kind (records.Vote vote) = refl
+one_kind (records.AgeVote vote) = refl
+one_kind (records.Cut keep) = refl
+one_kind records.Upgrade = refl
 
--- the same, where the lists are known to be these
-pub longer : (r : Record) (len size : ℕ) (es es' : List Entry) (vs vs' : List Vote)
-    → len ≡ log_length es vs → size ≡ length (spelling r) → es' ≡ with_entry r es → vs'
-    ≡ with_vote r vs
-    → len + (size + 1) ≡ log_length es' vs'
-longer r len size es es' vs vs' long size_is entries votes =
-    omega (arith, long, size_is, length_of_more es vs r)
-    ∙ ap (λ (l : List Entry). log_length l (with_vote r vs)) (sym entries)
-    ∙ ap (log_length es') (sym votes)
+-- ---- how long a log is
 
 -- an entry has a short block
 pub short_block : (e : Entry) → IsValidEntry e → 1 + length (entry_spelling e) ≤ 72
@@ -120,41 +88,106 @@ short_log_length es valid =
     (λ k d l. short_block _ (valid k d l)) in
     omega (arith, few)
 
--- a record takes one place of its kind
-pub length-with_entry : (r : Record) (es : List Entry) → length (with_entry r es) ≡ length es + as_entry r
-length-with_entry (records.Entry entry) es = length-append es (entry ∷ [])
-length-with_entry (records.Vote vote) es = omega arith
+-- entries more
+pub entries_length-append : (es fs : List Entry) → entries_length (es ++ fs) ≡ entries_length es + entries_length fs
+entries_length-append es fs = sum_by-append (λ (e : Entry). 1 + length (entry_spelling e)) es fs
 
-pub length-with_vote : (r : Record) (vs : List Vote) → length (with_vote r vs) ≡ length vs + as_vote r
-length-with_vote (records.Entry entry) vs = omega arith
-length-with_vote (records.Vote vote) vs = length-append vs (vote ∷ [])
+-- a log has bytes for all that is on it
+pub least_more : (r : Record) (c : OnLog) → least_length c ≤ c.length
+    → least_length (with_record r c) ≤ (with_record r c).length
+least_more (records.Entry entry) c least =
+    omega (arith, least, sum_by_push (λ (e : Entry). 1 + length (entry_spelling e)) c.entries entry)
+least_more (records.Vote vote) c least =
+    omega (arith, least, sum_by_push (λ (v : Vote). 1 + length (vote_spelling v)) c.votes vote)
+least_more (records.AgeVote vote) c least = omega (arith, least, length-append c.age_votes (vote ∷ []))
+least_more (records.Cut keep) c least =
+    let both = entries_length-append (take keep c.entries) (drop keep c.entries) in
+    let whole = ap entries_length (take-append-drop keep c.entries) in
+    omega (arith, least, both, whole)
+least_more records.Upgrade c least = omega (arith, least)
 
-pub one_kind : (r : Record) → as_entry r + as_vote r ≡ 1
-one_kind (records.Entry entry) = refl
-one_kind (records.Vote vote) = refl
+pub least_all : (news : List Entry) (c : OnLog) → least_length c ≤ c.length
+    → least_length (with_entries news c) ≤ (with_entries news c).length
+least_all news c least = omega (arith, least, entries_length-append c.entries news)
+
+pub least_after : (c : OnLog) (rs : List Record) → least_length c ≤ c.length
+    → least_length (content_after c rs) ≤ (content_after c rs).length
+least_after c [] least = least
+least_after c (r ∷ rs) least = least_after (with_record r c) rs (least_more r c least)
+
+pub least_empty : (n : Bool) → least_length (empty_of n) ≤ (empty_of n).length
+least_empty n = omega arith
+
+pub least_of_log : (bytes : List ℕ) (c : OnLog) → IsLogOf bytes c → least_length c ≤ c.length
+least_of_log bytes c is = subst (λ (d : OnLog). least_length d ≤ d.length) is.content
+    (least_after (empty_of is.newer) is.records (least_empty is.newer))
+
+-- so one with no bytes for records has none
+no_entries : (es : List Entry) → entries_length es ≤ 0 → es ≡ []
+no_entries [] none = refl
+no_entries (e ∷ es) none = absurd (omega (arith, none, sum_by-cons (λ (x : Entry). 1 + length (entry_spelling x)) e es))
+
+no_votes : (vs : List Vote) → votes_length vs ≤ 0 → vs ≡ []
+no_votes [] none = refl
+no_votes (v ∷ vs) none = absurd (omega (arith, none, sum_by-cons (λ (x : Vote). 1 + length (vote_spelling x)) v vs))
+
+no_age_votes : (vs : List AgeVote) → length vs ≤ 0 → vs ≡ []
+no_age_votes [] none = refl
+no_age_votes (v ∷ vs) none = absurd (omega (arith, none))
+
+pub nothing_on : (c : OnLog) → least_length c ≤ c.length → c.length ≡ 9 → c ≡ empty_of c.newer
+nothing_on c least short =
+    let entries = no_entries c.entries (omega (arith, least, short)) in
+    let votes = no_votes c.votes (omega (arith, least, short)) in
+    let age_votes = no_age_votes c.age_votes (omega (arith, least, short)) in
+    λ i. record {
+      entries = entries i;
+      votes = votes i;
+      age_votes = age_votes i;
+      newer = c.newer;
+      length = short i;
+    }
 
 -- ---- a log stands for its records
 
-short_log : (rs : List Record) (bytes : List ℕ) → IsLog bytes rs → length bytes ≤ 9 → rs ≡ []
-short_log [] bytes is short = refl
-short_log (r ∷ rs) bytes is short =
+-- a log that is not of the newer format has more than nine bytes, so that it is not taken for a new one
+abbrev pub IsWhole : Bool → List ℕ → Type 0
+IsWhole newer bytes = newer ≡ false → 9 < length bytes
+
+short_log : (n : Bool) (rs : List Record) (bytes : List ℕ) → IsLog bytes n rs → length bytes ≤ 9 → rs ≡ []
+short_log n [] bytes is short = refl
+short_log n (r ∷ rs) bytes is short =
     absurd (omega (
       arith,
       short,
       ap length is.parts,
+      length-append (magic_of n) (blocks (r ∷ rs) ++ (is.gate ∷ is.rest)),
+      length-magic n,
       length-append (spelling r) (blocks rs),
       length-append (spelling r ++ blocks rs) (is.gate ∷ is.rest),
     ))
 
-pub log_recovers : (bytes : List ℕ) (rs : List Record) → IsLog bytes rs → Recovered bytes rs
-log_recovers bytes rs is = ⊎_elim (λ (long : 9 < length bytes). inr (long, is))
-    (λ (short : length bytes ≤ 9). inl (short, short_log rs bytes is short)) (cases_lt 9 (length bytes))
+-- one with a record is no short one
+pub long_log : (n : Bool) (rs : List Record) (bytes : List ℕ) → IsLog bytes n rs → 0 < length rs
+    → IsWhole n bytes
+long_log n rs bytes is some older = by (cases_lt 9 (length bytes))
+  where
+    by : (9 < length bytes) ⊎ (length bytes ≤ 9) → 9 < length bytes
+    by (inl l) = l
+    by (inr l) = absurd (omega (arith, ap length (short_log n rs bytes is l), some))
 
-pub log_stands : (bytes : List ℕ) (rs : List Record) (es : List Entry) (vs : List Vote) → IsLog bytes rs
-    → entries_in rs ≡ es → votes_in rs ≡ vs → StandsFor bytes es vs
-log_stands bytes rs es vs is entries votes = record {
-  records = rs;
-  recovered = log_recovers bytes rs is;
-  entries = entries;
-  votes = votes;
-}
+pub log_stands : (bytes : List ℕ) (n : Bool) (rs : List Record) (c : OnLog) → IsLog bytes n rs
+    → IsWhole n bytes → content_after (empty_of n) rs ≡ c → StandFor bytes c
+log_stands bytes n rs c is whole same = by (cases_lt 9 (length bytes))
+  where
+    newer : (b : Bool) → n ≡ b → length bytes ≤ 9 → n ≡ true
+    newer true e l = e
+    newer false e l = absurd (omega (arith, whole e, l))
+
+    by : (9 < length bytes) ⊎ (length bytes ≤ 9) → StandFor bytes c
+    by (inl l) = inr (l, record { newer = n; records = rs; log = is; content = same })
+    by (inr l) = inl (
+      l,
+      sym same ∙ ap (content_after (empty_of n)) (short_log n rs bytes is l)
+          ∙ ap empty_of (newer n refl l),
+    )

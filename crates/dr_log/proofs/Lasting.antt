@@ -1,114 +1,93 @@
 -- What no crash loses at one moment of an append no crash loses later on.
-use Rattle.std.proofs.Common.{◌≡◌, ℕ, ◌≤◌, List, [], ◌∷◌, ◌++◌, length, inl, inr, ◌⊎◌, refl, sym, ap, ◌∙◌, append_assoc, append-nil, arith}
+use Rattle.std.proofs.Common.{◌≡◌, ℕ, ◌≤◌, ◌⊎◌, Bool, List, [], ◌∷◌, ◌++◌, length, inl, inr, refl, sym, ap, subst, ◌∙◌, append_assoc, arith}
 use Rattle.std.specs.Prelude.{⊤}
 use Rattle.dr_entry.specs.declared.entry.Entry.{Entry}
 use Rattle.dr_entry.specs.declared.record.Record.{Record}
-use Rattle.dr_entry.specs.declared.record.Record.TheVariants as records
-use Rattle.dr_entry.specs.declared.record.Vote.{Vote}
 use Rattle.dr_disk.specs.Calls.{Call, Write, State, at_rest, step}
 use Rattle.dr_disk.specs.Images.{IsImage, During, LastsDuring}
 use Rattle.dr_disk.proofs.Images.{unwritten_image}
 use Rattle.dr_disk.proofs.Moments.{During-weaken}
-use Rattle.dr_log.specs.Grammar.{IsLog}
-use Rattle.dr_log.specs.Standing.{IsBeforeOrAfter, LosesNone, StandsFor, entries_in, votes_in}
-use Rattle.dr_log.proofs.Growing.{log_stands}
-use Rattle.dr_log.proofs.Meaning.{recovered_once}
+use Rattle.dr_log.specs.Standing.{HasAllOf, LosesNone, as_records, with_entries}
+use Rattle.dr_log.proofs.Growing.{IsWhole, content-entries, log_stands}
+use Rattle.dr_log_bytes.specs.Content.{OnLog, content_after, empty_of}
+use Rattle.dr_log_bytes.specs.Grammar.{IsLog, StandFor}
+use Rattle.dr_log_bytes.proofs.Meaning.{content_once}
 
--- bytes stand for these entries and votes, or for these and all of the new records
-abbrev pub HasNoneOrAll : List Entry → List Vote → List Record → List ℕ → Type 0
-HasNoneOrAll entries votes news bytes =
-    StandsFor bytes entries votes ⊎ StandsFor bytes (entries ++ entries_in news) (votes ++ votes_in news)
+-- bytes stand for what was on the log, or for that with all of the new records
+abbrev pub HasNoneOrAll : OnLog → List Record → List ℕ → Type 0
+HasNoneOrAll c news bytes = StandFor bytes c ⊎ StandFor bytes (content_after c news)
 
--- so of one record
-pub of_one : (entries : List Entry) (votes : List Vote) (r : Record) (bytes : List ℕ)
-    → IsBeforeOrAfter entries votes r bytes → HasNoneOrAll entries votes (r ∷ []) bytes
-of_one entries votes r bytes (inl is) = inl is
-of_one entries votes (records.Entry e) bytes (inr is) = inr (rw (append-nil votes) is)
-of_one entries votes (records.Vote v) bytes (inr is) = inr (rw (append-nil entries) is)
+-- what was on the log is on it with the new records too
+abbrev pub TakesNothing : OnLog → OnLog → List Record → Type 0
+TakesNothing first c news = HasAllOf first c → HasAllOf first (content_after c news)
 
-pub to_one : (entries : List Entry) (votes : List Vote) (r : Record) (bytes : List ℕ)
-    → HasNoneOrAll entries votes (r ∷ []) bytes → IsBeforeOrAfter entries votes r bytes
-to_one entries votes r bytes (inl is) = inl is
-to_one entries votes (records.Entry e) bytes (inr is) = inr (rw (← append-nil votes) is)
-to_one entries votes (records.Vote v) bytes (inr is) = inr (rw (← append-nil entries) is)
+-- entries take nothing away
+pub entries_keep : (first c : OnLog) (news : List Entry) → TakesNothing first c (as_records news)
+entries_keep first c news has = subst (HasAllOf first) (sym (content-entries c news)) so
+  where
+    so : HasAllOf first (with_entries news c)
+    so = record {
+      more_entries = has.more_entries ++ news;
+      more_votes = has.more_votes;
+      more_age_votes = has.more_age_votes;
+      entries = ap (λ (l : List Entry). l ++ news) has.entries
+          ∙ append_assoc first.entries has.more_entries news;
+      votes = has.votes;
+      age_votes = has.age_votes;
+    }
 
--- bytes that have the records of a log, or more, have lost none of the first of them
-none_lost_of_all : (entries first more : List Entry) (votes kept others : List Vote) (news : List Record)
-    (bytes : List ℕ) → entries ≡ first ++ more → votes ≡ kept ++ others
-    → HasNoneOrAll entries votes news bytes → LosesNone first kept bytes
-none_lost_of_all entries first more votes kept others news bytes es vs (inl is) = record {
-  more_entries = more;
-  more_votes = others;
-  stands = rw (← es, ← vs) is;
-}
-none_lost_of_all entries first more votes kept others news bytes es vs (inr is) = record {
-  more_entries = more ++ entries_in news;
-  more_votes = others ++ votes_in news;
-  stands = rw (
-    ← append_assoc first more (entries_in news),
-    ← append_assoc kept others (votes_in news),
-    ← es,
-    ← vs,
-  ) is;
-}
-
-pub none_lost : (entries first more : List Entry) (votes kept others : List Vote) (r : Record)
-    (bytes : List ℕ) → entries ≡ first ++ more → votes ≡ kept ++ others
-    → IsBeforeOrAfter entries votes r bytes → LosesNone first kept bytes
-none_lost entries first more votes kept others r bytes es vs is =
-    none_lost_of_all entries first more votes kept others (r ∷ []) bytes es vs
-    (of_one entries votes r bytes is)
-
--- some image stands for these
-pub record Witness (entries : List Entry) (votes : List Vote) (s : State) : Type 0 where
+-- some image stands for this
+pub record Witness (c : OnLog) (s : State) : Type 0 where
   pub image : List ℕ
   pub is : IsImage s image
-  pub stands : StandsFor image entries votes
+  pub stands : StandFor image c
 
 -- so it is at each moment of these calls but the last one
-abbrev pub Witnessed : List Entry → List Vote → State → List Call → Type 0
-Witnessed entries votes s [] = ⊤
-Witnessed entries votes s (call ∷ calls) =
-    Witness entries votes s × Witnessed entries votes (step s call) calls
+abbrev pub Witnessed : OnLog → State → List Call → Type 0
+Witnessed c s [] = ⊤
+Witnessed c s (call ∷ calls) = Witness c s × Witnessed c (step s call) calls
 
--- what one image has not lost whose records are known none has that has them, or all of the new ones too
-kept_too : (entries first : List Entry) (votes kept : List Vote) (news : List Record) (witness bytes : List ℕ)
-    → StandsFor witness entries votes → LosesNone first kept witness
-    → HasNoneOrAll entries votes news bytes → LosesNone first kept bytes
-kept_too entries first votes kept news witness bytes stands loses is =
-    let same = recovered_once witness stands.records loses.stands.records stands.recovered
-    loses.stands.recovered in
-    none_lost_of_all entries first loses.more_entries votes kept loses.more_votes news bytes
-    (sym stands.entries ∙ ap entries_in same ∙ loses.stands.entries)
-    (sym stands.votes ∙ ap votes_in same ∙ loses.stands.votes) is
+-- what one image has not lost none has that stands for the same, or for the new records besides, where these take
+-- nothing away
+kept_too : (c first : OnLog) (news : List Record) (witness bytes : List ℕ) → TakesNothing first c news
+    → StandFor witness c → LosesNone first witness → HasNoneOrAll c news bytes → LosesNone first bytes
+kept_too c first news witness bytes takes stands loses is = by is
+  where
+    has : HasAllOf first c
+    has = subst (HasAllOf first) (content_once witness loses.content c loses.stands stands) loses.has
 
-pub lasts_during : (entries first : List Entry) (votes kept : List Vote) (news : List Record) (s : State)
-    (calls : List Call) → During s calls (HasNoneOrAll entries votes news)
-    → Witnessed entries votes s calls → LastsDuring s calls (LosesNone first kept)
-lasts_during entries first votes kept news s [] each seen = tt
-lasts_during entries first votes kept news s (call ∷ calls) each seen = (
-  λ all. During-weaken s (call ∷ calls) (HasNoneOrAll entries votes news) (LosesNone first kept)
-      (λ image. kept_too entries first votes kept news seen.0.image image seen.0.stands
+    by : HasNoneOrAll c news bytes → LosesNone first bytes
+    by (inl before) = record { content = c; stands = before; has = has }
+    by (inr after) = record { content = content_after c news; stands = after; has = takes has }
+
+pub lasts_during : (c first : OnLog) (news : List Record) (s : State) (calls : List Call)
+    → TakesNothing first c news → During s calls (HasNoneOrAll c news) → Witnessed c s calls
+    → LastsDuring s calls (LosesNone first)
+lasts_during c first news s [] takes each seen = tt
+lasts_during c first news s (call ∷ calls) takes each seen = (
+  λ all. During-weaken s (call ∷ calls) (HasNoneOrAll c news) (LosesNone first)
+      (λ image. kept_too c first news seen.0.image image takes seen.0.stands
       (all seen.0.image seen.0.is)) each,
-  lasts_during entries first votes kept news (step s call) calls each.1 seen.1,
+  lasts_during c first news (step s call) calls takes each.1 seen.1,
 )
 
 -- ---- such images
 
 -- at rest
-pub rest_witness : (bytes : List ℕ) (rs : List Record) → IsLog bytes rs
-    → Witness (entries_in rs) (votes_in rs) (at_rest bytes)
-rest_witness bytes rs log = record {
+pub rest_witness : (bytes : List ℕ) (n : Bool) (rs : List Record) → IsLog bytes n rs → IsWhole n bytes
+    → Witness (content_after (empty_of n) rs) (at_rest bytes)
+rest_witness bytes n rs log whole = record {
   image = bytes;
   is = record { no_shorter = omega arith; no_longer = omega arith; stays = λ i l free. refl };
-  stands = log_stands bytes rs (entries_in rs) (votes_in rs) log refl refl;
+  stands = log_stands bytes n rs (content_after (empty_of n) rs) log whole refl;
 }
 
 -- while a write is not yet synced
-pub unwritten_witness : (bytes : List ℕ) (rs : List Record) (at : ℕ) (x : List ℕ) → IsLog bytes rs
-    → at ≤ length bytes → Witness (entries_in rs) (votes_in rs) (step (at_rest bytes) (Write at x))
-unwritten_witness bytes rs at x log inside = record {
+pub unwritten_witness : (bytes : List ℕ) (n : Bool) (rs : List Record) (at : ℕ) (x : List ℕ)
+    → IsLog bytes n rs → IsWhole n bytes → at ≤ length bytes
+    → Witness (content_after (empty_of n) rs) (step (at_rest bytes) (Write at x))
+unwritten_witness bytes n rs at x log whole inside = record {
   image = bytes;
   is = unwritten_image bytes at x inside;
-  stands = log_stands bytes rs (entries_in rs) (votes_in rs) log refl refl;
+  stands = log_stands bytes n rs (content_after (empty_of n) rs) log whole refl;
 }

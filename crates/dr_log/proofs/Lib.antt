@@ -1,8 +1,8 @@
-pub mod Meaning
 pub mod Growing
 pub mod Moments
 pub mod Lasting
 pub mod Told
-pub mod Reading
 pub mod Mounting
 pub mod Groups
+pub mod Voting
+pub mod Ordinary

@@ -1,19 +1,17 @@
 -- What a crash leaves at each moment of a mount, and what the disk is then.
-use Rattle.std.proofs.Common.{◌≡◌, ℕ, ◌<◌, ◌≤◌, List, [], ◌∷◌, ◌++◌, length, Option, Some, None, IfSome, inl, inr, refl, sym, ap, subst, ◌∙◌, arith}
-use Rattle.dr_entry.specs.declared.entry.Entry.{Entry}
+use Rattle.std.proofs.Common.{◌≡◌, true, false, ℕ, ◌<◌, ◌≤◌, List, [], ◌∷◌, ◌++◌, length, Option, Some, None, IfSome, inl, inr, refl, sym, ap, subst, ◌∙◌, arith}
 use Rattle.dr_entry.specs.declared.record.Record.{Record}
-use Rattle.dr_entry.specs.declared.record.Vote.{Vote}
 use Rattle.dr_disk.specs.Calls.{Call, Write, FailedWrite, Cut, FailedCut, Sync, State, at_rest, run_from}
 use Rattle.dr_disk.specs.Disk.{Told, state_of, content_of, after, added}
 use Rattle.dr_disk.specs.Images.{IsImage, AllImages, During, Went, Goes, ReadsAnImage}
 use Rattle.dr_disk.proofs.Images.{image_at_rest}
 use Rattle.dr_disk.proofs.Moments.{after_all, state-after, state-after_all, During-weaken, went_by, Went-still}
-use Rattle.dr_log.specs.Grammar.{magic, IsLog, Recovered, IsNoLog, IsDamaged}
-use Rattle.dr_log.specs.Standing.{StandsFor, KeepsRecords}
+use Rattle.dr_log.specs.Standing.{KeepsRecords}
 use Rattle.dr_log.specs.Appending.{IsMounted, made, StopsMaking}
 use Rattle.dr_log.specs.Kept.{IsSettled}
-use Rattle.dr_log.specs.Parsed.{IsLogFound}
 use Rattle.dr_log.proofs.Growing.{log_stands}
+use Rattle.dr_log_bytes.specs.Content.{OnLog, empty_of}
+use Rattle.dr_log_bytes.specs.Grammar.{IsDamaged, IsLog, IsLogOf, IsNoLog, StandFor, newer_magic}
 use Rattle.dr_log.proofs.Told.{content-after}
 
 abbrev Keeps : Option Told → Option Told → Type 0
@@ -21,7 +19,7 @@ Keeps told new = Goes told new KeepsRecords
 
 -- an image of before is such an image
 same_image : (s : State) (image : List ℕ) → IsImage s image → KeepsRecords s image
-same_image s image is = record { before = image; was = is; alike = λ rs. (λ here. here, λ here. here) }
+same_image s image is = record { before = image; was = is; alike = λ c. (λ here. here, λ here. here) }
 
 -- while no call is made
 pub keeps_still : (told : Option Told) → Keeps told told
@@ -36,10 +34,9 @@ reads_alike s image reads is =
     record {
       before = s.content;
       was = reads;
-      alike = λ rs. (
-        subst (λ (l : List ℕ). Recovered l rs) (sym same),
-        subst (λ (l : List ℕ).
-            Recovered l rs) same,
+      alike = λ c. (
+        subst (λ (l : List ℕ). StandFor l c) (sym same),
+        subst (λ (l : List ℕ). StandFor l c) same,
       );
     }
 
@@ -56,34 +53,35 @@ synced_keeps (Some t) new is reads =
 synced_content : (t : Told) → content_of (after Sync t) ≡ content_of t
 synced_content t = content-after t Sync
 
-pub found_settled : (told mid : Option Told) (bytes : List ℕ) (es : List Entry) (vs : List Vote)
-    (len : ℕ) → mid ≡ added Sync told → IfSome mid (λ t. bytes ≡ content_of t)
-    → IsLogFound bytes es vs len
-    → IfSome mid (IsSettled es vs)
-found_settled None mid bytes es vs len is reads found = subst (λ (o : Option Told).
-    IfSome o (IsSettled es vs)) (sym is) tt
-found_settled (Some t) mid bytes es vs len is reads found =
-    let same = subst (λ (o : Option Told).
-    IfSome o (λ t. bytes ≡ content_of t)) is reads in
-    let settled : IsSettled es vs (after Sync t) = record {
+pub found_settled : (told mid : Option Told) (bytes : List ℕ) (c : OnLog) (n : ℕ) → mid ≡ added Sync told
+    → IfSome mid (λ t. n ≡ length (content_of t)) → 9 < n → IfSome mid (λ t. bytes ≡ content_of t)
+    → IsLogOf bytes c → IfSome mid (IsSettled c)
+found_settled None mid bytes c n is long more reads found = subst (λ (o : Option Told).
+    IfSome o (IsSettled c)) (sym is) tt
+found_settled (Some t) mid bytes c n is long more reads found =
+    let same = subst (λ (o : Option Told). IfSome o (λ t. bytes ≡ content_of t)) is reads in
+    let lengths = subst (λ (o : Option Told). IfSome o (λ t. n ≡ length (content_of t))) is long in
+    let settled : IsSettled c (after Sync t) = record {
       rests = state-after t Sync ∙ ap at_rest (sym (synced_content t));
+      newer = found.newer;
       records = found.records;
-      log = subst (λ (l : List ℕ). IsLog l found.records) same found.log;
-      entries = found.entries;
-      votes = found.votes;
+      log = subst (λ (l : List ℕ). IsLog l found.newer found.records) same found.log;
+      whole = λ older. omega (arith, lengths, more);
+      content = found.content;
     } in
-    subst (λ (o : Option Told). IfSome o (IsSettled es vs)) (sym is) settled
+    subst (λ (o : Option Told). IfSome o (IsSettled c)) (sym is) settled
 
-pub found_records : (told mid : Option Told) (bytes : List ℕ) (es : List Entry) (vs : List Vote)
-    (len : ℕ) → mid ≡ added Sync told → IfSome mid (λ t. bytes ≡ content_of t)
-    → IsLogFound bytes es vs len
-    → IfSome told (λ t. StandsFor (content_of t) es vs)
-found_records None mid bytes es vs len is reads found = tt
-found_records (Some t) mid bytes es vs len is reads found =
-    let same = subst (λ (o : Option Told).
-    IfSome o (λ t. bytes ≡ content_of t)) is reads in
-    log_stands (content_of t) found.records es vs (subst (λ (l : List ℕ). IsLog l found.records)
-    (same ∙ synced_content t) found.log) found.entries found.votes
+pub found_records : (told mid : Option Told) (bytes : List ℕ) (c : OnLog) (n : ℕ) → mid ≡ added Sync told
+    → IfSome mid (λ t. n ≡ length (content_of t)) → 9 < n → IfSome mid (λ t. bytes ≡ content_of t)
+    → IsLogOf bytes c → IfSome told (λ t. StandFor (content_of t) c)
+found_records None mid bytes c n is long more reads found = tt
+found_records (Some t) mid bytes c n is long more reads found =
+    let same = subst (λ (o : Option Told). IfSome o (λ t. bytes ≡ content_of t)) is reads in
+    let lengths = subst (λ (o : Option Told). IfSome o (λ t. n ≡ length (content_of t))) is long in
+    let content = synced_content t in
+    log_stands (content_of t) found.newer found.records c
+    (subst (λ (l : List ℕ). IsLog l found.newer found.records) (same ∙ content) found.log)
+    (λ older. omega (arith, lengths, more, ap length content)) found.content
 
 pub found_damaged : (told mid : Option Told) (bytes : List ℕ) (n at : ℕ) → mid
     ≡ added Sync told
@@ -104,22 +102,18 @@ found_damaged (Some t) mid bytes n at is long more reads none =
 
 -- ---- a log that is made
 
--- bytes that are short stand for no record
-short_alike : (first second : List ℕ) → length first ≤ 9 → length second ≤ 9 → (rs : List Record)
-    → Recovered first rs → Recovered second rs
-short_alike first second a b rs (inl here) = inl (b, here.1)
-short_alike first second a b rs (inr here) = absurd (omega (arith, a, here.0))
+-- bytes that are short stand for a new log
+short_alike : (first second : List ℕ) → length first ≤ 9 → length second ≤ 9 → (c : OnLog)
+    → StandFor first c → StandFor second c
+short_alike first second a b c (inl here) = inl (b, here.1)
+short_alike first second a b c (inr here) = absurd (omega (arith, a, here.0))
 
 short_keeps : (s : State) → IsImage s s.content → length s.content ≤ 9 → (image : List ℕ)
     → length image ≤ 9 → KeepsRecords s image
 short_keeps s reads short image here = record {
   before = s.content;
   was = reads;
-  alike = λ rs. (
-    short_alike s.content image short here rs,
-    short_alike image
-        s.content here short rs,
-  );
+  alike = λ c. (short_alike s.content image short here c, short_alike image s.content here short c);
 }
 
 -- calls behind a sync during which the disk stays short
@@ -140,7 +134,7 @@ short_state s small image is = omega (arith, small, is.no_longer)
 
 -- all calls of making a log on a short disk
 made_short : (c : List ℕ) → length c ≤ 9
-    → During (at_rest c) (Cut 0 ∷ Write 0 magic ∷ Sync ∷ Write 8
+    → During (at_rest c) (Cut 0 ∷ Write 0 newer_magic ∷ Sync ∷ Write 8
     (0 ∷ []) ∷ Sync ∷ []) (λ image. length image ≤ 9)
 made_short c l = (
   short_state _ l,
@@ -166,7 +160,7 @@ made_keeps None new n long small reads is = subst (Keeps None) (sym is) tt
 made_keeps (Some t) new n long small reads is =
     let l = length_told (Some t) n long small in
     subst (Keeps (Some t)) (sym is)
-    (short_went t (Cut 0 ∷ Write 0 magic ∷ Sync ∷ Write 8 (0 ∷ []) ∷ Sync ∷ []) reads l
+    (short_went t (Cut 0 ∷ Write 0 newer_magic ∷ Sync ∷ Write 8 (0 ∷ []) ∷ Sync ∷ []) reads l
     (made_short (content_of t) l))
 
 -- the calls of a mount that makes a log
@@ -191,11 +185,11 @@ stops_keeps_some t new l reads (inr (inl (inl e))) =
     subst (Keeps (Some t)) (sym e) (short_went t (Cut 0 ∷ FailedWrite 0 8 ∷ []) reads l
     (short_state _ l, (short_state _ l, short_state _ (omega (arith, l)))))
 stops_keeps_some t new l reads (inr (inl (inr e))) =
-    subst (Keeps (Some t)) (sym e) (short_went t (Cut 0 ∷ Write 0 magic ∷ []) reads l
+    subst (Keeps (Some t)) (sym e) (short_went t (Cut 0 ∷ Write 0 newer_magic ∷ []) reads l
     (short_state _ l, (short_state _ l, short_state _ (omega (arith, l)))))
 stops_keeps_some t new l reads (inr (inr (inl e))) =
     subst (Keeps (Some t)) (sym e)
-    (short_went t (Cut 0 ∷ Write 0 magic ∷ Sync ∷ FailedWrite 8 1 ∷ []) reads l (
+    (short_went t (Cut 0 ∷ Write 0 newer_magic ∷ Sync ∷ FailedWrite 8 1 ∷ []) reads l (
       short_state _ l,
       (
         short_state _ l,
@@ -207,7 +201,7 @@ stops_keeps_some t new l reads (inr (inr (inl e))) =
     ))
 stops_keeps_some t new l reads (inr (inr (inr e))) =
     subst (Keeps (Some t)) (sym e)
-    (short_went t (Cut 0 ∷ Write 0 magic ∷ Sync ∷ Write 8 (0 ∷ []) ∷ []) reads l (
+    (short_went t (Cut 0 ∷ Write 0 newer_magic ∷ Sync ∷ Write 8 (0 ∷ []) ∷ []) reads l (
       short_state _ l,
       (
         short_state _ l,
@@ -232,21 +226,16 @@ stops_keeps None new n long small reads stops = subst (Keeps None) (sym (stays_s
 stops_keeps (Some t) new n long small reads stops = stops_keeps_some t new
     (length_told (Some t) n long small) reads stops
 
--- whatever was there stands for no record
+-- whatever was there stands for a new log
 pub made_records : (told : Option Told) (n : ℕ) → IfSome (added Sync told)
-    (λ t. n ≡ length (content_of t)) → n ≤ 9
-    → IfSome told (λ t. StandsFor (content_of t) [] [])
+    (λ t. n ≡ length (content_of t)) → n ≤ 9 → IfSome told (λ t. StandFor (content_of t) (empty_of true))
 made_records None n long small = tt
-made_records (Some t) n long small = record {
-  records = [];
-  recovered = inl (length_told (Some t) n long small, refl);
-  entries = refl;
-  votes = refl;
-}
+made_records (Some t) n long small = inl (length_told (Some t) n long small, refl)
 
-empty_log : IsLog (magic ++ (0 ∷ [])) []
+empty_log : IsLog (newer_magic ++ (0 ∷ [])) true []
 empty_log = record {
   spelled = tt;
+  placed = tt;
   gate = 0;
   closed = λ e. absurd (omega (arith, e));
   rest = [];
@@ -254,23 +243,24 @@ empty_log = record {
 }
 
 made_run : (s : State)
-    → run_from s (Cut 0 ∷ Write 0 magic ∷ Sync ∷ Write 8 (0 ∷ []) ∷ Sync ∷ [])
-    ≡ at_rest (magic ++ (0 ∷ []))
+    → run_from s (Cut 0 ∷ Write 0 newer_magic ∷ Sync ∷ Write 8 (0 ∷ []) ∷ Sync ∷ [])
+    ≡ at_rest (newer_magic ++ (0 ∷ []))
 made_run s = refl
 
 -- the disk of a new log
-pub made_settled : (told new : Option Told) → new ≡ made told → IfSome new (IsSettled [] [])
-made_settled None new is = subst (λ (o : Option Told). IfSome o (IsSettled [] [])) (sym is) tt
+pub made_settled : (told new : Option Told) → new ≡ made told → IfSome new (IsSettled (empty_of true))
+made_settled None new is = subst (λ (o : Option Told). IfSome o (IsSettled (empty_of true))) (sym is) tt
 made_settled (Some t) new is =
-    let more = Cut 0 ∷ Write 0 magic ∷ Sync ∷ Write 8 (0 ∷ []) ∷ Sync ∷ [] in
-    let ran : state_of (after_all more t) ≡ at_rest (magic ++ (0 ∷ [])) = state-after_all t more
+    let more = Cut 0 ∷ Write 0 newer_magic ∷ Sync ∷ Write 8 (0 ∷ []) ∷ Sync ∷ [] in
+    let ran : state_of (after_all more t) ≡ at_rest (newer_magic ++ (0 ∷ [])) = state-after_all t more
     ∙ made_run (state_of t) in
     let reads = ap (λ (s : State). s.content) ran in
-    let settled : IsSettled [] [] (after_all more t) = record {
+    let settled : IsSettled (empty_of true) (after_all more t) = record {
       rests = ran ∙ ap at_rest (sym reads);
+      newer = true;
       records = [];
-      log = subst (λ (l : List ℕ). IsLog l []) (sym reads) empty_log;
-      entries = refl;
-      votes = refl;
+      log = subst (λ (l : List ℕ). IsLog l true []) (sym reads) empty_log;
+      whole = λ older. absurd (cc (older));
+      content = refl;
     } in
-    subst (λ (o : Option Told). IfSome o (IsSettled [] [])) (sym is) settled
+    subst (λ (o : Option Told). IfSome o (IsSettled (empty_of true))) (sym is) settled

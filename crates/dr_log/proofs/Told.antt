@@ -1,24 +1,24 @@
 -- What a log's calls make of a disk that may tell: what a crash leaves at each moment, and what the
 -- disk is then.
-use Rattle.std.proofs.Common.{◌≡◌, ℕ, ◌+◌, ◌-◌, ◌<◌, ◌≤◌, List, [], ◌∷◌, ◌++◌, length, Option, Some, None, IfSome, inl, inr, refl, sym, ap, subst, ◌∙◌, append-nil, arith}
+use Rattle.std.proofs.Common.{◌≡◌, ℕ, ◌+◌, ◌-◌, ◌<◌, ◌≤◌, List, [], ◌∷◌, ◌++◌, length, Option, Some, None, IfSome, inl, inr, refl, sym, ap, subst, ◌∙◌, arith}
 use Rattle.dr_entry.specs.declared.entry.Entry.{Entry}
 use Rattle.dr_entry.specs.declared.record.Record.{Record}
-use Rattle.dr_entry.specs.declared.record.Record.TheVariants as records
-use Rattle.dr_entry.specs.declared.record.Vote.{Vote}
 use Rattle.dr_disk.specs.Calls.{Call, Write, FailedWrite, Cut, FailedCut, Sync, State, at_rest, written, step, run_from}
 use Rattle.dr_disk.specs.Disk.{Told, state_of, content_of, after, added}
 use Rattle.dr_disk.specs.Images.{IsImage, AllImages, During, Goes, IsLeft, LastsDuring, Lasts}
 use Rattle.dr_disk.proofs.Images.{image_at_rest}
-use Rattle.dr_disk.proofs.Moments.{after_all, state-after, state-after_all, During-weaken, Goes-weaken, went_by, Went-still, lasts_by}
-use Rattle.dr_log.specs.Grammar.{magic, blocks, AreSpelled, IsLog}
+use Rattle.dr_disk.proofs.Moments.{after_all, state-after, state-after_all, Goes-weaken, went_by, Went-still, lasts_by}
 use Rattle.dr_log.specs.Grouping.{StopsAmong, added_all, group}
-use Rattle.dr_log.specs.Standing.{StandsFor, IsBeforeOrAfter, IsNoneOrAll, LosesNone, as_records, entries_in, votes_in, with_entry, with_vote, log_length}
+use Rattle.dr_log.specs.Standing.{IsNoneOrAll, LosesNone, as_records, with_entries}
 use Rattle.dr_log.specs.Appending.{staged}
 use Rattle.dr_log.specs.Kept.{IsSettled}
-use Rattle.dr_log.proofs.Growing.{length_of_log, log_stands}
-use Rattle.dr_log.proofs.Groups.{bytes_of, entries-append, entries_among, votes-append, votes_among}
-use Rattle.dr_log.proofs.Lasting.{HasNoneOrAll, Witnessed, lasts_during, to_one}
-use Rattle.dr_log.proofs.Moments.{Behind, Stands, fine_during, fine_seen, gate_inside, group_fine, group_is, run_group, stopped}
+use Rattle.dr_log.proofs.Growing.{IsWhole, content-append, content-entries, log_stands}
+use Rattle.dr_log.proofs.Groups.{bytes_of}
+use Rattle.dr_log.proofs.Lasting.{HasNoneOrAll, TakesNothing, Witnessed, lasts_during}
+use Rattle.dr_log.proofs.Moments.{Behind, Stands, fine_during, fine_seen, gate_inside, group_fine, group_is, group_whole, made_by, run_group, stopped}
+use Rattle.dr_log_bytes.specs.Content.{ArePlaced, OnLog, content_after, empty_of}
+use Rattle.dr_log_bytes.specs.Grammar.{AreSpelled, IsLog, StandFor, blocks, newer_magic}
+use Rattle.dr_log_bytes.proofs.Reading.{length-after}
 
 -- what a read gives after one call more
 pub content-after : (told : Told) (call : Call) → content_of (after call told) ≡
@@ -31,136 +31,119 @@ pub content-after_all : (told : Told) (calls : List Call) → content_of (after_
 content-after_all told calls = ap (λ (s : State). s.content) (state-after_all told calls)
 
 -- once the magic is written over a disk that was cut, the disk reaches to its end
-pub reaches_magic : (told new : Option Told) → new ≡ staged 0 magic (added (Cut 0) told)
+pub reaches_magic : (told new : Option Told) → new ≡ staged 0 newer_magic (added (Cut 0) told)
     → IfSome new (λ t. 8 ≤ length (content_of t))
 reaches_magic None new is = subst (λ (o : Option Told).
     IfSome o (λ t. 8 ≤ length (content_of t))) (sym is) tt
 reaches_magic (Some told) new is =
-    let now = content-after_all told (Cut 0 ∷ Write 0 magic ∷ Sync ∷ []) in
-    let long : 8 ≤ length (content_of (after_all (Cut 0 ∷ Write 0 magic ∷ Sync ∷ []) told)) =
+    let now = content-after_all told (Cut 0 ∷ Write 0 newer_magic ∷ Sync ∷ []) in
+    let long : 8 ≤ length (content_of (after_all (Cut 0 ∷ Write 0 newer_magic ∷ Sync ∷ []) told)) =
     omega (arith, ap length now) in
     subst (λ (o : Option Told). IfSome o (λ t. 8 ≤ length (content_of t))) (sym is) long
 
 -- ---- a log at rest
 
--- each image of a settled disk stands for what is on the log
-pub settled_images : (es : List Entry) (vs : List Vote) (t : Told) → IsSettled es vs t
-    → AllImages (state_of t) (λ image. StandsFor image es vs)
-settled_images es vs t is image here =
+-- what a settled disk reads stands for what is on the log
+pub settled_content : (c : OnLog) (t : Told) → IsSettled c t → StandFor (content_of t) c
+settled_content c t is = log_stands (content_of t) is.newer is.records c is.log is.whole is.content
+
+-- so does each of its images
+pub settled_images : (c : OnLog) (t : Told) → IsSettled c t → AllImages (state_of t) (λ image. StandFor image c)
+settled_images c t is image here =
     let same = image_at_rest (content_of t) image
     (subst (λ (s : State). IsImage s image) is.rests here) in
-    subst (λ (l : List ℕ). StandsFor l es vs) (sym same)
-    (log_stands (content_of t) is.records es vs is.log is.entries is.votes)
-
--- so does what it reads
-pub settled_content : (es : List Entry) (vs : List Vote) (t : Told) → IsSettled es vs t
-    → StandsFor (content_of t) es vs
-settled_content es vs t is =
-    log_stands (content_of t) is.records es vs is.log is.entries is.votes
+    subst (λ (l : List ℕ). StandFor l c) (sym same) (settled_content c t is)
 
 -- the same where it may not tell
-pub images_told : (es : List Entry) (vs : List Vote) (told : Option Told)
-    → IfSome told (IsSettled es vs) → IsLeft told (λ image. StandsFor image es vs)
-images_told es vs None is = tt
-images_told es vs (Some t) is = settled_images es vs t is
+pub images_told : (c : OnLog) (told : Option Told) → IfSome told (IsSettled c)
+    → IsLeft told (λ image. StandFor image c)
+images_told c None is = tt
+images_told c (Some t) is = settled_images c t is
 
 -- and where neither what it tells nor what is on the log has changed
-pub images_still : (es es' : List Entry) (vs vs' : List Vote) (told new : Option Told)
-    → IfSome told (IsSettled es vs) → new ≡ told → es' ≡ es → vs' ≡ vs
-    → IsLeft new (λ image. StandsFor image es' vs')
-images_still es es' vs vs' told new is same entries votes =
-    rw (same, entries, votes) (images_told es vs told is)
+pub images_still : (c d : OnLog) (told new : Option Told) → IfSome told (IsSettled c)
+    → new ≡ told → d ≡ c → IsLeft new (λ image. StandFor image d)
+images_still c d told new is same content = rw (same, content) (images_told c told is)
 
-pub reaches_end : (es : List Entry) (vs : List Vote) (told : Option Told) (len : ℕ)
-    → len ≡ log_length es vs → IfSome told (IsSettled es vs)
-    → IfSome told (λ t. len ≤ length (content_of t))
-reaches_end es vs None len long is = tt
-reaches_end es vs (Some t) len long is =
-    let lengths = length_of_log is.records in
-    let same = ap (λ (l : List Entry). log_length l (votes_in is.records)) is.entries
-    ∙ ap (log_length es) is.votes in
-    omega (
-      arith,
-      long,
-      lengths,
-      same,
-      gate_inside (content_of t) is.records
-          (8 + length (blocks is.records)) is.log refl,
-    )
+-- its length is that of its records
+settled_length : (c : OnLog) (t : Told) (is : IsSettled c t) → c.length ≡ 9 + length (blocks is.records)
+settled_length c t is = omega (
+  arith,
+  ap (λ (d : OnLog). d.length) is.content,
+  length-after (empty_of is.newer) is.records,
+)
+
+pub reaches_end : (c : OnLog) (told : Option Told) → IfSome told (IsSettled c)
+    → IfSome told (λ t. c.length ≤ length (content_of t))
+reaches_end c None is = tt
+reaches_end c (Some t) is = omega (
+  arith,
+  settled_length c t is,
+  gate_inside (content_of t) is.newer is.records (8 + length (blocks is.records)) is.log refl,
+)
 
 -- while no call is made, images stand for what is on the log
-pub still_goes : (es : List Entry) (vs : List Vote) (told : Option Told) (P : List ℕ → Type 0)
-    → IfSome told (IsSettled es vs) → ((image : List ℕ) → StandsFor image es vs → P image)
+pub still_goes : (c : OnLog) (told : Option Told) (P : List ℕ → Type 0)
+    → IfSome told (IsSettled c) → ((image : List ℕ) → StandFor image c → P image)
     → Goes told told (λ s. P)
-still_goes es vs None P is so = tt
-still_goes es vs (Some t) P is so =
-    Went-still t P (λ image here. so image (settled_images es vs t is image here))
+still_goes c None P is so = tt
+still_goes c (Some t) P is so =
+    Went-still t P (λ image here. so image (settled_images c t is image here))
 
 -- ---- an append
 
--- at each moment of it an image stands for the records from before or for all the new ones too, and what no
--- crash loses at one moment no crash loses later on
-pub record GoesWell (es : List Entry) (vs : List Vote) (news : List Record) (told new : Option Told)
-    : Type 0 where
-  pub goes : Goes told new (λ s. HasNoneOrAll es vs news)
-  pub lasts : (first : List Entry) (kept : List Vote) → Lasts told new (LosesNone first kept)
+-- at each moment of it an image stands for what was on the log or for that with all the new records, and what no
+-- crash loses at one moment no crash loses later on, unless the new records take it away
+pub record GoesWell (c : OnLog) (news : List Record) (told new : Option Told) : Type 0 where
+  pub goes : Goes told new (λ s. HasNoneOrAll c news)
+  pub lasts : (first : OnLog) → TakesNothing first c news → Lasts told new (LosesNone first)
 
--- so of one record
-pub goes_one : (es : List Entry) (vs : List Vote) (r : Record) (told new : Option Told)
-    → GoesWell es vs (r ∷ []) told new → Goes told new (λ s. IsBeforeOrAfter es vs r)
-goes_one es vs r told new is =
-    Goes-weaken told new (λ s. HasNoneOrAll es vs (r ∷ [])) (λ s. IsBeforeOrAfter es vs r)
-    (λ s. to_one es vs r) is.goes
-
--- and of entries alone
-all_of : (es news : List Entry) (vs : List Vote) (image : List ℕ) → HasNoneOrAll es vs (as_records news) image
-    → IsNoneOrAll es vs news image
-all_of es news vs image (inl is) = inl is
-all_of es news vs image (inr is) = inr (rw (
-  ← ap (λ (l : List Entry). es ++ l) (entries_among news),
-  ← (ap (λ (l : List Vote). vs ++ l) (votes_among news) ∙ append-nil vs),
-) is)
-
-pub goes_all : (es news : List Entry) (vs : List Vote) (told new : Option Told)
-    → GoesWell es vs (as_records news) told new → Goes told new (λ s. IsNoneOrAll es vs news)
-goes_all es news vs told new is =
-    Goes-weaken told new (λ s. HasNoneOrAll es vs (as_records news)) (λ s. IsNoneOrAll es vs news)
-    (λ s. all_of es news vs) is.goes
-
-by_kind : (es : List Entry) (vs : List Vote) (t : Told) (news : List Record) (is : IsSettled es vs t)
-    (image : List ℕ) → Stands is.records news image → HasNoneOrAll es vs news image
-by_kind es vs t news is image here =
-    subst (λ (l : List Entry). HasNoneOrAll l vs news image) is.entries
-    (subst (λ (l : List Vote). HasNoneOrAll (entries_in is.records) l news image) is.votes here)
+-- so of entries alone
+pub goes_all : (c : OnLog) (news : List Entry) (told new : Option Told)
+    → GoesWell c (as_records news) told new → Goes told new (λ s. IsNoneOrAll c news)
+goes_all c news told new is =
+    Goes-weaken told new (λ s. HasNoneOrAll c (as_records news)) (λ s. IsNoneOrAll c news)
+    (λ s image here. all image here) is.goes
+  where
+    all : (image : List ℕ) → HasNoneOrAll c (as_records news) image → IsNoneOrAll c news image
+    all image (inl before) = inl before
+    all image (inr behind) = inr (subst (StandFor image) (content-entries c news) behind)
 
 -- the moments of calls that begin on a settled disk
-from_rest : (es : List Entry) (vs : List Vote) (t : Told) (more : List Call) (news : List Record)
-    (is : IsSettled es vs t) → During (at_rest (content_of t)) more (Stands is.records news)
-    → Witnessed (entries_in is.records) (votes_in is.records) (at_rest (content_of t)) more
-    → GoesWell es vs news (Some t) (Some (after_all more t))
-from_rest es vs t more news is each seen = record {
-  goes = went_by t more (HasNoneOrAll es vs news)
-      (During-weaken (state_of t) more (Stands is.records news) (HasNoneOrAll es vs news)
-      (by_kind es vs t news is)
-      (subst (λ (s : State). During s more (Stands is.records news)) (sym is.rests) each));
-  lasts = λ first kept. lasts_by t more (LosesNone first kept)
-      (subst (λ (s : State). LastsDuring s more (LosesNone first kept)) (sym is.rests)
-      (lasts_during (entries_in is.records) first (votes_in is.records) kept news (at_rest (content_of t)) more
-      each seen));
+from_rest : (c : OnLog) (t : Told) (more : List Call) (news : List Record) (is : IsSettled c t)
+    → During (at_rest (content_of t)) more (Stands is.newer is.records news)
+    → Witnessed (made_by is.newer is.records) (at_rest (content_of t)) more
+    → GoesWell c news (Some t) (Some (after_all more t))
+from_rest c t more news is each seen = record {
+  goes = went_by t more (HasNoneOrAll c news)
+      (subst (λ (s : State). During s more (HasNoneOrAll c news)) (sym is.rests) now);
+  lasts = λ first takes. lasts_by t more (LosesNone first)
+      (subst (λ (s : State). LastsDuring s more (LosesNone first)) (sym is.rests)
+      (lasts_during c first news (at_rest (content_of t)) more takes now
+      (subst (λ x. Witnessed x (at_rest (content_of t)) more) is.content seen)));
 }
+  where
+    now : During (at_rest (content_of t)) more (HasNoneOrAll c news)
+    now = subst (λ x. During (at_rest (content_of t)) more (HasNoneOrAll x news)) is.content each
 
-behind : (es : List Entry) (vs : List Vote) (t : Told) (at : ℕ) (news : List Record) (is : IsSettled es vs t)
-    → at ≡ log_length es vs → AreSpelled news → Behind (content_of t) is.records (at - 1) at news
-behind es vs t at news is long fit =
-    let lengths = length_of_log is.records in
-    let same = ap (λ (l : List Entry). log_length l (votes_in is.records)) is.entries
-    ∙ ap (log_length es) is.votes in
-    record {
-      log = is.log;
-      gate = omega (arith, lengths, same, long);
-      place = omega (arith, lengths, same, long);
-      fit = fit;
-    }
+-- what is to be appended to a settled disk: some valid records that may stand there, by the length of the log
+pub record MayCome (c : OnLog) (at : ℕ) (news : List Record) : Type 0 where
+  pub long : at ≡ c.length
+  pub some : 0 < length news
+  pub fit : AreSpelled news
+  pub placed : ArePlaced c news
+
+behind : (c : OnLog) (t : Told) (at : ℕ) (news : List Record) (is : IsSettled c t)
+    → MayCome c at news → Behind (content_of t) is.newer is.records (at - 1) at news
+behind c t at news is may = record {
+  log = is.log;
+  whole = is.whole;
+  gate = omega (arith, settled_length c t is, may.long);
+  place = omega (arith, settled_length c t is, may.long);
+  some = may.some;
+  fit = may.fit;
+  placed = subst (λ x. ArePlaced x news) (sym is.content) may.placed;
+}
 
 added_some : (calls : List Call) (t : Told) → added_all calls (Some t) ≡ Some (after_all calls t)
 added_some [] t = refl
@@ -180,84 +163,61 @@ silent (FailedWrite at count ∷ calls) new stops = absurd stops
 silent (Cut to ∷ calls) new stops = absurd stops
 silent (FailedCut to ∷ calls) new stops = absurd stops
 
-goes_silent : (es : List Entry) (vs : List Vote) (news : List Record) → GoesWell es vs news None None
-goes_silent es vs news = record { goes = tt; lasts = λ first kept. tt }
+goes_silent : (c : OnLog) (news : List Record) → GoesWell c news None None
+goes_silent c news = record { goes = tt; lasts = λ first takes. tt }
 
 -- a group that was appended
-pub group_goes : (es : List Entry) (vs : List Vote) (told new : Option Told) (at : ℕ) (news : List Record)
-    → 0 < length news → IfSome told (IsSettled es vs) → at ≡ log_length es vs → AreSpelled news
-    → new ≡ added_all (group at news) told → GoesWell es vs news told new
-group_goes es vs None new at news some is long fit e =
-    subst (GoesWell es vs news None) (sym (e ∙ added_none (group at news)))
-    (goes_silent es vs news)
-group_goes es vs (Some t) new at news some is long fit e =
+pub group_goes : (c : OnLog) (told new : Option Told) (at : ℕ) (news : List Record)
+    → IfSome told (IsSettled c) → MayCome c at news
+    → new ≡ added_all (group at news) told → GoesWell c news told new
+group_goes c None new at news is may e =
+    subst (GoesWell c news None) (sym (e ∙ added_none (group at news))) (goes_silent c news)
+group_goes c (Some t) new at news is may e =
     let calls = group at news in
-    let fine = group_fine (content_of t) is.records (at - 1) at news some (behind es vs t at news is long fit) in
-    subst (GoesWell es vs news (Some t)) (sym (e ∙ added_some calls t))
-    (from_rest es vs t calls news is
-    (fine_during (Stands is.records news) (entries_in is.records) (votes_in is.records) (at_rest (content_of t))
+    let fine = group_fine (content_of t) is.newer is.records (at - 1) at news (behind c t at news is may) in
+    subst (GoesWell c news (Some t)) (sym (e ∙ added_some calls t))
+    (from_rest c t calls news is
+    (fine_during (Stands is.newer is.records news) (made_by is.newer is.records) (at_rest (content_of t))
     calls fine)
-    (fine_seen (Stands is.records news) (entries_in is.records) (votes_in is.records) (at_rest (content_of t))
+    (fine_seen (Stands is.newer is.records news) (made_by is.newer is.records) (at_rest (content_of t))
     calls fine))
 
 -- and one that stopped
-pub group_stops : (es : List Entry) (vs : List Vote) (told new : Option Told) (at : ℕ) (news : List Record)
-    → 0 < length news → IfSome told (IsSettled es vs) → at ≡ log_length es vs → AreSpelled news
-    → StopsAmong (group at news) told new → GoesWell es vs news told new
-group_stops es vs None new at news some is long fit stops =
-    subst (GoesWell es vs news None) (sym (silent (group at news) new stops))
-    (goes_silent es vs news)
-group_stops es vs (Some t) new at news some is long fit stops =
+pub group_stops : (c : OnLog) (told new : Option Told) (at : ℕ) (news : List Record)
+    → IfSome told (IsSettled c) → MayCome c at news
+    → StopsAmong (group at news) told new → GoesWell c news told new
+group_stops c None new at news is may stops =
+    subst (GoesWell c news None) (sym (silent (group at news) new stops)) (goes_silent c news)
+group_stops c (Some t) new at news is may stops =
     let calls = group at news in
-    let fine = group_fine (content_of t) is.records (at - 1) at news some (behind es vs t at news is long fit) in
-    let so = stopped (Stands is.records news) (entries_in is.records) (votes_in is.records)
+    let fine = group_fine (content_of t) is.newer is.records (at - 1) at news (behind c t at news is may) in
+    let so = stopped (Stands is.newer is.records news) (made_by is.newer is.records)
     (at_rest (content_of t)) t new calls fine stops in
-    subst (GoesWell es vs news (Some t)) (sym so.is) (from_rest es vs t so.done news is so.each so.seen)
+    subst (GoesWell c news (Some t)) (sym so.is) (from_rest c t so.done news is so.each so.seen)
 
 -- once it was appended, the disk is settled with its records
-pub group_settled : (es : List Entry) (vs : List Vote) (told new : Option Told) (at : ℕ) (news : List Record)
-    → 0 < length news → IfSome told (IsSettled es vs) → at ≡ log_length es vs → AreSpelled news
-    → new ≡ added_all (group at news) told
-    → IfSome new (IsSettled (es ++ entries_in news) (vs ++ votes_in news))
-group_settled es vs None new at news some is long fit e =
-    subst (λ (o : Option Told). IfSome o (IsSettled (es ++ entries_in news) (vs ++ votes_in news)))
-    (sym (e ∙ added_none (group at news))) tt
-group_settled es vs (Some t) new at news some is long fit e =
+pub group_settled : (c d : OnLog) (told new : Option Told) (at : ℕ) (news : List Record)
+    → IfSome told (IsSettled c) → MayCome c at news
+    → new ≡ added_all (group at news) told → d ≡ content_after c news → IfSome new (IsSettled d)
+group_settled c d None new at news is may e same =
+    subst (λ (o : Option Told). IfSome o (IsSettled d)) (sym (e ∙ added_none (group at news))) tt
+group_settled c d (Some t) new at news is may e same =
     let calls = group at news in
+    let f = is.newer in
     let rs = is.records in
     let old = content_of t in
-    let b = behind es vs t at news is long fit in
+    let b = behind c t at news is may in
     let bytes = written (written old at (bytes_of news)) (at - 1) (1 ∷ []) in
     let ran : state_of (after_all calls t) ≡ at_rest bytes = state-after_all t calls
-    ∙ ap (λ (s : State). run_from s calls) is.rests ∙ run_group old rs (at - 1) at news some b in
+    ∙ ap (λ (s : State). run_from s calls) is.rests ∙ run_group old f rs (at - 1) at news b in
     let reads = ap (λ (s : State). s.content) ran in
-    let settled : IsSettled (es ++ entries_in news) (vs ++ votes_in news) (after_all calls t) = record {
+    let settled : IsSettled d (after_all calls t) = record {
       rests = ran ∙ ap at_rest (sym reads);
+      newer = f;
       records = rs ++ news;
-      log = subst (λ (l : List ℕ). IsLog l (rs ++ news)) (sym reads) (group_is old rs (at - 1) at news some b);
-      entries = entries-append rs news ∙ ap (λ (l : List Entry). l ++ entries_in news) is.entries;
-      votes = votes-append rs news ∙ ap (λ (l : List Vote). l ++ votes_in news) is.votes;
+      log = subst (λ (l : List ℕ). IsLog l f (rs ++ news)) (sym reads) (group_is old f rs (at - 1) at news b);
+      whole = subst (IsWhole f) (sym reads) (group_whole old f rs (at - 1) at news b);
+      content = content-append (empty_of f) rs news
+          ∙ ap (λ (x : OnLog). content_after x news) is.content ∙ sym same;
     } in
-    subst (λ (o : Option Told). IfSome o (IsSettled (es ++ entries_in news) (vs ++ votes_in news)))
-    (sym (e ∙ added_some calls t)) settled
-
--- of one record
-pub settled_one : (es es' : List Entry) (vs vs' : List Vote) (new : Option Told) (r : Record)
-    → IfSome new (IsSettled (es ++ entries_in (r ∷ [])) (vs ++ votes_in (r ∷ [])))
-    → es' ≡ with_entry r es → vs' ≡ with_vote r vs → IfSome new (IsSettled es' vs')
-settled_one es es' vs vs' new (records.Entry e) is entries votes =
-    subst (λ (l : List Entry). IfSome new (IsSettled l vs')) (sym entries)
-    (subst (λ (l : List Vote). IfSome new (IsSettled (es ++ e ∷ []) l)) (append-nil vs ∙ sym votes) is)
-settled_one es es' vs vs' new (records.Vote v) is entries votes =
-    subst (λ (l : List Entry). IfSome new (IsSettled l vs')) (append-nil es ∙ sym entries)
-    (subst (λ (l : List Vote). IfSome new (IsSettled (es ++ []) l)) (sym votes) is)
-
--- of entries alone
-pub settled_all : (es es' news : List Entry) (vs : List Vote) (new : Option Told)
-    → IfSome new (IsSettled (es ++ entries_in (as_records news)) (vs ++ votes_in (as_records news)))
-    → es' ≡ es ++ news → IfSome new (IsSettled es' vs)
-settled_all es es' news vs new is entries =
-    subst (λ (l : List Entry). IfSome new (IsSettled l vs))
-    (ap (λ (l : List Entry). es ++ l) (entries_among news) ∙ sym entries)
-    (subst (λ (l : List Vote). IfSome new (IsSettled (es ++ entries_in (as_records news)) l))
-    (ap (λ (l : List Vote). vs ++ l) (votes_among news) ∙ append-nil vs) is)
+    subst (λ (o : Option Told). IfSome o (IsSettled d)) (sym (e ∙ added_some calls t)) settled

@@ -2,7 +2,7 @@
 use Rattle.std.specs.Prelude.{◌≡◌, ℕ, ◌<◌, ◌≤◌, List, [], ◌∷◌, length, Option, IfSome, ◌⊎◌}
 use Rattle.dr_disk.specs.Calls.{Write, FailedWrite, Cut, FailedCut, Sync}
 use Rattle.dr_disk.specs.Disk.{Told, added, content_of}
-use Rattle.dr_log.specs.Grammar.{magic}
+use Rattle.dr_log_bytes.specs.Grammar.{newer_magic}
 
 -- these bytes were written at this place, and synced
 abbrev pub staged : ℕ → List ℕ → Option Told → Option Told
@@ -10,7 +10,7 @@ staged at bytes told = added Sync (added (Write at bytes) told)
 
 -- an empty log was made
 abbrev pub made : Option Told → Option Told
-made told = staged 8 (0 ∷ []) (staged 0 magic (added (Cut 0) told))
+made told = staged 8 (0 ∷ []) (staged 0 newer_magic (added (Cut 0) told))
 
 -- A mount made these calls: a sync, and then an empty log of at most nine bytes.
 abbrev pub IsMounted : Option Told → Option Told → Type 0
@@ -23,6 +23,6 @@ abbrev pub StopsMaking : Option Told → Option Told → Type 0
 StopsMaking old new =
     (new ≡ added (FailedCut 0) old)
     ⊎ ((new ≡ added (FailedWrite 0 8) (added (Cut 0) old))
-    ⊎ (new ≡ added (Write 0 magic) (added (Cut 0) old)))
-    ⊎ ((new ≡ added (FailedWrite 8 1) (staged 0 magic (added (Cut 0) old)))
-    ⊎ (new ≡ added (Write 8 (0 ∷ [])) (staged 0 magic (added (Cut 0) old))))
+    ⊎ (new ≡ added (Write 0 newer_magic) (added (Cut 0) old)))
+    ⊎ ((new ≡ added (FailedWrite 8 1) (staged 0 newer_magic (added (Cut 0) old)))
+    ⊎ (new ≡ added (Write 8 (0 ∷ [])) (staged 0 newer_magic (added (Cut 0) old))))

@@ -4,7 +4,7 @@ use Rattle.dr_entry.specs.declared.record.Record.{Record}
 use Rattle.dr_entry.specs.Spelling.{spelling}
 use Rattle.dr_disk.specs.Calls.{Call, Write, FailedWrite, Cut, FailedCut, Sync}
 use Rattle.dr_disk.specs.Disk.{Told, added}
-use Rattle.dr_log.specs.Standing.{block_length}
+use Rattle.dr_log_bytes.specs.Content.{block_length}
 
 -- the gate before these records: open, where there are any
 abbrev pub gate_of : List Record → ℕ

@@ -1,8 +1,6 @@
-pub mod Grammar
 pub mod Standing
 pub mod State
 pub mod Appending
 pub mod Kept
-pub mod Blocks
-pub mod Parsed
 pub mod Grouping
+pub mod Voting

@@ -8,11 +8,12 @@ ghost use Rattle.dr_entry.specs.Spelling.{FitsEntry, IsValidEntry, entry_spellin
 ghost use Rattle.dr_log.specs.Grouping.{StopsAmong, added_all, group, opening};
 ghost use Rattle.dr_log.specs.Standing.{as_records, entries_length};
 
-use crate::making::{CLOSED, OPEN};
+use crate::making::CLOSED;
 use arrayvec::ArrayVec;
 use dr_disk::Disk;
 use dr_entry::{Entry, RECORD_ROOM, Record, encode};
 use dr_io::Failed;
+use dr_log_bytes::OPEN;
 use std::alloc::AllocError;
 
 /// Writes the bytes at `at`, right behind a gate, and once they are safe opens it.

@@ -1,20 +1,20 @@
 //! A member's log.
 
-ghost use Rattle.std.specs.Prelude.{◌≡◌, ◌≢◌, ◌+◌, ◌*◌, ◌≤◌, ◌++◌, [], ◌∷◌, ℕ, List, All, length, max, false, IfOk, IfErr, IfSome, IsErrOf, OnOk, OnErr};
+ghost use Rattle.std.specs.Prelude.{◌≡◌, ◌≢◌, ◌↔◌, ◌+◌, ◌*◌, ◌<◌, ◌≤◌, ◌++◌, [], ◌∷◌, ℕ, List, All, length, max, true, false, IfOk, IfErr, IfSome, IsErrOf, IsTrue, OnOk, OnErr};
 ghost use Rattle.dr_io.specs.Faults.{Rose};
 ghost use Rattle.dr_disk.specs.Calls.{Sync};
 ghost use Rattle.dr_disk.specs.Disk.{added, content_of};
 ghost use Rattle.dr_disk.specs.Images.{Goes, IsLeft, Lasts, ReadsAnImage};
-ghost use Rattle.dr_entry.specs.declared.entry.Entry.{Entry};
-ghost use Rattle.dr_entry.specs.declared.record.Vote.{Vote};
 ghost use Rattle.dr_entry.specs.Spelling.{IsValid, IsValidEntry};
 ghost use Rattle.dr_log.specs.declared.fault.LogFault.TheVariants.{DiskFault, LogFull};
 ghost use Rattle.dr_log.specs.declared.fault.MountWhy.TheVariants as why;
 ghost use Rattle.dr_log.specs.Appending.{IsMounted};
-ghost use Rattle.dr_log.specs.Grammar.{IsDamaged};
 ghost use Rattle.dr_log.specs.Grouping.{added_all, group};
-ghost use Rattle.dr_log.specs.Standing.{StandsFor, IsBeforeOrAfter, IsNoneOrAll, KeepsRecords, LosesNone, as_records, block_length, entries_length, log_length};
-ghost use Rattle.dr_log.specs.State.{KeepsLimit, appended, appended_all, broken_off, broken_off_all, as_entry, as_vote};
+ghost use Rattle.dr_log.specs.Standing.{HasAllOf, IsBeforeOrAfter, IsNoneOrAll, KeepsRecords, LosesNone, MayBeUpgraded, MayBeVoted, as_records, entries_length, in_newer_format, least_length, with_age_vote};
+ghost use Rattle.dr_log.specs.State.{KeepsLimit, appended, appended_all, as_entry, as_other, as_vote, broken_off, broken_off_all};
+ghost use Rattle.dr_log.specs.Voting.{HasVotedAge, WasUpgraded};
+ghost use Rattle.dr_log_bytes.specs.Content.{IsPlaced, OnLog, block_length, empty_of, with_record};
+ghost use Rattle.dr_log_bytes.specs.Grammar.{IsDamaged, StandFor};
 
 use crate::appending::{push_all, put_behind, put_group, size_of};
 use crate::fault::{LogFault, MountFault, MountWhy};
@@ -23,7 +23,8 @@ use crate::opening::open;
 use crate::records::{sort_in, take_spare};
 use arrayvec::ArrayVec;
 use dr_disk::Disk;
-use dr_entry::{Entry, RECORD_ROOM, Record, Vote, encode};
+use dr_entry::{AgeVote, Entry, RECORD_ROOM, Record, Vote, encode};
+use dr_log_bytes::{Content, EMPTY};
 use std::alloc::{AllocError, Global};
 use std::marker::Model;
 
@@ -33,16 +34,22 @@ const CALLS_OF_APPEND: u64 = 4;
 
 const BYTES_OF_APPEND: u64 = 74;
 
-/// The entries and votes of a member, on a disk.
+/// For how many records of the other kinds there always is room: an age vote, an upgrade and a cut.
+const OTHERS: usize = 3;
+
+/// The entries, votes and age votes of a member, on a disk.
 #[derive(Debug, Drop)]
 pub struct Log<D: Disk> {
     disk: D,
     entries: Vec<Entry>,
     votes: Vec<Vote>,
+    age_votes: Vec<AgeVote>,
+    newer: bool,
     len: u64,
     limit: u64,
     spare_entries: usize,
     spare_votes: usize,
+    spare_others: usize,
     failed: bool,
 }
 
@@ -55,18 +62,28 @@ impl<D: Disk> Model for Log<D> {
 
     ghost view = { λ a. record {
       disk = a.disk;
-      entries = a.entries.items;
-      votes = a.votes.items;
-      length = a.len;
+      content = record {
+        entries = a.entries.items;
+        votes = a.votes.items;
+        age_votes = a.age_votes.items;
+        newer = a.newer;
+        length = a.len;
+      };
       limit = a.limit;
       spare_entries = a.spare_entries;
       spare_votes = a.spare_votes;
+      spare_others = a.spare_others;
       failed = a.failed;
     } };
 
-    ghost invariant = { λ a. IsKept (D.told a.disk) (D.room_calls a.disk) (D.room_bytes a.disk)
-        a.entries.items a.votes.items a.len a.spare_entries a.spare_votes
-        (vec_capacity a.entries) (vec_capacity a.votes) a.failed };
+    ghost invariant = { λ a. IsKept (D.told a.disk) (D.room_calls a.disk) (D.room_bytes a.disk) (record {
+      entries = a.entries.items;
+      votes = a.votes.items;
+      age_votes = a.age_votes.items;
+      newer = a.newer;
+      length = a.len;
+    }) a.spare_entries a.spare_votes a.spare_others
+        (vec_capacity a.entries) (vec_capacity a.votes) (vec_capacity a.age_votes) a.failed };
 }
 
 impl<D: Disk> Log<D> {
@@ -81,12 +98,12 @@ impl<D: Disk> Log<D> {
         requires { 9 ≤ limit }
         // What was on the disk is on the log, and safe.
         ensures records { IfOk result (λ log. IfSome (D.told disk)
-            (λ told. StandsFor (content_of told) log.entries log.votes)) }
+            (λ told. StandFor (content_of told) log.content)) }
         // That is what a crash might have left before.
         ensures read { IfOk result (λ _. IfSome (D.told disk) ReadsAnImage) }
         ensures durable { IfOk result (λ log. IsLeft (D.told log.disk)
-            (λ image. StandsFor image log.entries log.votes)) }
-        ensures length { IfOk result (λ log. log.length ≡ log_length log.entries log.votes) }
+            (λ image. StandFor image log.content)) }
+        ensures least { IfOk result (λ log. least_length log.content ≤ log.content.length) }
         ensures limit { IfOk result (λ log. log.limit ≡ limit) }
         ensures whole { IfOk result (λ log. log.failed ≡ false) }
         // At any moment a crash leaves what it might have left before, as far as records go.
@@ -111,21 +128,34 @@ impl<D: Disk> Log<D> {
     {
         let mut disk = disk;
         match open(alloc, &mut disk) {
-            Ok(found) => Ok(Log {
-                disk,
-                entries: found.entries,
-                votes: found.votes,
-                len: found.len,
-                limit,
-                spare_entries: 0,
-                spare_votes: 0,
-                failed: false,
-            }),
+            Ok(found) => {
+                let Content {
+                    entries,
+                    votes,
+                    age_votes,
+                    newer,
+                    len,
+                } = found;
+                Ok(Log {
+                    disk,
+                    entries,
+                    votes,
+                    age_votes,
+                    newer,
+                    len,
+                    limit,
+                    spare_entries: 0,
+                    spare_votes: 0,
+                    spare_others: 0,
+                    failed: false,
+                })
+            }
             Err(why) => Err(MountFault { disk, why }),
         }
     }
 
-    /// Makes room for appending so many entries and so many votes without taking memory.
+    /// Makes room for appending so many entries and so many votes, and an age vote, an upgrade and a cut besides,
+    /// without taking memory.
     ///
     /// # Errors
     ///
@@ -135,22 +165,26 @@ impl<D: Disk> Log<D> {
           disk = self.new.disk;
           spare_entries = max self.old.spare_entries entries;
           spare_votes = max self.old.spare_votes votes;
+          spare_others = max self.old.spare_others 3;
         }) }
         ensures err { OnErr result (self.new ≡ record self.old { disk = self.new.disk }) }
         ensures told { D.told self.new.disk ≡ D.told self.old.disk }
         // Where no append has failed, each crash leaves what is on the log.
         ensures safe { self.old.failed ≡ false → IsLeft (D.told self.new.disk)
-            (λ image. StandsFor image self.new.entries self.new.votes) }
+            (λ image. StandFor image self.new.content) }
         ensures faults { D.faults self.new.disk ≡ D.faults self.old.disk }
     {
         let spare_entries = self.spare_entries.max(entries);
         let spare_votes = self.spare_votes.max(votes);
-        let (calls, bytes) = room_for(spare_entries, spare_votes)?;
+        let spare_others = self.spare_others.max(OTHERS);
+        let (calls, bytes) = room_for(spare_entries, spare_votes, spare_others)?;
         self.entries.reserve(spare_entries)?;
         self.votes.reserve(spare_votes)?;
+        self.age_votes.reserve(spare_others)?;
         self.disk.reserve(calls, bytes)?;
         self.spare_entries = spare_entries;
         self.spare_votes = spare_votes;
+        self.spare_others = spare_others;
         Ok(())
     }
 
@@ -165,22 +199,25 @@ impl<D: Disk> Log<D> {
         requires valid { IsValid r.now }
         requires spare_entry { as_entry r.now ≤ self.old.spare_entries }
         requires spare_vote { as_vote r.now ≤ self.old.spare_votes }
+        requires spare_other { as_other r.now ≤ self.old.spare_others }
+        requires placed { IsPlaced self.old.content r.now }
         requires whole { self.old.failed ≡ false }
         ensures ok { OnOk result (self.new ≡ appended self.old r.now self.new.disk) }
         ensures fault { IsErrOf result DiskFault → self.new ≡ broken_off self.old r.now self.new.disk }
         ensures full { (len : ℕ) → IsErrOf result (LogFull len) → self.new ≡ self.old }
-        ensures limit { KeepsLimit self.old.limit self.old.length (block_length r.now) result }
+        ensures limit { KeepsLimit self.old.limit self.old.content.length (block_length r.now) result }
         // At any moment a crash leaves the records from before, or these and the new one.
         ensures any_moment { Goes (D.told self.old.disk) (D.told self.new.disk)
-            (λ s. IsBeforeOrAfter self.old.entries self.old.votes r.now) }
-        // What no crash loses at one moment none loses later on.
-        ensures lasting { (entries : List Entry) (votes : List Vote)
-            → Lasts (D.told self.old.disk) (D.told self.new.disk) (LosesNone entries votes) }
+            (λ s. IsBeforeOrAfter self.old.content r.now) }
+        // What no crash loses at one moment none loses later on, unless the record takes it away.
+        ensures lasting { (first : OnLog)
+            → (HasAllOf first self.old.content → HasAllOf first (with_record r.now self.old.content))
+            → Lasts (D.told self.old.disk) (D.told self.new.disk) (LosesNone first) }
         // Once this has answered Ok, each crash leaves the new one too.
         ensures durable { OnOk result (IsLeft (D.told self.new.disk)
-            (λ image. StandsFor image self.new.entries self.new.votes)) }
+            (λ image. StandFor image self.new.content)) }
         ensures calls { OnOk result (D.told self.new.disk
-            ≡ added_all (group self.old.length (r.now ∷ [])) (D.told self.old.disk)) }
+            ≡ added_all (group self.old.content.length (r.now ∷ [])) (D.told self.old.disk)) }
         // No fault of the disk is hidden.
         ensures calm { OnOk result (D.faults self.new.disk ≡ D.faults self.old.disk) }
         ensures cause { IsErrOf result DiskFault → Rose (D.faults self.old.disk) (D.faults self.new.disk) }
@@ -193,13 +230,26 @@ impl<D: Disk> Log<D> {
             return Err(LogFault::LogFull { len: self.len });
         }
         bytes.push(CLOSED);
-        take_spare(r, &mut self.spare_entries, &mut self.spare_votes);
+        take_spare(
+            r,
+            &mut self.spare_entries,
+            &mut self.spare_votes,
+            &mut self.spare_others,
+        );
         if put_behind(&mut self.disk, self.len, bytes.as_slice()).is_err() {
             self.failed = true;
             return Err(LogFault::DiskFault);
         }
-        sort_in(r.copy(), &mut self.entries, &mut self.votes).unwrap();
-        self.len += size;
+        sort_in(
+            r.copy(),
+            size,
+            &mut self.entries,
+            &mut self.votes,
+            &mut self.age_votes,
+            &mut self.newer,
+            &mut self.len,
+        )
+        .unwrap();
         Ok(())
     }
 
@@ -221,19 +271,19 @@ impl<D: Disk> Log<D> {
         ensures fault { IsErrOf result DiskFault
             → self.new ≡ broken_off_all self.old (length first.now + 1) self.new.disk }
         ensures full { (len : ℕ) → IsErrOf result (LogFull len) → self.new ≡ self.old }
-        ensures limit { KeepsLimit self.old.limit self.old.length
+        ensures limit { KeepsLimit self.old.limit self.old.content.length
             (entries_length (first.now ++ last.now ∷ [])) result }
         // At any moment a crash leaves the records from before, or these and all the new ones.
         ensures any_moment { Goes (D.told self.old.disk) (D.told self.new.disk)
-            (λ s. IsNoneOrAll self.old.entries self.old.votes (first.now ++ last.now ∷ [])) }
+            (λ s. IsNoneOrAll self.old.content (first.now ++ last.now ∷ [])) }
         // What no crash loses at one moment none loses later on.
-        ensures lasting { (entries : List Entry) (votes : List Vote)
-            → Lasts (D.told self.old.disk) (D.told self.new.disk) (LosesNone entries votes) }
+        ensures lasting { (first : OnLog)
+            → Lasts (D.told self.old.disk) (D.told self.new.disk) (LosesNone first) }
         // Once this has answered Ok, each crash leaves the new ones too.
         ensures durable { OnOk result (IsLeft (D.told self.new.disk)
-            (λ image. StandsFor image self.new.entries self.new.votes)) }
+            (λ image. StandFor image self.new.content)) }
         ensures calls { OnOk result (D.told self.new.disk
-            ≡ added_all (group self.old.length (as_records (first.now ++ last.now ∷ [])))
+            ≡ added_all (group self.old.content.length (as_records (first.now ++ last.now ∷ [])))
             (D.told self.old.disk)) }
         // No fault of the disk is hidden.
         ensures calm { OnOk result (D.faults self.new.disk ≡ D.faults self.old.disk) }
@@ -254,26 +304,94 @@ impl<D: Disk> Log<D> {
         Ok(())
     }
 
+    /// Appends the vote for an age with these members, and before it an upgrade where the log is of the older
+    /// format. It takes no memory.
+    ///
+    /// # Errors
+    ///
+    /// That of the append that was refused. The upgrade may stand alone.
+    pub fn vote_age(&mut self, age: u16, members: u16) -> Result<(), LogFault>
+        requires some { 0 < members }
+        requires spare { 2 ≤ self.old.spare_others }
+        requires whole { self.old.failed ≡ false }
+        // It is one append, or two.
+        ensures appends { HasVotedAge D.told D.faults self.old self.new
+            (record { age = age; members = members }) result }
+        ensures ok { OnOk result (self.new.content
+            ≡ with_age_vote (record { age = age; members = members }) self.old.content) }
+        // At any moment a crash leaves what was there, maybe in the newer format, or that and the vote.
+        ensures any_moment { Goes (D.told self.old.disk) (D.told self.new.disk)
+            (λ s. MayBeVoted self.old.content (record { age = age; members = members })) }
+        ensures durable { OnOk result (IsLeft (D.told self.new.disk)
+            (λ image. StandFor image self.new.content)) }
+        ensures faults { D.faults self.old.disk ≤ D.faults self.new.disk }
+    {
+        match self.upgrade() {
+            Ok(()) => self.append(&Record::AgeVote(AgeVote { age, members })),
+            Err(fault) => Err(fault),
+        }
+    }
+
+    /// Makes the log one of the newer format.
+    fn upgrade(&mut self) -> Result<(), LogFault>
+        requires spare { 1 ≤ self.old.spare_others }
+        requires whole { self.old.failed ≡ false }
+        ensures appends { WasUpgraded D.told D.faults self.old self.new result }
+        ensures ok { OnOk result (self.new.content ≡ in_newer_format self.old.content) }
+        ensures newer { OnOk result (self.new.content.newer ≡ true) }
+        ensures whole { OnOk result (self.new.failed ≡ false) }
+        ensures spare { self.old.spare_others ≤ self.new.spare_others + 1 }
+        ensures any_moment { Goes (D.told self.old.disk) (D.told self.new.disk)
+            (λ s. MayBeUpgraded self.old.content) }
+        ensures faults { D.faults self.old.disk ≤ D.faults self.new.disk }
+    {
+        if self.newer {
+            return Ok(());
+        }
+        self.append(&Record::Upgrade)
+    }
+
     /// The entries, in order.
     pub fn entries(&self) -> &[Entry]
-        ensures { result.now ≡ self.now.entries }
+        ensures { result.now ≡ self.now.content.entries }
     {
         self.entries.as_slice()
     }
 
     /// The votes, in order.
     pub fn votes(&self) -> &[Vote]
-        ensures { result.now ≡ self.now.votes }
+        ensures { result.now ≡ self.now.content.votes }
     {
         self.votes.as_slice()
     }
 
+    /// The age votes, in order.
+    pub fn age_votes(&self) -> &[AgeVote]
+        ensures { result.now ≡ self.now.content.age_votes }
+    {
+        self.age_votes.as_slice()
+    }
+
+    /// Whether the log is of the newer format, by its first bytes or an upgrade.
+    pub fn is_newer(&self) -> bool
+        ensures { result ≡ self.now.content.newer }
+    {
+        self.newer
+    }
+
     /// The number of bytes up to the closed gate, with it.
     pub fn len(&self) -> u64
-        ensures length { result ≡ self.now.length }
-        ensures spelled { result ≡ log_length self.now.entries self.now.votes }
+        ensures length { result ≡ self.now.content.length }
+        ensures least { least_length self.now.content ≤ result }
     {
         self.len
+    }
+
+    /// Whether no record is on it.
+    pub fn is_empty(&self) -> bool
+        ensures { IsTrue result ↔ (self.now.content ≡ empty_of self.now.content.newer) }
+    {
+        self.len == EMPTY
     }
 
     /// Whether an append failed. Then the log takes no further one.
@@ -291,14 +409,15 @@ impl<D: Disk> Log<D> {
     }
 }
 
-/// For how many calls of the disk, and how many bytes, appends of so many entries and votes ask.
-fn room_for(entries: usize, votes: usize) -> Result<(u64, u64), AllocError>
-    ensures calls { IfOk result (λ room. room.0 ≡ 4 * (entries + votes)) }
-    ensures bytes { IfOk result (λ room. room.1 ≡ 74 * (entries + votes)) }
+/// For how many calls of the disk, and how many bytes, appends of so many records ask.
+fn room_for(entries: usize, votes: usize, others: usize) -> Result<(u64, u64), AllocError>
+    ensures calls { IfOk result (λ room. room.0 ≡ 4 * (entries + votes + others)) }
+    ensures bytes { IfOk result (λ room. room.1 ≡ 74 * (entries + votes + others)) }
 {
-    let appends = (entries as u64)
+    let both = (entries as u64)
         .checked_add(votes as u64)
         .ok_or(AllocError)?;
+    let appends = both.checked_add(others as u64).ok_or(AllocError)?;
     let bytes = appends.checked_mul(BYTES_OF_APPEND).ok_or(AllocError)?;
     Ok((appends * CALLS_OF_APPEND, bytes))
 }

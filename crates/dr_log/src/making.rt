@@ -6,15 +6,10 @@ ghost use Rattle.dr_log.specs.Appending.{made, StopsMaking};
 
 use dr_disk::Disk;
 use dr_io::Failed;
-
-/// By these bytes a log begins.
-pub(crate) const MAGIC: [u8; 8] = *b"DERLOG01";
+use dr_log_bytes::MAGICS;
 
 /// A gate byte behind which no record counts.
 pub(crate) const CLOSED: u8 = 0;
-
-/// A gate byte with a record behind it. Every other is closed.
-pub(crate) const OPEN: u8 = 1;
 
 /// Makes an empty log of whatever the disk holds. The gate comes once all else is safe, so that no
 /// crash leaves a longer file with old bytes behind the magic.
@@ -26,7 +21,7 @@ pub(crate) fn make<D: Disk>(disk: &mut D) -> Result<(), Failed>
     ensures cause { HasCause (D.faults disk.old) (D.faults disk.new) result }
 {
     disk.cut(0)?;
-    disk.write_at(0, &MAGIC)?;
+    disk.write_at(0, &MAGICS[1])?;
     disk.sync()?;
     disk.write_at(8, &[CLOSED])?;
     disk.sync()

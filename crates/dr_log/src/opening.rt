@@ -7,27 +7,24 @@ ghost use Rattle.dr_disk.specs.Disk.{added, content_of};
 ghost use Rattle.dr_disk.specs.Images.{Goes, ReadsAnImage};
 ghost use Rattle.dr_log.specs.declared.fault.MountWhy.TheVariants.{DiskFault, Damaged};
 ghost use Rattle.dr_log.specs.Appending.{IsMounted};
-ghost use Rattle.dr_log.specs.Grammar.{IsDamaged};
-ghost use Rattle.dr_log.specs.Standing.{StandsFor, KeepsRecords, log_length};
+ghost use Rattle.dr_log.specs.Standing.{KeepsRecords, least_length};
 ghost use Rattle.dr_log.specs.Kept.{IsSettled};
+ghost use Rattle.dr_log_bytes.specs.Grammar.{IsDamaged, IsLogOf, IsNoLog, StandFor};
 
 use crate::fault::MountWhy;
 use crate::making::make;
-use crate::parsing::{Found, parse};
 use dr_disk::Disk;
+use dr_log_bytes::{Content, EMPTY, ParseFault, parse};
 use std::alloc::Global;
 
-/// The length of a log without a record. A file that is no longer is taken for a new log.
-const EMPTY: u64 = 9;
-
-/// Finds what is on the disk's log, and makes an empty one where there is none.
-pub(crate) fn open<D: Disk>(alloc: Global, disk: &mut D) -> Result<Found, MountWhy>
+/// Finds what is on the disk's log, and makes an empty one where there is none: where the file is no longer than one.
+pub(crate) fn open<D: Disk>(alloc: Global, disk: &mut D) -> Result<Content, MountWhy>
     ensures records { IfOk result (λ found. IfSome (D.told disk.old)
-        (λ told. StandsFor (content_of told) found.entries.items found.votes.items)) }
+        (λ told. StandFor (content_of told) found)) }
     ensures read { IfOk result (λ _. IfSome (D.told disk.old) ReadsAnImage) }
     ensures settled { IfOk result (λ found. IfSome (D.told disk.new)
-        (IsSettled found.entries.items found.votes.items)) }
-    ensures long { IfOk result (λ found. found.len ≡ log_length found.entries.items found.votes.items) }
+        (IsSettled found)) }
+    ensures least { IfOk result (λ found. least_length found ≤ found.length) }
     ensures any_moment { Goes (D.told disk.old) (D.told disk.new) KeepsRecords }
     ensures calls { OnOk result (IsMounted (D.told disk.old) (D.told disk.new)) }
     ensures damaged { (at : ℕ) → result ≡ Err (Damaged at)
@@ -46,14 +43,23 @@ pub(crate) fn open<D: Disk>(alloc: Global, disk: &mut D) -> Result<Found, MountW
     let len = disk.len()?;
     if len <= EMPTY {
         make(disk)?;
-        return Ok(Found {
-            entries: Vec::new(alloc),
-            votes: Vec::new(alloc),
-            len: EMPTY,
-        });
+        return Ok(Content::empty(alloc, true));
     }
     let bytes = read_all(alloc, disk, len)?;
-    parse(alloc, bytes.as_slice())
+    found_in(alloc, bytes.as_slice())
+}
+
+/// What is on the log that these bytes are.
+fn found_in(alloc: Global, bytes: &[u8]) -> Result<Content, MountWhy>
+    ensures found { IfOk result (IsLogOf bytes.now) }
+    ensures damaged { (at : ℕ) → result ≡ Err (Damaged at) → IsNoLog bytes.now at }
+    ensures fault { IsErrOf result DiskFault → ⊥ }
+{
+    match parse(alloc, bytes) {
+        Ok(found) => Ok(found),
+        Err(ParseFault::OutOfMemory) => Err(MountWhy::OutOfMemory),
+        Err(ParseFault::Damaged { at }) => Err(MountWhy::Damaged { at }),
+    }
 }
 
 /// The bytes of a disk that told this length, by one call. Where it gives fewer, it ends there.

@@ -132,3 +132,6 @@ due_still r end (records.Vote vote) due = record {
   valid = due.valid;
   few = due.few;
 }
+due_still r end (records.AgeVote vote) due = absurd due
+due_still r end (records.Cut keep) due = absurd due
+due_still r end records.Upgrade due = absurd due

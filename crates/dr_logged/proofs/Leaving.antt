@@ -7,10 +7,11 @@ use Rattle.dr_disk.specs.Images.{IsLeft, ReadsAnImage}
 use Rattle.dr_entry.specs.declared.entry.Entry.{Entry}
 use Rattle.dr_entry.specs.declared.record.Record.{Record}
 use Rattle.dr_entry.specs.declared.record.Record.TheVariants as records
-use Rattle.dr_entry.specs.declared.record.Vote.{Vote}
-use Rattle.dr_log.specs.Standing.{StandsFor, IsBeforeOrAfter}
+use Rattle.dr_log.specs.Standing.{IsBeforeOrAfter}
 use Rattle.dr_log.specs.State.{LogState}
-use Rattle.dr_log.proofs.Meaning.{one_list}
+use Rattle.dr_log_bytes.specs.Content.{OnLog, with_record}
+use Rattle.dr_log_bytes.specs.Grammar.{StandFor}
+use Rattle.dr_log_bytes.proofs.Meaning.{content_once}
 use Rattle.dr_program.specs.declared.outcome.LogWhy.{LogWhy}
 use Rattle.dr_program.specs.declared.outcome.LogWhy.TheVariants as whys
 use Rattle.dr_program.specs.Replica.{Replica}
@@ -23,31 +24,33 @@ of_content : (told : Option Told) (t : Told) (P : List ℕ → Type 0) → IsLef
 of_content told t P left is reads = subst (λ (o : Option Told). IsLeft o P) is left (content_of t) reads
 
 pub left_log : {D : Type 0} (told : D → Option Told) (faults : D → ℕ) (base log : LogState D)
-    (r : Replica) (es : List Entry) (vs : List Vote) (why : Option LogWhy) (t : Told)
+    (r : Replica) (found : OnLog) (why : Option LogWhy) (t : Told)
     → HasCome told faults base log r why → told log.disk ≡ Some t → ReadsAnImage t
-    → StandsFor (content_of t) es vs → IsLeftOf r.history r.logged es
-left_log told faults base log r es vs None t come is reads found =
-    inl (one_list (content_of t) es log.entries vs log.votes found
-    (of_content (told log.disk) t (λ image. StandsFor image log.entries log.votes) come.last.1 is reads)
+    → StandFor (content_of t) found → IsLeftOf r.history r.logged found.entries
+left_log told faults base log r found None t come is reads stands =
+    inl (ap (λ (c : OnLog). c.entries) (content_once (content_of t) found log.content stands
+    (of_content (told log.disk) t (λ image. StandFor image log.content) come.last.1 is reads))
     ∙ come.entries)
-left_log told faults base log r es vs (Some (whys.LogFull len)) t come is reads found =
-    inl (one_list (content_of t) es log.entries vs log.votes found
-    (of_content (told log.disk) t (λ image. StandsFor image log.entries log.votes) come.last.2.safe is reads)
+left_log told faults base log r found (Some (whys.LogFull len)) t come is reads stands =
+    inl (ap (λ (c : OnLog). c.entries) (content_once (content_of t) found log.content stands
+    (of_content (told log.disk) t (λ image. StandFor image log.content) come.last.2.safe is reads))
     ∙ come.entries)
-left_log told faults base log r es vs (Some whys.DiskFault) t come is reads found =
+left_log told faults base log r found (Some whys.DiskFault) t come is reads stands =
     by come.last.0 come.last.1 (of_content (told log.disk) t _ come.last.2.left is reads)
   where
+    same_as : (c : OnLog) → StandFor (content_of t) c → found.entries ≡ c.entries
+    same_as c here = ap (λ (d : OnLog). d.entries) (content_once (content_of t) found c stands here)
+
     by : (next : Record) → IsRecordDue r next
-        → IsBeforeOrAfter log.entries log.votes next (content_of t) → IsLeftOf r.history r.logged es
-    by next due (inl before) =
-        inl (one_list (content_of t) es log.entries vs log.votes found before ∙ come.entries)
+        → IsBeforeOrAfter log.content next (content_of t) → IsLeftOf r.history r.logged found.entries
+    by next due (inl before) = inl (same_as log.content before ∙ come.entries)
     by (records.Vote v) due (inr after) =
-        inl (one_list (content_of t) es log.entries vs (log.votes ++ v ∷ []) found after ∙ come.entries)
+        inl (same_as (with_record (records.Vote v) log.content) after ∙ come.entries)
     by (records.Entry e) due (inr after) =
-        let same : es ≡ take r.logged r.history ++ e ∷ [] =
-        one_list (content_of t) es (log.entries ++ e ∷ []) vs log.votes found after
+        let same : found.entries ≡ take r.logged r.history ++ e ∷ [] =
+        same_as (with_record (records.Entry e) log.content) after
         ∙ ap (λ (l : List Entry). l ++ e ∷ []) come.entries in
-        let front : es ≡ take (r.logged + 1) r.history = same
+        let front : found.entries ≡ take (r.logged + 1) r.history = same
         ∙ ap (λ x. take r.logged r.history ++ x ∷ []) (sym (get_or_from_slice_get r.history r.logged e e due))
         ∙ sym (take_more r.history r.logged e (slice_get_within r.history r.logged e due)) in
         inr (
@@ -58,3 +61,6 @@ left_log told faults base log r es vs (Some whys.DiskFault) t come is reads foun
             ap (λ (l : List Entry). l ++ drop (r.logged + 1) r.history) front ∙ take-append-drop (r.logged + 1) r.history,
           ),
         )
+    by (records.AgeVote v) due (inr after) = absurd due
+    by (records.Cut keep) due (inr after) = absurd due
+    by records.Upgrade due (inr after) = absurd due

@@ -15,6 +15,7 @@ pub roomy : {D : Type 0} (told : D → Option Told) (count : D → ℕ) (r : Run
       disk = new.disk;
       spare_entries = max old.spare_entries n;
       spare_votes = max old.spare_votes k;
+      spare_others = max old.spare_others 3;
     }
     → told new.disk ≡ told old.disk → count new.disk ≡ count old.disk
     → (old.failed ≡ false → IsSafe told new) → IsRoomy told count r old new
@@ -25,6 +26,7 @@ roomy {D} told count r old new n k is are made tells calm safe = record {
     disk = new.disk;
     spare_entries = sym (ap (λ (l : LogState D). l.spare_entries) made) z;
     spare_votes = sym (ap (λ (l : LogState D). l.spare_votes) made) z;
+    spare_others = sym (ap (λ (l : LogState D). l.spare_others) made) z;
   });
   tells = tells;
   calm = calm;

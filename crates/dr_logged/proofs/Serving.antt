@@ -17,9 +17,11 @@ use Rattle.dr_disk.specs.Disk.{Told}
 use Rattle.dr_disk.specs.Images.{Goes, IsLeft}
 use Rattle.dr_disk.proofs.Moments.{Goes-last, goes_on, lasts_still, lasts_then, stays_at}
 use Rattle.dr_io.specs.Faults.{Rose}
-use Rattle.dr_log.specs.Standing.{IsBeforeOrAfter, LosesNone, StandsFor, block_length, entries_length, votes_length, with_entry, with_vote}
+use Rattle.dr_log.specs.Standing.{HasAllOf, IsBeforeOrAfter, LosesNone, entries_length, votes_length}
 use Rattle.dr_log.specs.State.{LogState, appended, as_entry, as_vote, broken_off as log_broken_off}
-use Rattle.dr_log.proofs.Lasting.{none_lost}
+use Rattle.dr_log.proofs.Ordinary.{IsOrdinary, has_itself, none_lost, none_lost_by, ordinary_age_votes, ordinary_newer}
+use Rattle.dr_log_bytes.specs.Content.{OnLog, block_length, with_record}
+use Rattle.dr_log_bytes.specs.Grammar.{StandFor}
 use Rattle.dr_machine.specs.declared.event.Act.{Act}
 use Rattle.dr_program.specs.Acts.{taken}
 use Rattle.dr_machine.specs.declared.step.Step.{Step}
@@ -102,7 +104,9 @@ come_on told faults base log r q why g within still come = record {
   entries = come.entries ∙ sym (ap (λ k. take k q.history) g.logged ∙ ap (take r.logged) g.history
       ∙ take-append-le r.logged r.history g.more within);
   more = come.more;
-  voted = come.voted ∙ ap (λ vs. base.votes ++ vs) (sym g.votes);
+  voted = come.voted ∙ ap (λ vs. base.content.votes ++ vs) (sym g.votes);
+  age_votes = come.age_votes;
+  newer = come.newer;
   long = omega (arith, come.long, ap votes_length g.votes);
   limit = come.limit;
   within = come.within;
@@ -201,23 +205,39 @@ ends_next why r may reason failed none =
     ends_at why r (part_of r.place) r.place.row r.place.column (is_logged r (next_step r) may)
     ∙ ap (λ (x : LogWhy). append_or_end (Some x)) (same_Some why reason failed)
 
-moments_on : {D : Type 0} (told : D → Option Told) (base log new : LogState D) (r : Record)
-    (es : List Entry) (vs : List Vote) → log.entries ≡ base.entries ++ es → log.votes ≡ base.votes ++ vs
-    → Goes (told base.disk) (told log.disk) (λ calls. LosesNone base.entries base.votes)
-    → Goes (told log.disk) (told new.disk) (λ calls. IsBeforeOrAfter log.entries log.votes r)
-    → Goes (told base.disk) (told new.disk) (λ calls. LosesNone base.entries base.votes)
-moments_on told base log new r es vs entries votes first next =
-    goes_on (told base.disk) (told log.disk) (told new.disk) (λ calls. LosesNone base.entries base.votes)
-    (λ calls. IsBeforeOrAfter log.entries log.votes r) (λ calls. LosesNone base.entries base.votes)
-    (λ calls image at is. is) (λ calls more image at there is. none_lost log.entries base.entries es log.votes
-    base.votes vs r image entries votes is)
+-- it is an entry or a vote
+pub ordinary_record : (r : Running) (s : Step) → IsOrdinary (record_of r s)
+ordinary_record r (LogVote v) = tt
+ordinary_record r s = tt
+
+-- a log has all that it had
+pub has_base : {D : Type 0} (told : D → Option Told) (faults : D → ℕ) (base log : LogState D) (r : Replica)
+    (why : Option LogWhy) → HasCome told faults base log r why → HasAllOf base.content log.content
+has_base told faults base log r why come = record {
+  more_entries = come.more.0;
+  more_votes = r.votes;
+  more_age_votes = [];
+  entries = come.more.1;
+  votes = come.voted;
+  age_votes = come.age_votes ∙ sym (append-nil base.content.age_votes);
+}
+
+moments_on : {D : Type 0} (told : D → Option Told) (base log new : LogState D) (r : Record) → IsOrdinary r
+    → HasAllOf base.content log.content
+    → Goes (told base.disk) (told log.disk) (λ calls. LosesNone base.content)
+    → Goes (told log.disk) (told new.disk) (λ calls. IsBeforeOrAfter log.content r)
+    → Goes (told base.disk) (told new.disk) (λ calls. LosesNone base.content)
+moments_on told base log new r ordinary has first next =
+    goes_on (told base.disk) (told log.disk) (told new.disk) (λ calls. LosesNone base.content)
+    (λ calls. IsBeforeOrAfter log.content r) (λ calls. LosesNone base.content)
+    (λ calls image at is. is)
+    (λ calls more image at there is. none_lost_by base.content log.content r image ordinary has is)
     first next
 
 lasting_on : {D : Type 0} (told : D → Option Told) (base log new : LogState D)
     → LosesNothing told base log → LosesNothing told log new → LosesNothing told base new
-lasting_on told base log new first next = λ entries votes.
-    lasts_then (told base.disk) (told log.disk) (told new.disk) (LosesNone entries votes)
-    (first entries votes) (next entries votes)
+lasting_on told base log new before behind = λ first.
+    lasts_then (told base.disk) (told log.disk) (told new.disk) (LosesNone first) (before first) (behind first)
 
 -- a count that rose from a later value rose from an earlier one
 rose_since : (base old new : ℕ) → base ≤ old → Rose old new → Rose base new
@@ -227,16 +247,17 @@ rose_since base old new later rose =
 -- what an append that went well has come to, by its record and by what the member has logged then
 record Put {D : Type 0} (told : D → Option Told) (faults : D → ℕ) (base log new : LogState D)
     (due : Record) (history : List Entry) (k : ℕ) (vs : List Vote) : Type 0 where
+  ordinary : IsOrdinary due
   made : new ≡ appended log due new.disk
-  fits : log.length + block_length due ≤ log.limit
-  goes : Goes (told log.disk) (told new.disk) (λ calls. IsBeforeOrAfter log.entries log.votes due)
+  fits : log.content.length + block_length due ≤ log.limit
+  goes : Goes (told log.disk) (told new.disk) (λ calls. IsBeforeOrAfter log.content due)
   lasting : LosesNothing told log new
   safe : IsSafe told new
   calm : faults new.disk ≡ faults log.disk
-  entries : with_entry due log.entries ≡ take k history
-  more : (es : List Entry) × (with_entry due log.entries ≡ base.entries ++ es)
-  voted : with_vote due log.votes ≡ base.votes ++ vs
-  long : log.length + block_length due ≡ base.length + (entries_length more.0 + votes_length vs)
+  entries : (with_record due log.content).entries ≡ take k history
+  more : (es : List Entry) × ((with_record due log.content).entries ≡ base.content.entries ++ es)
+  voted : (with_record due log.content).votes ≡ base.content.votes ++ vs
+  long : log.content.length + block_length due ≡ base.content.length + (entries_length more.0 + votes_length vs)
 
 put : {D : Type 0} (told : D → Option Told) (faults : D → ℕ) (base log new : LogState D)
     (due : Record) (r q : Replica) → HasCome told faults base log r None
@@ -249,21 +270,25 @@ put {D} told faults base log new due r q served p = record {
   limit = limit ∙ served.limit;
   within = le_trans (omega (arith, p.fits, limit, grown)) (le-max_left new.limit _);
   last = (ap (λ (x : LogState D). x.failed) p.made ∙ served.last.0, p.safe);
-  moments = moments_on told base log new due served.more.0 r.votes served.more.1 served.voted served.moments
-      p.goes;
+  age_votes = ap (λ (x : LogState D). x.content.age_votes) p.made
+      ∙ ordinary_age_votes due log.content p.ordinary ∙ served.age_votes;
+  newer = ap (λ (x : LogState D). x.content.newer) p.made
+      ∙ ordinary_newer due log.content p.ordinary ∙ served.newer;
+  moments = moments_on told base log new due p.ordinary (has_base told faults base log r None served)
+      served.moments p.goes;
   lasting = lasting_on told base log new served.lasting p.lasting;
   calm = λ unbroken. p.calm ∙ served.calm unbroken;
   later = omega (arith, served.later, p.calm);
 }
   where
-    entries : new.entries ≡ with_entry due log.entries
-    entries = ap (λ (x : LogState D). x.entries) p.made
+    entries : new.content.entries ≡ (with_record due log.content).entries
+    entries = ap (λ (x : LogState D). x.content.entries) p.made
 
-    votes : new.votes ≡ with_vote due log.votes
-    votes = ap (λ (x : LogState D). x.votes) p.made
+    votes : new.content.votes ≡ (with_record due log.content).votes
+    votes = ap (λ (x : LogState D). x.content.votes) p.made
 
-    grown : new.length ≡ log.length + block_length due
-    grown = ap (λ (x : LogState D). x.length) p.made
+    grown : new.content.length ≡ log.content.length + block_length due
+    grown = ap (λ (x : LogState D). x.content.length) p.made
 
     limit : new.limit ≡ log.limit
     limit = ap (λ (x : LogState D). x.limit) p.made
@@ -273,14 +298,15 @@ put_step : {D : Type 0} (told : D → Option Told) (faults : D → ℕ)
     (base log new : LogState D) (word : ℕ) (r : Running) (s : Step) → MayLog r s
     → HasCome told faults base log r.replica None
     → new ≡ appended log (record_of r s) new.disk
-    → log.length + block_length (record_of r s) ≤ log.limit
+    → log.content.length + block_length (record_of r s) ≤ log.limit
     → Goes (told log.disk) (told new.disk)
-    (λ calls. IsBeforeOrAfter log.entries log.votes (record_of r s))
+    (λ calls. IsBeforeOrAfter log.content (record_of r s))
     → LosesNothing told log new → IsSafe told new → faults new.disk ≡ faults log.disk
     → HasCome told faults base new (stepped word r.replica s) None
 put_step told faults base log new word r Append within served made fits goes lasting safe calm =
     let e : Entry = slice_index_or r.replica.history r.replica.logged (View 0 0 0) in
     put told faults base log new (records.Entry e) r.replica (stepped word r.replica Append) served (record {
+      ordinary = tt;
       made = made;
       fits = fits;
       goes = goes;
@@ -291,7 +317,7 @@ put_step told faults base log new word r Append within served made fits goes las
           ∙ sym (take_more r.replica.history r.replica.logged (View 0 0 0) within);
       more = (
         served.more.0 ++ e ∷ [],
-        ap (λ xs. xs ++ e ∷ []) served.more.1 ∙ append_assoc base.entries served.more.0 (e ∷ []),
+        ap (λ xs. xs ++ e ∷ []) served.more.1 ∙ append_assoc base.content.entries served.more.0 (e ∷ []),
       );
       voted = served.voted;
       long = omega (
@@ -303,6 +329,7 @@ put_step told faults base log new word r Append within served made fits goes las
 put_step told faults base log new word r (LogVote v) within served made fits goes lasting safe calm =
     let x : Vote = vote_of r.replica v in
     put told faults base log new (records.Vote x) r.replica (stepped word r.replica (LogVote v)) served (record {
+      ordinary = tt;
       made = made;
       fits = fits;
       goes = goes;
@@ -311,7 +338,7 @@ put_step told faults base log new word r (LogVote v) within served made fits goe
       calm = calm;
       entries = served.entries;
       more = served.more;
-      voted = ap (λ xs. xs ++ x ∷ []) served.voted ∙ append_assoc base.votes r.replica.votes (x ∷ []);
+      voted = ap (λ xs. xs ++ x ∷ []) served.voted ∙ append_assoc base.content.votes r.replica.votes (x ∷ []);
       long = omega (
         arith,
         served.long,
@@ -323,9 +350,9 @@ put_step told faults base log new word r s within served made fits goes lasting 
 pub appended_served : {D : Type 0} (told : D → Option Told) (faults : D → ℕ)
     (base log new : LogState D) (word : ℕ) (r : Running) → MayLog r (next_step r)
     → HasServed told faults base log r → new ≡ appended log (record_due r) new.disk
-    → log.length + block_length (record_due r) ≤ log.limit
+    → log.content.length + block_length (record_due r) ≤ log.limit
     → Goes (told log.disk) (told new.disk)
-    (λ calls. IsBeforeOrAfter log.entries log.votes (record_due r))
+    (λ calls. IsBeforeOrAfter log.content (record_due r))
     → LosesNothing told log new → IsSafe told new → faults new.disk ≡ faults log.disk
     → HasServed told faults base new (after_step word r)
 appended_served told faults base log new word r may served made fits goes lasting safe calm =
@@ -381,7 +408,7 @@ pub failed_served : {D : Type 0} (told : D → Option Told) (faults : D → ℕ)
     (r : Running) → MayLog r (next_step r) → HasServed told faults base log r
     → new ≡ log_broken_off log (record_due r) new.disk
     → Goes (told log.disk) (told new.disk)
-    (λ calls. IsBeforeOrAfter log.entries log.votes (record_due r))
+    (λ calls. IsBeforeOrAfter log.content (record_due r))
     → LosesNothing told log new → Rose (faults log.disk) (faults new.disk) → faults log.disk ≤ faults new.disk
     → HasServed told faults base new (broken_off whys.DiskFault r)
 failed_served {D} told faults base log new r may before made goes lasting rose later =
@@ -390,39 +417,44 @@ failed_served {D} told faults base log new r may before made goes lasting rose l
     served : HasCome told faults base log r.replica r.failed
     served = before.come
 
-    entries : new.entries ≡ log.entries
-    entries = ap (λ (l : LogState D). l.entries) made
+    entries : new.content.entries ≡ log.content.entries
+    entries = ap (λ (l : LogState D). l.content.entries) made
 
-    votes : new.votes ≡ log.votes
-    votes = ap (λ (l : LogState D). l.votes) made
+    votes : new.content.votes ≡ log.content.votes
+    votes = ap (λ (l : LogState D). l.content.votes) made
 
-    grown : new.length ≡ log.length
-    grown = ap (λ (l : LogState D). l.length) made
+    grown : new.content.length ≡ log.content.length
+    grown = ap (λ (l : LogState D). l.content.length) made
 
     limit : new.limit ≡ log.limit
     limit = ap (λ (l : LogState D). l.limit) made
+
+    same : new.content ≡ log.content
+    same = ap (λ (l : LogState D). l.content) made
 
     come : HasCome told faults base new r.replica (Some whys.DiskFault)
     come = record {
       entries = entries ∙ served.entries;
       more = (served.more.0, entries ∙ served.more.1);
       voted = votes ∙ served.voted;
+      age_votes = ap (λ (l : LogState D). l.content.age_votes) made ∙ served.age_votes;
+      newer = ap (λ (l : LogState D). l.content.newer) made ∙ served.newer;
       limit = limit ∙ served.limit;
       long = grown ∙ served.long;
-      within = subst (λ n. n ≤ max new.limit base.length) (sym grown)
-          (subst (λ n. log.length ≤ max n base.length) (sym limit) served.within);
+      within = subst (λ n. n ≤ max new.limit base.content.length) (sym grown)
+          (subst (λ n. log.content.length ≤ max n base.content.length) (sym limit) served.within);
       last = (
         record_due r,
         next_is r (next_step r) may,
         record {
           failed = ap (λ (l : LogState D). l.failed) made;
           rose = rose_since (faults base.disk) (faults log.disk) (faults new.disk) served.later rose;
-          left = rw (entries, votes) (Goes-last (told log.disk) (told new.disk)
-              (IsBeforeOrAfter log.entries log.votes (record_due r)) goes);
+          left = subst (λ x. IsLeft (told new.disk) (IsBeforeOrAfter x (record_due r))) (sym same)
+              (Goes-last (told log.disk) (told new.disk) (IsBeforeOrAfter log.content (record_due r)) goes);
         },
       );
-      moments = moments_on told base log new (record_due r) served.more.0 r.replica.votes served.more.1
-          served.voted served.moments goes;
+      moments = moments_on told base log new (record_due r) (ordinary_record r (next_step r))
+          (has_base told faults base log r.replica r.failed served) served.moments goes;
       lasting = lasting_on told base log new served.lasting lasting;
       calm = λ unbroken. absurd (unbroken refl);
       later = le_trans served.later later;
@@ -431,7 +463,7 @@ failed_served {D} told faults base log new r may before made goes lasting rose l
 -- an append for which the log has no room
 pub full_served : {D : Type 0} (told : D → Option Told) (faults : D → ℕ) (base log : LogState D)
     (r : Running) (len : ℕ) → MayLog r (next_step r)
-    → HasServed told faults base log r → len ≡ log.length
+    → HasServed told faults base log r → len ≡ log.content.length
     → log.limit < len + block_length (record_due r)
     → HasServed told faults base log (broken_off (whys.LogFull len) r)
 full_served {D} told faults base log r len may before long over =
@@ -448,6 +480,8 @@ full_served {D} told faults base log r len may before long over =
       entries = served.entries;
       more = served.more;
       voted = served.voted;
+      age_votes = served.age_votes;
+      newer = served.newer;
       long = served.long;
       limit = served.limit;
       within = served.within;
@@ -476,7 +510,7 @@ failed_ready log why r = record {
 -- a log that has all of its member's history, and got room, has served it so far and is ready
 pub begins : {D : Type 0} (told : D → Option Told) (faults : D → ℕ) (old new : LogState D)
     (r : Running)
-    → IsRoomy told faults r old new → old.failed ≡ false → old.entries ≡ r.replica.history
+    → IsRoomy told faults r old new → old.failed ≡ false → old.content.entries ≡ r.replica.history
     → r.replica.logged ≡ length r.replica.history → r.replica.votes ≡ [] → r.failed ≡ None
     → HasServed told faults old new r × IsReady new r
 begins {D} told faults old new r roomy whole has all empty none = (
@@ -488,42 +522,41 @@ begins {D} told faults old new r roomy whole has all empty none = (
   },
 )
   where
-    entries : new.entries ≡ old.entries
-    entries = ap (λ (l : LogState D). l.entries) roomy.is
+    entries : new.content.entries ≡ old.content.entries
+    entries = ap (λ (l : LogState D). l.content.entries) roomy.is
 
-    votes : new.votes ≡ old.votes
-    votes = ap (λ (l : LogState D). l.votes) roomy.is
+    votes : new.content.votes ≡ old.content.votes
+    votes = ap (λ (l : LogState D). l.content.votes) roomy.is
 
-    grown : new.length ≡ old.length
-    grown = ap (λ (l : LogState D). l.length) roomy.is
+    grown : new.content.length ≡ old.content.length
+    grown = ap (λ (l : LogState D). l.content.length) roomy.is
 
     failed : new.failed ≡ false
     failed = ap (λ (l : LogState D). l.failed) roomy.is ∙ whole
 
-    stands : (image : List ℕ) → StandsFor image new.entries new.votes → LosesNone old.entries old.votes image
-    stands image is = record {
-      more_entries = [];
-      more_votes = [];
-      stands = rw (append-nil, append-nil, ← entries, ← votes) is;
-    }
+    same : new.content ≡ old.content
+    same = ap (λ (l : LogState D). l.content) roomy.is
 
-    keeps : (t : Option Told) → IsLeft t (λ image. StandsFor image new.entries new.votes)
-        → IsLeft t (LosesNone old.entries old.votes)
+    keeps : (t : Option Told) → IsLeft t (λ image. StandFor image new.content)
+        → IsLeft t (LosesNone old.content)
     keeps None safe = tt
-    keeps (Some calls) safe = λ image is. stands image (safe image is)
+    keeps (Some calls) safe = λ image is. none_lost old.content old.content image (has_itself old.content)
+        (subst (StandFor image) same (safe image is))
 
     come : HasCome told faults old new r.replica r.failed
     come = record {
       entries = entries ∙ has ∙ sym (take_all r.replica.logged r.replica.history (omega (arith, all)));
-      more = ([], entries ∙ sym (append-nil old.entries));
-      voted = votes ∙ sym (append-nil old.votes) ∙ ap (λ vs. old.votes ++ vs) (sym empty);
+      more = ([], entries ∙ sym (append-nil old.content.entries));
+      voted = votes ∙ sym (append-nil old.content.votes) ∙ ap (λ vs. old.content.votes ++ vs) (sym empty);
+      age_votes = ap (λ (c : OnLog). c.age_votes) same;
+      newer = ap (λ (c : OnLog). c.newer) same;
       long = omega (arith, grown, ap votes_length empty);
       limit = ap (λ (l : LogState D). l.limit) roomy.is;
-      within = subst (λ n. n ≤ max new.limit old.length) (sym grown) (le-max_right new.limit _);
+      within = subst (λ n. n ≤ max new.limit old.content.length) (sym grown) (le-max_right new.limit _);
       last = rw none (failed, roomy.safe whole);
-      moments = rw roomy.tells (stays_at (told old.disk) (λ calls. LosesNone old.entries old.votes)
+      moments = rw roomy.tells (stays_at (told old.disk) (λ calls. LosesNone old.content)
           (rw (← roomy.tells) (keeps (told new.disk) (roomy.safe whole))));
-      lasting = λ entries votes. rw roomy.tells (lasts_still (told old.disk) (LosesNone entries votes));
+      lasting = λ first. rw roomy.tells (lasts_still (told old.disk) (LosesNone first));
       calm = λ unbroken. roomy.calm;
       later = omega (arith, roomy.calm);
     }

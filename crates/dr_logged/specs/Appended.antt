@@ -8,8 +8,9 @@ use Rattle.dr_entry.specs.declared.record.Record.TheVariants as records
 use Rattle.dr_io.specs.Faults.{Rose}
 use Rattle.dr_log.specs.declared.fault.LogFault.{LogFault}
 use Rattle.dr_log.specs.declared.fault.LogFault.TheVariants as faults
-use Rattle.dr_log.specs.Standing.{IsBeforeOrAfter, block_length}
+use Rattle.dr_log.specs.Standing.{IsBeforeOrAfter}
 use Rattle.dr_log.specs.State.{LogState, appended, broken_off}
+use Rattle.dr_log_bytes.specs.Content.{block_length}
 use Rattle.dr_machine.specs.declared.step.Step.{Step}
 use Rattle.dr_machine.specs.declared.step.Step.TheVariants.{Append, LogVote}
 use Rattle.dr_program.specs.declared.outcome.LogWhy.{LogWhy}
@@ -47,9 +48,9 @@ record_due r = record_of r (next_step r)
 pub record HasAppended {D : Type 0} (told : D → Option Told) (faults : D → ℕ) (log new : LogState D)
     (r : Running) : Type 0 where
   pub made : new ≡ appended log (record_due r) new.disk
-  pub fits : log.length + block_length (record_due r) ≤ log.limit
+  pub fits : log.content.length + block_length (record_due r) ≤ log.limit
   pub goes : Goes (told log.disk) (told new.disk)
-      (λ s. IsBeforeOrAfter log.entries log.votes (record_due r))
+      (λ s. IsBeforeOrAfter log.content (record_due r))
   pub lasting : LosesNothing told log new
   pub safe : IsSafe told new
   pub calm : faults new.disk ≡ faults log.disk
@@ -59,14 +60,14 @@ pub record HasBroken {D : Type 0} (told : D → Option Told) (faults : D → ℕ
     (r : Running) : Type 0 where
   pub made : new ≡ broken_off log (record_due r) new.disk
   pub goes : Goes (told log.disk) (told new.disk)
-      (λ s. IsBeforeOrAfter log.entries log.votes (record_due r))
+      (λ s. IsBeforeOrAfter log.content (record_due r))
   pub lasting : LosesNothing told log new
   pub rose : Rose (faults log.disk) (faults new.disk)
   pub later : faults log.disk ≤ faults new.disk
 
 -- the log of this length has no room for it
 pub record IsOver {D : Type 0} (log : LogState D) (len : ℕ) (r : Running) : Type 0 where
-  pub long : len ≡ log.length
+  pub long : len ≡ log.content.length
   pub over : log.limit < len + block_length (record_due r)
 
 -- why an append failed, as its log tells it

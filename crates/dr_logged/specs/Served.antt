@@ -9,8 +9,10 @@ use Rattle.dr_entry.specs.Spelling.{IsValid, IsValidVote}
 use Rattle.dr_io.specs.Faults.{Rose}
 use Rattle.dr_disk.specs.Disk.{Told}
 use Rattle.dr_disk.specs.Images.{Goes, IsLeft, Lasts}
-use Rattle.dr_log.specs.Standing.{IsBeforeOrAfter, LosesNone, StandsFor, block_length, entries_length, votes_length}
+use Rattle.dr_log.specs.Standing.{IsBeforeOrAfter, LosesNone, entries_length, votes_length}
 use Rattle.dr_log.specs.State.{LogState}
+use Rattle.dr_log_bytes.specs.Content.{OnLog, block_length}
+use Rattle.dr_log_bytes.specs.Grammar.{StandFor}
 use Rattle.dr_program.specs.declared.deed.Deed.TheVariants as deeds
 use Rattle.dr_program.specs.declared.outcome.LogWhy.{LogWhy}
 use Rattle.dr_program.specs.declared.outcome.LogWhy.TheVariants as whys
@@ -18,14 +20,13 @@ use Rattle.dr_program.specs.Program.{Program}
 use Rattle.dr_program.specs.Replica.{Replica, may_vote, value_due, vote_of}
 use Rattle.dr_program.specs.Running.{Running, append_or_end, next_deed, next_step}
 
--- the log's own entries and votes are safe
+-- what is on the log is safe
 abbrev pub IsSafe : {D : Type 0} → (D → Option Told) → LogState D → Type 0
-IsSafe told log = IsLeft (told log.disk) (λ image. StandsFor image log.entries log.votes)
+IsSafe told log = IsLeft (told log.disk) (λ image. StandFor image log.content)
 
 -- what no crash would have lost at one moment since `base` none would have lost later on
 abbrev pub LosesNothing : {D : Type 0} → (D → Option Told) → LogState D → LogState D → Type 0
-LosesNothing told base log = (entries : List Entry) (votes : List Vote)
-    → Lasts (told base.disk) (told log.disk) (LosesNone entries votes)
+LosesNothing told base log = (first : OnLog) → Lasts (told base.disk) (told log.disk) (LosesNone first)
 
 -- the record that comes behind so many entries of a history
 abbrev pub next_record : List Entry → ℕ → Record
@@ -45,20 +46,23 @@ pub record IsDueVote (r : Replica) (vote : Vote) : Type 0 where
 abbrev pub IsRecordDue : Replica → Record → Type 0
 IsRecordDue r (records.Entry entry) = slice_get r.history r.logged ≡ Some entry
 IsRecordDue r (records.Vote vote) = IsDueVote r vote
+IsRecordDue r (records.AgeVote vote) = ⊥
+IsRecordDue r (records.Cut keep) = ⊥
+IsRecordDue r records.Upgrade = ⊥
 
 -- a disk failed since `base`: whatever a crash leaves has what is on the log, or the next record besides
 pub record BrokeOff {D : Type 0} (told : D → Option Told) (faults : D → ℕ) (base log : LogState D)
     (next : Record) : Type 0 where
   pub failed : log.failed ≡ true
   pub rose : Rose (faults base.disk) (faults log.disk)
-  pub left : IsLeft (told log.disk) (IsBeforeOrAfter log.entries log.votes next)
+  pub left : IsLeft (told log.disk) (IsBeforeOrAfter log.content next)
 
 -- a log of this length has no room for the next record, and is safe
 pub record IsFull {D : Type 0} (told : D → Option Told) (log : LogState D) (len : ℕ)
     (next : Record) : Type 0 where
   pub whole : log.failed ≡ false
   pub safe : IsSafe told log
-  pub long : len ≡ log.length
+  pub long : len ≡ log.content.length
   pub over : log.limit < len + block_length next
 
 -- how the last append of a member to its log has gone: well, or it failed for this reason, at the record that
@@ -76,18 +80,21 @@ WentSo told faults base log r (Some (whys.LogFull len)) =
 pub record HasCome {D : Type 0} (told : D → Option Told) (faults : D → ℕ) (base log : LogState D)
     (r : Replica) (why : Option LogWhy) : Type 0 where
   -- it has the first entries of the history, behind those that it had, and the votes behind those that it had
-  pub entries : log.entries ≡ take r.logged r.history
-  pub more : (es : List Entry) × (log.entries ≡ base.entries ++ es)
-  pub voted : log.votes ≡ base.votes ++ r.votes
+  pub entries : log.content.entries ≡ take r.logged r.history
+  pub more : (es : List Entry) × (log.content.entries ≡ base.content.entries ++ es)
+  pub voted : log.content.votes ≡ base.content.votes ++ r.votes
+  -- it has no other record more
+  pub age_votes : log.content.age_votes ≡ base.content.age_votes
+  pub newer : log.content.newer ≡ base.content.newer
   -- it is longer by these
-  pub long : log.length ≡ base.length + (entries_length more.0 + votes_length r.votes)
+  pub long : log.content.length ≡ base.content.length + (entries_length more.0 + votes_length r.votes)
   -- it keeps its limit
   pub limit : log.limit ≡ base.limit
-  pub within : log.length ≤ max log.limit base.length
+  pub within : log.content.length ≤ max log.limit base.content.length
   -- how its last append went
   pub last : WentSo told faults base log r why
   -- at no moment a crash would have lost what it had, nor what it could not have lost at an earlier one
-  pub moments : Goes (told base.disk) (told log.disk) (λ s. LosesNone base.entries base.votes)
+  pub moments : Goes (told base.disk) (told log.disk) (λ s. LosesNone base.content)
   pub lasting : LosesNothing told base log
   -- its disk has counted no fault, unless one ended the last append
   pub calm : why ≢ Some whys.DiskFault → faults log.disk ≡ faults base.disk
@@ -142,6 +149,7 @@ pub record IsRoomy {D : Type 0} (told : D → Option Told) (faults : D → ℕ) 
     disk = new.disk;
     spare_entries = new.spare_entries;
     spare_votes = new.spare_votes;
+    spare_others = new.spare_others;
   }
   pub tells : told new.disk ≡ told old.disk
   pub calm : faults new.disk ≡ faults old.disk

@@ -1,12 +1,11 @@
 //! Laws of members and their logs.
-ghost use Rattle.std.specs.Prelude.{◌≡◌, ℕ, false, List, [], Option, length, None, Some};
+ghost use Rattle.std.specs.Prelude.{◌≡◌, ℕ, false, [], Option, length, None, Some};
 ghost use Rattle.dr_disk.specs.Disk.{Told, content_of};
 ghost use Rattle.dr_disk.specs.Images.{ReadsAnImage};
-ghost use Rattle.dr_entry.specs.declared.entry.Entry.{Entry};
-ghost use Rattle.dr_entry.specs.declared.record.Vote.{Vote};
-ghost use Rattle.dr_log.specs.Standing.{StandsFor};
 ghost use Rattle.dr_logged.specs.Left.{IsLeftOf};
 ghost use Rattle.dr_log.specs.State.{LogState};
+ghost use Rattle.dr_log_bytes.specs.Content.{OnLog};
+ghost use Rattle.dr_log_bytes.specs.Grammar.{StandFor};
 ghost use Rattle.dr_program.specs.declared.outcome.LogWhy.{LogWhy};
 ghost use Rattle.dr_program.specs.declared.outcome.LogWhy.TheVariants as whys;
 ghost use Rattle.dr_program.specs.Form.{HasForm};
@@ -21,7 +20,7 @@ use dr_disk::Disk;
 /// and is ready.
 pub fn logs_begin<D: Disk>()
     ensures { (old new : LogState D) (r : Running) → IsRoomy D.told D.faults r old new
-        → old.failed ≡ false → old.entries ≡ r.replica.history
+        → old.failed ≡ false → old.content.entries ≡ r.replica.history
         → r.replica.logged ≡ length r.replica.history → r.replica.votes ≡ [] → r.failed ≡ None
         → HasServed D.told D.faults old new r × IsReady new r }
 {}
@@ -51,8 +50,7 @@ pub fn appends_serve_logs<D: Disk>()
 /// What a mount finds on the disk of a log, once its member has ended, is what the member has logged. Where
 /// the last append has failed it may be the next entry of the history besides.
 pub fn logs_are_left<D: Disk>()
-    ensures { (base log : LogState D) (r : Replica) (es : List Entry) (vs : List Vote)
-        (why : Option LogWhy) (told : Told) → HasCome D.told D.faults base log r why
-        → D.told log.disk ≡ Some told → ReadsAnImage told → StandsFor (content_of told) es vs
-        → IsLeftOf r.history r.logged es }
+    ensures { (base log : LogState D) (r : Replica) (found : OnLog) (why : Option LogWhy) (told : Told)
+        → HasCome D.told D.faults base log r why → D.told log.disk ≡ Some told → ReadsAnImage told
+        → StandFor (content_of told) found → IsLeftOf r.history r.logged found.entries }
 {}

@@ -1,12 +1,40 @@
--- Who is there: so far every member of the roster.
-use Rattle.std.proofs.Common.{arith, ℕ, ◌<◌}
-use Rattle.dr_machine.specs.Group.{Group, IsGroup, IsPresent, roster}
+-- Who is there.
+use Rattle.std.proofs.Common.{◌≡◌, refl, ap, sym, ◌∙◌, ◌⊎◌, inl, inr, ℕ, ◌-◌, ◌^◌, ◌<◌, ◌≤◌, nat_lt, Bool, true, false, arith}
+use Rattle.std.proofs.lemmas.Bool.{cases_lt}
+use Rattle.dr_history.specs.Members.{has}
+use Rattle.dr_machine.specs.Group.{AllPresent, Group, IsGroup, IsPresent, roster}
 use Rattle.dr_words.proofs.Bits.{has_ones}
+use Rattle.dr_words.proofs.Masks.{same_masks}
 
 -- who is there is of the roster
 pub in_roster : (g : Group) (m : ℕ) → IsGroup g → IsPresent g m → m < roster g
-in_roster g m is there = grind (arith, has_ones (roster g) m, is.sound.present, there)
+in_roster g m is there = is.sound.present m there
 
--- and each member of the roster is there
-pub is_present : (g : Group) (m : ℕ) → IsGroup g → m < roster g → IsPresent g m
-is_present g m is within = rw is.sound.present (grind (arith, has_ones (roster g) m, within))
+-- and in the first view
+pub in_first : (g : Group) (m : ℕ) → IsGroup g → IsPresent g m → has g.opening.members m ≡ true
+in_first g m is there = ap (λ mask. has mask m) (sym is.joined) ∙ there
+
+-- each member of the first view is there
+pub is_there : (g : Group) (m : ℕ) → IsGroup g → has g.opening.members m ≡ true → IsPresent g m
+is_there g m is first = is.sound.part m first
+
+-- and each of the roster, where all are
+pub is_present : (g : Group) (m : ℕ) → AllPresent g → m < roster g → IsPresent g m
+is_present g m all within = ap (λ mask. has mask m) all ∙ grind (arith, has_ones (roster g) m, within)
+
+-- and where each of the roster is, all are
+pub all_present : (g : Group) → IsGroup g → ((m : ℕ) → m < roster g → IsPresent g m) → AllPresent g
+all_present g is each = same_masks g.opening.present (2 ^ roster g - 1)
+    (λ i. by i (has g.opening.present i) refl (cases_lt i (roster g)))
+  where
+    below : (i : ℕ) → i < roster g → nat_lt i (roster g) ≡ true
+    below i l = grind (arith, l)
+
+    above : (i : ℕ) → roster g ≤ i → nat_lt i (roster g) ≡ false
+    above i l = grind (arith, l)
+
+    by : (i : ℕ) (b : Bool) → has g.opening.present i ≡ b → (i < roster g) ⊎ (roster g ≤ i)
+        → has g.opening.present i ≡ has (2 ^ roster g - 1) i
+    by i b e (inl l) = each i l ∙ sym (has_ones (roster g) i ∙ below i l)
+    by i true e (inr l) = absurd (omega (arith, is.sound.present i e, l))
+    by i false e (inr l) = e ∙ sym (has_ones (roster g) i ∙ above i l)

@@ -3,7 +3,7 @@ use Rattle.std.specs.Prelude.{◌≡◌, ℕ, ◌^◌, ◌<◌, ◌≤◌, List,
 use Rattle.dr_entry.specs.declared.limits.TheConstants.{MAX_MEMBERS, MAX_MESSAGES, MAX_MESSAGE_LENGTH}
 use Rattle.dr_history.specs.declared.opening.Opening.{Opening}
 use Rattle.dr_history.specs.History.{messages_of}
-use Rattle.dr_history.specs.Soundness.{IsPresentIn, Sound}
+use Rattle.dr_history.specs.Soundness.{IsPresentIn, Sound, whole_roster}
 use Rattle.dr_words.specs.Columns.{columns_of}
 
 -- what is fixed for an age: its opening, with the script's messages by member of the roster, and the slots
@@ -19,6 +19,10 @@ roster g = length g.opening.messages
 -- member m is there in this age
 abbrev pub IsPresent : Group → ℕ → Type 0
 IsPresent g m = IsPresentIn g.opening m
+
+-- all members of the roster are there
+abbrev pub AllPresent : Group → Type 0
+AllPresent g = g.opening.present ≡ whole_roster g.opening
 
 -- the number of banks of the table: one for each view that an age can have
 abbrev pub banks : Group → ℕ
@@ -41,3 +45,5 @@ pub record IsGroup (g : Group) : Type 0 where
       → (k : ℕ) → slice_index bytes k < 256
   pub age : g.opening.age < 2 ^ 16
   pub sound : Sound g.opening
+  -- so far nobody joins later: who is there is in the first view
+  pub joined : g.opening.present ≡ g.opening.members

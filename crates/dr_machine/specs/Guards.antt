@@ -2,7 +2,7 @@
 use Rattle.std.specs.Prelude.{◌≡◌, ◌≢◌, ⊤, ℕ, ◌+◌, ◌-◌, ◌<◌, ◌≤◌, ◌⊎◌, true, false, length, None, Some, slice_index}
 use Rattle.dr_entry.specs.declared.limits.TheConstants.{MAX_MEMBERS}
 use Rattle.dr_entry.specs.declared.end.End.{End}
-use Rattle.dr_entry.specs.declared.end.End.TheVariants.{Done, Crashed, Suspected, Excluded, NoMajority, DiskFault, LogFull, Spent}
+use Rattle.dr_entry.specs.declared.end.End.TheVariants.{Done, Crashed, Suspected, Excluded, NoMajority, DiskFault, LogFull, Spent, Absent}
 use Rattle.dr_entry.specs.declared.record.Value.{Value}
 use Rattle.dr_entry.specs.declared.record.Vote.{Vote}
 use Rattle.dr_history.specs.Members.{has}
@@ -231,6 +231,7 @@ IsFault (NoMajority mask) = ⊥
 IsFault DiskFault = ⊤
 IsFault (LogFull len) = ⊤
 IsFault (Spent turns) = ⊤
+IsFault Absent = ⊥
 
 pub record CanCrash (g : Group) (w : World) (m : ℕ) (end : End) : Type 0 where
   pub alive : IsRunning g w m

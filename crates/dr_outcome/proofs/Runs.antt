@@ -67,6 +67,7 @@ disk_fault_is (ends.NoMajority mask) is = absurd (true≢false (sym is))
 disk_fault_is ends.DiskFault is = refl
 disk_fault_is (ends.LogFull len) is = absurd (true≢false (sym is))
 disk_fault_is (ends.Spent turns) is = absurd (true≢false (sym is))
+disk_fault_is ends.Absent is = absurd (true≢false (sym is))
 
 -- where no fault is counted no disk has ended a member
 none_failed : (script : Script) (mode : Mode) (nth : ℕ) (before after : YardState) (ages : List AgeEnd)
@@ -105,6 +106,7 @@ unstopped (ends.NoMajority mask) failed full = refl
 unstopped ends.DiskFault failed full = absurd (true≢false failed)
 unstopped (ends.LogFull len) failed full = absurd (true≢false full)
 unstopped (ends.Spent turns) failed full = refl
+unstopped ends.Absent failed full = refl
 
 -- where all are complete none has spent its turns
 none_spends : (o : Opening) (members : List MemberEnd) → AreComplete o members → some_of Spent members ≡ false
@@ -137,6 +139,7 @@ unsplit (ends.NoMajority mask) stays = absurd (true≢false stays)
 unsplit ends.DiskFault stays = refl
 unsplit (ends.LogFull len) stays = refl
 unsplit (ends.Spent turns) stays = refl
+unsplit ends.Absent stays = refl
 
 -- where nobody suspects others none is left without a majority
 none_splits : (members : List MemberEnd) → NoneLeft members → some_of NoMajority members ≡ false
@@ -160,6 +163,7 @@ unfull (ends.NoMajority mask) room = refl
 unfull ends.DiskFault room = refl
 unfull (ends.LogFull len) room = absurd room
 unfull (ends.Spent turns) room = refl
+unfull ends.Absent room = refl
 
 -- a run over empty disks
 fresh : (script : Script) (mode : Mode) (ages : List AgeEnd) (stop : Option Stop) → IsRunInMemory script mode ages stop

@@ -36,6 +36,7 @@ step_told word r s = grind arith
 -- a replica that was told the same is still that of the member
 pub of_told : (g : Group) (m : ℕ) (r q : Replica) → told q ≡ told r → IsOf g m r → IsOf g m q
 of_told g m r q same of = record {
+  present = of.present;
   number = ap (λ (t : Told). t.number) same ∙ of.number;
   age = ap (λ (t : Told). t.age) same ∙ of.age;
   members = ap (λ (t : Told). t.roster) same ∙ of.members;

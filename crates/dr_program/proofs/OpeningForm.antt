@@ -31,7 +31,8 @@ use Rattle.dr_words.proofs.Bits.{has_ones, has_zero}
 use Rattle.dr_ring.specs.Slots.{slot_column}
 use Rattle.dr_program.specs.declared.setup.Setup.{Setup}
 use Rattle.dr_history_laws.proofs.Lengths.{start-short}
-use Rattle.dr_machine.specs.Group.{Group, IsGroup, roster}
+use Rattle.dr_machine.proofs.Presence.{in_first}
+use Rattle.dr_machine.specs.Group.{Group, IsGroup, IsPresent, roster}
 use Rattle.dr_machine.specs.World.{no_value}
 use Rattle.dr_program.specs.Replica.{Replica, begun_replica, first_entries_of, count, greatest, members_in_view}
 use Rattle.dr_program.specs.Running.{begun_running}
@@ -158,9 +159,6 @@ totals_of g s is =
           ∙ sym (ap length (get_or_past g.opening.messages s [] (omega (arith, is.most_members))))
     ]
 
-members_of_roster : (g : Group) (i : ℕ) → IsGroup g → has g.opening.members i ≡ nat_lt i (roster g)
-members_of_roster g i is = ap (λ x. has x i) is.sound.whole ∙ has_ones (roster g) i
-
 -- a product of small numbers is small
 pub product_within : (a n : ℕ) → a ≤ 4096 → n ≤ 16 → a * n ≤ 65536
 product_within a n l h = mul-le-mul l h
@@ -250,11 +248,11 @@ begun_in_form s can =
 
 -- a setup of the group can begin
 setups_can_begin : (g : Group) (limit m : ℕ) (shape : Shape) (told : Setup) → IsGroup g
-    → IsShape g shape → m < roster g → CanBegin (setup_of g limit m shape told)
-setups_can_begin g limit m shape told is of within = record {
+    → IsShape g shape → IsPresent g m → CanBegin (setup_of g limit m shape told)
+setups_can_begin g limit m shape told is of there = record {
   banks = omega (arith, of.banks, of.members);
-  roster = λ i has_i. grind (arith, members_of_roster g i is, of.members, has_i);
-  present = members_of_roster g m is ∙ grind (arith, within);
+  roster = λ i has_i. omega (arith, is.sound.members.within i has_i, of.members);
+  present = in_first g m is there;
   few = λ i. omega (arith, totals_of g i is, is.messages i);
   messages = sym (totals_of g m is);
   short = is.short m;
@@ -264,20 +262,20 @@ setups_can_begin g limit m shape told is of within = record {
 }
 
 -- a member can begin with its setup
-pub can_begin : (g : Group) (limit m : ℕ) (s : Setup) → IsGroup g → IsSetup g limit m s → m
-    < roster g → CanBegin s
-can_begin g limit m s is setup within =
+pub can_begin : (g : Group) (limit m : ℕ) (s : Setup) → IsGroup g → IsSetup g limit m s → CanBegin s
+can_begin g limit m s is setup =
     rw (setup_is g limit m s setup)
-    (setups_can_begin g limit m s.shape s is (shape_is g limit m s setup) within)
+    (setups_can_begin g limit m s.shape s is (shape_is g limit m s setup) setup.present)
 
 begun_form : (g : Group) (limit m : ℕ) (shape : Shape) (told : Setup) → IsGroup g → IsShape g shape
-    → m < roster g → HasForm (begun_replica (setup_of g limit m shape told))
-begun_form g limit m shape told is of within =
-    begun_in_form (setup_of g limit m shape told) (setups_can_begin g limit m shape told is of within)
+    → IsPresent g m → HasForm (begun_replica (setup_of g limit m shape told))
+begun_form g limit m shape told is of there =
+    begun_in_form (setup_of g limit m shape told) (setups_can_begin g limit m shape told is of there)
 
 begun_is_of : (g : Group) (limit m : ℕ) (shape : Shape) (told : Setup) → IsGroup g → IsShape g shape
-    → IsOf g m (begun_replica (setup_of g limit m shape told))
-begun_is_of g limit m shape told is of = record {
+    → IsPresent g m → IsOf g m (begun_replica (setup_of g limit m shape told))
+begun_is_of g limit m shape told is of there = record {
+  present = there;
   number = refl;
   age = refl;
   members = of.members;
@@ -288,9 +286,9 @@ begun_is_of g limit m shape told is of = record {
 }
 
 begun_runs : (g : Group) (limit m : ℕ) (shape : Shape) (told : Setup) → IsGroup g → IsShape g shape
-    → m < roster g → 1 ≤ limit → IsRunningMember (begun_running (setup_of g limit m shape told))
-begun_runs g limit m shape told is of within some = record {
-  replica = begun_form g limit m shape told is of within;
+    → IsPresent g m → 1 ≤ limit → IsRunningMember (begun_running (setup_of g limit m shape told))
+begun_runs g limit m shape told is of there some = record {
+  replica = begun_form g limit m shape told is of there;
   place = record { part = omega arith; row = omega arith; column = omega arith };
   due = λ e. refl;
   free = inl refl;
@@ -301,9 +299,11 @@ begun_runs g limit m shape told is of within some = record {
 
 -- and begins in form
 pub begins_in_form : (g : Group) (limit m : ℕ) (s : Setup) → IsGroup g → 1 ≤ limit
-    → IsSetup g limit m s → m < roster g → IsRunningMember (begun_running s)
+    → IsSetup g limit m s → IsRunningMember (begun_running s)
     × IsOf g m (begun_running s).replica
-begins_in_form g limit m s is some setup within =
+begins_in_form g limit m s is some setup =
     let shape = shape_is g limit m s setup in
-    rw (setup_is g limit m s setup)
-    (begun_runs g limit m s.shape s is shape within some, begun_is_of g limit m s.shape s is shape)
+    rw (setup_is g limit m s setup) (
+      begun_runs g limit m s.shape s is shape setup.present some,
+      begun_is_of g limit m s.shape s is shape setup.present,
+    )

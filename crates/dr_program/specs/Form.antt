@@ -19,7 +19,7 @@ use Rattle.dr_suspect.specs.Suspicion.{IsSuspicion}
 use Rattle.dr_suspect.specs.Waits.{IsWaits}
 use Rattle.dr_program.specs.declared.setup.Setup.{Setup}
 use Rattle.dr_program.specs.Turn.{IsIn, part_of, turn_begins}
-use Rattle.dr_machine.specs.Group.{Group, banks, roster}
+use Rattle.dr_machine.specs.Group.{Group, IsPresent, banks, roster}
 use Rattle.dr_machine.specs.Sending.{IsPut}
 use Rattle.dr_program.specs.Replica.{Replica, me, count, greatest, is_wedged, promise, suspicion_of, members_in_view}
 use Rattle.dr_program.specs.Running.{Running, WaitsAt, members, columns, applies}
@@ -112,8 +112,9 @@ pub record HasForm (r : Replica) : Type 0 where
   pub room : length r.history ≤ r.room
   pub small : r.room < 2 ^ 32
 
--- the replica is that of member m of the group
+-- the replica is that of member m of the group, which is there
 pub record IsOf (g : Group) (m : ℕ) (r : Replica) : Type 0 where
+  pub present : IsPresent g m
   pub number : me r ≡ m
   pub age : r.age ≡ g.opening.age
   pub members : r.roster ≡ roster g

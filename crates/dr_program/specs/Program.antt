@@ -15,7 +15,7 @@ use Rattle.dr_program.specs.declared.outcome.Outcome.TheVariants as outcomes
 use Rattle.dr_program.specs.declared.setup.Setup.{Setup}
 use Rattle.dr_machine.specs.declared.step.Step.{Step}
 use Rattle.dr_machine.specs.declared.step.Step.TheVariants.{Append, LogVote}
-use Rattle.dr_machine.specs.Group.{Group, banks, roster}
+use Rattle.dr_machine.specs.Group.{Group, IsPresent, banks, roster}
 use Rattle.dr_program.specs.Replica.{LeftView, Replica}
 use Rattle.dr_program.specs.Running.{Running, begun_running, next_step, after_step, broken_off}
 use Rattle.dr_program.specs.Steps.{sight, stored}
@@ -95,8 +95,9 @@ ran p es = fold step_of p es
 abbrev pub IsRanFrom : Program → Program → Type 0
 IsRanFrom begun p = (es : List Move) × (p ≡ ran begun es)
 
--- the setup of member m of the group, where members take at most so many turns
+-- the setup of member m of the group, which is there, where members take at most so many turns
 pub record IsSetup (g : Group) (limit m : ℕ) (s : Setup) : Type 0 where
+  pub present : IsPresent g m
   pub members : s.shape.members ≡ roster g
   pub window : s.shape.window ≡ g.window
   pub banks : s.shape.banks ≡ banks g

@@ -21,7 +21,6 @@ use Rattle.dr_program.specs.declared.setup.CrashPoint.{CrashPoint}
 use Rattle.dr_program.specs.declared.setup.Setup.{Setup}
 use Rattle.dr_machine.specs.Group.{Group, IsGroup, IsPresent, roster}
 use Rattle.dr_machine.specs.World.{World, opening_world}
-use Rattle.dr_machine.proofs.Presence.{is_present}
 use Rattle.dr_program.specs.Running.{Running}
 use Rattle.dr_program.specs.Program.{Program, AllEnded, AreSetups, IsRanFrom, begun_program, end_of}
 use Rattle.dr_program.specs.Net.{IsRanOverNet}
@@ -66,7 +65,7 @@ within : (g : Group) (p : Program) (m : ℕ) (r : Running) → IsThere g p m r �
 within g p m r is = omega (arith, slice_get_within p.members m r is.there, is.program.all)
 
 there_is : (g : Group) (p : Program) (m : ℕ) (r : Running) → IsThere g p m r → IsPresent g m
-there_is g p m r is = is_present g m is.group (within g p m r is)
+there_is g p m r is = (is.program.of m r is.there).present
 
 -- another one
 beside : (g : Group) (p : Program) (m : ℕ) (r : Running) (i : ℕ) (q : Running) → IsThere g p m r
@@ -423,6 +422,7 @@ has_reason g p limit points m r is all ended v = by r.replica.end refl ended v.p
       turns = so.1;
       uncrashed = so.2;
     }))
+    by (Some ends.Absent) e t so = absurd so
 
 has_ended : (g : Group) (p : Program) (limit : ℕ) (points : List CrashPoint) (m : ℕ) (r : Running)
     → IsThere g p m r → AllEnded p → IsTrue (is_some r.replica.end) → Stands limit points r

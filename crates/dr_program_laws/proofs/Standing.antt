@@ -118,6 +118,7 @@ IsProper limit points turns (Some (ends.LogFull len)) = ⊤
 IsProper limit points turns (Some (ends.Suspected by)) = ⊤
 IsProper limit points turns (Some (ends.NoMajority mask)) = ⊤
 IsProper limit points turns (Some (ends.Excluded view)) = ⊤
+IsProper limit points turns (Some ends.Absent) = ⊥
 
 -- a member with these crash points, which takes at most so many turns, stands so: it is not past a crash,
 -- ahead of it where it comes

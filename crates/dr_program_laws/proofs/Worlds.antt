@@ -8,7 +8,7 @@ use Rattle.dr_entry.specs.declared.end.MemberEnd.{MemberEnd}
 use Rattle.dr_history.specs.History.{sent_of}
 use Rattle.dr_history.specs.Agreement.{EndsAgreed, accounts_of}
 use Rattle.dr_history_laws.proofs.Lists.{slice_get-some}
-use Rattle.dr_machine.specs.Group.{Group, IsGroup, roster}
+use Rattle.dr_machine.specs.Group.{Group, IsGroup, IsPresent, roster}
 use Rattle.dr_machine.specs.World.{opening_world}
 use Rattle.dr_program.specs.Replica.{Replica}
 use Rattle.dr_program.specs.Running.{Running}
@@ -56,6 +56,15 @@ world_sent g p program = fun_ext λ m. fun_ext λ v. by m v (slice_get p.members
       slice_get-map end_of p.members m,
       e,
     ) (sent_there r.replica v (program.form m r e).replica.left)
+
+-- ---- who is there
+
+-- a program has a member for each number of the roster, and each of them is there
+pub all_there : (g : Group) (p : Program) (m : ℕ) → IsProgram g p → m < roster g → IsPresent g m
+all_there g p m program l = by (slice_get-some p.members m (omega (arith, l, program.all)))
+  where
+    by : (r : Running) × (slice_get p.members m ≡ Some r) → IsPresent g m
+    by (r, there) = (program.of m r there).present
 
 -- ---- what else they have done
 

@@ -4,13 +4,13 @@ use Rattle.std.specs.Prelude.{IfErr}
 use Rattle.dr_entry.specs.declared.entry.Entry.{Entry}
 use Rattle.dr_entry.specs.declared.entry.Entry.TheVariants.{View}
 use Rattle.dr_history.specs.declared.opening.Opening.{Opening}
+use Rattle.dr_history.specs.Restarting.{AllStand}
 use Rattle.dr_history.specs.Soundness.{whole_roster}
+use Rattle.dr_history_laws.proofs.Views.{ViewsRise-standing}
 use Rattle.dr_restart.specs.declared.start.Start.{Start}
 use Rattle.dr_restart.specs.Choosing.{AreFirst, AreOfHolders, AreOfNobody, AreOnHolder, Handed, IsAgeAfter, IsChosenStart, IsLastAge, handed_of}
-use Rattle.dr_restart.specs.OnLogs.{AllStandOnLog, Messages}
 use Rattle.dr_restart.specs.Refusing.{AreEnough, AreHoldersAlong, HasPath, HaveNothingForeign, IsHeldBy}
 use Rattle.dr_quorum_laws.proofs.Lists.{prefix-in}
-use Rattle.dr_quorum_laws.proofs.OnLogs.{rise-on_log}
 use Rattle.dr_quorum_laws.proofs.Refusals.{no-last, one-last, one-view}
 use Rattle.dr_quorum.specs.declared.faults.ChooseFault.{ChooseFault}
 use Rattle.dr_quorum.specs.declared.faults.ChooseFault.TheVariants.{OutOfMemory}
@@ -19,16 +19,16 @@ use Rattle.dr_quorum.proofs.Along.{front_of}
 
 -- all that a holder has may stand
 pub holder_stands : (o : Opening) (h : Handed) (age : ℕ) (es : List Entry) → HaveNothingForeign o h
-    → AreOnHolder h age es → AllStandOnLog o.messages es
+    → AreOnHolder h age es → AllStand o es
 holder_stands o h age es sound (m, log, at, ends, e) =
-    subst (AllStandOnLog o.messages) (sym e) (sound m log at)
+    subst (AllStand o) (sym e) (sound m log at)
 
 -- where the path holds of one View 0 of the age on these entries, it holds of each
-pub path_of_all : (messages : Messages) (h : Handed) (age first : ℕ) (es : List Entry)
-    → AllStandOnLog messages es → Contains es (View age 0 first) → HasPath (length messages) h age first
-    → (other : ℕ) → Contains es (View age 0 other) → HasPath (length messages) h age other
-path_of_all messages h age first es stand c path other d =
-    subst (HasPath (length messages) h age) (one-view es age 0 first other (rise-on_log messages es stand) c d) path
+pub path_of_all : (o : Opening) (h : Handed) (age first : ℕ) (es : List Entry)
+    → AllStand o es → Contains es (View age 0 first) → HasPath (length o.messages) h age first
+    → (other : ℕ) → Contains es (View age 0 other) → HasPath (length o.messages) h age other
+path_of_all o h age first es stand c path other d =
+    subst (HasPath (length o.messages) h age) (one-view es age 0 first other (ViewsRise-standing o es stand) c d) path
 
 -- the longest entries of a holder are chosen
 pub of_holders : (o : Opening) (h : Handed) (age : ℕ) (es : List Entry) → IsLastAge h age

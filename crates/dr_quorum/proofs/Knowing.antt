@@ -8,7 +8,7 @@ use Rattle.dr_entry.specs.declared.entry.Entry.{Entry}
 use Rattle.dr_entry.specs.declared.entry.Entry.TheVariants.{View, Msg}
 use Rattle.dr_entry.specs.declared.record.Vote.{Vote}
 use Rattle.dr_history.specs.History.{GroupView, view_of}
-use Rattle.dr_restart.specs.declared.lists.AgeVote.{AgeVote}
+use Rattle.dr_entry.specs.declared.record.AgeVote.{AgeVote}
 use Rattle.dr_restart.specs.declared.lists.LogLists.{LogLists}
 use Rattle.dr_restart.specs.Choosing.{EndsInAge, Handed, HasAge, IsAgeAfter, IsLastAge}
 use Rattle.dr_quorum.specs.Handing.{handed_by}

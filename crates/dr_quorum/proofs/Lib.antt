@@ -1,4 +1,4 @@
-mod Along
+pub mod Along
 mod Choices
 mod Exact
 mod Firsts
@@ -7,7 +7,7 @@ mod Knowing
 mod Masks
 mod Options
 mod Paths
-mod Stands
+pub mod Stands
 mod Valid
 mod Votes
 mod Walks

@@ -8,7 +8,8 @@ use Rattle.dr_entry.specs.declared.entry.Entry.{Entry}
 use Rattle.dr_entry.specs.declared.entry.Entry.TheVariants.{Msg}
 use Rattle.dr_history.specs.History.{GroupView, view_after}
 use Rattle.dr_history.specs.Order.{messages_from}
-use Rattle.dr_restart.specs.OnLogs.{MayStandOnLog}
+use Rattle.dr_history.specs.Soundness.{MayStand}
+use Rattle.dr_restart.specs.Groups.{first_group_of}
 use Rattle.dr_restart.proofs.Groups.{few_at}
 use Rattle.dr_script.specs.declared.script.Script.{Script}
 use Rattle.dr_script.specs.Ranges.{HasGroupRanges}
@@ -42,7 +43,7 @@ pub next_stands : (script : Script) (read : List Entry) (view : Option GroupView
     (s i : ℕ) (b : List ℕ) (r : Bool) → HasGroupRanges script → IsRead read view counts
     → Decides r (IsSomeAnd view (λ v. Contains v.members s) × (i ≡ get_or counts s 0)
     × (slice_get (get_or script.messages s []) i ≡ Some b))
-    → Decides r (MayStandOnLog script.messages read (Msg s i b))
+    → Decides r (MayStand (first_group_of script).opening read (Msg s i b))
 next_stands script read view counts s i b r ranges is decides = (
   λ t. let p = decides.0 t in (
     subst (λ o. IsSomeAnd o (λ v. Contains v.members s)) is.in_view p.0,

@@ -4,9 +4,9 @@ ghost use Rattle.dr_restart.specs.Choosing.{EndsInAge, HasAge, IsAgeAfter, IsLas
 ghost use Rattle.dr_quorum.specs.Handing.{handed_by};
 ghost use Rattle.dr_quorum.specs.Knowing.{HasAgeVoteOf, HasViewOfAge, HasVoteOfAge, HaveNoView, IsGreatestAge, OfLog, OfSomeLog, age_of_view, later_age};
 
-use dr_entry::{Entry, Vote};
+use dr_entry::{AgeVote, Entry, Vote};
 use dr_history::view_of;
-use dr_restart::{AgeVote, LogLists};
+use dr_restart::LogLists;
 
 /// The greater one of two ages, or the only one.
 fn later(one: Option<u16>, other: Option<u16>) -> Option<u16>

@@ -19,7 +19,7 @@ fn is_same(one: &Entry, other: &Entry) -> bool
 }
 
 /// The first place at which two lists both have an entry, and differ.
-fn first_difference(one: &[Entry], other: &[Entry]) -> Option<usize>
+pub fn first_difference(one: &[Entry], other: &[Entry]) -> Option<usize>
     ensures none { IfNone result (AreAlong one.now other.now) }
     ensures some { IfSome result (DifferAt one.now other.now) }
 {

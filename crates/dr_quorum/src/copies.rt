@@ -9,7 +9,7 @@ use std::alloc::{AllocError, Global};
 /// # Errors
 ///
 /// Want of memory alone.
-pub(crate) fn copy_of(alloc: Global, entries: &[Entry]) -> Result<Seq<Entry>, AllocError>
+pub fn copy_of(alloc: Global, entries: &[Entry]) -> Result<Seq<Entry>, AllocError>
     ensures { IfOk result (λ copy. copy ≡ entries.now) }
 {
     let mut copy = Vec::with_capacity(alloc, entries.len())?;

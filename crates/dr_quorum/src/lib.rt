@@ -14,5 +14,8 @@ mod reading;
 mod standing;
 
 pub use choosing::choose;
+pub use comparing::first_difference;
+pub use copies::copy_of;
 pub use faults::ChooseFault;
 pub use laws::chosen_entries_are_valid;
+pub use reading::first_foreign;

@@ -4,7 +4,8 @@ ghost use Rattle.std.specs.Option.{option_map_or};
 ghost use Rattle.dr_entry.specs.declared.entry.Entry.TheVariants.{View};
 ghost use Rattle.dr_entry.specs.declared.record.Vote.{Vote as VoteOf};
 ghost use Rattle.dr_restart.specs.Choosing.{highest, names_next, next_on_path, next_votes};
-ghost use Rattle.dr_restart.specs.OnLogs.{AllStandOnLog};
+ghost use Rattle.dr_history.specs.Restarting.{AllStand};
+ghost use Rattle.dr_restart.specs.Groups.{first_group_of};
 ghost use Rattle.dr_restart.specs.Refusing.{HasPath, LacksPath};
 ghost use Rattle.dr_script.specs.Ranges.{HasGroupRanges};
 ghost use Rattle.dr_quorum.specs.Ballots.{better};
@@ -179,7 +180,7 @@ pub(crate) fn find_short_view(
     entries: &[Entry],
 ) -> Option<(u8, u8, u8)>
     requires ranges { HasGroupRanges script.now }
-    requires stand { AllStandOnLog script.now.messages entries.now }
+    requires stand { AllStand (first_group_of script.now).opening entries.now }
     ensures none { IfNone result ((first : ℕ) → Contains entries.now (View age 0 first)
         → HasPath (length script.now.messages) (handed_by lists.now) age first) }
     ensures some { IfSome result (λ x. (first : ℕ) × Contains entries.now (View age 0 first)

@@ -1,8 +1,9 @@
 //! Reads a log's entries, up to the first that may not stand.
 ghost use Rattle.std.specs.Prelude.{◌≡◌, ◌<◌, ◌+◌, ◌↔◌, IsTrue, IfSome, IfNone, length, slice_get, take, Some};
 ghost use Rattle.dr_entry.specs.declared.entry.Entry.{Entry as EntryOf};
-ghost use Rattle.dr_restart.specs.OnLogs.{AllStandOnLog, MayStandOnLog};
-ghost use Rattle.dr_restart.specs.Refusing.{IsForeignOnLog};
+ghost use Rattle.dr_history.specs.Restarting.{AllStand, IsForeignAt};
+ghost use Rattle.dr_history.specs.Soundness.{MayStand};
+ghost use Rattle.dr_restart.specs.Groups.{first_group_of};
 ghost use Rattle.dr_script.specs.Ranges.{HasGroupRanges};
 ghost use Rattle.dr_quorum.specs.Reading.{IsRead};
 
@@ -23,7 +24,7 @@ fn may_stand(
     requires at { at < length entries.now }
     requires read { IsRead (take at entries.now) view.now counts.now }
     ensures { (e : EntryOf) → slice_get entries.now at ≡ Some e
-        → IsTrue result ↔ MayStandOnLog script.now.messages (take at entries.now) e }
+        → IsTrue result ↔ MayStand (first_group_of script.now).opening (take at entries.now) e }
 {
     match &entries[at] {
         Entry::View {
@@ -54,7 +55,7 @@ fn note(
     requires at { at < length entries.now }
     requires read { IsRead (take at entries.now) view.old counts.old }
     requires stands { (e : EntryOf) → slice_get entries.now at ≡ Some e
-        → MayStandOnLog script.now.messages (take at entries.now) e }
+        → MayStand (first_group_of script.now).opening (take at entries.now) e }
     ensures { IsRead (take (at + 1) entries.now) view.new counts.new }
 {
     match &entries[at] {
@@ -68,10 +69,10 @@ fn note(
 }
 
 /// The first entry that may not stand behind those before it.
-pub(crate) fn first_foreign(script: &Script, entries: &[Entry]) -> Option<usize>
+pub fn first_foreign(script: &Script, entries: &[Entry]) -> Option<usize>
     requires { HasGroupRanges script.now }
-    ensures none { IfNone result (AllStandOnLog script.now.messages entries.now) }
-    ensures some { IfSome result (IsForeignOnLog script.now.messages entries.now) }
+    ensures none { IfNone result (AllStand (first_group_of script.now).opening entries.now) }
+    ensures some { IfSome result (IsForeignAt (first_group_of script.now).opening entries.now) }
 {
     let mut view = None;
     let mut counts = [0; MAX_MEMBERS];

@@ -1,7 +1,7 @@
 //! Whether an entry may stand on a log behind those before it.
 ghost use Rattle.std.specs.Prelude.{◌≡◌, ◌≢◌, ◌↔◌, IsTrue, IsSomeAnd, Contains, Some, length, slice_get, slice_index_or, []};
 ghost use Rattle.dr_history.specs.Members.{members_of};
-ghost use Rattle.dr_restart.specs.OnLogs.{AreOfRoster, ContinuesAge, OpensAge};
+ghost use Rattle.dr_history.specs.Soundness.{AreOfRoster, ContinuesAge, Opens};
 ghost use Rattle.dr_script.specs.Ranges.{HasGroupRanges};
 
 use dr_entry::{MAX_MEMBERS, Message};
@@ -19,7 +19,7 @@ pub(crate) fn is_of_roster(script: &Script, members: u16) -> bool
 
 /// Whether a View may open an age behind a view.
 pub(crate) fn opens(view: &Option<GroupView>, age: u16, number: u8) -> bool
-    ensures { IsTrue result ↔ OpensAge view.now age number }
+    ensures { IsTrue result ↔ Opens view.now age number }
 {
     if number != 0 {
         return false;

@@ -1,21 +1,23 @@
 -- Where no log is missing, all may stand, and of any two one is a front of the other, they are refused only
 -- where one knows the last age.
-use Rattle.std.proofs.Common.{◌≡◌, ◌≢◌, refl, ap, sym, ◌∙◌, subst, ℕ, zero, suc, ◌^◌, ◌<◌, ◌≤◌, ◌&&◌, not, nat_lt, arith, Bool, true, false, List, [], ◌∷◌, filter, length, Contains, Option, None, Some, is_some, slice_get, if◌then◌else◌, option_and_then, option_map}
+use Rattle.std.proofs.Common.{◌≡◌, ◌≢◌, refl, ap, sym, ◌∙◌, ◌⊎◌, inl, inr, subst, ℕ, zero, suc, ◌*◌, ◌-◌, ◌^◌, ◌<◌, ◌≤◌, ◌==◌, ◌&&◌, not, nat_lt, arith, Bool, true, false, List, [], ◌∷◌, filter, length, Contains, Option, None, Some, is_some, slice_get, if◌then◌else◌, option_and_then, option_map}
 use Rattle.std.specs.Option.{option_map_or}
-use Rattle.std.proofs.lemmas.Option.{none-some, same_Some}
+use Rattle.std.proofs.lemmas.Option.{none-some, same_Some, slice_get_within}
 use Rattle.dr_entry.specs.declared.entry.Entry.{Entry}
 use Rattle.dr_entry.specs.declared.entry.Entry.TheVariants.{View}
 use Rattle.dr_entry.specs.declared.record.Vote.{Vote}
 use Rattle.dr_history.specs.declared.opening.Opening.{Opening}
 use Rattle.dr_history.specs.Members.{has, members_of}
-use Rattle.dr_history.specs.Restarting.{AreAllAlong}
-use Rattle.dr_history.specs.Soundness.{whole_roster}
+use Rattle.dr_history.specs.Restarting.{AllStand, AreAllAlong}
+use Rattle.dr_history.specs.Soundness.{AreOfRoster, whole_roster}
 use Rattle.dr_history_laws.proofs.Differing.{differ_not_along}
 use Rattle.dr_history_laws.proofs.Lists.{slice_get-some}
+use Rattle.dr_history_laws.proofs.Members.{has-member}
+use Rattle.std.proofs.lemmas.Bool.{cases_lt}
+use Rattle.std.proofs.lemmas.Nat.Bits.{bit_at_above}
 use Rattle.dr_restart.specs.declared.lists.LogLists.{LogLists}
 use Rattle.dr_restart.specs.Choosing.{AreFirst, Handed, HasQuorum, handed_of, highest, names_next, next_on_path, next_votes, of_set, on_path}
 use Rattle.dr_restart.specs.Left.{entries_on_logs}
-use Rattle.dr_restart.specs.OnLogs.{AllStandOnLog, AreOfRoster}
 use Rattle.dr_restart.specs.Refusing.{HaveNothingForeign, IsRefusedFor, Refusal}
 use Rattle.dr_restart.specs.Refusing.Refusal.{AgesUsedUp, Disagree, Foreign, NoQuorum}
 use Rattle.dr_restart.proofs.Listed.{listed}
@@ -24,10 +26,31 @@ use Rattle.dr_words.proofs.Masks.{has_mask_of, has_without_mask, mask_of_small, 
 use Rattle.dr_words.specs.Masks.{mask_of, without}
 use Rattle.dr_quorum_laws.proofs.Handing.{log-of_set, set-log}
 use Rattle.dr_quorum_laws.proofs.Lists.{filter-in, flat_map-in, highest-in, in-nothing, read-in}
-use Rattle.dr_quorum_laws.proofs.OnLogs.{above-whole, in-list}
 use Rattle.dr_quorum_laws.proofs.Refusals.{foreign-no, lacks-no}
 
 -- ---- masks of some members of the roster
+
+-- of a mask of 16 bits each member is in the list
+in-list : (mask s : ℕ) → mask < 2 ^ 16 → has mask s ≡ true → Contains (members_of mask) s
+in-list mask s small h = has-member mask s h (by (cases_lt s 16))
+  where
+    by : (s < 16) ⊎ (16 ≤ s) → s < 16
+    by (inl l) = l
+    by (inr l) = absurd (grind (arith, h, bit_at_above mask 16 s small l))
+
+-- which has somebody
+above-whole : (n : ℕ) → 1 ≤ n → 0 < 2 ^ n - 1
+above-whole n some = by (2 ^ n - 1) refl
+  where
+    first : has (2 ^ n - 1) 0 ≡ true
+    first = has_ones n 0 ∙ grind (arith, some)
+
+    by : (k : ℕ) → 2 ^ n - 1 ≡ k → 0 < 2 ^ n - 1
+    by zero e = absurd (none (ap (λ mask. has mask 0) (sym e) ∙ first))
+      where
+        none : has 0 0 ≡ true → ⊥
+        none h = absurd (cc h)
+    by (suc k) e = omega (arith, e)
 
 -- a mask with members below 16 alone has 16 bits
 small-mask : (n mask : ℕ) → n ≤ 16 → ((m : ℕ) → has mask m ≡ true → m < n) → mask < 2 ^ 16
@@ -143,7 +166,7 @@ some_is o log e = ap is_some e
 pub all-pass : (o : Opening) (logs : List LogLists) (set : ℕ) (why : Refusal) → 1 ≤ length o.messages
     → length o.messages ≤ 16 → length logs ≡ length o.messages
     → ((m : ℕ) → m < length logs → has set m ≡ true)
-    → ((m : ℕ) (log : LogLists) → slice_get logs m ≡ Some log → AllStandOnLog o.messages log.entries)
+    → ((m : ℕ) (log : LogLists) → slice_get logs m ≡ Some log → AllStand o log.entries)
     → AreAllAlong (entries_on_logs logs) → IsRefusedFor o (of_set logs set) why → why ≡ AgesUsedUp
 all-pass o logs set why least most long all stand along = by why
   where

@@ -1,15 +1,16 @@
 -- What logs make goes by the messages of an opening alone.
-use Rattle.std.proofs.Common.{◌≡◌, ◌⊎◌, inl, inr, subst, List, None, Some}
+use Rattle.std.proofs.Common.{◌≡◌, refl, ◌⊎◌, inl, inr, subst, ℕ, List, take, None, Some}
 use Rattle.dr_entry.specs.declared.entry.Entry.{Entry}
 use Rattle.dr_history.specs.declared.opening.Opening.{Opening}
+use Rattle.dr_history.specs.Restarting.{AllStand, IsForeignAt}
+use Rattle.dr_history_laws.proofs.Standing.{stands-by}
 use Rattle.dr_restart.specs.declared.start.Start.{Start}
 use Rattle.dr_restart.specs.Choosing.{AreOfHolders, AreOfNobody, Handed, IsChosenStart}
-use Rattle.dr_restart.specs.OnLogs.{Messages}
-use Rattle.dr_restart.specs.Refusing.{IsRefusedFor, Refusal}
+use Rattle.dr_restart.specs.Refusing.{HaveNothingForeign, IsRefusedFor, Refusal}
 use Rattle.dr_restart.specs.Refusing.Refusal.{AgesUsedUp, Disagree, Foreign, NoQuorum}
 
 -- an opening with the messages of another
-abbrev with_messages : Opening → Messages → Opening
+abbrev with_messages : Opening → List (List (List ℕ)) → Opening
 with_messages o messages = record o { messages = messages }
 
 held-so : (o p : Opening) (h : Handed) (es : List Entry) → AreOfHolders (with_messages o p.messages) h es
@@ -23,10 +24,17 @@ held-so o p h es x = record {
   longest = x.longest;
 }
 
+stand-so : (o p : Opening) (es : List Entry) → AllStand (with_messages o p.messages) es → AllStand p es
+stand-so o p es all i e at = stands-by (with_messages o p.messages) p (take i es) e refl (all i e at)
+
+sound-so : (o p : Opening) (h : Handed) → HaveNothingForeign (with_messages o p.messages) h
+    → HaveNothingForeign p h
+sound-so o p h sound m log at = stand-so o p log.entries (sound m log at)
+
 start-so : (o p : Opening) (h : Handed) (start : Start) → IsChosenStart (with_messages o p.messages) h start
     → IsChosenStart p h start
 start-so o p h start c = record {
-  sound = c.sound;
+  sound = sound-so o p h c.sound;
   quorum = c.quorum;
   entries = by c.entries;
   age = c.age;
@@ -45,14 +53,28 @@ pub start-by-messages : (o p : Opening) (h : Handed) (start : Start) → o.messa
 start-by-messages o p h start same c =
     start-so o p h start (subst (λ messages. IsChosenStart (with_messages o messages) h start) same c)
 
+foreign-so : (o p : Opening) (es : List Entry) (place : ℕ) → IsForeignAt (with_messages o p.messages) es place
+    → IsForeignAt p es place
+foreign-so o p es place x = record {
+  before = λ i e l at. stands-by (with_messages o p.messages) p (take i es) e refl (x.before i e l at);
+  entry = x.entry;
+  here = x.here;
+  foreign = λ stands. x.foreign (stands-by p (with_messages o p.messages) (take place es) x.entry refl stands);
+}
+
 refused-so : (o p : Opening) (h : Handed) (why : Refusal) → IsRefusedFor (with_messages o p.messages) h why
     → IsRefusedFor p h why
-refused-so o p h (Foreign m place) x =
-    record { before = x.before; log = x.log; here = x.here; foreign = x.foreign }
-refused-so o p h (NoQuorum None have need) x = x
-refused-so o p h (NoQuorum (Some v) have need) x = x
-refused-so o p h (Disagree a b place) x = x
-refused-so o p h AgesUsedUp x = x
+refused-so o p h (Foreign m place) x = record {
+  before = λ k log l at. stand-so o p log.entries (x.before k log l at);
+  log = x.log;
+  here = x.here;
+  foreign = foreign-so o p x.log.entries place x.foreign;
+}
+refused-so o p h (NoQuorum None have need) x = (sound-so o p h x.0, x.1)
+refused-so o p h (NoQuorum (Some v) have need) x =
+    ((sound-so o p h x.0.0, x.0.1), x.1, x.2, x.3, x.4, x.5, x.6)
+refused-so o p h (Disagree a b place) x = ((sound-so o p h x.0.0, x.0.1), x.1, x.2, x.3)
+refused-so o p h AgesUsedUp x = ((sound-so o p h x.0.0, x.0.1), x.1, x.2, x.3, x.4, x.5)
 
 pub refused-by-messages : (o p : Opening) (h : Handed) (why : Refusal) → o.messages ≡ p.messages
     → IsRefusedFor o h why → IsRefusedFor p h why

@@ -43,10 +43,10 @@ ends_late g w choice logs tries set start s c i log there handed =
     let first = first-in g log.entries
     (first-there g w choice logs tries s i log there (set-log logs set i log handed).1) in
     let stand = c.sound i log handed in
-    let t = view-come g.opening.messages log.entries g.opening.age 0 g.opening.members stand first in (
+    let t = view-come g.opening log.entries g.opening.age 0 g.opening.members stand first in (
       t.0.age,
       (t.0, t.1, refl),
-      view-late g.opening.messages log.entries g.opening.age 0 g.opening.members t.0 stand first t.1,
+      view-late g.opening log.entries g.opening.age 0 g.opening.members t.0 stand first t.1,
     )
 
 -- no View of the longest history is of a later age

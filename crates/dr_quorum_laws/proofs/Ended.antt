@@ -13,13 +13,13 @@ use Rattle.dr_history.specs.Restarting.{AllStand}
 use Rattle.dr_history_laws.proofs.Keeping.{prefix_shorter, prefix_then}
 use Rattle.dr_history_laws.proofs.Lists.{take-prefix}
 use Rattle.dr_history_laws.proofs.Standing.{history-stands}
-use Rattle.dr_machine.proofs.Presence.{in_roster, is_present}
+use Rattle.dr_machine.proofs.Presence.{in_roster, is_there}
 use Rattle.dr_machine.specs.Group.{Group, IsGroup, IsPresent, roster}
 use Rattle.dr_machine.proofs.Runs.{is_before, is_last}
 use Rattle.dr_machine.specs.Run.{Way, WorldAgreed, accounts_in}
 use Rattle.dr_machine.specs.World.{World, opening_world}
 use Rattle.dr_history.specs.Agreement.{sent_by}
-use Rattle.dr_world_laws.proofs.ChosenViews.{views-first, views-within}
+use Rattle.dr_world_laws.proofs.ChosenViews.{views-first, views-of-first}
 use Rattle.dr_world_laws.proofs.HeldViews.{view-held, view-is}
 use Rattle.dr_world_laws.proofs.Rooms.{view-below}
 use Rattle.dr_world_laws.proofs.Telling.{has-view}
@@ -177,7 +177,7 @@ durable-front g w history m is y longest there l =
 -- the members of a view are there
 pub view-present : (g : Group) (w : World) (v members i : ℕ) → IsGroup g → Known g w → HasView g w v members
     → has members i ≡ true → IsPresent g i
-view-present g w v members i is y h there = is_present g i is (views-within g y.values v i is
+view-present g w v members i is y h there = is_there g i is (views-of-first g y.values v i is
     (subst (λ mask. has mask i ≡ true) (sym (view-is g y.values w v members is y.chosen h)) there))
 
 pub first-view : (g : Group) (w : World) (members : ℕ) → IsGroup g → Known g w → HasView g w 0 members

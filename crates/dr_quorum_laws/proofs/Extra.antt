@@ -1,5 +1,5 @@
 -- Votes with those that members may have begun to log before they ended: they still have one value.
-use Rattle.std.proofs.Common.{◌≡◌, sym, ◌⊎◌, inl, inr, subst, ℕ, ◌≤◌}
+use Rattle.std.proofs.Common.{◌≡◌, refl, sym, ◌⊎◌, inl, inr, subst, ℕ, ◌≤◌}
 use Rattle.std.proofs.lemmas.Option.{none-some}
 use Rattle.dr_entry.specs.declared.record.Value.{Value}
 use Rattle.dr_entry.specs.declared.record.Vote.{Vote}
@@ -66,6 +66,12 @@ endless-known g values w y = record {
   voting = y.voting;
   ballots = y.ballots;
   wedged = y.wedged;
+  away = λ m none. let t = y.away m none in record {
+    view = t.view;
+    next = t.next;
+    suspects = t.suspects;
+    end = refl;
+  };
 }
 
 -- the world in which a member has logged a vote that it may log

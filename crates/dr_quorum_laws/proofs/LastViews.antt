@@ -7,13 +7,12 @@ use Rattle.dr_entry.specs.declared.entry.Entry.TheVariants.{View, Msg}
 use Rattle.dr_history.specs.declared.opening.Opening.{Opening}
 use Rattle.dr_history.specs.History.{GroupView, view_after, view_of}
 use Rattle.dr_history.specs.Members.{members_of}
+use Rattle.dr_history.specs.Restarting.{AllStand}
 use Rattle.dr_history.specs.Soundness.{Sound}
 use Rattle.dr_history.proofs.ViewLemmas.{view_of-View}
 use Rattle.dr_history_laws.proofs.Lists.{take-next}
 use Rattle.dr_history_laws.proofs.Views.{HasCome, ViewsRise, ViewsRise-standing, view-after}
-use Rattle.dr_restart.specs.OnLogs.{AllStandOnLog, Messages}
 use Rattle.dr_quorum_laws.proofs.Lists.{in-head, in-tail}
-use Rattle.dr_quorum_laws.proofs.OnLogs.{rise-on_log}
 
 -- the view of a list is that of a View on it, or was there before
 last_from : (u : Option GroupView) (es : List Entry) (v : GroupView) → view_after u es ≡ Some v
@@ -70,15 +69,15 @@ risen-come es a n m rise c = (
         (ap view_of (take-next es c.0 (View a n m) at) ∙ view_of-View (take c.0 es) a n m)
 
 -- so it is where all entries may stand
-pub view-come : (messages : Messages) (es : List Entry) (a n m : ℕ) → AllStandOnLog messages es
+pub view-come : (o : Opening) (es : List Entry) (a n m : ℕ) → AllStand o es
     → Contains es (View a n m) → (v : GroupView) × (view_of es ≡ Some v) × HasCome a n v
-view-come messages es a n m stand = risen-come es a n m (rise-on_log messages es stand)
+view-come o es a n m stand = risen-come es a n m (ViewsRise-standing o es stand)
 
 -- and its age is no less
-pub view-late : (messages : Messages) (es : List Entry) (a n m : ℕ) (v : GroupView) → AllStandOnLog messages es
+pub view-late : (o : Opening) (es : List Entry) (a n m : ℕ) (v : GroupView) → AllStand o es
     → Contains es (View a n m) → view_of es ≡ Some v → a ≤ v.age
-view-late messages es a n m v stand c e =
-    let t = view-come messages es a n m stand c in
+view-late o es a n m v stand c e =
+    let t = view-come o es a n m stand c in
     let same : t.0 ≡ v = same_Some t.0 v (sym t.1 ∙ e) in
     by (subst (HasCome a n) same t.2)
   where

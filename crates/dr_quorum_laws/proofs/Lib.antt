@@ -11,7 +11,6 @@ mod LastViews
 pub mod Lists
 mod Longest
 mod Missing
-pub mod OnLogs
 mod OneValue
 mod Paths
 pub mod Refusals

@@ -6,14 +6,13 @@ use Rattle.dr_entry.specs.declared.entry.Entry.TheVariants.{View, Msg}
 use Rattle.dr_history.specs.declared.opening.Opening.{Opening}
 use Rattle.dr_history.specs.History.{GroupView, IsPrefixOf, view_after, view_of}
 use Rattle.dr_history.specs.Members.{has, members_of}
-use Rattle.dr_history.specs.Restarting.{AreAllAlong, AreAlong, IsLongest}
+use Rattle.dr_history.specs.Restarting.{AllStand, AreAllAlong, AreAlong, IsLongest}
 use Rattle.dr_history.specs.Soundness.{whole_roster}
 use Rattle.dr_history_laws.proofs.Keeping.{prefix_shorter}
 use Rattle.dr_restart.specs.declared.lists.LogLists.{LogLists}
 use Rattle.dr_restart.specs.declared.start.Start.{Start}
 use Rattle.dr_restart.specs.Choosing.{AreOfHolders, AreOfNobody, EndsInAge, IsChosenStart, of_set}
 use Rattle.dr_restart.specs.Left.{entries_on_logs}
-use Rattle.dr_restart.specs.OnLogs.{AllStandOnLog, Messages}
 use Rattle.dr_restart.proofs.Listed.{listed, log-listed}
 use Rattle.dr_quorum_laws.proofs.Handing.{log-of_set, quorum-some, set-log}
 use Rattle.dr_quorum_laws.proofs.LastViews.{last-view, view-come, view-late}
@@ -36,22 +35,22 @@ unfolding view_after
 no_view = refl
 
 -- a log without a View has nothing
-nothing-without : (messages : Messages) (es : List Entry) → AllStandOnLog messages es → view_of es ≡ None → es ≡ []
-nothing-without messages [] stand e = refl
-nothing-without messages (View a n m ∷ es) stand e = absurd (first-view a n m es e)
-nothing-without messages (Msg s i b ∷ es) stand e = absurd (subst (λ z. IsSomeAnd z (λ v. Contains v.members s))
+nothing-without : (o : Opening) (es : List Entry) → AllStand o es → view_of es ≡ None → es ≡ []
+nothing-without o [] stand e = refl
+nothing-without o (View a n m ∷ es) stand e = absurd (first-view a n m es e)
+nothing-without o (Msg s i b ∷ es) stand e = absurd (subst (λ z. IsSomeAnd z (λ v. Contains v.members s))
     (ap view_of (take_at [] (Msg s i b ∷ es) 0 refl) ∙ no_view) (stand 0 (Msg s i b) refl).0)
 
 -- ---- the longest
 
 -- what goes on from a list ends in a view that is no earlier
-ends-later : (messages : Messages) (f g : List Entry) (v : GroupView) → AllStandOnLog messages g
+ends-later : (o : Opening) (f g : List Entry) (v : GroupView) → AllStand o g
     → IsPrefixOf f g → view_of f ≡ Some v → (u : GroupView) × (view_of g ≡ Some u) × (v.age ≤ u.age)
-ends-later messages f g v stand p e =
+ends-later o f g v stand p e =
     let last = last-view f v e in
     let c : Contains g (View v.age v.number last.0) = prefix-in f g (View v.age v.number last.0) p last.1 in
-    let t = view-come messages g v.age v.number last.0 stand c in
-    (t.0, t.1, view-late messages g v.age v.number last.0 t.0 stand c t.1)
+    let t = view-come o g v.age v.number last.0 stand c in
+    (t.0, t.1, view-late o g v.age v.number last.0 t.0 stand c t.1)
 
 pub longest-chosen : (o : Opening) (logs : List LogLists) (set : ℕ) (start : Start)
     → IsChosenStart o (of_set logs set) start → ((m : ℕ) → m < length logs → has set m ≡ true)
@@ -80,7 +79,7 @@ longest-chosen o logs set start c all along = by c.entries
         longer m l at p =
             let t = log-listed logs m l at in
             let here = handed m t.0 t.1 in
-            let u = ends-later o.messages h.held.1.entries t.0.entries h.held.3.0 (c.sound m t.0 here)
+            let u = ends-later o h.held.1.entries t.0.entries h.held.3.0 (c.sound m t.0 here)
             (subst (λ es. IsPrefixOf es t.0.entries) h.held.4 (subst (IsPrefixOf start.entries) (sym t.2) p))
             h.held.3.1 in
             let most = h.last.greatest m u.0.age t.0 here (u.0, u.1, refl) in
@@ -118,7 +117,7 @@ longest-chosen o logs set start c all along = by c.entries
         t = quorum-some (of_set logs set) (whole_roster o) c.quorum
 
         none : (m : ℕ) (log : LogLists) → of_set logs set m ≡ Some log → log.entries ≡ []
-        none m log here = nothing-without o.messages log.entries (c.sound m log here) (n.nobody m log here)
+        none m log here = nothing-without o log.entries (c.sound m log here) (n.nobody m log here)
 
     by : AreOfHolders o (of_set logs set) start.entries ⊎ AreOfNobody (of_set logs set) start.entries
         → IsLongest (entries_on_logs logs) start.entries

@@ -6,8 +6,10 @@ use Rattle.dr_entry.specs.declared.entry.Entry.{Entry}
 use Rattle.dr_entry.specs.declared.record.Vote.{Vote}
 use Rattle.dr_history.specs.declared.opening.Opening.{Opening}
 use Rattle.dr_history.specs.Members.{has}
+use Rattle.dr_history.specs.Restarting.{AllStand}
+use Rattle.dr_history.specs.Soundness.{MayStand, Sound}
 use Rattle.dr_history_laws.proofs.Lists.{slice_get-left, slice_get-push_cases, slice_get-seam, slice_get-some, take-next, take-prefix}
-use Rattle.dr_machine.proofs.Presence.{is_present}
+use Rattle.dr_history_laws.proofs.Standing.{all-by, part-stands}
 use Rattle.dr_machine.specs.Group.{Group, IsGroup, IsPresent}
 use Rattle.dr_machine.specs.World.{World}
 use Rattle.dr_restart.specs.declared.lists.Attempt.{Attempt}
@@ -15,16 +17,15 @@ use Rattle.dr_restart.specs.declared.lists.LogLists.{LogLists}
 use Rattle.dr_restart.specs.declared.start.Start.{Start}
 use Rattle.dr_restart.specs.Groups.{group_of}
 use Rattle.dr_restart.specs.Left.{IsLeftByOther}
-use Rattle.dr_restart.specs.OnLogs.{AllStandOnLog, MayStandOnLog, StartsSoundly}
 use Rattle.dr_restart.specs.Trying.{IsTry, first_view_of, opened_by}
 use Rattle.dr_script.specs.declared.script.Script.{Script}
+use Rattle.dr_world_laws.proofs.Away.{there-or-not}
 use Rattle.dr_world_laws.proofs.Worlds.{Known}
 use Rattle.dr_quorum_laws.specs.Holding.{AreSoundTries, GoesOnFrom, HoldSince, IsKeptBy, IsOfAgeOrEarlier, IsOpenedTry}
 use Rattle.dr_quorum_laws.proofs.Chosen.{chosen-keeps}
 use Rattle.dr_quorum_laws.proofs.Ended.{stands}
 use Rattle.dr_quorum_laws.proofs.Grown.{ages-below}
-use Rattle.dr_quorum_laws.proofs.Handing.{Since, was-left}
-use Rattle.dr_quorum_laws.proofs.OnLogs.{part-on_log, stand-on_log}
+use Rattle.dr_quorum_laws.proofs.Handing.{Since}
 use Rattle.dr_quorum_laws.proofs.Sounding.{choice-sound}
 
 -- ---- the starts of tries
@@ -34,9 +35,9 @@ pub try-sound : (o : Opening) (before after : List LogLists) (tries : List Attem
 try-sound o before after tries try sounds t k one at = by (slice_get-push_cases tries try one k at)
   where
     by : ((k < length tries) × (slice_get tries k ≡ Some one)) ⊎ ((k ≡ length tries) × (try ≡ one))
-        → StartsSoundly (opened_by o one.start)
+        → Sound (opened_by o one.start)
     by (inl (l, old)) = sounds k one old
-    by (inr (l, same)) = subst (λ (a : Attempt). StartsSoundly (opened_by o a.start)) same
+    by (inr (l, same)) = subst (λ (a : Attempt). Sound (opened_by o a.start)) same
         (choice-sound o _ try.start t.choice)
 
 -- ---- what holds may stand
@@ -51,24 +52,23 @@ around xs k x at = sym (take-append-drop (k + 1) xs)
 goes-stand : (g : Group) (w : World) (choice logs : List LogLists) (tries : List Attempt) (m : ℕ)
     (log : LogLists) (front : List Entry) → IsGroup g → Known g w → (held : HoldSince g w choice tries logs)
     → AreSoundTries g.opening tries → slice_get logs m ≡ Some log
-    → GoesOnFrom held.history tries front log.entries → AllStandOnLog g.opening.messages log.entries
+    → GoesOnFrom held.history tries front log.entries → AllStand g.opening log.entries
 goes-stand g w choice logs tries m log front is y held sounds at goes i e here = by (cases_lt i (length front))
   where
-    history : AllStandOnLog g.opening.messages held.history
-    history = subst (AllStandOnLog g.opening.messages) held.longest.one.2
-        (stand-on_log g.opening (w.past.history held.longest.one.0) is.some_member
-        (stands g w held.longest.one.0 is y held.longest.one.1))
+    history : AllStand g.opening held.history
+    history = subst (AllStand g.opening) held.longest.one.2
+        (stands g w held.longest.one.0 is y held.longest.one.1)
 
     whole : log.entries ≡ front ++ goes.views
     whole = goes.is
 
-    before : i < length front → MayStandOnLog g.opening.messages (take i log.entries) e
-    before l = subst (λ es. MayStandOnLog g.opening.messages es e)
+    before : i < length front → MayStand g.opening (take i log.entries) e
+    before l = subst (λ es. MayStand g.opening es e)
         (sym (take-prefix front log.entries i (goes.views, sym goes.is) (omega (arith, l))))
-        (part-on_log g.opening.messages front held.history goes.delivered history i e
+        (part-stands g.opening front held.history goes.delivered history i e
         (sym (slice_get-left front goes.views i l) ∙ (ap (λ es. slice_get es i) (sym goes.is) ∙ here)))
 
-    behind : length front ≤ i → MayStandOnLog g.opening.messages (take i log.entries) e
+    behind : length front ≤ i → MayStand g.opening (take i log.entries) e
     behind l = at-view (slice_get-some goes.views (i - length front) (omega (
       arith,
       l,
@@ -78,10 +78,10 @@ goes-stand g w choice logs tries m log front is y held sounds at goes i e here =
     )))
       where
         at-view : (x : Entry) × (slice_get goes.views (i - length front) ≡ Some x)
-            → MayStandOnLog g.opening.messages (take i log.entries) e
+            → MayStand g.opening (take i log.entries) e
         at-view (x, there) =
-            subst (MayStandOnLog g.opening.messages (take i log.entries)) (sym t.2 ∙ same)
-            (subst (λ es. MayStandOnLog g.opening.messages es (first_view_of t.0.start))
+            subst (MayStand g.opening (take i log.entries)) (sym t.2 ∙ same)
+            (subst (λ es. MayStand g.opening es (first_view_of t.0.start))
             (sym (held.started t.0 m log (front ++ take k goes.views) (drop (k + 1) goes.views) t.1 at
             (split ∙ ap (λ z. (front ++ take k goes.views) ++ z ∷ drop (k + 1) goes.views) t.2)) ∙ sym start)
             (sound.members, inl (record { later = sound.later; first = refl })))
@@ -118,19 +118,19 @@ goes-stand g w choice logs tries m log front is y held sounds at goes i e here =
             t : (try : Attempt) × IsOpenedTry tries try × (x ≡ first_view_of try.start)
             t = goes.opened (i - length front) x there
 
-            sound : StartsSoundly (opened_by g.opening t.0.start)
+            sound : Sound (opened_by g.opening t.0.start)
             sound = sounds t.1.0 t.0 t.1.1
 
-    by : (i < length front) ⊎ (length front ≤ i) → MayStandOnLog g.opening.messages (take i log.entries) e
+    by : (i < length front) ⊎ (length front ≤ i) → MayStand g.opening (take i log.entries) e
     by (inl l) = before l
     by (inr l) = behind l
 
 pub held-stand : (g : Group) (w : World) (choice logs : List LogLists) (tries : List Attempt) (m : ℕ)
     (log : LogLists) → IsGroup g → Known g w → HoldSince g w choice tries logs → AreSoundTries g.opening tries
-    → slice_get logs m ≡ Some log → AllStandOnLog g.opening.messages log.entries
+    → slice_get logs m ≡ Some log → AllStand g.opening log.entries
 held-stand g w choice logs tries m log is y held sounds at = by (held.grown m log at)
   where
-    by : IsOfAgeOrEarlier g held.history tries log → AllStandOnLog g.opening.messages log.entries
+    by : IsOfAgeOrEarlier g held.history tries log → AllStand g.opening log.entries
     by (inl t) = goes-stand g w choice logs tries m log t.1 is y held sounds at t.2
     by (inr t) = t.0
 
@@ -140,11 +140,19 @@ held-stand g w choice logs tries m log is y held sounds at = by (held.grown m lo
 votes-below : (g : Group) (w : World) (choice logs : List LogLists) (tries : List Attempt) (m : ℕ)
     (log : LogLists) (x : Vote) → Since g w choice tries logs → slice_get logs m ≡ Some log
     → Contains log.votes x → x.age ≤ g.opening.age
-votes-below g w choice logs tries m log x s at c =
-    let there : IsPresent g m =
-    is_present g m s.group (omega (arith, slice_get_within logs m log at, s.held.all)) in
-    let was = was-left g w choice m s.group s.left there in
-    was.2.votes x (subst (λ l. Contains l x) (s.held.votes m was.0 log there was.1 at) c)
+votes-below g w choice logs tries m log x s at c = by (there-or-not g m)
+  where
+    was : (old : LogLists) × (slice_get choice m ≡ Some old)
+    was = slice_get-some choice m (omega (arith, slice_get_within logs m log at, s.held.all, s.left.all))
+
+    on : Contains was.0.votes x
+    on = subst (λ l. Contains l x) (s.held.votes m was.0 log was.1 at) c
+
+    by : IsPresent g m ⊎ (has g.opening.present m ≡ false) → x.age ≤ g.opening.age
+    by (inl there) = (s.left.members m was.0 there was.1).votes x on
+    by (inr none) =
+        let other = s.left.others m was.0 (λ there. absurd (cc (there, none))) was.1 in
+        omega (arith, other.earlier.votes x on)
 
 pub others-left : (script : Script) (start : Start) (w : World) (choice before after : List LogLists)
     (tries : List Attempt) (try : Attempt) (m : ℕ) (log : LogLists)
@@ -152,7 +160,8 @@ pub others-left : (script : Script) (start : Start) (w : World) (choice before a
     → IsTry (group_of script start).opening before after try → has try.set m ≡ false
     → slice_get after m ≡ Some log → IsLeftByOther (group_of script try.start) log
 others-left script start w choice before after tries try m log s sounds t none at = record {
-  stands = held-stand (group_of script start) w choice before tries m log s.group s.known s.held sounds here;
+  stands = all-by (group_of script start).opening (group_of script try.start).opening log.entries refl
+      (held-stand (group_of script start) w choice before tries m log s.group s.known s.held sounds here);
   earlier = record {
     views = λ a n k c. ages-below (group_of script start) w choice before tries s try.start kept m log a n k here c;
     votes = λ x c. omega (

@@ -6,18 +6,16 @@ use Rattle.dr_entry.specs.declared.entry.Entry.TheVariants.{View}
 use Rattle.dr_history.specs.declared.opening.Opening.{Opening}
 use Rattle.dr_history.specs.History.{IsPrefixOf}
 use Rattle.dr_history.specs.Members.{members_of}
-use Rattle.dr_history.specs.Restarting.{AreAlong, DifferAt, IsEarlierPair}
+use Rattle.dr_history.specs.Restarting.{AllStand, AreAlong, DifferAt, IsEarlierPair, IsForeignAt}
 use Rattle.dr_history.specs.Soundness.{whole_roster}
 use Rattle.dr_history_laws.proofs.Differing.{differ_not_along, one_difference}
-use Rattle.dr_history_laws.proofs.Views.{View-once, ViewsRise}
+use Rattle.dr_history_laws.proofs.Views.{View-once, ViewsRise, ViewsRise-standing}
 use Rattle.dr_restart.specs.declared.lists.LogLists.{LogLists}
 use Rattle.dr_restart.specs.declared.start.Start.{Start}
 use Rattle.dr_restart.specs.Choosing.{AreFirst, AreOfHolders, AreOfNobody, AreOnHolder, Handed, HasQuorum, HasAge, IsAgeAfter, IsChosenStart, IsLastAge, handed_of, on_path}
-use Rattle.dr_restart.specs.OnLogs.{AllStandOnLog, Messages}
-use Rattle.dr_restart.specs.Refusing.{AreHoldersAlong, Refusal, HasPath, HaveNothingForeign, IsFirstForeignOf, IsFirstSplit, IsForeignOnLog, IsHeldBy, IsRefusedFor, LacksPath, LacksQuorum}
+use Rattle.dr_restart.specs.Refusing.{AreHoldersAlong, Refusal, HasPath, HaveNothingForeign, IsFirstForeignOf, IsFirstSplit, IsHeldBy, IsRefusedFor, LacksPath, LacksQuorum}
 use Rattle.dr_restart.specs.Refusing.Refusal.{AgesUsedUp, Disagree, Foreign, NoQuorum}
 use Rattle.dr_quorum_laws.proofs.Lists.{prefix-in, read-in}
-use Rattle.dr_quorum_laws.proofs.OnLogs.{rise-on_log}
 
 apart : (i j : ℕ) → (i < j) ⊎ ((i ≡ j) ⊎ (j < i))
 apart i j = grind arith
@@ -141,9 +139,9 @@ no-refusal o h s AgesUsedUp c x =
 
 -- ---- one reason
 
-one-place : (messages : Messages) (es : List Entry) (p q : ℕ) → IsForeignOnLog messages es p
-    → IsForeignOnLog messages es q → p ≡ q
-one-place messages es p q x y = by (apart p q)
+one-place : (o : Opening) (es : List Entry) (p q : ℕ) → IsForeignAt o es p
+    → IsForeignAt o es q → p ≡ q
+one-place o es p q x y = by (apart p q)
   where
     by : (p < q) ⊎ ((p ≡ q) ⊎ (q < p)) → p ≡ q
     by (inl l) = absurd (x.foreign (y.before p x.entry l x.here))
@@ -162,8 +160,8 @@ one-foreign o h m p n q x y = by (apart m n)
     by (inl l) = absurd (later m p n q x y l)
     by (inr (inl e)) =
         let same : y.log ≡ x.log = same_Some y.log x.log (sym y.here ∙ (ap h (sym e) ∙ x.here)) in
-        ap₂ Foreign e (one-place o.messages x.log.entries p q x.foreign
-        (subst (λ (log : LogLists). IsForeignOnLog o.messages log.entries q) same y.foreign))
+        ap₂ Foreign e (one-place o x.log.entries p q x.foreign
+        (subst (λ (log : LogLists). IsForeignAt o log.entries q) same y.foreign))
     by (inr (inr l)) = absurd (later n q m p y x l)
 
 one-split : (h : Handed) (age a b p i j q : ℕ) → IsFirstSplit h age a b p → IsFirstSplit h age i j q
@@ -211,7 +209,7 @@ one-first o h age f g sound along x y = by (along x.0 y.0 x.1 y.1)
   where
     rise : (es : List Entry) → AreOnHolder h age es → ViewsRise 0 es
     rise es (m, log, at, ends, e) =
-        rise-on_log o.messages es (subst (AllStandOnLog o.messages) (sym e) (sound m log at))
+        ViewsRise-standing o es (subst (AllStand o) (sym e) (sound m log at))
 
     by : AreAlong x.0 y.0 → f ≡ g
     by (inl p) = one-view y.0 age 0 f g (rise y.0 y.1) (prefix-in x.0 y.0 (View age 0 f) p x.2) y.2

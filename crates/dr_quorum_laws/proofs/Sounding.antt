@@ -1,28 +1,34 @@
 -- A start that logs make is one that an age may start with.
-use Rattle.std.proofs.Common.{◌≡◌, ap, sym, ◌∙◌, ◌⊎◌, inl, inr, subst, ℕ, ◌<◌, nat_lt, arith, true, length, Contains, slice_get}
+use Rattle.std.proofs.Common.{◌≡◌, refl, ap, sym, ◌∙◌, ◌⊎◌, inl, inr, subst, ℕ, ◌<◌, nat_lt, arith, true, length, Contains, slice_get}
 use Rattle.std.proofs.lemmas.Option.{none-some}
 use Rattle.dr_entry.specs.declared.entry.Entry.TheVariants.{View}
 use Rattle.dr_history.specs.declared.opening.Opening.{Opening}
 use Rattle.dr_history.specs.History.{GroupView, view_of}
 use Rattle.dr_history.specs.Members.{has}
-use Rattle.dr_history.specs.Soundness.{whole_roster}
+use Rattle.dr_history.specs.Restarting.{AllStand}
+use Rattle.dr_history.specs.Soundness.{Sound, whole_roster}
+use Rattle.dr_history_laws.proofs.Standing.{all-by}
 use Rattle.std.specs.Prelude.{Some}
 use Rattle.dr_restart.specs.declared.lists.LogLists.{LogLists}
 use Rattle.dr_restart.specs.declared.start.Start.{Start}
 use Rattle.dr_restart.specs.Choosing.{AreOfHolders, AreOfNobody, Handed, IsChosenStart, handed_of}
-use Rattle.dr_restart.specs.OnLogs.{AllStandOnLog, StartsSoundly}
 use Rattle.dr_restart.specs.Trying.{opened_by}
+use Rattle.dr_restart.proofs.Groups.{first_group}
+use Rattle.dr_restart.specs.Groups.{first_group_of, group_of}
+use Rattle.dr_machine.specs.Group.{IsGroup}
+use Rattle.dr_script.specs.declared.script.Script.{Script}
+use Rattle.dr_script.specs.Ranges.{HasGroupRanges}
 use Rattle.dr_words.proofs.Bits.{has_ones, has_zero}
 use Rattle.dr_quorum_laws.proofs.Handing.{handed-part, quorum-meets}
 use Rattle.dr_quorum_laws.proofs.LastViews.{last-view}
 
 -- all entries of the start may stand
 start-stands : (o : Opening) (h : Handed) (start : Start) → IsChosenStart o h start
-    → AllStandOnLog o.messages start.entries
+    → AllStand o start.entries
 start-stands o h start c = by c.entries
   where
-    by : AreOfHolders o h start.entries ⊎ AreOfNobody h start.entries → AllStandOnLog o.messages start.entries
-    by (inl held) = subst (AllStandOnLog o.messages) (sym held.held.4) (c.sound held.held.0 held.held.1 held.held.2)
+    by : AreOfHolders o h start.entries ⊎ AreOfNobody h start.entries → AllStand o start.entries
+    by (inl held) = subst (AllStand o) (sym held.held.4) (c.sound held.held.0 held.held.1 held.held.2)
     by (inr nobody) = λ i e at. absurd (none-some e (ap (λ es. slice_get es i) (sym nobody.none) ∙ at))
 
 -- its last View is of an earlier age
@@ -58,9 +64,9 @@ start-some o h start c = nonzero start.members t.0 (subst (λ mask. has mask t.0
     nonzero mask i h = grind (arith, h, has_zero i)
 
 pub choice-sound : (o : Opening) (h : Handed) (start : Start) → IsChosenStart o h start
-    → StartsSoundly (opened_by o start)
+    → Sound (opened_by o start)
 choice-sound o h start c = record {
-  entries = start-stands o h start c;
+  entries = all-by o (opened_by o start) start.entries refl (start-stands o h start c);
   later = λ v e. start-later o h start v c e;
   members = record {
     some = start-some o h start c;
@@ -69,3 +75,22 @@ choice-sound o h start c = record {
   part = λ m e. subst (λ mask. has mask m ≡ true) (sym c.present) e;
   present = λ m e. start-members o h start m c (subst (λ mask. has mask m ≡ true) c.present e);
 }
+
+-- with a script it makes a group
+pub choice-group : (script : Script) (h : Handed) (start : Start) → HasGroupRanges script
+    → IsChosenStart (first_group_of script).opening h start → IsGroup (group_of script start)
+choice-group script h start ranges c = record {
+  some_member = first.some_member;
+  most_members = first.most_members;
+  some_slot = first.some_slot;
+  most_slots = first.most_slots;
+  messages = first.messages;
+  short = first.short;
+  bytes = first.bytes;
+  age = c.left;
+  sound = choice-sound (first_group_of script).opening h start c;
+  joined = c.present;
+}
+  where
+    first : IsGroup (first_group_of script)
+    first = first_group script ranges

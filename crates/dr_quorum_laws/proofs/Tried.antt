@@ -7,15 +7,16 @@ use Rattle.dr_entry.specs.declared.entry.Entry.{Entry}
 use Rattle.dr_entry.specs.declared.entry.Entry.TheVariants.{View}
 use Rattle.dr_history.specs.History.{IsPrefixOf}
 use Rattle.dr_history.specs.Order.{first_entries}
+use Rattle.dr_history.specs.Restarting.{AllStand}
 use Rattle.dr_history.specs.Soundness.{whole_roster}
 use Rattle.dr_history_laws.proofs.Keeping.{prefix_beside, prefix_shorter, prefix_then}
 use Rattle.dr_history_laws.proofs.Lists.{slice_get-prefix, slice_get-push_cases}
+use Rattle.dr_history_laws.proofs.Standing.{part-stands}
 use Rattle.dr_machine.specs.Group.{Group, IsPresent}
 use Rattle.dr_machine.specs.World.{World}
 use Rattle.dr_restart.specs.declared.lists.Attempt.{Attempt}
 use Rattle.dr_restart.specs.declared.lists.LogLists.{LogLists}
 use Rattle.dr_restart.specs.declared.start.Start.{Start}
-use Rattle.dr_restart.specs.OnLogs.{AllStandOnLog}
 use Rattle.dr_restart.specs.Choosing.{AreOfHolders, handed_of, of_set}
 use Rattle.dr_restart.specs.Trying.{HaveAgeVote, IsTry, age_vote_of, first_view_of}
 use Rattle.dr_words.specs.Masks.{IsMajorityOf, IsPartOf}
@@ -26,7 +27,6 @@ use Rattle.dr_quorum_laws.proofs.Ended.{durable-delivered, durable-front, first-
 use Rattle.dr_quorum_laws.proofs.Grown.{IsBroughtUp, ages-below, entries-case, first-held, first-kept, goes-more, last-opened, more-opened, old-log, opened-cases}
 use Rattle.dr_quorum_laws.proofs.Handing.{Since, handed-part, set-log}
 use Rattle.dr_quorum_laws.proofs.LastViews.{start-earlier}
-use Rattle.dr_quorum_laws.proofs.OnLogs.{part-on_log, stand-on_log}
 use Rattle.dr_quorum_laws.proofs.Lists.{in-split, prefix-in, prefix-itself, prefix-split, split-last}
 
 -- ---- what a log begins with
@@ -150,8 +150,7 @@ brought-grown g w choice before after tries try s t kept m old new was votes up 
           (goes.views, sym goes.is))),
     ))
     early l p (inr o) = inr (
-      part-on_log g.opening.messages new.entries g.opening.start part
-          (stand-on_log g.opening g.opening.start s.group.some_member s.group.sound.entries),
+      part-stands g.opening new.entries g.opening.start part s.group.sound.entries,
       record {
         views = λ a n k c. start-earlier g.opening a n k s.group.sound
             (prefix-in new.entries g.opening.start (View a n k) part c);
@@ -224,7 +223,7 @@ same-grown g history tries try old new e votes (inl t) = inl (
   subst (GoesOnFrom history (tries ++ try ∷ []) t.1) (sym e) (goes-more history tries try t.1 old.entries t.2),
 )
 same-grown g history tries try old new e votes (inr t) = inr (
-  subst (AllStandOnLog g.opening.messages) (sym e) t.0,
+  subst (AllStand g.opening) (sym e) t.0,
   record {
     views = λ a n k c. t.1.views a n k (subst (λ es. Contains es (View a n k)) e c);
     votes = λ x c. t.1.votes x (subst (λ l. Contains l x) votes c);
@@ -322,9 +321,9 @@ tried-held g w choice before after tries try s t = record {
   history = s.held.history;
   longest = s.held.longest;
   all = t.places ∙ s.held.all;
-  votes = λ m was log there at here.
+  votes = λ m was log at here.
       let old = old-log g before after try t m log here in
-      (t.votes m old.0 log old.1 here).0 ∙ s.held.votes m was old.0 there at old.1;
+      (t.votes m old.0 log old.1 here).0 ∙ s.held.votes m was old.0 at old.1;
   begins = λ m d k was log there at here l knows durable.
       let old = old-log g before after try t m log here in
       begins m d k old.0 log here old.1 knows durable

@@ -4,14 +4,14 @@ use Rattle.dr_entry.specs.declared.entry.Entry.{Entry}
 use Rattle.dr_entry.specs.declared.entry.Entry.TheVariants.{View}
 use Rattle.dr_history.specs.declared.opening.Opening.{Opening}
 use Rattle.dr_history.specs.History.{IsPrefixOf}
-use Rattle.dr_history.specs.Soundness.{whole_roster}
+use Rattle.dr_history.specs.Restarting.{AllStand}
+use Rattle.dr_history.specs.Soundness.{Sound, whole_roster}
 use Rattle.dr_machine.specs.Group.{Group, IsPresent, roster}
 use Rattle.dr_machine.specs.World.{World}
 use Rattle.dr_restart.specs.declared.lists.Attempt.{Attempt}
 use Rattle.dr_restart.specs.declared.lists.LogLists.{LogLists}
 use Rattle.dr_restart.specs.declared.start.Start.{Start}
 use Rattle.dr_restart.specs.Left.{IsOfEarlierAges}
-use Rattle.dr_restart.specs.OnLogs.{AllStandOnLog, StartsSoundly}
 use Rattle.dr_restart.specs.Trying.{HaveAgeVote, first_view_of, opened_by}
 use Rattle.dr_words.specs.Masks.{IsMajorityOf, IsPartOf}
 
@@ -27,7 +27,7 @@ IsOpenedTry tries try = (k : ℕ) × (slice_get tries k ≡ Some try) × (try.op
 -- an age may start with what each try had chosen
 abbrev pub AreSoundTries : Opening → List Attempt → Type 0
 AreSoundTries o tries =
-    (k : ℕ) (try : Attempt) → slice_get tries k ≡ Some try → StartsSoundly (opened_by o try.start)
+    (k : ℕ) (try : Attempt) → slice_get tries k ≡ Some try → Sound (opened_by o try.start)
 
 -- each of the entries is the View of an opened try
 abbrev pub AreTheirViews : List Attempt → List Entry → Type 0
@@ -56,7 +56,7 @@ abbrev pub IsOfAgeOrEarlier : Group → List Entry → List Attempt → LogLists
 IsOfAgeOrEarlier g history tries log =
     (((members : ℕ) × Contains log.entries (View g.opening.age 0 members))
     × (front : List Entry) × GoesOnFrom history tries front log.entries)
-    ⊎ (AllStandOnLog g.opening.messages log.entries × IsOfEarlierAges g.opening.age log)
+    ⊎ (AllStand g.opening log.entries × IsOfEarlierAges g.opening.age log)
 
 -- these logs may have come of those that were left, by the tries
 pub record HoldSince (g : Group) (w : World) (choice : List LogLists) (tries : List Attempt)
@@ -64,10 +64,11 @@ pub record HoldSince (g : Group) (w : World) (choice : List LogLists) (tries : L
   pub history : List Entry
   pub longest : IsLongestHistory g w history
   pub all : length logs ≡ roster g
-  -- the votes of each member that was there are those that were left on its log
-  pub votes : (m : ℕ) (was log : LogLists) → IsPresent g m → slice_get choice m ≡ Some was
-      → slice_get logs m ≡ Some log → log.votes ≡ was.votes
-  -- and its log begins with as much of the history as stood on it and some member knew to be durable
+  -- the votes on each log are those that were left on it
+  pub votes : (m : ℕ) (was log : LogLists) → slice_get choice m ≡ Some was → slice_get logs m ≡ Some log
+      → log.votes ≡ was.votes
+  -- that of a member that was there begins with as much of the history as stood on it and some member knew to
+  -- be durable
   pub begins : (m d k : ℕ) (was log : LogLists) → IsPresent g m → slice_get choice m ≡ Some was
       → slice_get logs m ≡ Some log → d ≤ length was.entries → IsPresent g k → d ≤ w.past.durable k
       → IsPrefixOf (take d history) log.entries

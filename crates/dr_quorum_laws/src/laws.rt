@@ -5,8 +5,8 @@ ghost use Rattle.dr_entry.specs.declared.record.Value.{Value};
 ghost use Rattle.dr_entry.specs.declared.record.Vote.{Vote};
 ghost use Rattle.dr_history.specs.declared.opening.Opening.{Opening};
 ghost use Rattle.dr_history.specs.Members.{has};
-ghost use Rattle.dr_history.specs.Restarting.{AreAllAlong, IsLongest, Kept};
-ghost use Rattle.dr_history.specs.Soundness.{whole_roster};
+ghost use Rattle.dr_history.specs.Restarting.{AllStand, AreAllAlong, IsLongest, Kept};
+ghost use Rattle.dr_history.specs.Soundness.{Sound, whole_roster};
 ghost use Rattle.dr_machine.specs.Group.{Group, IsGroup};
 ghost use Rattle.dr_machine.specs.Run.{IsReached, accounts_in};
 ghost use Rattle.dr_machine.specs.Votes.{HasLogged, IsOf, MajorityHas};
@@ -15,13 +15,13 @@ ghost use Rattle.dr_restart.specs.declared.lists.Attempt.{Attempt as AttemptOf};
 ghost use Rattle.dr_restart.specs.declared.lists.LogLists.{LogLists as LogListsOf};
 ghost use Rattle.dr_restart.specs.declared.start.Start.{Start as StartOf};
 ghost use Rattle.dr_restart.specs.Choosing.{Handed, IsChosenStart, of_set};
-ghost use Rattle.dr_restart.specs.Groups.{group_of};
+ghost use Rattle.dr_restart.specs.Groups.{first_group_of, group_of};
 ghost use Rattle.dr_restart.specs.Left.{AreLeft, IsLeftByOther, entries_on_logs, votes_on_logs};
-ghost use Rattle.dr_restart.specs.OnLogs.{AllStandOnLog, StartsSoundly};
 ghost use Rattle.dr_restart.specs.Refusing.{IsRefusedFor, Refusal};
 ghost use Rattle.dr_restart.specs.Refusing.Refusal.{AgesUsedUp};
 ghost use Rattle.dr_restart.specs.Trying.{IsTry, opened_by};
 ghost use Rattle.dr_script.specs.declared.script.Script.{Script as ScriptOf};
+ghost use Rattle.dr_script.specs.Ranges.{HasGroupRanges};
 ghost use Rattle.dr_vote_laws.specs.Voting.{HaveVotedFor};
 ghost use Rattle.dr_words.specs.Masks.{IsMajorityOf};
 ghost use Rattle.dr_world_laws.specs.Views.{HasView};
@@ -50,10 +50,13 @@ pub fn votes_left_are_one()
 {}
 
 /// An age may start with what logs make, whichever are missing: its entries may stand on a log, its age is
-/// above that of the last View, and its members are those that have handed in their logs.
+/// above that of the last View, and its members are those that have handed in their logs. With a script it
+/// makes a group.
 pub fn choices_are_sound()
-    ensures { (o : Opening) (h : Handed) (start : StartOf) → IsChosenStart o h start
-        → StartsSoundly (opened_by o start) }
+    ensures sound { (o : Opening) (h : Handed) (start : StartOf) → IsChosenStart o h start
+        → Sound (opened_by o start) }
+    ensures group { (script : ScriptOf) (h : Handed) (start : StartOf) → HasGroupRanges script
+        → IsChosenStart (first_group_of script).opening h start → IsGroup (group_of script start) }
 {}
 
 /// Logs make one start at most, or are refused for one reason at most, and never both.
@@ -88,7 +91,7 @@ pub fn all_logs_are_enough()
         → length o.messages ≤ 16 → length logs ≡ length o.messages
         → ((m : ℕ) → m < length logs → has set m ≡ true)
         → ((m : ℕ) (log : LogListsOf) → slice_get logs m ≡ Some log
-        → AllStandOnLog o.messages log.entries)
+        → AllStand o log.entries)
         → AreAllAlong (entries_on_logs logs) → IsRefusedFor o (of_set logs set) why → why ≡ AgesUsedUp }
 {}
 
@@ -169,7 +172,7 @@ pub fn missing_logs_are_of_earlier_ages()
     ensures stand { (g : Group) (w : World) (choice logs : List LogListsOf) (tries : List AttemptOf) (m : ℕ)
         (log : LogListsOf) → IsGroup g → IsReached g w
         → HoldSince g w choice tries logs → AreSoundTries g.opening tries → slice_get logs m ≡ Some log
-        → AllStandOnLog g.opening.messages log.entries }
+        → AllStand g.opening log.entries }
     ensures others { (script : ScriptOf) (start : StartOf) (w : World) (choice before after : List LogListsOf)
         (tries : List AttemptOf) (try : AttemptOf) (m : ℕ) (log : LogListsOf)
         → IsGroup (group_of script start)

@@ -21,7 +21,6 @@ use Rattle.dr_rows.specs.Words.{own, seen}
 use Rattle.dr_words.specs.declared.column.TheConstants.{SUSPECTED_COLUMN, RECEIVED_COLUMN, LOGGED_COLUMN, DONE_COLUMN}
 use Rattle.dr_words.specs.Columns.{recv_column}
 use Rattle.dr_words.specs.Masks.{IsInRoster, without}
-use Rattle.dr_machine.proofs.Presence.{is_present}
 use Rattle.dr_machine.specs.Group.{Group, roster, columns}
 use Rattle.dr_machine.specs.World.{World, items_received, shown}
 use Rattle.dr_machine.specs.Guards as guards
@@ -46,7 +45,7 @@ IsIdle r = (r.end ≡ None) × (r.pending ≡ None)
 pub running : (g : Group) (rs : List Replica) (table : List ℕ) (m : ℕ) (r : Replica)
     → IsMember g rs table m r → r.end ≡ None → IsRunning g (world_of g rs table) m
 running g rs table m r is alive = record {
-  present = is_present g m is.group (inside g m r.rows r.view (fits g rs table m r is));
+  present = is.of.present;
   running = ap (λ h. h.end) (held_of g rs table m r is.there) ∙ alive;
 }
 

@@ -101,9 +101,8 @@ begun_is_program g limit setups is some are = record {
         → option_map begun_running o ≡ Some r → IsRunningMember r × IsOf g m r.replica
     named m r None e there = absurd (cc)
     named m r (Some s) e there =
-        let within : m < roster g = omega (arith, slice_get_within setups m s e, are.all) in
         subst (λ (x : Running). IsRunningMember x × IsOf g m x.replica)
-        (same_Some (begun_running s) r there) (begins_in_form g limit m s is some (are.each m s e) within)
+        (same_Some (begun_running s) r there) (begins_in_form g limit m s is some (are.each m s e))
 
     begun : (m : ℕ) (r : Running) → slice_get (map begun_running setups) m ≡ Some r
         → IsRunningMember r × IsOf g m r.replica

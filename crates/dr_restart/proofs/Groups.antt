@@ -1,10 +1,13 @@
 -- A script and a first start make a group.
-use Rattle.std.proofs.Common.{◌≡◌, sym, ap, ◌∙◌, ◌⊎◌, inl, inr, subst, ℕ, ◌-◌, ◌^◌, ◌<◌, ◌≤◌, List, [], length, get_or, arith}
+use Rattle.std.proofs.Common.{◌≡◌, refl, true, zero, suc, sym, ap, ◌∙◌, ◌⊎◌, inl, inr, subst, ℕ, ◌-◌, ◌^◌, ◌<◌, ◌≤◌, List, [], length, get_or, arith}
 use Rattle.std.specs.Prelude.{All, Some, slice_get, slice_index, unwrap_or}
 use Rattle.std.proofs.lemmas.Option.{get_or_from_slice_get, slice_get_within, slice_get_past, unwrap_or-slice_get}
 use Rattle.std.proofs.lemmas.Bool.{cases_lt}
+use Rattle.std.proofs.lemmas.Nat.{pow_pos}
 use Rattle.dr_script.specs.declared.script.Script.{Script}
 use Rattle.dr_history.specs.History.{GroupView, view_after, view_of}
+use Rattle.dr_history.specs.Members.{has}
+use Rattle.dr_words.proofs.Bits.{has_ones}
 use Rattle.dr_machine.specs.Group.{IsGroup}
 use Rattle.dr_script.specs.Ranges.{HasGroupRanges}
 use Rattle.dr_restart.specs.Groups.{first_group_of}
@@ -48,6 +51,11 @@ no_view : (v : GroupView) → view_of [] ≡ Some v → ⊥
 unfolding view_after
 no_view v e = absurd cc
 
+-- the whole roster has somebody, where there is one
+above_whole : (n : ℕ) → 1 ≤ n → 0 < 2 ^ n - 1
+above_whole zero l = absurd (omega (arith, l))
+above_whole (suc n) l = omega (arith, pow_pos n)
+
 -- a script is a group in its first age
 pub first_group : (script : Script) → HasGroupRanges script → IsGroup (first_group_of script)
 first_group script ranges = record {
@@ -63,7 +71,12 @@ first_group script ranges = record {
   sound = record {
     entries = λ i e there. absurd (omega (arith, slice_get_within [] i e there));
     later = λ v is. absurd (no_view v is);
-    whole = ap (λ (n : ℕ). 2 ^ n - 1) (sym ranges.lists);
-    present = ap (λ (n : ℕ). 2 ^ n - 1) (sym ranges.lists);
+    members = record { some = above_whole script.members ranges.some_member; within = within };
+    part = λ m h. h;
+    present = within;
   };
+  joined = refl;
 }
+  where
+    within : (m : ℕ) → has (2 ^ script.members - 1) m ≡ true → m < length script.messages
+    within m h = grind (arith, has_ones script.members m, h, ranges.lists)

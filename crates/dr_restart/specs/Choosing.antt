@@ -8,13 +8,12 @@ use Rattle.dr_entry.specs.declared.record.Vote.{Vote}
 use Rattle.dr_history.specs.declared.opening.Opening.{Opening}
 use Rattle.dr_history.specs.History.{GroupView, view_of}
 use Rattle.dr_history.specs.Members.{has, members_of}
-use Rattle.dr_history.specs.Restarting.{AreAlong}
+use Rattle.dr_history.specs.Restarting.{AllStand, AreAlong}
 use Rattle.dr_history.specs.Soundness.{whole_roster}
 use Rattle.dr_words.specs.Masks.{IsMajorityOf, mask_of, without}
-use Rattle.dr_restart.specs.declared.lists.AgeVote.{AgeVote}
+use Rattle.dr_entry.specs.declared.record.AgeVote.{AgeVote}
 use Rattle.dr_restart.specs.declared.lists.LogLists.{LogLists}
 use Rattle.dr_restart.specs.declared.start.Start.{Start}
-use Rattle.dr_restart.specs.OnLogs.{AllStandOnLog}
 
 -- the log of each member, by number, where it was handed in
 abbrev pub Handed : Type 0
@@ -117,7 +116,7 @@ pub record IsAgeAfter (h : Handed) (age : ℕ) : Type 0 where
 -- The start that the logs handed in make: each is a log that the script can have brought about, they are
 -- those of more than half of the roster, and the members of the age are those that handed them in.
 pub record IsChosenStart (o : Opening) (h : Handed) (start : Start) : Type 0 where
-  pub sound : (m : ℕ) (log : LogLists) → h m ≡ Some log → AllStandOnLog o.messages log.entries
+  pub sound : (m : ℕ) (log : LogLists) → h m ≡ Some log → AllStand o log.entries
   pub quorum : HasQuorum h (whole_roster o)
   pub entries : AreOfHolders o h start.entries ⊎ AreOfNobody h start.entries
   pub age : IsAgeAfter h start.age

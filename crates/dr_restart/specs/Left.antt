@@ -7,13 +7,13 @@ use Rattle.dr_entry.specs.declared.entry.Entry.TheVariants.{View}
 use Rattle.dr_entry.specs.declared.record.Value.{Value}
 use Rattle.dr_entry.specs.declared.record.Vote.{Vote}
 use Rattle.dr_history.specs.History.{IsPrefixOf}
+use Rattle.dr_history.specs.Restarting.{AllStand}
 use Rattle.dr_machine.specs.Effects.{vote_for}
 use Rattle.dr_machine.specs.Group.{Group, IsPresent, roster}
 use Rattle.dr_machine.specs.Guards.{CanLogVote}
 use Rattle.dr_machine.specs.Votes.{Votes}
 use Rattle.dr_machine.specs.World.{World}
 use Rattle.dr_restart.specs.declared.lists.LogLists.{LogLists}
-use Rattle.dr_restart.specs.OnLogs.{AllStandOnLog}
 
 -- the entries on each log
 abbrev pub entries_on_logs : List LogLists → List (List Entry)
@@ -57,7 +57,7 @@ pub record IsOfEarlierAges (age : ℕ) (log : LogLists) : Type 0 where
 
 -- the log of a member that isn't there may be any such one that the script can have brought about
 pub record IsLeftByOther (g : Group) (log : LogLists) : Type 0 where
-  pub stands : AllStandOnLog g.opening.messages log.entries
+  pub stands : AllStand g.opening log.entries
   pub earlier : IsOfEarlierAges g.opening.age log
 
 -- logs that may be left of those of all members of the roster, by number

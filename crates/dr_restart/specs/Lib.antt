@@ -1,6 +1,5 @@
 pub mod Groups
 pub mod Setups
-pub mod OnLogs
 pub mod Left
 pub mod Choosing
 pub mod Trying

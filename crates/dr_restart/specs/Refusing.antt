@@ -3,11 +3,10 @@ use Rattle.std.specs.Prelude.{◌≡◌, ℕ, ◌+◌, ◌<◌, ◌/◌, List, l
 use Rattle.dr_entry.specs.declared.entry.Entry.{Entry}
 use Rattle.dr_history.specs.declared.opening.Opening.{Opening}
 use Rattle.dr_history.specs.Members.{members_of}
-use Rattle.dr_history.specs.Restarting.{AreAlong, DifferAt, IsEarlierPair}
+use Rattle.dr_history.specs.Restarting.{AllStand, AreAlong, DifferAt, IsEarlierPair, IsForeignAt}
 use Rattle.dr_history.specs.Soundness.{whole_roster}
 use Rattle.dr_restart.specs.declared.lists.LogLists.{LogLists}
 use Rattle.dr_restart.specs.Choosing.{AreFirst, AreOnHolder, EndsInAge, Handed, HasAge, HasQuorum, IsLastAge, handed_of, on_path}
-use Rattle.dr_restart.specs.OnLogs.{AllStandOnLog, MayStandOnLog, Messages}
 
 pub data Refusal : Type 0 where
   -- on the log of this member the entry at this place may not stand
@@ -22,22 +21,14 @@ pub data Refusal : Type 0 where
 
 -- all entries of each log may stand
 abbrev pub HaveNothingForeign : Opening → Handed → Type 0
-HaveNothingForeign o h = (m : ℕ) (log : LogLists) → h m ≡ Some log → AllStandOnLog o.messages log.entries
+HaveNothingForeign o h = (m : ℕ) (log : LogLists) → h m ≡ Some log → AllStand o log.entries
 
--- the first place at which an entry may not stand on a log
-pub record IsForeignOnLog (messages : Messages) (es : List Entry) (place : ℕ) : Type 0 where
-  pub before : (i : ℕ) (e : Entry) → i < place → slice_get es i ≡ Some e
-      → MayStandOnLog messages (take i es) e
-  pub entry : Entry
-  pub here : slice_get es place ≡ Some entry
-  pub foreign : MayStandOnLog messages (take place es) entry → ⊥
-
--- the first log with such an entry, and where
+-- the first log with an entry that may not stand, and where
 pub record IsFirstForeignOf (o : Opening) (h : Handed) (member place : ℕ) : Type 0 where
-  pub before : (m : ℕ) (log : LogLists) → m < member → h m ≡ Some log → AllStandOnLog o.messages log.entries
+  pub before : (m : ℕ) (log : LogLists) → m < member → h m ≡ Some log → AllStand o log.entries
   pub log : LogLists
   pub here : h member ≡ Some log
-  pub foreign : IsForeignOnLog o.messages log.entries place
+  pub foreign : IsForeignAt o log.entries place
 
 -- so many of these members have handed in their logs, and so many are needed
 pub record LacksQuorum (h : Handed) (members have need : ℕ) : Type 0 where

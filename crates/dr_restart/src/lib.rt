@@ -9,6 +9,6 @@ mod start;
 
 pub use copies::{copy_entries, copy_messages};
 pub use laws::setups_are_of_the_group;
-pub use lists::{AgeVote, Attempt, LogLists};
+pub use lists::{Attempt, LogLists};
 pub use setup::{setup_of, shape_of};
 pub use start::{Start, first_start};

@@ -1,13 +1,5 @@
 use crate::start::Start;
-use dr_entry::{Entry, Seq, Vote};
-
-/// That an age was about to open: its number, and the members of its View 0, as a mask. It stands on the log
-/// of a member that was there.
-#[derive(Clone, Copy, Debug, PartialEq, Eq)]
-pub struct AgeVote {
-    pub age: u16,
-    pub members: u16,
-}
+use dr_entry::{AgeVote, Entry, Seq, Vote};
 
 /// What stands on the log of a member: its entries, its votes and its age votes, each kind in order.
 #[derive(Debug, PartialEq, Eq, Drop)]

@@ -1,7 +1,9 @@
 //! What the members of a group are told as its age opens.
 ghost use Rattle.std.specs.Prelude.{◌≡◌, ◌≤◌, ◌<◌, All, IfOk, [], length, map, slice_index_or};
 ghost use Rattle.std.specs.List.{range_with_len};
+ghost use Rattle.dr_machine.specs.Group.{IsPresent};
 ghost use Rattle.dr_script.specs.Ranges.{HasGroupRanges};
+ghost use Rattle.dr_restart.specs.Groups.{group_of};
 ghost use Rattle.dr_restart.specs.Setups.{IsSetupOf, crashes_of, suspicions_of};
 
 use crate::copies::{copy_entries, copy_messages};
@@ -26,7 +28,7 @@ pub fn shape_of(script: &Script) -> Shape
     }
 }
 
-/// The setup of the member `me` in an age. `nth` is the number of the age in the run, from 0.
+/// The setup of the member `me`, which is there, in an age. `nth` is the number of the age in the run, from 0.
 ///
 /// # Errors
 ///
@@ -40,6 +42,7 @@ pub fn setup_of(
 ) -> Result<Setup, AllocError>
     requires ranges { HasGroupRanges script.now }
     requires me { me < script.now.members }
+    requires present { IsPresent (group_of script.now start.now) me }
     ensures { IfOk result (λ s. IsSetupOf script.now start.now nth me s) }
 {
     let lists = script.messages.as_slice();

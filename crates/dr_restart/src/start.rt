@@ -1,5 +1,5 @@
 ghost use Rattle.std.specs.Prelude.{◌≡◌, IfOk};
-ghost use Rattle.dr_machine.specs.Group.{IsGroup};
+ghost use Rattle.dr_machine.specs.Group.{AllPresent, IsGroup};
 ghost use Rattle.dr_script.specs.Ranges.{HasGroupRanges};
 ghost use Rattle.dr_restart.specs.Groups.{first_start_of, first_group_of};
 
@@ -45,6 +45,7 @@ pub fn first_start(alloc: Global, script: &Script) -> Start
     requires { HasGroupRanges script.now }
     ensures start { result ≡ first_start_of script.now }
     ensures group { IsGroup (first_group_of script.now) }
+    ensures present { AllPresent (first_group_of script.now) }
 {
     let roster = Mask::all(script.members).bits();
     Start {

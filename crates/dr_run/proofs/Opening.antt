@@ -35,6 +35,12 @@ is_dealt script start nth members group lists some begun = record {
   begun = begun.begun;
 }
 
+-- so they are as many
+pub as_many_begun : (script : Script) (start : Start) (nth : ℕ) (members : List Running)
+    → HaveBegun script start nth script.members members → length members ≡ script.members
+as_many_begun script start nth members begun =
+    ap length begun.begun ∙ length-map begun.setups begun_running ∙ begun.are.all
+
 -- logs that are opened are for them
 pub are_for : {D : Type 0} (script : Script) (start : Start) (nth : ℕ) (members : List Running)
     (logs : List (LogState D)) → length script.messages ≡ script.members

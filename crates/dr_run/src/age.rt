@@ -1,7 +1,7 @@
 //! An age in threads, from its opening to the ends of all members.
 ghost use Rattle.std.specs.Prelude.{◌≡◌, MatchResult, IfOk, All, length};
 ghost use Rattle.dr_history.specs.Agreement.{EndsAgreed};
-ghost use Rattle.dr_machine.specs.Group.{IsGroup};
+ghost use Rattle.dr_machine.specs.Group.{AllPresent, IsGroup};
 ghost use Rattle.dr_program_laws.specs.Ended.{HaveEnded};
 ghost use Rattle.dr_program_laws.specs.Trusting.{NoneLeft, SuspectsNobody};
 ghost use Rattle.dr_restart.specs.Groups.{group_of};
@@ -41,6 +41,7 @@ pub fn run_script_age<R: Threads + Sync, D: Disk, P: Pace + Sync>(
 ) -> Result<(AgeEnd, Vec<Log<D>>), (Vec<Log<D>>, AllocError)>
     requires ranges { HasRanges script.now }
     requires group { IsGroup (group_of script.now start.now) }
+    requires present { AllPresent (group_of script.now start.now) }
     requires logs { AreOpened (group_of script.now start.now) logs.items }
     ensures run { IfOk result (λ r. IsRun script.now start.now nth r.0) }
     ensures agreed { IfOk result (λ r. EndsAgreed (group_of script.now start.now).opening r.0.members) }

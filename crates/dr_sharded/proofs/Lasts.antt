@@ -47,6 +47,7 @@ by_no_disk (ends.NoMajority mask) is = refl
 by_no_disk ends.DiskFault is = absurd (none-some _ (sym is))
 by_no_disk (ends.LogFull len) is = refl
 by_no_disk (ends.Spent turns) is = refl
+by_no_disk ends.Absent is = refl
 
 by_no_full_log : (e : End) → why_ended e ≡ None → is_of LogFull e ≡ false
 by_no_full_log ends.Done is = refl
@@ -57,6 +58,7 @@ by_no_full_log (ends.NoMajority mask) is = refl
 by_no_full_log ends.DiskFault is = refl
 by_no_full_log (ends.LogFull len) is = absurd (none-some _ (sym is))
 by_no_full_log (ends.Spent turns) is = refl
+by_no_full_log ends.Absent is = refl
 
 -- so no member of a shard ended so
 none_so : (kind : Kind) → ((e : End) → why_ended e ≡ None → is_of kind e ≡ false) → (mode : ShardMode)

@@ -1,5 +1,5 @@
 -- What the members of a shard deliver is what the script gives them.
-use Rattle.std.proofs.Common.{◌≡◌, ℕ, List, [], length, map, get_or, Some, slice_get, ap, sym, subst, ◌∙◌, arith, refl, ◌∷◌, ◌++◌}
+use Rattle.std.proofs.Common.{◌≡◌, ℕ, ◌-◌, ◌^◌, List, [], length, map, get_or, Some, slice_get, ap, sym, subst, ◌∙◌, arith, refl, ◌∷◌, ◌++◌}
 use Rattle.std.specs.Prelude.{All, IfOk, Ok, Err, Option, Result}
 use Rattle.std.specs.Option.{option_map_or}
 use Rattle.std.specs.declared.alloc.AllocError.{AllocError}
@@ -17,7 +17,7 @@ use Rattle.dr_history.specs.Restarting.{AllStand}
 use Rattle.dr_history_laws.proofs.Standing.{history-stands}
 use Rattle.dr_log.specs.State.{LogState}
 use Rattle.dr_machine.proofs.Presence.{is_present}
-use Rattle.dr_machine.specs.Group.{IsGroup}
+use Rattle.dr_machine.specs.Group.{AllPresent, IsGroup}
 use Rattle.dr_program.specs.Program.{Program, age_of, end_of}
 use Rattle.dr_program_laws.specs.Ended.{HaveEnded}
 use Rattle.dr_restart.specs.Groups.{first_group_of, first_start_of, group_of}
@@ -30,11 +30,12 @@ use Rattle.dr_shards.specs.declared.run.ShardMode.TheVariants.{Sim, Run}
 use Rattle.dr_sim.specs.Simulated.{IsSimulated}
 
 own : (script : Script) (ends : List MemberEnd) → IsGroup (first_group_of script)
+    → AllPresent (first_group_of script)
     → length ends ≡ length script.messages → EndsAgreed (first_group_of script).opening ends
     → DeliversOwn script ends
-own script ends is all agreed m d within s i bytes has =
+own script ends is present all agreed m d within s i bytes has =
     let g = first_group_of script in let e = get_or ends m d in
-    let there = is_present g m is (omega (arith, all)) in
+    let there = is_present g m present (omega (arith, all)) in
     let at : slice_get ends m ≡ Some e = slice_get-get_or ends m d within in
     let same : (accounts_of ends m).history ≡ e.history =
     ap (λ x. option_map_or (λ (y : MemberEnd). y.history) x []) at in
@@ -61,7 +62,7 @@ simulated script age is run has = record {
   run = run;
   agreed = has.agreed;
   ended = has.ended;
-  own = own script age.members is has.all has.agreed;
+  own = own script age.members is (ap (λ (n : ℕ). 2 ^ n - 1) (sym has.roster ∙ has.all)) has.all has.agreed;
   stored = has.stored;
 }
 
@@ -75,7 +76,7 @@ threaded script age is run has = record {
   run = run;
   agreed = has.agreed;
   ended = has.ended;
-  own = own script age.members is has.all has.agreed;
+  own = own script age.members is (ap (λ (n : ℕ). 2 ^ n - 1) (sym has.roster ∙ has.all)) has.all has.agreed;
   stored = has.stored;
 }
 

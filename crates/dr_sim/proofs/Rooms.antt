@@ -29,7 +29,7 @@ none_made told count members logs = record {
   others = λ m above. refl;
   same = λ m old new there here.
       let is = same_Some old new (sym there ∙ here) in
-      subst (λ x. IsAsBefore old x) is (record { entries = refl; votes = refl });
+      subst (λ x. IsAsBefore old x) is refl;
   calm = λ m old new there here.
       let is = same_Some new old (sym here ∙ there) in
       (ap (λ x. told x.disk) is, ap (λ x. count x.disk) is);
@@ -47,7 +47,7 @@ same_set olds news k x new same within is = λ m old y there here. elim (cases_e
       subst (λ z. IsAsBefore old z)
       (same_Some new y (sym (replica_set news k new within) ∙ ap (slice_get (slice_set news k new)) (sym at)
       ∙ here))
-      (record { entries = is.entries ∙ before.entries; votes = is.votes ∙ before.votes })
+      (is ∙ before)
 ]
 
 -- so does one whose disk tells what it told, and has counted no fault

@@ -3,7 +3,7 @@ ghost use Rattle.std.specs.Prelude.{◌≡◌, ◌≤◌, IfOk, OnErr, All, List
 ghost use Rattle.dr_program_laws.specs.Ended.{HaveEnded};
 ghost use Rattle.dr_program_laws.specs.Trusting.{NoneLeft, SuspectsNobody};
 ghost use Rattle.dr_history.specs.Agreement.{EndsAgreed};
-ghost use Rattle.dr_machine.specs.Group.{Group, IsGroup};
+ghost use Rattle.dr_machine.specs.Group.{AllPresent, Group, IsGroup};
 ghost use Rattle.dr_program.specs.Program.{Program, age_of};
 ghost use Rattle.dr_restart.specs.Groups.{group_of};
 ghost use Rattle.dr_restart.specs.Setups.{crashes_of};
@@ -41,6 +41,7 @@ pub fn sim_age<D: Disk>(
 ) -> Result<AgeEnd, AllocError>
     requires ranges { HasRanges script.now }
     requires group { IsGroup (group_of script.now start.now) }
+    requires present { AllPresent (group_of script.now start.now) }
     requires logs { AreOpened (group_of script.now start.now) logs.old }
     ensures run { IfOk result (λ age. IsSimulated script.now start.now nth age) }
     ensures agreed { IfOk result (λ age.
@@ -78,6 +79,7 @@ pub fn watch_age<D: Disk, W: Watcher>(
 ) -> Result<AgeEnd, AllocError>
     requires ranges { HasRanges script.now }
     requires group { IsGroup (group_of script.now start.now) }
+    requires present { AllPresent (group_of script.now start.now) }
     requires logs { AreOpened (group_of script.now start.now) logs.old }
     ensures run { IfOk result (λ age. IsSimulated script.now start.now nth age) }
     ensures watched { IfOk result (IsWatched W.opens W.sees W.closes script.now start.now nth

@@ -1,5 +1,5 @@
 ghost use Rattle.std.specs.Prelude.{◌≡◌, ◌<◌, ◌↔◌, IfOk, OnOk, IsTrue, true, false, length, slice_get};
-ghost use Rattle.dr_machine.specs.Group.{Group, IsGroup};
+ghost use Rattle.dr_machine.specs.Group.{AllPresent, Group, IsGroup};
 ghost use Rattle.dr_program.specs.Program.{AllEnded, Program};
 ghost use Rattle.dr_program.specs.Schedule.{has_ended};
 ghost use Rattle.dr_restart.specs.Groups.{group_of};
@@ -56,6 +56,7 @@ impl Simulation {
     ) -> Result<Simulation, AllocError>
         requires ranges { HasRanges script.now }
         requires group { IsGroup (group_of script.now start.now) }
+        requires present { AllPresent (group_of script.now start.now) }
         ensures begun { IfOk result (λ s. IsBegun script.now start.now nth s) }
         ensures sound { IfOk result (λ s. IsSound (group_of script.now start.now) s) }
     {

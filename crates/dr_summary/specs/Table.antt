@@ -7,7 +7,7 @@ use Rattle.dr_entry.specs.declared.entry.Entry.{Entry}
 use Rattle.dr_entry.specs.declared.entry.Entry.TheVariants.{View, Msg}
 use Rattle.dr_entry.specs.declared.end.AgeEnd.{AgeEnd}
 use Rattle.dr_entry.specs.declared.end.End.{End}
-use Rattle.dr_entry.specs.declared.end.End.TheVariants.{Done, Crashed, Suspected, Excluded, NoMajority, DiskFault, LogFull, Spent}
+use Rattle.dr_entry.specs.declared.end.End.TheVariants.{Done, Crashed, Suspected, Excluded, NoMajority, DiskFault, LogFull, Spent, Absent}
 use Rattle.dr_entry.specs.declared.end.MemberEnd.{MemberEnd}
 use Rattle.dr_quote.specs.Quote.{message_text}
 use Rattle.dr_summary.specs.Histories.{longest}
@@ -86,6 +86,7 @@ end_name (NoMajority mask) = codes "  nomajority"
 end_name DiskFault = codes "   diskfault"
 end_name (LogFull len) = codes "     logfull"
 end_name (Spent turns) = codes "       spent"
+end_name Absent = codes "      absent"
 
 -- the lines above the rows: the age's, the names of the members, and how they ended
 unfoldable pub age_line : AgeEnd → List ℕ

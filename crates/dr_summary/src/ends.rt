@@ -95,6 +95,7 @@ fn end_name(end: End) -> &'static str
         End::DiskFault => "   diskfault",
         End::LogFull { .. } => "     logfull",
         End::Spent { .. } => "       spent",
+        End::Absent => "      absent",
     }
 }
 

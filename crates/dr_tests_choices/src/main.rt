@@ -4,8 +4,8 @@
 //! A line that begins with a brace is a script, and takes away the logs; one that begins with `#` says what
 //! the lines behind it show. `log M` and what stands on it is the log of a member: `vA.N.L` is a View of an
 //! age, a number and members, `mS.I.T` a message of a sender, an index and a text, `bA.N.B.R.L` a vote of an
-//! age, a view, a ballot, a roster and leavers, and `aA.L` an age vote of an age and members. Members are
-//! listed as digits. `choose` and members chooses a start by the logs of all others.
+//! age, a view, a ballot, a roster and leavers, `aA.L` an age vote of an age and members. Members are listed as digits.
+//! `choose` and members chooses a start by the logs of all others.
 #![tactic(auto)]
 
 mod printing;

@@ -2,8 +2,8 @@
 ghost use Rattle.std.specs.Prelude.{◌≡◌, IfOk, vec_len};
 
 use anyhow::anyhow;
-use dr_entry::{Entry, MAX_MEMBERS, Message, Seq, Value, Vote};
-use dr_restart::{AgeVote, LogLists};
+use dr_entry::{AgeVote, Entry, MAX_MEMBERS, Message, Seq, Value, Vote};
+use dr_restart::LogLists;
 use std::alloc::Global;
 
 /// The logs of the first members, but those of the missing.

@@ -108,6 +108,7 @@ fn each_end(alloc: Global) -> Result<AgeEnd, AllocError> {
         End::DiskFault,
         End::LogFull { len: 2_147_483_600 },
         End::Spent { turns: 1_000_000 },
+        End::Absent,
     ] {
         members.push(member(alloc, end, Vec::new(alloc)))?;
     }

@@ -1,11 +1,11 @@
 -- The text of a report. Every line ends with one line feed, and numbers are decimal without leading zeros.
-use Rattle.std.specs.Prelude.{ℕ, ◌/◌, ◌%◌, false, List, [], ◌∷◌, ◌++◌, length, drop, codes, Option, None, Some}
+use Rattle.std.specs.Prelude.{ℕ, ◌/◌, ◌%◌, Bool, true, false, if◌then◌else◌, List, [], ◌∷◌, ◌++◌, length, drop, codes, Option, None, Some}
 use Rattle.std.specs.Fmt.{decimal, digit_glyph}
 use Rattle.std.specs.List.{concat, enumerate_from, flat_map, join_by}
 use Rattle.dr_entry.specs.declared.entry.Entry.{Entry}
 use Rattle.dr_entry.specs.declared.entry.Entry.TheVariants.{View, Msg}
 use Rattle.dr_entry.specs.declared.end.End.{End}
-use Rattle.dr_entry.specs.declared.end.End.TheVariants.{Done, Crashed, Suspected, Excluded, NoMajority, DiskFault, LogFull, Spent}
+use Rattle.dr_entry.specs.declared.end.End.TheVariants.{Done, Crashed, Suspected, Excluded, NoMajority, DiskFault, LogFull, Spent, Absent}
 use Rattle.dr_entry.specs.declared.end.MemberEnd.{MemberEnd}
 use Rattle.dr_entry.specs.declared.end.AgeEnd.{AgeEnd}
 use Rattle.dr_history.specs.Members.{members_of}
@@ -48,14 +48,25 @@ end_text (NoMajority mask) = codes "nomajority " ++ mask_text mask
 end_text DiskFault = codes "diskfault"
 end_text (LogFull len) = codes "logfull " ++ decimal len
 end_text (Spent turns) = codes "spent " ++ decimal turns
+end_text Absent = codes "absent"
+
+-- whether it took no part
+abbrev pub is_absent : End → Bool
+is_absent Absent = true
+is_absent end = false
+
+-- how many entries its history has, how many of them are on its log, and how many are durable
+abbrev pub counts_text : MemberEnd → List ℕ
+counts_text m =
+    concat
+    (codes " history " ∷ decimal (length m.history)
+    ∷ codes " logged " ∷ decimal m.logged ∷ codes " durable " ∷ decimal m.durable ∷ codes "\n" ∷ [])
 
 -- the line of a member with this number
 abbrev pub member_line : ℕ → MemberEnd → List ℕ
 member_line number m =
-    concat
-    (codes "member " ∷ decimal number ∷ codes " " ∷ end_text m.end
-    ∷ codes " history " ∷ decimal (length m.history)
-    ∷ codes " logged " ∷ decimal m.logged ∷ codes " durable " ∷ decimal m.durable ∷ codes "\n" ∷ [])
+    concat (codes "member " ∷ decimal number ∷ codes " " ∷ end_text m.end ∷ [])
+    ++ (if is_absent m.end then codes "\n" else counts_text m)
 
 -- a member with this number: its line, and the entries of its history after the age's first `start` ones
 abbrev pub member_text : ℕ → ℕ → MemberEnd → List ℕ

@@ -3,7 +3,7 @@ ghost use Rattle.std.specs.List.{flat_map};
 ghost use Rattle.dr_text.specs.Report.{age_head, age_text, entry_text, members_text, member_line, member_text};
 ghost use Rattle.dr_text.specs.Pieces.{pieces_text};
 
-use crate::ends::push_end;
+use crate::ends::{is_absent, push_end};
 use crate::entries::push_entries;
 use crate::pieces::{Piece, PiecedText};
 use crate::printed::{Printed, behind};
@@ -134,6 +134,9 @@ pub fn push_member_line(
     let durable = member.durable;
     write!(out, "member {number} ")?;
     push_end(out, member.end)?;
+    if is_absent(member.end) {
+        return out.push_str("\n");
+    }
     writeln!(out, " history {count} logged {logged} durable {durable}")
 }
 

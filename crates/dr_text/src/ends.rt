@@ -1,6 +1,6 @@
 ghost use Rattle.std.specs.Prelude.{◌≡◌, ◌++◌, OnOk, string_bytes};
 ghost use Rattle.dr_entry.specs.declared.end.End.{End};
-ghost use Rattle.dr_text.specs.Report.{end_text};
+ghost use Rattle.dr_text.specs.Report.{end_text, is_absent};
 
 use crate::entries::push_mask;
 use dr_entry::End;
@@ -24,7 +24,15 @@ pub fn push_end(out: &mut String, end: End) -> Result<(), AllocError>
         End::DiskFault => out.push_str("diskfault"),
         End::LogFull { len } => write!(out, "logfull {len}"),
         End::Spent { turns } => write!(out, "spent {turns}"),
+        End::Absent => out.push_str("absent"),
     }
+}
+
+/// Whether a member took no part.
+pub(crate) fn is_absent(end: End) -> bool
+    ensures { result ≡ is_absent end }
+{
+    matches!(end, End::Absent)
 }
 
 fn push_no_majority(out: &mut String, mask: u16) -> Result<(), AllocError>

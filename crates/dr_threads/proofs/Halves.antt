@@ -1,5 +1,5 @@
 -- The answers of two halves are the answer of both.
-use Rattle.std.proofs.Common.{◌≡◌, refl, sym, ap, ◌∙◌, subst, inl, inr, ◌⊎◌, ℕ, zero, suc, ◌+◌, List, [], ◌∷◌, ◌++◌, append-nil, length, length-append, map, take, drop, le_refl, arith}
+use Rattle.std.proofs.Common.{◌≡◌, refl, sym, ap, ◌∙◌, subst, inl, inr, ◌⊎◌, ℕ, zero, suc, ◌+◌, List, [], ◌∷◌, ◌++◌, length, length-append, map, take, drop, le_refl, arith}
 use Rattle.std.specs.Prelude.{All, Option, Some, Result, Ok, Err, Vec, slice_get}
 use Rattle.std.specs.declared.alloc.AllocError.{AllocError}
 use Rattle.std.specs.declared.alloc.Global.{Global}
@@ -11,7 +11,9 @@ use Rattle.dr_disk.specs.Disk.{Told}
 use Rattle.dr_history_laws.proofs.Lists.{slice_get-some}
 use Rattle.dr_log.specs.Standing.{LosesNone}
 use Rattle.dr_log.specs.State.{LogState}
+use Rattle.dr_log.proofs.Ordinary.{has_itself}
 use Rattle.dr_logged.specs.Served.{HaveServed}
+use Rattle.dr_logged.proofs.Serving.{has_base}
 use Rattle.dr_program.specs.Running.{Running}
 use Rattle.dr_table.specs.Cards.{Cards, IsAtEnd}
 use Rattle.dr_table.specs.Rule.{number}
@@ -106,8 +108,7 @@ module _ {D : Type 0} (told : D → Option Told) (faults : D → ℕ) where
         (omega (arith, slice_get_within logs k old from, m, as_many before members h.over.same)) in
         let come = h.served k old new x from there member in
         record {
-          entries = come.come.more;
-          votes = (x.replica.votes, come.come.voted);
+          has = has_base told faults old new x.replica x.failed come.come;
           moments = inr come.come.moments;
           lasting = come.come.lasting;
           later = come.come.later;
@@ -143,10 +144,9 @@ module _ {D : Type 0} (told : D → Option Told) (faults : D → ℕ) where
         let is = same_Some old new (sym from ∙ there) in
         subst (λ x. IsLonger told faults old x) is
         (record {
-          entries = ([], sym (append-nil old.entries));
-          votes = ([], sym (append-nil old.votes));
+          has = has_itself old.content;
           moments = inl refl;
-          lasting = λ es vs. lasts_still (told old.disk) (LosesNone es vs);
+          lasting = λ first. lasts_still (told old.disk) (LosesNone first);
           later = le_refl _;
         });
   }

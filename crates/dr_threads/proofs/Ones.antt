@@ -1,12 +1,13 @@
 -- The run of one member: its log before, and behind it.
-use Rattle.std.proofs.Common.{◌≡◌, sym, ap, ◌∙◌, subst, inl, ℕ, ◌*◌, ◌-◌, max, false, List, [], append-nil, length, length-set, get_or, arith}
+use Rattle.std.proofs.Common.{◌≡◌, sym, ap, ◌∙◌, subst, inl, ℕ, ◌*◌, ◌-◌, max, false, List, [], length, length-set, get_or, arith}
 use Rattle.std.specs.Prelude.{Option, Some, slice_get, slice_set}
 use Rattle.std.proofs.lemmas.Option.{same_Some, slice_get_read, slice_get_within}
 use Rattle.atomic_table.specs.Seated.{TableId}
 use Rattle.dr_disk.proofs.Moments.{lasts_still}
 use Rattle.dr_disk.specs.Disk.{Told}
-use Rattle.dr_log.specs.Standing.{LosesNone}
+use Rattle.dr_log.specs.Standing.{HasAllOf, LosesNone}
 use Rattle.dr_log.specs.State.{LogState}
+use Rattle.dr_log.proofs.Ordinary.{has_itself}
 use Rattle.dr_logged.specs.Served.{HasServed, IsReady, IsSafe}
 use Rattle.dr_logged.proofs.Serving.{begins}
 use Rattle.dr_program.proofs.Holdings.{replica_set}
@@ -42,6 +43,7 @@ module _ {D : Type 0} (told : D → Option Told) (faults : D → ℕ) where
         disk = new.disk;
         spare_entries = max old.spare_entries n;
         spare_votes = max old.spare_votes k;
+        spare_others = max old.spare_others 3;
       }
       → told new.disk ≡ told old.disk → faults new.disk ≡ faults old.disk
       → (old.failed ≡ false → IsSafe told new) → HasServed told faults old new r × IsReady new r
@@ -62,10 +64,9 @@ module _ {D : Type 0} (told : D → Option Told) (faults : D → ℕ) where
         let be = same_Some new now (sym (replica_set logs 0 new (omega (arith, one)))
         ∙ ap (slice_get (slice_set logs 0 new)) (sym first) ∙ to) in
         subst (λ x. IsLonger told faults x now) is (subst (λ x. IsLonger told faults old x) be (record {
-          entries = ([], ap (λ (l : LogState D). l.entries) made ∙ sym (append-nil old.entries));
-          votes = ([], ap (λ (l : LogState D). l.votes) made ∙ sym (append-nil old.votes));
+          has = subst (HasAllOf old.content) (sym (ap (λ (l : LogState D). l.content) made)) (has_itself old.content);
           moments = inl tells;
-          lasting = λ es vs. rw tells (lasts_still (told old.disk) (LosesNone es vs));
+          lasting = λ first. rw tells (lasts_still (told old.disk) (LosesNone first));
           later = omega (arith, calm);
         }));
   }

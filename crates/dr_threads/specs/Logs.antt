@@ -1,10 +1,8 @@
 -- The logs of a hand's members, before a run and behind it.
-use Rattle.std.specs.Prelude.{◌≡◌, ◌⊎◌, ◌≤◌, ℕ, false, List, [], ◌++◌, length, slice_get, Option, None, Some}
+use Rattle.std.specs.Prelude.{◌≡◌, ◌⊎◌, ◌≤◌, ℕ, false, List, [], length, slice_get, Option, None, Some}
 use Rattle.dr_disk.specs.Disk.{Told}
 use Rattle.dr_disk.specs.Images.{Goes}
-use Rattle.dr_entry.specs.declared.entry.Entry.{Entry}
-use Rattle.dr_entry.specs.declared.record.Vote.{Vote}
-use Rattle.dr_log.specs.Standing.{LosesNone}
+use Rattle.dr_log.specs.Standing.{HasAllOf, LosesNone}
 use Rattle.dr_log.specs.State.{LogState}
 use Rattle.dr_logged.specs.Served.{LosesNothing}
 use Rattle.dr_program.specs.Running.{Running}
@@ -12,7 +10,7 @@ use Rattle.dr_program.specs.Running.{Running}
 -- a log has all of its member's history, as the age opens, no append to it has failed, and the member has not
 -- voted
 pub record IsFor {D : Type 0} (log : LogState D) (r : Running) : Type 0 where
-  pub entries : log.entries ≡ r.replica.history
+  pub entries : log.content.entries ≡ r.replica.history
   pub whole : log.failed ≡ false
   pub logged : r.replica.logged ≡ length r.replica.history
   pub votes : r.replica.votes ≡ []
@@ -24,15 +22,14 @@ pub record AreFor {D : Type 0} (logs : List (LogState D)) (members : List Runnin
   pub each : (k : ℕ) (log : LogState D) (r : Running) → slice_get logs k ≡ Some log
       → slice_get members k ≡ Some r → IsFor log r
 
--- a log has the entries and the votes that it had, and maybe more; its disk tells what it told, or at no moment
+-- a log has all that it had, and maybe more; its disk tells what it told, or at no moment
 -- of what it did would a crash have lost one; what no crash would have lost at a moment, of what was there and
 -- of what came, none would have lost later; and no count of faults fell
 pub record IsLonger {D : Type 0} (told : D → Option Told) (faults : D → ℕ) (old new : LogState D)
     : Type 0 where
-  pub entries : (more : List Entry) × (new.entries ≡ old.entries ++ more)
-  pub votes : (more : List Vote) × (new.votes ≡ old.votes ++ more)
+  pub has : HasAllOf old.content new.content
   pub moments : (told new.disk ≡ told old.disk)
-      ⊎ Goes (told old.disk) (told new.disk) (λ s. LosesNone old.entries old.votes)
+      ⊎ Goes (told old.disk) (told new.disk) (λ s. LosesNone old.content)
   pub lasting : LosesNothing told old new
   pub later : faults old.disk ≤ faults new.disk
 

@@ -7,10 +7,9 @@ use Rattle.std.proofs.lemmas.Option.{slice_get_within}
 use Rattle.dr_history.specs.Places.{front_of, is_held}
 use Rattle.dr_history.proofs.Fronts.{first_within}
 use Rattle.dr_history_laws.proofs.Members.{members_of-few}
-use Rattle.dr_machine.proofs.Presence.{is_present}
 use Rattle.dr_machine.specs.Acts.{effect_of}
 use Rattle.dr_machine.specs.Effects.{one_more}
-use Rattle.dr_machine.specs.Group.{Group, roster}
+use Rattle.dr_machine.specs.Group.{Group, IsPresent, roster}
 use Rattle.dr_machine.specs.World.{World}
 use Rattle.dr_machine.specs.Writes.{at₃}
 use Rattle.dr_program.specs.Form.{HasForm}
@@ -113,14 +112,14 @@ acts_few g p m r is =
     first : r.replica.banks - r.replica.view ≡ r.replica.banks
     first = omega (arith, (is.ease m r is.there).first)
 
-    l : m < roster g
-    l = omega (arith, slice_get_within p.members m r is.there, is.steady.program.all)
+    here : IsPresent g m
+    here = (is.steady.program.of m r is.there).present
 
     next : r.replica.next ≤ 16 * 4096
     next = omega (
       arith,
-      y.chosen.faithful.delivered.held m m (is_present g m is.steady.group l)
-          (y.chosen.faithful.views.present m (is_present g m is.steady.group l)),
+      y.chosen.faithful.delivered.held m m here
+          (y.chosen.faithful.views.present m here),
       ap (λ h. h.next) (held_of g (replicas p.members) p.table m q (member g p m r is).there),
       own_shown g (replicas p.members) p.table m q RECEIVED_COLUMN (member g p m r is).there,
       form.received,
@@ -130,8 +129,8 @@ acts_few g p m r is =
     durable : r.replica.durable ≤ r.replica.room
     durable = omega (
       arith,
-      y.chosen.faithful.logs.safe m m (is_present g m is.steady.group l)
-          (y.chosen.faithful.views.present m (is_present g m is.steady.group l)),
+      y.chosen.faithful.logs.safe m m here
+          (y.chosen.faithful.views.present m here),
       ap (λ h. h.durable) (held_of g (replicas p.members) p.table m q (member g p m r is).there),
       ap (λ h. length h.log) (held_of g (replicas p.members) p.table m q (member g p m r is).there),
       length-take q.logged q.history,

@@ -6,7 +6,6 @@ use Rattle.std.proofs.lemmas.Bool.Decides.{nat_tests}
 use Rattle.dr_faithful.specs.Chosen.{views_by}
 use Rattle.dr_history.specs.Members.{has}
 use Rattle.dr_machine.specs.declared.step.Step.{Step}
-use Rattle.dr_machine.proofs.Presence.{is_present}
 use Rattle.dr_machine.specs.Group.{Group, columns, roster}
 use Rattle.dr_machine.specs.World.{own_word}
 use Rattle.dr_program.specs.declared.outcome.LogWhy.{LogWhy}
@@ -40,6 +39,7 @@ use Rattle.dr_turn_laws.specs.Wants.{Wants}
 use Rattle.dr_turn_laws.proofs.Acts.{asked, uncrashed}
 use Rattle.dr_turn_laws.proofs.Before.{before_after}
 use Rattle.dr_program_laws.proofs.Trusting.{IsAmong, nobody_suspects, stay_first, votes_nothing}
+use Rattle.dr_program_laws.proofs.Worlds.{all_there}
 
 -- member m of a steady program in which nobody suspects anybody, which has not ended
 pub record IsGoing (g : Group) (p : Program) (m : ℕ) (r : Running) : Type 0 where
@@ -71,7 +71,7 @@ in_view g p m r i is within =
     ap (λ x. has x i) (told.views.own m)
     ∙ ap (λ v. has (views_by g y.values v) i)
     (stay_first g p m is.ease ∙ sym (stay_first g p i is.ease))
-    ∙ told.views.present i (is_present g i is.steady.group within)
+    ∙ told.views.present i (all_there g p i is.steady.program within)
 
 -- ---- tests
 

@@ -29,6 +29,7 @@ use Rattle.dr_world.specs.Begun.{HaveBegun}
 with_one_turn : (g : Group) (limit m : ℕ) (s : Setup) → IsSetup g limit m s
     → IsSetup g 1 m (record s { turns = 1 })
 with_one_turn g limit m s is = record {
+  present = is.present;
   members = is.members;
   window = is.window;
   banks = is.banks;
@@ -45,7 +46,7 @@ begins : (g : Group) (limit m : ℕ) (s : Setup) → IsGroup g → IsSetup g lim
     → HasForm (begun_replica s) × IsOf g m (begun_replica s)
 begins g limit m s is setup within =
     let begun = begins_in_form g 1 m (record s { turns = 1 }) is (omega arith)
-    (with_one_turn g limit m s setup) within in
+    (with_one_turn g limit m s setup) in
     (begun.0.replica, begun.1)
 
 begun_room : (g : Group) (limit m : ℕ) (s : Setup) → IsSetup g limit m s

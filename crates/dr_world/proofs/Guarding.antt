@@ -1,12 +1,13 @@
 -- The test of an event at the replica of its member is the guard of that event, in every world that is
 -- reached.
-use Rattle.std.proofs.Common.{◌≡◌, ◌↔◌, ℕ, ◌<◌, true}
+use Rattle.std.proofs.Common.{◌≡◌, ◌↔◌, ℕ, ◌<◌, arith, true}
 use Rattle.std.specs.Prelude.{Some, slice_get}
+use Rattle.dr_history_laws.proofs.Lists.{slice_get-some}
 use Rattle.dr_machine.specs.declared.event.Event.{Event}
 use Rattle.dr_machine.specs.Events.{member_of, step_of}
 use Rattle.dr_machine.proofs.Presence.{in_roster}
 use Rattle.dr_machine.proofs.Runs.{events_reached}
-use Rattle.dr_machine.specs.Group.{Group, IsGroup, roster}
+use Rattle.dr_machine.specs.Group.{Group, IsGroup, IsPresent, roster}
 use Rattle.dr_machine.specs.World.{World}
 use Rattle.dr_machine.specs.Acts.{Guard}
 use Rattle.dr_program.specs.Replica.{Replica}
@@ -28,6 +29,13 @@ is_member h m r is there = record {
   form = is.members.form m r there;
   of = is.members.of m r there;
 }
+
+-- there is one for each number of the roster, so each member of it is there
+pub held_there : (h : Held) (m : ℕ) → IsHeld h → m < roster (its_group h) → IsPresent (its_group h) m
+held_there h m is l = by (slice_get-some h.replicas m (omega (arith, l, is.members.all)))
+  where
+    by : (r : Replica) × (slice_get h.replicas m ≡ Some r) → IsPresent (its_group h) m
+    by (r, there) = (is.members.of m r there).present
 
 -- ---- the guard
 

@@ -1,6 +1,6 @@
 //! What a world opens with.
 ghost use Rattle.std.specs.Prelude.{◌≡◌, IfOk};
-ghost use Rattle.dr_machine.specs.Group.{IsGroup};
+ghost use Rattle.dr_machine.specs.Group.{AllPresent, IsGroup};
 ghost use Rattle.dr_script.specs.Ranges.{HasGroupRanges};
 ghost use Rattle.dr_restart.specs.Groups.{group_of};
 ghost use Rattle.dr_world.specs.Begun.{HaveBegun};
@@ -19,6 +19,7 @@ pub(crate) fn replicas_of(
 ) -> Result<Vec<Replica>, AllocError>
     requires ranges { HasGroupRanges script.now }
     requires group { IsGroup (group_of script.now start.now) }
+    requires present { AllPresent (group_of script.now start.now) }
     ensures { IfOk result (λ rs. HaveBegun script.now start.now script.now.members rs.items) }
 {
     let mut replicas = Vec::with_capacity(alloc, usize::from(script.members))?;

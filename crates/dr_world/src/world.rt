@@ -1,5 +1,5 @@
-ghost use Rattle.std.specs.Prelude.{◌≡◌, ◌↔◌, ◌<◌, IfOk, IsTrue, Some, false, slice_get};
-ghost use Rattle.dr_machine.specs.Group.{IsGroup, columns, roster};
+ghost use Rattle.std.specs.Prelude.{◌≡◌, ◌↔◌, ◌<◌, ℕ, IfOk, IsTrue, Some, false, slice_get};
+ghost use Rattle.dr_machine.specs.Group.{AllPresent, IsGroup, IsPresent, columns, roster};
 ghost use Rattle.dr_machine.specs.Acts.{Guard};
 ghost use Rattle.dr_machine.specs.Run.{ComesOfEvents, Happens, Run, WordsGrew};
 ghost use Rattle.dr_machine.specs.World.{items_received, opening_world};
@@ -48,6 +48,7 @@ impl World {
     pub fn opening(alloc: Global, script: &Script, start: &Start) -> Result<World, AllocError>
         requires ranges { HasGroupRanges script.now }
         requires group { IsGroup (group_of script.now start.now) }
+        requires present { AllPresent (group_of script.now start.now) }
         ensures opening { IfOk result (λ w. its_world w ≡ opening_world (group_of script.now start.now)) }
         ensures script { IfOk result (λ w. w.script ≡ script.now) }
         ensures start { IfOk result (λ w. w.start ≡ start.now) }
@@ -110,6 +111,7 @@ impl World {
     pub fn members(&self) -> u8
         ensures members { result ≡ roster (its_group self.now) }
         ensures group { IsGroup (its_group self.now) }
+        ensures present { (m : ℕ) → m < roster (its_group self.now) → IsPresent (its_group self.now) m }
         ensures events { ComesOfEvents (its_group self.now) (its_world self.now) }
     {
         self.replicas.len() as u8

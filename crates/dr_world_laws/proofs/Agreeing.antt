@@ -25,6 +25,7 @@ use Rattle.dr_machine.specs.World.{World}
 use Rattle.dr_machine.specs.Run.{accounts_in, WorldAgreed}
 use Rattle.dr_faithful.specs.Chosen.{Values, endings_by, views_by}
 use Rattle.dr_world_laws.specs.Historic.{IsMerged, head_by, view_numbered}
+use Rattle.dr_world_laws.proofs.Away.{ended-there, there-or-first}
 use Rattle.dr_world_laws.proofs.Completion.{done_shown}
 use Rattle.dr_world_laws.proofs.ChosenViews.{place-kept}
 use Rattle.dr_world_laws.proofs.Finishing.{goes-any}
@@ -42,14 +43,14 @@ may-reach g values w m is y l = record {
     ended = λ u less. (y.laid.left m u l less).ended;
     goes = λ u less. goes-any g values w u is y.faithful y.laid.historic;
   };
-  held = held-next g (views_by g values) w m y.faithful l;
+  held = held-next g (views_by g values) w m y.faithful (there-or-first g w m y.away);
 }
 
 -- and where another member has come to a later view, it has passed no place that is cut off
 pub is-kept : (g : Group) (values : Values) (w : World) (m k : ℕ) → IsGroup g → Known g values w
     → m < roster g → k < roster g
     → IsUncut g.opening (endings_by g.opening values) (w.past.view m) (w.next m) (w.past.view k)
-is-kept g values w m k is y l r less = place-kept g values w m is y.faithful l (λ s there.
+is-kept g values w m k is y l r less = place-kept g values w m is y.faithful (there-or-first g w m y.away) (λ s there.
     let t = (y.laid.left k (w.past.view m) r less).least s there in (t.0, t.1, t.3))
 
 pub in-order : (g : Group) (values : Values) (w : World) (m : ℕ) → IsGroup g → Known g values w
@@ -153,7 +154,7 @@ agreed g values w is y = agreed-by g values w (accounts_in w) is y
 pub done-durable : (g : Group) (values : Values) (w : World) (m : ℕ) → Known g values w → m < roster g
     → w.end m ≡ Some Done → w.past.durable m ≡ length (w.past.history m)
 done-durable g values w m y l e = y.complete.durable m l
-    (done_shown g (views_by g values) w m y.faithful y.complete l e)
+    (done_shown g (views_by g values) w m y.faithful y.complete (ended-there g w m Done y.away e) e)
 
 -- a member that ended as done holds all messages of the members of its view
 pub done-whole : (g : Group) (values : Values) (w : World) (m : ℕ) → IsGroup g → Known g values w
@@ -168,7 +169,7 @@ done-whole g values w m is y l e s member =
     omega (
       arith,
       ((y.faithful.words.own m (w.past.view m) DONE_COLUMN).done refl).1
-          (done_shown g (views_by g values) w m y.faithful y.complete l e) s of_view,
+          (done_shown g (views_by g values) w m y.faithful y.complete (ended-there g w m Done y.away e) e) s of_view,
       ap (λ es. length (messages_from s es)) all,
       ap length numbered.1,
       length-append (messages_from s (w.past.history m)) numbered.0,

@@ -1,7 +1,6 @@
 -- The views of an age, each of which ends with a value: their members, how one follows another, and what
 -- stays of a view that was left.
 use Rattle.std.proofs.Common.{Bool, List, [], ◌&&◌, not, ap, arith, false, inl, inr, length, map, refl, slice_index, subst, suc, sym, true, zero, get_or, ℕ, ◌+◌, ◌^◌, ◌-◌, ◌<◌, ◌∙◌, ◌≡◌, ◌≢◌, ◌≤◌, ◌⊎◌, if◌then◌else◌}
-use Rattle.std.proofs.Math.Pow.{pow_mono}
 use Rattle.std.proofs.lemmas.Bool.{cases_eq}
 use Rattle.std.proofs.lemmas.List.{get_or-map, length-map}
 use Rattle.std.proofs.lemmas.Option.{get_or_from_slice_get, slice_get-get_or}
@@ -13,8 +12,8 @@ use Rattle.dr_history_laws.specs.Courses.{counts_taken, view_in}
 use Rattle.dr_history_laws.proofs.Courses.{ended-steady, members-first, members-next}
 use Rattle.dr_history_laws.proofs.Lists.{slice_get-some}
 use Rattle.dr_history_laws.proofs.Members.{has-member, member-has}
-use Rattle.dr_words.proofs.Bits.{has_ones}
-use Rattle.dr_words.proofs.Masks.{has_without_mask, without_small}
+use Rattle.dr_machine.proofs.Presence.{in_roster}
+use Rattle.dr_words.proofs.Masks.{has_without_mask, in_roster_small, without_small}
 use Rattle.dr_words.proofs.Ranks.{length-members_below_suc, some_member}
 use Rattle.dr_words.specs.Columns.{recv_column}
 use Rattle.dr_words.specs.Masks.{IsMajorityOf, IsPartOf, without}
@@ -50,13 +49,10 @@ pub remaining-next : (g : Group) (values : Values) (v : ℕ)
     → (endings_by g.opening values v).remaining ≡ views_by g values (v + 1)
 remaining-next g values v = sym (members-next g.opening (endings_by g.opening values) v)
 
-whole-small : (n : ℕ) → n ≤ 16 → 2 ^ n - 1 < 2 ^ 16
-whole-small n l = let most : 2 ^ n ≤ 2 ^ 16 = pow_mono l in omega (arith, most)
-
 -- each is a mask
 pub views-small : (g : Group) (values : Values) (v : ℕ) → IsGroup g → views_by g values v < 2 ^ 16
-views-small g values zero is = rw (views-first g values, is.sound.whole)
-    (whole-small (roster g) is.most_members)
+views-small g values zero is = rw (views-first g values) (in_roster_small 16 g.opening.members
+    (λ i h. omega (arith, is.sound.members.within i h, is.most_members)))
 views-small g values (suc v) is =
     let next : suc v ≡ v + 1 = omega arith in
     rw (next, views-next g values v) (without_small (views_by g values v) (values v).leavers)
@@ -77,7 +73,7 @@ views-part g values v i is h = was_in _ _
 pub views-within : (g : Group) (values : Values) (v i : ℕ) → IsGroup g → has (views_by g values v) i ≡ true
     → i < roster g
 views-within g values zero i is h =
-    grind (arith, has_ones (roster g) i, is.sound.whole, views-first g values, h)
+    is.sound.members.within i (subst (λ mask. has mask i ≡ true) (views-first g values) h)
 views-within g values (suc v) i is h =
     let next : suc v ≡ v + 1 = omega arith in
     views-within g values v i is (views-part g values v i is
@@ -85,6 +81,15 @@ views-within g values (suc v) i is h =
 
 pub stays_in : (a b : Bool) → a ≡ true → b ≡ false → (a && not b) ≡ true
 stays_in a b e d = grind (arith, e, d)
+
+-- so everybody in a view was in the first one
+pub views-of-first : (g : Group) (values : Values) (v i : ℕ) → IsGroup g → has (views_by g values v) i ≡ true
+    → has g.opening.members i ≡ true
+views-of-first g values zero i is h = subst (λ mask. has mask i ≡ true) (views-first g values) h
+views-of-first g values (suc v) i is h =
+    let next : suc v ≡ v + 1 = omega arith in
+    views-of-first g values v i is (views-part g values v i is
+    (subst (λ n. has (views_by g values n) i ≡ true) next h))
 
 -- who doesn't leave is in the next one
 pub views-stays : (g : Group) (values : Values) (v i : ℕ) → IsGroup g → has (views_by g values v) i ≡ true
@@ -121,7 +126,7 @@ less_step x y false true part l = omega (arith, l)
 less_step x y false false part l = omega (arith, l)
 
 -- a part of a mask has no more members, and fewer where it lacks one
-no_more_below : (a b n : ℕ) → IsPartOf a b → length (members_below a n) ≤ length (members_below b n)
+pub no_more_below : (a b n : ℕ) → IsPartOf a b → length (members_below a n) ≤ length (members_below b n)
 unfolding members_below
 no_more_below a b zero part = omega arith
 no_more_below a b (suc n) part = rw (length-members_below_suc a n, length-members_below_suc b n)
@@ -235,14 +240,14 @@ left-steady g values w u v is f f' grew words left = record {
   covered = λ i s remains member. omega (arith, left.covered i s remains member, grew.count i v s);
 }
 
--- nobody has delivered a place of it that is cut off
-pub place-kept : (g : Group) (values : Values) (w : World) (m : ℕ) → IsGroup g
-    → Faithful g (views_by g values) w → m < roster g
+-- nobody that is there has delivered a place of it that is cut off
+place-kept-there : (g : Group) (values : Values) (w : World) (m : ℕ) → IsGroup g
+    → Faithful g (views_by g values) w → IsPresent g m
     → ((s : ℕ) → has (views_by g values (w.past.view m)) s ≡ true
     → (j : ℕ) × (has (views_by g values (w.past.view m)) j ≡ true)
     × (w.past.count j (w.past.view m) s ≤ slice_index (values (w.past.view m)).trim s))
     → w.next m ≤ front_of (counts_taken g.opening (endings_by g.opening values) (w.past.view m))
-place-kept g values w m is f l least = (front_is (map taken ms) some).greatest (w.next m) held
+place-kept-there g values w m is f there least = (front_is (map taken ms) some).greatest (w.next m) held
   where
     v : ℕ
     v = w.past.view m
@@ -253,8 +258,8 @@ place-kept g values w m is f l least = (front_is (map taken ms) some).greatest (
     taken : ℕ → ℕ
     taken s = slice_index (values (w.past.view m)).trim s
 
-    there : IsPresent g m
-    there = f.beginning.all m l
+    l : m < roster g
+    l = in_roster g m is there
 
     some : 0 < length (map taken (members_of (views_by g values (w.past.view m))))
     some = omega (
@@ -285,3 +290,13 @@ place-kept g values w m is f l least = (front_is (map taken ms) some).greatest (
         let has_it = front.held rank k (omega (arith, within, same))
         (omega (arith, place, f.delivered.held m j.0 there j.1, f.counts.received j.0 v)) in
         omega (arith, has_it, read, cut, j.2)
+
+-- nor has one that is at its first place
+pub place-kept : (g : Group) (values : Values) (w : World) (m : ℕ) → IsGroup g
+    → Faithful g (views_by g values) w → IsPresent g m ⊎ (w.next m ≡ 0)
+    → ((s : ℕ) → has (views_by g values (w.past.view m)) s ≡ true
+    → (j : ℕ) × (has (views_by g values (w.past.view m)) j ≡ true)
+    × (w.past.count j (w.past.view m) s ≤ slice_index (values (w.past.view m)).trim s))
+    → w.next m ≤ front_of (counts_taken g.opening (endings_by g.opening values) (w.past.view m))
+place-kept g values w m is f (inl there) least = place-kept-there g values w m is f there least
+place-kept g values w m is f (inr none) least = omega (arith, none)

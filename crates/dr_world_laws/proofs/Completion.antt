@@ -10,7 +10,7 @@ use Rattle.dr_machine.proofs.Events.{AreDoneAs, marks_or_leaves, progress_after}
 use Rattle.dr_machine.specs.declared.event.Event.{Event}
 use Rattle.dr_machine.specs.declared.step.Step.{Step}
 use Rattle.dr_machine.specs.Events.{member_of, step_of}
-use Rattle.dr_machine.specs.Group.{Group, roster}
+use Rattle.dr_machine.specs.Group.{Group, IsPresent, roster}
 use Rattle.dr_machine.specs.Acts.{CanTake, Guard, effect, effect_of}
 use Rattle.dr_machine.specs.Guards.{CanReport, CanMark, CanDeliver}
 use Rattle.dr_machine.specs.Run.{WordsGrew}
@@ -38,12 +38,12 @@ shows_own w m c x l = grind (arith, l)
 -- ---- who shows done
 
 -- a member that knows more to be durable knew less than it has logged, so it didn't show done
-reported : (g : Group) (V : Views) (w : World) (m : ℕ) → m < roster g → Faithful g V w → CanReport g w m
+reported : (g : Group) (V : Views) (w : World) (m : ℕ) → Faithful g V w → CanReport g w m
     → w.past.durable m ≡ length (w.past.history m) → ⊥
-reported g V w m l f can e = omega (
+reported g V w m f can e = omega (
   arith,
   shows_own w m LOGGED_COLUMN (w.past.durable m) (can.logged m (subst (λ x. has x m ≡ true)
-      (sym (f.views.own m)) (f.views.present m (f.beginning.all m l)))),
+      (sym (f.views.own m)) (f.views.present m can.may.alive.present))),
   (f.words.own m (w.past.view m) LOGGED_COLUMN).logged refl,
   e,
   length-append (w.past.log m) (f.logs.front m).0,
@@ -67,7 +67,7 @@ still_durable g V w m s f nothing can c = progress_after g w m s (λ x. (k : ℕ
       knows_more = λ can. at_case
           (λ k d. k < roster g → own_word w k DONE_COLUMN ≡ 1 → d ≡ length (w.past.history k))
           w.past.durable m (least_shown w m LOGGED_COLUMN) (λ k d. c.durable k)
-          (λ l e. absurd (reported g V w m l f can (c.durable m l e)));
+          (λ l e. absurd (reported g V w m f can (c.durable m l e)));
       goes_on = λ can. at_both (λ k v h. k < roster g → w.past.own k v DONE_COLUMN ≡ 1
           → w.past.durable k ≡ length h) w.past.view w.past.history m (w.past.view m + 1)
           (finished_history g w m (committed_value w m)) c.durable
@@ -125,10 +125,10 @@ step_shown g V U w m s f after grew can c k e i member =
     (omega (arith, shows, (grew.own i (w.past.view k) DONE_COLUMN).number)))
 
 -- so one that has ended as done shows it itself
-pub done_shown : (g : Group) (V : Views) (w : World) (m : ℕ) → Faithful g V w → Complete g w → m < roster g
+pub done_shown : (g : Group) (V : Views) (w : World) (m : ℕ) → Faithful g V w → Complete g w → IsPresent g m
     → w.end m ≡ Some Done → own_word w m DONE_COLUMN ≡ 1
-done_shown g V w m f c l e = c.shown m e m
-    (subst (λ x. has x m ≡ true) (sym (f.views.own m)) (f.views.present m (f.beginning.all m l)))
+done_shown g V w m f c there e = c.shown m e m
+    (subst (λ x. has x m ≡ true) (sym (f.views.own m)) (f.views.present m there))
 
 -- after an event too, who shows done has completed its history
 pub event_completes : (g : Group) (V : Views) (w : World) (e : Event) → Faithful g V w

@@ -1,6 +1,6 @@
 -- Whoever has committed a value by which it stays may end its view with it: a bank is left for the next
 -- view, and all items that the value takes are there.
-use Rattle.std.proofs.Common.{◌≡◌, ap, arith, length, subst, suc, sym, zero, true, false, ℕ, ◌+◌, ◌<◌, ◌∙◌, ◌≤◌, Some}
+use Rattle.std.proofs.Common.{◌≡◌, ap, arith, length, subst, suc, sym, zero, true, false, ℕ, ◌+◌, ◌<◌, ◌∙◌, ◌≤◌, Some, nat_lt, ◌^◌, ◌-◌}
 use Rattle.std.proofs.lemmas.List.FromFn.{length-range_with_len}
 use Rattle.dr_entry.specs.declared.record.Value.{Value}
 use Rattle.dr_history.specs.Members.{has, members_of}
@@ -10,7 +10,8 @@ use Rattle.dr_machine.specs.Group.{Group, IsGroup, banks, roster}
 use Rattle.dr_machine.specs.Guards.{CanFinish, MayChoose}
 use Rattle.dr_machine.specs.World.{World}
 use Rattle.dr_faithful.specs.Chosen.{AreChosen, Values, views_by}
-use Rattle.dr_world_laws.proofs.ChosenViews.{remaining-next, views-fewer, views-first, views-stays}
+use Rattle.dr_words.proofs.Bits.{has_ones}
+use Rattle.dr_world_laws.proofs.ChosenViews.{no_more_below, remaining-next, views-fewer, views-first, views-stays}
 use Rattle.dr_world_laws.proofs.Reached as worlds
 use Rattle.dr_world_laws.proofs.Reached.{Known}
 use Rattle.dr_world_laws.proofs.Safety.{IsSafe}
@@ -20,12 +21,17 @@ use Rattle.dr_world_laws.specs.Historic.{HasEndedSafely}
 pub views-few : (g : Group) (values : Values) (w : World) (v : ℕ) → IsGroup g
     → ((u : ℕ) → u < v → HasEndedSafely g values w u)
     → length (members_of (views_by g values v)) + v ≤ roster g
+unfolding members_of
 views-few g values w zero is left = omega (
   arith,
-  ap (λ mask. length (members_of mask)) (views-first g values ∙ is.sound.whole),
+  ap (λ mask. length (members_of mask)) (views-first g values),
+  no_more_below g.opening.members (2 ^ roster g - 1) 16 (λ i h. has_ones (roster g) i ∙ below i h),
   ap length (members_of-ones (roster g) is.most_members),
   length-range_with_len 0 (roster g),
 )
+  where
+    below : (i : ℕ) → has g.opening.members i ≡ true → nat_lt i (roster g) ≡ true
+    below i h = grind (arith, is.sound.members.within i h)
 views-few g values w (suc v) is left =
     let next : v + 1 ≡ suc v = omega arith in
     omega (

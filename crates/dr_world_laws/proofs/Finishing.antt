@@ -22,7 +22,7 @@ use Rattle.dr_history_laws.proofs.Resting.{rest-merged}
 use Rattle.dr_history_laws.proofs.SendingLemmas.{held_member}
 use Rattle.dr_words.specs.Masks.{IsMajorityOf, without}
 use Rattle.dr_machine.specs.Effects.{counts_by, finished_history, with_place}
-use Rattle.dr_machine.specs.Group.{Group, IsGroup, roster}
+use Rattle.dr_machine.specs.Group.{Group, IsGroup, IsPresent, roster}
 use Rattle.dr_machine.specs.Guards.{CanFinish}
 use Rattle.dr_machine.specs.World.{World, view_members}
 use Rattle.dr_faithful.proofs.Finishes.{no_items}
@@ -63,6 +63,7 @@ goes-any g values w v is f h = record {
 
 -- what is known of a member that may end its view with a value
 pub record Finishes (g : Group) (values : Values) (w : World) (m : ℕ) (x : Value) : Type 0 where
+  pub there : IsPresent g m
   pub within : m < roster g
   pub chosen : x ≡ values (w.past.view m)
   pub safe : IsSafe w m x
@@ -73,6 +74,7 @@ pub finishes : (g : Group) (values : Values) (w : World) (m : ℕ) → IsGroup g
     → Faithful g (views_by g values) w → AreChosen values w → (can : CanFinish g w m)
     → IsSafe w m can.value → Finishes g values w m can.value
 finishes g values w m is f chosen can safe = record {
+  there = can.may.alive.present;
   within = f.views.within (w.past.view m) m (f.views.present m can.may.alive.present);
   chosen = one;
   safe = safe;
@@ -176,7 +178,7 @@ finished-head g values w m x is f h y =
     (λ s. slice_index (values v).trim s) (w.next m) (with_place w m) (goes-any g values w v is f h)
     (view-distinct (head_by g values w v) view
     (head-ends g.opening w.past.sent (endings_by g.opening values) v))
-    (place-kept g values w m is f y.within least) (rest-place g values w m x is f h y))
+    (place-kept g values w m is f (inl y.there) least) (rest-place g values w m x is f h y))
     ∙ ap (λ mask. (head_by g values w v ++ merge g.opening w.past.sent view taken)
     ++ View g.opening.age (v + 1) mask ∷ []) remain
     ∙ sym (head-next g.opening w.past.sent (endings_by g.opening values) v)

@@ -98,7 +98,7 @@ abbrev pub whole : Group → Views
 whole g v = g.opening.members
 
 whole_within : (g : Group) → IsGroup g → (v m : ℕ) → has (whole g v) m ≡ true → m < roster g
-whole_within g is v m h = grind (arith, has_ones (roster g) m, is.sound.whole, h)
+whole_within g is v m h = is.sound.members.within m h
 
 -- so nothing is committed in a world that is reached by worlds in which nobody suspects anybody, and the
 -- members are faithful in the one view

@@ -1,4 +1,5 @@
 pub mod Agreeing
+pub mod Away
 pub mod Completion
 mod Histories
 mod Items

@@ -144,20 +144,10 @@ valid_message : (g : Group) (e : Entry) → IsGroup g → IsOfAge g e → IsVali
 valid_message g (View age number members) is of = of.2
 valid_message g (Msg s i b) is of = (omega (arith, of.0, is.most_members), is.short s i b of.1)
 
-above_whole : (n : ℕ) → 1 ≤ n → 0 < 2 ^ n - 1
-above_whole zero l = absurd (omega (arith, l))
-above_whole (suc n) l = omega (arith, pow_pos n)
-
 -- so each View that may stand in a start is valid, and each message
 valid_standing : (g : Group) (before : List Entry) (e : Entry) → IsGroup g
     → MayStand g.opening before e → IsValidEntry e
-valid_standing g before (View age number members) is (inl opens) =
-    subst (λ mask. 0 < mask) (sym opens.whole) (above_whole (roster g) is.some_member)
-valid_standing g before (View age number members) is (inr follows) = by (view_of before) follows
-  where
-    by : (last : Option GroupView) → IsSomeAnd last (λ v. MayFollow v age number members) → 0 < members
-    by None follows = absurd follows
-    by (Some v) follows = above_none members follows.some
+valid_standing g before (View age number members) is stands = stands.0.some
 valid_standing g before (Msg s i b) is stands =
     valid_message g (Msg s i b) is (of_roster g s i b stands.2, stands.2)
 
@@ -166,8 +156,7 @@ valid_first g is = All-append IsValidEntry g.opening.start
     (View g.opening.age 0 g.opening.members ∷ [])
     (λ k d l. valid_standing g (take k g.opening.start) (get_or g.opening.start k d) is
     (is.sound.entries k _ (slice_get-get_or g.opening.start k d l)))
-    (All-cons IsValidEntry _ [] (subst (λ mask. 0 < mask) (sym is.sound.whole)
-    (above_whole (roster g) is.some_member)) (All-nil IsValidEntry))
+    (All-cons IsValidEntry _ [] is.sound.members.some (All-nil IsValidEntry))
 
 -- each entry of a history is valid
 pub valid_history : (g : Group) (history : List Entry) → IsGroup g → HoldsMessages g history

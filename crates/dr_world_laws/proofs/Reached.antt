@@ -43,6 +43,7 @@ use Rattle.dr_vote_laws.specs.Late.{VotesBacked}
 use Rattle.dr_vote_laws.proofs.Opening.{begun as voting_begins}
 use Rattle.dr_vote_laws.proofs.Steps.{voting_keeps}
 use Rattle.dr_vote_laws.specs.Voting.{Voting}
+use Rattle.dr_world_laws.proofs.Away.{AreAway, away-begins, away-stays, there-or-first}
 use Rattle.dr_world_laws.proofs.Ballots.{ballots-stay, voted-for}
 use Rattle.dr_world_laws.proofs.ByValues.{AreVotedFor}
 use Rattle.dr_world_laws.specs.Historic.{AreLaid, HasEndedSafely, head_by, view_numbered}
@@ -61,6 +62,7 @@ pub record Known (g : Group) (values : Values) (w : World) : Type 0 where
   pub voting : Voting g (views_by g values) w
   pub ballots : AreVotedFor g values w
   pub wedged : (m : ℕ) (x : Value) → w.committed m ≡ Some x → w.suspects m ≢ 0
+  pub away : AreAway g w
 
 -- so a value that somebody has committed is safe
 pub safe : (g : Group) (values : Values) (w : World) (m : ℕ) (x : Value) → IsGroup g → Known g values w
@@ -229,6 +231,7 @@ begins g values is = record {
   voting = voting_begins g (views_by g values);
   ballots = λ m v l. absurd (omega (arith, l));
   wedged = λ m x e. absurd (none-some x e);
+  away = away-begins g;
 }
 
 -- what is known stays, where the values are the chosen ones
@@ -252,6 +255,7 @@ event-known g values w e is chosen can y = record {
       (voted-for g values w k v chosen y.voting y.ballots
       (left_or_ended g w (member_of e) (step_of e) k v can less));
   wedged = wedged_stay g (views_by g values) w (member_of e) (step_of e) is can y.faithful y.wedged;
+  away = away-stays g w (member_of e) (step_of e) can y.away;
 }
   where
     well : AllGoOn g (views_by g values) w
@@ -264,7 +268,7 @@ event-known g values w e is chosen can y = record {
     ready = record {
       present = λ m there. in_roster g m is there;
       ended = λ m v l less. (y.laid.left m v l less).ended;
-      held = λ m l. held-next g (views_by g values) w m y.faithful l;
+      held = λ m l. held-next g (views_by g values) w m y.faithful (there-or-first g w m y.away);
       adds = λ m d. adds-entry g values w m is y d;
       comes = λ m can. comes-to_head g values w m can.value is y.faithful y.laid.historic
           (may-end g values w m is y chosen can);
@@ -307,6 +311,8 @@ arrived-known g values us w table come y = record {
     voting = voted.0;
     ballots = y.world.ballots;
     wedged = y.world.wedged;
+    away = λ k none. let a = y.world.away k none in
+        record { view = a.view; next = a.next; suspects = a.suspects; end = a.end };
   };
   backed = backed_arrived g (views_by g values) us w table y.world.faithful come y.backed;
   votes = voted.1;

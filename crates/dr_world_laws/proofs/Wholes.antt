@@ -123,18 +123,14 @@ whole-holds o sound s member = omega (
 
 -- ---- an age that starts with it
 
-pub whole-leaves_none : (o next : Opening) → Sound o → Sound next → o.messages ≡ next.messages
-    → next.start ≡ first_entries o ++ remaining o → remaining next ≡ []
-whole-leaves_none o next sound sound_next same whole =
+pub whole-leaves_none : (o next : Opening) → Sound o → next.members ≡ o.members
+    → o.messages ≡ next.messages → next.start ≡ first_entries o ++ remaining o → remaining next ≡ []
+whole-leaves_none o next sound mask same whole =
     sym (laid-whole next (to_send next) (first_entries next) (first_view next) 0
     (left-goes_on next (first_view next))
     (view-distinct (first_entries next) (first_view next) (first-ends next)) all)
     ∙ laid-none next (to_send next) (first_view next)
   where
-    mask : next.members ≡ o.members
-    mask = sound_next.whole
-        ∙ (ap (λ (lists : List (List (List ℕ))). 2 ^ length lists - 1) (sym same) ∙ sym sound.whole)
-
     all : HoldsAll next (first_view next)
         (first_entries next ++ laid next (to_send next) (first_view next) 0)
     all s member =

@@ -18,7 +18,7 @@ use Rattle.dr_machine.specs.Acts.{Guard, effect}
 use Rattle.dr_machine.specs.declared.event.Event.{Event}
 use Rattle.dr_machine.specs.Effects.{counts_by}
 use Rattle.dr_machine.specs.Events.{member_of, step_of}
-use Rattle.dr_machine.specs.Group.{Group, IsGroup, roster}
+use Rattle.dr_machine.specs.Group.{Group, IsGroup, IsPresent, roster}
 use Rattle.dr_machine.specs.Guards.{CanFinish, HoldsAll, MayChoose, unsuspected_of}
 use Rattle.dr_machine.proofs.Runs.{by_way, last_or_before, reached}
 use Rattle.dr_machine.specs.Run.{ComesNext, IsReached, NoLaterItem, PastGrew, Way, WordsGrew, WorldAgreed}
@@ -37,6 +37,7 @@ use Rattle.dr_vote_laws.proofs.Values as votes
 use Rattle.dr_vote_laws.specs.Moments.{AcceptsOfMoments}
 use Rattle.dr_vote_laws.specs.Voting.{IsChosen}
 use Rattle.dr_world_laws.specs.Historic.{HoldsMessages, view_numbered}
+use Rattle.dr_world_laws.proofs.Away.{there-or-not}
 use Rattle.dr_world_laws.proofs.ByValues.{IsReachedBy}
 use Rattle.dr_world_laws.proofs.Agreeing as agreeing
 use Rattle.dr_world_laws.proofs.Agreeing.{AreAccounts}
@@ -92,7 +93,11 @@ told g w is y = all_told g (views_by g y.values) w y.chosen.faithful
 
 pub waits : (g : Group) (w : World) (m : ℕ) → IsGroup g → Known g w → m < roster g → w.suspects m ≢ 0
     → IsLeastOf (unsuspected_of w m) (w.promise m)
-waits g w m is y l some = waits_for g (views_by g y.values) w m is y.chosen.faithful l some
+waits g w m is y l some = by (there-or-not g m)
+  where
+    by : IsPresent g m ⊎ (has g.opening.present m ≡ false) → IsLeastOf (unsuspected_of w m) (w.promise m)
+    by (inl there) = waits_for g (views_by g y.values) w m is y.chosen.faithful there some
+    by (inr none) = absurd (some (y.chosen.away m none).suspects)
 
 -- the words grow at every event, and so does all else that only grows
 pub words_grew : (g : Group) (w : World) (e : Event) → IsGroup g → Known g w → Guard g w e

@@ -200,9 +200,10 @@ pub fn whole_histories_are_one()
         → w.past.history m ≡ first_entries g.opening ++ remaining g.opening }
 {}
 
-/// An age that starts with such a history of another, by the same script, leaves no message to be delivered.
+/// An age that starts with such a history of another, by the same script and with the same members, leaves no
+/// message to be delivered.
 pub fn whole_histories_leave_nothing()
-    ensures { (o next : Opening) → Sound o → Sound next → o.messages ≡ next.messages
+    ensures { (o next : Opening) → Sound o → next.members ≡ o.members → o.messages ≡ next.messages
         → next.start ≡ first_entries o ++ remaining o → remaining next ≡ [] }
 {}
 

@@ -4,7 +4,7 @@ use Rattle.derecho_log.proofs.text.log_text.Given as goal
 
 -- the records before the place are printed
 abbrev pub invariant-loop-record : goal.invariant-loop-record
-invariant-loop-record l = IsPrinted l.bytes (string_bytes l.text) l.at l.number
+invariant-loop-record l = IsPrinted l.bytes (string_bytes l.text) l.at l.number l.newer
 
 abbrev pub decreases-loop-record : goal.decreases-loop-record
 decreases-loop-record l = length l.bytes - l.at

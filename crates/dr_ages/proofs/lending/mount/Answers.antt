@@ -4,8 +4,8 @@ use Rattle.dr_disk.specs.Calls.{Sync}
 use Rattle.dr_disk.specs.Disk.{Told, added, content_of}
 use Rattle.dr_disk.specs.Images.{Goes, ReadsAnImage}
 use Rattle.dr_io.specs.Faults.{Rose}
-use Rattle.dr_log.specs.Grammar.{IsDamaged}
 use Rattle.dr_log.specs.Standing.{KeepsRecords}
+use Rattle.dr_log_bytes.specs.Grammar.{IsDamaged}
 use Rattle.dr_ages.proofs.Loans.{was_mounted, was_refused}
 use Rattle.dr_ages.proofs.Staying.{alike_same}
 use Rattle.dr_ages.proofs.lending.mount.Goals as goal
@@ -36,7 +36,7 @@ returns-in-Ok-mount-clause-mounted g c =
     let is = c.in-Ok-mount.ensures in
     was_mounted g.Y.Store.Disk.told g.Y.Store.Disk.faults (g.Y.Yard.told c.args.yard.now m)
     (g.Y.Yard.faults c.args.yard.now m) c.in-Ok.disk c.in-Ok-mount.log c.in-Ok.ensures.told is.read is.records
-    is.durable is.length is.limit is.whole is.any_moment
+    is.durable is.least is.limit is.whole is.any_moment
     (is.faults ∙ (c.in-Ok.ensures.count ∙ c.in-Ok.ensures.cause.calm)) is.calls
 
 pub returns-in-Err-clause-on : goal.returns-in-Err-clause-on

@@ -54,12 +54,12 @@ loop-m-preserved g c =
     let at = still_there told faults (opened_with c.args.start.now c.args.start.now.members) c.args.logs.now
     c.loop-m.logs c.loop-m.m c.index-logs-m.result c.loop-m.invariant
     (omega (arith, c.loop-m-test.true, c.loop-m.invariant.all)) in
-    let part : IsPrefixOf old.entries c.args.start.now.entries = part_of_start c.args.script.now
-    (entries_on c.args.logs.now) c.args.start.now c.loop-m.m old.entries c.requires.start
+    let part : IsPrefixOf old.content.entries c.args.start.now.entries = part_of_start c.args.script.now
+    (entries_on c.args.logs.now) c.args.start.now c.loop-m.m old.content.entries c.requires.start
     (entries_at c.args.logs.now c.loop-m.m old at) in
     let caught : IsCaughtUp told faults came_whole old new = (
       c.in_default.ensures.caught,
-      part_of_opened old.entries c.args.start.now.entries (View c.args.start.now.age 0 c.of-members.result) part,
+      part_of_opened old.content.entries c.args.start.now.entries (View c.args.start.now.age 0 c.of-members.result) part,
       c.in_default.ensures.limit,
     ) in
     one_more_caught told faults (opened_with c.args.start.now c.args.start.now.members) c.args.logs.now
@@ -106,7 +106,7 @@ returns-in-Err-clause-stopped g c before mounted =
     (later g c)
     (subst (λ (k : ℕ). HasStayed told faults (opened_with c.args.start.now k) old new) same c.in-Err.ensures.stayed)
     c.in-Err.ensures.left_alone c.in-Err.ensures.cause
-    (subst (λ (k : ℕ). FitsOrIsFull old.limit old.length
+    (subst (λ (k : ℕ). FitsOrIsFull old.limit old.content.length
     (entries_length (lacked old (opened_with c.args.start.now k))) {T = Unit {0}} (Err c.in-Err.fault)) same
     c.in-Err.ensures.limit)
     c.of_catch.ensures.memory c.of_catch.ensures.disk c.of_catch.ensures.full
@@ -143,8 +143,8 @@ returns-in-Err-clause-fit g c before mounted fit =
     (way_so_far told faults whole c.args.logs.now c.loop-m.logs c.loop-m.m c.index-logs-m.result new
     c.loop-m.invariant
     (λ m log at. (
-      part_of_opened log.entries start.entries (View start.age 0 start.members)
-          (part_of_start c.args.script.now (entries_on c.args.logs.now) start m log.entries c.requires.start
+      part_of_opened log.content.entries start.entries (View start.age 0 start.members)
+          (part_of_start c.args.script.now (entries_on c.args.logs.now) start m log.content.entries c.requires.start
           (entries_at c.args.logs.now m log at)),
       (mounted m log at).safe,
     )) within

@@ -1,7 +1,7 @@
 use Rattle.std.proofs.Common.{refl, sym, subst, arith, below_more}
 use Rattle.std.proofs.lemmas.Bool.{false≢true}
 use Rattle.dr_history.specs.History.{IsPrefixOf}
-use Rattle.dr_machine.proofs.Presence.{in_roster, is_present}
+use Rattle.dr_machine.proofs.Presence.{in_roster}
 use Rattle.dr_world.specs.Held.{its_group, its_world}
 use Rattle.dr_agree.proofs.keeping.is_delivered.Goals as goal
 
@@ -9,7 +9,7 @@ pub returns-then-is_prefix : goal.returns-then-is_prefix
 returns-then-is_prefix c =
     let delivered = subst (IsPrefixOf c.args.entries.now) c.history.ensures
     (c.is_prefix.ensures.0 c.if-is_prefix.true) in
-    let there = is_present (its_group c.args.world.now) c.loop-m.m c.members-m-end.ensures.group
+    let there = c.members-m-end.ensures.present c.loop-m.m
     (omega (arith, c.loop-m-test.true, c.members-m-end.ensures.members)) in
     (λ _. (c.loop-m.m, there, delivered), λ _. refl)
 

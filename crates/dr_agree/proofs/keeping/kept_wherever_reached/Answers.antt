@@ -3,12 +3,12 @@ use Rattle.dr_history_laws.proofs.Keeping.{longest_keeps}
 use Rattle.dr_machine.specs.Run.{accounts_in}
 use Rattle.dr_restart.specs.Groups.{group_of}
 use Rattle.dr_world_laws.proofs.Worlds.{agreed, known}
-use Rattle.dr_agree.specs.Left.{entries_of}
+use Rattle.dr_restart.specs.Left.{entries_on_logs}
 use Rattle.dr_agree.proofs.keeping.kept_wherever_reached.Goals as goal
 
 pub returns : goal.returns
 returns c w next run left is longest =
     let g = group_of c.args.script.now c.args.start.now in
     longest_keeps g.opening (group_of c.args.script.now next).opening (accounts_in w)
-    (entries_of c.args.choice.now) (agreed g w c.requires.group (known g w c.requires.group run))
-    left.entries longest (omega (arith, c.requires.later, is))
+    (entries_on_logs c.args.choice.now) (agreed g w c.requires.group (known g w c.requires.group run))
+    left longest (omega (arith, c.requires.later, is))

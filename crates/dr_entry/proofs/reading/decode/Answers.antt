@@ -13,3 +13,11 @@ returns-in-2-clause-accepted c =
 pub returns-in-3-clause-accepted : goal.returns-in-3-clause-accepted
 returns-in-3-clause-accepted c =
     accepted c.args.from.now c.vote_from.result (λ i. omega (arith, c.type_inv.from i)) (search rules)
+
+pub returns-in-4-clause-accepted : goal.returns-in-4-clause-accepted
+returns-in-4-clause-accepted c =
+    accepted c.args.from.now c.age_vote_from.result (λ i. omega (arith, c.type_inv.from i)) (search rules)
+
+pub returns-in-5-clause-accepted : goal.returns-in-5-clause-accepted
+returns-in-5-clause-accepted c =
+    accepted c.args.from.now c.cut_from.result (λ i. omega (arith, c.type_inv.from i)) (search rules)

@@ -17,7 +17,7 @@ loop-member-preserved c =
     let read : c.index-files-m.result ≡ file_in files n =
     get_or_read files _ _ (omega (arith, c.from-m.ensures)) c.index-files-m.is Missing
     ∙ ap (λ (k : ℕ). get_or files k Missing) c.from-m.ensures in
-    let is : IsTakenFor (file_in files n) c.in_ok-log.log.entries =
-    subst (λ (f : LogFile). IsTakenFor f c.in_ok-log.log.entries) read c.in_ok-log.ensures.taken in
+    let is : IsTakenFor (file_in files n) c.in_ok-log.log.content.entries =
+    subst (λ (f : LogFile). IsTakenFor f c.in_ok-log.log.content.entries) read c.in_ok-log.ensures.taken in
     subst (λ (l : List (LogState CalmState)). AreTakenFor (n + 1) files (entries_on l)) (sym items)
     (log_taken n files c.loop-member.logs.items c.in_ok-log.log c.loop-member.invariant is)

@@ -26,6 +26,7 @@ no_room : (g : Over) (c : goal.After-from_residual g)
 no_room g c = record {
   spare_entries = c.args.log.now.spare_entries;
   spare_votes = c.args.log.now.spare_votes;
+  spare_others = c.args.log.now.spare_others;
   is = c.in_err-reserve.ensures.err;
   tells = c.in_err-reserve.ensures.told;
   safe = c.in_err-reserve.ensures.safe c.requires.whole;
@@ -62,15 +63,16 @@ returns-in-Ok-clause-caught g c =
     let entries = c.as_slice-entries.result.now in
     let first : List Entry = take (length entries - length have) (drop (length have) entries) in
     let last = View start.age 0 c.bits.result in
-    let all : old.entries ++ (first ++ last ∷ []) ≡ whole =
-    lacking_all old.entries first start.entries last (View start.age 0 c.args.members)
-    (lacking old.entries start.entries have entries c.requires.part c.entries-have.ensures
+    let all : old.content.entries ++ (first ++ last ∷ []) ≡ whole =
+    lacking_all old.content.entries first start.entries last (View start.age 0 c.args.members)
+    (lacking old.content.entries start.entries have entries c.requires.part c.entries-have.ensures
     c.as_slice-entries.ensures)
     (ap (λ (n : ℕ). View start.age 0 n) c.bits.ensures) in
-    let is = lacked_is old.entries (first ++ last ∷ []) whole all in
+    let is = lacked_is old.content.entries (first ++ last ∷ []) whole all in
     let got : GotRoom told faults old mid = record {
       spare_entries = max old.spare_entries (length entries - length have + 1);
       spare_votes = max old.spare_votes 0;
+      spare_others = max old.spare_others 3;
       is = c.in_ok-reserve.ensures.ok;
       tells = c.in_ok-reserve.ensures.told;
       safe = c.in_ok-reserve.ensures.safe c.requires.whole;
@@ -93,15 +95,16 @@ returns-in-Ok-clause-limit g c =
     let entries = c.as_slice-entries.result.now in
     let first : List Entry = take (length entries - length have) (drop (length have) entries) in
     let last = View start.age 0 c.bits.result in
-    let all : old.entries ++ (first ++ last ∷ []) ≡ whole =
-    lacking_all old.entries first start.entries last (View start.age 0 c.args.members)
-    (lacking old.entries start.entries have entries c.requires.part c.entries-have.ensures
+    let all : old.content.entries ++ (first ++ last ∷ []) ≡ whole =
+    lacking_all old.content.entries first start.entries last (View start.age 0 c.args.members)
+    (lacking old.content.entries start.entries have entries c.requires.part c.entries-have.ensures
     c.as_slice-entries.ensures)
     (ap (λ (n : ℕ). View start.age 0 n) c.bits.ensures) in
-    let is = lacked_is old.entries (first ++ last ∷ []) whole all in
+    let is = lacked_is old.content.entries (first ++ last ∷ []) whole all in
     let got : GotRoom told faults old mid = record {
       spare_entries = max old.spare_entries (length entries - length have + 1);
       spare_votes = max old.spare_votes 0;
+      spare_others = max old.spare_others 3;
       is = c.in_ok-reserve.ensures.ok;
       tells = c.in_ok-reserve.ensures.told;
       safe = c.in_ok-reserve.ensures.safe c.requires.whole;
@@ -110,7 +113,7 @@ returns-in-Ok-clause-limit g c =
     omega (
       arith,
       c.in-Ok.ensures.limit,
-      ap (λ (s : LogState g.row.D.Denot). s.length) got.is,
+      ap (λ (s : LogState g.row.D.Denot). s.content.length) got.is,
       ap (λ (s : LogState g.row.D.Denot). s.limit) got.is,
       ap entries_length is,
     )
@@ -129,9 +132,9 @@ lacks g c =
     let old = c.args.log.now in
     let start = c.args.start.now in
     let last = View start.age 0 c.bits.result in
-    lacked_is old.entries (news g c) (opened_with start c.args.members)
-    (lacking_all old.entries (first g c) start.entries last (View start.age 0 c.args.members)
-    (lacking old.entries start.entries c.entries-have.result.now c.as_slice-entries.result.now c.requires.part
+    lacked_is old.content.entries (news g c) (opened_with start c.args.members)
+    (lacking_all old.content.entries (first g c) start.entries last (View start.age 0 c.args.members)
+    (lacking old.content.entries start.entries c.entries-have.result.now c.as_slice-entries.result.now c.requires.part
     c.entries-have.ensures c.as_slice-entries.ensures)
     (ap (λ (n : ℕ). View start.age 0 n) c.bits.ensures))
 
@@ -141,6 +144,7 @@ got g c = record {
   spare_entries = max c.args.log.now.spare_entries
       (length c.as_slice-entries.result.now - length c.entries-have.result.now + 1);
   spare_votes = max c.args.log.now.spare_votes 0;
+  spare_others = max c.args.log.now.spare_others 3;
   is = c.in_ok-reserve.ensures.ok;
   tells = c.in_ok-reserve.ensures.told;
   safe = c.in_ok-reserve.ensures.safe c.requires.whole;
@@ -171,9 +175,9 @@ returns-in-Err-clause-cause g c = λ is.
 
 pub returns-in-Err-clause-limit : goal.returns-in-Err-clause-limit
 returns-in-Err-clause-limit g c =
-    subst (λ (l : List Entry). FitsOrIsFull c.args.log.now.limit c.args.log.now.length (entries_length l)
+    subst (λ (l : List Entry). FitsOrIsFull c.args.log.now.limit c.args.log.now.content.length (entries_length l)
     {T = Unit {0}} (Err c.fault_of.result)) (lacks g c)
     (full_by (Unit {0}) c.args.log.now c.reserve.new.self (entries_length (news g c)) c.in-Err.why c.fault_of.result
-    (ap (λ (s : LogState g.row.D.Denot). s.length) (got g c).is)
+    (ap (λ (s : LogState g.row.D.Denot). s.content.length) (got g c).is)
     (ap (λ (s : LogState g.row.D.Denot). s.limit) (got g c).is)
     c.in-Err.ensures.limit c.fault_of.ensures.disk c.fault_of.ensures.full)

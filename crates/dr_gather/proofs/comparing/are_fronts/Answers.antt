@@ -3,7 +3,8 @@ use Rattle.std.proofs.lemmas.Bool.{cases_lt}
 use Rattle.dr_entry.specs.declared.entry.Entry.{Entry}
 use Rattle.dr_history.specs.Restarting.{AreAlong}
 use Rattle.dr_gather.specs.Gathering.{entries_on}
-use Rattle.dr_gather.proofs.Logs.{along_by_longest, entries_are, entries_there, within_on}
+use Rattle.dr_gather.proofs.Logs.{entries_are, entries_there, within_on}
+use Rattle.dr_quorum.proofs.Along.{along_by_longest}
 use Rattle.dr_gather.proofs.comparing.are_fronts.Goals as goal
 
 pub loop-m-preserved : goal.loop-m-preserved
@@ -23,7 +24,7 @@ loop-m-preserved g c i x l in_i =
 pub returns : goal.returns
 returns g c _ a b x y l in_a in_b =
     let logs = c.args.logs.now in
-    let is = c.longest.ensures.longest c.index-logs-longest.result.entries
+    let is = c.longest.ensures.longest c.index-logs-longest.result.content.entries
     (entries_there logs c.longest.result c.index-logs-longest.result c.longest.ensures.within
     c.index-logs-longest.is) in
     let long = ap length c.entries-longest.ensures in

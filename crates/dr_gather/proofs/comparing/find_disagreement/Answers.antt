@@ -17,12 +17,12 @@ returns-in-Some-clause-some g c =
           (λ same. c.loop-a.invariant i x y same.1 in_i
           (subst (λ (k : ℕ). slice_get (entries_on logs) k ≡ Some y) same.0 in_j))
           earlier.1;
-      one = c.index-logs-a.result.entries;
-      other = c.index-logs-b.result.entries;
+      one = c.index-logs-a.result.content.entries;
+      other = c.index-logs-b.result.content.entries;
       in_a = entries_there logs c.loop-a.a c.index-logs-a.result
           (omega (arith, c.loop-a-test.true, c.loop-b-test.true)) c.index-logs-a.is;
       in_b = entries_there logs c.loop-b.b c.index-logs-b.result c.loop-b-test.true c.index-logs-b.is;
-      differ = subst (λ (h : List Entry). DifferAt c.index-logs-a.result.entries h c.in-Some.place)
+      differ = subst (λ (h : List Entry). DifferAt c.index-logs-a.result.content.entries h c.in-Some.place)
           c.entries-in-loop-a.ensures
           (subst (λ (h : List Entry). DifferAt h c.entries-in-loop-a.result.now c.in-Some.place)
           c.entries.ensures differ);

@@ -6,9 +6,9 @@ use Rattle.dr_gather.proofs.comparing.longest.Goals.{then-entries, else-entries}
 pub loop-m-preserved : goal.loop-m-preserved
 loop-m-preserved g c =
     let now : ((c.if-entries.best ≡ c.loop-m.m)
-    × (length c.index-logs-best.result.entries < length c.index-logs-m.result.entries))
+    × (length c.index-logs-best.result.content.entries < length c.index-logs-m.result.content.entries))
     ⊎ ((c.if-entries.best ≡ c.loop-m.best)
-    × (length c.index-logs-m.result.entries ≤ length c.index-logs-best.result.entries)) =
+    × (length c.index-logs-m.result.content.entries ≤ length c.index-logs-best.result.content.entries)) =
     elim c.if-entries.branch [
       | then-entries w ↦ inl (
         w.best-is,

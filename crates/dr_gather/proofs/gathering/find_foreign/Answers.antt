@@ -28,7 +28,7 @@ returns-in-Some-clause-some g c =
     let foreign : IsForeignAt o c.entries.result.now c.in-Some.place = search rules in
     record {
       before = λ m es l at. c.loop-m.invariant m es l at;
-      entries = c.index-logs-m.result.entries;
+      entries = c.index-logs-m.result.content.entries;
       here = entries_there logs c.loop-m.m c.index-logs-m.result c.loop-m-test.true c.index-logs-m.is;
       foreign = subst (λ (es : List Entry). IsForeignAt o es c.in-Some.place) c.entries.ensures foreign;
     }

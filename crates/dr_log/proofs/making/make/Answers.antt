@@ -1,7 +1,7 @@
 use Rattle.std.proofs.Common.{◌≡◌, rules}
 use Rattle.dr_disk.specs.Calls.{Cut}
 use Rattle.dr_disk.specs.Disk.{added}
-use Rattle.dr_log.specs.Grammar.{magic}
+use Rattle.dr_log_bytes.specs.Grammar.{newer_magic}
 use Rattle.dr_log.specs.Appending.{staged}
 use Rattle.dr_log.proofs.Told.{reaches_magic}
 use Rattle.dr_log.proofs.making.make.Goals as goal
@@ -9,5 +9,5 @@ use Rattle.dr_log.proofs.making.make.Goals as goal
 pub write_at-requires-2-clause-inside : goal.write_at-requires-2-clause-inside
 write_at-requires-2-clause-inside g c =
     let told = g.D.Disk.told in
-    let is : told c.sync.new.self ≡ staged 0 magic (added (Cut 0) (told c.args.disk.now)) = search rules in
+    let is : told c.sync.new.self ≡ staged 0 newer_magic (added (Cut 0) (told c.args.disk.now)) = search rules in
     reaches_magic (told c.args.disk.now) (told c.sync.new.self) is

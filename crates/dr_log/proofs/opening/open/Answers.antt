@@ -2,15 +2,14 @@ use Rattle.std.proofs.Common.{◌≡◌, ℕ, List, [], length, Option, IfSome, 
 use Rattle.std.proofs.lemmas.Result.{IfOk-weaker}
 use Rattle.dr_disk.specs.Calls.{Sync}
 use Rattle.dr_disk.specs.Disk.{Told, added, content_of}
-use Rattle.dr_entry.specs.declared.entry.Entry.{Entry}
-use Rattle.dr_entry.specs.declared.record.Vote.{Vote}
 use Rattle.dr_disk.specs.Images.{Goes}
-use Rattle.dr_log.specs.Standing.{StandsFor, KeepsRecords}
+use Rattle.dr_log.specs.Standing.{KeepsRecords}
+use Rattle.dr_log_bytes.specs.Content.{OnLog, empty_of}
 use Rattle.dr_log.specs.Kept.{IsSettled}
 use Rattle.dr_log.specs.Appending.{made, StopsMaking}
-use Rattle.dr_log.specs.Grammar.{IsNoLog}
-use Rattle.dr_log.specs.Parsed.{IsLogFound}
+use Rattle.dr_log_bytes.specs.Grammar.{IsLogOf, IsNoLog, StandFor}
 use Rattle.dr_log.proofs.Mounting.{mounted_new, mounted_there, keeps_still, synced_keeps, found_settled, found_records, found_damaged, made_keeps, stops_keeps, made_records, made_settled}
+use Rattle.dr_log.proofs.Growing.{least_of_log}
 use Rattle.dr_log.proofs.opening.open.Goals as goal
 
 pub returns-in_err-sync-clause-any_moment : goal.returns-in_err-sync-clause-any_moment
@@ -44,21 +43,14 @@ returns-then-len-le-EMPTY-clause-records g c =
     let long = subst (λ (o : Option Told).
     IfSome o (λ t. c.in_ok-len.len ≡ length
     (content_of t))) synced c.in_ok-len.ensures.value in
-    subst (λ (es : List Entry). IfSome (told c.args.disk.now)
-    (λ t. StandsFor (content_of t) es c.new-then-len-le-EMPTY.result.items))
-    (sym c.new.ensures.items)
-    (subst (λ (vs : List Vote). IfSome (told c.args.disk.now)
-    (λ t. StandsFor (content_of t) [] vs)) (sym c.new-then-len-le-EMPTY.ensures.items)
-    (made_records (told c.args.disk.now) c.in_ok-len.len long c.if-len-le-EMPTY.true))
+    subst (λ (x : OnLog). IfSome (told c.args.disk.now) (λ t. StandFor (content_of t) x)) (sym c.empty.ensures)
+    (made_records (told c.args.disk.now) c.in_ok-len.len long c.if-len-le-EMPTY.true)
 
 pub returns-then-len-le-EMPTY-clause-settled : goal.returns-then-len-le-EMPTY-clause-settled
 returns-then-len-le-EMPTY-clause-settled g c =
     let told = g.D.Disk.told in
-    subst (λ (es : List Entry). IfSome (told c.make.new.disk)
-    (IsSettled es c.new-then-len-le-EMPTY.result.items)) (sym c.new.ensures.items)
-    (subst (λ (vs : List Vote). IfSome (told c.make.new.disk) (IsSettled [] vs))
-    (sym c.new-then-len-le-EMPTY.ensures.items)
-    (made_settled (told c.len.new.self) (told c.make.new.disk) c.in_ok-make.ensures.ok))
+    subst (λ (x : OnLog). IfSome (told c.make.new.disk) (IsSettled x)) (sym c.empty.ensures)
+    (made_settled (told c.len.new.self) (told c.make.new.disk) c.in_ok-make.ensures.ok)
 
 pub returns-then-len-le-EMPTY-clause-any_moment : goal.returns-then-len-le-EMPTY-clause-any_moment
 returns-then-len-le-EMPTY-clause-any_moment g c =
@@ -88,12 +80,14 @@ pub returns-clause-records : goal.returns-clause-records
 returns-clause-records g c =
     let told = g.D.Disk.told in
     let synced : told c.sync.new.self ≡ added Sync (told c.args.disk.now) = search rules in
-    IfOk-weaker c.parse.result _ _ (λ found h. found_records (told c.args.disk.now)
-    (told c.len.new.self) c.in_ok-bytes.bytes.items found.entries.items found.votes.items found.len
-    (c.len.ensures.told ∙ synced) c.in_ok-bytes.ensures.bytes
-    (subst (λ (l : List ℕ).
-    IsLogFound l found.entries.items found.votes.items found.len) c.as_slice.ensures.value h))
-    c.parse.ensures.found
+    let long = subst (λ (o : Option Told).
+    IfSome o (λ t. c.in_ok-len.len ≡ length (content_of t)))
+    (sym c.len.ensures.told) c.in_ok-len.ensures.value in
+    IfOk-weaker c.found_in.result _ _ (λ found h. found_records (told c.args.disk.now)
+    (told c.len.new.self) c.in_ok-bytes.bytes.items found c.in_ok-len.len
+    (c.len.ensures.told ∙ synced) long c.if-len-le-EMPTY.false c.in_ok-bytes.ensures.bytes
+    (subst (λ (l : List ℕ). IsLogOf l found) c.as_slice.ensures.value h))
+    c.found_in.ensures.found
 
 pub returns-clause-settled : goal.returns-clause-settled
 returns-clause-settled g c =
@@ -102,12 +96,16 @@ returns-clause-settled g c =
     let reads = subst (λ (o : Option Told).
     IfSome o (λ t. c.in_ok-bytes.bytes.items ≡ content_of t))
     (sym c.read_all.ensures.told) c.in_ok-bytes.ensures.bytes in
-    IfOk-weaker c.parse.result _ _ (λ found h. found_settled (told c.args.disk.now)
-    (told c.read_all.new.disk) c.in_ok-bytes.bytes.items found.entries.items found.votes.items found.len
-    (c.read_all.ensures.told ∙ (c.len.ensures.told ∙ synced)) reads
-    (subst (λ (l : List ℕ).
-    IsLogFound l found.entries.items found.votes.items found.len) c.as_slice.ensures.value h))
-    c.parse.ensures.found
+    let long = subst (λ (o : Option Told).
+    IfSome o (λ t. c.in_ok-len.len ≡ length (content_of t)))
+    (sym c.read_all.ensures.told) (subst (λ (o : Option Told).
+    IfSome o (λ t. c.in_ok-len.len ≡ length (content_of t)))
+    (sym c.len.ensures.told) c.in_ok-len.ensures.value) in
+    IfOk-weaker c.found_in.result _ _ (λ found h. found_settled (told c.args.disk.now)
+    (told c.read_all.new.disk) c.in_ok-bytes.bytes.items found c.in_ok-len.len
+    (c.read_all.ensures.told ∙ (c.len.ensures.told ∙ synced)) long c.if-len-le-EMPTY.false reads
+    (subst (λ (l : List ℕ). IsLogOf l found) c.as_slice.ensures.value h))
+    c.found_in.ensures.found
 
 pub returns-clause-damaged : goal.returns-clause-damaged
 returns-clause-damaged g c at e =
@@ -118,7 +116,7 @@ returns-clause-damaged g c at e =
     (sym c.len.ensures.told) c.in_ok-len.ensures.value in
     found_damaged (told c.args.disk.now) (told c.len.new.self) c.in_ok-bytes.bytes.items c.in_ok-len.len at
     (c.len.ensures.told ∙ synced) long c.if-len-le-EMPTY.false c.in_ok-bytes.ensures.bytes
-    (subst (λ (l : List ℕ). IsNoLog l at) c.as_slice.ensures.value (c.parse.ensures.damaged at e))
+    (subst (λ (l : List ℕ). IsNoLog l at) c.as_slice.ensures.value (c.found_in.ensures.damaged at e))
 
 pub returns-then-len-le-EMPTY-clause-calls : goal.returns-then-len-le-EMPTY-clause-calls
 returns-then-len-le-EMPTY-clause-calls g c =
@@ -137,13 +135,17 @@ returns-clause-calls g c =
     let long = subst (λ (o : Option Told).
     IfSome o (λ t. c.in_ok-len.len ≡ length
     (content_of t))) synced c.in_ok-len.ensures.value in
-    IfOk-weaker c.parse.result _ _ (λ found h. mounted_there (told c.args.disk.now)
+    IfOk-weaker c.found_in.result _ _ (λ found h. mounted_there (told c.args.disk.now)
     (told c.read_all.new.disk) c.in_ok-len.len long c.if-len-le-EMPTY.false
     (c.read_all.ensures.told ∙ (c.len.ensures.told ∙ synced)))
-    c.parse.ensures.found
+    c.found_in.ensures.found
 
 pub returns-clause-left_damaged : goal.returns-clause-left_damaged
 returns-clause-left_damaged g c at e =
     let told = g.D.Disk.told in
     let synced : told c.sync.new.self ≡ added Sync (told c.args.disk.now) = search rules in
     c.read_all.ensures.told ∙ (c.len.ensures.told ∙ synced)
+
+pub returns-clause-least : goal.returns-clause-least
+returns-clause-least g c = IfOk-weaker c.found_in.result _ _
+    (λ found h. least_of_log c.as_slice.result.now found h) c.found_in.ensures.found

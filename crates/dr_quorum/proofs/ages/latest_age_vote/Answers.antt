@@ -1,5 +1,5 @@
 use Rattle.std.proofs.Common.{◌≡◌, ℕ}
-use Rattle.dr_restart.specs.declared.lists.AgeVote.{AgeVote}
+use Rattle.dr_entry.specs.declared.record.AgeVote.{AgeVote}
 use Rattle.dr_quorum.proofs.Knowing.{all_known, more_aged, none_known}
 use Rattle.dr_quorum.proofs.ages.latest_age_vote.Goals as goal
 

@@ -2,6 +2,7 @@ use Rattle.std.proofs.Common.{sym, subst, ℕ, length, Contains}
 use Rattle.std.proofs.lemmas.Option.{IfSome_then}
 use Rattle.dr_entry.specs.declared.entry.Entry.TheVariants.{View}
 use Rattle.dr_restart.specs.Refusing.{HasPath, LacksPath}
+use Rattle.dr_restart.specs.Groups.{first_group_of}
 use Rattle.dr_quorum.specs.Handing.{handed_by}
 use Rattle.dr_quorum.proofs.Choices.{path_of_all}
 use Rattle.dr_quorum.proofs.Options.{IfNone_then}
@@ -14,7 +15,7 @@ returns-in-Some-clause-none c =
     IfNone_then c.find_lacking.result (HasPath c.args.script.now.members h c.args.age c.of.result)
     ((first : ℕ) → Contains c.args.entries.now (View c.args.age 0 first) → HasPath n h c.args.age first)
     c.find_lacking.ensures.none
-    (λ p. path_of_all c.args.script.now.messages h c.args.age c.in-Some.first c.args.entries.now c.requires.stand
+    (λ p. path_of_all (first_group_of c.args.script.now).opening h c.args.age c.in-Some.first c.args.entries.now c.requires.stand
     c.in-Some.ensures.some
     (subst (λ (k : ℕ). HasPath k h c.args.age c.in-Some.first) (sym c.requires.ranges.lists)
     (subst (HasPath c.args.script.now.members h c.args.age) c.of.ensures p)))

@@ -1,4 +1,4 @@
-use Rattle.std.proofs.Common.{refl}
+use Rattle.std.proofs.Common.{ℕ, ◌-◌, ◌^◌, ap, refl, sym}
 use Rattle.dr_restart.proofs.Groups.{first_group}
 use Rattle.dr_restart.proofs.start.first_start.Goals as goal
 
@@ -8,3 +8,6 @@ returns-clause-start c = rw (c.of.ensures, c.new.ensures.items, c.bits-roster.en
 
 pub returns-clause-group : goal.returns-clause-group
 returns-clause-group c = first_group c.args.script.now c.requires
+
+pub returns-clause-present : goal.returns-clause-present
+returns-clause-present c = ap (λ (n : ℕ). 2 ^ n - 1) (sym c.requires.lists)

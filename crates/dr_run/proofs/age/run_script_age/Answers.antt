@@ -1,4 +1,4 @@
-use Rattle.std.proofs.Common.{sym, ap, ◌∙◌, subst, List, length}
+use Rattle.std.proofs.Common.{sym, ap, ◌∙◌, subst, List, length, arith}
 use Rattle.std.specs.Prelude.{All}
 use Rattle.std.proofs.lemmas.List.{length-map}
 use Rattle.dr_entry.specs.declared.end.MemberEnd.{MemberEnd}
@@ -16,9 +16,25 @@ use Rattle.dr_age.specs.Logged.{NoneFull}
 use Rattle.dr_age.proofs.Ends.{have_come, none_full}
 use Rattle.dr_table.specs.Cards.{IsAtEnd, opened}
 use Rattle.dr_threads.specs.Logs.{AreFor}
-use Rattle.dr_run.proofs.Opening.{IsAgeOver, age_over, are_for, is_dealt}
+use Rattle.dr_threads.proofs.Halves.{same_longer}
+use Rattle.dr_threads.proofs.Runs.{as_many}
+use Rattle.dr_run.proofs.Opening.{IsAgeOver, age_over, are_for, as_many_begun, is_dealt}
 use Rattle.dr_run.proofs.age.run_script_age.Given.{Over}
 use Rattle.dr_run.proofs.age.run_script_age.Goals as goal
+
+pub returns-in_default-clause-logs : goal.returns-in_default-clause-logs
+returns-in_default-clause-logs g c = same_longer g.D.Disk.told g.D.Disk.faults c.args.logs.items
+
+pub returns-in_default-with_capacity-clause-logs : goal.returns-in_default-with_capacity-clause-logs
+returns-in_default-with_capacity-clause-logs g c =
+    same_longer g.D.Disk.told g.D.Disk.faults c.args.logs.items
+
+pub returns-in_default-begun_members-clause-logs : goal.returns-in_default-begun_members-clause-logs
+returns-in_default-begun_members-clause-logs g c =
+    same_longer g.D.Disk.told g.D.Disk.faults c.args.logs.items
+
+pub returns-in_default-deal-clause-logs : goal.returns-in_default-deal-clause-logs
+returns-in_default-deal-clause-logs g c = same_longer g.D.Disk.told g.D.Disk.faults c.args.logs.items
 
 pub deal-requires : goal.deal-requires
 deal-requires g c = record {
@@ -37,6 +53,18 @@ run_age-requires-clause-logs g c = λ ks within.
 pub ends_of-requires-clause-ended : goal.ends_of-requires-clause-ended
 ends_of-requires-clause-ended g c =
     subst (All IsAtEnd) (sym c.close-members.ensures.members) c.in_ok-hand.ensures.run.over.ended
+
+pub ends_of-requires-clause-room : goal.ends_of-requires-clause-room
+ends_of-requires-clause-room g c = omega (
+  arith,
+  ap length c.close-members.ensures.members,
+  as_many c.in-Ok-deal.hand.members c.in_ok-hand.hand.members c.in_ok-hand.ensures.run.over.same,
+  ap length c.in-Ok-deal.ensures.hand.1,
+  as_many_begun c.args.script.now c.args.start.now c.args.nth c.in-Ok-begun_members.members.items
+      c.in-Ok-begun_members.ensures,
+  c.in-Ok-with_capacity.ensures.capacity,
+  c.from.ensures,
+)
 
 -- the members at the end, over the words that they left
 abbrev closed : (g : Over) (c : goal.After-of g) → Program

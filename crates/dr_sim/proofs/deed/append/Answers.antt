@@ -2,7 +2,7 @@ use Rattle.std.proofs.Common.{sym, ap, ◌∙◌, subst}
 use Rattle.dr_program.specs.Running.{broken_off}
 use Rattle.dr_logged.specs.Served.{HasServed, IsReady}
 use Rattle.dr_logged.proofs.Serving.{appended_ready, appended_served}
-use Rattle.dr_logged.proofs.Appends.{did_append, did_fail, has_spares}
+use Rattle.dr_logged.proofs.Appends.{did_append, did_fail, has_place, has_spares}
 use Rattle.dr_age.proofs.Deeds.{at_append}
 use Rattle.dr_sim.proofs.Deeds.{append_taken, failure_taken}
 use Rattle.dr_sim.proofs.deed.append.Goals as goal
@@ -11,6 +11,16 @@ pub append-requires-clause-spare_vote : goal.append-requires-clause-spare_vote
 append-requires-clause-spare_vote g c = λ ks within.
     let at = at_append c.args.member.now c.in-Append.record c.requires.form (sym c.in-Append.ensures.deed) in
     (has_spares c.args.log.now c.args.member.now c.in-Append.record at.0 at.1 c.requires.ready).1
+
+pub append-requires-clause-spare_other : goal.append-requires-clause-spare_other
+append-requires-clause-spare_other g c = λ ks within.
+    let at = at_append c.args.member.now c.in-Append.record c.requires.form (sym c.in-Append.ensures.deed) in
+    (has_place c.args.log.now c.args.member.now c.in-Append.record at.1).0
+
+pub append-requires-clause-placed : goal.append-requires-clause-placed
+append-requires-clause-placed g c = λ ks within.
+    let at = at_append c.args.member.now c.in-Append.record c.requires.form (sym c.in-Append.ensures.deed) in
+    (has_place c.args.log.now c.args.member.now c.in-Append.record at.1).1
 
 pub returns-in-Ok-clause-member : goal.returns-in-Ok-clause-member
 returns-in-Ok-clause-member g c = λ table.

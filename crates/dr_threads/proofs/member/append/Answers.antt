@@ -2,7 +2,7 @@ use Rattle.std.proofs.Common.{refl, sym, subst}
 use Rattle.dr_logged.specs.Served.{HasServed}
 use Rattle.dr_logged.proofs.Serving.{appended_ready, appended_served, failed_ready, unfailed}
 use Rattle.dr_program.specs.Running.{after_step, broken_off}
-use Rattle.dr_logged.proofs.Appends.{did_append, did_fail, has_spares}
+use Rattle.dr_logged.proofs.Appends.{did_append, did_fail, has_place, has_spares}
 use Rattle.dr_age.proofs.Deeds.{at_append}
 use Rattle.dr_table.proofs.Deeds.{after_told, same_number}
 use Rattle.dr_threads.proofs.Runs.{gone_by, left_falls, reached_form, reached_well}
@@ -26,6 +26,20 @@ append-requires-clause-spare_vote g c = λ ks within.
     let at = at_append r c.in-Append.record (reached_form r c.member.ensures.reached)
     (sym c.in-Append.ensures.deed) in
     (has_spares c.args.log.now r c.in-Append.record at.0 at.1 (c.requires.ready r c.member.ensures.there)).1
+
+pub append-requires-clause-spare_other : goal.append-requires-clause-spare_other
+append-requires-clause-spare_other g c = λ ks within.
+    let r = c.member.result.now in
+    let at = at_append r c.in-Append.record (reached_form r c.member.ensures.reached)
+    (sym c.in-Append.ensures.deed) in
+    (has_place c.args.log.now r c.in-Append.record at.1).0
+
+pub append-requires-clause-placed : goal.append-requires-clause-placed
+append-requires-clause-placed g c = λ ks within.
+    let r = c.member.result.now in
+    let at = at_append r c.in-Append.record (reached_form r c.member.ensures.reached)
+    (sym c.in-Append.ensures.deed) in
+    (has_place c.args.log.now r c.in-Append.record at.1).1
 
 pub append-requires-clause-whole : goal.append-requires-clause-whole
 append-requires-clause-whole g c = λ ks within.

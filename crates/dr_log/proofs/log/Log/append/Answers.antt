@@ -1,17 +1,19 @@
-use Rattle.std.proofs.Common.{◌≡◌, ℕ, ◌≤◌, ◌-◌, List, [], ◌∷◌, ◌++◌, length, false, inl, ap, subst, ◌∙◌, arith, rules}
-use Rattle.dr_entry.specs.Spelling.{spelling}
+use Rattle.std.proofs.Common.{◌≡◌, ℕ, ◌+◌, ◌≤◌, ◌-◌, List, [], ◌∷◌, ◌++◌, length, false, inl, ap, subst, sym, refl, ◌∙◌, arith, rules}
+use Rattle.dr_entry.specs.Spelling.{Fits, IsValid, spelling}
 use Rattle.dr_disk.specs.Calls.{Write}
+use Rattle.dr_disk.specs.Disk.{Told}
 use Rattle.dr_disk.specs.Images.{Goes, Lasts}
 use Rattle.dr_disk.proofs.Moments.{lasts_still}
 use Rattle.dr_log.specs.Grouping.{StopsAmong, added_all, group, opening}
-use Rattle.dr_log.specs.Standing.{IsBeforeOrAfter, LosesNone, with_entry, with_vote}
-use Rattle.dr_log.specs.State.{LogState, as_entry, as_vote}
-use Rattle.dr_log.proofs.Growing.{longer, length-with_entry, length-with_vote, one_kind}
-use Rattle.dr_log.proofs.Told.{GoesWell, goes_one, group_goes, group_settled, group_stops, images_told, reaches_end, settled_one, still_goes}
+use Rattle.dr_log.specs.Standing.{HasAllOf, IsBeforeOrAfter, LosesNone, least_length}
+use Rattle.dr_log.specs.State.{LogState, as_entry, as_other, as_vote}
+use Rattle.dr_log.proofs.Growing.{least_more, length-age_votes, length-entries, length-votes, one_kind}
+use Rattle.dr_log.proofs.Told.{GoesWell, MayCome, group_goes, group_settled, group_stops, images_told, reaches_end, still_goes}
 use Rattle.dr_log.proofs.log.Log.append.Given.{Over}
 use Rattle.dr_log.proofs.log.Log.append.Goals as goal
 use Rattle.dr_log.specs.Kept.{IsSettled}
-use Rattle.std.specs.Prelude.{IfSome}
+use Rattle.dr_log_bytes.specs.Content.{IsPlaced, OnLog, with_record}
+use Rattle.std.specs.Prelude.{IfSome, Option}
 use Rattle.dr_entry.specs.declared.record.Record.{Record}
 
 -- what a record is spelled as behind a closed gate
@@ -24,8 +26,7 @@ put_behind-requires-clause-inside g c κs h =
     let old = c.self.inside in
     let whole : old.failed ≡ false = ap (λ (s : LogState g.row.D.Denot). s.failed) c.self.view_is
     ∙ c.requires.whole in
-    reaches_end old.entries.items old.votes.items (told old.disk) old.len c.self.invariant.long
-    (c.self.invariant.settled whole)
+    reaches_end _ (told old.disk) (c.self.invariant.settled whole)
 
 pub returns-then-size-saturating_sub-clause-any_moment :
     goal.returns-then-size-saturating_sub-clause-any_moment
@@ -34,16 +35,27 @@ returns-then-size-saturating_sub-clause-any_moment g c =
     let old = c.self.inside in
     let whole : old.failed ≡ false = ap (λ (s : LogState g.row.D.Denot). s.failed) c.self.view_is
     ∙ c.requires.whole in
+    let before : OnLog = record {
+      entries = old.entries.items;
+      votes = old.votes.items;
+      age_votes = old.age_votes.items;
+      newer = old.newer;
+      length = old.len;
+    } in
     subst (λ (s : LogState g.row.D.Denot). Goes (told s.disk) (told s.disk)
-    (λ _. IsBeforeOrAfter s.entries s.votes c.args.r.now)) c.self.view_is
-    (still_goes old.entries.items old.votes.items (told old.disk)
-    (IsBeforeOrAfter old.entries.items old.votes.items c.args.r.now) (c.self.invariant.settled whole)
-    (λ image is. inl is))
+    (λ _. IsBeforeOrAfter s.content c.args.r.now)) c.self.view_is
+    (still_goes before (told old.disk) (IsBeforeOrAfter before c.args.r.now)
+    (c.self.invariant.settled whole) (λ image is. inl is))
 
 -- an append that stops has gone well up to there
 stopped : (g : Over) (c : goal.After-self-1 g)
-    → GoesWell c.self.inside.entries.items c.self.inside.votes.items (c.args.r.now ∷ [])
-    (g.D.Disk.told c.self.inside.disk) (g.D.Disk.told c.put_behind.new.disk)
+    → GoesWell (record {
+      entries = c.self.inside.entries.items;
+      votes = c.self.inside.votes.items;
+      age_votes = c.self.inside.age_votes.items;
+      newer = c.self.inside.newer;
+      length = c.self.inside.len;
+    }) (c.args.r.now ∷ []) (g.D.Disk.told c.self.inside.disk) (g.D.Disk.told c.put_behind.new.disk)
 stopped g c =
     let told = g.D.Disk.told in
     let old = c.self.inside in
@@ -54,129 +66,192 @@ stopped g c =
     ∙ ap (λ (l : List ℕ). l ++ (0 ∷ [])) c.encode.ensures.spelled in
     let stops : StopsAmong (Write old.len c.as_slice.result.now ∷ opening (old.len - 1)) (told old.disk)
     (told c.put_behind.new.disk) = search rules in
-    group_stops old.entries.items old.votes.items (told old.disk) (told c.put_behind.new.disk) old.len
-    (c.args.r.now ∷ []) (omega arith) (c.self.invariant.settled whole) c.self.invariant.long
-    ((c.requires.valid, c.encode.ensures.fits), tt)
+    group_stops _ (told old.disk) (told c.put_behind.new.disk) old.len (c.args.r.now ∷ [])
+    (c.self.invariant.settled whole) (record {
+      long = refl;
+      some = omega arith;
+      fit = ((c.requires.valid, c.encode.ensures.fits), tt);
+      placed = (
+        subst (λ (s : LogState g.row.D.Denot). IsPlaced s.content c.args.r.now) (sym c.self.view_is)
+            c.requires.placed,
+        tt,
+      );
+    })
     (subst (λ (l : List ℕ). StopsAmong (Write old.len l ∷ opening (old.len - 1)) (told old.disk)
     (told c.put_behind.new.disk)) bytes stops)
 
 pub returns-then-is_err-clause-any_moment : goal.returns-then-is_err-clause-any_moment
 returns-then-is_err-clause-any_moment g c =
     subst (λ (s : LogState g.row.D.Denot). Goes (g.D.Disk.told s.disk) (g.D.Disk.told c.put_behind.new.disk)
-    (λ _. IsBeforeOrAfter s.entries s.votes c.args.r.now)) c.self.view_is
-    (goes_one c.self.inside.entries.items c.self.inside.votes.items c.args.r.now
-    (g.D.Disk.told c.self.inside.disk) (g.D.Disk.told c.put_behind.new.disk) (stopped g c))
+    (λ _. IsBeforeOrAfter s.content c.args.r.now)) c.self.view_is (stopped g c).goes
 
 pub returns-then-size-saturating_sub-clause-lasting : goal.returns-then-size-saturating_sub-clause-lasting
 returns-then-size-saturating_sub-clause-lasting g c =
-    λ first kept. lasts_still (g.D.Disk.told c.args.self.now.disk) (LosesNone first kept)
+    λ first takes. lasts_still (g.D.Disk.told c.args.self.now.disk) (LosesNone first)
 
 pub returns-then-is_err-clause-lasting : goal.returns-then-is_err-clause-lasting
-returns-then-is_err-clause-lasting g c = λ first kept.
-    subst (λ (s : LogState g.row.D.Denot). Lasts (g.D.Disk.told s.disk) (g.D.Disk.told c.put_behind.new.disk)
-    (LosesNone first kept)) c.self.view_is ((stopped g c).lasts first kept)
+returns-then-is_err-clause-lasting g c = λ first.
+    subst (λ (s : LogState g.row.D.Denot).
+    (HasAllOf first s.content → HasAllOf first (with_record c.args.r.now s.content))
+    → Lasts (g.D.Disk.told s.disk) (g.D.Disk.told c.put_behind.new.disk) (LosesNone first)) c.self.view_is
+    ((stopped g c).lasts first)
 
 -- one that does not has written the record, and opened its gate
-did : (g : Over) (c : goal.After-self-2-1 g) → g.D.Disk.told c.put_behind.new.disk
-    ≡ added_all (group c.self.inside.len (c.args.r.now ∷ [])) (g.D.Disk.told c.self.inside.disk)
-did g c =
-    let told = g.D.Disk.told in
-    let old = c.self.inside in
-    let bytes : c.as_slice.result.now ≡ block_of c.args.r.now =
-    c.as_slice.ensures.value ∙ c.push.ensures.items
-    ∙ ap (λ (l : List ℕ). l ++ (0 ∷ [])) c.encode.ensures.spelled in
-    let written : told c.put_behind.new.disk
-    ≡ added_all (Write old.len c.as_slice.result.now ∷ opening (old.len - 1)) (told old.disk) =
-    search rules in
-    written ∙ ap (λ (l : List ℕ). added_all (Write old.len l ∷ opening (old.len - 1)) (told old.disk)) bytes
+written : (before after : Option Told) (len : ℕ) (r : Record) (bytes : List ℕ) → bytes ≡ block_of r
+    → after ≡ added_all (Write len bytes ∷ opening (len - 1)) before
+    → after ≡ added_all (group len (r ∷ [])) before
+written before after len r bytes same made =
+    made ∙ ap (λ (l : List ℕ). added_all (Write len l ∷ opening (len - 1)) before) same
 
-whole : (g : Over) (c : goal.After-self-2-1 g) → c.self.inside.failed ≡ false
-whole g c = ap (λ (s : LogState g.row.D.Denot). s.failed) c.self.view_is ∙ c.requires.whole
-
--- so it has gone well
-well : (g : Over) (c : goal.After-self-2-1 g)
-    → GoesWell c.self.inside.entries.items c.self.inside.votes.items (c.args.r.now ∷ [])
-    (g.D.Disk.told c.self.inside.disk) (g.D.Disk.told c.put_behind.new.disk)
-well g c =
-    let told = g.D.Disk.told in
-    let old = c.self.inside in
-    group_goes old.entries.items old.votes.items (told old.disk) (told c.put_behind.new.disk) old.len
-    (c.args.r.now ∷ []) (omega arith) (c.self.invariant.settled (whole g c)) c.self.invariant.long
-    ((c.requires.valid, c.encode.ensures.fits), tt) (did g c)
-
-entries : (g : Over) (c : goal.After-self-2-1 g)
-    → c.sort_in.new.entries.items ≡ with_entry c.args.r.now c.self.inside.entries.items
-entries g c = search rules
-
-votes : (g : Over) (c : goal.After-self-2-1 g)
-    → c.sort_in.new.votes.items ≡ with_vote c.args.r.now c.self.inside.votes.items
-votes g c = search rules
-
--- and the disk is settled with the record
-settled : (g : Over) (c : goal.After-self-2-1 g)
-    → IfSome (g.D.Disk.told c.put_behind.new.disk)
-    (IsSettled c.sort_in.new.entries.items c.sort_in.new.votes.items)
-settled g c =
-    let told = g.D.Disk.told in
-    let old = c.self.inside in
-    settled_one old.entries.items c.sort_in.new.entries.items old.votes.items c.sort_in.new.votes.items
-    (told c.put_behind.new.disk) c.args.r.now
-    (group_settled old.entries.items old.votes.items (told old.disk) (told c.put_behind.new.disk) old.len
-    (c.args.r.now ∷ []) (omega arith) (c.self.invariant.settled (whole g c)) c.self.invariant.long
-    ((c.requires.valid, c.encode.ensures.fits), tt) (did g c)) (entries g c) (votes g c)
+-- the record may come
+comes : (before : OnLog) (r : Record) → IsValid r → Fits r → IsPlaced before r
+    → MayCome before before.length (r ∷ [])
+comes before r valid fits placed =
+    record { long = refl; some = omega arith; fit = ((valid, fits), tt); placed = (placed, tt) }
 
 pub returns-clause-any_moment : goal.returns-clause-any_moment
 returns-clause-any_moment g c =
-    subst (λ (s : LogState g.row.D.Denot). Goes (g.D.Disk.told s.disk) (g.D.Disk.told c.put_behind.new.disk)
-    (λ _. IsBeforeOrAfter s.entries s.votes c.args.r.now)) c.self.view_is
-    (goes_one c.self.inside.entries.items c.self.inside.votes.items c.args.r.now
-    (g.D.Disk.told c.self.inside.disk) (g.D.Disk.told c.put_behind.new.disk) (well g c))
+    let told = g.D.Disk.told in
+    let old = c.self.inside in
+    let r = c.args.r.now in
+    let before : OnLog = record {
+      entries = old.entries.items;
+      votes = old.votes.items;
+      age_votes = old.age_votes.items;
+      newer = old.newer;
+      length = old.len;
+    } in
+    let did = written (told old.disk) (told c.put_behind.new.disk) old.len r c.as_slice.result.now
+    (c.as_slice.ensures.value ∙ c.push.ensures.items ∙ ap (λ (l : List ℕ). l ++ (0 ∷ [])) c.encode.ensures.spelled)
+    (search rules) in
+    let whole : old.failed ≡ false = ap (λ (s : LogState g.row.D.Denot). s.failed) c.self.view_is
+    ∙ c.requires.whole in
+    let may = comes before r c.requires.valid c.encode.ensures.fits
+    (subst (λ (s : LogState g.row.D.Denot). IsPlaced s.content r) (sym c.self.view_is) c.requires.placed) in
+    let well = group_goes before (told old.disk) (told c.put_behind.new.disk) old.len (r ∷ [])
+    (c.self.invariant.settled whole) may did in
+    subst (λ (s : LogState g.row.D.Denot). Goes (told s.disk) (told c.put_behind.new.disk)
+    (λ _. IsBeforeOrAfter s.content r)) c.self.view_is well.goes
 
 pub returns-clause-lasting : goal.returns-clause-lasting
-returns-clause-lasting g c = λ first kept.
-    subst (λ (s : LogState g.row.D.Denot). Lasts (g.D.Disk.told s.disk) (g.D.Disk.told c.put_behind.new.disk)
-    (LosesNone first kept)) c.self.view_is ((well g c).lasts first kept)
+returns-clause-lasting g c = λ first.
+    let told = g.D.Disk.told in
+    let old = c.self.inside in
+    let r = c.args.r.now in
+    let before : OnLog = record {
+      entries = old.entries.items;
+      votes = old.votes.items;
+      age_votes = old.age_votes.items;
+      newer = old.newer;
+      length = old.len;
+    } in
+    let did = written (told old.disk) (told c.put_behind.new.disk) old.len r c.as_slice.result.now
+    (c.as_slice.ensures.value ∙ c.push.ensures.items ∙ ap (λ (l : List ℕ). l ++ (0 ∷ [])) c.encode.ensures.spelled)
+    (search rules) in
+    let whole : old.failed ≡ false = ap (λ (s : LogState g.row.D.Denot). s.failed) c.self.view_is
+    ∙ c.requires.whole in
+    let may = comes before r c.requires.valid c.encode.ensures.fits
+    (subst (λ (s : LogState g.row.D.Denot). IsPlaced s.content r) (sym c.self.view_is) c.requires.placed) in
+    let well = group_goes before (told old.disk) (told c.put_behind.new.disk) old.len (r ∷ [])
+    (c.self.invariant.settled whole) may did in
+    subst (λ (s : LogState g.row.D.Denot).
+    (HasAllOf first s.content → HasAllOf first (with_record r s.content))
+    → Lasts (told s.disk) (told c.put_behind.new.disk) (LosesNone first)) c.self.view_is
+    (well.lasts first)
 
 pub returns-clause-durable : goal.returns-clause-durable
-returns-clause-durable g c = images_told c.sort_in.new.entries.items c.sort_in.new.votes.items
-    (g.D.Disk.told c.put_behind.new.disk) (settled g c)
+returns-clause-durable g c =
+    let told = g.D.Disk.told in
+    let old = c.self.inside in
+    let r = c.args.r.now in
+    let before : OnLog = record {
+      entries = old.entries.items;
+      votes = old.votes.items;
+      age_votes = old.age_votes.items;
+      newer = old.newer;
+      length = old.len;
+    } in
+    let did = written (told old.disk) (told c.put_behind.new.disk) old.len r c.as_slice.result.now
+    (c.as_slice.ensures.value ∙ c.push.ensures.items ∙ ap (λ (l : List ℕ). l ++ (0 ∷ [])) c.encode.ensures.spelled)
+    (search rules) in
+    let whole : old.failed ≡ false = ap (λ (s : LogState g.row.D.Denot). s.failed) c.self.view_is
+    ∙ c.requires.whole in
+    let may = comes before r c.requires.valid c.encode.ensures.fits
+    (subst (λ (s : LogState g.row.D.Denot). IsPlaced s.content r) (sym c.self.view_is) c.requires.placed) in
+    let after : OnLog = record {
+      entries = c.sort_in.new.entries.items;
+      votes = c.sort_in.new.votes.items;
+      age_votes = c.sort_in.new.age_votes.items;
+      newer = c.sort_in.new.newer;
+      length = c.sort_in.new.len;
+    } in
+    let content : after ≡ with_record r before = search rules in
+    let settled : IfSome (told c.put_behind.new.disk) (IsSettled after) =
+    group_settled before after (told old.disk) (told c.put_behind.new.disk) old.len (r ∷ [])
+    (c.self.invariant.settled whole) may did content in
+    images_told after (told c.put_behind.new.disk) settled
 
 pub returns-clause-calls : goal.returns-clause-calls
 returns-clause-calls g c =
-    subst (λ (s : LogState g.row.D.Denot). g.D.Disk.told c.put_behind.new.disk
-    ≡ added_all (group s.length (c.args.r.now ∷ [])) (g.D.Disk.told s.disk)) c.self.view_is (did g c)
+    let told = g.D.Disk.told in
+    let old = c.self.inside in
+    let r = c.args.r.now in
+    let did = written (told old.disk) (told c.put_behind.new.disk) old.len r c.as_slice.result.now
+    (c.as_slice.ensures.value ∙ c.push.ensures.items ∙ ap (λ (l : List ℕ). l ++ (0 ∷ [])) c.encode.ensures.spelled)
+    (search rules) in
+    subst (λ (s : LogState g.row.D.Denot). told c.put_behind.new.disk
+    ≡ added_all (group s.content.length (r ∷ [])) (told s.disk)) c.self.view_is did
 
 pub invariant_of-self-2 : goal.invariant_of-self-2
 invariant_of-self-2 g c =
+    let told = g.D.Disk.told in
     let old = c.self.inside in
     let r = c.args.r.now in
+    let before : OnLog = record {
+      entries = old.entries.items;
+      votes = old.votes.items;
+      age_votes = old.age_votes.items;
+      newer = old.newer;
+      length = old.len;
+    } in
+    let did = written (told old.disk) (told c.put_behind.new.disk) old.len r c.as_slice.result.now
+    (c.as_slice.ensures.value ∙ c.push.ensures.items ∙ ap (λ (l : List ℕ). l ++ (0 ∷ [])) c.encode.ensures.spelled)
+    (search rules) in
+    let whole : old.failed ≡ false = ap (λ (s : LogState g.row.D.Denot). s.failed) c.self.view_is
+    ∙ c.requires.whole in
+    let may = comes before r c.requires.valid c.encode.ensures.fits
+    (subst (λ (s : LogState g.row.D.Denot). IsPlaced s.content r) (sym c.self.view_is) c.requires.placed) in
+    let after : OnLog = record {
+      entries = c.sort_in.new.entries.items;
+      votes = c.sort_in.new.votes.items;
+      age_votes = c.sort_in.new.age_votes.items;
+      newer = c.sort_in.new.newer;
+      length = c.sort_in.new.len;
+    } in
+    let content : after ≡ with_record r before = search rules in
+    let settled : IfSome (told c.put_behind.new.disk) (IsSettled after) =
+    group_settled before after (told old.disk) (told c.put_behind.new.disk) old.len (r ∷ [])
+    (c.self.invariant.settled whole) may did content in
     let spare_entry : as_entry r ≤ old.spare_entries =
-    omega (
-      arith,
-      c.requires.spare_entry,
-      ap (λ (s : LogState g.row.D.Denot).
-          s.spare_entries) c.self.view_is,
-    ) in
+    omega (arith, c.requires.spare_entry, ap (λ (s : LogState g.row.D.Denot). s.spare_entries) c.self.view_is) in
     let spare_vote : as_vote r ≤ old.spare_votes =
-    omega (
-      arith,
-      c.requires.spare_vote,
-      ap (λ (s : LogState g.row.D.Denot).
-          s.spare_votes) c.self.view_is,
-    ) in
+    omega (arith, c.requires.spare_vote, ap (λ (s : LogState g.row.D.Denot). s.spare_votes) c.self.view_is) in
+    let spare_other : as_other r ≤ old.spare_others =
+    omega (arith, c.requires.spare_other, ap (λ (s : LogState g.row.D.Denot). s.spare_others) c.self.view_is) in
     record {
-      settled = λ _. settled g c;
-      long = longer r old.len c.len.result old.entries.items c.sort_in.new.entries.items old.votes.items
-          c.sort_in.new.votes.items c.self.invariant.long
-          (c.len.ensures.value ∙ ap length c.encode.ensures.spelled) (entries g c) (votes g c);
+      settled = λ _. settled;
+      long = subst (λ (x : OnLog). least_length x ≤ x.length) (sym content)
+          (least_more r before c.self.invariant.long);
       calls = omega (
         arith,
         c.self.invariant.calls,
         c.put_behind.ensures.calls_kept,
         c.take_spare.ensures.entries,
         c.take_spare.ensures.votes,
+        c.take_spare.ensures.others,
         spare_entry,
         spare_vote,
+        spare_other,
         one_kind r,
       );
       bytes = omega (
@@ -185,8 +260,10 @@ invariant_of-self-2 g c =
         c.put_behind.ensures.bytes_kept,
         c.take_spare.ensures.entries,
         c.take_spare.ensures.votes,
+        c.take_spare.ensures.others,
         spare_entry,
         spare_vote,
+        spare_other,
         one_kind r,
         ap length c.as_slice.ensures.value,
         c.push.ensures.len,
@@ -195,8 +272,8 @@ invariant_of-self-2 g c =
       entry_places = omega (
         arith,
         c.self.invariant.entry_places,
-        ap length (entries g c),
-        length-with_entry r old.entries.items,
+        ap (λ (x : OnLog). length x.entries) content,
+        length-entries r before,
         c.take_spare.ensures.entries,
         spare_entry,
         c.sort_in.ensures.entry_places,
@@ -204,10 +281,19 @@ invariant_of-self-2 g c =
       vote_places = omega (
         arith,
         c.self.invariant.vote_places,
-        ap length (votes g c),
-        length-with_vote r old.votes.items,
+        ap (λ (x : OnLog). length x.votes) content,
+        length-votes r before,
         c.take_spare.ensures.votes,
         spare_vote,
         c.sort_in.ensures.vote_places,
+      );
+      age_vote_places = omega (
+        arith,
+        c.self.invariant.age_vote_places,
+        ap (λ (x : OnLog). length x.age_votes) content,
+        length-age_votes r before,
+        c.take_spare.ensures.others,
+        spare_other,
+        c.sort_in.ensures.age_vote_places,
       );
     }

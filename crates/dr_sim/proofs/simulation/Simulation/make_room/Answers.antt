@@ -12,10 +12,8 @@ loop-m-init g c = none_made g.D.Disk.told g.D.Disk.faults c.args.self.now.member
 pub returns-in_err-reserve-clause-kept : goal.returns-in_err-reserve-clause-kept
 returns-in_err-reserve-clause-kept g c =
     same_set c.args.logs.now c.loop-m.logs c.loop-m.m c.index-logs-m.result c.reserve.new.self
-    c.loop-m.invariant.same (omega (arith, c.loop-m-test.true, c.loop-m.invariant.all)) (record {
-      entries = ap (λ (l : LogState g.row.D.Denot). l.entries) c.in_err-reserve.ensures.err;
-      votes = ap (λ (l : LogState g.row.D.Denot). l.votes) c.in_err-reserve.ensures.err;
-    })
+    c.loop-m.invariant.same (omega (arith, c.loop-m-test.true, c.loop-m.invariant.all))
+    (ap (λ (l : LogState g.row.D.Denot). l.content) c.in_err-reserve.ensures.err)
 
 pub returns-in_err-reserve-clause-calm : goal.returns-in_err-reserve-clause-calm
 returns-in_err-reserve-clause-calm g c =
@@ -34,10 +32,7 @@ loop-m-preserved g c =
     (roomy g.D.Disk.told g.D.Disk.faults c.index-member.result.now _ c.reserve.new.self _ _ c.appends_left.ensures c.votes_left.ensures
     c.in_ok-reserve.ensures.ok c.in_ok-reserve.ensures.told c.in_ok-reserve.ensures.faults
     c.in_ok-reserve.ensures.safe)
-    (record {
-      entries = ap (λ (l : LogState g.row.D.Denot). l.entries) c.in_ok-reserve.ensures.ok;
-      votes = ap (λ (l : LogState g.row.D.Denot). l.votes) c.in_ok-reserve.ensures.ok;
-    })
+    (ap (λ (l : LogState g.row.D.Denot). l.content) c.in_ok-reserve.ensures.ok)
 
 pub returns-clause-room : goal.returns-clause-room
 returns-clause-room g c = λ m r old new member there here.

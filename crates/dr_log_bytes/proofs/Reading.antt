@@ -1,0 +1,211 @@
+-- How the reading of a log's bytes goes on from record to record, and how it ends.
+use Rattle.std.proofs.Common.{◌≡◌, ◌≢◌, ⊎_elim, ℕ, ◌+◌, ◌-◌, ◌<◌, ◌≤◌, Bool, true, false, List, [], ◌∷◌, ◌++◌, length, get_or, take, drop, refl, sym, ap, ◌∙◌, subst, append_assoc, append-nil, arith, length-append, length-drop, length-take}
+use Rattle.std.proofs.lemmas.List.{drop-drop, take-append-drop, drop_more, take_all}
+use Rattle.dr_entry.specs.declared.record.Record.{Record}
+use Rattle.dr_entry.specs.Spelling.{Fits, IsValid, Spells, spelling}
+use Rattle.dr_entry.proofs.RoundTrip.{decoded_again}
+use Rattle.dr_log_bytes.specs.declared.block.Block.TheVariants as found
+use Rattle.dr_log_bytes.specs.Blocks.{HasNoRecord, IsBlockAt}
+use Rattle.dr_log_bytes.specs.Content.{ArePlaced, IsPlaced, OnLog, block_length, content_after, empty_of, with_record}
+use Rattle.dr_log_bytes.specs.Grammar.{AreSpelled, BreaksAt, IsBroken, IsLog, IsLogOf, blocks, magic_of}
+use Rattle.dr_log_bytes.specs.Parsed.{IsParsed, IsReadTo}
+use Rattle.dr_log_bytes.proofs.Meaning.{one_spelled}
+
+-- ---- one record more
+
+pub blocks-added : (rs : List Record) (r : Record) (rest : List ℕ)
+    → blocks (rs ++ r ∷ []) ++ rest ≡ blocks rs ++ (1 ∷ (spelling r ++ rest))
+blocks-added [] r rest = ap (λ (l : List ℕ). 1 ∷ l)
+    (ap (λ (l : List ℕ). l ++ rest) (append-nil (spelling r)))
+blocks-added (s ∷ rs) r rest = ap (λ (l : List ℕ). 1 ∷ l)
+    (append_assoc (spelling s) (blocks (rs ++ r ∷ [])) rest ∙ ap (λ (l : List ℕ). spelling s ++ l)
+    (blocks-added rs r rest)
+    ∙ sym (append_assoc (spelling s) (blocks rs) (1 ∷ (spelling r ++ rest))))
+
+pub length-blocks-added : (rs : List Record) (r : Record) → length (blocks (rs ++ r ∷ [])) ≡ length
+    (blocks rs) + block_length r
+length-blocks-added rs r =
+    let e = ap length (blocks-added rs r []) in
+    omega (
+      arith,
+      e,
+      length-append (blocks (rs ++ r ∷ [])) [],
+      length-append (blocks rs) (1 ∷ (spelling r ++ [])),
+      length-append (spelling r) [],
+    )
+
+pub spelled-added : (rs : List Record) (r : Record) → AreSpelled rs → IsValid r → Fits r
+    → AreSpelled (rs ++ r ∷ [])
+spelled-added [] r all valid fits = ((valid, fits), tt)
+spelled-added (s ∷ rs) r all valid fits = (all.0, spelled-added rs r all.1 valid fits)
+
+pub content-added : (c : OnLog) (rs : List Record) (r : Record)
+    → content_after c (rs ++ r ∷ []) ≡ with_record r (content_after c rs)
+content-added c [] r = refl
+content-added c (s ∷ rs) r = content-added (with_record s c) rs r
+
+-- the length is that of the blocks
+pub length-after : (c : OnLog) (rs : List Record) → (content_after c rs).length ≡ c.length + length (blocks rs)
+length-after c [] = omega arith
+length-after c (r ∷ rs) =
+    omega (arith, length-after (with_record r c) rs, length-append (spelling r) (blocks rs))
+
+pub placed-added : (c : OnLog) (rs : List Record) (r : Record) → ArePlaced c rs
+    → IsPlaced (content_after c rs) r → ArePlaced c (rs ++ r ∷ [])
+placed-added c [] r all placed = (placed, tt)
+placed-added c (s ∷ rs) r all placed = (all.0, placed-added (with_record s c) rs r all.1 placed)
+
+-- ---- reading
+
+-- the gate and what stands behind it
+gate_first : (bytes : List ℕ) (at gate : ℕ) → at < length bytes → get_or bytes at 0 ≡ gate
+    → drop at bytes ≡ gate ∷ drop (at + 1) bytes
+gate_first bytes at gate inside is = drop_more bytes at 0 inside
+    ∙ ap (λ (g : ℕ). g ∷ drop (at + 1) bytes) is
+
+pub length-magic : (newer : Bool) → length (magic_of newer) ≡ 8
+length-magic true = refl
+length-magic false = refl
+
+-- a log begins with no records
+pub begun_read : (bytes : List ℕ) (newer : Bool) → take 8 bytes ≡ magic_of newer → IsReadTo bytes newer [] 8
+begun_read bytes newer is = record {
+  spelled = tt;
+  placed = tt;
+  parts = sym (take-append-drop 8 bytes) ∙ ap (λ (l : List ℕ). l ++ drop 8 bytes) is;
+  place = refl;
+  inside = omega (arith, length-take 8 bytes, ap length is, length-magic newer);
+}
+
+pub begun_parsed : (bytes : List ℕ) (newer : Bool) (c : OnLog) → take 8 bytes ≡ magic_of newer
+    → c ≡ empty_of newer → IsParsed bytes c 8
+begun_parsed bytes newer c is empty =
+    record { newer = newer; records = []; read = begun_read bytes newer is; content = sym empty }
+
+-- an open gate with a record behind it that may stand there is one record more
+pub next_read : (bytes : List ℕ) (c : OnLog) (at n : ℕ) (r : Record) (newer : Bool) (rs : List Record)
+    → IsReadTo bytes newer rs at → content_after (empty_of newer) rs ≡ c → IsBlockAt bytes at (found.Record r n)
+    → IsPlaced c r → IsReadTo bytes newer (rs ++ r ∷ []) (at + (1 + n))
+next_read bytes c at n r newer rs is makes (inside, gate, spells) placed =
+    let behind : drop (at + 1) bytes ≡ spelling r ++ drop (at + 1 + n) bytes =
+    sym (take-append-drop n (drop (at + 1) bytes))
+    ∙ ap (λ (l : List ℕ). l ++ drop n (drop (at + 1) bytes)) spells.front
+    ∙ ap (λ (l : List ℕ). spelling r ++ l) (drop-drop n (at + 1) bytes) in
+    let move : at + 1 + n ≡ at + (1 + n) = omega arith in
+    record {
+      spelled = spelled-added rs r is.spelled spells.valid spells.fits;
+      placed = placed-added (empty_of newer) rs r is.placed (subst (λ x. IsPlaced x r) (sym makes) placed);
+      parts = is.parts
+          ∙ ap (λ (l : List ℕ). magic_of newer ++ (blocks rs ++ l)) (gate_first bytes at 1 inside gate
+          ∙ ap (λ (l : List ℕ). 1 ∷ l) (behind ∙ ap (λ (k : ℕ). spelling r ++ drop k bytes) move))
+          ∙ ap (λ (l : List ℕ). magic_of newer ++ l) (sym (blocks-added rs r (drop (at + (1 + n)) bytes)));
+      place = omega (arith, is.place, length-blocks-added rs r, spells.count);
+      inside = omega (
+        arith,
+        ap length spells.front,
+        length-take n (drop (at + 1) bytes),
+        length-drop (at + 1) bytes,
+        spells.count,
+        inside,
+      );
+    }
+
+pub next_parsed : (bytes : List ℕ) (c d : OnLog) (at n : ℕ) (r : Record)
+    → IsParsed bytes c at → IsBlockAt bytes at (found.Record r n) → IsPlaced c r → d ≡ with_record r c
+    → IsParsed bytes d (at + (1 + n))
+next_parsed bytes c d at n r is block placed same = record {
+  newer = is.newer;
+  records = is.records ++ r ∷ [];
+  read = next_read bytes c at n r is.newer is.records is.read is.content block placed;
+  content = content-added (empty_of is.newer) is.records r ∙ ap (with_record r) is.content ∙ sym same;
+}
+
+-- a closed gate ends the log
+pub closed_read : (bytes : List ℕ) (newer : Bool) (rs : List Record) (at : ℕ) → IsReadTo bytes newer rs at
+    → IsBlockAt bytes at found.Closed → IsLog bytes newer rs
+closed_read bytes newer rs at is (inside, closed) = record {
+  spelled = is.spelled;
+  placed = is.placed;
+  gate = get_or bytes at 0;
+  closed = closed;
+  rest = drop (at + 1) bytes;
+  parts = is.parts ∙ ap (λ (l : List ℕ). magic_of newer ++ (blocks rs ++ l))
+      (gate_first bytes at (get_or bytes at 0) inside refl);
+}
+
+pub found_parsed : (bytes : List ℕ) (c : OnLog) (at : ℕ)
+    → IsParsed bytes c at → IsBlockAt bytes at found.Closed → IsLogOf bytes c
+found_parsed bytes c at is block = record {
+  newer = is.newer;
+  records = is.records;
+  log = closed_read bytes is.newer is.records at is.read block;
+  content = is.content;
+}
+
+-- where the next record stands the log that is read so far would end
+pub length_parsed : (bytes : List ℕ) (c : OnLog) (at : ℕ) → IsParsed bytes c at → c.length ≡ at + 1
+length_parsed bytes c at is = omega (
+  arith,
+  ap (λ (d : OnLog). d.length) is.content,
+  length-after (empty_of is.newer) is.records,
+  is.read.place,
+)
+
+-- a record inside the bytes is no longer than they are
+pub record_inside : (bytes : List ℕ) (at n : ℕ) (r : Record) → IsBlockAt bytes at (found.Record r n)
+    → at + 1 + n ≤ length bytes
+record_inside bytes at n r (inside, gate, spells) = omega (
+  arith,
+  ap length spells.front,
+  length-take n (drop (at + 1) bytes),
+  length-drop (at + 1) bytes,
+  spells.count,
+  inside,
+)
+
+-- where there is neither a record nor a closed gate the blocks break off
+pub no_record : (c : OnLog) (bytes : List ℕ) → HasNoRecord bytes → IsBroken c bytes
+no_record c [] none = tt
+no_record c (gate ∷ rest) none = (none.0, λ r n spells placed. none.1 r n spells)
+
+broken_by : (bytes : List ℕ) (c : OnLog) (at : ℕ) → IsParsed bytes c at → IsBroken c (drop at bytes)
+    → BreaksAt bytes at
+broken_by bytes c at is broken = record {
+  newer = is.newer;
+  records = is.records;
+  spelled = is.read.spelled;
+  placed = is.read.placed;
+  rest = drop at bytes;
+  broken = subst (λ x. IsBroken x (drop at bytes)) (sym is.content) broken;
+  parts = is.read.parts;
+  place = is.read.place;
+}
+
+pub broken_read : (bytes : List ℕ) (c : OnLog) (at : ℕ)
+    → IsParsed bytes c at → IsBlockAt bytes at found.Broken → BreaksAt bytes at
+broken_read bytes c at is none = broken_by bytes c at is (no_record c (drop at bytes) none)
+
+-- so they do before a misplaced record
+pub misplaced_breaks : (bytes : List ℕ) (c : OnLog) (at n : ℕ) (r : Record)
+    → IsBlockAt bytes at (found.Record r n) → ¬ IsPlaced c r → IsBroken c (drop at bytes)
+misplaced_breaks bytes c at n r (inside, gate, spells) misplaced =
+    subst (IsBroken c) (sym (gate_first bytes at 1 inside gate)) (
+      refl,
+      λ s m other placed. misplaced (subst (IsPlaced c)
+          (one_spelled (drop (at + 1) bytes) s r m n other spells) placed),
+    )
+
+pub misplaced_read : (bytes : List ℕ) (c : OnLog) (at n : ℕ) (r : Record) → IsParsed bytes c at
+    → IsBlockAt bytes at (found.Record r n) → ¬ IsPlaced c r → BreaksAt bytes at
+misplaced_read bytes c at n r is block misplaced =
+    broken_by bytes c at is (misplaced_breaks bytes c at n r block misplaced)
+
+-- where a gate is open and no record stands behind it, there is neither
+pub broken_behind : (bytes : List ℕ) (at : ℕ) → at < length bytes → get_or bytes at 0 ≡ 1
+    → ((r : Record) (n : ℕ) → Spells (drop (at + 1) bytes) r n → ⊥) → HasNoRecord (drop at bytes)
+broken_behind bytes at inside gate none =
+    subst HasNoRecord (sym (gate_first bytes at 1 inside gate)) (refl, none)
+
+-- the bytes from a place on, as the code takes them
+pub rest_is : (bytes : List ℕ) (k : ℕ) → take (length bytes - k) (drop k bytes) ≡ drop k bytes
+rest_is bytes k = take_all (length bytes - k) (drop k bytes) (omega (arith, length-drop k bytes))

@@ -1,0 +1,4 @@
+pub mod Content
+pub mod Grammar
+pub mod Blocks
+pub mod Parsed
