@@ -1,57 +1,45 @@
-//! Readers and writers that are interrupted, that fail, and that end.
-use dr_io::{Failed, InputSource, MemorySink, MemorySource, OutputSink, Sink, Source};
-use std::io::{self, ErrorKind, Read, Write};
-use std::test::Fail;
+//! A reader and writer that is interrupted, that fails, and that ends.
+ghost use Rattle.std.specs.Prelude.{◌≤◌, IfOk};
 
-/// A reader that is interrupted in its first two calls, gives two bytes in its third, fails in its fourth,
-/// and has ended then.
+use dr_io::{InputSource, OutputSink, Sink, Source};
+use std::alloc::{AllocError, Global};
+use std::fmt::Write as _;
+use std::io::{self, ErrorKind, Read, Write};
+
+/// What is interrupted in its first two calls, gives or takes two bytes in its third, fails in its fourth, gives or
+/// takes one byte in its fifth, and none then.
 #[derive(Drop)]
-struct FaultyReader {
+struct Faulty {
     calls: u8,
 }
 
-impl Read for FaultyReader {
-    fn read(&mut self, into: &mut [u8]) -> io::Result<usize> {
+impl Faulty {
+    /// How many of so many bytes the next call gives or takes.
+    fn next(&mut self, most: usize) -> io::Result<usize>
+        ensures { IfOk result (λ count. count ≤ most) }
+    {
         self.calls = self.calls.saturating_add(1);
         match self.calls {
             1 | 2 => Err(ErrorKind::Interrupted.into()),
-            3 if into.len() > 2 => {
-                into[..2].copy_from_slice(b"ho");
-                Ok(2)
-            }
+            3 => Ok(most.min(2)),
             4 => Err(ErrorKind::TimedOut.into()),
+            5 => Ok(most.min(1)),
             _ => Ok(0),
         }
     }
 }
 
-#[test]
-fn a_source_gives_what_its_reader_gives(rt: HostRuntime) -> Result<(), Fail> {
-    let mut source = InputSource::new(FaultyReader { calls: 0 });
-    let mut into = [0; 5];
-    assert_eq!(rt; source.read(&mut into), Ok(2));
-    assert_eq!(rt; &into[..2], b"ho".as_slice());
-    assert_eq!(rt; source.read(&mut into), Err(Failed));
-    assert_eq!(rt; source.read(&mut into), Ok(0));
-    Ok(())
+impl Read for Faulty {
+    fn read(&mut self, into: &mut [u8]) -> io::Result<usize> {
+        let count = self.next(into.len())?;
+        into[..count].fill(self.calls);
+        Ok(count)
+    }
 }
 
-/// A writer that is interrupted in its first two calls, fails in its fourth, takes one byte in its third and
-/// its fifth, and nothing then.
-#[derive(Drop)]
-struct FaultyWriter {
-    calls: u8,
-}
-
-impl Write for FaultyWriter {
+impl Write for Faulty {
     fn write(&mut self, from: &[u8]) -> io::Result<usize> {
-        self.calls = self.calls.saturating_add(1);
-        match self.calls {
-            1 | 2 => Err(ErrorKind::Interrupted.into()),
-            3 | 5 => Ok(from.len().min(1)),
-            4 => Err(ErrorKind::TimedOut.into()),
-            _ => Ok(0),
-        }
+        self.next(from.len())
     }
 
     fn flush(&mut self) -> io::Result<()> {
@@ -59,29 +47,38 @@ impl Write for FaultyWriter {
     }
 }
 
-#[test]
-fn a_sink_writes_what_its_writer_takes(rt: HostRuntime) -> Result<(), Fail> {
-    let mut sink = OutputSink::new(FaultyWriter { calls: 0 });
-    assert_eq!(rt; sink.write(b"age 0 "), Ok(1));
-    assert_eq!(rt; sink.write(b"ge 0 "), Err(Failed));
-    assert_eq!(rt; sink.write(b"ge 0 "), Ok(1));
-    assert_eq!(rt; sink.write(b"e 0 "), Err(Failed));
-    let mut room = [0; 10];
-    let mut sink = OutputSink::new(room.as_mut_slice());
-    assert_eq!(rt; sink.write(b"age 0 "), Ok(6));
-    assert_eq!(rt; sink.write(b"start 0\n"), Ok(4));
-    assert_eq!(rt; room.as_slice(), b"age 0 star".as_slice());
-    Ok(())
+/// What a source answers four times over that reader, and the bytes that it has then given.
+pub(crate) fn told_of_reader(alloc: Global) -> Result<String, AllocError> {
+    let mut source = InputSource::new(Faulty { calls: 0 });
+    let mut into = [0; 5];
+    let mut text = String::new(alloc);
+    for _ in 0..4 {
+        let answer = source.read(&mut into);
+        write!(text, "{answer:?} {into:?} ")?;
+    }
+    Ok(text)
 }
 
-#[test]
-fn memory_gives_and_takes(rt: HostRuntime) -> Result<(), Fail> {
-    let mut source = MemorySource::new(rt.alloc(), b"derecho", 4, &[2])?;
-    let mut into = [0; 5];
-    assert_eq!(rt; source.read(&mut into), Ok(4));
-    assert_eq!(rt; source.read(&mut into), Err(Failed));
-    let mut sink = MemorySink::new(rt.alloc(), 3, &[])?;
-    assert_eq!(rt; sink.write(&into), Ok(3));
-    assert_eq!(rt; sink.bytes(), b"der".as_slice());
+/// What a sink answers four times over that writer, and twice over one that has room for ten bytes, and those.
+pub(crate) fn told_of_writer(alloc: Global) -> Result<String, AllocError> {
+    let mut text = String::new(alloc);
+    push_answers(&mut text, OutputSink::new(Faulty { calls: 0 }), 4)?;
+    let mut room = [0; 10];
+    push_answers(&mut text, OutputSink::new(room.as_mut_slice()), 2)?;
+    write!(text, "{room:?}")?;
+    Ok(text)
+}
+
+/// Appends what a sink answers so many times.
+fn push_answers<W: Write + Drop>(
+    out: &mut String,
+    sink: OutputSink<W>,
+    times: u8,
+) -> Result<(), AllocError> {
+    let mut sink = sink;
+    for _ in 0..times {
+        let answer = sink.write(b"age 0 ");
+        write!(out, "{answer:?} ")?;
+    }
     Ok(())
 }

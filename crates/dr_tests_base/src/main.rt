@@ -1,0 +1,53 @@
+//! A test program: it reads calls of the crates at the base, a line each, and prints what they answer. What it has
+//! to print was worked out by hand.
+//!
+//! A line is the name of its case, what is called, and what it is called with: `front COUNT..`,
+//! `merge_next FROM COUNT..`, `null_due RANK COUNT..` and `next_rest FROM MEMBERS TRIM..` with numbers; `merge COUNT..`,
+//! `agreed HISTORY HISTORY` and `in_order HISTORY` with histories; `mask BITS` prints a mask, and `script TEXT` what is
+//! read of a script; `reader` and `writer` are called with one that is interrupted and fails. A line that begins with
+//! `#` says what those behind it show.
+#![tactic(auto)]
+
+mod histories;
+mod numbers;
+mod outside;
+
+use anyhow::anyhow;
+use dr_script::read_script;
+use dr_words::Mask;
+use histories::told_of_histories;
+use numbers::answer_to;
+use outside::{told_of_reader, told_of_writer};
+use std::alloc::Global;
+use std::io::{BufRead, BufReader};
+
+fn main(rt: HostRuntime) -> anyhow::Result<()> {
+    let alloc = rt.alloc();
+    for line in BufReader::new(alloc, rt.reader())?.lines(alloc) {
+        let line = line?;
+        let line = line.as_str();
+        if line.starts_with('#') {
+            println!(rt; "{line}")?;
+        } else {
+            println!(rt; "{line}: {}", told_of(alloc, line)?)?;
+        }
+    }
+    Ok(())
+}
+
+/// What the call of a line answers.
+fn told_of(alloc: Global, line: &str) -> anyhow::Result<String> {
+    let (_, call) = line.split_once(' ').unwrap_or((line, ""));
+    let (name, rest) = call.split_once(' ').unwrap_or((call, ""));
+    Ok(match name {
+        "script" => match read_script(alloc, rest.as_bytes()) {
+            Ok(script) => format!(in alloc; "{script:?}")?,
+            Err(_) => return Err(anyhow!("{rest} was refused")),
+        },
+        "mask" => format!(in alloc; "{:?}", Mask::of(rest.parse()?))?,
+        "reader" => told_of_reader(alloc)?,
+        "writer" => told_of_writer(alloc)?,
+        "merge" | "agreed" | "in_order" => told_of_histories(alloc, name, rest)?,
+        _ => format!(in alloc; "{:?}", answer_to(alloc, name, rest)?)?,
+    })
+}
