@@ -2,7 +2,8 @@
 //! to print was worked out by hand.
 //!
 //! A line is the name of its case, what is called, and what it is called with: `front COUNT..`,
-//! `merge_next FROM COUNT..`, `null_due RANK COUNT..` and `next_rest FROM MEMBERS TRIM..` with numbers; `merge COUNT..`,
+//! `merge_next FROM COUNT..`, `null_due RANK COUNT..`, `place RANKS RANK ITEM`, `frozen MEMBERS ME ROW` and
+//! `next_rest FROM MEMBERS TRIM..` with numbers; `merge COUNT..`,
 //! `agreed HISTORY HISTORY` and `in_order HISTORY` with histories; `mask BITS` prints a mask, and `script TEXT` what is
 //! read of a script; `reader` and `writer` are called with one that is interrupted and fails. A line that begins with
 //! `#` says what those behind it show.
