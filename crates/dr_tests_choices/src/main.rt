@@ -5,16 +5,19 @@
 //! the lines behind it show. `log M` and what stands on it is the log of a member: `vA.N.L` is a View of an
 //! age, a number and members, `mS.I.T` a message of a sender, an index and a text, `bA.N.B.R.L` a vote of an
 //! age, a view, a ballot, a roster and leavers, `aA.L` an age vote of an age and members. Members are listed as digits.
-//! `choose` and members chooses a start by the logs of all others.
+//! `choose` and members chooses a start by the logs of all others, and `copy` copies a start of members of whom
+//! some take part.
 #![tactic(auto)]
 
 mod printing;
 mod reading;
 
+use dr_entry::Seq;
 use dr_quorum::choose;
+use dr_restart::Start;
 use dr_script::read_script;
 use printing::text_of;
-use reading::lists_of;
+use reading::{lists_of, mask_of};
 use std::alloc::Global;
 use std::io::{BufRead, BufReader};
 
@@ -34,9 +37,24 @@ fn main(rt: HostRuntime) -> anyhow::Result<()> {
         } else if let Some(missing) = line.strip_prefix("choose") {
             let said = chosen(alloc, script.as_str(), logs.as_slice(), missing)?;
             println!(rt; "{said}")?;
+        } else if let Some(masks) = line.strip_prefix("copy ") {
+            let said = copied(alloc, masks)?;
+            println!(rt; "{said}")?;
         }
     }
     Ok(())
+}
+
+/// The copy of a start of these members, of whom those behind the blank take part.
+fn copied(alloc: Global, masks: &str) -> anyhow::Result<String> {
+    let (members, present) = masks.split_once(' ').unwrap_or((masks, masks));
+    let start = Start {
+        age: 0,
+        members: mask_of(members),
+        present: mask_of(present),
+        entries: Seq::of(Vec::new(alloc)),
+    };
+    text_of(alloc, Ok(start.copy(alloc)?))
 }
 
 /// What the logs of all but the missing make of a script.

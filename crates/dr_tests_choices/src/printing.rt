@@ -14,7 +14,13 @@ pub(crate) fn text_of(alloc: Global, choice: Result<Start, ChooseFault>) -> anyh
 
 fn start_text(alloc: Global, start: &Start) -> anyhow::Result<String> {
     let members = digits_of(alloc, start.members)?;
-    let mut text = format!(in alloc; "age {} members {members} start", start.age)?;
+    let mut text = format!(in alloc; "age {} members {members}", start.age)?;
+    if start.present != start.members {
+        let present = digits_of(alloc, start.present)?;
+        let present = format!(in alloc; " of whom {present} take part")?;
+        text.push_str(present.as_str())?;
+    }
+    text.push_str(" start")?;
     for entry in start.entries.as_slice() {
         let word = word_of(alloc, entry)?;
         text.push_str(word.as_str())?;

@@ -113,7 +113,7 @@ fn age_vote_of(word: &str) -> anyhow::Result<AgeVote> {
 }
 
 /// The mask of members that are listed as digits.
-fn mask_of(digits: &str) -> u16 {
+pub(crate) fn mask_of(digits: &str) -> u16 {
     let mut mask = 0;
     for digit in digits.bytes() {
         mask |= 1 << (digit % 16);
