@@ -19,7 +19,7 @@ pub(crate) const SCRIPT: &[u8] = br#"{"members":2,"window":1,"turns":12,"patienc
 /// How many deeds each member takes: more than it has.
 const DEEDS: u32 = 1000;
 
-/// The members of a group take deed after deed. Prints how they ended.
+/// The members of a group take deed after deed. Prints what they do next: they rest, since they have ended.
 pub fn show_members(rt: &impl Print, alloc: Global) -> anyhow::Result<()> {
     let script = read_script(alloc, SCRIPT)?;
     let start = first_start(alloc, &script);
@@ -29,7 +29,7 @@ pub fn show_members(rt: &impl Print, alloc: Global) -> anyhow::Result<()> {
         println!(rt;
             "  member {}: {:?} in turn {}",
             member.me(),
-            member.end(),
+            member.next(),
             member.turns()
         )?;
         println!(rt; "    {:?}", member.history())?;
