@@ -1,0 +1,67 @@
+-- What two lists have in common, and the cut that is due.
+use Rattle.std.proofs.Common.{◌≡◌, ap, sym, ◌∙◌, subst, inl, inr, ⊎_elim, ℕ, ◌<◌, ◌≤◌, arith, List, [], length, length-take, ◌++◌, take, take_at, drop, append-nil, refl, take-append-drop}
+use Rattle.std.proofs.lemmas.Bool.{cases_lt}
+use Rattle.std.proofs.lemmas.List.{take_all}
+use Rattle.std.proofs.lemmas.Option.{same_Some, slice_get_within}
+use Rattle.std.specs.Prelude.{min}
+use Rattle.dr_entry.specs.declared.entry.Entry.{Entry}
+use Rattle.dr_history.specs.History.{IsPrefixOf}
+use Rattle.dr_history.specs.Restarting.{AreAlong, DifferAt}
+use Rattle.dr_history_laws.proofs.Keeping.{prefix_beside, prefix_shorter}
+use Rattle.dr_history_laws.proofs.Lists.{slice_get-prefix, slice_get-some}
+use Rattle.dr_log_bytes.specs.Content.{OnLog}
+use Rattle.dr_opening.specs.CuttingBack.{IsCommonFront, IsCutDue}
+
+-- lists that differ have in common what stands before that place
+pub common_before : (g h : List Entry) (place : ℕ) → DifferAt g h place → IsCommonFront g h (take place g)
+common_before g h place differ = record {
+  of_one = of_one;
+  of_other = (
+    drop place h,
+    ap (λ l. l ++ drop place h) differ.same ∙ take-append-drop place h,
+  );
+  longest = λ front of_g of_h. ⊎_elim
+      (λ (l : place < length front).
+      let e = slice_get-some front place l in
+      absurd (differ.apart (same_Some differ.one differ.other (sym differ.in_one
+      ∙ slice_get-prefix front g place e.0 of_g e.1 ∙ sym (slice_get-prefix front h place e.0 of_h e.1)
+      ∙ differ.in_other))))
+      (λ (s : length front ≤ place). prefix_beside front (take place g) g of_g of_one
+      (omega (arith, s, length-take place g, slice_get_within g place differ.one differ.in_one)))
+      (cases_lt place (length front));
+}
+  where
+    of_one : IsPrefixOf (take place g) g
+    of_one = (drop place g, take-append-drop place g)
+
+-- and two of which one is a front of the other have that one
+pub common_along : (g h : List Entry) (n : ℕ) → AreAlong g h → n ≡ min (length g) (length h)
+    → IsCommonFront g h (take n g)
+common_along g h n (inl part) is =
+    subst (IsCommonFront g h) (sym (take_all n g (omega (arith, is, prefix_shorter g h part))))
+    (record { of_one = ([], append-nil g); of_other = part; longest = λ front of_g of_h. of_g })
+common_along g h n (inr part) is =
+    subst (IsCommonFront g h) (sym here)
+    (record { of_one = part; of_other = ([], append-nil h); longest = λ front of_g of_h. of_h })
+  where
+    here : take n g ≡ h
+    here = ap (λ k. take k g) (omega (arith, is, prefix_shorter h g part)) ∙ ap (take (length h)) (sym part.1)
+        ∙ take_at h part.0 (length h) refl
+
+-- where that is all of the first list it is a front of the other
+pub front_if_all : (g h : List Entry) (n : ℕ) → IsCommonFront g h (take n g) → n ≡ length g → IsPrefixOf g h
+front_if_all g h n common is =
+    subst (λ l. IsPrefixOf l h) (take_all n g (omega (arith, is))) common.of_other
+
+-- and where it isn't a cut is due
+pub due_if_less : (entries : List Entry) (c : OnLog) (n : ℕ) → IsCommonFront c.entries entries (take n c.entries)
+    → n < length c.entries → IsCutDue entries c n
+due_if_less entries c n common less = record {
+  beside = λ part. absurd (omega (
+    arith,
+    less,
+    length-take n c.entries,
+    prefix_shorter c.entries (take n c.entries) (common.longest c.entries ([], append-nil c.entries) part),
+  ));
+  common = common;
+}

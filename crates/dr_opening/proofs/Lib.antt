@@ -1,0 +1,12 @@
+pub mod Cutting
+pub mod Steps
+pub mod Lists
+pub mod Ways
+pub mod Trying
+pub mod Crashing
+pub mod Opened
+pub mod Losing
+pub mod Choosing
+mod Placing
+mod Voting
+mod Rising

@@ -1,0 +1,6 @@
+pub mod CuttingBack
+pub mod Lists
+pub mod Contents
+pub mod Logs
+pub mod Tries
+pub mod Unopened

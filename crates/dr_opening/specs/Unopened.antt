@@ -1,0 +1,30 @@
+-- Why an age was not opened.
+use Rattle.std.specs.Prelude.{◌≡◌, ℕ, List, Option}
+use Rattle.dr_disk.specs.Disk.{Told}
+use Rattle.dr_log.specs.State.{LogState}
+use Rattle.dr_log_bytes.specs.Content.{OnLog}
+use Rattle.dr_quorum.specs.declared.faults.ChooseFault.{ChooseFault}
+use Rattle.dr_quorum.specs.Handing.{handed_by}
+use Rattle.dr_quorum.specs.Telling.{IsRightlyTold}
+use Rattle.dr_restart.specs.declared.start.Start.{Start}
+use Rattle.dr_restart.specs.Groups.{first_group_of}
+use Rattle.dr_script.specs.declared.script.Script.{Script}
+use Rattle.dr_opening.specs.declared.age.NotOpened.{NotOpened}
+use Rattle.dr_opening.specs.declared.age.NotOpened.TheVariants.{Unchosen, Unfinished}
+use Rattle.dr_opening.specs.Lists.{all_as_lists, contents_of}
+use Rattle.dr_opening.specs.Logs.{WereNotOpened}
+use Rattle.dr_opening.specs.Tries.{IsChosenOf}
+
+-- what is on the logs is refused for this, unless memory was wanting
+abbrev pub IsUnchosen : Script → List (Option OnLog) → ChooseFault → Type 0
+IsUnchosen script contents fault =
+    IsRightlyTold (first_group_of script).opening (handed_by (all_as_lists contents)) fault
+
+-- no start was chosen, and the logs are as they were; or one was, and a log was refused what it lacked
+abbrev pub IsWhyUnopened : {D : Type 0} → (D → Option Told) → (D → ℕ) → Script → List (Option (LogState D))
+    → List (Option (LogState D)) → NotOpened → Type 0
+IsWhyUnopened told faults script olds news (Unchosen fault) =
+    IsUnchosen script (contents_of olds) fault × (news ≡ olds)
+IsWhyUnopened told faults script olds news (Unfinished fault) =
+    (start : Start) × IsChosenOf (first_group_of script).opening (contents_of olds) start
+    × WereNotOpened told faults start olds news fault
