@@ -5,7 +5,7 @@ use Rattle.std.specs.declared.alloc.Global.{Global}
 use Rattle.dr_folder.specs.declared.checking.FolderCheck.{FolderCheck}
 use Rattle.dr_folder.specs.declared.file.LogFile.{LogFile}
 use Rattle.dr_folder.specs.Checked.{IsFolderCheck}
-use Rattle.dr_folder.specs.Told.{IsStatusFor, TellsNext}
+use Rattle.dr_folder.specs.Told.{TellsNext, status_due}
 use Rattle.dr_intake.specs.declared.answer.Answer.{Answer}
 use Rattle.dr_intake.specs.Answer.{Said, done, no_source, usage}
 use Rattle.dr_intake.specs.Reading.{WasRead, refusal_in}
@@ -80,7 +80,7 @@ script_if (Err e) r s is said = tt
 pub folder_if : {E : Type 0} (answer : Result Answer E) (script : Script) (files : List LogFile)
     (check : FolderCheck) → length files ≡ script.members → IsFolderCheck script files check
     → IfOk answer (λ a. TellsNext check.next (string_bytes a.text))
-    → IfOk answer (λ a. IsStatusFor check.next a.status)
+    → IfOk answer (λ a. a.status ≡ status_due check.surveys.items check.next)
     → IfOk answer (λ a. IsFolderAnswer script (string_bytes a.text) a.status)
 folder_if (Ok a) script files check all is told due = record {
   files = files;

@@ -4,7 +4,7 @@ use Rattle.std.specs.declared.alloc.Global.{Global}
 use Rattle.dr_folder.specs.declared.checking.FolderCheck.{FolderCheck}
 use Rattle.dr_folder.specs.declared.file.LogFile.{LogFile}
 use Rattle.dr_folder.specs.Checked.{IsFolderCheck}
-use Rattle.dr_folder.specs.Told.{IsStatusFor, TellsNext}
+use Rattle.dr_folder.specs.Told.{TellsNext, status_due}
 use Rattle.dr_intake.specs.Answer.{IsAnswer, IsLine, Said, ToldBy}
 use Rattle.dr_intake.specs.Reading.{refusal_in}
 use Rattle.dr_intake.specs.Status.{status_of}
@@ -30,7 +30,7 @@ pub record IsFolderAnswer (script : Script) (text : List ℕ) (status : ℕ) : T
   pub check : FolderCheck
   pub is : IsFolderCheck script files check
   pub told : TellsNext check.next text
-  pub due : IsStatusFor check.next status
+  pub due : status ≡ status_due check.surveys.items check.next
 
 -- what is said of what was read, and the status: of what is no script, the last line by which it is refused
 abbrev pub IsSaidOf : Reading → Said → Type 0

@@ -1,11 +1,13 @@
 -- What is said of the next run over a folder of logs.
-use Rattle.std.specs.Prelude.{◌≡◌, ◌⊎◌, ℕ, List, [], ◌∷◌, ◌++◌, codes, length, Result, Ok, Err}
+use Rattle.std.specs.Prelude.{◌≡◌, ℕ, Bool, true, false, not, ◌&&◌, if◌then◌else◌, List, [], ◌∷◌, ◌++◌, codes, length, Result, Ok, Err}
 use Rattle.std.specs.Fmt.{decimal}
-use Rattle.std.specs.List.{concat}
+use Rattle.std.specs.List.{concat, list_all, list_any}
 use Rattle.dr_intake.specs.Status.{status_of}
 use Rattle.dr_restart.specs.declared.start.Start.{Start}
 use Rattle.dr_text.specs.declared.last.Last.{Last}
 use Rattle.dr_text.specs.Report.{last_text}
+use Rattle.dr_folder.specs.declared.survey.Survey.{Survey}
+use Rattle.dr_folder.specs.declared.survey.Survey.TheVariants.{Missing}
 
 -- the age that the next run starts with, and how many entries
 abbrev pub start_line : ℕ → ℕ → List ℕ
@@ -21,7 +23,17 @@ next_run_line (Err last) = codes "the next run: " ++ last_text last
 abbrev pub TellsNext : Result Start Last → List ℕ → Type 0
 TellsNext next text = (front : List ℕ) × (rest : List ℕ) × (text ≡ front ++ (next_run_line next ++ rest))
 
--- the status that is due: that of the last line, or that a run starts, with all logs or without some
-abbrev pub IsStatusFor : Result Start Last → ℕ → Type 0
-IsStatusFor (Ok start) status = (status ≡ 0) ⊎ (status ≡ 14)
-IsStatusFor (Err last) status = status ≡ status_of last
+-- there is no file
+abbrev pub is_missing : Survey → Bool
+is_missing Missing = true
+is_missing survey = false
+
+-- some logs are missing, and others are there
+abbrev pub lack_some : List Survey → Bool
+lack_some surveys = list_any is_missing surveys && not (list_all is_missing surveys)
+
+-- the status that is due: that of the last line; and where a run starts 14 if some logs are missing and others
+-- are there, and 0 if not
+abbrev pub status_due : List Survey → Result Start Last → ℕ
+status_due surveys (Ok start) = if lack_some surveys then 14 else 0
+status_due surveys (Err last) = status_of last

@@ -1,5 +1,9 @@
 //! What is said behind the verdict: where a start comes from, what is missing, and what may be done.
 
+ghost use Rattle.std.specs.Prelude.{◌≡◌};
+ghost use Rattle.std.specs.List.{list_all, list_any};
+ghost use Rattle.dr_folder.specs.Told.{is_missing, lack_some};
+
 use crate::advice::{Advice, are_intact_but};
 use crate::checking::FolderCheck;
 use crate::differences::entries_of;
@@ -34,13 +38,29 @@ fn push_source(out: &mut String, start: &Start, surveys: &[Survey]) -> Result<()
     Ok(())
 }
 
-/// Whether some files are missing and others are there.
-pub(crate) fn lack_some(surveys: &[Survey]) -> bool {
-    let missing = surveys
-        .iter()
-        .filter(|survey| matches!(survey, Survey::Missing))
-        .count();
-    missing > 0 && missing < surveys.len()
+/// Whether some logs are missing and others are there.
+pub(crate) fn lack_some(surveys: &[Survey]) -> bool
+    ensures { result ≡ lack_some surveys.now }
+{
+    some_missing(surveys) && !all_missing(surveys)
+}
+
+fn some_missing(surveys: &[Survey]) -> bool
+    ensures { result ≡ list_any is_missing surveys.now }
+{
+    surveys.iter().any(|survey| is_missing(survey))
+}
+
+fn all_missing(surveys: &[Survey]) -> bool
+    ensures { result ≡ list_all is_missing surveys.now }
+{
+    surveys.iter().all(|survey| is_missing(survey))
+}
+
+fn is_missing(survey: &Survey) -> bool
+    ensures { result ≡ is_missing survey.now }
+{
+    matches!(survey, Survey::Missing)
 }
 
 /// Appends which logs are missing where others are there, and what that means.

@@ -2,7 +2,7 @@
 
 ghost use Rattle.std.specs.Prelude.{◌≡◌, ◌++◌, IfOk, OnOk, codes, string_bytes};
 ghost use Rattle.dr_text.specs.Report.{last_text};
-ghost use Rattle.dr_folder.specs.Told.{IsStatusFor, TellsNext, next_run_line, start_line};
+ghost use Rattle.dr_folder.specs.Told.{TellsNext, next_run_line, start_line, status_due};
 
 use crate::checking::FolderCheck;
 use crate::details::{details_of, lack_some};
@@ -14,7 +14,7 @@ use dr_text::{Last, push_last};
 use std::alloc::{AllocError, Global};
 use std::fmt::Write;
 
-/// The status where the next run starts, and some of the logs are there and some are missing.
+/// The status where the next run starts, and some of the logs are missing and others are there.
 pub const LOGS_MISSING: u8 = 14;
 
 /// What is said of a folder of logs: a row for each member, and how logs differ; then what the next run starts
@@ -25,7 +25,8 @@ pub const LOGS_MISSING: u8 = 14;
 /// Want of memory alone.
 pub fn folder_report(alloc: Global, check: &FolderCheck) -> Result<Answer, AllocError>
     ensures told { IfOk result (λ answer. TellsNext check.now.next (string_bytes answer.text)) }
-    ensures due { IfOk result (λ answer. IsStatusFor check.now.next answer.status) }
+    ensures due { IfOk result (λ answer.
+        answer.status ≡ status_due check.now.surveys.items check.now.next) }
 {
     let mut text = String::new(alloc);
     push_rows(&mut text, &check.surveys)?;
@@ -65,7 +66,7 @@ fn push_refusal(out: &mut String, last: &Last) -> Result<(), AllocError>
 
 /// The status that is due.
 fn status_due(check: &FolderCheck) -> u8
-    ensures { IsStatusFor check.now.next result }
+    ensures { result ≡ status_due check.now.surveys.items check.now.next }
 {
     match &check.next {
         Err(last) => status_of(last),
