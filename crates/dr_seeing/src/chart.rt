@@ -96,14 +96,7 @@ impl Chart {
         self.told.fill(entries.saturating_add(1));
         writeln!(self.text, "age {age} start {entries}")?;
         self.text.push_str("turn")?;
-        let mut behind = 0;
-        for (number, turn) in self.turns.iter_mut().enumerate() {
-            turn.begin(0);
-            let pad = if number == 0 { MARGIN - 4 } else { behind };
-            push_blanks(&mut self.text, pad)?;
-            write!(self.text, "member {number}")?;
-            behind = usize::from(self.width).saturating_sub(if number < 10 { 8 } else { 9 });
-        }
+        push_heads(&mut self.text, self.width, &mut self.turns)?;
         self.text.push_str("\n")
     }
 
@@ -228,16 +221,22 @@ impl Chart {
         }
         let rows = replace(&mut self.rows, Vec::new(self.alloc));
         for row in rows.iter() {
-            if !self.whole {
-                self.tell_quiet(row.quiet)?;
-            } else if row.turn > self.turn.saturating_add(1) {
-                let turn = row.turn;
-                writeln!(self.text, "      (nothing new until turn {turn})")?;
-            }
+            self.tell_gap(row.turn, row.quiet)?;
             self.turn = row.turn;
             push_row(&mut self.text, self.width, row)?;
         }
         Ok(())
+    }
+
+    /// Tells of the turns without news before a row.
+    fn tell_gap(&mut self, turn: u32, quiet: u64) -> Result<(), AllocError> {
+        if !self.whole {
+            self.tell_quiet(quiet)
+        } else if turn > self.turn.saturating_add(1) {
+            writeln!(self.text, "      (nothing new until turn {turn})")
+        } else {
+            Ok(())
+        }
     }
 
     /// Tells how many turns without news have ended.
@@ -259,30 +258,62 @@ fn width_for(members: u8) -> u8 {
     }
 }
 
+/// Appends the heads of the columns. The turn of each member begins.
+fn push_heads(out: &mut String, width: u8, turns: &mut Vec<Turn>) -> Result<(), AllocError> {
+    let mut pad = MARGIN - 4;
+    for (number, turn) in turns.iter_mut().enumerate() {
+        turn.begin(0);
+        push_blanks(out, pad)?;
+        write!(out, "member {number}")?;
+        pad = usize::from(width).saturating_sub(if number < 10 { 8 } else { 9 });
+    }
+    Ok(())
+}
+
 /// Appends a row, with its words broken to the width of a column.
 fn push_row(out: &mut String, width: u8, row: &Row) -> Result<(), AllocError> {
     let indent = usize::from(width) * usize::from(row.me);
     let turn = row.turn;
     write!(out, "{turn:>4}  ")?;
     push_blanks(out, indent)?;
-    let mut at = 0usize;
     let words = row.words.as_str();
-    for word in words.strip_prefix(";\n").unwrap_or(words).split('\n') {
+    push_words(
+        out,
+        width,
+        indent,
+        words.strip_prefix(";\n").unwrap_or(words),
+    )?;
+    out.push_str("\n")
+}
+
+/// Appends words, each behind a line feed, in a column of this width.
+fn push_words(out: &mut String, width: u8, indent: usize, words: &str) -> Result<(), AllocError> {
+    let mut at = 0usize;
+    for word in words.split('\n') {
         let wide = word.chars().count();
         let end = at.saturating_add(wide);
-        if at == 0 {
-            at = wide;
-        } else if end.saturating_add(3) > usize::from(width) {
-            out.push_str("\n")?;
-            push_blanks(out, MARGIN + indent)?;
-            at = wide;
+        let fits = end.saturating_add(3) <= usize::from(width);
+        push_gap(out, indent, at > 0, fits)?;
+        at = if at > 0 && fits {
+            end.saturating_add(1)
         } else {
-            out.push_str(" ")?;
-            at = end.saturating_add(1);
-        }
+            wide
+        };
         out.push_str(word)?;
     }
-    out.push_str("\n")
+    Ok(())
+}
+
+/// Appends what stands before a word: nothing where it is the first, and a new line where it doesn't fit.
+fn push_gap(out: &mut String, indent: usize, behind: bool, fits: bool) -> Result<(), AllocError> {
+    if !behind {
+        Ok(())
+    } else if fits {
+        out.push_str(" ")
+    } else {
+        out.push_str("\n")?;
+        push_blanks(out, MARGIN.saturating_add(indent))
+    }
 }
 
 fn push_blanks(out: &mut String, count: usize) -> Result<(), AllocError> {

@@ -91,22 +91,38 @@ impl Turn {
             News::Turn(number) => self.begin(number),
             News::Logged(count) => self.logged = Some(count),
             News::Durable(count) => self.durable = Some(count),
-            News::Taking { sender, count } => write!(self.took, "\n{sender}#{count}")?,
-            News::Put(message) => {
-                self.put.push_str("\n")?;
-                push_message(self.alloc, &mut self.put, message)?;
-            }
-            News::Filler => self.put.push_str("\nnull")?,
-            News::Delivery { sender, index, .. } => write!(self.delivered, "\n{sender}.{index}")?,
-            News::Suspicion(other) => write!(self.more, ";\nsuspects\n{other}")?,
-            News::Vote => self.more.push_str(";\nvotes")?,
-            News::Proposal(_) => self.more.push_str(";\nproposes")?,
-            News::Acceptance => self.more.push_str(";\naccepts")?,
-            News::Commitment(value) => push_commitment(&mut self.more, members, &value)?,
             News::NextView { .. } => self.ends_view = true,
+            News::Taking { .. } | News::Put(_) | News::Filler | News::Delivery { .. } => {
+                self.note_item(news)?;
+            }
+            News::Commitment(value) => push_commitment(&mut self.more, members, &value)?,
             News::End(end) => self.note_end(end)?,
+            _ => self.note_vote(news)?,
         }
         Ok(())
+    }
+
+    /// Takes note of an item.
+    fn note_item(&mut self, news: News<'_>) -> Result<(), AllocError> {
+        match news {
+            News::Taking { sender, count } => write!(self.took, "\n{sender}#{count}"),
+            News::Put(message) => {
+                self.put.push_str("\n")?;
+                push_message(self.alloc, &mut self.put, message)
+            }
+            News::Delivery { sender, index, .. } => write!(self.delivered, "\n{sender}.{index}"),
+            _ => self.put.push_str("\nnull"),
+        }
+    }
+
+    /// Takes note of what a member does to change its view.
+    fn note_vote(&mut self, news: News<'_>) -> Result<(), AllocError> {
+        match news {
+            News::Suspicion(other) => write!(self.more, ";\nsuspects\n{other}"),
+            News::Vote => self.more.push_str(";\nvotes"),
+            News::Proposal(_) => self.more.push_str(";\nproposes"),
+            _ => self.more.push_str(";\naccepts"),
+        }
     }
 
     fn note_end(&mut self, end: End) -> Result<(), AllocError> {
@@ -140,7 +156,12 @@ fn push_commitment(out: &mut String, members: usize, value: &Value) -> Result<()
     } else {
         "\nleave\nwith\nitems"
     })?;
-    for (member, count) in value.trim.iter().enumerate().take(members) {
+    push_counts(out, members, &value.trim)
+}
+
+/// Appends how many items of each member are delivered.
+fn push_counts(out: &mut String, members: usize, trim: &[u32]) -> Result<(), AllocError> {
+    for (member, count) in trim.iter().enumerate().take(members) {
         write!(out, "\n{member}:{count}")?;
     }
     Ok(())
@@ -150,16 +171,19 @@ fn push_commitment(out: &mut String, members: usize, value: &Value) -> Result<()
 pub(crate) fn push_rest(out: &mut String, entries: &[Entry]) -> Result<(), AllocError> {
     let mut some = false;
     for entry in entries {
-        match entry {
-            Entry::View { number, .. } => write!(out, ";\nVIEW\n{number}")?,
-            Entry::Msg { sender, index, .. } => {
-                out.push_str(if some { "" } else { ";\ndelivered" })?;
-                write!(out, "\n{sender}.{index}")?;
-                some = true;
-            }
-        }
+        let title = if some { "" } else { ";\ndelivered" };
+        push_came(out, title, entry)?;
+        some = some || matches!(entry, Entry::Msg { .. });
     }
     Ok(())
+}
+
+/// Appends an entry that came as a view ended, a message behind this title.
+fn push_came(out: &mut String, title: &str, entry: &Entry) -> Result<(), AllocError> {
+    match entry {
+        Entry::View { number, .. } => write!(out, ";\nVIEW\n{number}"),
+        Entry::Msg { sender, index, .. } => write!(out, "{title}\n{sender}.{index}"),
+    }
 }
 
 /// Appends a list behind its title, where it has words.

@@ -67,17 +67,36 @@ pub fn push_waits(out: &mut String, member: &Member, members: &[Member]) -> Resu
     }
 }
 
-/// Appends that a member waits for the item of the next place to be put: how many items it has of the member
-/// that is to put it, and how many that one has put.
+/// Appends that a member waits for another one, and how that one has ended.
+fn push_awaited(out: &mut String, me: u8, number: u8, end: Option<End>) -> Result<(), AllocError> {
+    write!(out, "member {me} waits for: member {number}")?;
+    push_fate(out, end)
+}
+
+/// Appends that a member waits for the item of the next place to be put.
 fn push_put(out: &mut String, replica: &Replica, members: &[Member]) -> Result<(), AllocError> {
-    let me = replica.me();
     let sender = replica.next_sender();
-    let place = replica.next_place();
-    write!(out, "member {me} waits for: member {sender}")?;
     let Some(other) = members.get(usize::from(sender)) else {
-        return writeln!(out, " to put what stands at place {place}");
+        let me = replica.me();
+        let place = replica.next_place();
+        return writeln!(
+            out,
+            "member {me} waits for: member {sender} to put what stands at place {place}"
+        );
     };
-    push_fate(out, other.end())?;
+    push_awaited(out, replica.me(), sender, other.end())?;
+    push_place(out, replica, sender, other)
+}
+
+/// Appends what is waited for of the member that is to put the item of the next place: how many items of it
+/// are taken, and how many it has put.
+fn push_place(
+    out: &mut String,
+    replica: &Replica,
+    sender: u8,
+    other: &Member,
+) -> Result<(), AllocError> {
+    let place = replica.next_place();
     if sender >= replica.shape().members || sender >= other.replica().shape().members {
         return writeln!(out, " to put what stands at place {place}");
     }
@@ -122,30 +141,48 @@ struct Missing {
     least: u64,
 }
 
-/// Appends a line for a member that is wedged, and what of the change of its view is missing: that others
-/// suspect whom it suspects, that the least member that it doesn't suspect proposes, or that others accept.
+/// Appends a line for a member that is wedged, and what of the change of its view is missing.
 fn push_change(out: &mut String, replica: &Replica, members: &[Member]) -> Result<(), AllocError> {
-    let me = replica.me();
+    push_suspecting(out, replica.me(), replica.suspects())?;
+    let leader = replica.members().without(replica.suspects()).least();
+    for (number, other) in (0..16u8).zip(members.iter()) {
+        if is_with(replica, number) && !replica.suspects().has(number) {
+            push_step(out, replica, leader, number, other)?;
+        }
+    }
+    Ok(())
+}
+
+/// Appends that a member waits for the change of its view, and whom it suspects.
+fn push_suspecting(out: &mut String, me: u8, suspects: Mask) -> Result<(), AllocError> {
     write!(
         out,
         "member {me} waits for: the change of its view, as it suspects "
     )?;
-    push_mask(out, replica.suspects().bits())?;
-    out.push_str("\n")?;
-    let leader = replica.members().without(replica.suspects()).least();
-    let has_accepted = accepted_tag(replica) != 0;
-    for (number, other) in (0..16u8).zip(members.iter()) {
-        if is_with(replica, number) && !replica.suspects().has(number) {
-            if has_accepted {
-                push_acceptance(out, replica, number, other)?;
-            } else if leader == Some(replica.me()) {
-                push_suspicions(out, replica, number, other)?;
-            } else if leader == Some(number) {
-                push_proposal(out, replica, number, other)?;
-            }
-        }
+    push_mask(out, suspects.bits())?;
+    out.push_str("\n")
+}
+
+/// Appends what is missing of a change of view at a member of it that nobody suspects: that it suspects whom
+/// this one suspects, that it proposes, as the least of them, or that it accepts.
+fn push_step(
+    out: &mut String,
+    replica: &Replica,
+    leader: Option<u8>,
+    number: u8,
+    other: &Member,
+) -> Result<(), AllocError>
+    requires { number < replica.now.roster }
+{
+    if accepted_tag(replica) != 0 {
+        push_acceptance(out, replica, number, other)
+    } else if leader == Some(replica.me()) {
+        push_suspicions(out, replica, number, other)
+    } else if leader == Some(number) {
+        push_proposal(out, replica, number, other)
+    } else {
+        Ok(())
     }
-    Ok(())
 }
 
 /// The tag of what a member has accepted in its view, or 0.
@@ -176,13 +213,13 @@ fn push_acceptance(
     if unpack_accept(replica.seen(number, column)).1 == tag {
         return Ok(());
     }
-    write!(out, "member {me} waits for: member {number}")?;
-    push_fate(out, other.end())?;
+    push_awaited(out, me, number, other.end())?;
     let is_there = other.replica().view() == replica.view();
-    if is_there && accepted_tag(other.replica()) != tag {
-        return out.push_str(" to accept the value\n");
-    }
-    out.push_str(" to be seen to accept the value, which it has\n")
+    out.push_str(if is_there && accepted_tag(other.replica()) != tag {
+        " to accept the value\n"
+    } else {
+        " to be seen to accept the value, which it has\n"
+    })
 }
 
 /// Appends that a member of the view is to propose a value, or to be seen to have proposed one.
@@ -192,14 +229,13 @@ fn push_proposal(
     number: u8,
     other: &Member,
 ) -> Result<(), AllocError> {
-    let me = replica.me();
-    write!(out, "member {me} waits for: member {number}")?;
-    push_fate(out, other.end())?;
+    push_awaited(out, replica.me(), number, other.end())?;
     let is_there = other.replica().view() == replica.view();
-    if is_there && accepted_tag(other.replica()) == 0 {
-        return out.push_str(" to propose a value\n");
-    }
-    out.push_str(" to be seen to propose the value that it has\n")
+    out.push_str(if is_there && accepted_tag(other.replica()) == 0 {
+        " to propose a value\n"
+    } else {
+        " to be seen to propose the value that it has\n"
+    })
 }
 
 /// Appends that a member of the view is to suspect whom this one suspects, where that is not seen.
@@ -216,13 +252,17 @@ fn push_suspicions(
     if replica.suspects().without(seen).bits() == 0 {
         return Ok(());
     }
-    write!(out, "member {me} waits for: member {number}")?;
-    push_fate(out, other.end())?;
+    push_awaited(out, me, number, other.end())?;
+    push_suspected(out, seen, other.replica().suspects())?;
+    push_view(out, replica, other)
+}
+
+/// Appends whom a member is seen to suspect, and whom it suspects.
+fn push_suspected(out: &mut String, seen: Mask, suspects: Mask) -> Result<(), AllocError> {
     out.push_str(" to suspect the same (seen to suspect: ")?;
     push_members(out, seen.bits())?;
     out.push_str(", suspects: ")?;
-    push_members(out, other.replica().suspects().bits())?;
-    push_view(out, replica, other)
+    push_members(out, suspects.bits())
 }
 
 /// Appends the members of a mask, or that there are none.
@@ -262,29 +302,42 @@ fn push_wait(
     missing: Missing,
     seen: u64,
 ) -> Result<(), AllocError> {
-    let me = replica.me();
-    write!(out, "member {me} waits for: member {number}")?;
-    push_fate(out, other.end())?;
-    let wanted = missing.least.saturating_add(1);
-    let (item, entry) = match wanted {
-        1 => ("item", "entry"),
-        _ => ("items", "entries"),
-    };
+    push_awaited(out, replica.me(), number, other.end())?;
     let has = other.replica().own(missing.kind.column());
     match missing.kind {
-        Kind::Received => write!(out, " to have received {wanted} {item} in order")?,
-        Kind::Logged => write!(out, " to have logged {wanted} {entry}")?,
-        Kind::Done if has == 1 => return out.push_str(
-            " to be seen to have everything, which it has\n",
-        ),
-        Kind::Done => return out.push_str(" to have everything\n"),
+        Kind::Done if has == 1 => out.push_str(" to be seen to have everything, which it has\n"),
+        Kind::Done => out.push_str(" to have everything\n"),
+        _ => {
+            push_lack(out, missing)?;
+            push_seen(out, replica.view(), seen, has)?;
+            push_view(out, replica, other)
+        }
     }
-    let view = replica.view();
+}
+
+/// Appends how many items or entries one that is waited for is to have.
+fn push_lack(out: &mut String, missing: Missing) -> Result<(), AllocError> {
+    let wanted = missing.least.saturating_add(1);
+    let words = match missing.kind {
+        Kind::Received if wanted == 1 => "item in order",
+        Kind::Received => "items in order",
+        _ if wanted == 1 => "entry",
+        _ => "entries",
+    };
+    let taken = if matches!(&missing.kind, Kind::Received) {
+        "received"
+    } else {
+        "logged"
+    };
+    write!(out, " to have {taken} {wanted} {words}")
+}
+
+/// Appends what is seen of one that is waited for, in this view, and what it has.
+fn push_seen(out: &mut String, view: u8, seen: u64, has: u64) -> Result<(), AllocError> {
     match view {
-        0 => write!(out, " (seen: {seen}, has: {has}")?,
-        _ => write!(out, " (seen in view {view}: {seen}, has: {has}")?,
+        0 => write!(out, " (seen: {seen}, has: {has}"),
+        _ => write!(out, " (seen in view {view}: {seen}, has: {has}"),
     }
-    push_view(out, replica, other)
 }
 
 /// Ends a line, with the view that one is in where that is another.
@@ -301,10 +354,12 @@ fn push_fate(out: &mut String, end: Option<End>) -> Result<(), AllocError> {
     match end {
         None | Some(End::Spent { .. }) => Ok(()),
         Some(End::Crashed) => out.push_str(", which crashed,"),
-        Some(end) => {
-            out.push_str(", which ended as ")?;
-            push_end(out, end)?;
-            out.push_str(",")
-        }
+        Some(end) => push_ended_as(out, end),
     }
+}
+
+fn push_ended_as(out: &mut String, end: End) -> Result<(), AllocError> {
+    out.push_str(", which ended as ")?;
+    push_end(out, end)?;
+    out.push_str(",")
 }
