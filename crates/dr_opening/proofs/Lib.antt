@@ -6,6 +6,7 @@ pub mod Trying
 pub mod Crashing
 pub mod Opened
 pub mod Losing
+pub mod Whole
 pub mod Choosing
 mod Placing
 mod Voting

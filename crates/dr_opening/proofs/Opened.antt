@@ -1,5 +1,5 @@
 -- What an opening comes to, wherever it stops, and the tries that it leaves.
-use Rattle.std.proofs.Common.{subst, ℕ, ◌≤◌, arith, Bool, true, List, length, Option}
+use Rattle.std.proofs.Common.{◌≡◌, subst, ℕ, ◌≤◌, arith, Bool, true, List, length, Option, Some}
 use Rattle.std.specs.Prelude.{Err, IfErr, Ok, OnErr, OnOk, Result, option_map}
 use Rattle.std.proofs.lemmas.List.{length-map}
 use Rattle.dr_disk.specs.Disk.{Told}
@@ -9,11 +9,15 @@ use Rattle.dr_restart.specs.declared.lists.LogLists.{LogLists}
 use Rattle.dr_restart.specs.declared.start.Start.{Start}
 use Rattle.dr_restart.specs.Trying.{IsTry}
 use Rattle.dr_gather.specs.declared.catching_up.CatchFault.{CatchFault}
+use Rattle.dr_gather.specs.CatchingUp.{opened_with}
 use Rattle.dr_opening.specs.declared.opening.OpenFault.{OpenFault}
 use Rattle.dr_opening.specs.Contents.{IsRising, IsVoting, voted_for}
-use Rattle.dr_opening.specs.Lists.{contents_of}
-use Rattle.dr_opening.specs.Logs.{ComeBelow, GotStart, GotVote, LacksStart, LacksVote, StopAt, WereOpened}
+use Rattle.dr_opening.specs.Lists.{contents_of, log_of}
+use Rattle.dr_opening.specs.Logs.{ComeBelow, GotStart, GotVote, LacksStart, LacksVote, StopAt, Together, WereOpened}
 use Rattle.dr_opening.specs.Tries.{AreAmong, AreLeftOn, AreSafe, IsChosenOf, try_of}
+use Rattle.dr_opening.proofs.Lists.{within_places}
+use Rattle.dr_opening.proofs.Placing.{came_from}
+use Rattle.dr_opening.proofs.Ways.{open_entries}
 use Rattle.dr_opening.proofs.Crashing.{AreSo, left_so_far, so_opened, so_stopped, so_voting}
 use Rattle.dr_opening.proofs.Trying.{tried_rising, tried_voting}
 
@@ -66,6 +70,26 @@ abbrev pub LeavesTry : {D : Type 0} → (D → Option Told) → Start → List (
 LeavesTry told start olds news = (o : Opening) (before after : List LogLists)
     → IsChosenOf o (contents_of olds) start → AreAmong (contents_of olds) before
     → AreLeftOn told news before after → IsTry o before after (try_of start true)
+
+-- what each log has then
+begins_at : {D : Type 0} (told : D → Option Told) (faults : D → ℕ) (start : Start)
+    (mids news : List (Option (LogState D))) (m : ℕ) (log : LogState D)
+    → ComeBelow (GotStart told faults start) mids news (length mids) → log_of news m ≡ Some log
+    → log.content.entries ≡ opened_with start start.members
+begins_at told faults start mids news m log raised at =
+    let one = came_from (GotStart told faults start) (log_of mids m) log
+    (subst (Together (GotStart told faults start) (log_of mids m)) at
+    (raised.below m (omega (arith, within_places news m log at, raised.all)))) in
+    open_entries start one.0.content log.content one.2.content
+
+pub begins_after : {D : Type 0} (T E : Type 0) (told : D → Option Told) (faults : D → ℕ) (start : Start)
+    (mids news : List (Option (LogState D))) (answer : Result T E)
+    → OnOk answer (ComeBelow (GotStart told faults start) mids news (length mids))
+    → OnOk answer ((m : ℕ) (log : LogState D) → log_of news m ≡ Some log
+    → log.content.entries ≡ opened_with start start.members)
+begins_after T E told faults start mids news (Err why) raised = tt
+begins_after T E told faults start mids news (Ok x) raised = λ m log at.
+    begins_at told faults start mids news m log raised at
 
 pub tried_after : {D : Type 0} (T E : Type 0) (told : D → Option Told) (faults : D → ℕ) (start : Start)
     (olds mids news : List (Option (LogState D))) (answer : Result T E) → length olds ≤ 16

@@ -71,7 +71,7 @@ handed_so o contents before start m is few among None at =
     handed_is contents m ∙ ap (option_map as_lists) at
     ∙ sym (ap (λ b. if b then slice_get before m else None) (out_of_set o contents start m is few at))
 
-chosen_by : (o : Opening) (contents : List (Option OnLog)) (before : List LogLists) (start : Start)
+pub chosen_by : (o : Opening) (contents : List (Option OnLog)) (before : List LogLists) (start : Start)
     → IsChosenOf o contents start → length o.messages ≤ 16 → AreAmong contents before
     → IsChosenStart o (of_set before start.members) start
 chosen_by o contents before start is few among =

@@ -1,8 +1,9 @@
 //! Laws of openings: wherever one stops it is a try, and tries keep what was durable.
-ghost use Rattle.std.specs.Prelude.{◌≡◌, ◌++◌, ◌∷◌, ◌≤◌, [], Bool, List, Option, length};
+ghost use Rattle.std.specs.Prelude.{◌≡◌, ◌++◌, ◌∷◌, ◌<◌, ◌≤◌, [], ℕ, Bool, List, Option, Some, is_some, length, true};
 ghost use Rattle.dr_entry.specs.declared.entry.Entry.{Entry};
 ghost use Rattle.dr_entry.specs.declared.limits.TheConstants.{MAX_MEMBERS};
 ghost use Rattle.dr_history.specs.declared.opening.Opening.{Opening};
+ghost use Rattle.dr_history.specs.Restarting.{AreAllAlong};
 ghost use Rattle.dr_history.specs.Soundness.{whole_roster};
 ghost use Rattle.dr_history.specs.History.{IsPrefixOf};
 ghost use Rattle.dr_log.specs.Standing.{HasAllOf};
@@ -15,14 +16,16 @@ ghost use Rattle.dr_restart.specs.declared.lists.LogLists.{LogLists as LogListsO
 ghost use Rattle.dr_restart.specs.declared.start.Start.{Start as StartOf};
 ghost use Rattle.dr_restart.specs.Choosing.{IsChosenStart, of_set};
 ghost use Rattle.dr_restart.specs.Groups.{first_group_of, group_of};
-ghost use Rattle.dr_restart.specs.Left.{AreLeft};
+ghost use Rattle.dr_restart.specs.Left.{AreLeft, entries_on_logs};
 ghost use Rattle.dr_restart.specs.Trying.{IsTry};
 ghost use Rattle.dr_words.specs.Masks.{IsMajorityOf};
 ghost use Rattle.dr_quorum_laws.specs.Holding.{HoldSince, IsKeptBy, IsLongestHistory};
 ghost use Rattle.dr_opening.specs.Contents.{IsRising, IsVoting, voted_for};
-ghost use Rattle.dr_opening.specs.Tries.{AreAmong, HasStoppedSo, IsChosenOf, IsToldBy, try_of};
+ghost use Rattle.dr_opening.specs.Tries.{AreAmong, HasStoppedSo, IsChosenOf, IsToldBy, content_at, try_of};
 
-use dr_quorum_laws::{choices_go_by_messages, held_by_try, kept_by_majority};
+use dr_quorum_laws::{
+    all_logs_give_the_longest, choices_go_by_messages, held_by_try, kept_by_majority,
+};
 use dr_restart::{Attempt, LogLists, Start};
 use dr_script::Script;
 use dr_words::Mask;
@@ -46,6 +49,19 @@ pub fn openings_lose_nothing_common()
     ensures rising { (start : StartOf) (first c now : OnLog) → HasAllOf first c
         → IsPrefixOf first.entries start.entries → IsRising start (voted_for start c) now → HasAllOf first now }
 {}
+
+/// Where no log is missing, and of any two of them one is a front of the other, none is cut: each is a front of the
+/// start.
+pub fn whole_openings_cut_nothing()
+    ensures { (o : Opening) (contents : List (Option OnLog)) (lists : List LogListsOf) (start : StartOf)
+        → length o.messages ≤ MAX_MEMBERS → IsChosenOf o contents start → AreAmong contents lists
+        → length lists ≡ length contents
+        → ((m : ℕ) → m < length contents → is_some (content_at contents m) ≡ true)
+        → AreAllAlong (entries_on_logs lists)
+        → (m : ℕ) (c : OnLog) → content_at contents m ≡ Some c → IsPrefixOf c.entries start.entries }
+{
+    all_logs_give_the_longest();
+}
 
 /// Where logs hold since an age, and an opening stops anywhere that chose its start of some of them, they hold
 /// with that try more. And whatever the next start is chosen of then, it keeps what was durable. So it is however

@@ -13,6 +13,8 @@ mod opening;
 
 pub use age::{NotOpened, open_age};
 pub use cutting_back::cut_back;
-pub use laws::{openings_are_tries, openings_hold, openings_lose_nothing_common};
+pub use laws::{
+    openings_are_tries, openings_hold, openings_lose_nothing_common, whole_openings_cut_nothing,
+};
 pub use listing::lists_of;
 pub use opening::{OpenFault, open_logs};

@@ -3,6 +3,7 @@ ghost use Rattle.std.specs.Prelude.{◌≡◌, ◌<◌, ◌≤◌, ◌^◌, ℕ,
 ghost use Rattle.dr_entry.specs.Spelling.{IsValidEntry};
 ghost use Rattle.dr_entry.specs.declared.limits.TheConstants.{MAX_MEMBERS};
 ghost use Rattle.dr_history.specs.declared.opening.Opening.{Opening};
+ghost use Rattle.dr_gather.specs.CatchingUp.{opened_with};
 ghost use Rattle.dr_gather.specs.declared.catching_up.CatchFault.TheVariants as whys;
 ghost use Rattle.dr_log.specs.declared.fault.LogFault.TheVariants as logs;
 ghost use Rattle.dr_log.specs.State.{LogState};
@@ -154,6 +155,9 @@ pub fn open_logs<D: Disk>(start: &Start, logs: &mut [Option<Log<D>>]) -> Result<
     requires whole { (m : ℕ) (log : LogState D) → log_of logs.old m ≡ Some log → log.failed ≡ false }
     ensures opened { OnOk result (WereOpened D.told D.faults start.now logs.old logs.new) }
     ensures stopped { IfErr result (WereNotOpened D.told D.faults start.now logs.old logs.new) }
+    // Each log that is there then has the entries of the start, and View 0.
+    ensures begins { OnOk result ((m : ℕ) (log : LogState D) → log_of logs.new m ≡ Some log
+        → log.content.entries ≡ opened_with start.now start.now.members) }
     // Where the start was chosen of these logs, whatever a crash leaves of them is what a try leaves: an opened
     // one where this has answered Ok.
     ensures tried { OnOk result ((o : Opening) (before after : List LogListsOf)

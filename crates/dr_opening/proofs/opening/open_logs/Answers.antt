@@ -2,7 +2,7 @@ use Rattle.std.proofs.Common.{◌≡◌, rules}
 use Rattle.std.specs.Prelude.{Err}
 use Rattle.dr_opening.specs.declared.opening.OpenFault.{OpenFault}
 use Rattle.dr_opening.proofs.Crashing.{ready_by}
-use Rattle.dr_opening.proofs.Opened.{left_after, tried_after, unvoted_on}
+use Rattle.dr_opening.proofs.Opened.{begins_after, left_after, tried_after, unvoted_on}
 use Rattle.dr_opening.proofs.opening.open_logs.Goals as goal
 
 pub returns-in_err-vote_on_all-clause-left : goal.returns-in_err-vote_on_all-clause-left
@@ -29,3 +29,8 @@ returns-clause-left g c =
     left_after (Unit {0}) g.D.Disk.told g.D.Disk.faults c.args.start.now c.args.logs.now
     c.vote_on_all.new.logs c.raise_all.new.logs c.raise_all.result c.requires.few c.in_ok-vote_on_all.ensures.voted
     c.raise_all.ensures.stopped
+
+pub returns-clause-begins : goal.returns-clause-begins
+returns-clause-begins g c =
+    begins_after (Unit {0}) OpenFault g.D.Disk.told g.D.Disk.faults c.args.start.now c.vote_on_all.new.logs
+    c.raise_all.new.logs c.raise_all.result c.raise_all.ensures.raised
