@@ -8,8 +8,8 @@ use std::fmt::Write;
 /// So many rows of marks of a kind stand behind one another in a band at most: more marks are counted.
 const MOST_ROWS: usize = 3;
 
-/// The width that their count takes.
-const COUNT_WIDTH: u32 = 20;
+/// The width that their count takes, of three digits.
+const COUNT_WIDTH: u32 = 27;
 
 /// What is told of a member in a band.
 #[derive(Drop)]
@@ -164,7 +164,7 @@ impl Strip {
         match self.rows.last_mut() {
             Some(row) if row.takes(kind, &cell, room) => return row.add(cell),
             Some(row) if is_last && row.is_of_marks(kind) => {
-                row.more = row.more.saturating_add(1);
+                row.count(room);
                 return Ok(());
             }
             _ => {}
@@ -197,6 +197,17 @@ impl Row {
     /// Whether a cell of this kind has room in it.
     fn takes(&self, kind: Kind, cell: &Cell, room: u32) -> bool {
         self.is_of_marks(kind) && self.more == 0 && self.width.saturating_add(cell.width()) <= room
+    }
+
+    /// Counts one mark more, and those of its cells too where these take more than this width.
+    fn count(&mut self, room: u32) {
+        self.more = self.more.saturating_add(1);
+        if self.width > room {
+            let cells = self.cells.len().min(1000) as u32;
+            self.more = self.more.saturating_add(cells);
+            self.cells.clear();
+            self.width = 0;
+        }
     }
 
     fn add(&mut self, cell: Cell) -> Result<(), AllocError> {
