@@ -1,12 +1,10 @@
 -- What is known between the turns of a round.
-use Rattle.std.proofs.Common.{List, None, Some, [], ap, arith, sym, true, ℕ, ◌*◌, ◌+◌, ◌<◌, ◌∙◌, ◌≡◌, ◌≢◌, ◌≤◌, ◌⊎◌}
-use Rattle.std.specs.Prelude.{Option, option_map, slice_get}
-use Rattle.std.proofs.lemmas.Option.{slice_get-map}
+use Rattle.std.proofs.Common.{List, None, Some, [], ap, sym, true, ℕ, ◌*◌, ◌+◌, ◌<◌, ◌∙◌, ◌≡◌, ◌≢◌, ◌≤◌, ◌⊎◌}
+use Rattle.std.specs.Prelude.{Option, option_map}
 use Rattle.dr_entry.specs.declared.end.End.{End}
 use Rattle.dr_entry.specs.declared.end.End.TheVariants as ends
-use Rattle.dr_history_laws.proofs.Lists.{slice_get-some}
 use Rattle.dr_words.specs.declared.column.TheConstants.{BEAT_COLUMN, LOGGED_COLUMN}
-use Rattle.dr_machine.proofs.Presence.{all_present}
+use Rattle.dr_machine.proofs.Presence.{is_present}
 use Rattle.dr_machine.specs.Group.{Group, columns, roster}
 use Rattle.dr_machine.specs.World.{World}
 use Rattle.dr_program.proofs.Holdings.{Holding, held, held_same}
@@ -19,7 +17,6 @@ use Rattle.dr_refine.proofs.Deeds.{replicas}
 use Rattle.dr_suspect.specs.Waits.{beat_of, turns_without_news}
 use Rattle.dr_program_laws.proofs.Programs.{AllStand}
 use Rattle.dr_program_laws.proofs.Trusting.{stay_first}
-use Rattle.dr_program_laws.proofs.Worlds.{all_there}
 use Rattle.dr_world_laws.proofs.Worlds.{known}
 use Rattle.dr_turn_laws.specs.Steady.{IsSteady}
 use Rattle.dr_program_laws.specs.Trusting.{AreAtEase}
@@ -27,6 +24,8 @@ use Rattle.dr_complete.proofs.Along.{IsAlong}
 use Rattle.dr_complete.proofs.Firsts.{IsFirst}
 use Rattle.dr_complete.specs.Reached.{AllShowDone}
 use Rattle.dr_history_laws.specs.Remaining.{messages_left}
+use Rattle.dr_program.specs.Presence.{present_at}
+use Rattle.dr_program.proofs.Present.{present_map}
 
 -- a member has had r turns, and has come as far as these bring it
 abbrev pub HasGone : Group → ℕ → ℕ → ℕ → Holding → Type 0
@@ -62,21 +61,21 @@ IsAfter x m i = ((x ≤ m) × ((m < i) ⊎ (i < x))) ⊎ ((m < x) × (m < i) × 
 
 -- who has had a turn since has news: its beat has risen, unless it was the first turn
 abbrev pub AreFresh : Group → ℕ → Program → Type 0
-AreFresh g x p = (m i : ℕ) (r : Running) → slice_get p.members m ≡ Some r → i < roster g → i ≢ m
+AreFresh g x p = (m i : ℕ) (r : Running) → present_at p.members m ≡ Some r → i < roster g → i ≢ m
     → IsAfter x m i
     → (turns_without_news r.waits i ≡ 0) ⊎ ((world g p).seen m i BEAT_COLUMN < (world g p).table 0 m i BEAT_COLUMN)
 
 -- the program is between turns: nobody suspects anybody, no append has failed, no member is amid a turn or
 -- has ended but as done, and words stand where they were pushed
-pub record IsPaused (g : Group) (setups : List Setup) (p : Program) : Type 0 where
+pub record IsPaused (g : Group) (setups : List (Option Setup)) (p : Program) : Type 0 where
   pub steady : IsSteady g p
   pub ease : AreAtEase p
   pub stand : AllStand setups p
-  pub well : (m : ℕ) (r : Running) → slice_get p.members m ≡ Some r → r.failed ≡ None
-  pub whole : (m : ℕ) → is_between_turns (slice_get p.members m) ≡ true
+  pub well : (m : ℕ) (r : Running) → present_at p.members m ≡ Some r → r.failed ≡ None
+  pub whole : (m : ℕ) → is_between_turns (present_at p.members m) ≡ true
   pub upright : (i : ℕ) → i < roster g → IsUpright ((world g p).end i)
   pub pushed : ArePushed g (world g p)
-  pub waits : (m : ℕ) (r : Running) → slice_get p.members m ≡ Some r → HasWaited g (world g p) m r
+  pub waits : (m : ℕ) (r : Running) → present_at p.members m ≡ Some r → HasWaited g (world g p) m r
 
 -- all members show done in the first view
 abbrev pub ShowDone : Group → World → Type 0
@@ -84,15 +83,15 @@ ShowDone g w = AllShowDone w 0 g.opening.members
 
 -- it is so in a round behind r others, in which the members below x have had their turn: all show done, or
 -- nobody has ended
-pub record IsBetween (g : Group) (setups : List Setup) (most r x : ℕ) (p : Program) : Type 0 where
+pub record IsBetween (g : Group) (setups : List (Option Setup)) (most r x : ℕ) (p : Program) : Type 0 where
   pub paused : IsPaused g setups p
   pub fresh : ((i : ℕ) → i < roster g → (world g p).end i ≡ None) → AreFresh g x p
   pub state : ShowDone g (world g p) ⊎ IsGoing g most r x (world g p)
 
 -- no member is to crash, none has more than `most` messages left, and there are turns enough
-pub record IsFit (g : Group) (setups : List Setup) (limit most : ℕ) : Type 0 where
+pub record IsFit (g : Group) (setups : List (Option Setup)) (limit most : ℕ) : Type 0 where
   pub are : AreSetups g limit setups
-  pub uncrashed : (m : ℕ) (s : Setup) → slice_get setups m ≡ Some s → s.crashes ≡ []
+  pub uncrashed : (m : ℕ) (s : Setup) → present_at setups m ≡ Some s → s.crashes ≡ []
   pub few : (s : ℕ) → messages_left g.opening s ≤ most
   pub enough : 3 * most + 3 ≤ limit
 
@@ -100,22 +99,22 @@ pub record IsFit (g : Group) (setups : List Setup) (limit most : ℕ) : Type 0 w
 
 -- each member of the roster is there
 pub member_at : (g : Group) (p : Program) (m : ℕ) → IsSteady g p → m < roster g
-    → (r : Running) × (slice_get p.members m ≡ Some r)
-member_at g p m steady l = slice_get-some p.members m (omega (arith, l, steady.program.all))
+    → (r : Running) × (present_at p.members m ≡ Some r)
+member_at g p m steady l = steady.program.there m l (is_present g m steady.whole l)
 
 -- its world is one in which everybody is in the first view
 pub first_of : (g : Group) (p : Program) → IsSteady g p → AreAtEase p → IsFirst g (world g p)
 first_of g p steady ease = record {
   group = steady.group;
   known = known g (world g p) steady.group steady.reached;
-  whole = all_present g steady.group (λ m l. all_there g p m steady.program l);
+  whole = steady.whole;
   view = λ m. stay_first g p m ease;
 }
 
 -- what the world has of a member is the same where the member is
-pub same_held : (g : Group) (p q : Program) (i : ℕ) → slice_get q.members i ≡ slice_get p.members i
+pub same_held : (g : Group) (p q : Program) (i : ℕ) → present_at q.members i ≡ present_at p.members i
     → held (world g q) i ≡ held (world g p) i
 same_held g p q i same = held_same g (replicas q.members) (replicas p.members) q.table p.table i
-    (slice_get-map (λ (r : Running). r.replica) q.members i
+    (present_map (λ (r : Running). r.replica) q.members i
     ∙ ap (option_map (λ (r : Running). r.replica)) same
-    ∙ sym (slice_get-map (λ (r : Running). r.replica) p.members i))
+    ∙ sym (present_map (λ (r : Running). r.replica) p.members i))

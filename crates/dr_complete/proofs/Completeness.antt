@@ -1,53 +1,55 @@
 -- In lockstep, without crashes, suspicions and failed appends and with turns enough, all members end as done,
 -- with everything.
 use Rattle.std.proofs.Common.{Bool, List, None, Some, [], ap, arith, if◌then◌else◌, inl, inr, map, nat_lt, refl, replicate, slice_index, subst, sym, true, ℕ, ◌&&◌, ◌*◌, ◌+◌, ◌<◌, ◌==◌, ◌^◌, ◌∙◌, ◌≡◌, ◌≤◌, ◌⊎◌}
-use Rattle.std.specs.Prelude.{All, IsTrue, Option, is_some, option_map, slice_get}
+use Rattle.std.specs.Prelude.{IsTrue, Option, is_some, option_map, slice_get}
 use Rattle.std.proofs.lemmas.Bool.{cases_lt}
 use Rattle.std.proofs.lemmas.Bool.Decides.{nat_tests}
-use Rattle.std.proofs.lemmas.List.{get_or-replicate, get_or_past, length-replicate}
-use Rattle.std.proofs.lemmas.Option.{get_or_from_slice_get, same_Some, slice_get-map, slice_get_within}
+use Rattle.std.proofs.lemmas.List.{get_or-replicate, get_or_past, length-map, length-replicate}
+use Rattle.std.proofs.lemmas.Option.{same_Some, slice_get_within}
 use Rattle.dr_entry.specs.declared.end.End.{End}
 use Rattle.dr_entry.specs.declared.end.End.TheVariants as ends
 use Rattle.dr_entry.specs.declared.end.MemberEnd.{MemberEnd}
 use Rattle.dr_entry.specs.declared.limits.TheConstants.{MAX_MEMBERS}
 use Rattle.dr_history_laws.specs.Remaining.{messages_left}
 use Rattle.dr_words.specs.declared.column.TheConstants.{BEAT_COLUMN, LOGGED_COLUMN}
-use Rattle.dr_machine.specs.Group.{Group, IsGroup, roster}
+use Rattle.dr_machine.specs.Group.{AllPresent, Group, IsGroup, roster}
 use Rattle.dr_machine.specs.World.{World, opening_world}
 use Rattle.dr_program.proofs.Opening.{begins_at_the_opening}
-use Rattle.dr_program.specs.Program.{AllOk, AreSetups, Move, Program, begun_program, end_of, ran}
+use Rattle.dr_program.specs.Program.{AllOk, AreSetups, Move, Program, begun_program, end_of, ran, end_at}
 use Rattle.dr_program.specs.Reading.{world}
 use Rattle.dr_program.specs.Running.{Running, begun_running}
 use Rattle.dr_program.specs.Schedule.{IsLockstep, is_between_turns}
 use Rattle.dr_program.specs.declared.setup.Setup.{Setup}
 use Rattle.dr_program_laws.proofs.Ending as ending
 use Rattle.dr_program_laws.proofs.Programs.{all_stand}
-use Rattle.dr_program_laws.proofs.Worlds.{of_there}
+use Rattle.dr_program_laws.proofs.Worlds.{of_there, end_told}
 use Rattle.dr_program_laws.specs.Ended.{IsComplete}
 use Rattle.dr_program_laws.specs.Trusting.{IsAtEase}
-use Rattle.dr_complete.specs.Time.{IsLenient}
+use Rattle.dr_complete.specs.Time.{AllLenient, IsLenient}
 use Rattle.dr_suspect.specs.Waits.{beat_of, turns_without_news}
 use Rattle.dr_turn_laws.proofs.Steadying.{steady_begins}
 use Rattle.dr_complete.proofs.Along.{along_none}
 use Rattle.dr_complete.proofs.Rounds.{rounds_keep}
-use Rattle.dr_complete.proofs.Between.{ArePushed, HasWaited, IsBetween, IsUpright}
+use Rattle.dr_complete.proofs.Between.{ArePushed, HasWaited, IsBetween, IsUpright, member_at}
+use Rattle.dr_program.specs.Presence.{present_at}
+use Rattle.dr_program.proofs.Present.{present_within, ended_there, present_map}
 
 -- ---- the beginning
 
 -- before the first turn all members stand where a turn begins
-begins_whole : (setups : List Setup) (m : ℕ)
-    → is_between_turns (slice_get (map begun_running setups) m) ≡ true
-begins_whole setups m = rw (slice_get-map begun_running setups m) (by (slice_get setups m))
+begins_whole : (setups : List (Option Setup)) (m : ℕ)
+    → is_between_turns (present_at (map (option_map begun_running) setups) m) ≡ true
+begins_whole setups m = rw (present_map begun_running setups m) (by (present_at setups m))
   where
     by : (o : Option Setup) → is_between_turns (option_map begun_running o) ≡ true
     by None = refl
     by (Some s) = refl
 
 -- and no append has failed
-begins_well : (setups : List Setup) (m : ℕ) (r : Running)
-    → slice_get (map begun_running setups) m ≡ Some r → r.failed ≡ None
+begins_well : (setups : List (Option Setup)) (m : ℕ) (r : Running)
+    → present_at (map (option_map begun_running) setups) m ≡ Some r → r.failed ≡ None
 begins_well setups m r there =
-    by (slice_get setups m) (sym (slice_get-map begun_running setups m) ∙ there)
+    by (present_at setups m) (sym (present_map begun_running setups m) ∙ there)
   where
     by : (o : Option Setup) → option_map begun_running o ≡ Some r → r.failed ≡ None
     by None same = absurd (cc)
@@ -55,25 +57,25 @@ begins_well setups m r there =
         sym (ap (λ (x : Running). x.failed) (same_Some (begun_running s) r same))
 
 -- each is one that its setup begins
-began_by : (setups : List Setup) (m : ℕ) (r : Running) → slice_get (map begun_running setups) m ≡ Some r
-    → (s : Setup) × (slice_get setups m ≡ Some s) × (begun_running s ≡ r)
-began_by setups m r there = by (slice_get setups m) refl
+began_by : (setups : List (Option Setup)) (m : ℕ) (r : Running)
+    → present_at (map (option_map begun_running) setups) m ≡ Some r
+    → (s : Setup) × (present_at setups m ≡ Some s) × (begun_running s ≡ r)
+began_by setups m r there = by (present_at setups m) refl
   where
-    by : (o : Option Setup) → slice_get setups m ≡ o
-        → (s : Setup) × (slice_get setups m ≡ Some s) × (begun_running s ≡ r)
+    by : (o : Option Setup) → present_at setups m ≡ o
+        → (s : Setup) × (present_at setups m ≡ Some s) × (begun_running s ≡ r)
     by None e = absurd (cc (ap (option_map begun_running) (sym e)
-        ∙ sym (slice_get-map begun_running setups m) ∙ there))
+        ∙ sym (present_map begun_running setups m) ∙ there))
     by (Some s) e = (
       s,
       e,
       same_Some (begun_running s) r (ap (option_map begun_running) (sym e)
-          ∙ sym (slice_get-map begun_running setups m) ∙ there),
+          ∙ sym (present_map begun_running setups m) ∙ there),
     )
 
-patient_at : (setups : List Setup) (m : ℕ) (s : Setup) → All IsLenient setups → slice_get setups m ≡ Some s
+patient_at : (setups : List (Option Setup)) (m : ℕ) (s : Setup) → AllLenient setups → present_at setups m ≡ Some s
     → IsLenient s
-patient_at setups m s calm there = subst IsLenient (get_or_from_slice_get setups m s s there)
-    (calm m s (slice_get_within setups m s there))
+patient_at setups m s calm there = calm m s there
 
 -- all counts and beats are 0
 zero_at : (i : ℕ) → slice_index (replicate MAX_MEMBERS 0) i ≡ 0
@@ -87,17 +89,17 @@ zero_at i = by (cases_lt i 16)
     by (inr past) = get_or_past (replicate 16 none) i none (omega (arith, past, length-replicate 16 none))
 
 -- it has waited for nobody
-begins_uncounted : (setups : List Setup) (m : ℕ) (r : Running)
-    → slice_get (map begun_running setups) m ≡ Some r → (i : ℕ) → turns_without_news r.waits i ≡ 0
+begins_uncounted : (setups : List (Option Setup)) (m : ℕ) (r : Running)
+    → present_at (map (option_map begun_running) setups) m ≡ Some r → (i : ℕ) → turns_without_news r.waits i ≡ 0
 begins_uncounted setups m r there i =
     let t = began_by setups m r there in
     ap (λ (x : Running). turns_without_news x.waits i) (sym t.2) ∙ zero_at i
 
-begins_easy : (setups : List Setup) → All IsLenient setups
-    → (m : ℕ) (r : Running) → slice_get (map begun_running setups) m ≡ Some r → IsAtEase r
+begins_easy : (setups : List (Option Setup)) → AllLenient setups
+    → (m : ℕ) (r : Running) → present_at (map (option_map begun_running) setups) m ≡ Some r → IsAtEase r
 begins_easy setups calm m r there = subst IsAtEase t.2 (easy so.patience)
   where
-    t : (s : Setup) × (slice_get setups m ≡ Some s) × (begun_running s ≡ r)
+    t : (s : Setup) × (present_at setups m ≡ Some s) × (begun_running s ≡ r)
     t = began_by setups m r there
 
     so : IsLenient t.0
@@ -114,8 +116,8 @@ begins_easy setups calm m r there = subst IsAtEase t.2 (easy so.patience)
       kept = refl;
     }
 
-begins_waiting : (g : Group) (setups : List Setup) → All IsLenient setups → (m : ℕ) (r : Running)
-    → slice_get (map begun_running setups) m ≡ Some r
+begins_waiting : (g : Group) (setups : List (Option Setup)) → AllLenient setups → (m : ℕ) (r : Running)
+    → present_at (map (option_map begun_running) setups) m ≡ Some r
     → ((i : ℕ) → (world g (begun_program g setups)).seen m i BEAT_COLUMN ≡ 0)
     → HasWaited g (world g (begun_program g setups)) m r
 begins_waiting g setups calm m r there unseen = record {
@@ -125,7 +127,7 @@ begins_waiting g setups calm m r there unseen = record {
   few = λ i l d going. omega (arith, ap (λ (x : Running). turns_without_news x.waits i) t.2, zero_at i);
 }
   where
-    t : (s : Setup) × (slice_get setups m ≡ Some s) × (begun_running s ≡ r)
+    t : (s : Setup) × (present_at setups m ≡ Some s) × (begun_running s ≡ r)
     t = began_by setups m r there
 
 -- all words are 0 but the logged ones
@@ -138,12 +140,13 @@ begins_pushed g i j c a b other inside apart begun =
     test is_member c x unlogged = grind (arith, nat_tests, unlogged)
 
 -- so no round is over yet
-begins : (g : Group) (limit most : ℕ) (setups : List Setup) → IsGroup g → 1 ≤ limit → limit < 2 ^ 32
-    → AreSetups g limit setups → All IsLenient setups → IsBetween g setups most 0 0 (begun_program g setups)
+begins : (g : Group) (limit most : ℕ) (setups : List (Option Setup)) → IsGroup g → 1 ≤ limit → limit < 2 ^ 32
+    → AllPresent g → AreSetups g limit setups → AllLenient setups
+    → IsBetween g setups most 0 0 (begun_program g setups)
 unfolding ran
-begins g limit most setups is some small are calm = record {
+begins g limit most setups is some small whole are calm = record {
   paused = record {
-    steady = steady_begins g limit setups is some small are;
+    steady = steady_begins g limit setups is some small whole are;
     ease = begins_easy setups calm;
     stand = all_stand g limit setups [] is some are;
     well = begins_well setups;
@@ -174,12 +177,12 @@ upright_end o (inl none) ended = absurd (cc (ap is_some none, ended))
 upright_end o (inr is_done) ended = is_done
 
 -- a member that has ended so is complete
-complete : (g : Group) (setups : List Setup) (most r m : ℕ) (p : Program) (y : Running)
-    → IsBetween g setups most r 0 p → slice_get p.members m ≡ Some y → IsTrue (is_some y.replica.end)
+complete : (g : Group) (setups : List (Option Setup)) (most r m : ℕ) (p : Program) (y : Running)
+    → IsBetween g setups most r 0 p → present_at p.members m ≡ Some y → IsTrue (is_some y.replica.end)
     → IsComplete g.opening (end_of y)
 complete g setups most r m p y between there ended =
     let steady = between.paused.steady in
-    let l : m < roster g = omega (arith, slice_get_within p.members m y there, steady.program.all) in
+    let l : m < roster g = omega (arith, present_within p.members m y there, steady.program.all) in
     let end_is = of_there p (λ q. q.end) (opening_world g).end m y there in
     let end : y.replica.end ≡ Some ends.Done =
     upright_end y.replica.end (rw end_is at (between.paused.upright m l)) ended in
@@ -191,29 +194,25 @@ complete g setups most r m p y between there ended =
     }) end (between.paused.ease m y there).first
 
 -- in lockstep, without crashes, suspicions and failed appends and with turns enough, all members are
-pub completes : (g : Group) (limit most : ℕ) (setups : List Setup) (es : List Move) (p : Program)
-    → IsGroup g → AreSetups g limit setups
-    → ((m : ℕ) (s : Setup) → slice_get setups m ≡ Some s → s.crashes ≡ []) → All IsLenient setups
+pub completes : (g : Group) (limit most : ℕ) (setups : List (Option Setup)) (es : List Move) (p : Program)
+    → IsGroup g → AllPresent g → AreSetups g limit setups
+    → ((m : ℕ) (s : Setup) → present_at setups m ≡ Some s → s.crashes ≡ []) → AllLenient setups
     → ((s : ℕ) → messages_left g.opening s ≤ most) → 3 * most + 3 ≤ limit → limit < 2 ^ 32
     → AllOk es → IsLockstep (begun_program g setups) es p → (m : ℕ) (e : MemberEnd)
-    → slice_get (map end_of p.members) m ≡ Some e → IsComplete g.opening e
-completes g limit most setups es p is are uncrashed calm few enough small well run m e at =
-    by (slice_get p.members m) refl
+    → slice_get (map end_at p.members) m ≡ Some e → IsComplete g.opening e
+completes g limit most setups es p is whole are uncrashed calm few enough small well run m e at =
+    subst (IsComplete g.opening) (same_Some (end_of y.0) e (sym (end_told p m y.0 y.1) ∙ at))
+    (complete g setups most over.0 m p y.0 over.1 y.1 (ended_there p m y.0 run.ended y.1))
   where
     over : (n : ℕ) × IsBetween g setups most n 0 p
     over = rounds_keep g setups limit most run.rounds 0 (begun_program g setups) es p
         (record { are = are; uncrashed = uncrashed; few = few; enough = enough })
-        (begins g limit most setups is (omega (arith, enough)) small are calm) well run.ran
+        (begins g limit most setups is (omega (arith, enough)) small whole are calm) well run.ran
 
-    ended : (y : Running) → slice_get p.members m ≡ Some y → IsTrue (is_some y.replica.end)
-    ended y there = subst (λ (x : Running). IsTrue (is_some x.replica.end))
-        (get_or_from_slice_get p.members m y y there)
-        (run.ended m y (slice_get_within p.members m y there))
-
-    named : (o : Option Running) → slice_get p.members m ≡ o → option_map end_of o ≡ Some e
-    named o there = ap (option_map end_of) (sym there) ∙ sym (slice_get-map end_of p.members m) ∙ at
-
-    by : (o : Option Running) → slice_get p.members m ≡ o → IsComplete g.opening e
-    by None there = absurd (cc (named None there))
-    by (Some y) there = subst (IsComplete g.opening) (same_Some (end_of y) e (named (Some y) there))
-        (complete g setups most over.0 m p y over.1 there (ended y there))
+    y : (r : Running) × (present_at p.members m ≡ Some r)
+    y = member_at g p m over.1.paused.steady (omega (
+      arith,
+      slice_get_within (map end_at p.members) m e at,
+      length-map p.members end_at,
+      over.1.paused.steady.program.all,
+    ))

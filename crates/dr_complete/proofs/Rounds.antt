@@ -1,6 +1,6 @@
 -- Rounds: each member has its turn, again and again.
 use Rattle.std.proofs.Common.{List, ◌++◌, length, None, Some, ap, arith, inl, inr, refl, subst, sym, true, false, zero, zero-add, suc, ℕ, ◌*◌, ◌+◌, ◌<◌, ◌∙◌, ◌≡◌, ◌≤◌, ◌⊎◌, ◌||◌, Bool}
-use Rattle.std.specs.Prelude.{Option, is_some, slice_get}
+use Rattle.std.specs.Prelude.{Option, is_some}
 use Rattle.std.specs.List.{range_with_len}
 use Rattle.std.proofs.Math.Seq.{drop-append_seam, take-append_seam}
 use Rattle.std.proofs.lemmas.Bool.{cases_lt}
@@ -9,10 +9,10 @@ use Rattle.dr_entry.specs.declared.end.End.{End}
 use Rattle.dr_machine.specs.Group.{Group, roster}
 use Rattle.dr_machine.specs.World.{opening_world}
 use Rattle.dr_program.specs.declared.outcome.Outcome.TheVariants as outcomes
-use Rattle.dr_program.specs.Program.{AllOk, Move, Program}
+use Rattle.dr_program.specs.Program.{AllOk, Move, Program, has_ended}
 use Rattle.dr_program.specs.Reading.{world}
 use Rattle.dr_program.specs.Running.{Running}
-use Rattle.dr_program.specs.Schedule.{IsTurn, Rounds, TakeTurns, TakesTurn, has_ended, is_between_turns}
+use Rattle.dr_program.specs.Schedule.{IsTurn, Rounds, TakeTurns, TakesTurn, is_between_turns}
 use Rattle.dr_program.specs.Turn.{is_beat, part_of}
 use Rattle.dr_program.specs.declared.setup.Setup.{Setup}
 use Rattle.dr_turn.proofs.Search.{beat_test}
@@ -23,9 +23,10 @@ use Rattle.dr_complete.proofs.Between.{AreFresh, HasWaited, IsAfter, IsBetween, 
 use Rattle.dr_program.specs.Form.{IsOf}
 use Rattle.dr_turn_laws.specs.Steady.{IsSteady}
 use Rattle.dr_program_laws.specs.Trusting.{MayWait}
-use Rattle.std.proofs.lemmas.Option.{slice_get_within}
 use Rattle.dr_complete.proofs.Firsts.{of_roster}
 use Rattle.dr_complete.proofs.Turns.{turn_keeps}
+use Rattle.dr_program.specs.Presence.{present_at}
+use Rattle.dr_program.proofs.Present.{present_within}
 
 -- ---- moves
 
@@ -47,7 +48,7 @@ at_beginning None beat going e = (refl, e)
 at_beginning (Some end) beat going e = absurd (cc)
 
 -- it hasn't waited too long as its turn begins
-may_wait : (g : Group) (p : Program) (x : ℕ) (y : Running) → IsSteady g p → slice_get p.members x ≡ Some y
+may_wait : (g : Group) (p : Program) (x : ℕ) (y : Running) → IsSteady g p → present_at p.members x ≡ Some y
     → y.replica.end ≡ None → HasWaited g (world g p) x y → MayWait y
 may_wait g p x y steady there none waited = by waited.limit
   where
@@ -63,9 +64,9 @@ may_wait g p x y steady there none waited = by waited.limit
     ))
 
 -- it takes its turn
-takes : (g : Group) (setups : List Setup) (limit most r x : ℕ) (p : Program) (es : List Move)
+takes : (g : Group) (setups : List (Option Setup)) (limit most r x : ℕ) (p : Program) (es : List Move)
     (q : Program) → IsFit g setups limit most → x < roster g → IsBetween g setups most r x p
-    → has_ended (slice_get p.members x) ≡ false → AllOk es → IsTurn x p es q
+    → has_ended (present_at p.members x) ≡ false → AllOk es → IsTurn x p es q
     → IsBetween g setups most r (x + 1) q
 takes g setups limit most r x p es q fit l between going well turn =
     let member = member_at g p x between.paused.steady l in
@@ -89,13 +90,13 @@ takes g setups limit most r x p es q fit l between going well turn =
     })
 
 -- a member that has ended leaves the program as it is; all show done then
-passes : (g : Group) (setups : List Setup) (most r x : ℕ) (p : Program) → x < roster g
-    → IsBetween g setups most r x p → has_ended (slice_get p.members x) ≡ true
+passes : (g : Group) (setups : List (Option Setup)) (most r x : ℕ) (p : Program) → x < roster g
+    → IsBetween g setups most r x p → has_ended (present_at p.members x) ≡ true
     → IsBetween g setups most r (x + 1) p
 passes g setups most r x p l between over =
     record { paused = between.paused; fresh = fresh; state = state between.state }
   where
-    member : (y : Running) × (slice_get p.members x ≡ Some y)
+    member : (y : Running) × (present_at p.members x ≡ Some y)
     member = member_at g p x between.paused.steady l
 
     ended : member.0.replica.end ≡ None → ⊥
@@ -114,7 +115,7 @@ passes g setups most r x p l between over =
 -- ---- a round
 
 -- each member from x on has its turn
-turns_keep : (g : Group) (setups : List Setup) (limit most r d x : ℕ) (p : Program) (es : List Move)
+turns_keep : (g : Group) (setups : List (Option Setup)) (limit most r d x : ℕ) (p : Program) (es : List Move)
     (q : Program) → IsFit g setups limit most → x + d ≡ roster g
     → IsBetween g setups most r x p → AllOk es → TakeTurns (range_with_len x d) p es q
     → IsBetween g setups most r (roster g) q
@@ -136,7 +137,7 @@ turns_keep g setups limit most r (suc d) x p es q fit all between well (turn, re
     by (inr going) = takes g setups limit most r x p turn mid fit l between going.0 parts.0 going.1
 
 -- where all members have had their turn, the next round begins, or all show done
-round_over : (g : Group) (setups : List Setup) (most r : ℕ) (p : Program)
+round_over : (g : Group) (setups : List (Option Setup)) (most r : ℕ) (p : Program)
     → IsBetween g setups most r (roster g) p → IsBetween g setups most (r + 1) 0 p
 round_over g setups most r p between =
     record { paused = between.paused; fresh = fresh; state = state between.state }
@@ -145,7 +146,7 @@ round_over g setups most r p between =
     fresh unended m i y there l d after = between.fresh unended m i y there l d (by after)
       where
         within : m < roster g
-        within = omega (arith, slice_get_within p.members m y there, between.paused.steady.program.all)
+        within = omega (arith, present_within p.members m y there, between.paused.steady.program.all)
 
         by : IsAfter 0 m i → IsAfter (roster g) m i
         by (inl (low, inl less)) = inr (within, less, l)
@@ -172,7 +173,7 @@ round_over g setups most r p between =
 -- ---- all rounds
 
 -- so it goes on, round by round
-pub rounds_keep : (g : Group) (setups : List Setup) (limit most k r : ℕ) (p : Program) (es : List Move)
+pub rounds_keep : (g : Group) (setups : List (Option Setup)) (limit most k r : ℕ) (p : Program) (es : List Move)
     (q : Program) → IsFit g setups limit most → IsBetween g setups most r 0 p
     → AllOk es → Rounds k p es q → (n : ℕ) × IsBetween g setups most n 0 q
 rounds_keep g setups limit most zero r p es q fit between well (none, same) =

@@ -1,9 +1,8 @@
 -- The members of a script that gives them time enough are complete.
-use Rattle.std.proofs.Common.{ap, sym, inl, inr, ◌≡◌, ◌⊎◌, ◌∙◌, subst, All, ℕ, ◌-◌, ◌/◌, ◌≤◌, [], List, length, map, arith}
-use Rattle.std.proofs.lemmas.Option.{slice_get-get_or}
+use Rattle.std.proofs.Common.{ap, sym, inl, inr, ◌≡◌, ◌⊎◌, ◌∙◌, subst, ℕ, ◌-◌, ◌/◌, ◌≤◌, [], List, length, map, arith}
 use Rattle.dr_history.specs.History.{messages_of}
-use Rattle.dr_machine.specs.Group.{IsGroup}
-use Rattle.dr_program.specs.Program.{AllOk, Move, Program, end_of}
+use Rattle.dr_machine.specs.Group.{AllPresent, IsGroup}
+use Rattle.dr_program.specs.Program.{AllOk, Move, Program, end_at}
 use Rattle.dr_program.specs.Schedule.{IsLockstep}
 use Rattle.dr_program_laws.specs.Ended.{AreComplete}
 use Rattle.dr_program.specs.declared.setup.Setup.{Setup}
@@ -14,16 +13,17 @@ use Rattle.dr_restart.proofs.Groups.{few_at}
 use Rattle.dr_restart.proofs.Setups.{are_setups}
 use Rattle.dr_script.specs.declared.script.Script.{Script}
 use Rattle.dr_script.specs.Ranges.{HasRanges}
-use Rattle.dr_complete.specs.Time.{HasTime, IsLenient}
+use Rattle.dr_complete.specs.Time.{AllLenient, HasTime}
 use Rattle.dr_complete.proofs.Completeness.{completes}
+use Rattle.std.specs.Prelude.{Option}
 
 -- its setups suspect nobody, and have its patience
-lenient_setups : (script : Script) (start : Start) (nth : ℕ) (setups : List Setup) → HasRanges script
-    → HasTime script → AreSetupsOf script start nth setups → All IsLenient setups
-lenient_setups script start nth setups ranges time are k d within =
-    let s = are.each k _ (slice_get-get_or setups k d within) in record {
+lenient_setups : (script : Script) (start : Start) (nth : ℕ) (setups : List (Option Setup)) → HasRanges script
+    → HasTime script → AreSetupsOf script start nth setups → AllLenient setups
+lenient_setups script start nth setups ranges time are m t there =
+    let s = are.each m t there in record {
       patience = subst (λ n. (n ≡ 0) ⊎ (3 ≤ n)) (sym s.patience) (long ranges.patience);
-      unscripted = s.suspicions ∙ ap (λ faults. suspicions_of faults nth k) time.faultless;
+      unscripted = s.suspicions ∙ ap (λ faults. suspicions_of faults nth m) time.faultless;
     }
   where
     long : (script.patience ≡ 0) ⊎ ((3 ≤ script.patience) × (script.patience ≤ 1000000))
@@ -32,11 +32,12 @@ lenient_setups script start nth setups ranges time are k d within =
     long (inr some) = inr some.0
 
 pub completes_by_script : (script : Script) (start : Start) (nth : ℕ) (begun p : Program)
-    (es : List Move) → IsGroup (group_of script start) → HasRanges script → HasTime script
+    (es : List Move) → IsGroup (group_of script start) → AllPresent (group_of script start)
+    → HasRanges script → HasTime script
     → IsBegun script start nth begun → AllOk es → IsLockstep begun es p
-    → AreComplete (group_of script start).opening (map end_of p.members)
-completes_by_script script start nth begun p es is ranges time (setups, are, same) well run =
-    completes (group_of script start) script.turns most setups es p is
+    → AreComplete (group_of script start).opening (map end_at p.members)
+completes_by_script script start nth begun p es is whole ranges time (setups, are, same) well run =
+    completes (group_of script start) script.turns most setups es p is whole
     (are_setups script start nth setups ranges.group.lists are)
     (λ m s there. (are.each m s there).crashes
     ∙ ap (λ faults. crashes_of faults nth m) time.faultless)

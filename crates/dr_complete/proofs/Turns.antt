@@ -1,13 +1,12 @@
 -- A turn of a member, in a round in which the members below it have had theirs.
 use Rattle.std.proofs.Common.{Bool, List, None, Some, [], ap, arith, if◌then◌else◌, inl, inr, min, refl, subst, suc, sym, true, false, ℕ, ◌+◌, ◌-◌, ◌^◌, ◌==◌, ◌<◌, ◌∙◌, ◌≡◌, ◌≢◌, ◌≤◌, ◌⊎◌}
-use Rattle.std.specs.Prelude.{Any, Option, slice_get}
+use Rattle.std.specs.Prelude.{Any, Option}
 use Rattle.std.proofs.lemmas.Bool.{cases_eq, cases_lt}
 use Rattle.std.proofs.lemmas.Bool.Decides.{nat_tests}
-use Rattle.std.proofs.lemmas.Option.{slice_get_within}
 use Rattle.dr_entry.specs.declared.end.End.{End}
 use Rattle.dr_entry.specs.declared.end.End.TheVariants as ends
-use Rattle.dr_history_laws.proofs.Lists.{slice_get-some}
 use Rattle.dr_words.specs.declared.column.TheConstants.{BEAT_COLUMN, DONE_COLUMN, LOGGED_COLUMN}
+use Rattle.dr_machine.proofs.Presence.{is_present}
 use Rattle.dr_machine.specs.Group.{Group, columns, roster}
 use Rattle.dr_machine.specs.World.{World, opening_world, shown}
 use Rattle.dr_program.proofs.Holdings.{Holding, held}
@@ -31,23 +30,25 @@ use Rattle.dr_complete.proofs.DoneWords.{done_shows_all}
 use Rattle.dr_faithful.proofs.Shown.{done_is_one}
 use Rattle.dr_complete.proofs.Firsts.{IsFirst, members_are, of_members, own_first, told}
 use Rattle.dr_complete.specs.Reached.{AllShowDone}
+use Rattle.dr_program.specs.Presence.{present_at}
+use Rattle.dr_program.proofs.Present.{present_within}
 
 -- member x has taken its turn, by which p has become q
-pub record HasTaken (g : Group) (setups : List Setup) (limit most r x : ℕ) (p q : Program) : Type 0 where
+pub record HasTaken (g : Group) (setups : List (Option Setup)) (limit most r x : ℕ) (p q : Program) : Type 0 where
   pub fit : IsFit g setups limit most
   pub within : x < roster g
   pub before : IsBetween g setups most r x p
   pub turned : HasTurned g p x q
   pub start : Running
-  pub began : slice_get p.members x ≡ Some start
+  pub began : present_at p.members x ≡ Some start
   pub alive : start.replica.end ≡ None
   pub stand : AllStand setups q
-  pub whole : is_between_turns (slice_get q.members x) ≡ true
+  pub whole : is_between_turns (present_at q.members x) ≡ true
 
 -- ---- the others
 
 -- the others are as they were
-others_same : {g : Group} {setups : List Setup} {limit most r x : ℕ} {p q : Program}
+others_same : {g : Group} {setups : List (Option Setup)} {limit most r x : ℕ} {p q : Program}
     → HasTaken g setups limit most r x p q → (i : ℕ) → i ≢ x
     → held (world g q) i ≡ held (world g p) i
 others_same {g = g} {p = p} {q = q} t i other = same_held g p q i (t.turned.others i other)
@@ -82,12 +83,12 @@ uncrashed limit turns end (inl (inr is_done)) e = cc
 uncrashed limit turns end (inr spent) e = spent.1 e
 
 -- so it is with the member that has taken its turn
-end_so : {g : Group} {setups : List Setup} {limit most r x : ℕ} {p q : Program}
+end_so : {g : Group} {setups : List (Option Setup)} {limit most r x : ℕ} {p q : Program}
     → HasTaken g setups limit most r x p q
     → IsUprightOrSpent limit ((world g q).turns x) ((world g q).end x)
 end_so {g = g} {setups = setups} {limit = limit} {x = x} {q = q} t =
     let member = member_at g q x t.turned.steady t.within in
-    let setup = slice_get-some setups x (omega (arith, t.within, t.fit.are.all)) in
+    let setup = t.fit.are.there x t.within (is_present g x t.turned.steady.whole t.within) in
     let end = of_there q (λ z. z.end) (opening_world g).end x member.0 member.1 in
     let turns = of_there q (λ z. z.turns) (opening_world g).turns x member.0 member.1 in
     let bound = (t.fit.are.each x setup.0 setup.1).turns in
@@ -96,7 +97,7 @@ end_so {g = g} {setups = setups} {limit = limit} {x = x} {q = q} t =
     (sym (ap has_log_end end) ∙ t.turned.logs) (t.turned.ease x member.0 member.1).kept)
 
 -- so it has nothing left to do
-has_rested : {g : Group} {setups : List Setup} {limit most r x : ℕ} {p q : Program}
+has_rested : {g : Group} {setups : List (Option Setup)} {limit most r x : ℕ} {p q : Program}
     → HasTaken g setups limit most r x p q → IsRested g (world g q) x
 has_rested {g = g} {limit = limit} {x = x} {q = q} t = by t.turned.rested
   where
@@ -108,16 +109,16 @@ has_rested {g = g} {limit = limit} {x = x} {q = q} t = by t.turned.rested
 -- ---- what was pushed
 
 -- everybody is in the first view before the turn, and behind it
-first_before : {g : Group} {setups : List Setup} {limit most r x : ℕ} {p q : Program}
+first_before : {g : Group} {setups : List (Option Setup)} {limit most r x : ℕ} {p q : Program}
     → HasTaken g setups limit most r x p q → IsFirst g (world g p)
 first_before {g = g} {p = p} t = first_of g p t.before.paused.steady t.before.paused.ease
 
-first_behind : {g : Group} {setups : List Setup} {limit most r x : ℕ} {p q : Program}
+first_behind : {g : Group} {setups : List (Option Setup)} {limit most r x : ℕ} {p q : Program}
     → HasTaken g setups limit most r x p q → IsFirst g (world g q)
 first_behind {g = g} {q = q} t = first_of g q t.turned.steady t.turned.ease
 
 -- the words of the others in the table are as they were
-others_stay : {g : Group} {setups : List Setup} {limit most r x : ℕ} {p q : Program}
+others_stay : {g : Group} {setups : List (Option Setup)} {limit most r x : ℕ} {p q : Program}
     → HasTaken g setups limit most r x p q → (i j c : ℕ) → i ≢ x → i < roster g → j < roster g → j ≢ i
     → c < columns g → (world g q).table 0 j i c ≡ (world g p).table 0 j i c
 others_stay {g = g} {p = p} {q = q} t i j c d a b other inside =
@@ -128,7 +129,7 @@ others_stay {g = g} {p = p} {q = q} t i j c d a b other inside =
     ∙ t.before.paused.steady.pushes i member.0 member.1 j c b other inside)
 
 -- so all words are pushed as before, and those of the member as it leaves them
-still_pushed : {g : Group} {setups : List Setup} {limit most r x : ℕ} {p q : Program}
+still_pushed : {g : Group} {setups : List (Option Setup)} {limit most r x : ℕ} {p q : Program}
     → HasTaken g setups limit most r x p q → ArePushed g (world g q)
 still_pushed {g = g} {x = x} {q = q} t i j c a b other inside apart begun = by (cases_eq i x)
   where
@@ -148,7 +149,7 @@ still_pushed {g = g} {x = x} {q = q} t i j c a b other inside apart begun = by (
         ∙ ap (λ (h : Holding). h.own 0 c) (sym same)
 
 -- and the member sees them so
-sees_own : {g : Group} {setups : List Setup} {limit most r x : ℕ} {p q : Program}
+sees_own : {g : Group} {setups : List (Option Setup)} {limit most r x : ℕ} {p q : Program}
     → HasTaken g setups limit most r x p q → (i c : ℕ) → i < roster g → i ≢ x → c < columns g
     → c ≢ BEAT_COLUMN → (c ≡ LOGGED_COLUMN → 1 ≤ (world g q).turns i)
     → (world g q).seen x i c ≡ (world g q).past.own i 0 c
@@ -160,7 +161,7 @@ sees_own {g = g} {x = x} {q = q} t i c a other inside apart begun =
 -- ---- where all show done
 
 -- they go on to do so
-still_show : {g : Group} {setups : List Setup} {limit most r x : ℕ} {p q : Program}
+still_show : {g : Group} {setups : List (Option Setup)} {limit most r x : ℕ} {p q : Program}
     → HasTaken g setups limit most r x p q → ShowDone g (world g p) → ShowDone g (world g q)
 still_show {g = g} {x = x} {p = p} {q = q} t shows i a = by (cases_eq i x)
   where
@@ -176,7 +177,7 @@ still_show {g = g} {x = x} {p = p} {q = q} t shows i a = by (cases_eq i x)
     by (inr d) = ap (λ (h : Holding). h.own 0 DONE_COLUMN) (others_same t i d) ∙ shows i a
 
 -- and the member, which sees them all, has ended as done
-ends_done : {g : Group} {setups : List Setup} {limit most r x : ℕ} {p q : Program}
+ends_done : {g : Group} {setups : List (Option Setup)} {limit most r x : ℕ} {p q : Program}
     → HasTaken g setups limit most r x p q → ShowDone g (world g q)
     → (world g q).end x ≡ Some ends.Done
 ends_done {g = g} {x = x} {q = q} t shows =
@@ -197,7 +198,7 @@ ends_done {g = g} {x = x} {q = q} t shows =
 -- ---- where nobody has ended
 
 -- before the turn each other member has had r turns, or one more
-went : {g : Group} {setups : List Setup} {limit most r x : ℕ} {p q : Program}
+went : {g : Group} {setups : List (Option Setup)} {limit most r x : ℕ} {p q : Program}
     → HasTaken g setups limit most r x p q → IsGoing g most r x (world g p) → (i : ℕ) → i < roster g
     → i ≢ x → (r ≤ (world g q).turns i) × IsAlong g most r i (held (world g q) i)
 went {g = g} {most = most} {r = r} {x = x} {p = p} t go i a other =
@@ -210,7 +211,7 @@ went {g = g} {most = most} {r = r} {x = x} {p = p} t go i a other =
     by (inr l) = let ahead = go.ahead i a l in (omega (arith, ahead.0), ahead.1)
 
 -- so the turn brings the member on
-comes_on : {g : Group} {setups : List Setup} {limit most r x : ℕ} {p q : Program}
+comes_on : {g : Group} {setups : List (Option Setup)} {limit most r x : ℕ} {p q : Program}
     → HasTaken g setups limit most r x p q → IsGoing g most r x (world g p)
     → HasGone g most (r + 1) x (held (world g q) x)
 comes_on {g = g} {most = most} {r = r} {x = x} {q = q} t go = (
@@ -231,7 +232,7 @@ comes_on {g = g} {most = most} {r = r} {x = x} {q = q} t go = (
     turns = t.turned.turns ∙ ap (λ n. n + 1) (go.ahead x t.within (omega arith)).0
 
 -- the member goes on, or has ended as done
-stays_upright : {g : Group} {setups : List Setup} {limit most r x : ℕ} {p q : Program}
+stays_upright : {g : Group} {setups : List (Option Setup)} {limit most r x : ℕ} {p q : Program}
     → HasTaken g setups limit most r x p q → IsUpright ((world g q).end x)
 stays_upright {g = g} {limit = limit} {most = most} {r = r} {x = x} {p = p} {q = q} t =
     by t.before.state (end_so t)
@@ -249,7 +250,7 @@ stays_upright {g = g} {limit = limit} {most = most} {r = r} {x = x} {p = p} {q =
     ))
 
 -- where it goes on, so do all
-goes_on : {g : Group} {setups : List Setup} {limit most r x : ℕ} {p q : Program}
+goes_on : {g : Group} {setups : List (Option Setup)} {limit most r x : ℕ} {p q : Program}
     → HasTaken g setups limit most r x p q → IsGoing g most r x (world g p)
     → (world g q).end x ≡ None → IsGoing g most r (x + 1) (world g q)
 goes_on {g = g} {most = most} {r = r} {x = x} {p = p} {q = q} t go none = record {
@@ -275,9 +276,9 @@ goes_on {g = g} {most = most} {r = r} {x = x} {p = p} {q = q} t go none = record
 -- ---- waiting
 
 -- the members that haven't had the turn are as they were
-member_same : {g : Group} {setups : List Setup} {limit most r x : ℕ} {p q : Program}
-    → HasTaken g setups limit most r x p q → (m : ℕ) (y : Running) → m ≢ x → slice_get q.members m ≡ Some y
-    → slice_get p.members m ≡ Some y
+member_same : {g : Group} {setups : List (Option Setup)} {limit most r x : ℕ} {p q : Program}
+    → HasTaken g setups limit most r x p q → (m : ℕ) (y : Running) → m ≢ x → present_at q.members m ≡ Some y
+    → present_at p.members m ≡ Some y
 member_same t m y other there = sym (t.turned.others m other) ∙ there
 
 -- the member compares what it has seen with what it sees now, and that differs
@@ -294,8 +295,8 @@ newly count last beat (inr less) = by (beat == last) refl
     by false e = omega arith
 
 -- between turns members have waited so
-still_waits : {g : Group} {setups : List Setup} {limit most r x : ℕ} {p q : Program}
-    → HasTaken g setups limit most r x p q → (m : ℕ) (y : Running) → slice_get q.members m ≡ Some y
+still_waits : {g : Group} {setups : List (Option Setup)} {limit most r x : ℕ} {p q : Program}
+    → HasTaken g setups limit most r x p q → (m : ℕ) (y : Running) → present_at q.members m ≡ Some y
     → HasWaited g (world g q) m y
 still_waits {g = g} {limit = limit} {most = most} {r = r} {x = x} {p = p} {q = q} t m y there =
     by (cases_eq m x)
@@ -320,7 +321,7 @@ still_waits {g = g} {limit = limit} {most = most} {r = r} {x = x} {p = p} {q = q
         ∙ ap (λ v. (world g q).table v x i BEAT_COLUMN) ((first_behind t).view x)
         ∙ others_stay t i x BEAT_COLUMN d l t.within (λ e. d (sym e)) (omega arith)
 
-    own : (v : Running) → slice_get q.members x ≡ Some v → HasWaited g (world g q) x v
+    own : (v : Running) → present_at q.members x ≡ Some v → HasWaited g (world g q) x v
     own v here = record {
       limit = subst (λ n. (n ≡ 0) ⊎ (3 ≤ n)) (sym (t.turned.limit t.start v t.began here)) before.limit;
       beat = λ i l d. (compared i l d).beat;
@@ -365,7 +366,7 @@ still_waits {g = g} {limit = limit} {most = most} {r = r} {x = x} {p = p} {q = q
         }
 
 -- where nobody has ended, whoever has had a turn since has news
-still_fresh : {g : Group} {setups : List Setup} {limit most r x : ℕ} {p q : Program}
+still_fresh : {g : Group} {setups : List (Option Setup)} {limit most r x : ℕ} {p q : Program}
     → HasTaken g setups limit most r x p q → ((i : ℕ) → i < roster g → (world g q).end i ≡ None)
     → AreFresh g (x + 1) q
 still_fresh {g = g} {x = x} {p = p} {q = q} t unended m i y there l d since =
@@ -393,7 +394,7 @@ still_fresh {g = g} {x = x} {p = p} {q = q} t unended m i y there l d since =
       t.turned.beats,
       subst (λ v. (world g q).table v m x BEAT_COLUMN ≡ (world g q).past.own x v BEAT_COLUMN)
           ((first_behind t).view x) ((has_rested t).pushed m BEAT_COLUMN
-          (omega (arith, slice_get_within q.members m y there, t.turned.steady.program.all)) other
+          (omega (arith, present_within q.members m y there, t.turned.steady.program.all)) other
           (omega arith)
           (λ z. unended x t.within)),
     )))
@@ -422,7 +423,7 @@ still_fresh {g = g} {x = x} {p = p} {q = q} t unended m i y there l d since =
           less,
           seen_same other,
           others_stay t i m BEAT_COLUMN apart l
-              (omega (arith, slice_get_within q.members m y there, t.turned.steady.program.all)) (λ e. d
+              (omega (arith, present_within q.members m y there, t.turned.steady.program.all)) (λ e. d
               (sym e))
               (omega arith),
         ))
@@ -430,7 +431,7 @@ still_fresh {g = g} {x = x} {p = p} {q = q} t unended m i y there l d since =
 -- ---- the turn
 
 -- behind the turn of member x the program is between turns again, with one member more that has had its own
-pub turn_keeps : {g : Group} {setups : List Setup} {limit most r x : ℕ} {p q : Program}
+pub turn_keeps : {g : Group} {setups : List (Option Setup)} {limit most r x : ℕ} {p q : Program}
     → HasTaken g setups limit most r x p q → IsBetween g setups most r (x + 1) q
 turn_keeps {g = g} {most = most} {r = r} {x = x} {p = p} {q = q} t = record {
   paused = record {
@@ -447,11 +448,11 @@ turn_keeps {g = g} {most = most} {r = r} {x = x} {p = p} {q = q} t = record {
   state = state t.before.state (stays_upright t);
 }
   where
-    well : (m : ℕ) (y : Running) → slice_get q.members m ≡ Some y → (m ≡ x) ⊎ (m ≢ x) → y.failed ≡ None
+    well : (m : ℕ) (y : Running) → present_at q.members m ≡ Some y → (m ≡ x) ⊎ (m ≢ x) → y.failed ≡ None
     well m y there (inl e) = t.turned.well y (rw e at there)
     well m y there (inr d) = t.before.paused.well m y (sym (t.turned.others m d) ∙ there)
 
-    between : (m : ℕ) → (m ≡ x) ⊎ (m ≢ x) → is_between_turns (slice_get q.members m) ≡ true
+    between : (m : ℕ) → (m ≡ x) ⊎ (m ≢ x) → is_between_turns (present_at q.members m) ≡ true
     between m (inl e) = rw e t.whole
     between m (inr d) = ap is_between_turns (t.turned.others m d) ∙ t.before.paused.whole m
 

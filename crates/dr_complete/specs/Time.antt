@@ -1,5 +1,6 @@
 -- Scripts and setups whose members come to the end of their work.
-use Rattle.std.specs.Prelude.{◌≡◌, ◌⊎◌, ◌+◌, ◌*◌, ◌≤◌, [], All, length}
+use Rattle.std.specs.Prelude.{◌≡◌, ◌⊎◌, ℕ, ◌+◌, ◌*◌, ◌≤◌, [], All, List, Option, Some, length}
+use Rattle.dr_program.specs.Presence.{present_at}
 use Rattle.dr_program.specs.declared.setup.Setup.{Setup}
 use Rattle.dr_script.specs.declared.script.Script.{Script}
 use Rattle.dr_script.specs.declared.script.Schedule.TheVariants.{Lockstep}
@@ -15,3 +16,7 @@ pub record HasTime (s : Script) : Type 0 where
 pub record IsLenient (s : Setup) : Type 0 where
   pub patience : (s.patience ≡ 0) ⊎ (3 ≤ s.patience)
   pub unscripted : s.suspicions ≡ []
+
+-- so it is with all these setups
+abbrev pub AllLenient : List (Option Setup) → Type 0
+AllLenient setups = (m : ℕ) (s : Setup) → present_at setups m ≡ Some s → IsLenient s

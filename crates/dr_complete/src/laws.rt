@@ -1,5 +1,5 @@
 //! Laws of groups that lose nothing.
-ghost use Rattle.std.specs.Prelude.{◌≡◌, ℕ, ◌+◌, ◌*◌, ◌^◌, ◌<◌, ◌≤◌, ◌++◌, All, List, [], length, map, slice_get, Some};
+ghost use Rattle.std.specs.Prelude.{◌≡◌, ℕ, ◌+◌, ◌*◌, ◌^◌, ◌<◌, ◌≤◌, ◌++◌, List, [], length, map, slice_get, Some, Option};
 ghost use Rattle.dr_complete.specs.Reached.{AllShowDone, RingsKeep, SeesSlot};
 ghost use Rattle.dr_entry.specs.declared.end.End.TheVariants.{Done};
 ghost use Rattle.dr_entry.specs.declared.end.MemberEnd.{MemberEnd};
@@ -9,14 +9,14 @@ ghost use Rattle.dr_history.specs.declared.opening.Opening.{Opening};
 ghost use Rattle.dr_history.specs.Order.{first_entries};
 ghost use Rattle.dr_history.specs.Restarting.{AreLeftBy, IsLongest};
 ghost use Rattle.dr_history_laws.specs.Remaining.{messages_left, remaining};
-ghost use Rattle.dr_machine.specs.Group.{Group, IsGroup, IsPresent, roster};
+ghost use Rattle.dr_machine.specs.Group.{AllPresent, Group, IsGroup, IsPresent, roster};
 ghost use Rattle.dr_machine.specs.Guards.{IsOther, seen_slot};
 ghost use Rattle.dr_machine.specs.Run.{IsReached};
 ghost use Rattle.dr_machine.specs.World.{World, items_received};
 ghost use Rattle.dr_program.specs.declared.setup.Setup.{Setup};
-ghost use Rattle.dr_program.specs.Program.{AllOk, AreSetups, Move, Program, begun_program, end_of};
+ghost use Rattle.dr_program.specs.Program.{AllOk, AreSetups, Move, Program, begun_program, end_at};
 ghost use Rattle.dr_program.specs.Schedule.{IsLockstep};
-ghost use Rattle.dr_complete.specs.Time.{HasTime, IsLenient};
+ghost use Rattle.dr_complete.specs.Time.{AllLenient, HasTime};
 ghost use Rattle.dr_program_laws.specs.Ended.{AreComplete, IsComplete};
 ghost use Rattle.dr_restart.specs.declared.start.Start.{Start};
 ghost use Rattle.dr_restart.specs.Groups.{group_of};
@@ -24,6 +24,7 @@ ghost use Rattle.dr_restart.specs.Setups.{IsBegun};
 ghost use Rattle.dr_script.specs.declared.script.Script.{Script};
 ghost use Rattle.dr_script.specs.Ranges.{HasRanges};
 ghost use Rattle.dr_ring.specs.Slots.{IsReady};
+ghost use Rattle.dr_program.specs.Presence.{present_at};
 
 /// In every world that is reached the ring of each member has the pieces of every item that it has put,
 /// or of later ones in their place.
@@ -47,26 +48,26 @@ pub fn all_show_done_where_one_has_ended()
         → w.end m ≡ Some Done → AllShowDone w (w.past.view m) (w.members m) }
 {}
 
-/// In lockstep, with every patience that lasts for three turns, where no member is to crash or to suspect
-/// anybody by its setup and all appends go well, no member has more than `most` messages left, and each may
-/// take three turns for each of these and three more, every member ends as done. Its history is the start,
-/// View 0, and the merge of all that the start leaves, and all of it is logged and durable.
+/// In lockstep, with every patience that lasts for three turns, where all of the roster are there, no member is
+/// to crash or to suspect anybody by its setup and all appends go well, no member has more than `most` messages
+/// left, and each may take three turns for each of these and three more, every member ends as done. Its history
+/// is the start, View 0, and the merge of all that the start leaves, and all of it is logged and durable.
 pub fn lockstep_completes()
-    ensures { (g : Group) (limit most : ℕ) (setups : List Setup) (es : List Move) (p : Program)
-        → IsGroup g → AreSetups g limit setups
-        → ((m : ℕ) (s : Setup) → slice_get setups m ≡ Some s → s.crashes ≡ []) → All IsLenient setups
+    ensures { (g : Group) (limit most : ℕ) (setups : List (Option Setup)) (es : List Move) (p : Program)
+        → IsGroup g → AllPresent g → AreSetups g limit setups
+        → ((m : ℕ) (s : Setup) → present_at setups m ≡ Some s → s.crashes ≡ []) → AllLenient setups
         → ((s : ℕ) → messages_left g.opening s ≤ most) → 3 * most + 3 ≤ limit → limit < 2 ^ 32
         → AllOk es → IsLockstep (begun_program g setups) es p → (m : ℕ) (e : MemberEnd)
-        → slice_get (map end_of p.members) m ≡ Some e → IsComplete g.opening e }
+        → slice_get (map end_at p.members) m ≡ Some e → IsComplete g.opening e }
 {}
 
-/// So do the members of a script that gives them time enough, from every sound start, where all appends go
-/// well.
+/// So do the members of a script that gives them time enough, from every sound start of the whole roster, where
+/// all appends go well.
 pub fn scripts_complete()
     ensures { (script : Script) (start : Start) (nth : ℕ) (begun p : Program) (es : List Move)
-        → IsGroup (group_of script start) → HasRanges script → HasTime script
-        → IsBegun script start nth begun → AllOk es → IsLockstep begun es p
-        → AreComplete (group_of script start).opening (map end_of p.members) }
+        → IsGroup (group_of script start) → AllPresent (group_of script start) → HasRanges script
+        → HasTime script → IsBegun script start nth begun → AllOk es → IsLockstep begun es p
+        → AreComplete (group_of script start).opening (map end_at p.members) }
 {}
 
 /// Where all members of an age are complete, whatever they leave of their logs makes the next age start with

@@ -1,5 +1,5 @@
 -- The logs of members that run: what comes of each while its member takes its deeds.
-use Rattle.std.specs.Prelude.{◌≡◌, ◌≢◌, ℕ, ◌+◌, ◌*◌, ◌-◌, ◌<◌, ◌≤◌, max, true, false, List, ◌++◌, length, take, slice_get, slice_index_or, Option, None, Some}
+use Rattle.std.specs.Prelude.{◌≡◌, ◌≢◌, ℕ, ◌+◌, ◌*◌, ◌-◌, ◌<◌, ◌≤◌, max, true, false, List, ◌++◌, length, take, slice_get, slice_index_or, Option, None, Some, is_some}
 use Rattle.dr_entry.specs.declared.entry.Entry.{Entry}
 use Rattle.dr_entry.specs.declared.entry.Entry.TheVariants.{View}
 use Rattle.dr_entry.specs.declared.record.Record.{Record}
@@ -16,6 +16,7 @@ use Rattle.dr_log_bytes.specs.Grammar.{StandFor}
 use Rattle.dr_program.specs.declared.deed.Deed.TheVariants as deeds
 use Rattle.dr_program.specs.declared.outcome.LogWhy.{LogWhy}
 use Rattle.dr_program.specs.declared.outcome.LogWhy.TheVariants as whys
+use Rattle.dr_program.specs.Presence.{present_at}
 use Rattle.dr_program.specs.Program.{Program}
 use Rattle.dr_program.specs.Replica.{Replica, may_vote, value_due, vote_of}
 use Rattle.dr_program.specs.Running.{Running, append_or_end, next_deed, next_step}
@@ -124,19 +125,27 @@ AppendsWell r = (due : Record) → next_deed r ≡ deeds.Append due → IsValid 
 
 -- what is so of member m of the program
 abbrev pub AtMember : Program → ℕ → (Running → Type 0) → Type 0
-AtMember p m P = (r : Running) → slice_get p.members m ≡ Some r → P r
+AtMember p m P = (r : Running) → present_at p.members m ≡ Some r → P r
 
--- each log is ready for the member of its number
-pub record AreReady {D : Type 0} (logs : List (LogState D)) (members : List Running) : Type 0 where
+-- each member has a log at its number, which is ready for it
+pub record AreReady {D : Type 0} (logs : List (Option (LogState D))) (members : List (Option Running))
+    : Type 0 where
   pub all : length logs ≡ length members
-  pub each : (m : ℕ) (log : LogState D) (r : Running) → slice_get logs m ≡ Some log
-      → slice_get members m ≡ Some r → IsReady log r
+  pub there : (m : ℕ) (r : Running) → present_at members m ≡ Some r
+      → (log : LogState D) × (present_at logs m ≡ Some log)
+  pub each : (m : ℕ) (log : LogState D) (r : Running) → present_at logs m ≡ Some log
+      → present_at members m ≡ Some r → IsReady log r
+
+-- there is a log at each place at which there was one, and no other
+pub record HaveSamePlaces {D : Type 0} (olds news : List (Option (LogState D))) : Type 0 where
+  pub all : length news ≡ length olds
+  pub each : (m : ℕ) → is_some (present_at news m) ≡ is_some (present_at olds m)
 
 -- each log has served the member of its number, since these bases
-abbrev pub HaveServed : {D : Type 0} → (D → Option Told) → (D → ℕ) → List (LogState D)
-    → List (LogState D) → List Running → Type 0
+abbrev pub HaveServed : {D : Type 0} → (D → Option Told) → (D → ℕ) → List (Option (LogState D))
+    → List (Option (LogState D)) → List (Option Running) → Type 0
 HaveServed {D} told faults bases logs members = (m : ℕ) (base log : LogState D) (r : Running)
-    → slice_get bases m ≡ Some base → slice_get logs m ≡ Some log → slice_get members m ≡ Some r
+    → present_at bases m ≡ Some base → present_at logs m ≡ Some log → present_at members m ≡ Some r
     → HasServed told faults base log r
 
 -- a log got room for all that its member may still append, and is else as it was: what it has is safe where
@@ -155,8 +164,8 @@ pub record IsRoomy {D : Type 0} (told : D → Option Told) (faults : D → ℕ) 
   pub calm : faults new.disk ≡ faults old.disk
   pub safe : old.failed ≡ false → IsSafe told new
 
-abbrev pub AreRoomy : {D : Type 0} → (D → Option Told) → (D → ℕ) → List Running → List (LogState D)
-    → List (LogState D) → Type 0
+abbrev pub AreRoomy : {D : Type 0} → (D → Option Told) → (D → ℕ) → List (Option Running)
+    → List (Option (LogState D)) → List (Option (LogState D)) → Type 0
 AreRoomy {D} told faults members olds news = (m : ℕ) (r : Running) (old new : LogState D)
-    → slice_get members m ≡ Some r → slice_get olds m ≡ Some old → slice_get news m ≡ Some new
+    → present_at members m ≡ Some r → present_at olds m ≡ Some old → present_at news m ≡ Some new
     → IsRoomy told faults r old new

@@ -16,6 +16,8 @@ use Rattle.dr_rows.specs.Words.{own, seen}
 use Rattle.dr_machine.specs.Group.{Group, roster}
 use Rattle.dr_machine.specs.World.{World, opening_world}
 use Rattle.dr_program.specs.Replica.{Replica, me, count, item, promise}
+use Rattle.dr_program.specs.Presence.{present_at, with_present}
+use Rattle.dr_program.proofs.Present.{present_kept, present_set}
 use Rattle.dr_program.specs.Reading.{world_of, word_of, in_view, kept_count, kept_word, left_in}
 
 -- all that the world has of one member
@@ -134,20 +136,18 @@ holding_of g r =
     }
 
 -- the world has of a member what its replica has
-pub held_of : (g : Group) (rs : List Replica) (table : List ℕ) (m : ℕ) (r : Replica) → slice_get rs m
-    ≡ Some r
-    → held (world_of g rs table) m ≡ holding_of g r
+pub held_of : (g : Group) (rs : List (Option Replica)) (table : List ℕ) (m : ℕ) (r : Replica)
+    → present_at rs m ≡ Some r → held (world_of g rs table) m ≡ holding_of g r
 held_of g rs table m r e = rw e refl
 
--- and of a number that no replica has, what the opening has
-pub held_past : (g : Group) (rs : List Replica) (table : List ℕ) (m : ℕ) → slice_get rs m ≡ None
-    → held (world_of g rs table) m ≡ held (opening_world g) m
+-- and of a member that is absent, what the opening has
+pub held_past : (g : Group) (rs : List (Option Replica)) (table : List ℕ) (m : ℕ)
+    → present_at rs m ≡ None → held (world_of g rs table) m ≡ held (opening_world g) m
 held_past g rs table m e = rw e refl
 
 -- the same where two lists have the same replica
-pub held_same : (g : Group) (rs qs : List Replica) (table cells : List ℕ) (m : ℕ) → slice_get rs m
-    ≡ slice_get qs m
-    → held (world_of g rs table) m ≡ held (world_of g qs cells) m
+pub held_same : (g : Group) (rs qs : List (Option Replica)) (table cells : List ℕ) (m : ℕ)
+    → present_at rs m ≡ present_at qs m → held (world_of g rs table) m ≡ held (world_of g qs cells) m
 held_same g rs qs table cells m e = rw e refl
 
 -- the replica that was set, and the others
@@ -173,14 +173,14 @@ pub record Changes (w v : World) (m : ℕ) (after : Holding) : Type 0 where
   pub here : held v m ≡ after
 
 -- where one replica is replaced, the world is the one in which it alone is changed
-pub changed_world : (g : Group) (rs : List Replica) (table cells : List ℕ) (m : ℕ) (r : Replica)
+pub changed_world : (g : Group) (rs : List (Option Replica)) (table cells : List ℕ) (m : ℕ) (r : Replica)
     (v : World) → m < length rs
     → Changes (world_of g rs table) v m (holding_of g r) → word_of g cells ≡ v.table
-    → world_of g (slice_set rs m r) cells ≡ v
+    → world_of g (with_present rs m r) cells ≡ v
 changed_world g rs table cells m r v within changes cell =
-    same_worlds (world_of g (slice_set rs m r) cells) v (λ k. elim (cases_eq k m) [
-      | inl same ↦ rw same (held_of g (slice_set rs m r) cells m r (replica_set rs m r within)
+    same_worlds (world_of g (with_present rs m r) cells) v (λ k. elim (cases_eq k m) [
+      | inl same ↦ rw same (held_of g (with_present rs m r) cells m r (present_set rs m r within)
           ∙ sym changes.here)
-      | inr other ↦ held_same g (slice_set rs m r) rs cells table k (replica_kept rs m k r other)
+      | inr other ↦ held_same g (with_present rs m r) rs cells table k (present_kept rs m k r other)
           ∙ sym (changes.others k other)
     ]) cell

@@ -1,3 +1,4 @@
+pub mod Present
 pub mod Runs
 pub mod Fixed
 pub mod Holdings

@@ -2,12 +2,11 @@
 use Rattle.std.proofs.Common.{◌≡◌, refl, ap, ◌∙◌, ℕ, zero, suc, ◌+◌, ◌*◌, ◌<◌, ◌≤◌, ◌==◌, ◌&&◌, if◌then◌else◌, inl, inr, List, [], ◌∷◌, length, replicate, map, arith}
 use Rattle.std.proofs.Math.Path.{fun_ext}
 use Rattle.std.proofs.Math.Seq.{take-length}
-use Rattle.std.specs.Prelude.{Option, Some, None, nat_lt, slice_get, slice_index_or, option_map}
+use Rattle.std.specs.Prelude.{Option, Some, None, nat_lt, slice_index_or, option_map}
 use Rattle.std.specs.List.{range_with_len}
 use Rattle.std.proofs.lemmas.Bool.{cases_lt, cases_eq}
 use Rattle.std.proofs.lemmas.Bool.Decides.{nat_tests}
 use Rattle.std.proofs.lemmas.List.{get_or-replicate, get_or_past, length-replicate}
-use Rattle.std.proofs.lemmas.Option.{slice_get_within}
 use Rattle.dr_entry.specs.declared.entry.Item.TheVariants.{Null}
 use Rattle.dr_history.specs.History.{messages_of}
 use Rattle.dr_history.specs.Order.{first_entries}
@@ -23,6 +22,8 @@ use Rattle.dr_machine.specs.World.{opening_world}
 use Rattle.dr_program.specs.Replica.{Replica, begun_replica}
 use Rattle.dr_program.specs.Running.{Running, begun_running}
 use Rattle.dr_program.specs.Program.{IsSetup, AreSetups, begun_program}
+use Rattle.dr_program.specs.Presence.{present_at}
+use Rattle.dr_program.proofs.Present.{present_within}
 use Rattle.dr_program.specs.Reading.{world, world_of, word_of}
 use Rattle.dr_program.proofs.Holdings.{held, holding_of, held_of, held_past, same_worlds}
 use Rattle.dr_program.proofs.OwnWords.{both_same, own_with, seen_with, same_number, other_number}
@@ -157,33 +158,35 @@ empty_table g n = fun_ext λ v. fun_ext λ j. fun_ext λ i. fun_ext λ c.
     && (nat_lt i (roster g) && nat_lt c (columns g))) 0)
 
 -- the replicas as the age opens
-abbrev begun_replicas : List Setup → List Replica
-begun_replicas setups = map (λ (r : Running). r.replica) (map begun_running setups)
+abbrev begun_replicas : List (Option Setup) → List (Option Replica)
+begun_replicas setups =
+    map (option_map (λ (r : Running). r.replica)) (map (option_map begun_running) setups)
 
-begun_get : (setups : List Setup) (m : ℕ) → slice_get (begun_replicas setups) m
-    ≡ option_map begun_replica (slice_get setups m)
+begun_get : (setups : List (Option Setup)) (m : ℕ) → present_at (begun_replicas setups) m
+    ≡ option_map begun_replica (present_at setups m)
 begun_get [] m = refl
-begun_get (s ∷ setups) zero = refl
-begun_get (s ∷ setups) (suc m) = begun_get setups m
+begun_get (None ∷ setups) zero = refl
+begun_get (Some s ∷ setups) zero = refl
+begun_get (o ∷ setups) (suc m) = begun_get setups m
 
-begun_member : (g : Group) (limit : ℕ) (setups : List Setup) (table : List ℕ) (m : ℕ) → IsGroup g
+begun_member : (g : Group) (limit : ℕ) (setups : List (Option Setup)) (table : List ℕ) (m : ℕ) → IsGroup g
     → AreSetups g limit setups
     → held (world_of g (begun_replicas setups) table) m ≡ held (opening_world g) m
-begun_member g limit setups table m is are = by (slice_get setups m) refl
+begun_member g limit setups table m is are = by (present_at setups m) refl
   where
-    by : (o : Option Setup) → slice_get setups m ≡ o
+    by : (o : Option Setup) → present_at setups m ≡ o
         → held (world_of g (begun_replicas setups) table) m ≡ held (opening_world g) m
     by None e = held_past g (begun_replicas setups) table m
         (begun_get setups m ∙ ap (option_map begun_replica) e)
     by (Some s) e =
-        let within : m < roster g = omega (arith, slice_get_within setups m s e, are.all) in
+        let within : m < roster g = omega (arith, present_within setups m s e, are.all) in
         held_of g (begun_replicas setups) table m (begun_replica s)
         (begun_get setups m ∙ ap (option_map begun_replica) e)
         ∙ ap (λ x. holding_of g (begun_replica x)) (setup_is g limit m s (are.each m s e))
         ∙ begun_holding g limit m s.shape s is (shape_is g limit m s (are.each m s e)) within
 
 -- a program begins in the world as the age opens
-pub begins_at_the_opening : (g : Group) (limit : ℕ) (setups : List Setup) → IsGroup g
+pub begins_at_the_opening : (g : Group) (limit : ℕ) (setups : List (Option Setup)) → IsGroup g
     → AreSetups g limit setups
     → world g (begun_program g setups) ≡ opening_world g
 begins_at_the_opening g limit setups is are =

@@ -1,3 +1,4 @@
+pub mod Presence
 pub mod Replica
 pub mod Acts
 pub mod Steps

@@ -1,10 +1,11 @@
 -- A program over a net: its members are on different machines. Each has its own copy of the table, which it
 -- alone reads; what another member pushes to it comes later, more than once, or never.
-use Rattle.std.specs.Prelude.{◌≡◌, ◌⊎◌, ℕ, ◌<◌, Contains, List, [], ◌∷◌, max, slice_get, slice_index, slice_set, Some}
+use Rattle.std.specs.Prelude.{◌≡◌, ◌⊎◌, ℕ, ◌<◌, Contains, List, [], ◌∷◌, max, slice_index, slice_set, Some}
 use Rattle.dr_rows.specs.Words.{own}
 use Rattle.dr_words.specs.Layout.{word_index_of}
 use Rattle.dr_machine.specs.declared.step.Step.TheVariants.{Push}
 use Rattle.dr_machine.specs.Group.{Group, banks, columns, roster}
+use Rattle.dr_program.specs.Presence.{present_at}
 use Rattle.dr_program.specs.Program.{Move, Program, step_of}
 use Rattle.dr_program.specs.Reading.{step_of_member}
 use Rattle.dr_program.specs.Running.{Running}
@@ -12,14 +13,14 @@ use Rattle.dr_program.specs.Running.{Running}
 -- member m of one of these programs was in this view, and this was its own word of the column
 abbrev pub HadWord : List Program → ℕ → ℕ → ℕ → ℕ → Type 0
 HadWord programs m v c word =
-    (p : Program) × Contains programs p × (r : Running) × (slice_get p.members m ≡ Some r)
+    (p : Program) × Contains programs p × (r : Running) × (present_at p.members m ≡ Some r)
     × (r.replica.view ≡ v) × (own r.replica.rows c ≡ word)
 
 -- a member has pushed a word, and it is on its way: no copy has it yet
 pub record IsOnItsWay (p q : Program) : Type 0 where
   pub move : Move
   pub member : Running
-  pub there : slice_get p.members move.member ≡ Some member
+  pub there : present_at p.members move.member ≡ Some member
   pub to : ℕ
   pub column : ℕ
   pub push : step_of_member member ≡ Some (Push to column)

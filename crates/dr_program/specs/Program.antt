@@ -1,5 +1,5 @@
 -- A program: the members of a group as they run, over the words of one table, and its runs.
-use Rattle.std.specs.Prelude.{◌≡◌, ℕ, ◌+◌, IsTrue, All, List, [], ◌∷◌, ◌++◌, length, map, fold, replicate, slice_get, slice_set, Option, None, Some, is_some, unwrap_or}
+use Rattle.std.specs.Prelude.{◌≡◌, ℕ, ◌+◌, ◌<◌, Bool, true, IsTrue, All, List, [], ◌∷◌, ◌++◌, length, map, fold, replicate, Option, None, Some, is_some, option_map, unwrap_or}
 use Rattle.dr_entry.specs.declared.limits.TheConstants.{MAX_MEMBERS}
 use Rattle.std.specs.List.{range_with_len}
 use Rattle.dr_entry.specs.declared.end.AgeEnd.{AgeEnd}
@@ -16,16 +16,14 @@ use Rattle.dr_program.specs.declared.setup.Setup.{Setup}
 use Rattle.dr_machine.specs.declared.step.Step.{Step}
 use Rattle.dr_machine.specs.declared.step.Step.TheVariants.{Append, LogVote}
 use Rattle.dr_machine.specs.Group.{Group, IsPresent, banks, roster}
+use Rattle.dr_program.specs.Presence.{present_at, with_present}
 use Rattle.dr_program.specs.Replica.{LeftView, Replica}
 use Rattle.dr_program.specs.Running.{Running, begun_running, next_step, after_step, broken_off}
 use Rattle.dr_program.specs.Steps.{sight, stored}
 
--- A program has a place for each member of the roster, at its number; whoever is absent stands there as one
--- that has ended
--- before its first deed.
 pub record Program : Type 0 where
-  -- the members, by number
-  pub members : List Running
+  -- the members, by number: whoever is absent has an empty place
+  pub members : List (Option Running)
   -- the table's words, by index
   pub table : List ℕ
 
@@ -73,7 +71,7 @@ comes_to (Some s) outcome = Some s
 -- the program after its member r, with this end, has made this move
 abbrev pub went : Program → Running → Move → Option End → Program
 went p r e None = record {
-  members = slice_set p.members e.member (after_deed (next_sight p.table r) e.outcome r (next_step r));
+  members = with_present p.members e.member (after_deed (next_sight p.table r) e.outcome r (next_step r));
   table = stored p.table r.replica (next_step r);
 }
 went p r e (Some end) = p
@@ -85,7 +83,7 @@ moved_by p (Some r) e = went p r e r.replica.end
 
 -- the program after a move: its member, unless it has ended, has taken its next deed
 abbrev pub step_of : Program → Move → Program
-step_of p e = moved_by p (slice_get p.members e.member) e
+step_of p e = moved_by p (present_at p.members e.member) e
 
 -- the program after these moves, one after the other
 unfoldable pub ran : Program → List Move → Program
@@ -109,21 +107,27 @@ pub record IsSetup (g : Group) (limit m : ℕ) (s : Setup) : Type 0 where
   pub messages : s.messages ≡ messages_of g.opening m
   pub totals : s.totals ≡ map (λ i. length (messages_of g.opening i)) (range_with_len 0 MAX_MEMBERS)
 
--- the setups of all members of the group, ascending
-pub record AreSetups (g : Group) (turns : ℕ) (setups : List Setup) : Type 0 where
+-- the setups of the members of the group that are there, by number
+pub record AreSetups (g : Group) (turns : ℕ) (setups : List (Option Setup)) : Type 0 where
   pub all : length setups ≡ roster g
-  pub each : (m : ℕ) (s : Setup) → slice_get setups m ≡ Some s → IsSetup g turns m s
+  pub each : (m : ℕ) (s : Setup) → present_at setups m ≡ Some s → IsSetup g turns m s
+  pub there : (m : ℕ) → m < roster g → IsPresent g m → (s : Setup) × (present_at setups m ≡ Some s)
 
 -- the program as the age opens, with these setups
-abbrev pub begun_program : Group → List Setup → Program
+abbrev pub begun_program : Group → List (Option Setup) → Program
 begun_program g setups = record {
-  members = map begun_running setups;
+  members = map (option_map begun_running) setups;
   table = replicate (words_of (roster g) g.window (banks g)) 0;
 }
 
+-- whoever stands at a place has ended
+abbrev pub has_ended : Option Running → Bool
+has_ended None = true
+has_ended (Some r) = is_some r.replica.end
+
 -- all members have ended
 abbrev pub AllEnded : Program → Type 0
-AllEnded p = All (λ (r : Running). IsTrue (is_some r.replica.end)) p.members
+AllEnded p = All (λ (o : Option Running). IsTrue (has_ended o)) p.members
 
 -- what a member has put in views that it has left, the first of which has this number
 abbrev pub sent_before : ℕ → List LeftView → List ViewSent
@@ -144,6 +148,15 @@ member_end r = record {
 abbrev pub end_of : Running → MemberEnd
 end_of r = member_end r.replica
 
+-- how a member ended that was absent: it tells nothing
+abbrev pub absent_end : MemberEnd
+absent_end = record { end = ends.Absent; turns = 0; sent = []; history = []; logged = 0; durable = 0 }
+
+-- how whoever stands at a place ended
+abbrev pub end_at : Option Running → MemberEnd
+end_at None = absent_end
+end_at (Some r) = end_of r
+
 -- how the age ended
 abbrev pub age_of : Opening → Program → AgeEnd
-age_of o p = record { age = o.age; start = o.start; members = map end_of p.members }
+age_of o p = record { age = o.age; start = o.start; members = map end_at p.members }

@@ -1,6 +1,6 @@
 -- The world that replicas and a table are.
 use Rattle.std.specs.Option.{option_map_or}
-use Rattle.std.specs.Prelude.{ℕ, ◌&&◌, ◌==◌, nat_lt, if◌then◌else◌, List, [], map, take, slice_index, slice_index_or, slice_get, Option, None, Some}
+use Rattle.std.specs.Prelude.{ℕ, ◌&&◌, ◌==◌, nat_lt, if◌then◌else◌, List, [], map, take, slice_index, slice_index_or, Option, None, Some, option_map}
 use Rattle.dr_entry.specs.declared.entry.Item.TheVariants.{Null}
 use Rattle.dr_rows.specs.Words.{own, seen}
 use Rattle.dr_words.specs.Layout.{word_index_of}
@@ -9,13 +9,14 @@ use Rattle.dr_machine.specs.declared.step.Step.{Step}
 use Rattle.dr_machine.specs.Group.{Group, banks, roster, columns}
 use Rattle.dr_machine.specs.World.{World, opening_world}
 use Rattle.dr_program.specs.declared.outcome.Outcome.{Outcome}
+use Rattle.dr_program.specs.Presence.{present_at}
 use Rattle.dr_program.specs.Replica.{LeftView, Replica, me, count, item, promise}
 use Rattle.dr_program.specs.Running.{Running, next_step}
 use Rattle.dr_program.specs.Program.{Program, comes_to}
 
--- what member m has of something, and at the opening's where there is no such member
-abbrev pub of_member : {A : Type 0} → List Replica → (Replica → A) → (ℕ → A) → ℕ → A
-of_member rs f opening m = option_map_or f (slice_get rs m) (opening m)
+-- what member m has of something, and at the opening's where it is absent
+abbrev pub of_member : {A : Type 0} → List (Option Replica) → (Replica → A) → (ℕ → A) → ℕ → A
+of_member rs f opening m = option_map_or f (present_at rs m) (opening m)
 
 -- what replica r has in the view numbered v: in its own what it has now, and in another what it has kept of
 -- it
@@ -42,7 +43,7 @@ word_of g table v j i c =
     then slice_index table (word_index_of (roster g) g.window v j i c) else 0
 
 -- the world of these replicas and this table
-abbrev pub world_of : Group → List Replica → List ℕ → World
+abbrev pub world_of : Group → List (Option Replica) → List ℕ → World
 world_of g rs table =
     let o = opening_world g in record {
       past = record {
@@ -74,7 +75,7 @@ world_of g rs table =
 
 -- the world of a program
 abbrev pub world : Group → Program → World
-world g p = world_of g (map (λ (r : Running). r.replica) p.members) p.table
+world g p = world_of g (map (option_map (λ (r : Running). r.replica)) p.members) p.table
 
 -- the step that is due to a running member, unless it has ended
 abbrev pub step_due : Running → Option End → Option Step

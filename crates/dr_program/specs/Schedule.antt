@@ -1,15 +1,12 @@
 -- Schedules: the order in which the members of a program take their deeds, until all have ended.
-use Rattle.std.specs.Prelude.{◌≡◌, ◌⊎◌, ⊤, ℕ, zero, suc, ◌+◌, ◌*◌, ◌/◌, ◌%◌, ◌^◌, ◌<◌, ◌||◌, All, Bool, not, true, false, List, [], ◌∷◌, ◌++◌, length, take, slice_index, slice_get, Option, None, Some, is_some}
+use Rattle.std.specs.Prelude.{◌≡◌, ◌⊎◌, ⊤, ℕ, zero, suc, ◌+◌, ◌*◌, ◌/◌, ◌%◌, ◌^◌, ◌<◌, ◌||◌, All, Bool, not, true, false, List, [], ◌∷◌, ◌++◌, length, take, slice_index, Option, None, Some, is_some}
 use Rattle.std.specs.List.{range_with_len, filter}
 use Rattle.dr_program.specs.Turn.{is_beat, part_of}
 use Rattle.dr_program.specs.Running.{Running}
-use Rattle.dr_program.specs.Program.{Program, Move, ran, step_of, AllEnded}
+use Rattle.dr_program.specs.Presence.{present_at}
+use Rattle.dr_program.specs.Program.{Program, Move, ran, step_of, AllEnded, has_ended}
 
 -- ---- lockstep: a whole turn of each member, again and again
-
-abbrev pub has_ended : Option Running → Bool
-has_ended None = true
-has_ended (Some r) = is_some r.replica.end
 
 abbrev pub is_between_turns : Option Running → Bool
 is_between_turns None = true
@@ -21,15 +18,15 @@ pub record IsTurn (m : ℕ) (p : Program) (es : List Move) (q : Program) : Type 
   pub some : 0 < length es
   pub own : All (λ (e : Move). e.member ≡ m) es
   pub taken : q ≡ ran p es
-  pub whole : is_between_turns (slice_get q.members m) ≡ true
+  pub whole : is_between_turns (present_at q.members m) ≡ true
   pub first : (k : ℕ) → 0 < k → k < length es
-      → is_between_turns (slice_get (ran p (take k es)).members m) ≡ false
+      → is_between_turns (present_at (ran p (take k es)).members m) ≡ false
 
 -- one member takes its turn by these moves, unless it has ended
 abbrev pub TakesTurn : ℕ → Program → List Move → Program → Type 0
 TakesTurn m p es q =
-    ((has_ended (slice_get p.members m) ≡ true) × (es ≡ []) × (q ≡ p))
-    ⊎ ((has_ended (slice_get p.members m) ≡ false) × IsTurn m p es q)
+    ((has_ended (present_at p.members m) ≡ true) × (es ≡ []) × (q ≡ p))
+    ⊎ ((has_ended (present_at p.members m) ≡ false) × IsTurn m p es q)
 
 -- each of these members takes its turn, in this order
 abbrev pub TakeTurns : List ℕ → Program → List Move → Program → Type 0
@@ -63,7 +60,7 @@ choice_of x among = x / 2 ^ 33 % among
 
 -- the members without an end, ascending
 abbrev pub going : Program → List ℕ
-going p = filter (λ m. not (has_ended (slice_get p.members m))) (range_with_len 0 (length p.members))
+going p = filter (λ m. not (has_ended (present_at p.members m))) (range_with_len 0 (length p.members))
 
 -- each of these moves is of the member that the generator chooses, from this state on, among those without
 -- an end

@@ -1,5 +1,5 @@
 //! Laws of programs.
-ghost use Rattle.std.specs.Prelude.{◌≡◌, ℕ, ◌<◌, ◌≤◌, List, [], ◌∷◌, ◌++◌};
+ghost use Rattle.std.specs.Prelude.{◌≡◌, ℕ, ◌<◌, ◌≤◌, List, Option, [], ◌∷◌, ◌++◌};
 ghost use Rattle.dr_program.specs.declared.place.TheConstants.{PARTS, TURN};
 ghost use Rattle.dr_program.specs.declared.setup.Setup.{Setup};
 ghost use Rattle.dr_machine.specs.Group.{Group, IsGroup, roster};
@@ -20,7 +20,8 @@ pub fn deeds_follow_one_another()
 /// A program begins in the world as the age opens, with members that have their form; and each of
 /// its members can begin.
 pub fn programs_begin_at_the_opening()
-    ensures world { (g : Group) (turns : ℕ) (setups : List Setup) → IsGroup g → AreSetups g turns setups
+    ensures world { (g : Group) (turns : ℕ) (setups : List (Option Setup)) → IsGroup g
+        → AreSetups g turns setups
         → world g (begun_program g setups) ≡ opening_world g }
     ensures form { (g : Group) (turns m : ℕ) (s : Setup) → IsGroup g → 1 ≤ turns → m < roster g
         → IsSetup g turns m s

@@ -1,6 +1,6 @@
 -- What the deeds of members and words that come make of a program whose words are carried by a net.
 use Rattle.std.proofs.Common.{◌≡◌, ◌∙◌, ap, arith, refl, subst, sym, true, ℕ, ◌<◌, [], All, Contains, List, ◌∷◌, length, slice_index}
-use Rattle.std.specs.Prelude.{max, slice_get, slice_set, None, Option, Some}
+use Rattle.std.specs.Prelude.{max, slice_set, None, Option, Some}
 use Rattle.std.proofs.lemmas.List.Elements.{All-cons, All-contains, All-nil, All-weaker}
 use Rattle.std.proofs.lemmas.Option.{same_Some}
 use Rattle.dr_entry.specs.declared.end.End.{End}
@@ -27,6 +27,7 @@ use Rattle.dr_refine.specs.Programs.{IsMember, IsProgram}
 use Rattle.dr_program_laws.proofs.Keeping.{move_kept}
 use Rattle.dr_program_laws.proofs.Nets.{come_follows, own_now, way_stays}
 use Rattle.dr_program_laws.specs.Carried.{IsCarried, WasSent}
+use Rattle.dr_program.specs.Presence.{present_at}
 
 -- what was sent was so with one moment more
 sent_more : (g : Group) (us : List World) (w : World) (packet : Packet) → WasSent g us packet
@@ -83,12 +84,12 @@ due_push r j c push = by r.replica.end refl push
 
 -- and so does a push whose word goes into a packet
 pub carried_pushes : (g : Group) (p : Program) (net : List Packet) (m : ℕ) (r : Running) (j c : ℕ)
-    → IsCarried g p net → slice_get p.members m ≡ Some r → step_of_member r ≡ Some (Push j c)
+    → IsCarried g p net → present_at p.members m ≡ Some r → step_of_member r ≡ Some (Push j c)
     → IsCarried g (record { members = (step_of p (ok m)).members; table = p.table })
     (record { index = index_in r.replica j (me r.replica) c; word = own r.replica.rows c } ∷ net)
 carried_pushes g p net m r j c y there push = record {
   group = y.group;
-  form = record { all = kept.all; form = kept.form; of = kept.of; table = y.form.table };
+  form = record { all = kept.all; there = kept.there; form = kept.form; of = kept.of; table = y.form.table };
   before = world g p ∷ y.before;
   way = (
     y.way,

@@ -1,8 +1,8 @@
 -- Members that have all ended have ended as they should.
 use Rattle.std.proofs.Common.{◌≡◌, ◌⊎◌, refl, sym, ap, ◌∙◌, inl, inr, subst, ℕ, ◌+◌, ◌<◌, ◌≤◌, ◌&&◌, not, Bool, List, [], ◌++◌, length, take, true, false, Contains, append-nil, length-append, arith}
 use Rattle.std.specs.Prelude.{IsTrue, Option, None, Some, is_some, option_map, slice_get, unwrap_or}
-use Rattle.std.proofs.lemmas.List.{length-map, length-take, nil_from_length}
-use Rattle.std.proofs.lemmas.Option.{get_or_from_slice_get, slice_get_cases, slice_get-map, slice_get_within, same_Some}
+use Rattle.std.proofs.lemmas.List.{length-take, nil_from_length}
+use Rattle.std.proofs.lemmas.Option.{slice_get-map, same_Some}
 use Rattle.dr_entry.specs.declared.entry.Entry.{Entry}
 use Rattle.dr_entry.specs.declared.entry.Entry.TheVariants.{View}
 use Rattle.dr_entry.specs.declared.end.End.{End}
@@ -22,7 +22,9 @@ use Rattle.dr_program.specs.declared.setup.Setup.{Setup}
 use Rattle.dr_machine.specs.Group.{Group, IsGroup, IsPresent, roster}
 use Rattle.dr_machine.specs.World.{World, opening_world}
 use Rattle.dr_program.specs.Running.{Running}
-use Rattle.dr_program.specs.Program.{Program, AllEnded, AreSetups, IsRanFrom, begun_program, end_of}
+use Rattle.dr_program.proofs.Present.{ended_there, slice_present}
+use Rattle.dr_program.specs.Program.{Program, AllEnded, AreSetups, IsRanFrom, absent_end, begun_program, end_at, end_of}
+use Rattle.dr_machine.proofs.Presence.{in_roster, is_there}
 use Rattle.dr_program.specs.Net.{IsRanOverNet}
 use Rattle.dr_program.specs.Reading.{world}
 use Rattle.dr_machine.specs.Run.{IsReached}
@@ -36,7 +38,7 @@ use Rattle.dr_vote_laws.proofs.Exclusions.{excluded_so}
 use Rattle.dr_words.proofs.Masks.{has_without_mask}
 use Rattle.dr_words.specs.Masks.{IsInRoster, IsMajorityOf, without}
 use Rattle.dr_world_laws.proofs.Agreeing.{done-lacks-none, done-same, either-prefix, the-view}
-use Rattle.dr_world_laws.proofs.ChosenViews.{views-next}
+use Rattle.dr_world_laws.proofs.ChosenViews.{views-next, views-of-first}
 use Rattle.dr_world_laws.proofs.HeldViews.{view-held}
 use Rattle.dr_world_laws.proofs.Leavings.{IsLeftSo}
 use Rattle.dr_world_laws.proofs.Worlds.{Known, commits, done-durable, done-whole, holds-remaining, in-order, known, left_so}
@@ -46,7 +48,9 @@ use Rattle.dr_program_laws.proofs.Keeping.{deeds_kept}
 use Rattle.dr_program_laws.proofs.Nets.{net_keeps, net_reached}
 use Rattle.dr_program_laws.proofs.Programs.{AllStand, all_stand, begun_stands, move_stands}
 use Rattle.dr_program_laws.proofs.Standing.{IsProper, Stands}
-use Rattle.dr_program_laws.proofs.Worlds.{all_ends, ends_agreed, ends_of, of_there}
+use Rattle.dr_program_laws.proofs.Worlds.{all_ends, end_told, ends_agreed, ends_of, of_there, stands_there}
+use Rattle.dr_program.specs.Presence.{present_at}
+use Rattle.dr_program.proofs.Present.{present_within}
 
 -- ---- a member in its world
 
@@ -55,21 +59,21 @@ pub record IsThere (g : Group) (p : Program) (m : ℕ) (r : Running) : Type 0 wh
   pub group : IsGroup g
   pub program : IsProgram g p
   pub reached : IsReached g (world g p)
-  pub there : slice_get p.members m ≡ Some r
+  pub there : present_at p.members m ≡ Some r
 
 known_of : (g : Group) (p : Program) (m : ℕ) (r : Running) → IsThere g p m r → Known g (world g p)
 known_of g p m r is = known g (world g p) is.group is.reached
 
 -- it is of the roster
 within : (g : Group) (p : Program) (m : ℕ) (r : Running) → IsThere g p m r → m < roster g
-within g p m r is = omega (arith, slice_get_within p.members m r is.there, is.program.all)
+within g p m r is = omega (arith, present_within p.members m r is.there, is.program.all)
 
 there_is : (g : Group) (p : Program) (m : ℕ) (r : Running) → IsThere g p m r → IsPresent g m
 there_is g p m r is = (is.program.of m r is.there).present
 
 -- another one
 beside : (g : Group) (p : Program) (m : ℕ) (r : Running) (i : ℕ) (q : Running) → IsThere g p m r
-    → slice_get p.members i ≡ Some q → IsThere g p i q
+    → present_at p.members i ≡ Some q → IsThere g p i q
 beside g p m r i q is at = record { group = is.group; program = is.program; reached = is.reached; there = at }
 
 -- what the world has of it
@@ -124,18 +128,35 @@ own_view : (g : Group) (p : Program) (m : ℕ) (r : Running) → IsThere g p m r
 own_view g p m r is = ap (λ mask. has mask m) (sym (views_are g p m r is))
     ∙ (known_of g p m r is).chosen.faithful.views.present m (there_is g p m r is)
 
--- each of the ends is that of a member
-end_at : (p : Program) (i : ℕ) (e : MemberEnd) → slice_get (ends_of p) i ≡ Some e
-    → (r : Running) × (slice_get p.members i ≡ Some r) × (end_of r ≡ e)
-end_at p i e at = by (slice_get p.members i) refl
-  where
-    named : (o : Option Running) → slice_get p.members i ≡ o → option_map end_of o ≡ Some e
-    named o is = ap (option_map end_of) (sym is) ∙ sym (slice_get-map end_of p.members i) ∙ at
+-- the end that stands at the place of a member is that member's
+end_is : (p : Program) (i : ℕ) (r : Running) (e : MemberEnd) → present_at p.members i ≡ Some r
+    → slice_get (ends_of p) i ≡ Some e → end_of r ≡ e
+end_is p i r e there at = same_Some (end_of r) e (sym (end_told p i r there) ∙ at)
 
-    by : (o : Option Running) → slice_get p.members i ≡ o
-        → (r : Running) × (slice_get p.members i ≡ Some r) × (end_of r ≡ e)
+-- each of the ends is that of a member, or of one that was absent
+end_there : (p : Program) (i : ℕ) (e : MemberEnd) → slice_get (ends_of p) i ≡ Some e
+    → (e ≡ absent_end) ⊎ ((r : Running) × (present_at p.members i ≡ Some r) × (end_of r ≡ e))
+end_there p i e at = by (slice_get p.members i) refl
+  where
+    named : (o : Option (Option Running)) → slice_get p.members i ≡ o → option_map end_at o ≡ Some e
+    named o is = ap (option_map end_at) (sym is) ∙ sym (slice_get-map end_at p.members i) ∙ at
+
+    by : (o : Option (Option Running)) → slice_get p.members i ≡ o
+        → (e ≡ absent_end) ⊎ ((r : Running) × (present_at p.members i ≡ Some r) × (end_of r ≡ e))
     by None none = absurd (cc (named None none))
-    by (Some r) there = (r, there, same_Some (end_of r) e (named (Some r) there))
+    by (Some None) there = inl (sym (same_Some absent_end e (named (Some None) there)))
+    by (Some (Some r)) there = inr (
+      r,
+      slice_present p.members i (Some r) there,
+      same_Some (end_of r) e (named (Some (Some r)) there),
+    )
+
+-- each member of the view stands at its place
+beside_it : (g : Group) (p : Program) (m : ℕ) (r : Running) (i : ℕ) → IsThere g p m r
+    → has r.replica.members i ≡ true → (q : Running) × (present_at p.members i ≡ Some q)
+beside_it g p m r i is member = stands_there g p i is.group is.program
+    (is_there g i is.group (views-of-first g (known_of g p m r is).values ((world g p).past.view m) i is.group
+    (ap (λ mask. has mask i) (views_are g p m r is) ∙ member)))
 
 -- ---- a member that is done
 
@@ -171,7 +192,7 @@ done_durable g p m r is end =
 
 -- so each member of its view has it on its log
 done_kept : (g : Group) (p : Program) (m : ℕ) (r : Running) (i : ℕ) (q : Running) → IsThere g p m r
-    → r.replica.end ≡ Some ends.Done → has r.replica.members i ≡ true → slice_get p.members i ≡ Some q
+    → r.replica.end ≡ Some ends.Done → has r.replica.members i ≡ true → present_at p.members i ≡ Some q
     → IsPrefixOf r.replica.history (take q.replica.logged q.replica.history)
 done_kept g p m r i q is end member at =
     subst (λ h. IsPrefixOf h (take q.replica.logged q.replica.history)) (history_is g p m r is)
@@ -219,7 +240,7 @@ done_logged g p m r is end = omega (
 
 -- nobody has a message that it lacks
 done_lacks : (g : Group) (p : Program) (m : ℕ) (r : Running) (s i : ℕ) (q : Running) → IsThere g p m r
-    → r.replica.end ≡ Some ends.Done → slice_get p.members i ≡ Some q
+    → r.replica.end ≡ Some ends.Done → present_at p.members i ≡ Some q
     → IsPrefixOf (messages_from s q.replica.history) (messages_from s r.replica.history)
 done_lacks g p m r s i q is end at =
     let y = known_of g p m r is in
@@ -237,7 +258,7 @@ told_done (Some end) some e = ap Some e
 
 -- who is done in the same view has the same history
 done_same : (g : Group) (p : Program) (m : ℕ) (r : Running) (i : ℕ) (q : Running) → IsThere g p m r
-    → r.replica.end ≡ Some ends.Done → slice_get p.members i ≡ Some q → q.replica.end ≡ Some ends.Done
+    → r.replica.end ≡ Some ends.Done → present_at p.members i ≡ Some q → q.replica.end ≡ Some ends.Done
     → IsInView g.opening r.replica.view r.replica.members q.replica.history
     → q.replica.history ≡ r.replica.history
 done_same g p m r i q is end at done here =
@@ -282,21 +303,25 @@ whole g p m r is ended end = record {
   end = ap (λ o. unwrap_or o ends.Done) end;
   whole = done_whole g p m r is end;
   lacks_none = λ s. all_ends (λ (e : MemberEnd). IsPrefixOf (messages_from s e.history)
-      (messages_from s r.replica.history)) p (λ i q at. done_lacks g p m r s i q is end at);
+      (messages_from s r.replica.history)) p (messages_from s r.replica.history, refl) (λ i q at. done_lacks g p m r s i q is end at);
   logged = done_logged g p m r is end;
   durable = done_durable g p m r is end;
-  kept = λ i e member at. let q = end_at p i e at in
-      subst (λ (x : MemberEnd). IsPrefixOf r.replica.history (take x.logged x.history)) q.2
-      (done_kept g p m r i q.0 is end member q.1);
-  same = λ i e at done here. let q = end_at p i e at in
-      ap (λ (x : MemberEnd). x.history) (sym q.2)
-      ∙ done_same g p m r i q.0 is end q.1
-      (told_done q.0.replica.end (subst (λ (x : Running). IsTrue (is_some x.replica.end))
-      (get_or_from_slice_get p.members i q.0 q.0 q.1) (ended i q.0 (slice_get_within p.members i q.0 q.1)))
-      (ap (λ (x : MemberEnd). x.end) q.2 ∙ done))
-      (ap (λ (x : MemberEnd). view_of x.history) q.2 ∙ here);
+  kept = λ i e member at. let q = beside_it g p m r i is member in
+      subst (λ (x : MemberEnd). IsPrefixOf r.replica.history (take x.logged x.history))
+      (end_is p i q.0 e q.1 at) (done_kept g p m r i q.0 is end member q.1);
+  same = λ i e at done here. so i e done here (end_there p i e at);
   first = done_first g p m r is end;
 }
+  where
+    so : (i : ℕ) (e : MemberEnd) → e.end ≡ ends.Done
+        → IsInView g.opening r.replica.view r.replica.members e.history
+        → (e ≡ absent_end) ⊎ ((q : Running) × (present_at p.members i ≡ Some q) × (end_of q ≡ e))
+        → e.history ≡ r.replica.history
+    so i e done here (inl absent) = absurd (cc (ap (λ (x : MemberEnd). x.end) absent, done))
+    so i e done here (inr (q, at, same)) = ap (λ (x : MemberEnd). x.history) (sym same)
+        ∙ done_same g p m r i q is end at
+        (told_done q.replica.end (ended_there p i q ended at) (ap (λ (x : MemberEnd). x.end) same ∙ done))
+        (ap (λ (x : MemberEnd). view_of x.history) same ∙ here)
 
 -- ---- a member that is left out
 
@@ -319,7 +344,7 @@ without_it : (g : Group) (p : Program) (m : ℕ) (r : Running) (view : ℕ) → 
     → r.replica.end ≡ Some (ends.Excluded view) → GoOnWithout g.opening (ends_of p) view m
 without_it g p m r view is end =
     all_ends (λ (e : MemberEnd). (members : ℕ) → Contains e.history (View g.opening.age view members)
-    → has members m ≡ false) p (λ i q at members held. let other = beside g p m r i q is at in
+    → has members m ≡ false) p (λ members held. absurd (omega (arith, held.1))) (λ i q at members held. let other = beside g p m r i q is at in
     left members (view-held g y.values (world g p) i ((world g p).past.view m + 1) members is.group y.chosen
     (within g p i q other) (subst (λ h. Contains h (View g.opening.age ((world g p).past.view m + 1) members))
     (sym (history_is g p i q other))
@@ -438,50 +463,50 @@ has_ended g p limit points m r is all ended v = record {
 }
 
 -- the members of a program in a reached world, each of which stands as its setup lets it
-ended_so : (g : Group) (turns : ℕ) (setups : List Setup) (points : ℕ → List CrashPoint)
+ended_so : (g : Group) (turns : ℕ) (setups : List (Option Setup)) (points : ℕ → List CrashPoint)
     (p : Program) → IsGroup g → AreSetups g turns setups
-    → ((m : ℕ) (s : Setup) → slice_get setups m ≡ Some s → s.crashes ≡ points m)
+    → ((m : ℕ) (s : Setup) → present_at setups m ≡ Some s → s.crashes ≡ points m)
     → IsProgram g p × IsReached g (world g p) → AllStand setups p → AllEnded p
     → HaveEnded g.opening turns points (ends_of p)
-ended_so g turns setups points p is are planned kept stand ended m e at =
-    elim (slice_get_cases p.members m).1 [
-      | inl here ↦ subst (HasEnded g.opening (ends_of p) turns m (points m))
-          (same_Some (end_of here.0) e
-          (sym (slice_get-map end_of p.members m ∙ ap (option_map end_of) here.2)
-          ∙ at)) (each here.0 here.1 here.2)
-      | inr past ↦ absurd (omega
-          (arith, past.0, slice_get_within (ends_of p) m e at, length-map p.members end_of))
-    ]
+ended_so g turns setups points p is are planned kept stand ended = record {
+  each = λ m e at here. let r = stands_there g p m is kept.0 here in
+      subst (HasEnded g.opening (ends_of p) turns m (points m)) (end_is p m r.0 e r.1 at)
+      (each m r.0 here r.1);
+  absent = λ m e at away. by m e away (end_there p m e at);
+}
   where
-    as_wanted : (r : Running) (s : Setup) → slice_get setups m ≡ Some s → Stands s.turns s.crashes r
-        → Stands turns (points m) r
-    as_wanted r s there v = subst (λ n. Stands n (points m) r) (are.each m s there).turns
+    as_wanted : (m : ℕ) (r : Running) (s : Setup) → present_at setups m ≡ Some s
+        → Stands s.turns s.crashes r → Stands turns (points m) r
+    as_wanted m r s there v = subst (λ n. Stands n (points m) r) (are.each m s there).turns
         (subst (λ ps. Stands s.turns ps r) (planned m s there) v)
 
-    each : (r : Running) → m < length p.members → slice_get p.members m ≡ Some r
+    each : (m : ℕ) (r : Running) → IsPresent g m → present_at p.members m ≡ Some r
         → HasEnded g.opening (ends_of p) turns m (points m) (end_of r)
-    each r within there = elim (slice_get_cases setups m).1 [
-      | inl here ↦ has_ended g p turns (points m) m r
-          (record { group = is; program = kept.0; reached = kept.1; there = there }) ended
-          (subst (λ (x : Running). IsTrue (is_some x.replica.end))
-          (get_or_from_slice_get p.members m r r there) (ended m r within))
-          (as_wanted r here.0 here.2 (stand m here.0 r here.2 there))
-      | inr past ↦ absurd (omega (arith, past.0, within, are.all, kept.0.all))
-    ]
+    each m r here there =
+        let s = are.there m (in_roster g m is here) here in
+        has_ended g p turns (points m) m r
+        (record { group = is; program = kept.0; reached = kept.1; there = there }) ended
+        (ended_there p m r ended there) (as_wanted m r s.0 s.1 (stand m s.0 r s.1 there))
+
+    by : (m : ℕ) (e : MemberEnd) → ¬ IsPresent g m
+        → (e ≡ absent_end) ⊎ ((r : Running) × (present_at p.members m ≡ Some r) × (end_of r ≡ e))
+        → e ≡ absent_end
+    by m e away (inl absent) = absent
+    by m e away (inr (r, there, same)) = absurd (away (kept.0.of m r there).present)
 
 -- those of any program that comes of deeds
-pub have_ended : (g : Group) (turns : ℕ) (setups : List Setup) (points : ℕ → List CrashPoint)
+pub have_ended : (g : Group) (turns : ℕ) (setups : List (Option Setup)) (points : ℕ → List CrashPoint)
     (p : Program) → IsGroup g → 1 ≤ turns → AreSetups g turns setups
-    → ((m : ℕ) (s : Setup) → slice_get setups m ≡ Some s → s.crashes ≡ points m)
+    → ((m : ℕ) (s : Setup) → present_at setups m ≡ Some s → s.crashes ≡ points m)
     → IsRanFrom (begun_program g setups) p → AllEnded p → HaveEnded g.opening turns points (ends_of p)
 have_ended g turns setups points p is some are planned ran ended =
     ended_so g turns setups points p is are planned (deeds_kept g turns setups p is some are ran)
     (subst (AllStand setups) (sym ran.1) (all_stand g turns setups ran.0 is some are)) ended
 
 -- and of any that comes of deeds and of words that come over a net
-pub net_ended : (g : Group) (turns : ℕ) (setups : List Setup) (points : ℕ → List CrashPoint)
+pub net_ended : (g : Group) (turns : ℕ) (setups : List (Option Setup)) (points : ℕ → List CrashPoint)
     (p : Program) → IsGroup g → 1 ≤ turns → AreSetups g turns setups
-    → ((m : ℕ) (s : Setup) → slice_get setups m ≡ Some s → s.crashes ≡ points m)
+    → ((m : ℕ) (s : Setup) → present_at setups m ≡ Some s → s.crashes ≡ points m)
     → IsRanOverNet g (begun_program g setups) p → AllEnded p → HaveEnded g.opening turns points (ends_of p)
 net_ended g turns setups points p is some are planned (before, way) ended =
     ended_so g turns setups points p is are planned (net_reached g turns setups p is some are (before, way))
@@ -489,18 +514,18 @@ net_ended g turns setups points p is some are planned (before, way) ended =
     (λ q table all. all) (begun_stands g setups) before p way) ended
 
 -- and each that has ended has its cause
-pub have_causes : (g : Group) (turns : ℕ) (setups : List Setup) (p : Program) (m : ℕ) (r : Running)
+pub have_causes : (g : Group) (turns : ℕ) (setups : List (Option Setup)) (p : Program) (m : ℕ) (r : Running)
     (end : End)
     → IsGroup g → 1 ≤ turns → AreSetups g turns setups → IsRanFrom (begun_program g setups) p
-    → slice_get p.members m ≡ Some r → r.replica.end ≡ Some end → HasCause g (world g p) m end
+    → present_at p.members m ≡ Some r → r.replica.end ≡ Some end → HasCause g (world g p) m end
 have_causes g turns setups p m r end is some are ran there e =
     let kept = deeds_kept g turns setups p is some are ran in
     has_cause g p m r end (record { group = is; program = kept.0; reached = kept.1; there = there }) e
 
-pub net_causes : (g : Group) (turns : ℕ) (setups : List Setup) (p : Program) (m : ℕ) (r : Running)
+pub net_causes : (g : Group) (turns : ℕ) (setups : List (Option Setup)) (p : Program) (m : ℕ) (r : Running)
     (end : End)
     → IsGroup g → 1 ≤ turns → AreSetups g turns setups → IsRanOverNet g (begun_program g setups) p
-    → slice_get p.members m ≡ Some r → r.replica.end ≡ Some end → HasCause g (world g p) m end
+    → present_at p.members m ≡ Some r → r.replica.end ≡ Some end → HasCause g (world g p) m end
 net_causes g turns setups p m r end is some are ran there e =
     let kept = net_reached g turns setups p is some are ran in
     has_cause g p m r end (record { group = is; program = kept.0; reached = kept.1; there = there }) e
@@ -519,13 +544,13 @@ ended_by_script script start nth begun p is lists some (setups, are, same) ran e
 -- ---- agreement
 
 -- whatever deeds were taken, what has been delivered agrees
-pub ran_agreed : (g : Group) (turns : ℕ) (setups : List Setup) (p : Program) → IsGroup g → 1 ≤ turns
+pub ran_agreed : (g : Group) (turns : ℕ) (setups : List (Option Setup)) (p : Program) → IsGroup g → 1 ≤ turns
     → AreSetups g turns setups
     → IsRanFrom (begun_program g setups) p → EndsAgreed g.opening (ends_of p)
 ran_agreed g turns setups p is some are ran = let kept = deeds_kept g turns setups p is some are ran in
     ends_agreed g p is kept.0 kept.1
 
-pub net_agreed : (g : Group) (turns : ℕ) (setups : List Setup) (p : Program) → IsGroup g → 1 ≤ turns
+pub net_agreed : (g : Group) (turns : ℕ) (setups : List (Option Setup)) (p : Program) → IsGroup g → 1 ≤ turns
     → AreSetups g turns setups
     → IsRanOverNet g (begun_program g setups) p → EndsAgreed g.opening (ends_of p)
 net_agreed g turns setups p is some are ran = let kept = net_reached g turns setups p is some are ran in

@@ -1,7 +1,7 @@
 -- A failed append ends its member.
 use Rattle.std.proofs.Common.{◌≡◌, refl, sym, ap, ◌∙◌, subst, inl, inr, ℕ, ◌≤◌, Bool, true, false, List, arith}
-use Rattle.std.specs.Prelude.{Option, None, Some, is_some, option_map, slice_get}
-use Rattle.std.proofs.lemmas.Option.{same_Some, slice_get-map}
+use Rattle.std.specs.Prelude.{Option, None, Some, is_some, option_map}
+use Rattle.std.proofs.lemmas.Option.{same_Some}
 use Rattle.dr_entry.specs.declared.end.End.{End}
 use Rattle.dr_machine.specs.declared.event.Act.{Act}
 use Rattle.dr_machine.specs.Group.{Group, IsGroup}
@@ -28,6 +28,8 @@ use Rattle.dr_turn.proofs.Parts.{is_end, is_verdict, no_end, taken_end, verdict_
 use Rattle.dr_program_laws.proofs.Keeping.{begun_reached}
 use Rattle.dr_program_laws.proofs.Nets.{net_keeps}
 use Rattle.dr_program_laws.proofs.Programs.{ran_keeps, replaced_either}
+use Rattle.dr_program.specs.Presence.{present_at}
+use Rattle.dr_program.proofs.Present.{present_map}
 
 -- ---- one deed
 
@@ -100,9 +102,9 @@ breaks why r none due = record {
 
 pub move_fails : (g : Group) (p : Program) (e : Move) → IsProgram g p → AreFailing p
     → AreFailing (step_of p e)
-move_fails g p e is all = by (slice_get p.members e.member) refl
+move_fails g p e is all = by (present_at p.members e.member) refl
   where
-    at : (r : Running) → slice_get p.members e.member ≡ Some r → (o : Option End) → r.replica.end ≡ o
+    at : (r : Running) → present_at p.members e.member ≡ Some r → (o : Option End) → r.replica.end ≡ o
         → AreFailing (step_of p e)
     at r there (Some x) ended = subst AreFailing
         (sym (rest_changes_nothing p e r there (ap is_some ended))) all
@@ -115,14 +117,14 @@ move_fails g p e is all = by (slice_get p.members e.member) refl
           | inr other ↦ all m y other.1
         ])
 
-    by : (o : Option Running) → slice_get p.members e.member ≡ o → AreFailing (step_of p e)
+    by : (o : Option Running) → present_at p.members e.member ≡ o → AreFailing (step_of p e)
     by None none = subst AreFailing (sym (ap (λ o. moved_by p o e) none)) all
     by (Some r) there = at r there r.replica.end refl
 
 -- ---- every run
 
-begun_fails : (g : Group) (setups : List Setup) → AreFailing (begun_program g setups)
-begun_fails g setups m r there = by (slice_get setups m) (sym (slice_get-map begun_running setups m) ∙ there)
+begun_fails : (g : Group) (setups : List (Option Setup)) → AreFailing (begun_program g setups)
+begun_fails g setups m r there = by (present_at setups m) (sym (present_map begun_running setups m) ∙ there)
   where
     begun : (s : Setup) → IsFailing (begun_running s)
     begun s = record { well = λ unfailed. refl; broken = λ why failed. absurd (cc) }
@@ -132,16 +134,16 @@ begun_fails g setups m r there = by (slice_get setups m) (sym (slice_get-map beg
     by (Some s) same = subst IsFailing (same_Some (begun_running s) r same) (begun s)
 
 -- the members of a program that ran from its beginning
-pub all_fail : (g : Group) (turns : ℕ) (setups : List Setup) (p : Program) (m : ℕ) (r : Running)
+pub all_fail : (g : Group) (turns : ℕ) (setups : List (Option Setup)) (p : Program) (m : ℕ) (r : Running)
     → IsGroup g → 1 ≤ turns → AreSetups g turns setups → IsRanFrom (begun_program g setups) p
-    → slice_get p.members m ≡ Some r → IsFailing r
+    → present_at p.members m ≡ Some r → IsFailing r
 all_fail g turns setups p m r group some are (es, is) =
     subst AreFailing (sym is) (ran_keeps g AreFailing (begun_program g setups) es group
     (begun_is_program g turns setups group some are) (begun_reached g turns setups group are)
     (move_fails g) (begun_fails g setups)) m r
 
 -- and over a net
-pub net_fails : (g : Group) (turns : ℕ) (setups : List Setup) (p : Program) → IsGroup g → 1 ≤ turns
+pub net_fails : (g : Group) (turns : ℕ) (setups : List (Option Setup)) (p : Program) → IsGroup g → 1 ≤ turns
     → AreSetups g turns setups → IsRanOverNet g (begun_program g setups) p → AreFailing p
 net_fails g turns setups p group some are (before, way) =
     net_keeps g turns setups AreFailing group some are (λ q e form run all. move_fails g q e form all)

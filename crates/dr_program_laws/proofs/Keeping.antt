@@ -1,6 +1,6 @@
 -- Moves keep a program of its group, in a world that is reached.
 use Rattle.std.proofs.Common.{◌≡◌, refl, sym, subst, ℕ, ◌≤◌, true, List, [], ◌∷◌}
-use Rattle.std.specs.Prelude.{Option, None, Some, slice_get}
+use Rattle.std.specs.Prelude.{Option, None, Some}
 use Rattle.std.proofs.lemmas.Option.{same_Some}
 use Rattle.dr_entry.specs.declared.end.End.{End}
 use Rattle.dr_words.specs.Form.{IsInForm}
@@ -26,12 +26,13 @@ use Rattle.dr_form.proofs.Steps.{stepped_form}
 use Rattle.dr_turn.proofs.Deeds.{deeds_keep_form}
 use Rattle.dr_turn.proofs.Failing.{failed_form}
 use Rattle.dr_program_laws.proofs.Sight.{found_seen}
+use Rattle.dr_program.specs.Presence.{present_at}
 
 -- ---- one move
 
 -- the replica of a member of a program in a reached world keeps its form over its next step
 pub next_form : (g : Group) (p : Program) (m : ℕ) (r : Running) → IsGroup g → IsProgram g p
-    → IsReached g (world g p) → slice_get p.members m ≡ Some r → r.replica.end ≡ None
+    → IsReached g (world g p) → present_at p.members m ≡ Some r → r.replica.end ≡ None
     → HasForm (stepped (next_sight p.table r) r.replica (next_step r))
 next_form g p m r group is run there unended =
     stepped_form (next_sight p.table r) r.replica (next_step r) (is.form m r there).replica may
@@ -44,7 +45,7 @@ next_form g p m r group is run there unended =
 
 -- and so does the member
 member_kept : (g : Group) (p : Program) (m : ℕ) (r : Running) → IsGroup g → IsProgram g p
-    → IsReached g (world g p) → slice_get p.members m ≡ Some r
+    → IsReached g (world g p) → present_at p.members m ≡ Some r
     → r.replica.end ≡ None → IsRunningMember (after_step (next_sight p.table r) r)
 member_kept g p m r group is run there unended =
     deeds_keep_form (next_sight p.table r) r (is.form m r there) unended
@@ -52,7 +53,7 @@ member_kept g p m r group is run there unended =
 
 -- and over its next deed, however its append goes
 deed_kept : (g : Group) (p : Program) (m : ℕ) (o : Outcome) (r : Running) → IsGroup g → IsProgram g p
-    → IsReached g (world g p) → slice_get p.members m ≡ Some r
+    → IsReached g (world g p) → present_at p.members m ≡ Some r
     → r.replica.end ≡ None → IsRunningMember (after_deed (next_sight p.table r) o r (next_step r))
 deed_kept g p m o r group is run there unended =
     after_either IsRunningMember p.table o r (next_step r) (member_kept g p m r group is run there unended)
@@ -78,12 +79,12 @@ run_kept g p (e ∷ es) group is run = let kept = move_kept g p e group is run i
     run_kept g (step_of p e) es group kept.0 kept.1
 
 -- a program begins in the world of the opening
-pub begun_reached : (g : Group) (turns : ℕ) (setups : List Setup) → IsGroup g
+pub begun_reached : (g : Group) (turns : ℕ) (setups : List (Option Setup)) → IsGroup g
     → AreSetups g turns setups → IsReached g (world g (begun_program g setups))
 begun_reached g turns setups group are = ([], begins_at_the_opening g turns setups group are)
 
 -- a program that ran from its beginning is one of its group, in a world that is reached
-pub deeds_kept : (g : Group) (turns : ℕ) (setups : List Setup) (p : Program) → IsGroup g → 1 ≤ turns
+pub deeds_kept : (g : Group) (turns : ℕ) (setups : List (Option Setup)) (p : Program) → IsGroup g → 1 ≤ turns
     → AreSetups g turns setups → IsRanFrom (begun_program g setups) p
     → IsProgram g p × IsReached g (world g p)
 deeds_kept g turns setups p group some are (es, is) =
@@ -100,7 +101,7 @@ run_events g p (e ∷ es) group is come =
     (step_events g p e group is come)
 
 -- and the world comes of events alone
-pub deeds_events : (g : Group) (turns : ℕ) (setups : List Setup) (p : Program) → IsGroup g → 1 ≤ turns
+pub deeds_events : (g : Group) (turns : ℕ) (setups : List (Option Setup)) (p : Program) → IsGroup g → 1 ≤ turns
     → AreSetups g turns setups → IsRanFrom (begun_program g setups) p → ComesOfEvents g (world g p)
 deeds_events g turns setups p group some are (es, is) =
     subst (λ q. ComesOfEvents g (world g q)) (sym is)
@@ -112,7 +113,7 @@ deeds_events g turns setups p group some are (es, is) =
 -- a look that is due finds a word that its member may see
 pub sees : (g : Group) (p : Program) (m : ℕ) (r : Running) (i c : ℕ) → IsGroup g → IsProgram g p
     → IsReached g (world g p)
-    → slice_get p.members m ≡ Some r → step_of_member r ≡ Some (step_at r parts.Look i c)
+    → present_at p.members m ≡ Some r → step_of_member r ≡ Some (step_at r parts.Look i c)
     → MaySee r (step_of_member r) (next_sight p.table r)
 sees g p m r i c group is run there due = by r.replica.end refl due
   where

@@ -1,7 +1,7 @@
 -- A program over a net stays one of its group, in a world that is reached: its deeds are events, and the words
 -- that come are own words of moments before.
 use Rattle.std.proofs.Common.{◌≡◌, ◌⊎◌, ◌∙◌, ap, arith, inl, inr, le_refl, map, refl, subst, sym, ℕ, ◌<◌, ◌≤◌, List, [], ◌∷◌, Contains, slice_index}
-use Rattle.std.specs.Prelude.{◌==◌, if◌then◌else◌, max, Some, slice_get, slice_set}
+use Rattle.std.specs.Prelude.{◌==◌, if◌then◌else◌, max, Some, slice_set, Option}
 use Rattle.std.proofs.lemmas.Bool.{cases_lt}
 use Rattle.std.proofs.lemmas.List.{get_or-map, length-map, length-set}
 use Rattle.dr_rows.specs.Words.{own}
@@ -25,6 +25,7 @@ use Rattle.dr_refine.proofs.Tables.{table_written, word_inside}
 use Rattle.dr_refine.specs.Programs.{IsProgram}
 use Rattle.dr_program_laws.proofs.Keeping.{move_kept}
 use Rattle.dr_program_laws.proofs.Worlds.{of_there}
+use Rattle.dr_program.specs.Presence.{present_at}
 
 -- the worlds that programs are
 abbrev pub worlds : Group → List Program → List World
@@ -44,11 +45,11 @@ same_view : (v x y : ℕ) → (if v == v then x else y) ≡ x
 same_view v x y = grind arith
 
 -- the own word of a member of a program is its own one in the program's world
-view_there : (g : Group) (p : Program) (m : ℕ) (r : Running) → slice_get p.members m ≡ Some r
+view_there : (g : Group) (p : Program) (m : ℕ) (r : Running) → present_at p.members m ≡ Some r
     → (world g p).past.view m ≡ r.replica.view
 view_there g p m r there = of_there p (λ q. q.view) (opening_world g).past.view m r there
 
-own_there : (g : Group) (p : Program) (m : ℕ) (r : Running) (c : ℕ) → slice_get p.members m ≡ Some r
+own_there : (g : Group) (p : Program) (m : ℕ) (r : Running) (c : ℕ) → present_at p.members m ≡ Some r
     → (world g p).past.own m r.replica.view c ≡ own r.replica.rows c
 own_there g p m r c there =
     ap (λ (f : ℕ → ℕ → ℕ). f r.replica.view c)
@@ -56,7 +57,7 @@ own_there g p m r c there =
     ∙ same_view r.replica.view (own r.replica.rows c) (kept_word r.replica r.replica.view c)
 
 pub own_now : (g : Group) (p : Program) (m : ℕ) (r : Running) (c : ℕ) (before : List World)
-    → slice_get p.members m ≡ Some r
+    → present_at p.members m ≡ Some r
     → WasOwn (world g p ∷ before) r.replica.view m c (own r.replica.rows c)
 own_now g p m r c before there =
     (world g p, is_last before (world g p), view_there g p m r there, own_there g p m r c there)
@@ -128,6 +129,7 @@ come_follows g before p v j i c word is bank to from cell was = (
     all = is.all;
     form = is.form;
     of = is.of;
+    there = is.there;
     table = length-set p.table place (max (slice_index p.table place) word) ∙ is.table;
   },
   inr (
@@ -150,7 +152,7 @@ goes_on g before p q group is run (inl (e, same)) =
     ((move_kept g p e group is run).0, step_follows g p e (worlds g before) group is)
 goes_on g before p q group is run (inr (inl on)) = (
   let kept = (move_kept g p on.move group is run).0 in subst (IsProgram g) (sym on.made)
-      (record { all = kept.all; form = kept.form; of = kept.of; table = is.table }),
+      (record { all = kept.all; form = kept.form; of = kept.of; there = kept.there; table = is.table }),
   subst (ComesNext g (worlds g before) (world g p)) (sym (way_stays g p q group is on))
       (stays_next g (worlds g before) (world g p)),
 )
@@ -162,7 +164,7 @@ goes_on g before p q group is run (inr (inr y)) =
 -- ---- every run
 
 -- a program over a net is one of its group, and the worlds that it was lead to its world
-pub net_kept : (g : Group) (turns : ℕ) (setups : List Setup) (before : List Program) (p : Program)
+pub net_kept : (g : Group) (turns : ℕ) (setups : List (Option Setup)) (before : List Program) (p : Program)
     → IsGroup g → 1 ≤ turns → AreSetups g turns setups → NetWay g (begun_program g setups) before p
     → IsProgram g p × Way g (worlds g before) (world g p)
 net_kept g turns setups [] p group some are begun = (
@@ -173,14 +175,14 @@ net_kept g turns setups (x ∷ xs) p group some are way =
     let old = net_kept g turns setups xs x group some are way.0 in
     let now = goes_on g xs x p group old.0 (worlds g xs, old.1) way.1 in (now.0, (old.1, now.1))
 
-pub net_reached : (g : Group) (turns : ℕ) (setups : List Setup) (p : Program) → IsGroup g → 1 ≤ turns
+pub net_reached : (g : Group) (turns : ℕ) (setups : List (Option Setup)) (p : Program) → IsGroup g → 1 ≤ turns
     → AreSetups g turns setups → IsRanOverNet g (begun_program g setups) p
     → IsProgram g p × IsReached g (world g p)
 net_reached g turns setups p group some are (before, way) =
     let kept = net_kept g turns setups before p group some are way in (kept.0, (worlds g before, kept.1))
 
 -- what each move keeps, and no table changes, holds of every such program
-pub net_keeps : (g : Group) (turns : ℕ) (setups : List Setup) (P : Program → Type 0) → IsGroup g → 1 ≤ turns
+pub net_keeps : (g : Group) (turns : ℕ) (setups : List (Option Setup)) (P : Program → Type 0) → IsGroup g → 1 ≤ turns
     → AreSetups g turns setups
     → ((q : Program) (e : Move) → IsProgram g q → IsReached g (world g q) → P q → P (step_of q e))
     → ((q : Program) (table : List ℕ) → P q → P (record { members = q.members; table = table }))

@@ -1,8 +1,8 @@
 -- The members of a program stand so after any deeds.
 use Rattle.std.proofs.Common.{◌≡◌, ◌≢◌, ◌⊎◌, refl, sym, ap, ◌∙◌, subst, ℕ, ◌≤◌, inl, inr, List, [], ◌∷◌}
-use Rattle.std.specs.Prelude.{Option, None, Some, is_some, slice_get, slice_set, option_map}
+use Rattle.std.specs.Prelude.{Option, None, Some, is_some, option_map}
 use Rattle.std.proofs.lemmas.Bool.{cases_eq}
-use Rattle.std.proofs.lemmas.Option.{slice_get-map, slice_get_within, same_Some}
+use Rattle.std.proofs.lemmas.Option.{same_Some}
 use Rattle.dr_entry.specs.declared.end.End.{End}
 use Rattle.dr_machine.specs.Group.{Group, IsGroup}
 use Rattle.dr_machine.specs.Run.{IsReached}
@@ -11,53 +11,54 @@ use Rattle.dr_program.specs.Program.{AreSetups, Move, Program, after_deed, begun
 use Rattle.dr_program.specs.Reading.{world}
 use Rattle.dr_program.specs.Running.{Running, begun_running, next_step}
 use Rattle.dr_program.specs.Steps.{stored}
-use Rattle.dr_program.proofs.Holdings.{replica_set, replica_kept}
 use Rattle.dr_refine.specs.Programs.{IsProgram}
 use Rattle.dr_refine.proofs.Deeds.{rest_changes_nothing, step_is}
 use Rattle.dr_refine.proofs.Steps.{begun_is_program}
 use Rattle.dr_program_laws.proofs.Deeds.{begins, deed_stands}
 use Rattle.dr_program_laws.proofs.Keeping.{begun_reached, move_kept}
 use Rattle.dr_program_laws.proofs.Standing.{Stands}
+use Rattle.dr_program.specs.Presence.{present_at, with_present}
+use Rattle.dr_program.proofs.Present.{present_within, present_set, present_kept, present_map}
 
 -- each member stands as its setup wants
-abbrev pub AllStand : List Setup → Program → Type 0
-AllStand setups p = (m : ℕ) (s : Setup) (r : Running) → slice_get setups m ≡ Some s
-    → slice_get p.members m ≡ Some r → Stands s.turns s.crashes r
+abbrev pub AllStand : List (Option Setup) → Program → Type 0
+AllStand setups p = (m : ℕ) (s : Setup) (r : Running) → present_at setups m ≡ Some s
+    → present_at p.members m ≡ Some r → Stands s.turns s.crashes r
 
-pub begun_stands : (g : Group) (setups : List Setup) → AllStand setups (begun_program g setups)
+pub begun_stands : (g : Group) (setups : List (Option Setup)) → AllStand setups (begun_program g setups)
 begun_stands g setups m s r there is =
     let same : option_map begun_running (Some s) ≡ Some r = ap (option_map begun_running) (sym there)
-    ∙ (sym (slice_get-map begun_running setups m) ∙ is) in
+    ∙ (sym (present_map begun_running setups m) ∙ is) in
     subst (Stands s.turns s.crashes) (same_Some (begun_running s) r same) (begins s)
 
 -- a member of a list in which x was replaced by y is y, or as it was
-pub replaced_either : (rs : List Running) (m : ℕ) (x y : Running) → slice_get rs m ≡ Some x → (k : ℕ)
-    (r : Running) → slice_get (slice_set rs m y) k ≡ Some r
-    → ((k ≡ m) × (y ≡ r)) ⊎ ((k ≢ m) × (slice_get rs k ≡ Some r))
+pub replaced_either : (rs : List (Option Running)) (m : ℕ) (x y : Running) → present_at rs m ≡ Some x → (k : ℕ)
+    (r : Running) → present_at (with_present rs m y) k ≡ Some r
+    → ((k ≡ m) × (y ≡ r)) ⊎ ((k ≢ m) × (present_at rs k ≡ Some r))
 replaced_either rs m x y at k r is = elim (cases_eq k m) [
   | inl same ↦ inl (
     same,
-    same_Some y r (sym (replica_set rs m y (slice_get_within rs m x at)) ∙ rw same at is),
+    same_Some y r (sym (present_set rs m y (present_within rs m x at)) ∙ rw same at is),
   )
-  | inr other ↦ inr (other, sym (replica_kept rs m k y other) ∙ is)
+  | inr other ↦ inr (other, sym (present_kept rs m k y other) ∙ is)
 ]
 
 -- one member is replaced by one that stands as its setup wants
-replaced_stands : (setups : List Setup) (p : Program) (m : ℕ) (x y : Running) (table : List ℕ)
-    → AllStand setups p → slice_get p.members m ≡ Some x
-    → ((s : Setup) → slice_get setups m ≡ Some s → Stands s.turns s.crashes y)
-    → AllStand setups (record { members = slice_set p.members m y; table = table })
+replaced_stands : (setups : List (Option Setup)) (p : Program) (m : ℕ) (x y : Running) (table : List ℕ)
+    → AllStand setups p → present_at p.members m ≡ Some x
+    → ((s : Setup) → present_at setups m ≡ Some s → Stands s.turns s.crashes y)
+    → AllStand setups (record { members = with_present p.members m y; table = table })
 replaced_stands setups p m x y table all at stands k s r there is =
     elim (replaced_either p.members m x y at k r is) [
       | inl here ↦ subst (Stands s.turns s.crashes) here.1 (stands s (rw here.0 at there))
       | inr other ↦ all k s r there other.1
     ]
 
-pub move_stands : (g : Group) (setups : List Setup) (p : Program) (e : Move) → IsProgram g p
+pub move_stands : (g : Group) (setups : List (Option Setup)) (p : Program) (e : Move) → IsProgram g p
     → AllStand setups p → AllStand setups (step_of p e)
-move_stands g setups p e is all = by (slice_get p.members e.member) refl
+move_stands g setups p e is all = by (present_at p.members e.member) refl
   where
-    at : (r : Running) → slice_get p.members e.member ≡ Some r → (o : Option End) → r.replica.end
+    at : (r : Running) → present_at p.members e.member ≡ Some r → (o : Option End) → r.replica.end
         ≡ o → AllStand setups (step_of p e)
     at r there (Some x) ended = subst (AllStand setups)
         (sym (rest_changes_nothing p e r there (ap is_some ended))) all
@@ -68,7 +69,7 @@ move_stands g setups p e is all = by (slice_get p.members e.member) refl
         (λ s setup. deed_stands s.turns s.crashes p.table e.outcome r (is.form e.member r there) unended
         (all e.member s r setup there)))
 
-    by : (o : Option Running) → slice_get p.members e.member ≡ o → AllStand setups (step_of p e)
+    by : (o : Option Running) → present_at p.members e.member ≡ o → AllStand setups (step_of p e)
     by None none = subst (AllStand setups) (sym (ap (λ o. moved_by p o e) none)) all
     by (Some r) there = at r there r.replica.end refl
 
@@ -82,13 +83,13 @@ ran_keeps g P p (e ∷ es) group is run keeps so =
     let kept = move_kept g p e group is run in
     ran_keeps g P (step_of p e) es group kept.0 kept.1 keeps (keeps p e is so)
 
-pub ran_stands : (g : Group) (setups : List Setup) (p : Program) (es : List Move) → IsGroup g
+pub ran_stands : (g : Group) (setups : List (Option Setup)) (p : Program) (es : List Move) → IsGroup g
     → IsProgram g p → IsReached g (world g p) → AllStand setups p → AllStand setups (ran p es)
 ran_stands g setups p es group is run all =
     ran_keeps g (AllStand setups) p es group is run (move_stands g setups) all
 
 -- after any moves each member stands as its setup lets it
-pub all_stand : (g : Group) (turns : ℕ) (setups : List Setup) (es : List Move) → IsGroup g → 1
+pub all_stand : (g : Group) (turns : ℕ) (setups : List (Option Setup)) (es : List Move) → IsGroup g → 1
     ≤ turns → AreSetups g turns setups → AllStand setups (ran (begun_program g setups) es)
 all_stand g turns setups es group some are =
     ran_stands g setups (begun_program g setups) es group (begun_is_program g turns setups group some are)

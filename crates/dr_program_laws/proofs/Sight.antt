@@ -1,8 +1,7 @@
 -- What a look finds in the table of a program in a reached world, its member may see.
 use Rattle.std.proofs.Common.{◌≡◌, ◌≢◌, sym, ap, ◌∙◌, subst, ℕ, ◌<◌, true, slice_index, ◌&&◌, not, arith}
-use Rattle.std.specs.Prelude.{Some, slice_get}
+use Rattle.std.specs.Prelude.{Some}
 use Rattle.std.proofs.lemmas.Bool.{and_parts}
-use Rattle.std.proofs.lemmas.Option.{slice_get_within}
 use Rattle.dr_history.specs.Members.{has}
 use Rattle.dr_rows.specs.Words.{seen}
 use Rattle.dr_words.specs.Form.{IsInForm}
@@ -27,6 +26,8 @@ use Rattle.dr_refine.proofs.Guards.{other_member, other_within, seen_is}
 use Rattle.dr_refine.proofs.Tables.{word_inside}
 use Rattle.dr_refine.proofs.Tests.{cell_test}
 use Rattle.dr_world_laws.proofs.Worlds.{Known, faithful, known}
+use Rattle.dr_program.specs.Presence.{present_at}
+use Rattle.dr_program.proofs.Present.{present_within}
 
 -- the word that the look finds is that of the world's table
 word_found : (g : Group) (p : Program) (m : ℕ) (r : Running) (i c : ℕ)
@@ -44,7 +45,7 @@ word_found g p m r i c member within other column =
 -- it is in form, and has grown from the word that was seen before
 pub found_seen : (g : Group) (p : Program) (m : ℕ) (r : Running) (i c : ℕ) → IsGroup g
     → IsProgram g p → IsReached g (world g p)
-    → slice_get p.members m ≡ Some r → (not (has r.replica.suspects i) && has_cell r.replica i c) ≡ true
+    → present_at p.members m ≡ Some r → (not (has r.replica.suspects i) && has_cell r.replica i c) ≡ true
     → IsSeenNext r i c (found p.table r.replica i c)
 found_seen g p m r i c group is run there may = record {
   form = subst (λ n. IsInForm n c word) (sym of.members)
@@ -82,4 +83,4 @@ found_seen g p m r i c group is run there may = record {
 
     same : (world g p).table ((world g p).past.view m) m i c ≡ found p.table r.replica i c
     same = word_found g p m r i c member
-        (omega (arith, slice_get_within p.members m r there, is.all)) cell.0 cell.1
+        (omega (arith, present_within p.members m r there, is.all)) cell.0 cell.1

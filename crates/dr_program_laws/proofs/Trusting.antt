@@ -4,10 +4,10 @@ use Rattle.std.proofs.Common.{◌≡◌, ◌≢◌, refl, sym, ap, ◌∙◌, su
 use Rattle.std.proofs.Math.Path.{fun_ext}
 use Rattle.std.specs.List.{find}
 use Rattle.std.specs.Option.{option_and_then, option_map}
-use Rattle.std.specs.Prelude.{Option, None, Some, filter_map, is_some, slice_get, slice_index_or, unwrap_or}
+use Rattle.std.specs.Prelude.{Option, None, Some, filter_map, is_some, slice_index_or, unwrap_or}
 use Rattle.std.proofs.lemmas.Bool.{and_left, and_right, cases_eq, cases_lt}
 use Rattle.std.proofs.lemmas.Bool.Decides.{nat_tests}
-use Rattle.std.proofs.lemmas.Option.{get_or_from_slice_get, same_Some, slice_get-get_or, slice_get-map, slice_get_within}
+use Rattle.std.proofs.lemmas.Option.{same_Some}
 use Rattle.dr_entry.specs.declared.end.End.{End}
 use Rattle.dr_entry.specs.declared.end.End.TheVariants as ends
 use Rattle.dr_faithful.specs.Chosen.{views_by}
@@ -22,7 +22,7 @@ use Rattle.dr_program.specs.declared.place.Part.{Part}
 use Rattle.dr_program.specs.declared.place.Part.TheVariants as parts
 use Rattle.dr_program.specs.declared.setup.Setup.{Setup}
 use Rattle.dr_program.specs.declared.setup.Suspicion.{Suspicion}
-use Rattle.dr_program.specs.Program.{AreSetups, IsRanFrom, Move, Program, after_deed, begun_program, end_of, moved_by, next_sight, step_of}
+use Rattle.dr_program.specs.Program.{AreSetups, IsRanFrom, Move, Program, after_deed, begun_program, end_at, moved_by, next_sight, step_of}
 use Rattle.dr_program.specs.Net.{IsRanOverNet}
 use Rattle.dr_program.specs.Reading.{world}
 use Rattle.dr_program.specs.Replica.{Replica, is_named, is_wedged, may_vote, me, value_due}
@@ -56,31 +56,33 @@ use Rattle.dr_words.proofs.Masks.{has_without_mask}
 use Rattle.dr_words.specs.declared.column.TheConstants.{SUSPECTED_COLUMN}
 use Rattle.dr_world_laws.proofs.Worlds.{Known, faithful, known, quiet}
 use Rattle.dr_history.specs.Members.{has}
-use Rattle.dr_program_laws.specs.Trusting.{AreAtEase, AreTrusting, IsAtEase, IsCalm, IsPatient, IsTrusting, MayWait, NoneLeft, SuspectsNobody, has_been_left, is_left_out, to_come}
+use Rattle.dr_program_laws.specs.Trusting.{AreAtEase, AreTrusting, IsAtEase, IsCalm, IsPatient, IsTrusting, MayWait, NoneLeft, SuspectsNobody, has_been_left, is_left_out, to_come, AllCalm}
 use Rattle.dr_program_laws.proofs.Patience.{patient_on}
 use Rattle.dr_program_laws.proofs.Keeping.{begun_reached}
 use Rattle.dr_program_laws.proofs.Nets.{net_keeps}
 use Rattle.dr_program_laws.proofs.Programs.{ran_keeps, replaced_either}
 use Rattle.dr_program_laws.proofs.Quiet.{is_passed, passed_act}
 use Rattle.dr_program_laws.proofs.Worlds.{all_ends, of_there}
+use Rattle.dr_program.specs.Presence.{present_at}
+use Rattle.dr_program.proofs.Present.{present_map}
 
 -- ---- words
 
 -- nobody suspects anybody in the world of such a program
 pub nobody_suspects : (g : Group) (p : Program) (m : ℕ) → AreAtEase p → (world g p).suspects m ≡ 0
-nobody_suspects g p m ease = by (slice_get p.members m) refl
+nobody_suspects g p m ease = by (present_at p.members m) refl
   where
-    by : (o : Option Running) → slice_get p.members m ≡ o → (world g p).suspects m ≡ 0
-    by None none = rw (slice_get-map (λ (x : Running). x.replica) p.members m, none) refl
+    by : (o : Option Running) → present_at p.members m ≡ o → (world g p).suspects m ≡ 0
+    by None none = rw (present_map (λ (x : Running). x.replica) p.members m, none) refl
     by (Some r) there = of_there p (λ q. q.suspects) (opening_world g).suspects m r there
         ∙ (ease m r there).unwedged
 
 -- and everybody is in the first view
 pub stay_first : (g : Group) (p : Program) (m : ℕ) → AreAtEase p → (world g p).past.view m ≡ 0
-stay_first g p m ease = by (slice_get p.members m) refl
+stay_first g p m ease = by (present_at p.members m) refl
   where
-    by : (o : Option Running) → slice_get p.members m ≡ o → (world g p).past.view m ≡ 0
-    by None none = rw (slice_get-map (λ (x : Running). x.replica) p.members m, none) refl
+    by : (o : Option Running) → present_at p.members m ≡ o → (world g p).past.view m ≡ 0
+    by None none = rw (present_map (λ (x : Running). x.replica) p.members m, none) refl
     by (Some r) there = of_there p (λ q. q.view) (opening_world g).past.view m r there
         ∙ (ease m r there).first
 
@@ -90,7 +92,7 @@ pub record IsAmong (g : Group) (p : Program) (m : ℕ) (r : Running) : Type 0 wh
   pub program : IsProgram g p
   pub reached : IsReached g (world g p)
   pub ease : AreAtEase p
-  pub there : slice_get p.members m ≡ Some r
+  pub there : present_at p.members m ≡ Some r
 
 -- so no suspected word names anybody: neither the own one, nor any that it has seen
 unsuspecting : (g : Group) (p : Program) (m : ℕ) (r : Running) → IsAmong g p m r → (i : ℕ)
@@ -348,20 +350,20 @@ deed_eases g p e r is unended waits =
 
 -- what holds of each member, and of the one that moves after its deed, holds after a move
 pub moved_all : (P : Running → Type 0) (p : Program) (e : Move)
-    → ((k : ℕ) (y : Running) → slice_get p.members k ≡ Some y → P y)
-    → ((r : Running) → slice_get p.members e.member ≡ Some r → r.replica.end ≡ None
+    → ((k : ℕ) (y : Running) → present_at p.members k ≡ Some y → P y)
+    → ((r : Running) → present_at p.members e.member ≡ Some r → r.replica.end ≡ None
     → P (after_deed (next_sight p.table r) e.outcome r (next_step r)))
-    → (k : ℕ) (y : Running) → slice_get (step_of p e).members k ≡ Some y → P y
-moved_all P p e all deed = by (slice_get p.members e.member) refl
+    → (k : ℕ) (y : Running) → present_at (step_of p e).members k ≡ Some y → P y
+moved_all P p e all deed = by (present_at p.members e.member) refl
   where
     Holds : Program → Type 0
-    Holds q = (k : ℕ) (y : Running) → slice_get q.members k ≡ Some y → P y
+    Holds q = (k : ℕ) (y : Running) → present_at q.members k ≡ Some y → P y
 
-    at : (r : Running) → slice_get p.members e.member ≡ Some r → (o : Option End) → r.replica.end ≡ o
+    at : (r : Running) → present_at p.members e.member ≡ Some r → (o : Option End) → r.replica.end ≡ o
         → Holds (step_of p e)
-    at r there (Some x) ended = subst (λ (q : Program). (k : ℕ) (y : Running) → slice_get q.members k ≡ Some y
+    at r there (Some x) ended = subst (λ (q : Program). (k : ℕ) (y : Running) → present_at q.members k ≡ Some y
         → P y) (sym (rest_changes_nothing p e r there (ap is_some ended))) all
-    at r there None unended = subst (λ (q : Program). (k : ℕ) (y : Running) → slice_get q.members k ≡ Some y
+    at r there None unended = subst (λ (q : Program). (k : ℕ) (y : Running) → present_at q.members k ≡ Some y
         → P y) (sym (step_is p e r there unended)) (λ k y here.
         elim (replaced_either p.members e.member r
         (after_deed (next_sight p.table r) e.outcome r (next_step r)) there k y here) [
@@ -369,15 +371,15 @@ moved_all P p e all deed = by (slice_get p.members e.member) refl
           | inr other ↦ all k y other.1
         ])
 
-    by : (o : Option Running) → slice_get p.members e.member ≡ o → Holds (step_of p e)
-    by None none = subst (λ (q : Program). (k : ℕ) (y : Running) → slice_get q.members k ≡ Some y → P y)
+    by : (o : Option Running) → present_at p.members e.member ≡ o → Holds (step_of p e)
+    by None none = subst (λ (q : Program). (k : ℕ) (y : Running) → present_at q.members k ≡ Some y → P y)
         (sym (ap (λ o. moved_by p o e) none)) all
     by (Some r) there = at r there r.replica.end refl
 
 -- a move keeps the members of the program so, where a member that begins its turn by it may wait
 pub move_eases : (g : Group) (p : Program) (e : Move) → IsGroup g → IsProgram g p
     → IsReached g (world g p) → AreAtEase p
-    → ((r : Running) → slice_get p.members e.member ≡ Some r → is_beat (part_of r.place) ≡ true → MayWait r)
+    → ((r : Running) → present_at p.members e.member ≡ Some r → is_beat (part_of r.place) ≡ true → MayWait r)
     → AreAtEase (step_of p e)
 move_eases g p e group is run ease waits = moved_all IsAtEase p e ease (λ r there unended.
     deed_eases g p e r (record {
@@ -420,10 +422,10 @@ move_trusts g p e group is run trusting k y here =
 -- ---- every run
 
 -- members begin so, where their setups are calm
-pub trusting_begins : (g : Group) (turns : ℕ) (setups : List Setup) → IsGroup g → AreSetups g turns setups
-    → All IsCalm setups → AreTrusting (begun_program g setups)
+pub trusting_begins : (g : Group) (turns : ℕ) (setups : List (Option Setup)) → IsGroup g → AreSetups g turns setups
+    → AllCalm setups → AreTrusting (begun_program g setups)
 trusting_begins g turns setups group are calm m r there =
-    by (slice_get setups m) refl (sym (slice_get-map begun_running setups m) ∙ there)
+    by (present_at setups m) refl (sym (present_map begun_running setups m) ∙ there)
   where
     begun : (s : Setup) → IsCalm s → IsTrusting (begun_running s)
     begun s so =
@@ -436,15 +438,14 @@ trusting_begins g turns setups group are calm m r there =
               refl;
         }
 
-    by : (o : Option Setup) → slice_get setups m ≡ o → option_map begun_running o ≡ Some r → IsTrusting r
+    by : (o : Option Setup) → present_at setups m ≡ o → option_map begun_running o ≡ Some r → IsTrusting r
     by None e same = absurd (cc)
     by (Some s) e same = subst IsTrusting (same_Some (begun_running s) r same)
-        (begun s (subst IsCalm (get_or_from_slice_get setups m s s e)
-        (calm m s (slice_get_within setups m s e))))
+        (begun s (calm m s e))
 
 -- and stay so by any moves
-pub trusting_ran : (g : Group) (turns : ℕ) (setups : List Setup) (p : Program) → IsGroup g → 1 ≤ turns
-    → AreSetups g turns setups → All IsCalm setups → IsRanFrom (begun_program g setups) p → AreTrusting p
+pub trusting_ran : (g : Group) (turns : ℕ) (setups : List (Option Setup)) (p : Program) → IsGroup g → 1 ≤ turns
+    → AreSetups g turns setups → AllCalm setups → IsRanFrom (begun_program g setups) p → AreTrusting p
 trusting_ran g turns setups p group some are calm (es, same) = subst AreTrusting (sym same)
     (ran_keeps g (λ q. IsReached g (world g q) × AreTrusting q) (begun_program g setups) es group
     (begun_is_program g turns setups group some are) (begun_reached g turns setups group are)
@@ -452,25 +453,25 @@ trusting_ran g turns setups p group some are calm (es, same) = subst AreTrusting
     (begun_reached g turns setups group are, trusting_begins g turns setups group are calm)).1
 
 -- over a net too, however late the words of others come
-pub net_trusts : (g : Group) (turns : ℕ) (setups : List Setup) (p : Program) → IsGroup g → 1 ≤ turns
-    → AreSetups g turns setups → All IsCalm setups → IsRanOverNet g (begun_program g setups) p → AreTrusting p
+pub net_trusts : (g : Group) (turns : ℕ) (setups : List (Option Setup)) (p : Program) → IsGroup g → 1 ≤ turns
+    → AreSetups g turns setups → AllCalm setups → IsRanOverNet g (begun_program g setups) p → AreTrusting p
 net_trusts g turns setups p group some are calm (before, way) =
     net_keeps g turns setups AreTrusting group some are
     (λ q e form run trusting. move_trusts g q e group form run trusting) (λ q table trusting. trusting)
     (trusting_begins g turns setups group are calm) before p way
 
 -- so none of them ends by suspicion
-none_left : (p : Program) → AreTrusting p → NoneLeft (map end_of p.members)
-none_left p trusting = all_ends (λ e. is_left_out e.end ≡ false) p
+none_left : (p : Program) → AreTrusting p → NoneLeft (map end_at p.members)
+none_left p trusting = all_ends (λ e. is_left_out e.end ≡ false) p refl
     (λ m r there. by r.replica.end (trusting m r there).kept)
   where
     by : (o : Option End) → has_been_left o ≡ false → is_left_out (unwrap_or o ends.Done) ≡ false
     by None kept = refl
     by (Some end) kept = kept
 
-pub none_is_left : (g : Group) (turns : ℕ) (setups : List Setup) (p : Program) → IsGroup g → 1 ≤ turns
-    → AreSetups g turns setups → All IsCalm setups → IsRanFrom (begun_program g setups) p
-    → NoneLeft (map end_of p.members)
+pub none_is_left : (g : Group) (turns : ℕ) (setups : List (Option Setup)) (p : Program) → IsGroup g → 1 ≤ turns
+    → AreSetups g turns setups → AllCalm setups → IsRanFrom (begun_program g setups) p
+    → NoneLeft (map end_at p.members)
 none_is_left g turns setups p group some are calm run =
     none_left p (trusting_ran g turns setups p group some are calm run)
 
@@ -491,19 +492,19 @@ unsuspected nth m f none = by ((f.age == nth) && (f.member == m))
     by false = refl
 
 -- the setups of a script that suspects nobody are calm
-pub calm_setups : (script : Script) (start : Start) (nth : ℕ) (setups : List Setup) → SuspectsNobody script
-    → AreSetupsOf script start nth setups → All IsCalm setups
-calm_setups script start nth setups nobody are k d within =
-    let s = are.each k _ (slice_get-get_or setups k d within) in record {
-      patient = s.patience ∙ nobody.patient;
-      unscripted = s.suspicions ∙ nothing_of (suspicion_of nth k) script.faults
-          (λ i f l. unsuspected nth k (slice_index_or script.faults i f) (nobody.unscripted i f l));
+pub calm_setups : (script : Script) (start : Start) (nth : ℕ) (setups : List (Option Setup)) → SuspectsNobody script
+    → AreSetupsOf script start nth setups → AllCalm setups
+calm_setups script start nth setups nobody are m s there =
+    let of = are.each m s there in record {
+      patient = of.patience ∙ nobody.patient;
+      unscripted = of.suspicions ∙ nothing_of (suspicion_of nth m) script.faults
+          (λ i f l. unsuspected nth m (slice_index_or script.faults i f) (nobody.unscripted i f l));
     }
 
 pub none_by_script : (script : Script) (start : Start) (nth : ℕ) (begun p : Program)
     → IsGroup (group_of script start) → length script.messages ≡ script.members → 1 ≤ script.turns
     → SuspectsNobody script → IsBegun script start nth begun → IsRanFrom begun p
-    → NoneLeft (map end_of p.members)
+    → NoneLeft (map end_at p.members)
 none_by_script script start nth begun p is lists some nobody (setups, are, same) run =
     none_is_left (group_of script start) script.turns setups p is some
     (are_setups script start nth setups lists are) (calm_setups script start nth setups nobody are)

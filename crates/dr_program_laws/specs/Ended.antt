@@ -10,7 +10,9 @@ use Rattle.dr_history.specs.History.{IsPrefixOf, view_of}
 use Rattle.dr_history.specs.Members.{has, members_of}
 use Rattle.dr_history.specs.Order.{first_entries, messages_from, numbered_messages}
 use Rattle.dr_history_laws.specs.Remaining.{remaining}
+use Rattle.dr_history.specs.Soundness.{IsPresentIn}
 use Rattle.dr_program.specs.declared.setup.CrashPoint.{CrashPoint}
+use Rattle.dr_program.specs.Program.{absent_end}
 use Rattle.dr_words.specs.Masks.{IsInRoster, IsMajorityOf, IsPartOf}
 
 -- no crash point names a turn from 1 up to this one
@@ -118,7 +120,9 @@ pub record HasEnded (o : Opening) (ends : List MemberEnd) (limit m : ℕ) (point
   pub own : has members m ≡ true
   pub reason : HasReason o ends number members limit m points e
 
--- all members have, each with the crash points of its number
-abbrev pub HaveEnded : Opening → ℕ → (ℕ → List CrashPoint) → List MemberEnd → Type 0
-HaveEnded o limit points ends = (m : ℕ) (e : MemberEnd) → slice_get ends m ≡ Some e
-    → HasEnded o ends limit m (points m) e
+-- all members that are there have, each with the crash points of its number; and who is absent tells nothing
+pub record HaveEnded (o : Opening) (limit : ℕ) (points : ℕ → List CrashPoint) (ends : List MemberEnd)
+    : Type 0 where
+  pub each : (m : ℕ) (e : MemberEnd) → slice_get ends m ≡ Some e → IsPresentIn o m
+      → HasEnded o ends limit m (points m) e
+  pub absent : (m : ℕ) (e : MemberEnd) → slice_get ends m ≡ Some e → ¬ IsPresentIn o m → e ≡ absent_end

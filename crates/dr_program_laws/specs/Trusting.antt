@@ -1,5 +1,5 @@
 -- Members that suspect nobody, and never will.
-use Rattle.std.specs.Prelude.{◌≡◌, ◌≢◌, ◌⊎◌, ℕ, ◌+◌, ◌<◌, nat_lt, if◌then◌else◌, All, Bool, true, false, List, [], Option, None, Some, slice_get}
+use Rattle.std.specs.Prelude.{◌≡◌, ◌≢◌, ◌⊎◌, ℕ, ◌+◌, ◌<◌, nat_lt, if◌then◌else◌, All, Bool, true, false, List, [], Option, None, Some}
 use Rattle.dr_entry.specs.declared.end.End.{End}
 use Rattle.dr_entry.specs.declared.end.End.TheVariants.{Suspected, Excluded, NoMajority}
 use Rattle.dr_entry.specs.declared.end.MemberEnd.{MemberEnd}
@@ -14,6 +14,7 @@ use Rattle.dr_restart.specs.Setups.{suspicion_in}
 use Rattle.dr_script.specs.declared.script.Fault.{Fault}
 use Rattle.dr_script.specs.declared.script.Script.{Script}
 use Rattle.dr_suspect.specs.Waits.{turns_without_news}
+use Rattle.dr_program.specs.Presence.{present_at}
 
 -- the end is by suspicion
 abbrev pub is_left_out : End → Bool
@@ -35,6 +36,10 @@ pub record IsCalm (s : Setup) : Type 0 where
   pub patient : s.patience ≡ 0
   pub unscripted : s.suspicions ≡ []
 
+-- so it is with all these setups
+abbrev pub AllCalm : List (Option Setup) → Type 0
+AllCalm setups = (m : ℕ) (s : Setup) → present_at setups m ≡ Some s → IsCalm s
+
 -- no more does the script, to any member
 pub record SuspectsNobody (s : Script) : Type 0 where
   pub patient : s.patience ≡ 0
@@ -50,7 +55,7 @@ pub record IsTrusting (r : Running) : Type 0 where
 
 -- all members of the program do
 abbrev pub AreTrusting : Program → Type 0
-AreTrusting p = (m : ℕ) (r : Running) → slice_get p.members m ≡ Some r → IsTrusting r
+AreTrusting p = (m : ℕ) (r : Running) → present_at p.members m ≡ Some r → IsTrusting r
 
 -- whether a row is still to be compared in this turn: one look at it is to come then
 abbrev pub to_come : Part → ℕ → ℕ → ℕ
@@ -81,4 +86,4 @@ pub record IsAtEase (r : Running) : Type 0 where
 
 -- all members of the program are
 abbrev pub AreAtEase : Program → Type 0
-AreAtEase p = (m : ℕ) (r : Running) → slice_get p.members m ≡ Some r → IsAtEase r
+AreAtEase p = (m : ℕ) (r : Running) → present_at p.members m ≡ Some r → IsAtEase r

@@ -5,7 +5,7 @@
 //! the ends of a program's members. `docs/PROOFS.md` shows how.
 #![tactic(auto)]
 
-ghost use Rattle.std.specs.Prelude.{◌≡◌, ℕ, ◌<◌, ◌≤◌, All, Contains, List, [], ◌∷◌, length, map, max, slice_get, slice_index, slice_set, Some};
+ghost use Rattle.std.specs.Prelude.{◌≡◌, ℕ, ◌<◌, ◌≤◌, All, Contains, List, [], ◌∷◌, length, map, max, slice_index, slice_set, Some, Option};
 ghost use Rattle.dr_entry.specs.declared.end.End.{End};
 ghost use Rattle.dr_history.specs.Agreement.{EndsAgreed};
 ghost use Rattle.dr_machine.specs.declared.step.Step.TheVariants.{Look, Push};
@@ -15,7 +15,7 @@ ghost use Rattle.dr_program.specs.declared.packet.Packet.{Packet};
 ghost use Rattle.dr_program.specs.declared.setup.CrashPoint.{CrashPoint};
 ghost use Rattle.dr_program.specs.declared.setup.Setup.{Setup};
 ghost use Rattle.dr_program.specs.Net.{IsRanOverNet, NetWay};
-ghost use Rattle.dr_program.specs.Program.{AllEnded, AreSetups, IsRanFrom, Move, Program, begun_program, end_of, next_sight, ok, ran, step_of};
+ghost use Rattle.dr_program.specs.Program.{AllEnded, AreSetups, IsRanFrom, Move, Program, begun_program, end_at, next_sight, ok, ran, step_of};
 ghost use Rattle.dr_program.specs.Reading.{step_of_member, world};
 ghost use Rattle.dr_program.specs.Running.{Running};
 ghost use Rattle.dr_program.specs.Schedule.{IsLockstep, IsSeeded};
@@ -32,15 +32,16 @@ ghost use Rattle.dr_program_laws.specs.Carried.{IsCarried};
 ghost use Rattle.dr_program_laws.specs.Causes.{HasCause};
 ghost use Rattle.dr_program_laws.specs.Ended.{HaveEnded};
 ghost use Rattle.dr_program_laws.specs.Failing.{AreFailing, IsFailing};
-ghost use Rattle.dr_program_laws.specs.Trusting.{AreAtEase, AreTrusting, IsCalm, NoneLeft, SuspectsNobody};
+ghost use Rattle.dr_program_laws.specs.Trusting.{AllCalm, AreAtEase, AreTrusting, NoneLeft, SuspectsNobody};
+ghost use Rattle.dr_program.specs.Presence.{present_at};
 
 /// Deeds keep a program: whatever deeds its members have taken, and in whatever order, it is one of its
 /// group still, in a world that some events lead to. A look then finds a word that its member may see.
 pub fn deeds_keep_programs()
-    ensures deeds { (g : Group) (turns : ℕ) (setups : List Setup) (p : Program)
+    ensures deeds { (g : Group) (turns : ℕ) (setups : List (Option Setup)) (p : Program)
         → IsGroup g → 1 ≤ turns → AreSetups g turns setups
         → IsRanFrom (begun_program g setups) p → IsProgram g p × IsReached g (world g p) }
-    ensures events { (g : Group) (turns : ℕ) (setups : List Setup) (p : Program)
+    ensures events { (g : Group) (turns : ℕ) (setups : List (Option Setup)) (p : Program)
         → IsGroup g → 1 ≤ turns → AreSetups g turns setups
         → IsRanFrom (begun_program g setups) p → ComesOfEvents g (world g p) }
     ensures deed { (g : Group) (p : Program) (e : Move) → IsGroup g → IsProgram g p
@@ -48,7 +49,7 @@ pub fn deeds_keep_programs()
         → IsProgram g (step_of p e) × IsReached g (world g (step_of p e)) }
     ensures sight { (g : Group) (p : Program) (m : ℕ) (r : Running) (i c : ℕ)
         → IsGroup g → IsProgram g p → IsReached g (world g p)
-        → slice_get p.members m ≡ Some r → step_of_member r ≡ Some (Look i c)
+        → present_at p.members m ≡ Some r → step_of_member r ≡ Some (Look i c)
         → MaySee r (step_of_member r) (next_sight p.table r) }
 {}
 
@@ -59,27 +60,27 @@ pub fn deeds_keep_programs()
 /// agree, and its members end as they should, each with a cause. A member whose append has failed ends by that,
 /// and where no setup gives a reason to suspect anybody, nobody is suspected.
 pub fn nets_keep_programs()
-    ensures program { (g : Group) (turns : ℕ) (setups : List Setup) (before : List Program) (p : Program)
+    ensures program { (g : Group) (turns : ℕ) (setups : List (Option Setup)) (before : List Program) (p : Program)
         → IsGroup g → 1 ≤ turns → AreSetups g turns setups
         → NetWay g (begun_program g setups) before p
         → IsProgram g p × Way g (map (world g) before) (world g p) }
-    ensures agree { (g : Group) (turns : ℕ) (setups : List Setup) (p : Program)
+    ensures agree { (g : Group) (turns : ℕ) (setups : List (Option Setup)) (p : Program)
         → IsGroup g → 1 ≤ turns → AreSetups g turns setups
-        → IsRanOverNet g (begun_program g setups) p → EndsAgreed g.opening (map end_of p.members) }
-    ensures ends { (g : Group) (turns : ℕ) (setups : List Setup) (points : ℕ → List CrashPoint) (p : Program)
+        → IsRanOverNet g (begun_program g setups) p → EndsAgreed g.opening (map end_at p.members) }
+    ensures ends { (g : Group) (turns : ℕ) (setups : List (Option Setup)) (points : ℕ → List CrashPoint) (p : Program)
         → IsGroup g → 1 ≤ turns → AreSetups g turns setups
-        → ((k : ℕ) (s : Setup) → slice_get setups k ≡ Some s → s.crashes ≡ points k)
+        → ((k : ℕ) (s : Setup) → present_at setups k ≡ Some s → s.crashes ≡ points k)
         → IsRanOverNet g (begun_program g setups) p → AllEnded p
-        → HaveEnded g.opening turns points (map end_of p.members) }
-    ensures causes { (g : Group) (turns : ℕ) (setups : List Setup) (p : Program) (m : ℕ) (r : Running)
+        → HaveEnded g.opening turns points (map end_at p.members) }
+    ensures causes { (g : Group) (turns : ℕ) (setups : List (Option Setup)) (p : Program) (m : ℕ) (r : Running)
         (end : End) → IsGroup g → 1 ≤ turns → AreSetups g turns setups
-        → IsRanOverNet g (begun_program g setups) p → slice_get p.members m ≡ Some r
+        → IsRanOverNet g (begun_program g setups) p → present_at p.members m ≡ Some r
         → r.replica.end ≡ Some end → HasCause g (world g p) m end }
-    ensures failing { (g : Group) (turns : ℕ) (setups : List Setup) (p : Program)
+    ensures failing { (g : Group) (turns : ℕ) (setups : List (Option Setup)) (p : Program)
         → IsGroup g → 1 ≤ turns → AreSetups g turns setups
         → IsRanOverNet g (begun_program g setups) p → AreFailing p }
-    ensures trusting { (g : Group) (turns : ℕ) (setups : List Setup) (p : Program)
-        → IsGroup g → 1 ≤ turns → AreSetups g turns setups → All IsCalm setups
+    ensures trusting { (g : Group) (turns : ℕ) (setups : List (Option Setup)) (p : Program)
+        → IsGroup g → 1 ≤ turns → AreSetups g turns setups → AllCalm setups
         → IsRanOverNet g (begun_program g setups) p → AreTrusting p }
 {}
 
@@ -94,7 +95,7 @@ pub fn carried_words_do_no_harm()
     ensures moves { (g : Group) (p : Program) (net : List Packet) (e : Move) → IsCarried g p net
         → IsCarried g (step_of p e) net }
     ensures pushes { (g : Group) (p : Program) (net : List Packet) (m : ℕ) (r : Running) (j c : ℕ)
-        → IsCarried g p net → slice_get p.members m ≡ Some r → step_of_member r ≡ Some (Push j c)
+        → IsCarried g p net → present_at p.members m ≡ Some r → step_of_member r ≡ Some (Push j c)
         → IsCarried g (record { members = (step_of p (ok m)).members; table = p.table })
         (record { index = index_in r.replica j (me r.replica) c; word = own r.replica.rows c } ∷ net) }
     ensures among { (g : Group) (p : Program) (net other : List Packet) → IsCarried g p net
@@ -127,9 +128,9 @@ pub fn ages_take_deeds()
 
 /// Whenever the members of a program stop, whatever deeds they took, what they have delivered agrees.
 pub fn ends_agree()
-    ensures { (g : Group) (turns : ℕ) (setups : List Setup) (p : Program)
+    ensures { (g : Group) (turns : ℕ) (setups : List (Option Setup)) (p : Program)
         → IsGroup g → 1 ≤ turns → AreSetups g turns setups
-        → IsRanFrom (begun_program g setups) p → EndsAgreed g.opening (map end_of p.members) }
+        → IsRanFrom (begun_program g setups) p → EndsAgreed g.opening (map end_at p.members) }
 {}
 
 /// Members that have all ended have ended as they should, each by its setup, and in the view that it was in:
@@ -139,14 +140,14 @@ pub fn ends_agree()
 /// program is: it has everything durably, another member suspects it, it is left with no majority, or it
 /// has committed a value that its view has voted for, and that names it.
 pub fn members_end_as_they_should()
-    ensures ends { (g : Group) (turns : ℕ) (setups : List Setup) (points : ℕ → List CrashPoint) (p : Program)
+    ensures ends { (g : Group) (turns : ℕ) (setups : List (Option Setup)) (points : ℕ → List CrashPoint) (p : Program)
         → IsGroup g → 1 ≤ turns → AreSetups g turns setups
-        → ((m : ℕ) (s : Setup) → slice_get setups m ≡ Some s → s.crashes ≡ points m)
+        → ((m : ℕ) (s : Setup) → present_at setups m ≡ Some s → s.crashes ≡ points m)
         → IsRanFrom (begun_program g setups) p → AllEnded p
-        → HaveEnded g.opening turns points (map end_of p.members) }
-    ensures causes { (g : Group) (turns : ℕ) (setups : List Setup) (p : Program) (m : ℕ) (r : Running)
+        → HaveEnded g.opening turns points (map end_at p.members) }
+    ensures causes { (g : Group) (turns : ℕ) (setups : List (Option Setup)) (p : Program) (m : ℕ) (r : Running)
         (end : End) → IsGroup g → 1 ≤ turns → AreSetups g turns setups
-        → IsRanFrom (begun_program g setups) p → slice_get p.members m ≡ Some r
+        → IsRanFrom (begun_program g setups) p → present_at p.members m ≡ Some r
         → r.replica.end ≡ Some end → HasCause g (world g p) m end }
 {}
 
@@ -157,32 +158,32 @@ pub fn members_end_as_their_script_says()
         ≤ script.turns
         → IsBegun script start nth begun → IsRanFrom begun p → AllEnded p
         → HaveEnded (group_of script start).opening script.turns (crashes_of script.faults nth)
-        (map end_of p.members) }
+        (map end_at p.members) }
 {}
 
 /// Where no setup gives a reason to suspect anybody, nobody is suspected, whatever deeds the members take,
 /// and no member is ended by suspicion. So everybody stays in the first view, and waits without a limit.
 pub fn trusting_members_suspect_nobody()
-    ensures begins { (g : Group) (turns : ℕ) (setups : List Setup) → IsGroup g → AreSetups g turns setups
-        → All IsCalm setups → AreTrusting (begun_program g setups) }
+    ensures begins { (g : Group) (turns : ℕ) (setups : List (Option Setup)) → IsGroup g → AreSetups g turns setups
+        → AllCalm setups → AreTrusting (begun_program g setups) }
     ensures keeps { (g : Group) (p : Program) (e : Move) → IsGroup g → IsProgram g p
         → IsReached g (world g p) → AreTrusting p → AreTrusting (step_of p e) }
     ensures ease { (p : Program) → AreTrusting p → AreAtEase p }
-    ensures ends { (g : Group) (turns : ℕ) (setups : List Setup) (p : Program)
-        → IsGroup g → 1 ≤ turns → AreSetups g turns setups → All IsCalm setups
-        → IsRanFrom (begun_program g setups) p → NoneLeft (map end_of p.members) }
+    ensures ends { (g : Group) (turns : ℕ) (setups : List (Option Setup)) (p : Program)
+        → IsGroup g → 1 ≤ turns → AreSetups g turns setups → AllCalm setups
+        → IsRanFrom (begun_program g setups) p → NoneLeft (map end_at p.members) }
     ensures script { (script : Script) (start : Start) (nth : ℕ) (begun p : Program)
         → IsGroup (group_of script start) → length script.messages ≡ script.members → 1 ≤ script.turns
         → SuspectsNobody script → IsBegun script start nth begun → IsRanFrom begun p
-        → NoneLeft (map end_of p.members) }
+        → NoneLeft (map end_at p.members) }
 {}
 
 /// A member whose append fails ends by that, with its next act, and no other member ends by its log. Each
 /// move keeps it so.
 pub fn failed_appends_end_their_members()
-    ensures ends { (g : Group) (turns : ℕ) (setups : List Setup) (p : Program) (m : ℕ) (r : Running)
+    ensures ends { (g : Group) (turns : ℕ) (setups : List (Option Setup)) (p : Program) (m : ℕ) (r : Running)
         → IsGroup g → 1 ≤ turns → AreSetups g turns setups
-        → IsRanFrom (begun_program g setups) p → slice_get p.members m ≡ Some r → IsFailing r }
+        → IsRanFrom (begun_program g setups) p → present_at p.members m ≡ Some r → IsFailing r }
     ensures keeps { (g : Group) (p : Program) (e : Move) → IsProgram g p → AreFailing p
         → AreFailing (step_of p e) }
 {}

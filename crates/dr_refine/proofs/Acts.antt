@@ -2,10 +2,9 @@
 use Rattle.std.proofs.Common.{◌≡◌, refl, sym, ap, ◌∙◌, ℕ, ◌+◌, ◌-◌, ◌/◌, ◌%◌, ◌^◌, ◌<◌, ◌≤◌, ◌==◌, true, min, if◌then◌else◌, List, ◌++◌, length, map, fold, take, drop, slice_index, arith}
 use Rattle.std.proofs.Math.Path.{fun_ext}
 use Rattle.std.proofs.Math.Seq.{take-append-add}
-use Rattle.std.specs.Prelude.{Some, slice_set, nat_lt}
+use Rattle.std.specs.Prelude.{Some, nat_lt, Option}
 use Rattle.std.proofs.lemmas.Bool.Decides.{nat_tests}
 use Rattle.std.proofs.lemmas.List.{take-append-drop, take-append-le, length-take-le}
-use Rattle.std.proofs.lemmas.Option.{slice_get_within}
 use Rattle.dr_entry.specs.declared.entry.Entry.{Entry}
 use Rattle.dr_entry.specs.declared.entry.Item.{Item}
 use Rattle.dr_entry.specs.declared.entry.Item.TheVariants.{Null}
@@ -23,6 +22,8 @@ use Rattle.dr_program.proofs.OwnWords.{same_number, other_number}
 use Rattle.dr_refine.specs.Programs.{IsMember, acted_table}
 use Rattle.dr_refine.proofs.Members.{fits, fits_own, replaced, own_world, then_acted, shown_word}
 use Rattle.dr_refine.proofs.Views.{member_below}
+use Rattle.dr_program.specs.Presence.{with_present}
+use Rattle.dr_program.proofs.Present.{present_within}
 
 -- ---- a turn begins
 
@@ -36,12 +37,12 @@ beat_changes w m = record {
 }
 
 -- a turn begins
-pub beat_effect : (g : Group) (rs : List Replica) (table : List ℕ) (m : ℕ) (r : Replica)
+pub beat_effect : (g : Group) (rs : List (Option Replica)) (table : List ℕ) (m : ℕ) (r : Replica)
     → IsMember g rs table m r
-    → world_of g (slice_set rs m (acted (beaten r))) (acted_table g table m r)
+    → world_of g (with_present rs m (acted (beaten r))) (acted_table g table m r)
     ≡ stamped (beats (world_of g rs table) m) m
 beat_effect g rs table m r is =
-    then_acted g rs table m (beaten r) (beats (world_of g rs table) m) (slice_get_within rs m r is.there)
+    then_acted g rs table m (beaten r) (beats (world_of g rs table) m) (present_within rs m r is.there)
     (fits g rs table m r is) is.cells
     (replaced g rs table table m r (beaten r) (beats (world_of g rs table) m) beat_after is.there
     (beat_changes (world_of g rs table) m) refl refl)
@@ -59,13 +60,13 @@ end_changes w m end = record {
 }
 
 -- a member ends
-pub end_effect : (g : Group) (rs : List Replica) (table : List ℕ) (m : ℕ) (r : Replica) (end : End)
+pub end_effect : (g : Group) (rs : List (Option Replica)) (table : List ℕ) (m : ℕ) (r : Replica) (end : End)
     → IsMember g rs table m r
-    → world_of g (slice_set rs m (acted (ended r end))) (acted_table g table m r)
+    → world_of g (with_present rs m (acted (ended r end))) (acted_table g table m r)
     ≡ stamped (effects.ends (world_of g rs table) m end) m
 end_effect g rs table m r end is =
     then_acted g rs table m (ended r end) (effects.ends (world_of g rs table) m end)
-    (slice_get_within rs m r is.there) (fits g rs table m r is) is.cells
+    (present_within rs m r is.there) (fits g rs table m r is) is.cells
     (replaced g rs table table m r (ended r end) (effects.ends (world_of g rs table) m end)
     (end_after end) is.there (end_changes (world_of g rs table) m end) refl refl)
 
@@ -91,9 +92,9 @@ item_shown n s x within =
     let test : nat_lt s n ≡ true = grind (arith, nat_tests, within) in rw test refl
 
 -- a place is delivered
-pub deliver_effect : (g : Group) (rs : List Replica) (table : List ℕ) (m : ℕ) (r : Replica)
+pub deliver_effect : (g : Group) (rs : List (Option Replica)) (table : List ℕ) (m : ℕ) (r : Replica)
     → IsMember g rs table m r
-    → world_of g (slice_set rs m (acted (delivered r))) (acted_table g table m r)
+    → world_of g (with_present rs m (acted (delivered r))) (acted_table g table m r)
     ≡ stamped (delivers (world_of g rs table) m) m
 deliver_effect g rs table m r is =
     let s : ℕ = sender_of_place r r.next in
@@ -103,7 +104,7 @@ deliver_effect g rs table m r is =
     let item = item_shown (roster g) s (item_of_place r r.next) within in
     let log = take-append-le r.logged r.history (entries_of r.history s (item_of_place r r.next)) is.form.logged in
     then_acted g rs table m (delivered r) (delivers (world_of g rs table) m)
-    (slice_get_within rs m r is.there) (fits g rs table m r is) is.cells
+    (present_within rs m r is.there) (fits g rs table m r is) is.cells
     (replaced g rs table table m r (delivered r) (delivers (world_of g rs table) m) deliver_after is.there
     (deliver_changes (world_of g rs table) m)
     (λ z. record (holding_of g r)
@@ -131,9 +132,9 @@ next_front xs n within =
     ∙ ap (λ k. take (k + 1) xs) len
 
 -- an entry goes on the log
-pub append_effect : (g : Group) (rs : List Replica) (table : List ℕ) (m : ℕ) (r : Replica)
+pub append_effect : (g : Group) (rs : List (Option Replica)) (table : List ℕ) (m : ℕ) (r : Replica)
     → IsMember g rs table m r
-    → world_of g (slice_set rs m (appended r)) table ≡ appends (world_of g rs table) m
+    → world_of g (with_present rs m (appended r)) table ≡ appends (world_of g rs table) m
 append_effect g rs table m r is =
     let log = next_front r.history r.logged is.form.logged in
     replaced g rs table table m r (appended r) (appends (world_of g rs table) m) append_after is.there
@@ -143,9 +144,9 @@ append_effect g rs table m r is =
 -- ---- the logged word, and the done word
 
 -- the logged word follows the log
-pub publish_effect : (g : Group) (rs : List Replica) (table : List ℕ) (m : ℕ) (r : Replica)
+pub publish_effect : (g : Group) (rs : List (Option Replica)) (table : List ℕ) (m : ℕ) (r : Replica)
     → IsMember g rs table m r
-    → world_of g (slice_set rs m (acted (published r))) (acted_table g table m r)
+    → world_of g (with_present rs m (acted (published r))) (acted_table g table m r)
     ≡ stamped (publishes (world_of g rs table) m) m
 publish_effect g rs table m r is =
     let f = fits g rs table m r is in
@@ -153,18 +154,18 @@ publish_effect g rs table m r is =
     ap (λ h. length h.log) (held_of g rs table m r is.there)
     ∙ length-take-le r.logged r.history is.form.logged in
     then_acted g rs table m (published r) (publishes (world_of g rs table) m)
-    (slice_get_within rs m r is.there) (fits_own g m r.rows r.view LOGGED_COLUMN r.logged f) is.cells
+    (present_within rs m r is.there) (fits_own g m r.rows r.view LOGGED_COLUMN r.logged f) is.cells
     (own_world g rs table m r LOGGED_COLUMN r.logged is.there f (omega arith)
     ∙ ap (effects.with_own (world_of g rs table) m LOGGED_COLUMN) (sym logged))
 
 -- the done word is set
-pub mark_effect : (g : Group) (rs : List Replica) (table : List ℕ) (m : ℕ) (r : Replica)
+pub mark_effect : (g : Group) (rs : List (Option Replica)) (table : List ℕ) (m : ℕ) (r : Replica)
     → IsMember g rs table m r
-    → world_of g (slice_set rs m (acted (marked r))) (acted_table g table m r)
+    → world_of g (with_present rs m (acted (marked r))) (acted_table g table m r)
     ≡ stamped (marks (world_of g rs table) m) m
 mark_effect g rs table m r is =
     let f = fits g rs table m r is in
-    then_acted g rs table m (marked r) (marks (world_of g rs table) m) (slice_get_within rs m r is.there)
+    then_acted g rs table m (marked r) (marks (world_of g rs table) m) (present_within rs m r is.there)
     (fits_own g m r.rows r.view DONE_COLUMN 1 f) is.cells
     (own_world g rs table m r DONE_COLUMN 1 is.there f (omega arith))
 
@@ -186,16 +187,16 @@ report_changes w m = record {
 }
 
 -- more is known to be durable
-pub report_effect : (g : Group) (rs : List Replica) (table : List ℕ) (m : ℕ) (r : Replica)
+pub report_effect : (g : Group) (rs : List (Option Replica)) (table : List ℕ) (m : ℕ) (r : Replica)
     → IsMember g rs table m r
-    → world_of g (slice_set rs m (acted (reported r))) (acted_table g table m r)
+    → world_of g (with_present rs m (acted (reported r))) (acted_table g table m r)
     ≡ stamped (reports (world_of g rs table) m) m
 report_effect g rs table m r is =
     let least : (report_after m (holding_of g r)).durable ≡ least_seen r LOGGED_COLUMN =
     ap (λ (f : ℕ → ℕ). fold min (2 ^ 64 - 1) (map f (members_of r.members)))
     (fun_ext λ i. shown_word r m i LOGGED_COLUMN is.of.number) in
     then_acted g rs table m (reported r) (reports (world_of g rs table) m)
-    (slice_get_within rs m r is.there) (fits g rs table m r is) is.cells
+    (present_within rs m r is.there) (fits g rs table m r is) is.cells
     (replaced g rs table table m r (reported r) (reports (world_of g rs table) m) (report_after m) is.there
     (report_changes (world_of g rs table) m)
     (λ z. record (holding_of g r) { durable = least z }) refl)

@@ -1,8 +1,8 @@
 -- The next deed of a running member is a step of the machine.
 use Rattle.std.proofs.Common.{◌≡◌, ◌⊎◌, refl, sym, ap, ◌∙◌, subst, ℕ, zero, suc, ◌||◌, Bool, true, false, inl, inr, if◌then◌else◌, List, [], ◌∷◌, map, arith}
-use Rattle.std.specs.Prelude.{Option, Some, None, is_some, slice_get, slice_index_or, slice_set, option_map}
+use Rattle.std.specs.Prelude.{Option, Some, None, is_some, option_map, slice_set}
 use Rattle.std.proofs.lemmas.List.{set-get_or}
-use Rattle.std.proofs.lemmas.Option.{get_or_from_slice_get, slice_get-map}
+use Rattle.dr_program.proofs.Present.{present_map}
 use Rattle.std.proofs.lemmas.Bool.{and_from, and_parts}
 use Rattle.dr_entry.specs.declared.end.End.{End}
 use Rattle.dr_machine.specs.declared.step.Step.{Step}
@@ -25,6 +25,7 @@ use Rattle.dr_machine.proofs.Events.{member_of_event, step_of_event}
 use Rattle.dr_machine.proofs.Runs.{events_more, reached_more, stays_next}
 use Rattle.dr_refine.specs.Programs.{IsMember, IsProgram}
 use Rattle.dr_refine.proofs.Tests.{step_effect, step_guard}
+use Rattle.dr_program.specs.Presence.{present_at, with_present}
 
 -- ---- on to the next place
 
@@ -40,33 +41,38 @@ settle_replica (suc n) r = by (is_some r.replica.end || applies r r.place) (sett
     by false e = e
 
 -- the replicas of a program's members
-abbrev pub replicas : List Running → List Replica
-replicas rs = map (λ (r : Running). r.replica) rs
+abbrev pub replicas : List (Option Running) → List (Option Replica)
+replicas rs = map (option_map (λ (r : Running). r.replica)) rs
 
-replicas_set : (rs : List Running) (m : ℕ) (r : Running) (q : Replica) → r.replica ≡ q
-    → replicas (slice_set rs m r) ≡ slice_set (replicas rs) m q
+replicas_set : (rs : List (Option Running)) (m : ℕ) (r : Running) (q : Replica) → r.replica ≡ q
+    → replicas (with_present rs m r) ≡ with_present (replicas rs) m q
 replicas_set [] m r q e = refl
-replicas_set (x ∷ rs) zero r q e = ap (λ p. p ∷ replicas rs) e
-replicas_set (x ∷ rs) (suc m) r q e = ap (λ ps. x.replica ∷ ps) (replicas_set rs m r q e)
+replicas_set (x ∷ rs) zero r q e = ap (λ p. Some p ∷ replicas rs) e
+replicas_set (x ∷ rs) (suc m) r q e =
+    ap (λ ps. option_map (λ (r : Running). r.replica) x ∷ ps) (replicas_set rs m r q e)
 
 -- the world after a deed that leaves the member as r, before it goes on to its next place
-pub settled_world : (g : Group) (rs : List Running) (cells : List ℕ) (m : ℕ) (r : Running)
-    → world g (record { members = slice_set rs m (settled r); table = cells })
-    ≡ world_of g (slice_set (replicas rs) m r.replica) cells
+pub settled_world : (g : Group) (rs : List (Option Running)) (cells : List ℕ) (m : ℕ) (r : Running)
+    → world g (record { members = with_present rs m (settled r); table = cells })
+    ≡ world_of g (with_present (replicas rs) m r.replica) cells
 settled_world g rs cells m r =
     ap (λ qs. world_of g qs cells) (replicas_set rs m (settled r) r.replica (settle_replica _ r))
 
 -- ---- the member of the replicas
 
+pub replica_there : (p : Program) (m : ℕ) (r : Running) → present_at p.members m ≡ Some r
+    → present_at (replicas p.members) m ≡ Some r.replica
+replica_there p m r there = present_map (λ (x : Running). x.replica) p.members m
+    ∙ ap (option_map (λ (x : Running). x.replica)) there
+
 -- a member of a program is one of its group
 pub program_member : (g : Group) (p : Program) (m : ℕ) (r : Running) → IsGroup g → IsProgram g p
-    → slice_get p.members m ≡ Some r
+    → present_at p.members m ≡ Some r
     → IsMember g (replicas p.members) p.table m r.replica
 program_member g p m r group is there = record {
   group = group;
   cells = is.table;
-  there = slice_get-map (λ (x : Running). x.replica) p.members m
-      ∙ ap (option_map (λ (x : Running). x.replica)) there;
+  there = replica_there p m r there;
   form = (is.form m r there).replica;
   of = is.of m r there;
 }
@@ -84,17 +90,17 @@ due_allowed r due = (and_parts (asks r (part_of r.place) r.place.row r.place.col
     (allows r.replica (next_step r)) due).1
 
 -- the program after a move of a member without an end
-pub step_is : (p : Program) (e : Move) (r : Running) → slice_get p.members e.member ≡ Some r
+pub step_is : (p : Program) (e : Move) (r : Running) → present_at p.members e.member ≡ Some r
     → r.replica.end ≡ None
     → step_of p e ≡ record {
-      members = slice_set p.members e.member (after_deed (next_sight p.table r) e.outcome r (next_step r));
+      members = with_present p.members e.member (after_deed (next_sight p.table r) e.outcome r (next_step r));
       table = stored p.table r.replica (next_step r);
     }
 step_is p e r there unended = ap (λ o. moved_by p o e) there ∙ ap (went p r e) unended
 
 -- a deed that takes the step that is due is that step
 pub deed_step : (g : Group) (p : Program) (m : ℕ) (o : Outcome) (r : Running) → IsGroup g → IsProgram g p
-    → slice_get p.members m ≡ Some r → r.replica.end ≡ None
+    → present_at p.members m ≡ Some r → r.replica.end ≡ None
     → after_deed (next_sight p.table r) o r (next_step r) ≡ after_step (next_sight p.table r) r
     → IsStep g p (record { member = m; outcome = o }) (next_step r)
 deed_step g p m o r group is there unended takes =
@@ -104,7 +110,7 @@ deed_step g p m o r group is there unended takes =
           (and_from _ _ (free_step r (is.form m r there).free) may)).0,
       ap (world g) (step_is p (record { member = m; outcome = o }) r there unended)
           ∙ ap (λ x. world g (record
-          { members = slice_set p.members m x; table = stored p.table r.replica (next_step r) })) takes
+          { members = with_present p.members m x; table = stored p.table r.replica (next_step r) })) takes
           ∙ settled_world g p.members (stored p.table r.replica (next_step r)) m
           (took (next_sight p.table r) r (next_step r))
           ∙ step_effect g (replicas p.members) p.table m r.replica (next_step r) member may,
@@ -117,7 +123,7 @@ came_to table o r due s came = grind (arith, came)
 
 -- by the outcome
 outcome_step : (g : Group) (p : Program) (m : ℕ) (r : Running) (o : Outcome) (s : Step) → IsGroup g
-    → IsProgram g p → slice_get p.members m ≡ Some r
+    → IsProgram g p → present_at p.members m ≡ Some r
     → r.replica.end ≡ None → comes_to (Some (next_step r)) o ≡ Some s
     → IsStep g p (record { member = m; outcome = o }) s
 outcome_step g p m r o s group is there unended came =
@@ -128,7 +134,7 @@ outcome_step g p m r o s group is there unended came =
 -- the deed of a member is the step of its place
 pub deed_is_step : (g : Group) (p : Program) (e : Move) (r : Running) (s : Step) → IsGroup g
     → IsProgram g p
-    → slice_get p.members e.member ≡ Some r → step_by r e.outcome ≡ Some s → IsStep g p e s
+    → present_at p.members e.member ≡ Some r → step_by r e.outcome ≡ Some s → IsStep g p e s
 deed_is_step g p e r s group is there named = by r.replica.end refl named
   where
     by : (o : Option End) → r.replica.end ≡ o → comes_to (step_due r o) e.outcome ≡ Some s
@@ -137,7 +143,7 @@ deed_is_step g p e r s group is there named = by r.replica.end refl named
     by (Some x) ended came = absurd (cc)
 
 -- a member at rest changes nothing
-pub rest_changes_nothing : (p : Program) (e : Move) (r : Running) → slice_get p.members e.member
+pub rest_changes_nothing : (p : Program) (e : Move) (r : Running) → present_at p.members e.member
     ≡ Some r → is_some r.replica.end ≡ true → step_of p e ≡ p
 rest_changes_nothing p e r there rests = by r.replica.end refl rests
   where
@@ -152,7 +158,7 @@ fails_alone : (table : List ℕ) (o : Outcome) (r : Running) (due : Step) → co
 fails_alone table o r due none = grind (arith, none)
 
 -- a move that is no step leaves the world
-pub no_step_no_change : (g : Group) (p : Program) (e : Move) (r : Running) → slice_get p.members e.member
+pub no_step_no_change : (g : Group) (p : Program) (e : Move) (r : Running) → present_at p.members e.member
     ≡ Some r → step_by r e.outcome ≡ None
     → world g (step_of p e) ≡ world g p
 no_step_no_change g p e r there named = by r.replica.end refl named
@@ -160,21 +166,16 @@ no_step_no_change g p e r there named = by r.replica.end refl named
     after : Running
     after = after_deed (next_sight p.table r) e.outcome r (next_step r)
 
-    held : slice_index_or (replicas p.members) e.member r.replica ≡ r.replica
-    held = get_or_from_slice_get (replicas p.members) e.member r.replica r.replica
-        (slice_get-map (λ (x : Running). x.replica) p.members e.member
-        ∙ ap (option_map (λ (x : Running). x.replica)) there)
-
     by : (o : Option End) → r.replica.end ≡ o → comes_to (step_due r o) e.outcome ≡ None
         → world g (step_of p e) ≡ world g p
     by None unended none =
         let alone = fails_alone p.table e.outcome r (next_step r) none in
         ap (world g) (step_is p e r there unended)
         ∙ ap (λ cells. world g (record
-        { members = slice_set p.members e.member after; table = cells })) alone.1
+        { members = with_present p.members e.member after; table = cells })) alone.1
         ∙ ap (λ rs. world_of g rs p.table) (replicas_set p.members e.member after r.replica alone.0
-        ∙ sym (ap (slice_set (replicas p.members) e.member) held)
-        ∙ set-get_or (replicas p.members) e.member r.replica)
+        ∙ sym (ap (slice_set (replicas p.members) e.member) (replica_there p e.member r there))
+        ∙ set-get_or (replicas p.members) e.member None)
     by (Some x) ended none = ap (world g) (rest_changes_nothing p e r there (ap is_some ended))
 
 -- a step of a member is an event
@@ -197,9 +198,9 @@ pub step_comes : (g : Group) (p : Program) (e : Move) → IsGroup g → IsProgra
     → ((event : Event) × Guard g (world g p) event
     × (world g (step_of p e) ≡ effect g (world g p) event))
     ⊎ (world g (step_of p e) ≡ world g p)
-step_comes g p e group is = by (slice_get p.members e.member) refl
+step_comes g p e group is = by (present_at p.members e.member) refl
   where
-    named : (r : Running) → slice_get p.members e.member ≡ Some r → (x : Option Step)
+    named : (r : Running) → present_at p.members e.member ≡ Some r → (x : Option Step)
         → step_by r e.outcome ≡ x
         → ((event : Event) × Guard g (world g p) event
         × (world g (step_of p e) ≡ effect g (world g p) event))
@@ -210,7 +211,7 @@ step_comes g p e group is = by (slice_get p.members e.member) refl
         let event = is_event g (world g p) (world g (step_of p e)) e.member s happened.0 happened.1 in
         inl (event_of e.member s, event.0, event.1)
 
-    by : (o : Option Running) → slice_get p.members e.member ≡ o
+    by : (o : Option Running) → present_at p.members e.member ≡ o
         → ((event : Event) × Guard g (world g p) event
         × (world g (step_of p e) ≡ effect g (world g p) event))
         ⊎ (world g (step_of p e) ≡ world g p)

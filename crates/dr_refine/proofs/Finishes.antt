@@ -1,12 +1,12 @@
 -- A member that ends its view: when it may, and what it makes of the world.
 use Rattle.std.proofs.Common.{◌≡◌, ◌≢◌, refl, sym, ap, ◌∙◌, ◌↔◌, subst, ℕ, zero, suc, ◌+◌, ◌*◌, ◌/◌, ◌%◌, ◌<◌, ◌≤◌, ◌==◌, inl, inr, not, Bool, true, false, if◌then◌else◌, List, [], ◌∷◌, ◌++◌, length, map, fold, take, slice_index, slice_index_or, arith, set-set}
 use Rattle.std.proofs.Math.Path.{fun_ext}
-use Rattle.std.specs.Prelude.{Option, None, Some, nat_lt, slice_get, slice_set, unwrap_or}
+use Rattle.std.specs.Prelude.{Option, None, Some, nat_lt, unwrap_or}
 use Rattle.std.specs.List.{list_all}
 use Rattle.std.proofs.lemmas.Bool.{and_from, and_parts, cases_eq}
 use Rattle.std.proofs.lemmas.Bool.Decides.{nat_tests}
 use Rattle.std.proofs.lemmas.List.{get_or_past, length-take-le, take-append-le}
-use Rattle.std.proofs.lemmas.Option.{none-some, slice_get_within}
+use Rattle.std.proofs.lemmas.Option.{none-some}
 use Rattle.dr_entry.specs.declared.entry.Entry.{Entry}
 use Rattle.dr_entry.specs.declared.entry.Entry.TheVariants.{View}
 use Rattle.dr_entry.specs.declared.entry.Item.{Item}
@@ -28,7 +28,7 @@ use Rattle.dr_machine.specs.Effects.{committed_value, entries_of, finishes, fini
 use Rattle.dr_program.specs.Replica.{LeftView, Replica, me, acted, count, finished, finished_by, finished_history, item_of_place, left_now, may_end, may_finish, sender_of_place, members_in_view, with_place}
 use Rattle.dr_program.specs.Reading.{kept_word, nothing_left, world_of}
 use Rattle.dr_program.proofs.Finishing.{finished_more}
-use Rattle.dr_program.proofs.Holdings.{Holding, held, holding_of, held_of, Changes, replica_set}
+use Rattle.dr_program.proofs.Holdings.{Holding, held, holding_of, held_of, Changes}
 use Rattle.dr_program.proofs.Opening.{copy_at, first_own, first_seen}
 use Rattle.dr_program.proofs.OwnWords.{both_same, same_number, other_number}
 use Rattle.dr_faithful.proofs.Writes.{at_same}
@@ -37,11 +37,13 @@ use Rattle.dr_refine.proofs.Acts.{item_shown}
 use Rattle.dr_refine.proofs.Guards.{IsIdle, count_is, may_choose}
 use Rattle.dr_refine.proofs.Members.{Fits, acted_world, fits, fits_own, replaced}
 use Rattle.dr_refine.proofs.Views.{member_below}
+use Rattle.dr_program.specs.Presence.{present_at, with_present}
+use Rattle.dr_program.proofs.Present.{present_within, present_set}
 
 -- ---- when it may
 
 -- it ends its view exactly where that may come, and it has room
-pub finish_guard : (g : Group) (rs : List Replica) (table : List ℕ) (m : ℕ) (r : Replica)
+pub finish_guard : (g : Group) (rs : List (Option Replica)) (table : List ℕ) (m : ℕ) (r : Replica)
     → IsMember g rs table m r → IsIdle r
     → (may_finish r r.committed ≡ true)
     ↔ (CanFinish g (world_of g rs table) m × (length (finished r).history ≤ r.room)
@@ -214,9 +216,9 @@ pub record MayGoOn (g : Group) (m : ℕ) (r : Replica) : Type 0 where
   pub logged : r.logged ≤ length r.history
 
 -- the world of a member that goes on
-pub finish_world : (g : Group) (rs : List Replica) (table : List ℕ) (m : ℕ) (r : Replica) (x : Value)
-    → slice_get rs m ≡ Some r → MayGoOn g m r
-    → world_of g (slice_set rs m (finished_by r x)) table ≡ finishes_by g (world_of g rs table) m x
+pub finish_world : (g : Group) (rs : List (Option Replica)) (table : List ℕ) (m : ℕ) (r : Replica) (x : Value)
+    → present_at rs m ≡ Some r → MayGoOn g m r
+    → world_of g (with_present rs m (finished_by r x)) table ≡ finishes_by g (world_of g rs table) m x
 finish_world g rs table m r x there f =
     replaced g rs table table m r (finished_by r x) (finishes_by g (world_of g rs table) m x)
     (finish_after g m x) there (finish_changes g (world_of g rs table) m x) same refl
@@ -350,14 +352,14 @@ stamped_first g w m x =
     }
 
 -- it ends its view
-pub finish_effect : (g : Group) (rs : List Replica) (table : List ℕ) (m : ℕ) (r : Replica)
+pub finish_effect : (g : Group) (rs : List (Option Replica)) (table : List ℕ) (m : ℕ) (r : Replica)
     → IsMember g rs table m r
-    → world_of g (slice_set rs m (finished (acted r))) (acted_table g table m r)
+    → world_of g (with_present rs m (finished (acted r))) (acted_table g table m r)
     ≡ stamped_in (finishes g (world_of g rs table) m) m ((world_of g rs table).past.view m)
 finish_effect g rs table m r is =
-    ap (λ qs. world_of g qs cells) (sym (set-set rs m (acted r) (finished (acted r))))
-    ∙ finish_world g (slice_set rs m (acted r)) cells m (acted r) x
-    (replica_set rs m (acted r) (slice_get_within rs m r is.there)) may
+    ap (λ qs. world_of g qs cells) (sym (set-set rs m (Some (acted r)) (Some (finished (acted r)))))
+    ∙ finish_world g (with_present rs m (acted r)) cells m (acted r) x
+    (present_set rs m (acted r) (present_within rs m r is.there)) may
     ∙ ap (λ u. finishes_by g u m x) (acted_world g rs table m r is.there f is.cells)
     ∙ stamped_first g w m x
     ∙ ap (λ y. stamped_in (finishes_by g w m y) m (w.past.view m)) (sym value)
@@ -389,7 +391,7 @@ finish_effect g rs table m r is =
     value = ap (λ h. unwrap_or h.committed no_value) (held_of g rs table m r is.there)
 
 -- so there is room for it, where its history and its own messages there keep within what the replica may hold
-pub finish_room : (g : Group) (rs : List Replica) (table : List ℕ) (m : ℕ) (r : Replica)
+pub finish_room : (g : Group) (rs : List (Option Replica)) (table : List ℕ) (m : ℕ) (r : Replica)
     → IsMember g rs table m r → (can : CanFinish g (world_of g rs table) m)
     → length ((stamped_in (finishes g (world_of g rs table) m) m
     ((world_of g rs table).past.view m)).past.history m) ≤ r.room
@@ -410,8 +412,8 @@ finish_room g rs table m r is can room few = (
     shown : {X : Type 0} (get : Holding → X) → get (held after m) ≡ get (holding_of g (finished (acted r)))
     shown get =
         ap (λ u. get (held u m)) (sym (finish_effect g rs table m r is))
-        ∙ ap get (held_of g (slice_set rs m (finished (acted r))) (acted_table g table m r) m
-        (finished (acted r)) (replica_set rs m (finished (acted r)) (slice_get_within rs m r is.there)))
+        ∙ ap get (held_of g (with_present rs m (finished (acted r))) (acted_table g table m r) m
+        (finished (acted r)) (present_set rs m (finished (acted r)) (present_within rs m r is.there)))
 
     history : after.past.history m ≡ (finished r).history
     history = shown (λ h. h.history)

@@ -1,7 +1,7 @@
 -- What an item more makes of the world: items that are put and items that are received.
 use Rattle.std.proofs.Common.{◌≡◌, refl, sym, ap, ◌∙◌, ℕ, ◌+◌, ◌*◌, ◌<◌, ◌==◌, inl, inr, false, if◌then◌else◌, List, length, map, slice_index, slice_index_or, arith}
 use Rattle.std.proofs.Math.Path.{fun_ext}
-use Rattle.std.specs.Prelude.{Some, slice_get, slice_set, nat_lt}
+use Rattle.std.specs.Prelude.{Some, slice_set, nat_lt, Option}
 use Rattle.std.proofs.lemmas.Bool.{cases_eq, cases_lt}
 use Rattle.std.proofs.lemmas.Bool.Decides.{nat_tests}
 use Rattle.std.proofs.lemmas.List.{get_or-set_same, get_or-set_other}
@@ -23,6 +23,7 @@ use Rattle.dr_program.specs.Reading.{kept_count, kept_word, world_of}
 use Rattle.dr_program.proofs.Holdings.{Holding, held, holding_of, Changes}
 use Rattle.dr_program.proofs.OwnWords.{same_number, other_number, own_with}
 use Rattle.dr_refine.proofs.Members.{Fits, fits_own, replaced, seen_kept}
+use Rattle.dr_program.specs.Presence.{present_at, with_present}
 
 -- ---- an item more
 
@@ -134,9 +135,9 @@ gained_items g r s x may = fun_ext λ t. fun_ext λ l. item_written
     may.items may.few may.sender (omega (arith, within, may.roster)))
 
 -- an item more of a replica is one more in its world
-pub gained_world : (g : Group) (rs : List Replica) (table : List ℕ) (m : ℕ) (r : Replica) (s : ℕ)
-    (item : Item) → slice_get rs m ≡ Some r → Fits g m r.rows r.view → MayGain g r s
-    → world_of g (slice_set rs m (gained r s item)) table ≡ gains (world_of g rs table) m s item
+pub gained_world : (g : Group) (rs : List (Option Replica)) (table : List ℕ) (m : ℕ) (r : Replica) (s : ℕ)
+    (item : Item) → present_at rs m ≡ Some r → Fits g m r.rows r.view → MayGain g r s
+    → world_of g (with_present rs m (gained r s item)) table ≡ gains (world_of g rs table) m s item
 gained_world g rs table m r s x there f may =
     replaced g rs table table m r (gained r s x) (gains (world_of g rs table) m s x) (gain_after s x) there
     (gain_changes (world_of g rs table) m s x) same refl

@@ -42,7 +42,7 @@ abbrev pub IsIdle : Replica → Type 0
 IsIdle r = (r.end ≡ None) × (r.pending ≡ None)
 
 -- a replica without an end is a member without one
-pub running : (g : Group) (rs : List Replica) (table : List ℕ) (m : ℕ) (r : Replica)
+pub running : (g : Group) (rs : List (Option Replica)) (table : List ℕ) (m : ℕ) (r : Replica)
     → IsMember g rs table m r → r.end ≡ None → IsRunning g (world_of g rs table) m
 running g rs table m r is alive = record {
   present = is.of.present;
@@ -50,7 +50,7 @@ running g rs table m r is alive = record {
 }
 
 -- and may take an event of its own choice
-pub may_choose : (g : Group) (rs : List Replica) (table : List ℕ) (m : ℕ) (r : Replica)
+pub may_choose : (g : Group) (rs : List (Option Replica)) (table : List ℕ) (m : ℕ) (r : Replica)
     → IsMember g rs table m r → IsIdle r → MayChoose g (world_of g rs table) m
 may_choose g rs table m r is free = record {
   alive = running g rs table m r is free.0;
@@ -58,13 +58,13 @@ may_choose g rs table m r is free = record {
 }
 
 -- where it may, no vote waits
-pub no_vote_waits : (g : Group) (rs : List Replica) (table : List ℕ) (m : ℕ) (r : Replica)
+pub no_vote_waits : (g : Group) (rs : List (Option Replica)) (table : List ℕ) (m : ℕ) (r : Replica)
     → IsMember g rs table m r → MayChoose g (world_of g rs table) m → r.pending ≡ None
 no_vote_waits g rs table m r is may =
     sym (ap (λ h. h.pending) (held_of g rs table m r is.there)) ∙ may.idle
 
 -- whom it suspects
-pub suspects_are : (g : Group) (rs : List Replica) (table : List ℕ) (m : ℕ) (r : Replica)
+pub suspects_are : (g : Group) (rs : List (Option Replica)) (table : List ℕ) (m : ℕ) (r : Replica)
     → IsMember g rs table m r → (world_of g rs table).suspects m ≡ r.suspects
 suspects_are g rs table m r is = ap (λ h. h.suspects) (held_of g rs table m r is.there)
 
@@ -72,7 +72,7 @@ suspects_are g rs table m r is = ap (λ h. h.suspects) (held_of g rs table m r i
 not_wedged : (r : Replica) → (not (is_wedged r) ≡ true) ↔ (r.suspects ≡ 0)
 not_wedged r = (λ e. grind (arith, e), λ none. grind (arith, none))
 
-unwedged : (g : Group) (rs : List Replica) (table : List ℕ) (m : ℕ) (r : Replica)
+unwedged : (g : Group) (rs : List (Option Replica)) (table : List ℕ) (m : ℕ) (r : Replica)
     → IsMember g rs table m r
     → (not (is_wedged r) ≡ true) ↔ IsUnwedged (world_of g rs table) m
 unwedged g rs table m r is =
@@ -82,7 +82,7 @@ unwedged g rs table m r is =
     )
 
 -- and who suspects somebody is
-pub wedged : (g : Group) (rs : List Replica) (table : List ℕ) (m : ℕ) (r : Replica)
+pub wedged : (g : Group) (rs : List (Option Replica)) (table : List ℕ) (m : ℕ) (r : Replica)
     → IsMember g rs table m r
     → (is_wedged r ≡ true) ↔ (¬ IsUnwedged (world_of g rs table) m)
 wedged g rs table m r is =
@@ -106,7 +106,7 @@ not_less a b = (
 
 -- a test that only one who isn't wedged passes is the guard of an event that comes to no other, where the
 -- rest of it is for one who suspects nobody
-unless_wedged : (g : Group) (rs : List Replica) (table : List ℕ) (m : ℕ) (r : Replica) (test : Bool)
+unless_wedged : (g : Group) (rs : List (Option Replica)) (table : List ℕ) (m : ℕ) (r : Replica) (test : Bool)
     {Can : Type 0} → IsMember g rs table m r
     → (IsUnwedged (world_of g rs table) m → (test ≡ true) ↔ Can)
     → (Can → IsUnwedged (world_of g rs table) m) → ((not (is_wedged r) && test) ≡ true) ↔ Can
@@ -117,7 +117,7 @@ unless_wedged g rs table m r test is same none =
     )
 
 -- a member that it doesn't suspect
-unsuspected_member : (g : Group) (rs : List Replica) (table : List ℕ) (m : ℕ) (r : Replica) (i : ℕ)
+unsuspected_member : (g : Group) (rs : List (Option Replica)) (table : List ℕ) (m : ℕ) (r : Replica) (i : ℕ)
     → IsMember g rs table m r
     → (not (has r.suspects i) ≡ true) ↔ (has ((world_of g rs table).suspects m) i ≡ false)
 unsuspected_member g rs table m r i is =
@@ -127,12 +127,12 @@ unsuspected_member g rs table m r i is =
     )
 
 -- the members of its view
-pub members_are : (g : Group) (rs : List Replica) (table : List ℕ) (m : ℕ) (r : Replica)
+pub members_are : (g : Group) (rs : List (Option Replica)) (table : List ℕ) (m : ℕ) (r : Replica)
     → IsMember g rs table m r → (world_of g rs table).members m ≡ r.members
 members_are g rs table m r is = ap (λ h. h.members) (held_of g rs table m r is.there)
 
 -- another member of the view
-pub other_member : (g : Group) (rs : List Replica) (table : List ℕ) (m : ℕ) (r : Replica) (i : ℕ)
+pub other_member : (g : Group) (rs : List (Option Replica)) (table : List ℕ) (m : ℕ) (r : Replica) (i : ℕ)
     → IsMember g rs table m r
     → (is_other r i ≡ true) ↔ IsOther (world_of g rs table) m i
 other_member g rs table m r i is = (
@@ -149,28 +149,28 @@ other_member g rs table m r i is = (
     differs a b e same = absurd (grind (arith, e, same))
 
 -- it is of the roster
-pub other_within : (g : Group) (rs : List Replica) (table : List ℕ) (m : ℕ) (r : Replica) (i : ℕ)
+pub other_within : (g : Group) (rs : List (Option Replica)) (table : List ℕ) (m : ℕ) (r : Replica) (i : ℕ)
     → IsMember g rs table m r → is_other r i ≡ true → i < roster g
 other_within g rs table m r i is e =
     let within : i < r.roster = is.form.roster i (and_parts (has r.members i) (not (i == me r)) e).0 in
     omega (arith, within, is.of.members)
 
 -- and passes the test for that
-pub other_below : (g : Group) (rs : List Replica) (table : List ℕ) (m : ℕ) (r : Replica) (i : ℕ)
+pub other_below : (g : Group) (rs : List (Option Replica)) (table : List ℕ) (m : ℕ) (r : Replica) (i : ℕ)
     → IsMember g rs table m r → is_other r i ≡ true → nat_lt i r.roster ≡ true
 other_below g rs table m r i is e =
     let within : i < r.roster = rw is.of.members (other_within g rs table m r i is e) in
     grind (arith, nat_tests, within)
 
 -- the seen word of another row
-pub seen_is : (g : Group) (rs : List Replica) (table : List ℕ) (m : ℕ) (r : Replica) (i c : ℕ)
+pub seen_is : (g : Group) (rs : List (Option Replica)) (table : List ℕ) (m : ℕ) (r : Replica) (i c : ℕ)
     → IsMember g rs table m r → i ≢ m → (world_of g rs table).seen m i c ≡ seen r.rows i c
 seen_is g rs table m r i c is other =
     ap (λ h. h.seen i c) (held_of g rs table m r is.there)
     ∙ rw (other_number i (me r) (λ e. other (e ∙ is.of.number))) refl
 
 -- a number is below the least word over the view exactly where it is below the word of each row
-below_each : (g : Group) (rs : List Replica) (table : List ℕ) (m : ℕ) (r : Replica) (c x : ℕ)
+below_each : (g : Group) (rs : List (Option Replica)) (table : List ℕ) (m : ℕ) (r : Replica) (c x : ℕ)
     → IsMember g rs table m r → nat_lt x (least_seen r c) ≡ true
     → (i : ℕ) → has ((world_of g rs table).members m) i ≡ true → x
     < shown (world_of g rs table) m i c
@@ -184,7 +184,7 @@ below_each g rs table m r c x is e i member =
     (ap (λ k. has k i) (sym (members_are g rs table m r is)) ∙ member) in
     rw (shown_seen g rs table m r i c is.there is.of.number) (grind (arith, nat_tests, here))
 
-each_below : (g : Group) (rs : List Replica) (table : List ℕ) (m : ℕ) (r : Replica) (c x : ℕ)
+each_below : (g : Group) (rs : List (Option Replica)) (table : List ℕ) (m : ℕ) (r : Replica) (c x : ℕ)
     → IsMember g rs table m r → own r.rows c ≤ 2 ^ 64 - 1
     → ((i : ℕ) → has ((world_of g rs table).members m) i ≡ true → x
     < shown (world_of g rs table) m i c) → nat_lt x (least_seen r c) ≡ true
@@ -200,7 +200,7 @@ each_below g rs table m r c x is small each =
 -- ---- deliveries and reports
 
 -- it delivers exactly where that may come, and it has room
-pub deliver_guard : (g : Group) (rs : List Replica) (table : List ℕ) (m : ℕ) (r : Replica)
+pub deliver_guard : (g : Group) (rs : List (Option Replica)) (table : List ℕ) (m : ℕ) (r : Replica)
     → IsMember g rs table m r → IsIdle r
     → (may_deliver r ≡ true) ↔ (CanDeliver g (world_of g rs table) m × (length r.history < r.room))
 deliver_guard g rs table m r is alive =
@@ -225,7 +225,7 @@ deliver_guard g rs table m r is alive =
     )) (λ can. can.0.unwedged)
 
 -- it reports exactly where that may come
-pub report_guard : (g : Group) (rs : List Replica) (table : List ℕ) (m : ℕ) (r : Replica)
+pub report_guard : (g : Group) (rs : List (Option Replica)) (table : List ℕ) (m : ℕ) (r : Replica)
     → IsMember g rs table m r → IsIdle r
     → (may_report r ≡ true) ↔ CanReport g (world_of g rs table) m
 report_guard g rs table m r is alive =
@@ -243,7 +243,7 @@ report_guard g rs table m r is alive =
 -- ---- appends and publications
 
 -- it appends exactly where that may come
-pub append_guard : (g : Group) (rs : List Replica) (table : List ℕ) (m : ℕ) (r : Replica)
+pub append_guard : (g : Group) (rs : List (Option Replica)) (table : List ℕ) (m : ℕ) (r : Replica)
     → IsMember g rs table m r → IsIdle r
     → (may_append r ≡ true) ↔ CanAppend g (world_of g rs table) m
 append_guard g rs table m r is alive =
@@ -260,7 +260,7 @@ append_guard g rs table m r is alive =
     )
 
 -- it publishes exactly where that may come
-pub publish_guard : (g : Group) (rs : List Replica) (table : List ℕ) (m : ℕ) (r : Replica)
+pub publish_guard : (g : Group) (rs : List (Option Replica)) (table : List ℕ) (m : ℕ) (r : Replica)
     → IsMember g rs table m r → IsIdle r
     → (may_publish r ≡ true) ↔ CanPublish g (world_of g rs table) m
 publish_guard g rs table m r is alive =
@@ -278,7 +278,7 @@ publish_guard g rs table m r is alive =
 -- ---- marks and ends
 
 -- it marks exactly where that may come
-pub mark_guard : (g : Group) (rs : List Replica) (table : List ℕ) (m : ℕ) (r : Replica)
+pub mark_guard : (g : Group) (rs : List (Option Replica)) (table : List ℕ) (m : ℕ) (r : Replica)
     → IsMember g rs table m r → IsIdle r
     → (may_mark r ≡ true) ↔ CanMark g (world_of g rs table) m
 mark_guard g rs table m r is alive =
@@ -315,7 +315,7 @@ mark_guard g rs table m r is alive =
 -- ---- suspicions and ends
 
 -- it suspects exactly where that may come
-pub suspect_guard : (g : Group) (rs : List Replica) (table : List ℕ) (m : ℕ) (r : Replica) (j : ℕ)
+pub suspect_guard : (g : Group) (rs : List (Option Replica)) (table : List ℕ) (m : ℕ) (r : Replica) (j : ℕ)
     → IsMember g rs table m r → IsIdle r
     → (may_suspect r j ≡ true) ↔ CanSuspect g (world_of g rs table) m j
 suspect_guard g rs table m r j is alive =
@@ -332,7 +332,7 @@ suspect_guard g rs table m r j is alive =
     )
 
 -- it is done exactly where the world says so
-done_due : (g : Group) (rs : List Replica) (table : List ℕ) (m : ℕ) (r : Replica)
+done_due : (g : Group) (rs : List (Option Replica)) (table : List ℕ) (m : ℕ) (r : Replica)
     → IsMember g rs table m r
     → (is_due r Done ≡ true) ↔ IsDone (world_of g rs table) m
 done_due g rs table m r is =
@@ -352,7 +352,7 @@ done_due g rs table m r is =
     )) (λ due. due.unwedged)
 
 -- a row says that it is suspected exactly where the world says so
-suspected_due : (g : Group) (rs : List Replica) (table : List ℕ) (m : ℕ) (r : Replica) (i : ℕ)
+suspected_due : (g : Group) (rs : List (Option Replica)) (table : List ℕ) (m : ℕ) (r : Replica) (i : ℕ)
     → IsMember g rs table m r
     → (is_due r (Suspected i) ≡ true) ↔ IsSuspectedBy (world_of g rs table) m i
 suspected_due g rs table m r i is = (
@@ -384,7 +384,7 @@ suspected_due g rs table m r i is = (
         ∙ ap (has (seen r.rows i SUSPECTED_COLUMN)) (sym is.of.number)
 
 -- it is left with no majority exactly where the world says so
-minority_due : (g : Group) (rs : List Replica) (table : List ℕ) (m : ℕ) (r : Replica) (mask : ℕ)
+minority_due : (g : Group) (rs : List (Option Replica)) (table : List ℕ) (m : ℕ) (r : Replica) (mask : ℕ)
     → IsMember g rs table m r
     → (is_due r (NoMajority mask) ≡ true) ↔ IsMinority (world_of g rs table) m mask
 minority_due g rs table m r mask is = (
@@ -418,7 +418,7 @@ minority_due g rs table m r mask is = (
         ∙ ap (without r.members) (suspects_are g rs table m r is)
 
 -- the value that it has committed names it exactly where the world says so
-excluded_due : (g : Group) (rs : List Replica) (table : List ℕ) (m : ℕ) (r : Replica) (view : ℕ)
+excluded_due : (g : Group) (rs : List (Option Replica)) (table : List ℕ) (m : ℕ) (r : Replica) (view : ℕ)
     → IsMember g rs table m r
     → (is_due r (Excluded view) ≡ true) ↔ IsExcluded (world_of g rs table) m view
 excluded_due g rs table m r view is = (
@@ -447,7 +447,7 @@ excluded_due g rs table m r view is = (
     }
 
 -- its end is due exactly where the world says so
-end_due : (g : Group) (rs : List Replica) (table : List ℕ) (m : ℕ) (r : Replica) (end : End)
+end_due : (g : Group) (rs : List (Option Replica)) (table : List ℕ) (m : ℕ) (r : Replica) (end : End)
     → IsMember g rs table m r
     → (is_due r end ≡ true) ↔ IsDue (world_of g rs table) m end
 end_due g rs table m r Done is = done_due g rs table m r is
@@ -457,7 +457,7 @@ end_due g rs table m r (Excluded view) is = excluded_due g rs table m r view is
 end_due g rs table m r end is = (λ e. absurd (cc), λ due. absurd due)
 
 -- it halts exactly where that may come
-pub halt_guard : (g : Group) (rs : List Replica) (table : List ℕ) (m : ℕ) (r : Replica) (end : End)
+pub halt_guard : (g : Group) (rs : List (Option Replica)) (table : List ℕ) (m : ℕ) (r : Replica) (end : End)
     → IsMember g rs table m r → IsIdle r
     → (is_due r end ≡ true) ↔ CanHalt g (world_of g rs table) m end
 halt_guard g rs table m r end is alive =
@@ -467,7 +467,7 @@ halt_guard g rs table m r end is alive =
     )
 
 -- it crashes exactly where that may come
-pub crash_guard : (g : Group) (rs : List Replica) (table : List ℕ) (m : ℕ) (r : Replica) (end : End)
+pub crash_guard : (g : Group) (rs : List (Option Replica)) (table : List ℕ) (m : ℕ) (r : Replica) (end : End)
     → IsMember g rs table m r → r.end ≡ None
     → IsFault end ↔ CanCrash g (world_of g rs table) m end
 crash_guard g rs table m r end is alive =
@@ -476,13 +476,13 @@ crash_guard g rs table m r end is alive =
 -- ---- turns, looks and pushes
 
 -- it may always begin a turn
-pub beat_guard : (g : Group) (rs : List Replica) (table : List ℕ) (m : ℕ) (r : Replica)
+pub beat_guard : (g : Group) (rs : List (Option Replica)) (table : List ℕ) (m : ℕ) (r : Replica)
     → IsMember g rs table m r → IsIdle r
     → CanBeat g (world_of g rs table) m
 beat_guard = may_choose
 
 -- it looks exactly where that may come
-pub look_guard : (g : Group) (rs : List Replica) (table : List ℕ) (m : ℕ) (r : Replica) (i c : ℕ)
+pub look_guard : (g : Group) (rs : List (Option Replica)) (table : List ℕ) (m : ℕ) (r : Replica) (i c : ℕ)
     → IsMember g rs table m r → IsIdle r → c < columns g
     → ((not (has r.suspects i) ≡ true) × (is_other r i ≡ true)) ↔ CanLook g (world_of g rs table) m i c
 look_guard g rs table m r i c is alive within =
@@ -498,7 +498,7 @@ look_guard g rs table m r i c is alive within =
     )
 
 -- it pushes exactly where that may come
-pub push_guard : (g : Group) (rs : List Replica) (table : List ℕ) (m : ℕ) (r : Replica) (j c : ℕ)
+pub push_guard : (g : Group) (rs : List (Option Replica)) (table : List ℕ) (m : ℕ) (r : Replica) (j c : ℕ)
     → IsMember g rs table m r → IsIdle r → c < columns g
     → (is_other r j ≡ true) ↔ CanPush g (world_of g rs table) m j c
 push_guard g rs table m r j c is alive within =
@@ -510,21 +510,21 @@ push_guard g rs table m r j c is alive within =
 -- ---- messages and items
 
 -- the index of its next message
-pub next_is : (g : Group) (rs : List Replica) (table : List ℕ) (m : ℕ) (r : Replica)
+pub next_is : (g : Group) (rs : List (Option Replica)) (table : List ℕ) (m : ℕ) (r : Replica)
     → IsMember g rs table m r → guards.next_index (world_of g rs table) m ≡ next_index r
 next_is g rs table m r is =
     let show : Holding → ℕ = λ h. h.base + messages_in (h.sent h.view) in
     ap show (held_of g rs table m r is.there) ∙ rw (same_number r.view) refl
 
 -- its count of a sender
-pub count_is : (g : Group) (rs : List Replica) (table : List ℕ) (m : ℕ) (r : Replica) (s : ℕ)
+pub count_is : (g : Group) (rs : List (Option Replica)) (table : List ℕ) (m : ℕ) (r : Replica) (s : ℕ)
     → IsMember g rs table m r → items_received (world_of g rs table) m s ≡ count r s
 count_is g rs table m r s is =
     let show : Holding → ℕ = λ h. h.count h.view s in
     ap show (held_of g rs table m r is.there) ∙ rw (same_number r.view) refl
 
 -- the slot of its next item is free exactly where the world says so
-room_guard : (g : Group) (rs : List Replica) (table : List ℕ) (m : ℕ) (r : Replica)
+room_guard : (g : Group) (rs : List (Option Replica)) (table : List ℕ) (m : ℕ) (r : Replica)
     → IsMember g rs table m r
     → (is_free r.window r.rows r.members (count r (me r)) ≡ true)
     ↔ HasRoom g (world_of g rs table) m (items_received (world_of g rs table) m m)
@@ -566,7 +566,7 @@ room_guard g rs table m r is = (
         at (received i (record { member = ap (λ x. has x i) members ∙ member; other = apart }))))
 
 -- it sends exactly where that may come
-pub send_guard : (g : Group) (rs : List Replica) (table : List ℕ) (m : ℕ) (r : Replica)
+pub send_guard : (g : Group) (rs : List (Option Replica)) (table : List ℕ) (m : ℕ) (r : Replica)
     → IsMember g rs table m r → IsIdle r
     → (may_send r ≡ true) ↔ CanSend g (world_of g rs table) m
 send_guard g rs table m r is alive = unless_wedged g rs table m r _ is (λ none. (
@@ -590,7 +590,7 @@ above_some k (x ∷ xs) e = elim (or_cases (nat_lt k x) (list_any (nat_lt k) xs)
 ]
 
 -- it is behind exactly where the world says so
-behind_guard : (g : Group) (rs : List Replica) (table : List ℕ) (m : ℕ) (r : Replica)
+behind_guard : (g : Group) (rs : List (Option Replica)) (table : List ℕ) (m : ℕ) (r : Replica)
     → IsMember g rs table m r → (is_behind r ≡ true) ↔ IsBehind (world_of g rs table) m
 behind_guard g rs table m r is = (
   λ e. let s = above_some (count r (me r)) r.counts e in (
@@ -618,7 +618,7 @@ behind_guard g rs table m r is = (
     ]
 
 -- it puts a null exactly where that may come
-pub null_guard : (g : Group) (rs : List Replica) (table : List ℕ) (m : ℕ) (r : Replica)
+pub null_guard : (g : Group) (rs : List (Option Replica)) (table : List ℕ) (m : ℕ) (r : Replica)
     → IsMember g rs table m r → IsIdle r
     → (may_null r ≡ true) ↔ CanNull g (world_of g rs table) m
 null_guard g rs table m r is alive = unless_wedged g rs table m r _ is (λ none. (
@@ -641,7 +641,7 @@ some_test None = (λ e. absurd (cc), λ s. absurd (cc))
 some_test (Some x) = (λ e. refl, λ s. refl)
 
 -- the slot of the next item of another member, as it is seen
-pub slot_is : (g : Group) (rs : List Replica) (table : List ℕ) (m : ℕ) (r : Replica) (s k : ℕ)
+pub slot_is : (g : Group) (rs : List (Option Replica)) (table : List ℕ) (m : ℕ) (r : Replica) (s k : ℕ)
     → IsMember g rs table m r → s ≢ m
     → seen_slot g (world_of g rs table) m s k ≡ slot_of r.window r.rows s k
 slot_is g rs table m r s k is other = fun_ext λ part.
@@ -650,7 +650,7 @@ slot_is g rs table m r s k is other = fun_ext λ part.
     ∙ ap (λ window. seen r.rows s (slot_column r.rows.members window k + part)) (sym is.of.window)
 
 -- it receives exactly where that may come, and fewer were taken than anyone has messages
-pub receive_guard : (g : Group) (rs : List Replica) (table : List ℕ) (m : ℕ) (r : Replica) (s : ℕ)
+pub receive_guard : (g : Group) (rs : List (Option Replica)) (table : List ℕ) (m : ℕ) (r : Replica) (s : ℕ)
     → IsMember g rs table m r → IsIdle r
     → (may_receive r s ≡ true) ↔ (CanReceive g (world_of g rs table) m s
     × (count r s < greatest r.totals))

@@ -1,7 +1,7 @@
 -- What looks and pushes make of the world.
 use Rattle.std.proofs.Common.{◌≡◌, ◌≢◌, refl, sym, ap, ◌∙◌, ℕ, ◌<◌, ◌==◌, if◌then◌else◌, inl, inr, true, List, slice_index, arith}
 use Rattle.std.proofs.Math.Path.{fun_ext}
-use Rattle.std.specs.Prelude.{slice_set}
+use Rattle.std.specs.Prelude.{slice_set, Option}
 use Rattle.std.proofs.lemmas.Bool.{cases_eq}
 use Rattle.dr_rows.specs.Words as rows
 use Rattle.dr_rows.specs.Words.{Words, IsWords, own, seen}
@@ -19,6 +19,7 @@ use Rattle.dr_refine.specs.Programs.{IsMember}
 use Rattle.dr_refine.proofs.Tables.{table_written, word_inside}
 use Rattle.dr_refine.proofs.Members.{fits, inside, replaced}
 use Rattle.dr_refine.proofs.Guards.{other_member, other_within}
+use Rattle.dr_program.specs.Presence.{with_present}
 
 -- ---- looks
 
@@ -56,9 +57,9 @@ looked_own w kept view i c x other = fun_ext λ v. fun_ext λ d.
     (sym (ap (λ r. slice_index r d) (with_word-row w.words i c x w.me (λ e. other (sym e)))))
 
 -- a look at the word that stands in the own copy
-pub look_effect : (g : Group) (rs : List Replica) (table : List ℕ) (m : ℕ) (r : Replica) (i c : ℕ)
+pub look_effect : (g : Group) (rs : List (Option Replica)) (table : List ℕ) (m : ℕ) (r : Replica) (i c : ℕ)
     → IsMember g rs table m r → is_other r i ≡ true → c < columns g
-    → world_of g (slice_set rs m
+    → world_of g (with_present rs m
     (looked r i c (slice_index table (word_index_of (roster g) g.window r.view m i c)))) table
     ≡ looks (world_of g rs table) m i c
 look_effect g rs table m r i c is e column =
@@ -83,9 +84,9 @@ push_changes : (w : World) (m j c : ℕ) → Changes w (pushes w m j c) m (held 
 push_changes w m j c = record { others = λ k other. refl; here = refl }
 
 -- a push of the own word to a member's copy
-pub push_effect : (g : Group) (rs : List Replica) (table : List ℕ) (m : ℕ) (r : Replica) (j c : ℕ)
+pub push_effect : (g : Group) (rs : List (Option Replica)) (table : List ℕ) (m : ℕ) (r : Replica) (j c : ℕ)
     → IsMember g rs table m r → is_other r j ≡ true → c < columns g
-    → world_of g (slice_set rs m (pushed r j c))
+    → world_of g (with_present rs m (pushed r j c))
     (slice_set table (word_index_of (roster g) g.window r.view j m c) (own r.rows c))
     ≡ pushes (world_of g rs table) m j c
 push_effect g rs table m r j c is e column =

@@ -1,9 +1,8 @@
 -- A member of a world: what its replica shows there, and what a change of its replica makes of the world.
 use Rattle.std.proofs.Common.{◌≡◌, refl, sym, ap, ◌∙◌, ℕ, ◌<◌, ◌==◌, if◌then◌else◌, inl, inr, List, length, arith, set-set}
 use Rattle.std.proofs.Math.Path.{fun_ext}
-use Rattle.std.specs.Prelude.{Some, slice_get, slice_set}
+use Rattle.std.specs.Prelude.{Some, Option}
 use Rattle.std.proofs.lemmas.Bool.{cases_eq}
-use Rattle.std.proofs.lemmas.Option.{slice_get_within}
 use Rattle.dr_rows.specs.Words.{Words, IsWords, own, seen, with_own}
 use Rattle.dr_rows.proofs.WordsLemmas.{IsWords-looked}
 use Rattle.dr_words.specs.declared.column.TheConstants.{BEAT_COLUMN}
@@ -14,10 +13,12 @@ use Rattle.dr_machine.specs.Effects as effects
 use Rattle.dr_machine.specs.Effects.{one_more, stamped}
 use Rattle.dr_program.specs.Replica.{Replica, me, acted}
 use Rattle.dr_program.specs.Reading.{world_of, word_of, in_view, kept_word}
-use Rattle.dr_program.proofs.Holdings.{Holding, held, holding_of, held_of, Changes, changed_world, replica_set}
+use Rattle.dr_program.proofs.Holdings.{Holding, held, holding_of, held_of, Changes, changed_world}
 use Rattle.dr_program.proofs.OwnWords.{same_number, other_number, own_with, seen_with}
 use Rattle.dr_refine.specs.Programs.{IsMember, IsTable, acted_table}
 use Rattle.dr_refine.proofs.Tables.{table_written}
+use Rattle.dr_program.specs.Presence.{present_at, with_present}
+use Rattle.dr_program.proofs.Present.{present_within, present_set}
 
 -- ---- the rows
 
@@ -30,7 +31,7 @@ pub record Fits (g : Group) (m : ℕ) (rows : Words) (view : ℕ) : Type 0 where
   pub bank : view < banks g
 
 -- the rows of a member fit
-pub fits : (g : Group) (rs : List Replica) (table : List ℕ) (m : ℕ) (r : Replica)
+pub fits : (g : Group) (rs : List (Option Replica)) (table : List ℕ) (m : ℕ) (r : Replica)
     → IsMember g rs table m r → Fits g m r.rows r.view
 fits g rs table m r is = record {
   number = is.of.number;
@@ -82,13 +83,13 @@ seen_kept rows c x = fun_ext λ i. fun_ext λ d. elim (cases_eq i rows.me) [
 
 -- the world with replica r of member m replaced by q, where a change of that member alone makes the same of
 -- what it has
-pub replaced : (g : Group) (rs : List Replica) (table cells : List ℕ) (m : ℕ) (r q : Replica)
-    (v : World) (after : Holding → Holding) → slice_get rs m ≡ Some r
+pub replaced : (g : Group) (rs : List (Option Replica)) (table cells : List ℕ) (m : ℕ) (r q : Replica)
+    (v : World) (after : Holding → Holding) → present_at rs m ≡ Some r
     → Changes (world_of g rs table) v m (after (held (world_of g rs table) m)) → after (holding_of g r)
     ≡ holding_of g q → word_of g cells ≡ v.table
-    → world_of g (slice_set rs m q) cells ≡ v
+    → world_of g (with_present rs m q) cells ≡ v
 replaced g rs table cells m r q v after there changes same cell =
-    changed_world g rs table cells m q v (slice_get_within rs m r there)
+    changed_world g rs table cells m q v (present_within rs m r there)
     (record {
       others = changes.others;
       here = changes.here ∙ ap after (held_of g rs table m r there)
@@ -107,9 +108,9 @@ own_changes w m c x = record {
 }
 
 -- an own word of a replica is one of its world
-pub own_world : (g : Group) (rs : List Replica) (table : List ℕ) (m : ℕ) (r : Replica) (c x : ℕ)
-    → slice_get rs m ≡ Some r → Fits g m r.rows r.view → c < columns g
-    → world_of g (slice_set rs m (record r { rows = with_own r.rows c x })) table
+pub own_world : (g : Group) (rs : List (Option Replica)) (table : List ℕ) (m : ℕ) (r : Replica) (c x : ℕ)
+    → present_at rs m ≡ Some r → Fits g m r.rows r.view → c < columns g
+    → world_of g (with_present rs m (record r { rows = with_own r.rows c x })) table
     ≡ effects.with_own (world_of g rs table) m c x
 own_world g rs table m r c x there f within =
     let own = own_written r.rows (kept_word r) r.view c x f.words (omega (arith, f.columns, within)) in
@@ -132,9 +133,9 @@ stamp_changes w m = record {
 }
 
 -- and a stamp of a replica is one of its world
-pub acted_world : (g : Group) (rs : List Replica) (table : List ℕ) (m : ℕ) (r : Replica)
-    → slice_get rs m ≡ Some r → Fits g m r.rows r.view → IsTable g table
-    → world_of g (slice_set rs m (acted r)) (acted_table g table m r) ≡ stamped (world_of g rs table) m
+pub acted_world : (g : Group) (rs : List (Option Replica)) (table : List ℕ) (m : ℕ) (r : Replica)
+    → present_at rs m ≡ Some r → Fits g m r.rows r.view → IsTable g table
+    → world_of g (with_present rs m (acted r)) (acted_table g table m r) ≡ stamped (world_of g rs table) m
 acted_world g rs table m r there f whole =
     let w : World = world_of g rs table in
     let within : BEAT_COLUMN < columns g = omega arith in
@@ -151,13 +152,13 @@ acted_world g rs table m r there f whole =
     ∙ ap cell (sym (held_of g rs table m r there)))
 
 -- an act behind another change of the replica
-pub then_acted : (g : Group) (rs : List Replica) (table : List ℕ) (m : ℕ) (r : Replica) (w : World)
+pub then_acted : (g : Group) (rs : List (Option Replica)) (table : List ℕ) (m : ℕ) (r : Replica) (w : World)
     → m < length rs → Fits g m r.rows r.view → IsTable g table
-    → world_of g (slice_set rs m r) table ≡ w
-    → world_of g (slice_set rs m (acted r)) (acted_table g table m r) ≡ stamped w m
+    → world_of g (with_present rs m r) table ≡ w
+    → world_of g (with_present rs m (acted r)) (acted_table g table m r) ≡ stamped w m
 then_acted g rs table m r w within f whole before =
-    ap (λ qs. world_of g qs (acted_table g table m r)) (sym (set-set rs m r (acted r)))
-    ∙ acted_world g (slice_set rs m r) table m r (replica_set rs m r within) f whole
+    ap (λ qs. world_of g qs (acted_table g table m r)) (sym (set-set rs m (Some r) (Some (acted r))))
+    ∙ acted_world g (with_present rs m r) table m r (present_set rs m r within) f whole
     ∙ ap (λ v. stamped v m) before
 
 -- ---- what a member shows
@@ -174,16 +175,16 @@ shown_word r m i c number =
     ]
 
 -- the word that a member shows is the seen one of its replica
-pub shown_seen : (g : Group) (rs : List Replica) (table : List ℕ) (m : ℕ) (r : Replica) (i c : ℕ)
-    → slice_get rs m ≡ Some r → me r ≡ m
+pub shown_seen : (g : Group) (rs : List (Option Replica)) (table : List ℕ) (m : ℕ) (r : Replica) (i c : ℕ)
+    → present_at rs m ≡ Some r → me r ≡ m
     → shown (world_of g rs table) m i c ≡ seen r.rows i c
 shown_seen g rs table m r i c there number =
     let show : Holding → ℕ = λ h. if i == m then h.own h.view c else h.seen i c in
     ap show (held_of g rs table m r there) ∙ shown_word r m i c number
 
 -- and its own word the own one
-pub own_shown : (g : Group) (rs : List Replica) (table : List ℕ) (m : ℕ) (r : Replica) (c : ℕ)
-    → slice_get rs m ≡ Some r
+pub own_shown : (g : Group) (rs : List (Option Replica)) (table : List ℕ) (m : ℕ) (r : Replica) (c : ℕ)
+    → present_at rs m ≡ Some r
     → own_word (world_of g rs table) m c ≡ own r.rows c
 own_shown g rs table m r c there =
     let show : Holding → ℕ = λ h. h.own h.view c in

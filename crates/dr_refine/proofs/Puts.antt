@@ -1,14 +1,14 @@
 -- What an item that is put, and one that is received, make of the world.
 use Rattle.std.proofs.Common.{◌≡◌, ◌≢◌, refl, sym, ap, ◌∙◌, subst, ℕ, ◌+◌, ◌-◌, ◌<◌, ◌≤◌, ◌==◌, ◌&&◌, ◌⊎◌, inl, inr, true, max, if◌then◌else◌, List, [], ◌∷◌, ◌++◌, length, map, fold, slice_index, slice_index_or, arith, length-append, length-take, length-drop, set-set}
 use Rattle.std.proofs.Math.Path.{fun_ext}
-use Rattle.std.specs.Prelude.{slice_set, nat_lt, nat_le, not, unwrap_or, take, drop, is_some}
+use Rattle.std.specs.Prelude.{nat_lt, nat_le, not, unwrap_or, take, drop, is_some, Option, Some}
 use Rattle.std.specs.Int.{div_ceil}
 use Rattle.std.proofs.lemmas.Bool.{and_parts, cases_eq, cases_lt, ltb-true}
 use Rattle.std.proofs.lemmas.Bool.Decides.{nat_tests}
 use Rattle.std.proofs.lemmas.List.{get_or_past, length-set, length-map}
 use Rattle.std.proofs.lemmas.List.Elements.{All-set}
 use Rattle.std.proofs.lemmas.List.FromFn.{length-map-range_with_len}
-use Rattle.std.proofs.lemmas.Option.{slice_get_within, slice_get-get_or}
+use Rattle.std.proofs.lemmas.Option.{slice_get-get_or}
 use Rattle.dr_entry.specs.declared.entry.Item.{Item}
 use Rattle.dr_entry.specs.declared.entry.Item.TheVariants.{Null, Text}
 use Rattle.dr_entry.specs.declared.end.SentItem.{SentItem}
@@ -30,19 +30,21 @@ use Rattle.dr_machine.specs.Guards.{seen_slot}
 use Rattle.dr_machine.specs.Effects.{stamped, gains, puts, sends, nulls, receives, next_item, row_with}
 use Rattle.dr_program.specs.Replica.{Replica, me, count, item, gained, received, put, sent, nulled, greatest, next_index, ready_item, is_other, is_behind, is_wedged, may_send, may_null, may_receive, acted}
 use Rattle.dr_program.specs.Reading.{kept_word, left_in, world_of}
-use Rattle.dr_program.proofs.Holdings.{Holding, held, holding_of, Changes, replica_set}
+use Rattle.dr_program.proofs.Holdings.{Holding, held, holding_of, Changes}
 use Rattle.dr_program.proofs.OwnWords.{same_number, other_number}
 use Rattle.dr_refine.specs.Programs.{IsMember, acted_table}
 use Rattle.dr_refine.proofs.Members.{Fits, fits, replaced, then_acted}
 use Rattle.dr_refine.proofs.Gains.{MayGain, fits_gained, gained_world, row_written, own_here, count_here}
 use Rattle.dr_refine.proofs.Guards.{above_some, other_member, other_within, count_is, next_is, slot_is}
+use Rattle.dr_program.specs.Presence.{with_present}
+use Rattle.dr_program.proofs.Present.{present_within, present_set}
 
 -- ---- received items
 
 -- an item is received
-pub receive_effect : (g : Group) (rs : List Replica) (table : List ℕ) (m : ℕ) (r : Replica) (s : ℕ)
+pub receive_effect : (g : Group) (rs : List (Option Replica)) (table : List ℕ) (m : ℕ) (r : Replica) (s : ℕ)
     → IsMember g rs table m r → may_receive r s ≡ true
-    → world_of g (slice_set rs m (acted (received r s))) (acted_table g table m r)
+    → world_of g (with_present rs m (acted (received r s))) (acted_table g table m r)
     ≡ stamped (receives g (world_of g rs table) m s) m
 receive_effect g rs table m r s is e =
     let w : World = world_of g rs table in
@@ -63,7 +65,7 @@ receive_effect g rs table m r s is e =
     ap (λ (slot : ℕ → ℕ). unwrap_or (item_in (count r s) slot) Null)
     (sym (slot_is g rs table m r s (count r s) is apart))
     ∙ ap (λ k. unwrap_or (item_in k (seen_slot g w m s k)) Null) (sym (count_is g rs table m r s is)) in
-    then_acted g rs table m (received r s) (receives g w m s) (slice_get_within rs m r is.there)
+    then_acted g rs table m (received r s) (receives g w m s) (present_within rs m r is.there)
     (fits_gained g m r s f) is.cells
     (gained_world g rs table m r s (unwrap_or (ready_item r s) Null) is.there f may ∙ ap (gains w m s) same)
 
@@ -195,10 +197,10 @@ fits_placed g m r name item f slot few = record {
   bank = f.bank;
 }
 
-placed_world : (g : Group) (rs : List Replica) (table : List ℕ) (m : ℕ) (r : Replica) (name : SentItem)
+placed_world : (g : Group) (rs : List (Option Replica)) (table : List ℕ) (m : ℕ) (r : Replica) (name : SentItem)
     (item : Item) → IsMember g rs table m r
     → HasSlot r.window r.rows (count r (me r)) → length (pieces item) ≤ 17
-    → world_of g (slice_set rs m (placed r name item)) table ≡ places g (world_of g rs table) m name item
+    → world_of g (with_present rs m (placed r name item)) table ≡ places g (world_of g rs table) m name item
 placed_world g rs table m r name item is slot few =
     replaced g rs table table m r (placed r name item) (places g (world_of g rs table) m name item)
     (place_after g m name item) is.there
@@ -251,7 +253,7 @@ most xs i = elim (cases_lt i (length xs)) [
 ]
 
 -- a message that is left, with the premises of putting it
-left_over : (g : Group) (rs : List Replica) (table : List ℕ) (m : ℕ) (r : Replica)
+left_over : (g : Group) (rs : List (Option Replica)) (table : List ℕ) (m : ℕ) (r : Replica)
     → IsMember g rs table m r → next_index r < length r.messages → count r m < greatest r.totals
 left_over g rs table m r is left =
     let put : length r.sent ≡ count r m = is.form.put ∙ ap (count r) is.of.number in
@@ -264,15 +266,15 @@ few_parts bytes short =
     omega (arith, short, length-map-range_with_len (body_piece bytes) 0 (div_ceil (length bytes) 4))
 
 -- an item is put
-put_effect : (g : Group) (rs : List Replica) (table : List ℕ) (m : ℕ) (r : Replica) (name : SentItem)
+put_effect : (g : Group) (rs : List (Option Replica)) (table : List ℕ) (m : ℕ) (r : Replica) (name : SentItem)
     (item : Item) → IsMember g rs table m r → length (pieces item) ≤ 17 → count r m < greatest r.totals
-    → world_of g (slice_set rs m (acted (put r name item))) (acted_table g table m r)
+    → world_of g (with_present rs m (acted (put r name item))) (acted_table g table m r)
     ≡ stamped (puts g (world_of g rs table) m name item) m
 put_effect g rs table m r name item is few below =
     then_acted g rs table m (put r name item) (puts g w m name item) within
     (fits_gained g m p (me r) mid_fits) is.cells
-    (ap (λ qs. world_of g qs table) (sym (set-set rs m p (gained p (me r) item)))
-    ∙ gained_world g (slice_set rs m p) table m p (me r) item (replica_set rs m p within) mid_fits may
+    (ap (λ qs. world_of g qs table) (sym (set-set rs m (Some p) (Some (gained p (me r) item))))
+    ∙ gained_world g (with_present rs m p) table m p (me r) item (present_set rs m p within) mid_fits may
     ∙ ap (λ v. gains v m (me r) item) (placed_world g rs table m r name item is slot few)
     ∙ ap (λ s. gains (places g w m name item) m s item) is.of.number)
   where
@@ -283,7 +285,7 @@ put_effect g rs table m r name item is few below =
     p = placed r name item
 
     within : m < length rs
-    within = slice_get_within rs m r is.there
+    within = present_within rs m r is.there
 
     slot : HasSlot r.window r.rows (count r (me r))
     slot = HasSlot-from r.window r.rows (count r (me r)) is.form.rows
@@ -303,9 +305,9 @@ put_effect g rs table m r name item is few below =
     }
 
 -- a message is put
-pub send_effect : (g : Group) (rs : List Replica) (table : List ℕ) (m : ℕ) (r : Replica)
+pub send_effect : (g : Group) (rs : List (Option Replica)) (table : List ℕ) (m : ℕ) (r : Replica)
     → IsMember g rs table m r → may_send r ≡ true
-    → world_of g (slice_set rs m (acted (sent r))) (acted_table g table m r)
+    → world_of g (with_present rs m (acted (sent r))) (acted_table g table m r)
     ≡ stamped (sends g (world_of g rs table) m) m
 send_effect g rs table m r is e =
     put_effect g rs table m r (Index (next_index r)) (Text (slice_index_or r.messages (next_index r) [])) is
@@ -328,9 +330,9 @@ send_effect g rs table m r is e =
         (slice_get-get_or r.messages (next_index r) [] left)
 
 -- a null is put
-pub null_effect : (g : Group) (rs : List Replica) (table : List ℕ) (m : ℕ) (r : Replica)
+pub null_effect : (g : Group) (rs : List (Option Replica)) (table : List ℕ) (m : ℕ) (r : Replica)
     → IsMember g rs table m r → may_null r ≡ true
-    → world_of g (slice_set rs m (acted (nulled r))) (acted_table g table m r)
+    → world_of g (with_present rs m (acted (nulled r))) (acted_table g table m r)
     ≡ stamped (nulls g (world_of g rs table) m) m
 null_effect g rs table m r is e =
     let parts = and_parts (not (nat_lt (next_index r) (length r.messages))) _

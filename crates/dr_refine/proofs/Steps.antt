@@ -1,9 +1,9 @@
 -- A move keeps a program of the group, where it keeps the form of the member that makes it.
 use Rattle.std.proofs.Common.{◌≡◌, refl, sym, ap, ◌∙◌, subst, ℕ, ◌<◌, ◌≤◌, inl, inr, List, length, map, arith}
-use Rattle.std.specs.Prelude.{Option, Some, None, is_some, slice_get, slice_set, option_map}
+use Rattle.std.specs.Prelude.{Option, Some, None, is_some, option_map}
 use Rattle.std.proofs.lemmas.Bool.{cases_eq}
 use Rattle.std.proofs.lemmas.List.{length-set, length-map, length-replicate}
-use Rattle.std.proofs.lemmas.Option.{slice_get-map, slice_get_within, same_Some}
+use Rattle.std.proofs.lemmas.Option.{same_Some}
 use Rattle.dr_words.specs.Layout.{words_of}
 use Rattle.dr_program.specs.declared.setup.Setup.{Setup}
 use Rattle.dr_machine.specs.Group.{Group, IsGroup, banks, roster}
@@ -16,11 +16,12 @@ use Rattle.dr_program.specs.Running.{Running, begun_running, next_step, settled,
 use Rattle.dr_program.specs.Program.{Program, Move, AreSetups, after_deed, begun_program, next_sight, step_of}
 use Rattle.dr_program.specs.Form.{IsOf, IsRunningMember}
 use Rattle.dr_program.proofs.Fixed.{step_told, of_told}
-use Rattle.dr_program.proofs.Holdings.{replica_set, replica_kept}
 use Rattle.dr_program.proofs.OpeningForm.{begins_in_form}
 use Rattle.dr_program.proofs.Runs.{after_either}
 use Rattle.dr_refine.specs.Programs.{IsProgram}
 use Rattle.dr_refine.proofs.Deeds.{rest_changes_nothing, settle_replica, step_is}
+use Rattle.dr_program.specs.Presence.{present_at, with_present}
+use Rattle.dr_program.proofs.Present.{present_kept, present_map, present_set, present_within}
 
 -- ---- the member
 
@@ -37,18 +38,22 @@ stored_length table q s = grind (arith, length-set table)
 replaced_program : (g : Group) (p : Program) (m : ℕ) (r : Running) (cells : List ℕ) → IsProgram g p
     → m < length p.members → IsRunningMember r → IsOf g m r.replica
     → length cells ≡ length p.table
-    → IsProgram g (record { members = slice_set p.members m r; table = cells })
+    → IsProgram g (record { members = with_present p.members m r; table = cells })
 replaced_program g p m r cells is within form of same_length = record {
-  all = length-set p.members m r ∙ is.all;
+  all = length-set p.members m (Some r) ∙ is.all;
   form = λ k x there. elim (cases_eq k m) [
     | inl same ↦ subst IsRunningMember
-        (same_Some r x (sym (replica_set p.members m r within) ∙ rw same at there)) form
-    | inr other ↦ is.form k x (sym (replica_kept p.members m k r other) ∙ there)
+        (same_Some r x (sym (present_set p.members m r within) ∙ rw same at there)) form
+    | inr other ↦ is.form k x (sym (present_kept p.members m k r other) ∙ there)
   ];
   of = λ k x there. elim (cases_eq k m) [
     | inl same ↦ rw same (subst (λ (y : Running). IsOf g m y.replica)
-        (same_Some r x (sym (replica_set p.members m r within) ∙ rw same at there)) of)
-    | inr other ↦ is.of k x (sym (replica_kept p.members m k r other) ∙ there)
+        (same_Some r x (sym (present_set p.members m r within) ∙ rw same at there)) of)
+    | inr other ↦ is.of k x (sym (present_kept p.members m k r other) ∙ there)
+  ];
+  there = λ k below here. elim (cases_eq k m) [
+    | inl same ↦ (r, rw same (present_set p.members m r within))
+    | inr other ↦ let old = is.there k below here in (old.0, present_kept p.members m k r other ∙ old.1)
   ];
   table = same_length ∙ is.table;
 }
@@ -65,46 +70,48 @@ of_deed g m table o r of =
 
 -- a move of a member that keeps its form
 pub step_kept : (g : Group) (p : Program) (e : Move) → IsProgram g p
-    → ((r : Running) → slice_get p.members e.member ≡ Some r → r.replica.end ≡ None
+    → ((r : Running) → present_at p.members e.member ≡ Some r → r.replica.end ≡ None
     → IsRunningMember (after_deed (next_sight p.table r) e.outcome r (next_step r)))
     → IsProgram g (step_of p e)
-step_kept g p e is keeps = by (slice_get p.members e.member) refl
+step_kept g p e is keeps = by (present_at p.members e.member) refl
   where
-    at : (r : Running) → slice_get p.members e.member ≡ Some r → (o : Option End) → r.replica.end
+    at : (r : Running) → present_at p.members e.member ≡ Some r → (o : Option End) → r.replica.end
         ≡ o → IsProgram g (step_of p e)
     at r there (Some x) ended = subst (IsProgram g)
         (sym (rest_changes_nothing p e r there (ap is_some ended))) is
     at r there None unended = subst (IsProgram g) (sym (step_is p e r there unended))
         (replaced_program g p e.member (after_deed (next_sight p.table r) e.outcome r (next_step r))
         (stored p.table r.replica (next_step r)) is
-        (slice_get_within p.members e.member r there) (keeps r there unended)
+        (present_within p.members e.member r there) (keeps r there unended)
         (of_deed g e.member p.table e.outcome r (is.of e.member r there))
         (stored_length p.table r.replica (next_step r)))
 
-    by : (o : Option Running) → slice_get p.members e.member ≡ o → IsProgram g (step_of p e)
+    by : (o : Option Running) → present_at p.members e.member ≡ o → IsProgram g (step_of p e)
     by None none = rw none is
     by (Some r) there = at r there r.replica.end refl
 
 -- ---- the beginning
 
 -- a program begins as one of its group
-pub begun_is_program : (g : Group) (limit : ℕ) (setups : List Setup) → IsGroup g → 1 ≤ limit
+pub begun_is_program : (g : Group) (limit : ℕ) (setups : List (Option Setup)) → IsGroup g → 1 ≤ limit
     → AreSetups g limit setups → IsProgram g (begun_program g setups)
 begun_is_program g limit setups is some are = record {
-  all = length-map setups begun_running ∙ are.all;
+  all = length-map setups (option_map begun_running) ∙ are.all;
   form = λ m r there. (begun m r there).0;
   of = λ m r there. (begun m r there).1;
+  there = λ m below here. let s = are.there m below here in
+      (begun_running s.0, present_map begun_running setups m ∙ ap (option_map begun_running) s.1);
   table = length-replicate (words_of (roster g) g.window (banks g)) 0;
 }
   where
-    named : (m : ℕ) (r : Running) (o : Option Setup) → slice_get setups m ≡ o
+    named : (m : ℕ) (r : Running) (o : Option Setup) → present_at setups m ≡ o
         → option_map begun_running o ≡ Some r → IsRunningMember r × IsOf g m r.replica
     named m r None e there = absurd (cc)
     named m r (Some s) e there =
         subst (λ (x : Running). IsRunningMember x × IsOf g m x.replica)
         (same_Some (begun_running s) r there) (begins_in_form g limit m s is some (are.each m s e))
 
-    begun : (m : ℕ) (r : Running) → slice_get (map begun_running setups) m ≡ Some r
+    begun : (m : ℕ) (r : Running) → present_at (map (option_map begun_running) setups) m ≡ Some r
         → IsRunningMember r × IsOf g m r.replica
-    begun m r there = named m r (slice_get setups m) refl
-        (sym (slice_get-map begun_running setups m) ∙ there)
+    begun m r there = named m r (present_at setups m) refl
+        (sym (present_map begun_running setups m) ∙ there)

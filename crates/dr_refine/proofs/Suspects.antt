@@ -1,9 +1,7 @@
 -- What a suspicion makes of the world.
 use Rattle.std.proofs.Common.{◌≡◌, refl, sym, ap, ◌∙◌, ℕ, ◌==◌, if◌then◌else◌, inl, inr, true, List, arith}
 use Rattle.std.proofs.Math.Path.{fun_ext}
-use Rattle.std.specs.Prelude.{slice_set}
 use Rattle.std.proofs.lemmas.Bool.{cases_eq}
-use Rattle.std.proofs.lemmas.Option.{slice_get_within}
 use Rattle.dr_rows.specs.Words.{own, rewritten}
 use Rattle.dr_rows.proofs.Rewrites.{IsWords-frozen, IsWords-rewritten, own_rewritten_all, seen_rewritten}
 use Rattle.dr_words.specs.Masks.{least_of, with_member, without}
@@ -22,6 +20,9 @@ use Rattle.dr_program.proofs.Suspecting.{suspecting}
 use Rattle.dr_refine.specs.Programs.{IsMember, acted_table}
 use Rattle.dr_refine.proofs.Members.{Fits, fits, replaced, then_acted}
 use Rattle.dr_refine.proofs.Gains.{row_written, own_here}
+use Rattle.dr_program.specs.Presence.{with_present}
+use Rattle.dr_program.proofs.Present.{present_within}
+use Rattle.std.specs.Prelude.{Option}
 
 -- what a member has once it suspects j too, where these were its own words in its view
 abbrev suspect_from : Group → ℕ → Holding → (ℕ → ℕ) → Holding
@@ -44,12 +45,12 @@ suspect_changes g w m j = record {
 }
 
 -- one member more is suspected
-pub suspect_effect : (g : Group) (rs : List Replica) (table : List ℕ) (m : ℕ) (r : Replica) (j : ℕ)
+pub suspect_effect : (g : Group) (rs : List (Option Replica)) (table : List ℕ) (m : ℕ) (r : Replica) (j : ℕ)
     → IsMember g rs table m r → may_suspect r j ≡ true
-    → world_of g (slice_set rs m (acted (suspected r j))) (acted_table g table m r)
+    → world_of g (with_present rs m (acted (suspected r j))) (acted_table g table m r)
     ≡ stamped (suspects g (world_of g rs table) m j) m
 suspect_effect g rs table m r j is e =
-    then_acted g rs table m (suspected r j) (suspects g w m j) (slice_get_within rs m r is.there)
+    then_acted g rs table m (suspected r j) (suspects g w m j) (present_within rs m r is.there)
     new_fits is.cells
     (replaced g rs table table m r (suspected r j) (suspects g w m j) (suspect_after g j) is.there
     (suspect_changes g w m j) same refl)

@@ -36,9 +36,10 @@ use Rattle.dr_refine.proofs.Finishes.{finish_effect, finish_guard, finish_room}
 use Rattle.dr_refine.proofs.Looks.{look_effect, push_effect}
 use Rattle.dr_refine.proofs.Suspects.{suspect_effect}
 use Rattle.dr_refine.proofs.Puts.{null_effect, send_effect, receive_effect}
+use Rattle.dr_program.specs.Presence.{with_present}
 
 -- a running member has no end
-pub alive : (g : Group) (rs : List Replica) (table : List ℕ) (m : ℕ) (r : Replica)
+pub alive : (g : Group) (rs : List (Option Replica)) (table : List ℕ) (m : ℕ) (r : Replica)
     → IsMember g rs table m r → IsRunning g (world_of g rs table) m → r.end ≡ None
 alive g rs table m r is running = sym (ap (λ h. h.end) (held_of g rs table m r is.there)) ∙ running.running
 
@@ -52,7 +53,7 @@ fault_test (LogFull len) = (λ e. tt, λ f. refl)
 fault_test (Spent turns) = (λ e. tt, λ f. refl)
 fault_test end = (λ e. absurd (cc), λ f. absurd f)
 
-end_guard : (g : Group) (rs : List Replica) (table : List ℕ) (m : ℕ) (r : Replica) (end : End)
+end_guard : (g : Group) (rs : List (Option Replica)) (table : List ℕ) (m : ℕ) (r : Replica) (end : End)
     → IsMember g rs table m r → r.end ≡ None
     → (is_fault end ≡ true)
     ↔ (CanDo g (world_of g rs table) m (acts.Crash end) × HasRoomFor r (steps.Do (acts.Crash end)))
@@ -62,7 +63,7 @@ end_guard g rs table m r end is unended = (
 )
 
 -- a test behind that whether a vote waits
-unless_waiting : (g : Group) (rs : List Replica) (table : List ℕ) (m : ℕ) (r : Replica) (test : Bool)
+unless_waiting : (g : Group) (rs : List (Option Replica)) (table : List ℕ) (m : ℕ) (r : Replica) (test : Bool)
     {Can : Type 0} → IsMember g rs table m r → r.end ≡ None
     → (IsIdle r → (test ≡ true) ↔ Can) → (Can → MayChoose g (world_of g rs table) m)
     → ((not (is_some r.pending) && test) ≡ true) ↔ Can
@@ -78,7 +79,7 @@ unless_waiting g rs table m r test is unended same may = (
     idle_test (Some x) = (λ e. absurd (cc), λ e. absurd (cc))
 
 -- a replica without an end may do an act exactly where that may come
-pub act_guard : (g : Group) (rs : List Replica) (table : List ℕ) (m : ℕ) (r : Replica) (a : Act)
+pub act_guard : (g : Group) (rs : List (Option Replica)) (table : List ℕ) (m : ℕ) (r : Replica) (a : Act)
     → IsMember g rs table m r → IsIdle r
     → (may r a ≡ true) ↔ (CanDo g (world_of g rs table) m a × HasRoomFor r (steps.Do a))
 act_guard g rs table m r acts.Beat is unended =
@@ -111,7 +112,7 @@ act_guard g rs table m r (acts.Halt end) is unended = with_nothing (halt_guard g
 act_guard g rs table m r (acts.Crash end) is unended = end_guard g rs table m r end is unended.0
 
 -- a test of two and_parts
-pub cell_test : (g : Group) (rs : List Replica) (table : List ℕ) (m : ℕ) (r : Replica) (i c : ℕ)
+pub cell_test : (g : Group) (rs : List (Option Replica)) (table : List ℕ) (m : ℕ) (r : Replica) (i c : ℕ)
     → IsMember g rs table m r
     → (has_cell r i c ≡ true) ↔ ((is_other r i ≡ true) × (c < columns g))
 cell_test g rs table m r i c is = (
@@ -129,7 +130,7 @@ cell_test g rs table m r i c is = (
     wide = ap (λ n. columns_of n r.window) is.of.members ∙ ap (columns_of (roster g)) is.of.window
 
 -- a replica of which no vote waits allows a step exactly where that may come
-pub free_guard : (g : Group) (rs : List Replica) (table : List ℕ) (m : ℕ) (r : Replica) (s : Step)
+pub free_guard : (g : Group) (rs : List (Option Replica)) (table : List ℕ) (m : ℕ) (r : Replica) (s : Step)
     → IsMember g rs table m r → IsIdle r
     → (allows r s ≡ true) ↔ (CanTake g (world_of g rs table) m s × HasRoomFor r s)
 free_guard g rs table m r (steps.Do a) is unended = act_guard g rs table m r a is unended
@@ -152,7 +153,7 @@ free_guard g rs table m r (steps.LogVote v) is unended =
     with_nothing (vote_guard g rs table m r v is unended)
 
 -- and one without an end may take it exactly where that may come
-pub step_guard : (g : Group) (rs : List Replica) (table : List ℕ) (m : ℕ) (r : Replica) (s : Step)
+pub step_guard : (g : Group) (rs : List (Option Replica)) (table : List ℕ) (m : ℕ) (r : Replica) (s : Step)
     → IsMember g rs table m r → r.end ≡ None
     → ((is_free r s && allows r s) ≡ true) ↔ (CanTake g (world_of g rs table) m s × HasRoomFor r s)
 step_guard g rs table m r (steps.Do acts.Propose) is unended =
@@ -182,7 +183,7 @@ running_test None = (λ e. refl, λ e. refl)
 running_test (Some x) = (λ e. absurd (cc), λ e. absurd (cc))
 
 -- a replica may take a step exactly where that may come
-pub step_test : (g : Group) (rs : List Replica) (table : List ℕ) (m : ℕ) (r : Replica) (s : Step)
+pub step_test : (g : Group) (rs : List (Option Replica)) (table : List ℕ) (m : ℕ) (r : Replica) (s : Step)
     → IsMember g rs table m r
     → (may_take r s ≡ true) ↔ (CanTake g (world_of g rs table) m s × HasRoomFor r s)
 step_test g rs table m r s is = (
@@ -194,9 +195,9 @@ step_test g rs table m r s is = (
 )
 
 -- an act of a replica is the effect of the act
-pub act_effect : (g : Group) (rs : List Replica) (table : List ℕ) (m : ℕ) (r : Replica) (a : Act)
+pub act_effect : (g : Group) (rs : List (Option Replica)) (table : List ℕ) (m : ℕ) (r : Replica) (a : Act)
     → IsMember g rs table m r → may r a ≡ true
-    → world_of g (slice_set rs m (taken r a)) (acted_table g table m r)
+    → world_of g (with_present rs m (taken r a)) (acted_table g table m r)
     ≡ effect_of g (world_of g rs table) m (steps.Do a)
 act_effect g rs table m r acts.Beat is may = beat_effect g rs table m r is
 act_effect g rs table m r (acts.Receive s) is may =
@@ -223,7 +224,7 @@ written count m v s x = grind arith
 
 -- a replica with room for one entry more has the room that a step asks for, where what comes of the step keeps
 -- within what it may hold
-pub room_by : (g : Group) (rs : List Replica) (table : List ℕ) (m : ℕ) (r : Replica) (s : Step)
+pub room_by : (g : Group) (rs : List (Option Replica)) (table : List ℕ) (m : ℕ) (r : Replica) (s : Step)
     → IsMember g rs table m r → CanTake g (world_of g rs table) m s → length r.history < r.room
     → ((v i : ℕ) → (effect_of g (world_of g rs table) m s).past.count m v i ≤ greatest r.totals)
     → length ((effect_of g (world_of g rs table) m s).past.history m) ≤ r.room
@@ -244,7 +245,7 @@ room_by g rs table m r s is can entry counts history few = tt
 
 -- ---- words of the table
 
-index_is : (g : Group) (rs : List Replica) (table : List ℕ) (m : ℕ) (r : Replica)
+index_is : (g : Group) (rs : List (Option Replica)) (table : List ℕ) (m : ℕ) (r : Replica)
     (copy row column : ℕ) → IsMember g rs table m r
     → index_in r copy row column ≡ word_index_of (roster g) g.window r.view copy row column
 index_is g rs table m r copy row column is =
@@ -252,14 +253,14 @@ index_is g rs table m r copy row column is =
     ∙ ap (λ w. word_index_of (roster g) w r.view copy row column) is.of.window
 
 -- the word that a look finds
-pub found_is : (g : Group) (rs : List Replica) (table : List ℕ) (m : ℕ) (r : Replica) (i c : ℕ)
+pub found_is : (g : Group) (rs : List (Option Replica)) (table : List ℕ) (m : ℕ) (r : Replica) (i c : ℕ)
     → IsMember g rs table m r
     → found table r i c ≡ slice_index table (word_index_of (roster g) g.window r.view m i c)
 found_is g rs table m r i c is =
     ap (λ k. slice_index table (index_in r k i c)) is.of.number
     ∙ ap (slice_index table) (index_is g rs table m r m i c is)
 
-stamped_is : (g : Group) (rs : List Replica) (table : List ℕ) (m : ℕ) (r : Replica)
+stamped_is : (g : Group) (rs : List (Option Replica)) (table : List ℕ) (m : ℕ) (r : Replica)
     → IsMember g rs table m r
     → slice_set table (index_in r (me r) (me r) BEAT_COLUMN) (one_more 64 r.acts)
     ≡ acted_table g table m r
@@ -270,23 +271,23 @@ stamped_is g rs table m r is =
 -- ---- steps
 
 -- a step of a replica and of the table is the effect of the step
-pub step_effect : (g : Group) (rs : List Replica) (table : List ℕ) (m : ℕ) (r : Replica) (s : Step)
+pub step_effect : (g : Group) (rs : List (Option Replica)) (table : List ℕ) (m : ℕ) (r : Replica) (s : Step)
     → IsMember g rs table m r → allows r s ≡ true
-    → world_of g (slice_set rs m (stepped_over table r s)) (stored table r s)
+    → world_of g (with_present rs m (stepped_over table r s)) (stored table r s)
     ≡ effect_of g (world_of g rs table) m s
 step_effect g rs table m r (steps.Do a) is may =
-    ap (world_of g (slice_set rs m (taken r a))) (stamped_is g rs table m r is)
+    ap (world_of g (with_present rs m (taken r a))) (stamped_is g rs table m r is)
     ∙ act_effect g rs table m r a is may
 step_effect g rs table m r (steps.Look i c) is may =
     let cell = (cell_test g rs table m r i c is).0
     (and_parts (not (has r.suspects i)) (has_cell r i c) may).1 in
-    ap (λ word. world_of g (slice_set rs m (looked r i c word)) table) (found_is g rs table m r i c is)
+    ap (λ word. world_of g (with_present rs m (looked r i c word)) table) (found_is g rs table m r i c is)
     ∙ look_effect g rs table m r i c is cell.0 cell.1
 step_effect g rs table m r (steps.Push j c) is may =
     let cell = (cell_test g rs table m r j c is).0 may in
-    ap (λ k. world_of g (slice_set rs m (pushed r j c))
+    ap (λ k. world_of g (with_present rs m (pushed r j c))
     (slice_set table (index_in r j k c) (own r.rows c))) is.of.number
-    ∙ ap (λ k. world_of g (slice_set rs m (pushed r j c)) (slice_set table k (own r.rows c)))
+    ∙ ap (λ k. world_of g (with_present rs m (pushed r j c)) (slice_set table k (own r.rows c)))
     (index_is g rs table m r j m c is)
     ∙ push_effect g rs table m r j c is cell.0 cell.1
 step_effect g rs table m r steps.Append is may = append_effect g rs table m r is

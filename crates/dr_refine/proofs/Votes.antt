@@ -1,10 +1,9 @@
 -- A replica may vote, act on its vote and commit exactly where that may come, and what it makes of the world.
 use Rattle.std.proofs.Common.{◌≡◌, ◌↔◌, refl, sym, ap, ◌∙◌, subst, ℕ, ◌+◌, ◌^◌, ◌<◌, ◌≤◌, ◌==◌, ◌||◌, ◌⊎◌, inl, inr, not, Bool, true, false, if◌then◌else◌, List, [], ◌∷◌, ◌++◌, length, arith}
 use Rattle.std.proofs.Math.Path.{fun_ext}
-use Rattle.std.specs.Prelude.{Option, Some, None, is_some, slice_set, unwrap_or}
+use Rattle.std.specs.Prelude.{Option, Some, None, is_some, unwrap_or}
 use Rattle.std.proofs.lemmas.Bool.{and_from, and_parts, cases_eq, eq-eqb, eqb-true}
 use Rattle.std.proofs.lemmas.List.{length-take-le}
-use Rattle.std.proofs.lemmas.Option.{slice_get_within}
 use Rattle.dr_entry.specs.declared.record.Value.{Value}
 use Rattle.dr_entry.specs.declared.record.Vote.{Vote}
 use Rattle.dr_history.specs.Members.{has}
@@ -35,17 +34,19 @@ use Rattle.dr_refine.specs.Programs.{IsMember, acted_table}
 use Rattle.dr_refine.proofs.Gains.{own_here, row_written}
 use Rattle.dr_refine.proofs.Guards.{IsIdle, may_choose, members_are, not_less, running, suspects_are, wedged}
 use Rattle.dr_refine.proofs.Members.{Fits, fits, replaced, shown_seen, then_acted}
+use Rattle.dr_program.specs.Presence.{with_present}
+use Rattle.dr_program.proofs.Present.{present_within}
 
 -- ---- the rows
 
 -- the rows that the member shows are those of its replica
-shows_rows : (g : Group) (rs : List Replica) (table : List ℕ) (m : ℕ) (r : Replica)
+shows_rows : (g : Group) (rs : List (Option Replica)) (table : List ℕ) (m : ℕ) (r : Replica)
     → IsMember g rs table m r → ◌≡◌ {A = ℕ → ℕ → ℕ} (shown (world_of g rs table) m) (seen r.rows)
 shows_rows g rs table m r is =
     fun_ext λ i. fun_ext λ c. shown_seen g rs table m r i c is.there is.of.number
 
 -- what holds of them, of the view and of the suspects holds in the world
-to_world : (g : Group) (rs : List Replica) (table : List ℕ) (m : ℕ) (r : Replica)
+to_world : (g : Group) (rs : List (Option Replica)) (table : List ℕ) (m : ℕ) (r : Replica)
     (P : ℕ → Shown → ℕ → ℕ → ℕ → Type 0) → IsMember g rs table m r
     → P r.roster (seen r.rows) r.members r.suspects (me r)
     → P (roster g) (shown (world_of g rs table) m) ((world_of g rs table).members m)
@@ -59,7 +60,7 @@ to_world g rs table m r P is p =
     (subst (λ k. P k (seen r.rows) r.members r.suspects (me r)) is.of.members p))))
 
 -- and the other way round
-from_world : (g : Group) (rs : List Replica) (table : List ℕ) (m : ℕ) (r : Replica)
+from_world : (g : Group) (rs : List (Option Replica)) (table : List ℕ) (m : ℕ) (r : Replica)
     (P : ℕ → Shown → ℕ → ℕ → ℕ → Type 0) → IsMember g rs table m r
     → P (roster g) (shown (world_of g rs table) m) ((world_of g rs table).members m)
     ((world_of g rs table).suspects m) m
@@ -73,13 +74,13 @@ from_world g rs table m r P is p =
     (subst (λ k. P (roster g) (shown w m) (w.members m) (w.suspects m) k) (sym is.of.number) p))))
 
 -- the view is of 16 members at most, and somebody of it is unsuspected: the member itself
-view_small : (g : Group) (rs : List Replica) (table : List ℕ) (m : ℕ) (r : Replica)
+view_small : (g : Group) (rs : List (Option Replica)) (table : List ℕ) (m : ℕ) (r : Replica)
     → IsMember g rs table m r → r.members < 2 ^ 16
 view_small g rs table m r is = in_roster_small 16 r.members (λ i there.
     let within : i < r.roster = is.form.roster i there in
     omega (arith, within, is.of.members, is.group.most_members))
 
-self_left : (g : Group) (rs : List Replica) (table : List ℕ) (m : ℕ) (r : Replica)
+self_left : (g : Group) (rs : List (Option Replica)) (table : List ℕ) (m : ℕ) (r : Replica)
     → IsMember g rs table m r → has (without r.members r.suspects) (me r) ≡ true
 self_left g rs table m r is =
     has_without_mask r.members r.suspects (me r) (view_small g rs table m r is)
@@ -98,7 +99,7 @@ IsAllowed v n rows members suspects me =
     ⊎ (MayAccept n rows members suspects me × Shows n rows members (promise_of n rows me) v)
 
 -- the value is due exactly where it is allowed
-allowed_test : (g : Group) (rs : List Replica) (table : List ℕ) (m : ℕ) (r : Replica) (v : Value)
+allowed_test : (g : Group) (rs : List (Option Replica)) (table : List ℕ) (m : ℕ) (r : Replica) (v : Value)
     → IsMember g rs table m r → length v.trim ≡ 16
     → ((replicas.may_propose r || replicas.may_accept r) ≡ true) × (v ≡ value_due r)
     ↔ IsAllowed v r.roster (seen r.rows) r.members r.suspects (me r)
@@ -167,7 +168,7 @@ allowed_test g rs table m r v is long = (λ p. from (replicas.may_propose r) ref
         )
 
 -- it votes exactly where that may come
-pub vote_guard : (g : Group) (rs : List Replica) (table : List ℕ) (m : ℕ) (r : Replica) (v : Value)
+pub vote_guard : (g : Group) (rs : List (Option Replica)) (table : List ℕ) (m : ℕ) (r : Replica) (v : Value)
     → IsMember g rs table m r → IsIdle r
     → (may_vote r v ≡ true) ↔ CanLogVote g (world_of g rs table) m v
 vote_guard g rs table m r v is free = (
@@ -213,7 +214,7 @@ vote_guard g rs table m r v is free = (
 -- ---- the vote that waits
 
 -- it acts on its vote exactly where that may come
-pub propose_guard : (g : Group) (rs : List Replica) (table : List ℕ) (m : ℕ) (r : Replica)
+pub propose_guard : (g : Group) (rs : List (Option Replica)) (table : List ℕ) (m : ℕ) (r : Replica)
     → IsMember g rs table m r → r.end ≡ None
     → (is_own (me r) r.pending ≡ true) ↔ CanPropose g (world_of g rs table) m
 propose_guard g rs table m r is alive = (
@@ -235,7 +236,7 @@ propose_guard g rs table m r is alive = (
       own = eqb-true x.ballot (me r) e ∙ is.of.number;
     }
 
-pub accept_guard : (g : Group) (rs : List Replica) (table : List ℕ) (m : ℕ) (r : Replica)
+pub accept_guard : (g : Group) (rs : List (Option Replica)) (table : List ℕ) (m : ℕ) (r : Replica)
     → IsMember g rs table m r → r.end ≡ None
     → (is_others (me r) r.pending ≡ true) ↔ CanAccept g (world_of g rs table) m
 accept_guard g rs table m r is alive = (
@@ -261,7 +262,7 @@ accept_guard g rs table m r is alive = (
     }
 
 -- and commits exactly where that may come
-pub commit_guard : (g : Group) (rs : List Replica) (table : List ℕ) (m : ℕ) (r : Replica)
+pub commit_guard : (g : Group) (rs : List (Option Replica)) (table : List ℕ) (m : ℕ) (r : Replica)
     → IsMember g rs table m r → IsIdle r
     → (may_commit r ≡ true) ↔ CanCommit g (world_of g rs table) m
 commit_guard g rs table m r is free = (
@@ -298,9 +299,9 @@ vote_changes g w m v = record {
 }
 
 -- a vote goes on the log
-pub vote_effect : (g : Group) (rs : List Replica) (table : List ℕ) (m : ℕ) (r : Replica) (v : Value)
+pub vote_effect : (g : Group) (rs : List (Option Replica)) (table : List ℕ) (m : ℕ) (r : Replica) (v : Value)
     → IsMember g rs table m r
-    → world_of g (slice_set rs m (voted r v)) table ≡ logs_vote g (world_of g rs table) m v
+    → world_of g (with_present rs m (voted r v)) table ≡ logs_vote g (world_of g rs table) m v
 vote_effect g rs table m r v is =
     let vote : vote_in g r.view (promise r) v ≡ vote_of r v =
     (λ z. record {
@@ -324,12 +325,12 @@ commit_changes w m = record {
 }
 
 -- a value is committed
-pub commit_effect : (g : Group) (rs : List Replica) (table : List ℕ) (m : ℕ) (r : Replica)
+pub commit_effect : (g : Group) (rs : List (Option Replica)) (table : List ℕ) (m : ℕ) (r : Replica)
     → IsMember g rs table m r
-    → world_of g (slice_set rs m (acted (decided r))) (acted_table g table m r)
+    → world_of g (with_present rs m (acted (decided r))) (acted_table g table m r)
     ≡ stamped (commits (world_of g rs table) m) m
 commit_effect g rs table m r is =
-    then_acted g rs table m (decided r) (commits (world_of g rs table) m) (slice_get_within rs m r is.there)
+    then_acted g rs table m (decided r) (commits (world_of g rs table) m) (present_within rs m r is.there)
     (fits g rs table m r is) is.cells
     (replaced g rs table table m r (decided r) (commits (world_of g rs table) m) commit_after is.there
     (commit_changes (world_of g rs table) m) refl refl)
@@ -354,12 +355,12 @@ accept_changes g w m = record {
 }
 
 -- what it has voted for is accepted
-pub accept_effect : (g : Group) (rs : List Replica) (table : List ℕ) (m : ℕ) (r : Replica)
+pub accept_effect : (g : Group) (rs : List (Option Replica)) (table : List ℕ) (m : ℕ) (r : Replica)
     → IsMember g rs table m r
-    → world_of g (slice_set rs m (acted (accepted r))) (acted_table g table m r)
+    → world_of g (with_present rs m (acted (accepted r))) (acted_table g table m r)
     ≡ stamped (accepts g (world_of g rs table) m) m
 accept_effect g rs table m r is =
-    then_acted g rs table m (accepted r) (accepts g w m) (slice_get_within rs m r is.there)
+    then_acted g rs table m (accepted r) (accepts g w m) (present_within rs m r is.there)
     new_fits is.cells
     (replaced g rs table table m r (accepted r) (accepts g w m) (accept_after g) is.there
     (accept_changes g w m) same refl)

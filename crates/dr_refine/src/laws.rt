@@ -1,5 +1,5 @@
 //! Laws that tie replicas and running members to the machine.
-ghost use Rattle.std.specs.Prelude.{◌≡◌, ◌↔◌, ℕ, ◌≤◌, true, List, is_some, slice_get, slice_set, Some, None};
+ghost use Rattle.std.specs.Prelude.{◌≡◌, ◌↔◌, ℕ, ◌≤◌, true, List, is_some, Some, None, Option};
 ghost use Rattle.dr_machine.specs.declared.step.Step.{Step};
 ghost use Rattle.dr_program.specs.declared.setup.Setup.{Setup};
 ghost use Rattle.dr_machine.specs.Group.{Group, IsGroup};
@@ -12,12 +12,13 @@ ghost use Rattle.dr_program.specs.Program.{Program, Move, AreSetups, after_deed,
 ghost use Rattle.dr_program.specs.Reading.{step_by, world, world_of};
 ghost use Rattle.dr_program.specs.Form.{IsRunningMember};
 ghost use Rattle.dr_refine.specs.Programs.{HasRoomFor, IsMember, IsProgram};
+ghost use Rattle.dr_program.specs.Presence.{present_at, with_present};
 
 /// A member's step may come exactly where its replica has no end and passes the test of the step, but
 /// for three ranges: it takes no more items of a member than anyone has messages, delivers only
 /// where it has room for an entry, and ends its view only where it has room for what this adds.
 pub fn tests_are_guards()
-    ensures { (g : Group) (rs : List Replica) (table : List ℕ) (m : ℕ) (r : Replica) (s : Step)
+    ensures { (g : Group) (rs : List (Option Replica)) (table : List ℕ) (m : ℕ) (r : Replica) (s : Step)
         → IsMember g rs table m r
         → (may_take r s ≡ true) ↔ (CanTake g (world_of g rs table) m s × HasRoomFor r s) }
 {}
@@ -25,9 +26,9 @@ pub fn tests_are_guards()
 /// What a step makes of a replica and of the table is the effect of the step on the world that they
 /// are.
 pub fn steps_are_effects()
-    ensures { (g : Group) (rs : List Replica) (table : List ℕ) (m : ℕ) (r : Replica) (s : Step)
+    ensures { (g : Group) (rs : List (Option Replica)) (table : List ℕ) (m : ℕ) (r : Replica) (s : Step)
         → IsMember g rs table m r → allows r s ≡ true
-        → world_of g (slice_set rs m (stepped_over table r s)) (stored table r s)
+        → world_of g (with_present rs m (stepped_over table r s)) (stored table r s)
         ≡ effect_of g (world_of g rs table) m s }
 {}
 
@@ -38,24 +39,24 @@ pub fn steps_are_effects()
 pub fn deeds_are_steps()
     ensures may_come { (g : Group) (p : Program) (e : Move) (r : Running) (s : Step) → IsGroup g
         → IsProgram g p
-        → slice_get p.members e.member ≡ Some r → step_by r e.outcome ≡ Some s
+        → present_at p.members e.member ≡ Some r → step_by r e.outcome ≡ Some s
         → CanTake g (world g p) e.member s }
     ensures happens { (g : Group) (p : Program) (e : Move) (r : Running) (s : Step) → IsGroup g
         → IsProgram g p
-        → slice_get p.members e.member ≡ Some r → step_by r e.outcome ≡ Some s
+        → present_at p.members e.member ≡ Some r → step_by r e.outcome ≡ Some s
         → world g (step_of p e) ≡ effect_of g (world g p) e.member s }
     ensures rests { (p : Program) (e : Move) (r : Running)
-        → slice_get p.members e.member ≡ Some r → is_some r.replica.end ≡ true → step_of p e ≡ p }
+        → present_at p.members e.member ≡ Some r → is_some r.replica.end ≡ true → step_of p e ≡ p }
     ensures stays { (g : Group) (p : Program) (e : Move) (r : Running)
-        → slice_get p.members e.member ≡ Some r → step_by r e.outcome ≡ None
+        → present_at p.members e.member ≡ Some r → step_by r e.outcome ≡ None
         → world g (step_of p e) ≡ world g p }
     ensures reached { (g : Group) (p : Program) (e : Move) → IsGroup g → IsProgram g p
         → IsReached g (world g p) → IsReached g (world g (step_of p e)) }
-    ensures begins { (g : Group) (turns : ℕ) (setups : List Setup) → IsGroup g → 1 ≤ turns
+    ensures begins { (g : Group) (turns : ℕ) (setups : List (Option Setup)) → IsGroup g → 1 ≤ turns
         → AreSetups g turns setups
         → IsProgram g (begun_program g setups) }
     ensures keeps { (g : Group) (p : Program) (e : Move) → IsProgram g p
-        → ((r : Running) → slice_get p.members e.member ≡ Some r → r.replica.end ≡ None
+        → ((r : Running) → present_at p.members e.member ≡ Some r → r.replica.end ≡ None
         → IsRunningMember (after_deed (next_sight p.table r) e.outcome r (next_step r)))
         → IsProgram g (step_of p e) }
 {}

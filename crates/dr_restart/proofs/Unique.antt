@@ -1,6 +1,8 @@
 -- A script, a start and the number of an age leave no choice: there is one list of setups.
-use Rattle.std.proofs.Common.{◌≡◌, refl, sym, ap, ◌∙◌, subst, ℕ, suc, ◌≤◌, List, [], ◌∷◌, length, arith}
-use Rattle.std.specs.Prelude.{Some, slice_get}
+use Rattle.std.proofs.Common.{◌≡◌, refl, sym, ap, ◌∙◌, subst, ℕ, ◌<◌, ◌≤◌, List, arith}
+use Rattle.std.specs.Prelude.{None, Option, Some}
+use Rattle.std.proofs.lemmas.List.{ext_get_or}
+use Rattle.dr_program.specs.Presence.{present_at}
 use Rattle.std.specs.Coded.{le_prop}
 use Rattle.dr_words.specs.declared.shape.Shape.{Shape}
 use Rattle.dr_script.specs.declared.script.Script.{Script}
@@ -68,19 +70,19 @@ same_setup script start nth m s t one other =
     shapes = same_shape s.shape t.shape (one.setup.members ∙ sym other.setup.members)
         (one.setup.window ∙ sym other.setup.window) (one.setup.banks ∙ sym other.setup.banks)
 
-same_lists : (xs ys : List Setup) → length xs ≡ length ys
-    → ((m : ℕ) (x y : Setup) → slice_get xs m ≡ Some x → slice_get ys m ≡ Some y → x ≡ y)
-    → xs ≡ ys
-same_lists [] [] long same = refl
-same_lists [] (y ∷ ys) long same = absurd (omega (arith, long))
-same_lists (x ∷ xs) [] long same = absurd (omega (arith, long))
-same_lists (x ∷ xs) (y ∷ ys) long same =
-    let rest : xs ≡ ys = same_lists xs ys (omega (arith, long)) (λ m. same (suc m)) in
-    ap (λ s. s ∷ xs) (same 0 x y refl refl) ∙ ap (λ l. y ∷ l) rest
-
 -- a script and a start give one list of setups for an age
-pub same_setups : (script : Script) (start : Start) (nth : ℕ) (xs ys : List Setup)
+pub same_setups : (script : Script) (start : Start) (nth : ℕ) (xs ys : List (Option Setup))
     → AreSetupsOf script start nth xs → AreSetupsOf script start nth ys → xs ≡ ys
 same_setups script start nth xs ys ones others =
-    same_lists xs ys (ones.all ∙ sym others.all)
-    (λ m s t here there. same_setup script start nth m s t (ones.each m s here) (others.each m t there))
+    ext_get_or None xs ys (ones.all ∙ sym others.all)
+    (λ m within. by m (present_at xs m) (present_at ys m) refl refl (omega (arith, within, ones.all)))
+  where
+    by : (m : ℕ) (o q : Option Setup) → present_at xs m ≡ o → present_at ys m ≡ q → m < script.members
+        → present_at xs m ≡ present_at ys m
+    by m None None here there below = here ∙ sym there
+    by m (Some s) (Some t) here there below = here
+        ∙ ap Some (same_setup script start nth m s t (ones.each m s here) (others.each m t there)) ∙ sym there
+    by m (Some s) None here there below =
+        absurd (cc ((others.there m below (ones.each m s here).setup.present).1, there))
+    by m None (Some t) here there below =
+        absurd (cc ((ones.there m below (others.each m t there).setup.present).1, here))

@@ -1,5 +1,5 @@
 -- What the members of a script's group are told as an age opens, and the program that they are then.
-use Rattle.std.specs.Prelude.{◌≡◌, ℕ, ◌==◌, ◌&&◌, if◌then◌else◌, List, length, filter_map, slice_get, Option, None, Some}
+use Rattle.std.specs.Prelude.{◌≡◌, ℕ, ◌<◌, ◌==◌, ◌&&◌, if◌then◌else◌, List, length, filter_map, Option, None, Some}
 use Rattle.dr_script.specs.declared.script.Fault.{Fault}
 use Rattle.dr_script.specs.declared.script.Script.{Script}
 use Rattle.dr_script.specs.declared.script.What.{What}
@@ -7,6 +7,8 @@ use Rattle.dr_script.specs.declared.script.What.TheVariants.{Crash, Suspect}
 use Rattle.dr_program.specs.declared.setup.CrashPoint.{CrashPoint}
 use Rattle.dr_program.specs.declared.setup.Setup.{Setup}
 use Rattle.dr_program.specs.declared.setup.Suspicion.{Suspicion}
+use Rattle.dr_machine.specs.Group.{IsPresent}
+use Rattle.dr_program.specs.Presence.{present_at}
 use Rattle.dr_program.specs.Program.{Program, IsSetup, begun_program}
 use Rattle.dr_restart.specs.declared.start.Start.{Start}
 use Rattle.dr_restart.specs.Groups.{group_of}
@@ -45,18 +47,20 @@ pub record IsSetupOf (script : Script) (start : Start) (nth me : ℕ) (s : Setup
   pub crashes : s.crashes ≡ crashes_of script.faults nth me
   pub suspicions : s.suspicions ≡ suspicions_of script.faults nth me
 
--- the setups of the first n members, ascending
+-- the setups of those of the first n members that are there, by number
 pub record AreFirstSetupsOf (script : Script) (start : Start) (nth n : ℕ)
-    (setups : List Setup) : Type 0 where
+    (setups : List (Option Setup)) : Type 0 where
   pub all : length setups ≡ n
-  pub each : (m : ℕ) (s : Setup) → slice_get setups m ≡ Some s → IsSetupOf script start nth m s
+  pub each : (m : ℕ) (s : Setup) → present_at setups m ≡ Some s → IsSetupOf script start nth m s
+  pub there : (m : ℕ) → m < n → IsPresent (group_of script start) m
+      → (s : Setup) × (present_at setups m ≡ Some s)
 
--- the setups of all members of the roster, ascending
-abbrev pub AreSetupsOf : Script → Start → ℕ → List Setup → Type 0
+-- the setups of those of the roster that are there, by number
+abbrev pub AreSetupsOf : Script → Start → ℕ → List (Option Setup) → Type 0
 AreSetupsOf script start nth setups = AreFirstSetupsOf script start nth script.members setups
 
 -- the program as that age opens
 abbrev pub IsBegun : Script → Start → ℕ → Program → Type 0
 IsBegun script start nth p =
-    (setups : List Setup) × AreSetupsOf script start nth setups
+    (setups : List (Option Setup)) × AreSetupsOf script start nth setups
     × (p ≡ begun_program (group_of script start) setups)

@@ -25,6 +25,7 @@ use Rattle.dr_refine.specs.Programs.{HasRoomFor, IsMember}
 use Rattle.dr_refine.proofs.Deeds.{taken_reached}
 use Rattle.dr_refine.proofs.Members.{fits, inside}
 use Rattle.dr_refine.proofs.Tests.{room_by}
+use Rattle.std.specs.Prelude.{Option}
 
 -- ---- histories
 
@@ -79,7 +80,7 @@ history_small g w m is reached l =
 -- ---- room
 
 -- the room for a step is there by itself
-pub has_room : (g : Group) (rs : List Replica) (table : List ℕ) (m : ℕ) (r : Replica) (s : Step)
+pub has_room : (g : Group) (rs : List (Option Replica)) (table : List ℕ) (m : ℕ) (r : Replica) (s : Step)
     → IsMember g rs table m r
     → length g.opening.start + banks g + greatest r.totals * roster g < r.room
     → IsReached g (world_of g rs table) → CanTake g (world_of g rs table) m s → HasRoomFor r s

@@ -4,7 +4,7 @@
 //! How long a history is comes from `dr_world_laws`; which room a step asks for says `dr_refine`.
 #![tactic(auto)]
 
-ghost use Rattle.std.specs.Prelude.{◌≡◌, ℕ, ◌+◌, ◌*◌, ◌≤◌, ◌<◌, List, length, map};
+ghost use Rattle.std.specs.Prelude.{◌≡◌, ℕ, ◌+◌, ◌*◌, ◌≤◌, ◌<◌, List, length, map, Option};
 ghost use Rattle.dr_entry.specs.declared.limits.TheConstants.{MAX_MEMBERS, MAX_MESSAGES};
 ghost use Rattle.dr_machine.specs.declared.step.Step.{Step};
 ghost use Rattle.dr_machine.specs.Group.{Group, IsGroup, banks, roster};
@@ -18,7 +18,7 @@ ghost use Rattle.dr_refine.specs.Programs.{HasRoomFor, IsMember};
 /// In a reached world a member has the room that a step asks for, where its history has room for every
 /// message and every View: it never waits for room.
 pub fn room_is_there()
-    ensures { (g : Group) (rs : List Replica) (table : List ℕ) (m : ℕ) (r : Replica) (s : Step)
+    ensures { (g : Group) (rs : List (Option Replica)) (table : List ℕ) (m : ℕ) (r : Replica) (s : Step)
         → IsMember g rs table m r
         → length g.opening.start + banks g + greatest r.totals * roster g < r.room
         → IsReached g (world_of g rs table) → CanTake g (world_of g rs table) m s → HasRoomFor r s }

@@ -3,7 +3,6 @@ use Rattle.std.proofs.Common.{◌≡◌, refl, ap, ◌∙◌, subst, inl, inr, �
 use Rattle.std.proofs.Math.Nat.{min-eq_left, mul-le-mul}
 use Rattle.std.proofs.lemmas.Bool.{cases_lt}
 use Rattle.std.proofs.lemmas.List.{get_or-map, get_or_past, length-map, length-take}
-use Rattle.std.proofs.lemmas.Option.{slice_get_within}
 use Rattle.dr_history.specs.Places.{front_of, is_held}
 use Rattle.dr_history.proofs.Fronts.{first_within}
 use Rattle.dr_history_laws.proofs.Members.{members_of-few}

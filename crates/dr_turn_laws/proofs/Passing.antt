@@ -1,6 +1,6 @@
 -- At a place that the search passes nothing is left to do.
 use Rattle.std.proofs.Common.{◌≡◌, ◌≢◌, refl, sym, ap, ◌∙◌, subst, inl, inr, ℕ, ◌<◌, ◌==◌, ◌&&◌, not, Bool, true, false, arith}
-use Rattle.std.specs.Prelude.{Option, None, Some, slice_get}
+use Rattle.std.specs.Prelude.{Option, None, Some}
 use Rattle.std.proofs.lemmas.Bool.{and_parts}
 use Rattle.std.proofs.lemmas.Bool.Decides.{nat_tests}
 use Rattle.dr_faithful.specs.Chosen.{views_by}
@@ -39,13 +39,14 @@ use Rattle.dr_turn_laws.specs.Wants.{Wants}
 use Rattle.dr_turn_laws.proofs.Acts.{asked, uncrashed}
 use Rattle.dr_turn_laws.proofs.Before.{before_after}
 use Rattle.dr_program_laws.proofs.Trusting.{IsAmong, nobody_suspects, stay_first, votes_nothing}
-use Rattle.dr_program_laws.proofs.Worlds.{all_there}
+use Rattle.dr_machine.proofs.Presence.{is_present}
+use Rattle.dr_program.specs.Presence.{present_at}
 
 -- member m of a steady program in which nobody suspects anybody, which has not ended
 pub record IsGoing (g : Group) (p : Program) (m : ℕ) (r : Running) : Type 0 where
   pub steady : IsSteady g p
   pub ease : AreAtEase p
-  pub there : slice_get p.members m ≡ Some r
+  pub there : present_at p.members m ≡ Some r
   pub unended : r.replica.end ≡ None
 
 pub member : (g : Group) (p : Program) (m : ℕ) (r : Running) → IsGoing g p m r
@@ -71,7 +72,7 @@ in_view g p m r i is within =
     ap (λ x. has x i) (told.views.own m)
     ∙ ap (λ v. has (views_by g y.values v) i)
     (stay_first g p m is.ease ∙ sym (stay_first g p i is.ease))
-    ∙ told.views.present i (all_there g p i is.steady.program within)
+    ∙ told.views.present i (is_present g i is.steady.whole within)
 
 -- ---- tests
 

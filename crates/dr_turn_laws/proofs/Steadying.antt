@@ -1,16 +1,16 @@
 -- Programs begin steady, and moves keep them so.
 use Rattle.std.proofs.Common.{◌≡◌, ◌≢◌, refl, sym, ap, ◌∙◌, subst, inl, inr, ◌⊎◌, ℕ, ◌+◌, ◌*◌, ◌^◌, ◌<◌, ◌≤◌, ◌==◌, not, Bool, true, false, List, length, slice_index, arith}
-use Rattle.std.specs.Prelude.{Option, None, Some, is_some, option_map, slice_get, slice_set}
+use Rattle.std.specs.Prelude.{Option, None, Some, is_some, option_map}
 use Rattle.std.proofs.lemmas.Bool.{cases_eq}
 use Rattle.std.proofs.lemmas.Bool.Decides.{nat_tests}
-use Rattle.std.proofs.lemmas.Option.{same_Some, slice_get-map, slice_get_within}
+use Rattle.std.proofs.lemmas.Option.{same_Some}
 use Rattle.dr_entry.specs.declared.end.End.{End}
 use Rattle.dr_machine.specs.declared.event.Act.{Act}
 use Rattle.dr_machine.specs.declared.step.Step.{Step}
 use Rattle.dr_machine.specs.declared.step.Step.TheVariants.{Do}
 use Rattle.dr_machine.specs.Acts.{CanTake, does, effect_of}
 use Rattle.dr_machine.specs.Effects.{one_more, pushes}
-use Rattle.dr_machine.specs.Group.{Group, IsGroup, banks, columns, roster}
+use Rattle.dr_machine.specs.Group.{AllPresent, Group, IsGroup, banks, columns, roster}
 use Rattle.dr_machine.specs.World.{World, own_word}
 use Rattle.dr_machine.specs.Writes.{at₄}
 use Rattle.dr_program.specs.declared.outcome.LogWhy.{LogWhy}
@@ -26,7 +26,7 @@ use Rattle.dr_program.specs.declared.place.Part.{Part}
 use Rattle.dr_program.specs.declared.place.Part.TheVariants as parts
 use Rattle.dr_program.specs.Steps.{IsAppend, stepped, stored}
 use Rattle.dr_program.proofs.Fixed.{Told, step_told}
-use Rattle.dr_program.proofs.Holdings.{held_of, replica_kept, replica_set}
+use Rattle.dr_program.proofs.Holdings.{held_of}
 use Rattle.dr_program.proofs.Opening.{begins_at_the_opening, first_rows}
 use Rattle.dr_program.proofs.Runs.{after_either, after_ok}
 use Rattle.dr_program.proofs.StepsAt.{append_either, push_either, vote_either}
@@ -50,6 +50,8 @@ use Rattle.dr_turn.proofs.Parts.{taken_pushed, verdict_no_beat, verdict_of}
 use Rattle.dr_turn_laws.proofs.Acts.{begins_anew, begins_turn, fails, table_stays}
 use Rattle.dr_turn_laws.proofs.Working.{works_begin, works_on}
 use Rattle.dr_program_laws.proofs.Programs.{replaced_either}
+use Rattle.dr_program.specs.Presence.{present_at, with_present}
+use Rattle.dr_program.proofs.Present.{present_within, present_set, present_kept, present_map}
 
 -- ---- a move
 
@@ -58,32 +60,32 @@ abbrev pub stepped_on : Program → Running → Running
 stepped_on p r = after_step (next_sight p.table r) r
 
 -- a move of a member without an end
-move_made : (p : Program) (m : ℕ) (r : Running) → slice_get p.members m ≡ Some r
+move_made : (p : Program) (m : ℕ) (r : Running) → present_at p.members m ≡ Some r
     → r.replica.end ≡ None
     → step_of p (ok m) ≡ record {
-      members = slice_set p.members m (stepped_on p r);
+      members = with_present p.members m (stepped_on p r);
       table = stored p.table r.replica (next_step r);
     }
 move_made p m r there unended =
     step_is p (ok m) r there unended
     ∙ ap (λ x. record
-    { members = slice_set p.members m x; table = stored p.table r.replica (next_step r) })
+    { members = with_present p.members m x; table = stored p.table r.replica (next_step r) })
     (after_ok p.table r (next_step r))
 
 -- leads it on
-pub moved_member : (p : Program) (m : ℕ) (r : Running) → slice_get p.members m ≡ Some r
-    → r.replica.end ≡ None → slice_get (step_of p (ok m)).members m ≡ Some (stepped_on p r)
+pub moved_member : (p : Program) (m : ℕ) (r : Running) → present_at p.members m ≡ Some r
+    → r.replica.end ≡ None → present_at (step_of p (ok m)).members m ≡ Some (stepped_on p r)
 moved_member p m r there unended =
-    ap (λ (x : Program). slice_get x.members m) (move_made p m r there unended)
-    ∙ replica_set p.members m (stepped_on p r) (slice_get_within p.members m r there)
+    ap (λ (x : Program). present_at x.members m) (move_made p m r there unended)
+    ∙ present_set p.members m (stepped_on p r) (present_within p.members m r there)
 
 -- and leaves the others
-pub other_member : (p : Program) (m : ℕ) (r : Running) (i : ℕ) → slice_get p.members m ≡ Some r
+pub other_member : (p : Program) (m : ℕ) (r : Running) (i : ℕ) → present_at p.members m ≡ Some r
     → r.replica.end ≡ None → i ≢ m
-    → slice_get (step_of p (ok m)).members i ≡ slice_get p.members i
+    → present_at (step_of p (ok m)).members i ≡ present_at p.members i
 other_member p m r i there unended other =
-    ap (λ (x : Program). slice_get x.members i) (move_made p m r there unended)
-    ∙ replica_kept p.members m i (stepped_on p r) other
+    ap (λ (x : Program). present_at x.members i) (move_made p m r there unended)
+    ∙ present_kept p.members m i (stepped_on p r) other
 
 -- the search leaves the replica of the one that moved
 pub stepped_replica : (p : Program) (r : Running)
@@ -217,7 +219,7 @@ none_ahead g w m v j c is run ahead =
     omega (arith, (f.old.in_table v j m c).number, f.fresh.unwritten m v c ahead)
 
 shown_in : (g : Group) (p : Program) (m : ℕ) (r : Running) → IsSteady g p
-    → slice_get p.members m ≡ Some r → HasShown g (world g p) m r.replica
+    → present_at p.members m ≡ Some r → HasShown g (world g p) m r.replica
 shown_in g p m r is there =
     let member = program_member g p m r is.group is.program there in record {
       form = member.form.rows;
@@ -231,18 +233,18 @@ shown_in g p m r is there =
 
 -- the world after the next step of a member
 pub world_on : (g : Group) (p : Program) (m : ℕ) (r : Running) → IsSteady g p
-    → slice_get p.members m ≡ Some r → r.replica.end ≡ None
+    → present_at p.members m ≡ Some r → r.replica.end ≡ None
     → CanTake g (world g p) m (next_step r)
     × (world g (step_of p (ok m)) ≡ effect_of g (world g p) m (next_step r))
 world_on g p m r is there unended =
     deed_step g p m outcomes.Ok r is.group is.program there unended (after_ok p.table r (next_step r))
 
 -- a member of the program after a move is the one that moved, or as it was
-moved_either : (p : Program) (m : ℕ) (r : Running) → slice_get p.members m ≡ Some r
-    → r.replica.end ≡ None → (i : ℕ) (y : Running) → slice_get (step_of p (ok m)).members i ≡ Some y
-    → ((i ≡ m) × (stepped_on p r ≡ y)) ⊎ ((i ≢ m) × (slice_get p.members i ≡ Some y))
+moved_either : (p : Program) (m : ℕ) (r : Running) → present_at p.members m ≡ Some r
+    → r.replica.end ≡ None → (i : ℕ) (y : Running) → present_at (step_of p (ok m)).members i ≡ Some y
+    → ((i ≡ m) × (stepped_on p r ≡ y)) ⊎ ((i ≢ m) × (present_at p.members i ≡ Some y))
 moved_either p m r there unended i y at = replaced_either p.members m r (stepped_on p r) there i y
-    (sym (ap (λ (x : Program). slice_get x.members i) (move_made p m r there unended)) ∙ at)
+    (sym (ap (λ (x : Program). present_at x.members i) (move_made p m r there unended)) ∙ at)
 
 -- only one part begins a turn
 plain_begins : (r : Running) (part : Part) (i c : ℕ) → is_beat part ≡ false
@@ -256,9 +258,10 @@ plain_begins r (parts.Do a) i c other = other
 plain_begins r part i c other = refl
 
 steady_on : (g : Group) (p : Program) (m : ℕ) (r : Running) → IsSteady g p
-    → slice_get p.members m ≡ Some r → r.replica.end ≡ None → IsSteady g (step_of p (ok m))
+    → present_at p.members m ≡ Some r → r.replica.end ≡ None → IsSteady g (step_of p (ok m))
 steady_on g p m r is there unended = record {
   group = is.group;
+  whole = is.whole;
   program = (move_kept g p (ok m) is.group is.program is.reached).0;
   reached = (move_kept g p (ok m) is.group is.program is.reached).1;
   limits = λ i y at. elim (moved_either p m r there unended i y at) [
@@ -311,23 +314,23 @@ steady_on g p m r is there unended = record {
     moved = world_on g p m r is there unended
 
 -- the program after a move whose append fails
-failed_made : (p : Program) (m : ℕ) (why : LogWhy) (r : Running) → slice_get p.members m ≡ Some r
+failed_made : (p : Program) (m : ℕ) (why : LogWhy) (r : Running) → present_at p.members m ≡ Some r
     → r.replica.end ≡ None → IsAppend (next_step r)
     → step_of p (record { member = m; outcome = outcomes.Failed why }) ≡ record {
-      members = slice_set p.members m (broken_off why r);
+      members = with_present p.members m (broken_off why r);
       table = stored p.table r.replica (next_step r);
     }
 failed_made p m why r there unended due =
     step_is p (record { member = m; outcome = outcomes.Failed why }) r there unended
     ∙ ap (λ x. record {
-      members = slice_set p.members m x;
+      members = with_present p.members m x;
       table = stored p.table r.replica (next_step r);
     }) (fails (next_sight p.table r) why r (next_step r) due).0
 
 -- it leaves each member its replica and its limit
-failed_leaves : (p : Program) (m : ℕ) (why : LogWhy) (r : Running) → slice_get p.members m ≡ Some r
-    → (i : ℕ) (y : Running) → slice_get (slice_set p.members m (broken_off why r)) i ≡ Some y
-    → (x : Running) × (slice_get p.members i ≡ Some x) × (x.replica ≡ y.replica) × (x.limit ≡ y.limit)
+failed_leaves : (p : Program) (m : ℕ) (why : LogWhy) (r : Running) → present_at p.members m ≡ Some r
+    → (i : ℕ) (y : Running) → present_at (with_present p.members m (broken_off why r)) i ≡ Some y
+    → (x : Running) × (present_at p.members i ≡ Some x) × (x.replica ≡ y.replica) × (x.limit ≡ y.limit)
 failed_leaves p m why r there i y at =
     elim (replaced_either p.members m r (broken_off why r) there i y at) [
       | inl here ↦ (
@@ -341,13 +344,14 @@ failed_leaves p m why r there i y at =
 
 -- so it keeps the program steady
 steady_failed : (g : Group) (p : Program) (m : ℕ) (why : LogWhy) (r : Running) → IsSteady g p
-    → slice_get p.members m ≡ Some r → r.replica.end ≡ None → IsAppend (next_step r)
+    → present_at p.members m ≡ Some r → r.replica.end ≡ None → IsAppend (next_step r)
     → IsSteady g (record {
-      members = slice_set p.members m (broken_off why r);
+      members = with_present p.members m (broken_off why r);
       table = stored p.table r.replica (next_step r);
     })
 steady_failed g p m why r is there unended due = record {
   group = is.group;
+  whole = is.whole;
   program = subst (IsProgram g) made kept.0;
   reached = subst (λ q. IsReached g (world g q)) made kept.1;
   limits = λ i y at. let old = failed_leaves p m why r there i y at in
@@ -366,7 +370,7 @@ steady_failed g p m why r is there unended due = record {
     move = record { member = m; outcome = outcomes.Failed why }
 
     made : step_of p move ≡ record {
-      members = slice_set p.members m (broken_off why r);
+      members = with_present p.members m (broken_off why r);
       table = stored p.table r.replica (next_step r);
     }
     made = failed_made p m why r there unended due
@@ -379,20 +383,20 @@ steady_failed g p m why r is there unended due = record {
         ∙ (fails 0 why r (next_step r) due).1
 
     same : world g (record {
-      members = slice_set p.members m (broken_off why r);
+      members = with_present p.members m (broken_off why r);
       table = stored p.table r.replica (next_step r);
     }) ≡ world g p
     same = sym (ap (world g) made) ∙ no_step_no_change g p move r there none
 
 -- a move keeps a program steady, however its append goes
 pub steady_moves : (g : Group) (p : Program) (e : Move) → IsSteady g p → IsSteady g (step_of p e)
-steady_moves g p e is = by (slice_get p.members e.member) refl
+steady_moves g p e is = by (present_at p.members e.member) refl
   where
-    at : (r : Running) → slice_get p.members e.member ≡ Some r → (o : Option End) → r.replica.end ≡ o
+    at : (r : Running) → present_at p.members e.member ≡ Some r → (o : Option End) → r.replica.end ≡ o
         → IsSteady g (step_of p e)
     at r there None unended = subst (IsSteady g) (sym (step_is p e r there unended))
         (after_either (λ x. IsSteady g (record {
-          members = slice_set p.members e.member x;
+          members = with_present p.members e.member x;
           table = stored p.table r.replica (next_step r);
         })) p.table e.outcome r (next_step r)
         (subst (IsSteady g) (move_made p e.member r there unended)
@@ -401,7 +405,7 @@ steady_moves g p e is = by (slice_get p.members e.member) refl
     at r there (Some x) ended = subst (IsSteady g)
         (sym (rest_changes_nothing p e r there (ap is_some ended))) is
 
-    by : (o : Option Running) → slice_get p.members e.member ≡ o → IsSteady g (step_of p e)
+    by : (o : Option Running) → present_at p.members e.member ≡ o → IsSteady g (step_of p e)
     by None none = subst (IsSteady g) (sym (ap (λ o. moved_by p o e) none)) is
     by (Some r) there = at r there r.replica.end refl
 
@@ -430,10 +434,11 @@ begun_member g turns m s of = record {
 }
 
 -- a program begins steady
-pub steady_begins : (g : Group) (turns : ℕ) (setups : List Setup) → IsGroup g → 1 ≤ turns
-    → turns < 2 ^ 32 → AreSetups g turns setups → IsSteady g (begun_program g setups)
-steady_begins g turns setups group some small are = record {
+pub steady_begins : (g : Group) (turns : ℕ) (setups : List (Option Setup)) → IsGroup g → 1 ≤ turns
+    → turns < 2 ^ 32 → AllPresent g → AreSetups g turns setups → IsSteady g (begun_program g setups)
+steady_begins g turns setups group some small whole are = record {
   group = group;
+  whole = whole;
   program = begun_is_program g turns setups group some are;
   reached = begun_reached g turns setups group are;
   limits = λ m r there. omega (arith, small, (begins m r there).limit);
@@ -444,13 +449,13 @@ steady_begins g turns setups group some small are = record {
       (begins_at_the_opening g turns setups group are));
 }
   where
-    named : (m : ℕ) (r : Running) (o : Option Setup) → slice_get setups m ≡ o
+    named : (m : ℕ) (r : Running) (o : Option Setup) → present_at setups m ≡ o
         → option_map begun_running o ≡ Some r → BeginsSteady g turns m r
     named m r None e there = absurd (cc)
     named m r (Some s) e there = subst (BeginsSteady g turns m) (same_Some (begun_running s) r there)
         (begun_member g turns m s (are.each m s e))
 
-    begins : (m : ℕ) (r : Running) → slice_get (begun_program g setups).members m ≡ Some r
+    begins : (m : ℕ) (r : Running) → present_at (begun_program g setups).members m ≡ Some r
         → BeginsSteady g turns m r
-    begins m r there = named m r (slice_get setups m) refl
-        (sym (slice_get-map begun_running setups m) ∙ there)
+    begins m r there = named m r (present_at setups m) refl
+        (sym (present_map begun_running setups m) ∙ there)

@@ -1,6 +1,6 @@
 -- A whole turn of a member.
 use Rattle.std.proofs.Common.{◌≡◌, ◌≢◌, refl, sym, ap, ◌∙◌, subst, ◌⊎◌, ℕ, suc, ◌+◌, ◌<◌, ◌≤◌, ◌||◌, Bool, true, false, List, [], ◌∷◌, length, take, le_trans, arith}
-use Rattle.std.specs.Prelude.{All, Option, None, Some, is_some, slice_get}
+use Rattle.std.specs.Prelude.{All, Option, None, Some, is_some}
 use Rattle.std.proofs.lemmas.Option.{same_Some}
 use Rattle.dr_entry.specs.declared.end.End.{End}
 use Rattle.dr_entry.specs.declared.end.End.TheVariants as ends
@@ -49,6 +49,7 @@ use Rattle.dr_turn_laws.proofs.Resting.{Knows, knows_logs, rests}
 use Rattle.dr_turn_laws.proofs.Steadying.{moved_member, other_member, steady_moves, stepped_failed, stepped_on, stepped_replica, world_on}
 use Rattle.dr_program_laws.proofs.Patience.{comes, settled_passed}
 use Rattle.dr_turn_laws.proofs.Stepping.{ease_on, knows_next}
+use Rattle.dr_program.specs.Presence.{present_at}
 
 -- ---- what a deed leaves of turns and own words
 
@@ -78,12 +79,12 @@ deed_rises g p m r is v c =
 
 -- what the world has of a member's turns and end
 turns_are : (g : Group) (p : Program) (m : ℕ) (r : Running) → IsSteady g p
-    → slice_get p.members m ≡ Some r → (world g p).turns m ≡ r.replica.turns
+    → present_at p.members m ≡ Some r → (world g p).turns m ≡ r.replica.turns
 turns_are g p m r is there = ap (λ h. h.turns) (held_of g (replicas p.members) p.table m r.replica
     (program_member g p m r is.group is.program there).there)
 
 end_is : (g : Group) (p : Program) (m : ℕ) (r : Running) → IsSteady g p
-    → slice_get p.members m ≡ Some r → (world g p).end m ≡ r.replica.end
+    → present_at p.members m ≡ Some r → (world g p).end m ≡ r.replica.end
 end_is g p m r is there = ap (λ h. h.end) (held_of g (replicas p.members) p.table m r.replica
     (program_member g p m r is.group is.program there).there)
 
@@ -98,15 +99,15 @@ record HasGone (g : Group) (p : Program) (m : ℕ) (u : Program) : Type 0 where
   steady : IsSteady g u
   ease : AreAtEase u
   member : Running
-  there : slice_get u.members m ≡ Some member
+  there : present_at u.members m ≡ Some member
   well : member.failed ≡ None
   knows : Knows g (world g u) m member.place member.replica.end
-  others : (i : ℕ) → i ≢ m → slice_get u.members i ≡ slice_get p.members i
+  others : (i : ℕ) → i ≢ m → present_at u.members i ≡ present_at p.members i
   turns : (world g u).turns m ≡ (world g p).turns m + 1
   rises : (v c : ℕ) → (world g p).past.own m v c ≤ (world g u).past.own m v c
   beats : (world g p).past.own m 0 BEAT_COLUMN < (world g u).past.own m 0 BEAT_COLUMN
   start : Running
-  began : slice_get p.members m ≡ Some start
+  began : present_at p.members m ≡ Some start
   looked : HasLooked g (world g u) m start.waits member
 
 -- ---- its first deed
@@ -200,7 +201,7 @@ first_deed g p m r is well waits begins_at = record {
     steady : IsSteady g (step_of p (ok m))
     steady = steady_moves g p (ok m) is.steady
 
-    there : slice_get (step_of p (ok m)).members m ≡ Some (stepped_on p r)
+    there : present_at (step_of p (ok m)).members m ≡ Some (stepped_on p r)
     there = moved_member p m r is.there is.unended
 
     on : CanTake g (world g p) m (next_step r)
@@ -226,7 +227,7 @@ going None b e = (refl, e)
 going (Some end) b e = absurd (cc)
 
 next_deed : (g : Group) (p : Program) (m : ℕ) (u : Program) → HasGone g p m u
-    → is_between_turns (slice_get u.members m) ≡ false → HasGone g p m (step_of u (ok m))
+    → is_between_turns (present_at u.members m) ≡ false → HasGone g p m (step_of u (ok m))
 next_deed g p m u gone between = record {
   steady = steady_moves g u (ok m) gone.steady;
   ease = ease_on g u m r is (λ beat. absurd (cc (beat, amid.1)));
@@ -263,7 +264,7 @@ next_deed g p m u gone between = record {
 -- by these moves of it, behind none of which but the last it is between turns
 goes_on : (g : Group) (p : Program) (m : ℕ) (es : List Move) (u : Program) → HasGone g p m u
     → All (λ (e : Move). e.member ≡ m) es → AllOk es
-    → ((k : ℕ) → k < length es → is_between_turns (slice_get (ran u (take k es)).members m) ≡ false)
+    → ((k : ℕ) → k < length es → is_between_turns (present_at (ran u (take k es)).members m) ≡ false)
     → HasGone g p m (ran u es)
 unfolding ran
 goes_on g p m [] u gone own well between = gone
@@ -289,7 +290,7 @@ all_come g w m p (Some end) i known alive between = absurd known
 
 -- a member that has gone so far that it is between turns has taken a whole turn
 turned : (g : Group) (p : Program) (m : ℕ) (q : Program) → HasGone g p m q
-    → is_between_turns (slice_get q.members m) ≡ true → HasTurned g p m q
+    → is_between_turns (present_at q.members m) ≡ true → HasTurned g p m q
 turned g p m q gone whole = record {
   steady = gone.steady;
   ease = gone.ease;
@@ -329,7 +330,7 @@ turned g p m q gone whole = record {
 
 -- a member that stands before a turn takes it, where no append of it has failed or fails
 pub takes_turn : (g : Group) (p : Program) (m : ℕ) (r : Running) (es : List Move) (q : Program)
-    → IsSteady g p → AreAtEase p → slice_get p.members m ≡ Some r → r.replica.end ≡ None
+    → IsSteady g p → AreAtEase p → present_at p.members m ≡ Some r → r.replica.end ≡ None
     → r.failed ≡ None → MayWait r → part_of r.place ≡ turn_begins → AllOk es → IsTurn m p es q
     → HasTurned g p m q
 unfolding ran

@@ -1,6 +1,6 @@
 -- With each act a member has done some of its work, or has begun a turn: so acts are few.
 use Rattle.std.proofs.Common.{◌≡◌, sym, ap, ◌∙◌, subst, ℕ, ◌+◌, ◌-◌, ◌*◌, ◌^◌, ◌<◌, ◌≤◌, true, [], ◌∷◌, replicate, sum_by, length-append, arith}
-use Rattle.std.specs.Prelude.{None, Some, slice_get}
+use Rattle.std.specs.Prelude.{None, Some}
 use Rattle.std.proofs.Math.Nat.{mul_comm}
 use Rattle.std.proofs.lemmas.List.Folds.{sum_by-replicate}
 use Rattle.dr_entry.specs.declared.entry.Entry.TheVariants.{View}
@@ -27,11 +27,12 @@ use Rattle.dr_turn_laws.specs.Steady.{HasWorked, all_work}
 use Rattle.dr_program_laws.proofs.Keeping.{next_form}
 use Rattle.dr_turn_laws.proofs.Acts.{begins_turn, worked_on}
 use Rattle.dr_program_laws.proofs.Sight.{found_seen}
+use Rattle.dr_program.specs.Presence.{present_at}
 
 -- ---- no word falls
 
 pub next_grown : (g : Group) (p : Program) (m : ℕ) (r : Running) → IsGroup g → IsProgram g p
-    → IsReached g (world g p) → slice_get p.members m ≡ Some r → r.replica.end ≡ None
+    → IsReached g (world g p) → present_at p.members m ≡ Some r → r.replica.end ≡ None
     → (stepped (next_sight p.table r) r.replica (next_step r)).view ≡ r.replica.view
     → NoWordFell r.replica (stepped (next_sight p.table r) r.replica (next_step r))
 next_grown g p m r group is run there unended =
@@ -54,7 +55,7 @@ all_same word r s = ap (λ (t : Told).
 
 -- so it is with each next step of a member
 pub works_on : (g : Group) (p : Program) (m : ℕ) (r : Running) → IsGroup g → IsProgram g p
-    → IsReached g (world g p) → slice_get p.members m ≡ Some r → r.replica.end ≡ None
+    → IsReached g (world g p) → present_at p.members m ≡ Some r → r.replica.end ≡ None
     → (begins_turn (next_step r) ≡ true → r.replica.turns + 1 < 2 ^ 32) → HasWorked r
     → let q = stepped (next_sight p.table r) r.replica (next_step r) in
     q.end ≡ None → q.acts + work q ≤ all_work q + q.turns

@@ -1,5 +1,5 @@
 -- What a whole turn of a member brings about.
-use Rattle.std.specs.Prelude.{◌≡◌, ◌≢◌, ◌↔◌, ◌⊎◌, ℕ, ◌+◌, ◌<◌, ◌≤◌, slice_get, true, false, None, Some}
+use Rattle.std.specs.Prelude.{◌≡◌, ◌≢◌, ◌↔◌, ◌⊎◌, ℕ, ◌+◌, ◌<◌, ◌≤◌, true, false, None, Some}
 use Rattle.dr_entry.specs.declared.end.End.TheVariants.{Crashed, Done}
 use Rattle.dr_machine.specs.declared.step.Step.{Step}
 use Rattle.dr_machine.specs.Group.{Group, columns, roster}
@@ -13,6 +13,7 @@ use Rattle.dr_program_laws.specs.Failing.{has_log_end}
 use Rattle.dr_turn_laws.specs.Steady.{IsSteady}
 use Rattle.dr_program_laws.specs.Trusting.{AreAtEase}
 use Rattle.dr_turn_laws.specs.Wants.{SeesAllDone, Wants, is_work}
+use Rattle.dr_program.specs.Presence.{present_at}
 
 -- m has seen the word of a row and a column as it stands in the table
 abbrev pub HasSeen : World → ℕ → ℕ → ℕ → Type 0
@@ -46,17 +47,17 @@ pub record HasTurned (g : Group) (p : Program) (m : ℕ) (q : Program) : Type 0 
   -- it has crashed, or has nothing left to do
   pub rested : ((world g q).end m ≡ Some Crashed) ⊎ IsRested g (world g q) m
   -- no append of it has failed, and it hasn't ended by its log
-  pub well : (r : Running) → slice_get q.members m ≡ Some r → r.failed ≡ None
+  pub well : (r : Running) → present_at q.members m ≡ Some r → r.failed ≡ None
   pub logs : has_log_end ((world g q).end m) ≡ false
   -- the other members are as they were
-  pub others : (i : ℕ) → i ≢ m → slice_get q.members i ≡ slice_get p.members i
+  pub others : (i : ℕ) → i ≢ m → present_at q.members i ≡ present_at p.members i
   -- it has had a turn more, and no own word has fallen
   pub turns : (world g q).turns m ≡ (world g p).turns m + 1
   pub rises : (v c : ℕ) → (world g p).past.own m v c ≤ (world g q).past.own m v c
   -- its beat has risen, and it has compared the beats of the others, unless it has crashed
   pub beats : (world g p).past.own m 0 BEAT_COLUMN < (world g q).past.own m 0 BEAT_COLUMN
-  pub compared : (world g q).end m ≢ Some Crashed → (r y : Running) → slice_get p.members m ≡ Some r
-      → slice_get q.members m ≡ Some y → (i : ℕ) → i < roster g → i ≢ m
+  pub compared : (world g q).end m ≢ Some Crashed → (r y : Running) → present_at p.members m ≡ Some r
+      → present_at q.members m ≡ Some y → (i : ℕ) → i < roster g → i ≢ m
       → HasCompared r.waits y.waits i ((world g q).seen m i BEAT_COLUMN)
-  pub limit : (r y : Running) → slice_get p.members m ≡ Some r → slice_get q.members m ≡ Some y
+  pub limit : (r y : Running) → present_at p.members m ≡ Some r → present_at q.members m ≡ Some y
       → y.waits.limit ≡ r.waits.limit

@@ -1,7 +1,7 @@
 -- Programs whose members' words stand in the table as they were pushed.
-use Rattle.std.specs.Prelude.{◌≡◌, ◌≢◌, ℕ, ◌+◌, ◌*◌, ◌^◌, ◌<◌, ◌≤◌, length, slice_get, None, Some}
+use Rattle.std.specs.Prelude.{◌≡◌, ◌≢◌, ℕ, ◌+◌, ◌*◌, ◌^◌, ◌<◌, ◌≤◌, length, None, Some}
 use Rattle.dr_entry.specs.declared.limits.TheConstants.{MAX_MEMBERS}
-use Rattle.dr_machine.specs.Group.{Group, IsGroup, banks, columns, roster}
+use Rattle.dr_machine.specs.Group.{AllPresent, Group, IsGroup, banks, columns, roster}
 use Rattle.dr_machine.specs.Run.{IsReached}
 use Rattle.dr_program.specs.Program.{Program}
 use Rattle.dr_program.specs.Reading.{world}
@@ -10,6 +10,7 @@ use Rattle.dr_program.specs.Running.{Running}
 use Rattle.dr_refine.specs.Programs.{IsProgram}
 use Rattle.dr_rows.specs.Words.{last_pushed}
 use Rattle.dr_turn.specs.Work.{refill, work}
+use Rattle.dr_program.specs.Presence.{present_at}
 
 -- a history has room for an entry of each place of the age, and for one more
 abbrev pub HasRooms : Group → Replica → Type 0
@@ -26,15 +27,16 @@ abbrev pub HasWorked : Running → Type 0
 HasWorked r = r.replica.end ≡ None
     → r.replica.acts + work r.replica ≤ all_work r.replica + r.replica.turns
 
--- a program of the group, in a reached world, whose members keep their limits and have done their acts for
--- work, and whose words stand in the table as they were last pushed
+-- a program of the group, which all of the roster are in, in a reached world; its members keep their limits and
+-- have done their acts for work, and their words stand in the table as they were last pushed
 pub record IsSteady (g : Group) (p : Program) : Type 0 where
   pub group : IsGroup g
+  pub whole : AllPresent g
   pub program : IsProgram g p
   pub reached : IsReached g (world g p)
-  pub limits : (m : ℕ) (r : Running) → slice_get p.members m ≡ Some r → r.limit < 2 ^ 32
-  pub rooms : (m : ℕ) (r : Running) → slice_get p.members m ≡ Some r → HasRooms g r.replica
-  pub works : (m : ℕ) (r : Running) → slice_get p.members m ≡ Some r → HasWorked r
-  pub pushes : (m : ℕ) (r : Running) → slice_get p.members m ≡ Some r → (j c : ℕ) → j < roster g
+  pub limits : (m : ℕ) (r : Running) → present_at p.members m ≡ Some r → r.limit < 2 ^ 32
+  pub rooms : (m : ℕ) (r : Running) → present_at p.members m ≡ Some r → HasRooms g r.replica
+  pub works : (m : ℕ) (r : Running) → present_at p.members m ≡ Some r → HasWorked r
+  pub pushes : (m : ℕ) (r : Running) → present_at p.members m ≡ Some r → (j c : ℕ) → j < roster g
       → j ≢ m → c < columns g
       → last_pushed r.replica.rows j c ≡ (world g p).table r.replica.view j m c

@@ -3,10 +3,10 @@
 //! They are of programs in which nobody suspects anybody; `docs/PROOFS.md` shows what they are for.
 #![tactic(auto)]
 
-ghost use Rattle.std.specs.Prelude.{◌≡◌, ◌↔◌, ℕ, ◌^◌, ◌<◌, ◌≤◌, true, List, None, slice_get, Some};
+ghost use Rattle.std.specs.Prelude.{◌≡◌, ◌↔◌, ℕ, ◌^◌, ◌<◌, ◌≤◌, true, List, None, Some, Option};
 ghost use Rattle.dr_machine.specs.declared.step.Step.{Step};
 ghost use Rattle.dr_machine.specs.Acts.{CanTake};
-ghost use Rattle.dr_machine.specs.Group.{Group, IsGroup};
+ghost use Rattle.dr_machine.specs.Group.{AllPresent, Group, IsGroup};
 ghost use Rattle.dr_machine.specs.Guards.{IsUnwedged, MayChoose};
 ghost use Rattle.dr_machine.specs.World.{World};
 ghost use Rattle.dr_program.specs.declared.setup.Setup.{Setup};
@@ -18,11 +18,13 @@ ghost use Rattle.dr_turn_laws.specs.Rested.{HasTurned, IsRested};
 ghost use Rattle.dr_turn_laws.specs.Steady.{IsSteady};
 ghost use Rattle.dr_program_laws.specs.Trusting.{AreAtEase, MayWait};
 ghost use Rattle.dr_turn_laws.specs.Wants.{Wants, is_work};
+ghost use Rattle.dr_program.specs.Presence.{present_at};
 
-/// A program begins steady, where its turns are 32 bits, and each move keeps it so.
+/// A program of a group that all of the roster are in begins steady, where its turns are 32 bits, and each move
+/// keeps it so.
 pub fn programs_are_steady()
-    ensures begins { (g : Group) (turns : ℕ) (setups : List Setup) → IsGroup g → 1 ≤ turns
-        → turns < 2 ^ 32 → AreSetups g turns setups → IsSteady g (begun_program g setups) }
+    ensures begins { (g : Group) (turns : ℕ) (setups : List (Option Setup)) → IsGroup g → 1 ≤ turns
+        → turns < 2 ^ 32 → AllPresent g → AreSetups g turns setups → IsSteady g (begun_program g setups) }
     ensures keeps { (g : Group) (p : Program) (e : Move) → IsSteady g p → IsSteady g (step_of p e) }
 {}
 
@@ -39,7 +41,7 @@ pub fn what_is_asked_is_the_guard()
 /// has ended as done exactly where it sees that all are done.
 pub fn a_turn_leaves_nothing_to_do()
     ensures turned { (g : Group) (p : Program) (m : ℕ) (r : Running) (es : List Move) (q : Program)
-        → IsSteady g p → AreAtEase p → slice_get p.members m ≡ Some r → r.replica.end ≡ None
+        → IsSteady g p → AreAtEase p → present_at p.members m ≡ Some r → r.replica.end ≡ None
         → r.failed ≡ None → MayWait r
         → part_of r.place ≡ turn_begins → AllOk es → IsTurn m p es q → HasTurned g p m q }
     ensures none_may_come { (g : Group) (w : World) (m : ℕ) (s : Step) → IsRested g w m

@@ -18,7 +18,7 @@ use Rattle.dr_history_laws.proofs.Merging.{laid-whole}
 use Rattle.dr_history_laws.proofs.Quiet.{no-more}
 use Rattle.dr_history_laws.proofs.Views.{SamePast-either}
 use Rattle.dr_words.specs.declared.column.TheConstants.{DONE_COLUMN}
-use Rattle.dr_machine.proofs.Presence.{in_roster}
+use Rattle.dr_machine.proofs.Presence.{in_roster, is_there}
 use Rattle.dr_machine.specs.Group.{Group, IsGroup, IsPresent, roster}
 use Rattle.dr_machine.specs.Guards.{HoldsAll}
 use Rattle.dr_machine.specs.World.{World}
@@ -27,7 +27,7 @@ use Rattle.dr_faithful.specs.Chosen.{Values, endings_by, views_by}
 use Rattle.dr_world_laws.specs.Historic.{IsMerged, head_by, view_numbered}
 use Rattle.dr_world_laws.proofs.Away.{ended-there, there-or-first}
 use Rattle.dr_world_laws.proofs.Completion.{done_shown}
-use Rattle.dr_world_laws.proofs.ChosenViews.{place-kept}
+use Rattle.dr_world_laws.proofs.ChosenViews.{place-kept, views-of-first}
 use Rattle.dr_world_laws.proofs.Finishing.{goes-any}
 use Rattle.dr_world_laws.proofs.Items.{held-next}
 use Rattle.dr_world_laws.proofs.Reached.{Known}
@@ -80,12 +80,12 @@ the-view g values w m is y l = ap view_of (y.laid.historic.history m l)
     ∙ view-course g.opening w.past.sent (endings_by g.opening values) (w.past.view m) (w.next m) is.sound
     (may-reach g values w m is y l).view
 
--- the accounts tell what the members of a world have done
+-- the accounts tell what the members of a world that are there have done
 pub record AreAccounts (g : Group) (w : World) (accounts : Accounts) : Type 0 where
   pub sent : sent_by accounts ≡ w.past.sent
-  pub history : (m : ℕ) → m < roster g → (accounts m).history ≡ w.past.history m
-  pub log : (m : ℕ) → m < roster g → (accounts m).log ≡ w.past.log m
-  pub durable : (m : ℕ) → m < roster g → (accounts m).durable ≡ w.past.durable m
+  pub history : (m : ℕ) → IsPresent g m → (accounts m).history ≡ w.past.history m
+  pub log : (m : ℕ) → IsPresent g m → (accounts m).log ≡ w.past.log m
+  pub durable : (m : ℕ) → IsPresent g m → (accounts m).durable ≡ w.past.durable m
 
 -- what holds of the value of an option
 IsSomeAnd-of : {A : Type 0} (P : A → Type 0) (r : Option A) (x : A) → r ≡ Some x → P x
@@ -99,7 +99,7 @@ knows-durable g values w accounts m is y told there = IsSomeAnd-of
     (λ (v : GroupView). Contains v.members m
     × All (λ j. (accounts m).durable ≤ length (accounts j).log) v.members)
     (view_of (accounts m).history) (view_numbered g (views_by g values) (w.past.view m))
-    (ap view_of (told.history m l) ∙ the-view g values w m is y l) (
+    (ap view_of (told.history m there) ∙ the-view g values w m is y l) (
       has-member mask m (y.faithful.views.present m there) (omega (arith, l, is.most_members)),
       each,
     )
@@ -113,7 +113,7 @@ knows-durable g values w accounts m is y told there = IsSomeAnd-of
     on_log : (j : ℕ) → has (views_by g values (w.past.view m)) j ≡ true
         → (accounts m).durable ≤ length (accounts j).log
     on_log j member =
-        rw (told.durable m l, told.log j (y.faithful.views.within (w.past.view m) j member))
+        rw (told.durable m there, told.log j (is_there g j is (views-of-first g values (w.past.view m) j is member)))
         (y.faithful.logs.safe m j there member)
 
     each : All (λ j. (accounts m).durable ≤ length (accounts j).log)
@@ -127,16 +127,16 @@ pub agreed-by : (g : Group) (values : Values) (w : World) (accounts : Accounts) 
     → AreAccounts g w accounts
     → Agreed g.opening accounts
 agreed-by g values w accounts is y told = record {
-  prefix = λ i j l r. rw (told.history i (within i l), told.history j (within j r))
+  prefix = λ i j l r. rw (told.history i l, told.history j r)
       (either-prefix g values w i j is y (within i l) (within j r));
   ordered = λ i l. subst (λ (s : Sent). InOrder g.opening s (accounts i).history) (sym told.sent)
-      (subst (InOrder g.opening w.past.sent) (sym (told.history i (within i l)))
+      (subst (InOrder g.opening w.past.sent) (sym (told.history i l))
       (in-order g values w i is y (within i l)));
   same_past = λ i j l r. subst (λ (h : List Entry). SamePast h (accounts j).history)
-      (sym (told.history i (within i l)))
-      (subst (SamePast (w.past.history i)) (sym (told.history j (within j r)))
+      (sym (told.history i l))
+      (subst (SamePast (w.past.history i)) (sym (told.history j r))
       (same-past g values w i j is y (within i l) (within j r)));
-  logged = λ i l. rw (told.log i (within i l), told.history i (within i l)) (y.faithful.logs.front i);
+  logged = λ i l. rw (told.log i l, told.history i l) (y.faithful.logs.front i);
   durable = λ i l. knows-durable g values w accounts i is y told l;
 }
   where
