@@ -3,37 +3,42 @@ use Rattle.std.proofs.Common.{◌≡◌, sym, ap, ◌∙◌, ℕ, ◌+◌, ◌�
 use Rattle.std.proofs.lemmas.List.{map-append}
 use Rattle.dr_script.specs.declared.script.Script.{Script}
 use Rattle.dr_words.specs.Layout.{words_of}
-use Rattle.dr_program.specs.declared.setup.Setup.{Setup}
+use Rattle.std.specs.Prelude.{None, Option, Some, option_map}
 use Rattle.dr_machine.specs.Group.{IsGroup}
 use Rattle.dr_program.specs.Running.{Running, begun_running}
 use Rattle.dr_program.specs.Program.{Program}
 use Rattle.dr_program_laws.proofs.Schedules.{age_begins_reached, begun_program_of}
 use Rattle.dr_restart.specs.declared.start.Start.{Start}
 use Rattle.dr_restart.specs.Groups.{group_of}
-use Rattle.dr_restart.specs.Setups.{IsBegun, IsSetupOf}
-use Rattle.dr_restart.proofs.Setups.{more, none}
-use Rattle.dr_age.specs.Begun.{HaveBegun}
+use Rattle.dr_restart.specs.Setups.{IsBegun}
+use Rattle.dr_restart.proofs.Setups.{absent, more, none}
+use Rattle.dr_age.specs.Begun.{HasBegunAt, HaveBegun}
 use Rattle.dr_age.specs.Sound.{IsSound}
 
 -- no members have begun as the first none
-pub begun_none : (script : Script) (start : Start) (nth : ℕ) (members : List Running) → members ≡ []
+pub begun_none : (script : Script) (start : Start) (nth : ℕ) (members : List (Option Running)) → members ≡ []
     → HaveBegun script start nth 0 members
 begun_none script start nth members empty = record { setups = []; are = none script start nth; begun = empty }
 
--- a member that begins from the next setup, behind the first n, makes them the first n + 1
-pub begun_more : (script : Script) (start : Start) (nth n : ℕ) (rs qs : List Running) (s : Setup)
-    (r : Running) → HaveBegun script start nth n rs
-    → IsSetupOf script start nth n s → r ≡ begun_running s → qs ≡ rs ++ r ∷ []
-    → HaveBegun script start nth (n + 1) qs
-begun_more script start nth n rs qs s r so_far setup begins pushed = record {
-  setups = so_far.setups ++ s ∷ [];
+-- whoever stands at the next place, behind the first n, makes them the first n + 1
+pub begun_more : (script : Script) (start : Start) (nth n : ℕ) (rs qs : List (Option Running))
+    (o : Option Running) → HaveBegun script start nth n rs → HasBegunAt script start nth n o
+    → qs ≡ rs ++ o ∷ [] → HaveBegun script start nth (n + 1) qs
+begun_more script start nth n rs qs (Some r) so_far (s, setup, begins) pushed = record {
+  setups = so_far.setups ++ Some s ∷ [];
   are = more script start nth n so_far.setups s so_far.are setup;
-  begun = pushed ∙ (λ z. so_far.begun z ++ begins z ∷ [])
-      ∙ sym (map-append begun_running so_far.setups (s ∷ []));
+  begun = pushed ∙ (λ z. so_far.begun z ++ Some (begins z) ∷ [])
+      ∙ sym (map-append (option_map begun_running) so_far.setups (Some s ∷ []));
+}
+begun_more script start nth n rs qs None so_far away pushed = record {
+  setups = so_far.setups ++ None ∷ [];
+  are = absent script start nth n so_far.setups so_far.are away;
+  begun = pushed ∙ (λ z. so_far.begun z ++ None ∷ [])
+      ∙ sym (map-append (option_map begun_running) so_far.setups (None ∷ []));
 }
 
 -- all members, over a table of zeros, are the program as the age opens
-pub is_begun : (script : Script) (start : Start) (nth : ℕ) (members : List Running) (table : List ℕ)
+pub is_begun : (script : Script) (start : Start) (nth : ℕ) (members : List (Option Running)) (table : List ℕ)
     → HaveBegun script start nth script.members members → length script.messages ≡ script.members
     → table ≡ replicate (words_of script.members script.window script.members) 0
     → IsBegun script start nth (record { members = members; table = table })

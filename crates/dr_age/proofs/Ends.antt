@@ -1,9 +1,9 @@
 -- The logs of an age: how they begin, and what has come of them where all members have ended.
-use Rattle.std.proofs.Common.{◌≡◌, refl, sym, ap, ◌∙◌, subst, inl, inr, ℕ, ◌+◌, ◌*◌, ◌<◌, ◌≤◌, false, List, [], ◌∷◌, ◌++◌, length, map, drop, drop_at, take, true≢false, arith, le_trans, length-append, length-take}
+use Rattle.std.proofs.Common.{◌≡◌, refl, sym, ap, ◌∙◌, subst, inl, inr, ℕ, ◌+◌, ◌*◌, ◌<◌, ◌≤◌, false, List, [], ◌∷◌, ◌++◌, length, map, drop, drop_at, take, true, true≢false, arith, le_trans, length-append, length-take}
 use Rattle.std.proofs.Math.Nat.{mul-le-mul}
 use Rattle.std.proofs.lemmas.List.{length-map}
 use Rattle.std.specs.Prelude.{All, IsTrue, Option, None, Some, is_some, option_map, slice_get, slice_index_or, unwrap_or}
-use Rattle.std.proofs.lemmas.Option.{get_or_from_slice_get, same_Some, slice_get-get_or, slice_get-map, slice_get_cases, slice_get_within}
+use Rattle.std.proofs.lemmas.Option.{get_or_from_slice_get, same_Some, slice_get-get_or, slice_get_within}
 use Rattle.std.proofs.lemmas.List.Elements.{All-drop, All-take}
 use Rattle.std.proofs.lemmas.List.Sums.{sum_by-append, sum_by-le}
 use Rattle.dr_disk.specs.Disk.{Told}
@@ -23,11 +23,11 @@ use Rattle.dr_log.specs.State.{LogState}
 use Rattle.dr_log.specs.Standing.{log_length, votes_length}
 use Rattle.dr_log.proofs.Growing.{short_block, short_log_length}
 use Rattle.dr_log_bytes.specs.Content.{block_length}
-use Rattle.dr_machine.specs.Group.{Group, IsGroup, roster}
+use Rattle.dr_machine.specs.Group.{Group, IsGroup, IsPresent, roster}
 use Rattle.dr_program.specs.declared.outcome.LogWhy.{LogWhy}
 use Rattle.dr_program.specs.declared.outcome.LogWhy.TheVariants as whys
 use Rattle.dr_program.specs.declared.setup.Setup.{Setup}
-use Rattle.dr_program.specs.Program.{AllEnded, AreSetups, IsRanFrom, IsSetup, Program, begun_program, end_of}
+use Rattle.dr_program.specs.Program.{AllEnded, AreSetups, IsRanFrom, IsSetup, Program, begun_program, end_at, end_of}
 use Rattle.dr_program.specs.Reading.{world}
 use Rattle.dr_program.specs.Running.{Running, begun_running, end_by}
 use Rattle.dr_program.proofs.Holdings.{held_of}
@@ -35,6 +35,7 @@ use Rattle.dr_program.proofs.Voting.{votes_within}
 use Rattle.dr_program_laws.specs.Ended.{is_log_end}
 use Rattle.dr_program_laws.specs.Failing.{AreFailing, IsFailing, has_log_end}
 use Rattle.dr_program_laws.proofs.Failing.{all_fail}
+use Rattle.dr_program_laws.proofs.Worlds.{all_ends}
 use Rattle.dr_restart.specs.declared.start.Start.{Start}
 use Rattle.dr_restart.specs.Groups.{group_of}
 use Rattle.dr_restart.specs.Setups.{IsBegun}
@@ -44,20 +45,26 @@ use Rattle.dr_room.proofs.Bounds.{history_small}
 use Rattle.dr_refine.proofs.Deeds.{program_member, replicas}
 use Rattle.dr_world_laws.proofs.Messages.{valid_history}
 use Rattle.dr_world_laws.proofs.Worlds.{holds_messages, known}
-use Rattle.dr_logged.specs.Served.{AreReady, AreRoomy, HasCome, HasServed, HaveServed, IsReady, IsRecordDue, WentSo}
+use Rattle.dr_logged.specs.Served.{AreReady, AreRoomy, HasCome, HasServed, HaveSamePlaces, HaveServed, IsReady, IsRecordDue, WentSo}
 use Rattle.dr_logged.proofs.Serving.{begins}
-use Rattle.dr_age.specs.Logged.{AreOpened, HaveCome, IsAmple, IsNotFull, IsOpened, NoneFull, why_ended}
+use Rattle.dr_age.specs.Logged.{AreAmple, AreOpened, HaveCome, IsAmple, IsNotFull, IsOpened, NoneFull, why_ended}
 use Rattle.dr_age.specs.Sound.{IsSound}
 use Rattle.dr_age.proofs.Sound.{history_there}
+use Rattle.dr_program.specs.Presence.{present_at}
+use Rattle.dr_program.proofs.Present.{present_within, ended_there, present_map}
 
 -- ---- the beginning
 
--- nothing stands behind the end of a list
-slice_get_none : {A : Type 0} (xs : List A) (k : ℕ) → slice_get xs k ≡ None → length xs ≤ k
-slice_get_none xs k none = elim (slice_get_cases xs k).1 [
-  | inl found ↦ absurd (cc (found.2, none))
-  | inr past ↦ past.0
-]
+-- what is there is something
+some_there : {A : Type 0} (o : Option A) → is_some o ≡ true → (x : A) × (o ≡ Some x)
+some_there None e = absurd (cc)
+some_there (Some x) e = (x, refl)
+
+-- a log at the place of one that was there
+pub same_there : {D : Type 0} (olds news : List (Option (LogState D))) (m : ℕ) (old : LogState D)
+    → HaveSamePlaces olds news → present_at olds m ≡ Some old
+    → (new : LogState D) × (present_at news m ≡ Some new)
+same_there olds news m old places there = some_there (present_at news m) (places.each m ∙ ap is_some there)
 
 -- what a member has as its age opens
 pub record IsFresh (g : Group) (r : Running) : Type 0 where
@@ -74,16 +81,19 @@ fresh g limit m s is = record {
   none = refl;
 }
 
-pub begun_fresh : (g : Group) (limit : ℕ) (setups : List Setup) (m : ℕ) (r : Running)
+pub begun_fresh : (g : Group) (limit : ℕ) (setups : List (Option Setup)) (m : ℕ) (r : Running)
     → AreSetups g limit setups
-    → slice_get (begun_program g setups).members m ≡ Some r → IsFresh g r
-begun_fresh g limit setups m r are there = by (slice_get setups m) refl
-    (sym (slice_get-map begun_running setups m) ∙ there)
+    → present_at (begun_program g setups).members m ≡ Some r → IsPresent g m × IsFresh g r
+begun_fresh g limit setups m r are there = by (present_at setups m) refl
+    (sym (present_map begun_running setups m) ∙ there)
   where
-    by : (o : Option Setup) → slice_get setups m ≡ o → option_map begun_running o ≡ Some r → IsFresh g r
+    by : (o : Option Setup) → present_at setups m ≡ o → option_map begun_running o ≡ Some r
+        → IsPresent g m × IsFresh g r
     by None e at = absurd (cc)
-    by (Some s) e at = subst (IsFresh g) (same_Some (begun_running s) r at)
-        (fresh g limit m s (are.each m s e))
+    by (Some s) e at = (
+      (are.each m s e).present,
+      subst (IsFresh g) (same_Some (begun_running s) r at) (fresh g limit m s (are.each m s e)),
+    )
 
 -- an element that stands at a number is so where each is
 pub each_at : {A : Type 0} (P : A → Type 0) (xs : List A) (m : ℕ) (x : A) → All P xs
@@ -93,36 +103,40 @@ each_at P xs m x all there = subst P (get_or_from_slice_get xs m x x there)
 
 -- logs that got room are ready for their members, which have begun
 ready_begins : {D : Type 0} (told : D → Option Told) (count : D → ℕ) (g : Group) (limit : ℕ)
-    (setups : List Setup) (p : Program) (olds news : List (LogState D)) → AreSetups g limit setups
-    → p ≡ begun_program g setups → AreOpened g olds → length news ≡ length olds
+    (setups : List (Option Setup)) (p : Program) (olds news : List (Option (LogState D)))
+    → AreSetups g limit setups
+    → p ≡ begun_program g setups → AreOpened g olds → HaveSamePlaces olds news
     → AreRoomy told count p.members olds news
     → AreReady news p.members × HaveServed told count olds news p.members
-ready_begins {D} told count g limit setups p olds news are begun opened all roomy = (
+ready_begins {D} told count g limit setups p olds news are begun opened places roomy = (
   record {
-    all = all ∙ opened.all ∙ sym (as_many ∙ are.all);
-    each = λ m log r there member. by m log r there member (slice_get olds m) refl;
+    all = places.all ∙ opened.all ∙ sym (as_many ∙ are.all);
+    there = λ m r member. let old = base m r member in same_there olds news m old.0 places old.1;
+    each = λ m log r there member. let old = base m r member in (both m old.0 log r old.1 there member).1;
   },
   λ m base log r from there member. (both m base log r from there member).0,
 )
   where
     as_many : length p.members ≡ length setups
-    as_many = ap (λ (x : Program). length x.members) begun ∙ length-map setups begun_running
+    as_many = ap (λ (x : Program). length x.members) begun ∙ length-map setups (option_map begun_running)
 
-    both : (m : ℕ) (base log : LogState D) (r : Running) → slice_get olds m ≡ Some base
-        → slice_get news m ≡ Some log → slice_get p.members m ≡ Some r
+    has_begun : (m : ℕ) (r : Running) → present_at p.members m ≡ Some r → IsPresent g m × IsFresh g r
+    has_begun m r member = begun_fresh g limit setups m r are
+        (ap (λ (x : Program). present_at x.members m) (sym begun) ∙ member)
+
+    base : (m : ℕ) (r : Running) → present_at p.members m ≡ Some r
+        → (old : LogState D) × (present_at olds m ≡ Some old)
+    base m r member = opened.there m (omega (arith, present_within p.members m r member, as_many, are.all))
+        (has_begun m r member).0
+
+    both : (m : ℕ) (base log : LogState D) (r : Running) → present_at olds m ≡ Some base
+        → present_at news m ≡ Some log → present_at p.members m ≡ Some r
         → HasServed told count base log r × IsReady log r
     both m base log r from there member =
-        let is = begun_fresh g limit setups m r are
-        (ap (λ (x : Program). slice_get x.members m) (sym begun) ∙ member) in
-        let was : IsOpened g base = each_at (IsOpened g) olds m base opened.each from in
+        let is = (has_begun m r member).1 in
+        let was : IsOpened g base = (opened.each m base from).1 in
         begins told count base log r (roomy m r base log member from there) was.whole
         (was.entries ∙ sym is.history) is.logged is.votes is.none
-
-    by : (m : ℕ) (log : LogState D) (r : Running) → slice_get news m ≡ Some log
-        → slice_get p.members m ≡ Some r → (o : Option (LogState D)) → slice_get olds m ≡ o → IsReady log r
-    by m log r there member (Some base) e = (both m base log r e there member).1
-    by m log r there member None e =
-        absurd (omega (arith, slice_get_within news m log there, all, slice_get_none olds m e))
 
 -- ---- the end
 
@@ -154,25 +168,34 @@ tells_why r is ended = by r.failed refl r.replica.end refl ended
 
 -- a program of an age that is over, with its logs since these bases
 pub record IsOver {D : Type 0} (told : D → Option Told) (count : D → ℕ) (g : Group)
-    (bases logs : List (LogState D)) (p : Program) : Type 0 where
+    (bases logs : List (Option (LogState D))) (p : Program) : Type 0 where
   pub sound : IsSound g p
   pub ended : AllEnded p
   pub failing : AreFailing p
-  pub all : length bases ≡ roster g
-  pub as_many : length logs ≡ length bases
+  pub opened : AreOpened g bases
+  pub places : HaveSamePlaces bases logs
   pub served : HaveServed told count bases logs p.members
+
+-- each of its members has a log, as it was and as it is
+pub over_base : {D : Type 0} (told : D → Option Told) (count : D → ℕ) (g : Group)
+    (bases logs : List (Option (LogState D))) (p : Program) (m : ℕ) (r : Running)
+    → IsOver told count g bases logs p → present_at p.members m ≡ Some r
+    → (base : LogState D) × (present_at bases m ≡ Some base)
+over_base told count g bases logs p m r over there =
+    over.opened.there m (omega (arith, present_within p.members m r there, over.sound.form.all))
+    (over.sound.form.of m r there).present
 
 -- each of its members tells why its last append failed
 pub over_tells : {D : Type 0} (told : D → Option Told) (count : D → ℕ) (g : Group)
-    (bases logs : List (LogState D)) (p : Program) (m : ℕ) (r : Running)
-    → IsOver told count g bases logs p → slice_get p.members m ≡ Some r → why_ended (end_of r).end ≡ r.failed
+    (bases logs : List (Option (LogState D))) (p : Program) (m : ℕ) (r : Running)
+    → IsOver told count g bases logs p → present_at p.members m ≡ Some r → why_ended (end_of r).end ≡ r.failed
 over_tells told count g bases logs p m r over there =
     tells_why r (over.failing m r there)
-    (each_at (λ (x : Running). IsTrue (is_some x.replica.end)) p.members m r over.ended there)
+    (ended_there p m r over.ended there)
 
 -- so the logs have come to what their members' ends tell
 pub have_come : {D : Type 0} (told : D → Option Told) (count : D → ℕ) (g : Group)
-    (bases logs : List (LogState D)) (p : Program) → IsOver told count g bases logs p
+    (bases logs : List (Option (LogState D))) (p : Program) → IsOver told count g bases logs p
     → HaveCome told count bases logs p.members
 have_come {D} told count g bases logs p over = λ m base log r from there at.
     subst (HasCome told count base log r.replica) (sym (over_tells told count g bases logs p m r over at))
@@ -207,20 +230,20 @@ long_log vs es ws valid few =
 
 -- the votes of a member in the program's world
 votes_there : (g : Group) (p : Program) (m : ℕ) (r : Running) → IsSound g p
-    → slice_get p.members m ≡ Some r → (world g p).past.votes m ≡ r.replica.votes
+    → present_at p.members m ≡ Some r → (world g p).past.votes m ≡ r.replica.votes
 votes_there g p m r is there =
     ap (λ h. h.votes) (held_of g (replicas p.members) p.table m r.replica
     (program_member g p m r is.group is.form there).there)
 
 -- a log with room enough isn't full for a member of a sound program
 ample_log : {D : Type 0} (told : D → Option Told) (count : D → ℕ) (g : Group) (p : Program) (m : ℕ)
-    (r : Running) (base log : LogState D) (len : ℕ) → IsSound g p → slice_get p.members m ≡ Some r
+    (r : Running) (base log : LogState D) (len : ℕ) → IsSound g p → present_at p.members m ≡ Some r
     → IsAmple g base → r.failed ≡ Some (whys.LogFull len) → HasServed told count base log r → ⊥
 ample_log {D} told count g p m r base log len is there ample at served =
     by went.0 went.1 went.2.over
   where
     below : m < roster g
-    below = omega (arith, slice_get_within p.members m r there, is.form.all)
+    below = omega (arith, present_within p.members m r there, is.form.all)
 
     same : (world g p).past.history m ≡ r.replica.history
     same = history_there g p m r is there
@@ -320,49 +343,24 @@ ample_log {D} told count g p m r base log len is there ample at served =
 
 -- so none is full where all are ample
 pub none_full : {D : Type 0} (told : D → Option Told) (count : D → ℕ) (g : Group)
-    (bases logs : List (LogState D)) (p : Program) → IsOver told count g bases logs p
-    → All (IsAmple g) bases → NoneFull (map end_of p.members)
-none_full {D} told count g bases logs p over ample = λ k d within.
-    by k (slice_get p.members k) refl (omega (arith, within, length-map p.members end_of)) d
+    (bases logs : List (Option (LogState D))) (p : Program) → IsOver told count g bases logs p
+    → AreAmple g bases → NoneFull (map end_at p.members)
+none_full {D} told count g bases logs p over ample = all_ends (λ (e : MemberEnd). IsNotFull e.end) p tt
+    (λ m r there. not_full (end_of r).end (full_none m r there))
   where
     not_full : (end : End) → ((len : ℕ) → why_ended end ≡ Some (whys.LogFull len) → ⊥) → IsNotFull end
     not_full (ends.LogFull len) full = full len refl
     not_full ends.DiskFault full = tt
     not_full end full = tt
 
-    at : (k : ℕ) (r : Running) → slice_get p.members k ≡ Some r → (len : ℕ)
-        → why_ended (end_of r).end ≡ Some (whys.LogFull len) → (b l : Option (LogState D))
-        → slice_get bases k ≡ b → slice_get logs k ≡ l → ⊥
-    at k r there len full (Some base) (Some log) from to =
-        ample_log told count g p k r base log len over.sound there
-        (each_at (IsAmple g) bases k base ample from)
-        (sym (over_tells told count g bases logs p k r over there) ∙ full)
-        (over.served k base log r from to there)
-    at k r there len full None l from to = absurd (omega (
-      arith,
-      slice_get_none bases k from,
-      slice_get_within p.members k r there,
-      over.sound.form.all,
-      over.all,
-    ))
-    at k r there len full (Some base) None from to = absurd (omega (
-      arith,
-      slice_get_none logs k to,
-      slice_get_within p.members k r there,
-      over.sound.form.all,
-      over.all,
-      over.as_many,
-    ))
-
-    by : (k : ℕ) (o : Option Running) → slice_get p.members k ≡ o → k < length p.members → (d : MemberEnd)
-        → IsNotFull (slice_index_or (map end_of p.members) k d).end
-    by k None there within d = absurd (omega (arith, slice_get_none p.members k there, within))
-    by k (Some r) there within d =
-        subst (λ (e : MemberEnd). IsNotFull e.end)
-        (sym (get_or_from_slice_get (map end_of p.members) k (end_of r) d
-        (slice_get-map end_of p.members k ∙ ap (option_map end_of) there)))
-        (not_full (end_of r).end
-        (λ len full. at k r there len full (slice_get bases k) (slice_get logs k) refl refl))
+    full_none : (m : ℕ) (r : Running) → present_at p.members m ≡ Some r → (len : ℕ)
+        → why_ended (end_of r).end ≡ Some (whys.LogFull len) → ⊥
+    full_none m r there len full =
+        let base = over_base told count g bases logs p m r over there in
+        let log = same_there bases logs m base.0 over.places base.1 in
+        ample_log told count g p m r base.0 log.0 len over.sound there (ample m base.0 base.1)
+        (sym (over_tells told count g bases logs p m r over there) ∙ full)
+        (over.served m base.0 log.0 r base.1 log.1 there)
 
 -- ---- a program that ran from the beginning of an age
 
@@ -376,10 +374,11 @@ all_failing script start nth begun p group lists some (setups, are, is) ran = λ
 
 -- its logs, once they have room, are ready for its members
 pub ready_with : {D : Type 0} (told : D → Option Told) (count : D → ℕ) (script : Script)
-    (start : Start) (nth : ℕ) (begun : Program) (olds news : List (LogState D)) → length script.messages ≡ script.members
-    → IsBegun script start nth begun → AreOpened (group_of script start) olds → length news ≡ length olds
+    (start : Start) (nth : ℕ) (begun : Program) (olds news : List (Option (LogState D)))
+    → length script.messages ≡ script.members
+    → IsBegun script start nth begun → AreOpened (group_of script start) olds → HaveSamePlaces olds news
     → AreRoomy told count begun.members olds news
     → AreReady news begun.members × HaveServed told count olds news begun.members
-ready_with told count script start nth begun olds news lists (setups, are, is) opened all roomy =
+ready_with told count script start nth begun olds news lists (setups, are, is) opened places roomy =
     ready_begins told count (group_of script start) script.turns setups begun olds news
-    (are_setups script start nth setups lists are) is opened all roomy
+    (are_setups script start nth setups lists are) is opened places roomy

@@ -1,13 +1,22 @@
 -- The members of an age as it opens.
-use Rattle.std.specs.Prelude.{◌≡◌, ℕ, List, map}
+use Rattle.std.specs.Prelude.{◌≡◌, ℕ, List, map, None, Option, Some, option_map}
 use Rattle.dr_script.specs.declared.script.Script.{Script}
 use Rattle.dr_program.specs.declared.setup.Setup.{Setup}
 use Rattle.dr_program.specs.Running.{Running, begun_running}
 use Rattle.dr_restart.specs.declared.start.Start.{Start}
-use Rattle.dr_restart.specs.Setups.{AreFirstSetupsOf}
+use Rattle.dr_machine.specs.Group.{IsPresent}
+use Rattle.dr_restart.specs.Groups.{group_of}
+use Rattle.dr_restart.specs.Setups.{AreFirstSetupsOf, IsSetupOf}
 
--- the first n members before their first deeds, each by its setup
-pub record HaveBegun (script : Script) (start : Start) (nth n : ℕ) (members : List Running) : Type 0 where
-  pub setups : List Setup
+-- whoever stands at the place of member m as the age opens: the member before its first deed, by its setup, or
+-- nobody where it is absent
+abbrev pub HasBegunAt : Script → Start → ℕ → ℕ → Option Running → Type 0
+HasBegunAt script start nth m None = ¬ IsPresent (group_of script start) m
+HasBegunAt script start nth m (Some r) = (s : Setup) × IsSetupOf script start nth m s × (r ≡ begun_running s)
+
+-- those of the first n members that are there, before their first deeds, each by its setup
+pub record HaveBegun (script : Script) (start : Start) (nth n : ℕ) (members : List (Option Running))
+    : Type 0 where
+  pub setups : List (Option Setup)
   pub are : AreFirstSetupsOf script start nth n setups
-  pub begun : members ≡ map begun_running setups
+  pub begun : members ≡ map (option_map begun_running) setups

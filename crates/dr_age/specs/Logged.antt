@@ -1,5 +1,5 @@
 -- The logs of an age: how they are before it, and what has come of each by how its member ended.
-use Rattle.std.specs.Prelude.{◌≡◌, ⊤, ℕ, ◌+◌, ◌*◌, ◌-◌, ◌≤◌, false, All, List, length, slice_get, Option, None, Some}
+use Rattle.std.specs.Prelude.{◌≡◌, ⊤, ℕ, ◌+◌, ◌*◌, ◌-◌, ◌<◌, ◌≤◌, false, All, List, length, Option, None, Some}
 use Rattle.dr_entry.specs.declared.end.End.{End}
 use Rattle.dr_entry.specs.declared.end.End.TheVariants as ends
 use Rattle.dr_entry.specs.declared.end.MemberEnd.{MemberEnd}
@@ -7,9 +7,10 @@ use Rattle.dr_entry.specs.declared.limits.TheConstants.{MAX_MEMBERS, MAX_MESSAGE
 use Rattle.dr_disk.specs.Disk.{Told}
 use Rattle.dr_history.specs.Order.{first_entries}
 use Rattle.dr_log.specs.State.{LogState}
-use Rattle.dr_machine.specs.Group.{Group, roster}
+use Rattle.dr_machine.specs.Group.{Group, IsPresent, roster}
 use Rattle.dr_program.specs.declared.outcome.LogWhy.{LogWhy}
 use Rattle.dr_program.specs.declared.outcome.LogWhy.TheVariants as whys
+use Rattle.dr_program.specs.Presence.{present_at}
 use Rattle.dr_program.specs.Program.{end_of}
 use Rattle.dr_program.specs.Running.{Running}
 use Rattle.dr_logged.specs.Served.{HasCome}
@@ -19,10 +20,11 @@ pub record IsOpened {D : Type 0} (g : Group) (log : LogState D) : Type 0 where
   pub entries : log.content.entries ≡ first_entries g.opening
   pub whole : log.failed ≡ false
 
--- the logs of the members of the group, by number
-pub record AreOpened {D : Type 0} (g : Group) (logs : List (LogState D)) : Type 0 where
+-- the logs of the members of the group that are there, by number
+pub record AreOpened {D : Type 0} (g : Group) (logs : List (Option (LogState D))) : Type 0 where
   pub all : length logs ≡ roster g
-  pub each : All (IsOpened g) logs
+  pub each : (m : ℕ) (log : LogState D) → present_at logs m ≡ Some log → IsPresent g m × IsOpened g log
+  pub there : (m : ℕ) → m < roster g → IsPresent g m → (log : LogState D) × (present_at logs m ≡ Some log)
 
 -- why a member's last append failed, by how it ended
 abbrev pub why_ended : End → Option LogWhy
@@ -31,10 +33,10 @@ why_ended (ends.LogFull len) = Some (whys.LogFull len)
 why_ended end = None
 
 -- what has come of each log since `bases`, by how the member of its number stands at its end
-abbrev pub HaveCome : {D : Type 0} → (D → Option Told) → (D → ℕ) → List (LogState D)
-    → List (LogState D) → List Running → Type 0
+abbrev pub HaveCome : {D : Type 0} → (D → Option Told) → (D → ℕ) → List (Option (LogState D))
+    → List (Option (LogState D)) → List (Option Running) → Type 0
 HaveCome {D} told faults bases logs members = (m : ℕ) (base log : LogState D) (r : Running)
-    → slice_get bases m ≡ Some base → slice_get logs m ≡ Some log → slice_get members m ≡ Some r
+    → present_at bases m ≡ Some base → present_at logs m ≡ Some log → present_at members m ≡ Some r
     → HasCome told faults base log r.replica (why_ended (end_of r).end)
 
 -- no member was ended by its log, or by a full one
@@ -56,15 +58,20 @@ pub record IsAmple {D : Type 0} (g : Group) (log : LogState D) : Type 0 where
       + 72 * (length g.opening.start + MAX_MEMBERS + MAX_MESSAGES * MAX_MEMBERS - length log.content.entries)
       + 73 * (MAX_MEMBERS * MAX_MEMBERS) ≤ log.limit
 
+-- so it is with each of these logs
+abbrev pub AreAmple : {D : Type 0} → Group → List (Option (LogState D)) → Type 0
+AreAmple {D} g logs = (m : ℕ) (log : LogState D) → present_at logs m ≡ Some log → IsAmple g log
+
 -- what is on a log is what was on it before
 abbrev pub IsAsBefore : {D : Type 0} → LogState D → LogState D → Type 0
 IsAsBefore old new = new.content ≡ old.content
 
-abbrev pub AreAsBefore : {D : Type 0} → List (LogState D) → List (LogState D) → Type 0
-AreAsBefore {D} olds news = (m : ℕ) (old new : LogState D) → slice_get olds m ≡ Some old
-    → slice_get news m ≡ Some new → IsAsBefore old new
+abbrev pub AreAsBefore : {D : Type 0} → List (Option (LogState D)) → List (Option (LogState D)) → Type 0
+AreAsBefore {D} olds news = (m : ℕ) (old new : LogState D) → present_at olds m ≡ Some old
+    → present_at news m ≡ Some new → IsAsBefore old new
 
 -- the disk of each log tells what it told, and has counted no further fault
-abbrev pub AreCalm : {D : Type 0} → (D → Option Told) → (D → ℕ) → List (LogState D) → List (LogState D) → Type 0
-AreCalm {D} tells faults olds news = (m : ℕ) (old new : LogState D) → slice_get olds m ≡ Some old
-    → slice_get news m ≡ Some new → (tells new.disk ≡ tells old.disk) × (faults new.disk ≡ faults old.disk)
+abbrev pub AreCalm : {D : Type 0} → (D → Option Told) → (D → ℕ) → List (Option (LogState D))
+    → List (Option (LogState D)) → Type 0
+AreCalm {D} tells faults olds news = (m : ℕ) (old new : LogState D) → present_at olds m ≡ Some old
+    → present_at news m ≡ Some new → (tells new.disk ≡ tells old.disk) × (faults new.disk ≡ faults old.disk)

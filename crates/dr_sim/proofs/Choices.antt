@@ -1,6 +1,6 @@
 -- Seeded runs: what the generator has chosen, and who goes on.
 use Rattle.std.proofs.Common.{◌≡◌, ◌≢◌, refl, sym, ap, ◌∙◌, subst, ℕ, ◌+◌, ◌/◌, ◌%◌, ◌^◌, ◌==◌, ◌<◌, Bool, not, true, false, cond, List, [], ◌∷◌, ◌++◌, length, slice_index, append-nil, inl, inr, ◌⊎◌, arith}
-use Rattle.std.specs.Prelude.{Option, Some, None, slice_get}
+use Rattle.std.specs.Prelude.{Option, Some, None}
 use Rattle.std.specs.List.{range_with_len, filter, remove}
 use Rattle.std.proofs.lemmas.Bool.{cases_eq}
 use Rattle.std.proofs.lemmas.List.Elements.{filter_agree, filter-append}
@@ -8,9 +8,8 @@ use Rattle.dr_entry.specs.declared.end.End.{End}
 use Rattle.dr_script.specs.declared.script.Schedule.TheVariants.{Seed}
 use Rattle.dr_program.specs.declared.outcome.Outcome.TheVariants as outcomes
 use Rattle.dr_program.specs.Running.{Running, next_step}
-use Rattle.dr_program.specs.Program.{AllEnded, Move, Program, after_deed, moved_by, next_sight, ran, step_of, went}
-use Rattle.dr_program.specs.Schedule.{has_ended, next_state, choice_of, going, AreChosen}
-use Rattle.dr_program.proofs.Holdings.{replica_kept}
+use Rattle.dr_program.specs.Program.{AllEnded, Move, Program, after_deed, moved_by, next_sight, ran, step_of, went, has_ended}
+use Rattle.dr_program.specs.Schedule.{next_state, choice_of, going, AreChosen}
 use Rattle.dr_program.specs.declared.outcome.Outcome.{Outcome}
 use Rattle.dr_sim.specs.Simulated.{HasRun, SomeFailed, WentWell}
 use Rattle.dr_logged.specs.Served.{AtMember}
@@ -20,6 +19,8 @@ use Rattle.dr_sim.proofs.Outcomes.{none_well, well_both, well_one}
 use Rattle.dr_sim.proofs.Ranges.{count_more, passes, none_pass, one_fails}
 use Rattle.dr_sim.proofs.Tellings.{told_more}
 use Rattle.dr_sim.proofs.Turns.{each_ended, ran_more, ran_one}
+use Rattle.dr_program.specs.Presence.{present_at}
+use Rattle.dr_program.proofs.Present.{present_kept}
 
 -- ---- the choices
 
@@ -73,7 +74,7 @@ nothing_chosen sees w seed x p e = record {
 pub chosen_again : {W : Type 0} {sees : W → Running → List ℕ → W → Type 0} {old mid : W} (new : W) (seed : ℕ)
     (begun : Program) (x y : ℕ) (p q : Program) (m : ℕ) (o : Outcome)
     → HasChosen sees old mid seed begun x p → IsChoice x p m → y ≡ next_state x → q ≡ step_of p (move m o)
-    → (o ≡ outcomes.Ok) ⊎ SomeFailed q → has_ended (slice_get p.members m) ≡ false
+    → (o ≡ outcomes.Ok) ⊎ SomeFailed q → has_ended (present_at p.members m) ≡ false
     → AtMember p m (λ r. sees mid r p.table new) → HasChosen sees old new seed begun y q
 chosen_again {W} {sees} {old} {mid} new seed begun x y p q m o has next to step well going seen = record {
   chosen = has.chosen ++ move m o ∷ [];
@@ -85,10 +86,10 @@ chosen_again {W} {sees} {old} {mid} new seed begun x y p q m o has next to step 
   state = to ∙ ap next_state has.state ∙ sym (state_more seed has.chosen (move m o));
   taken = step ∙ ap (λ (v : Program). step_of v (move m o)) has.taken
       ∙ sym (ran_more begun has.chosen (move m o));
-  told = by (slice_get p.members m) refl going;
+  told = by (present_at p.members m) refl going;
 }
   where
-    by : (r : Option Running) → slice_get p.members m ≡ r → has_ended r ≡ false
+    by : (r : Option Running) → present_at p.members m ≡ r → has_ended r ≡ false
         → WasTold sees begun (has.chosen ++ move m o ∷ []) old new
     by None is goes = absurd (cc)
     by (Some r) is goes =
@@ -98,14 +99,14 @@ chosen_again {W} {sees} {old} {mid} new seed begun x y p q m o has next to step 
 
 -- member m goes on
 abbrev pub goes : Program → ℕ → Bool
-goes p m = not (has_ended (slice_get p.members m))
+goes p m = not (has_ended (present_at p.members m))
 
 not_ended : (b : Bool) → not b ≡ true → b ≡ false
 not_ended b e = grind arith
 
 -- whoever is chosen has not ended
 chosen_goes : (p : Program) (j : ℕ) → j < length (going p)
-    → has_ended (slice_get p.members (slice_index (going p) j)) ≡ false
+    → has_ended (present_at p.members (slice_index (going p) j)) ≡ false
 chosen_goes p j within = not_ended _ (passes (goes p) (range_with_len 0 (length p.members)) j within)
 
 -- where nobody is left to be chosen, all have ended
@@ -118,11 +119,11 @@ nobody_goes p none = each_ended p
 
 -- a move of member m leaves whether the others have ended
 others_go : (p : Program) (e : Move) (k : ℕ) → k ≢ e.member → goes (step_of p e) k ≡ goes p k
-others_go p e k other = by (slice_get p.members e.member)
+others_go p e k other = by (present_at p.members e.member)
   where
     at : (r : Running) (o : Option End) → goes (went p r e o) k ≡ goes p k
     at r None = ap (λ o. not (has_ended o))
-        (replica_kept p.members e.member k
+        (present_kept p.members e.member k
         (after_deed (next_sight p.table r) e.outcome r (next_step r)) other)
     at r (Some end) = refl
 
@@ -132,8 +133,8 @@ others_go p e k other = by (slice_get p.members e.member)
 
 -- where the chosen member has not ended, the members that go on are the same
 pub going_on : (p q : Program) (m : ℕ) (o : Outcome) → q ≡ step_of p (move m o) → length q.members
-    ≡ length p.members → has_ended (slice_get p.members m) ≡ false
-    → has_ended (slice_get q.members m) ≡ false
+    ≡ length p.members → has_ended (present_at p.members m) ≡ false
+    → has_ended (present_at q.members m) ≡ false
     → going q ≡ going p
 going_on p q m o step same before after =
     ap (λ n. filter (goes q) (range_with_len 0 n)) same
@@ -148,7 +149,7 @@ going_on p q m o step same before after =
 -- where the chosen member has ended, the others go on
 pub one_has_ended : (p q : Program) (m j : ℕ) (o : Outcome) → q ≡ step_of p (move m o) → length q.members
     ≡ length p.members → j < length (going p) → m ≡ slice_index (going p) j
-    → has_ended (slice_get q.members m) ≡ true → going q ≡ remove (going p) j
+    → has_ended (present_at q.members m) ≡ true → going q ≡ remove (going p) j
 one_has_ended p q m j o step same within at after =
     ap (λ n. filter (goes q) (range_with_len 0 n)) same
     ∙ one_fails (goes p) (goes q) m 0 (length p.members) j (ap not after)
@@ -162,7 +163,7 @@ going_more p m = ap (filter (goes p)) (count_more m)
 
 -- a member that has not ended is found behind those before it
 pub found_one : (p : Program) (m : ℕ) (xs ys : List ℕ) → xs ≡ filter (goes p) (range_with_len 0 m)
-    → has_ended (slice_get p.members m) ≡ false → ys ≡ xs ++ m ∷ []
+    → has_ended (present_at p.members m) ≡ false → ys ≡ xs ++ m ∷ []
     → ys ≡ filter (goes p) (range_with_len 0 (m + 1))
 found_one p m xs ys found going more =
     more ∙ ap (λ zs. zs ++ m ∷ []) found
@@ -171,7 +172,7 @@ found_one p m xs ys found going more =
 
 -- a member that has ended is not found
 pub found_none : (p : Program) (m : ℕ) (xs : List ℕ) → xs ≡ filter (goes p) (range_with_len 0 m)
-    → has_ended (slice_get p.members m) ≡ true
+    → has_ended (present_at p.members m) ≡ true
     → xs ≡ filter (goes p) (range_with_len 0 (m + 1))
 found_none p m xs found ended =
     found ∙ sym (append-nil (filter (goes p) (range_with_len 0 m)))
@@ -192,7 +193,7 @@ pub record IsPicked (x : ℕ) (p : Program) (j m : ℕ) : Type 0 where
   pub within : j < length (going p)
   pub choice : IsChoice x p m
   pub place : m ≡ slice_index (going p) j
-  pub goes : has_ended (slice_get p.members m) ≡ false
+  pub goes : has_ended (present_at p.members m) ≡ false
 
 below_some : (x n : ℕ) → 0 < n → x % n < n
 below_some x n some = omega (arith, some)
@@ -206,7 +207,7 @@ picked x p xs ys n j listed same counted left chosen = record {
       (below_some (next_state x / 2 ^ 33) (length (going p)) some);
   choice = record { some = some; choice = (λ z. slice_index ((same ∙ listed) z) (place z)) };
   place = ap (λ zs. slice_index zs j) (same ∙ listed);
-  goes = subst (λ m. has_ended (slice_get p.members m) ≡ false)
+  goes = subst (λ m. has_ended (present_at p.members m) ≡ false)
       (sym (ap (λ zs. slice_index zs j) (same ∙ listed)))
       (chosen_goes p j (subst (λ k. k < length (going p)) (sym place)
       (below_some (next_state x / 2 ^ 33) (length (going p)) some)));

@@ -1,20 +1,21 @@
 -- Whether appends went well over moves: they did, or some member's has failed, and that stays.
 use Rattle.std.proofs.Common.{◌≡◌, refl, sym, ap, ◌∙◌, subst, inl, inr, ◌⊎◌, ℕ, zero, suc, arith, List, [], ◌∷◌, ◌++◌}
-use Rattle.std.specs.Prelude.{Option, None, Some, slice_get}
+use Rattle.std.specs.Prelude.{Option, None, Some}
 use Rattle.std.proofs.lemmas.Bool.{cases_eq}
 use Rattle.std.proofs.lemmas.List.Elements.{All-append, All-nil}
-use Rattle.std.proofs.lemmas.Option.{same_Some, slice_get_within}
+use Rattle.std.proofs.lemmas.Option.{same_Some}
 use Rattle.dr_entry.specs.declared.end.End.{End}
 use Rattle.dr_program.specs.declared.outcome.LogWhy.{LogWhy}
 use Rattle.dr_program.specs.declared.outcome.Outcome.{Outcome}
 use Rattle.dr_program.specs.declared.outcome.Outcome.TheVariants.{Ok}
 use Rattle.dr_program.specs.Program.{AllOk, Move, Program, after_deed, moved_by, next_sight, ran, step_of, went}
 use Rattle.dr_program.specs.Running.{Running, next_step}
-use Rattle.dr_program.proofs.Holdings.{replica_kept, replica_set}
 use Rattle.dr_program.proofs.Runs.{after_either}
 use Rattle.dr_logged.proofs.Serving.{settled_same}
 use Rattle.dr_sim.specs.Simulated.{SomeFailed, WentWell}
 use Rattle.dr_sim.specs.Sound.{move}
+use Rattle.dr_program.specs.Presence.{present_at}
+use Rattle.dr_program.proofs.Present.{present_within, present_set, present_kept}
 
 -- a member whose append has failed stays one
 still_failed : (table : List ℕ) (o : Outcome) (r : Running) (why : LogWhy) → r.failed ≡ Some why
@@ -25,9 +26,9 @@ still_failed table o r why at =
     (λ next due. (next, refl))
 
 failed_step : (p : Program) (e : Move) → SomeFailed p → SomeFailed (step_of p e)
-failed_step p e (m, r, why, there, at) = by (slice_get p.members e.member) refl
+failed_step p e (m, r, why, there, at) = by (present_at p.members e.member) refl
   where
-    on : (x : Running) → slice_get p.members e.member ≡ Some x → (o : Option End)
+    on : (x : Running) → present_at p.members e.member ≡ Some x → (o : Option End)
         → SomeFailed (went p x e o)
     on x is (Some end) = (m, r, why, there, at)
     on x is None = elim (cases_eq m e.member) [
@@ -35,24 +36,24 @@ failed_step p e (m, r, why, there, at) = by (slice_get p.members e.member) refl
         m,
         r,
         why,
-        replica_kept p.members e.member m
+        present_kept p.members e.member m
             (after_deed (next_sight p.table x) e.outcome x (next_step x)) other ∙ there,
         at,
       )
       | inl here ↦
-          let same : r ≡ x = same_Some r x (sym there ∙ ap (slice_get p.members) here ∙ is) in
+          let same : r ≡ x = same_Some r x (sym there ∙ ap (present_at p.members) here ∙ is) in
           let next = still_failed p.table e.outcome x why
           (ap (λ (y : Running). y.failed) (sym same) ∙ at) in (
             e.member,
             after_deed (next_sight p.table x) e.outcome x (next_step x),
             next.0,
-            replica_set p.members e.member (after_deed (next_sight p.table x) e.outcome x (next_step x))
-                (slice_get_within p.members e.member x is),
+            present_set p.members e.member (after_deed (next_sight p.table x) e.outcome x (next_step x))
+                (present_within p.members e.member x is),
             next.1,
           )
     ]
 
-    by : (o : Option Running) → slice_get p.members e.member ≡ o → SomeFailed (moved_by p o e)
+    by : (o : Option Running) → present_at p.members e.member ≡ o → SomeFailed (moved_by p o e)
     by None is = (m, r, why, there, at)
     by (Some x) is = on x is x.replica.end
 

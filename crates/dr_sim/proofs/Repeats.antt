@@ -1,22 +1,21 @@
 -- A schedule leads to one program where no append fails, so a script and a start lead to one age.
 use Rattle.std.proofs.Common.{◌≡◌, refl, sym, ap, ◌∙◌, subst, inl, inr, ℕ, zero, suc, ◌<◌, ◌≤◌, Bool, true, false, not, cond, leb, List, [], ◌∷◌, ◌++◌, length, take, true≢false, arith}
-use Rattle.std.specs.Prelude.{All, IsTrue, Option, None, Some, is_some, option_map, replicate, slice_get, unwrap_or}
+use Rattle.std.specs.Prelude.{All, IsTrue, Option, None, Some, is_some, replicate, slice_get, unwrap_or}
 use Rattle.std.specs.List.{filter, range_with_len}
 use Rattle.std.proofs.lemmas.Bool.{leb-true, leb-false}
 use Rattle.std.proofs.lemmas.List.{take-replicate}
-use Rattle.std.proofs.lemmas.Option.{slice_get-map}
 use Rattle.dr_age.proofs.Ends.{all_failing, each_at}
 use Rattle.dr_age.specs.Logged.{NoneStopped, why_ended}
 use Rattle.dr_entry.specs.declared.end.AgeEnd.{AgeEnd}
 use Rattle.dr_entry.specs.declared.end.End.TheVariants as ends
 use Rattle.dr_entry.specs.declared.end.MemberEnd.{MemberEnd}
 use Rattle.dr_machine.specs.Group.{IsGroup}
-use Rattle.dr_program.specs.Program.{AllEnded, AllOk, Move, Program, age_of, begun_program, end_of, ok, ran, step_of}
+use Rattle.dr_program.specs.Program.{AllEnded, AllOk, Move, Program, age_of, begun_program, end_of, ok, ran, step_of, has_ended}
 use Rattle.dr_program.specs.declared.outcome.LogWhy.{LogWhy}
 use Rattle.dr_program.specs.declared.outcome.LogWhy.TheVariants as whys
 use Rattle.dr_program.specs.declared.setup.Setup.{Setup}
 use Rattle.dr_program.specs.Running.{Running, end_by}
-use Rattle.dr_program.specs.Schedule.{AreChosen, IsTurn, Rounds, TakeTurns, TakesTurn, going, has_ended, is_between_turns, next_state}
+use Rattle.dr_program.specs.Schedule.{AreChosen, IsTurn, Rounds, TakeTurns, TakesTurn, going, is_between_turns, next_state}
 use Rattle.dr_program_laws.specs.Failing.{IsFailing}
 use Rattle.dr_restart.specs.declared.start.Start.{Start}
 use Rattle.dr_restart.specs.Groups.{group_of}
@@ -28,6 +27,9 @@ use Rattle.dr_script.specs.declared.script.Script.{Script}
 use Rattle.dr_sim.specs.Repeated.{IsRepeated}
 use Rattle.dr_sim.specs.Simulated.{IsRunBy, IsSimulated, SomeFailed}
 use Rattle.dr_sim.proofs.Courses.{schedule_ends, schedule_ran}
+use Rattle.dr_program.specs.Presence.{present_at}
+use Rattle.dr_program.proofs.Present.{ended_there}
+use Rattle.dr_program_laws.proofs.Worlds.{end_told}
 
 -- ---- moves
 
@@ -70,9 +72,9 @@ module _ (m : ℕ) (p : Program) where
   not_longer es q fs u one other well well' = not_less (length es) (length fs) (λ less.
       let same : take (length es) fs ≡ es = ap (take (length es)) (own_moves m fs other.own well')
       ∙ take-replicate (length es) (length fs) (ok m) (omega arith) ∙ sym (own_moves m es one.own well) in
-      let still = ap (λ xs. is_between_turns (slice_get (ran p xs).members m)) (sym same)
+      let still = ap (λ xs. is_between_turns (present_at (ran p xs).members m)) (sym same)
       ∙ other.first (length es) one.some less in
-      true≢false (sym one.whole ∙ ap (λ (x : Program). is_between_turns (slice_get x.members m)) one.taken
+      true≢false (sym one.whole ∙ ap (λ (x : Program). is_between_turns (present_at x.members m)) one.taken
       ∙ still))
 
   same_turn : (es : List Move) (q : Program) (fs : List Move) (u : Program) → IsTurn m p es q
@@ -104,12 +106,12 @@ turns_same (m ∷ ms) p es q fs u (turn, rest, mid, both, first, more)
     (back_ok turn rest parts) (back_ok turn' rest' parts')
 
 -- whoever is in a program whose members have all ended has ended
-ended_at : (p : Program) (m : ℕ) → AllEnded p → has_ended (slice_get p.members m) ≡ true
-ended_at p m all = by (slice_get p.members m) refl
+ended_at : (p : Program) (m : ℕ) → AllEnded p → has_ended (present_at p.members m) ≡ true
+ended_at p m all = by (present_at p.members m) refl
   where
-    by : (o : Option Running) → slice_get p.members m ≡ o → has_ended o ≡ true
-    by None there = refl
-    by (Some r) there = each_at (λ (x : Running). IsTrue (is_some x.replica.end)) p.members m r all there
+    by : (o : Option Running) → present_at p.members m ≡ o → has_ended (present_at p.members m) ≡ true
+    by None none = ap has_ended none
+    by (Some r) there = ap has_ended there ∙ ended_there p m r all there
 
 -- such a program rests
 rest_turns : (ms : List ℕ) (p : Program) (es : List Move) (q : Program) → AllEnded p → TakeTurns ms p es q
@@ -148,7 +150,7 @@ none_pass f (x ∷ xs) none = ap (λ b. length (cond b (x ∷ filter f xs) (filt
     ∙ none_pass f xs none
 
 none_go : (p : Program) → AllEnded p → length (going p) ≡ 0
-none_go p all = none_pass (λ m. not (has_ended (slice_get p.members m))) (range_with_len 0 (length p.members))
+none_go p all = none_pass (λ m. not (has_ended (present_at p.members m))) (range_with_len 0 (length p.members))
     (λ m. ap not (ended_at p m all))
 
 chosen_same : (x : ℕ) (p : Program) (es fs : List Move) → AreChosen x p es → AreChosen x p fs → AllOk es
@@ -185,7 +187,7 @@ runs_same (Seed seed) begun es fs q u one other well well' =
 
 -- a script, a start and a number leave one list of setups
 abbrev pub AreOne : Type 0
-AreOne = (script : Script) (start : Start) (nth : ℕ) (setups others : List Setup)
+AreOne = (script : Script) (start : Start) (nth : ℕ) (setups others : List (Option Setup))
     → AreSetupsOf script start nth setups → AreSetupsOf script start nth others → setups ≡ others
 
 -- so they leave one program to begin with
@@ -214,11 +216,9 @@ no_failed script start nth age ranges group is none (m, r, why, there, failed) =
     let ran = schedule_ran script.schedule is.begun is.over is.run in
     let failing = all_failing script start nth is.begun is.over group ranges.group.lists ranges.some_turn
     is.begins ran m r there in
-    let ended = each_at (λ (x : Running). IsTrue (is_some x.replica.end)) is.over.members m r
-    (schedule_ends script.schedule is.begun is.over is.run) there in
+    let ended = ended_there is.over m r (schedule_ends script.schedule is.begun is.over is.run) there in
     let end : slice_get age.members m ≡ Some (end_of r)
-    = ap (λ (a : AgeEnd). slice_get a.members m) is.told ∙ slice_get-map end_of is.over.members m
-    ∙ ap (option_map end_of) there in
+    = ap (λ (a : AgeEnd). slice_get a.members m) is.told ∙ end_told is.over m r there in
     let kept = each_at (λ (e : MemberEnd). why_ended e.end ≡ None) age.members m (end_of r) none end in
     absurd (cc (kept, stopped r why failing failed ended))
 

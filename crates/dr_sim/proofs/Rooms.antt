@@ -1,94 +1,183 @@
 -- Room on the logs of members, made one after the other.
 use Rattle.std.proofs.Common.{◌≡◌, refl, sym, ap, ◌∙◌, subst, inl, inr, ℕ, ◌+◌, ◌<◌, ◌≤◌, List, length, length-set, le_refl, get_or, arith}
-use Rattle.std.specs.Prelude.{Option, Some, slice_get, slice_set}
+use Rattle.std.specs.Prelude.{Err, Ok, OnErr, OnOk, Option, None, Result, Some, is_some, slice_set}
+use Rattle.std.specs.declared.alloc.AllocError.{AllocError}
 use Rattle.std.proofs.lemmas.Bool.{cases_eq}
-use Rattle.std.proofs.lemmas.Option.{same_Some, slice_get-get_or}
+use Rattle.std.proofs.lemmas.List.{get_or-set_other, get_or-set_same, get_or_default}
+use Rattle.std.proofs.lemmas.Option.{same_Some}
 use Rattle.dr_disk.specs.Disk.{Told}
 use Rattle.dr_log.specs.State.{LogState}
+use Rattle.dr_program.specs.Presence.{present_at}
 use Rattle.dr_program.specs.Running.{Running}
-use Rattle.dr_program.proofs.Holdings.{replica_kept, replica_set}
-use Rattle.dr_logged.specs.Served.{IsRoomy}
+use Rattle.dr_logged.specs.Served.{HaveSamePlaces, IsRoomy}
 use Rattle.dr_age.specs.Logged.{AreAsBefore, AreCalm, IsAsBefore}
+use Rattle.dr_sim.specs.Rooms.{GotRoomAt, StaysAt}
 
 -- the logs below k got room, and the others are as they were
-pub record HasMadeRoom {D : Type 0} (told : D → Option Told) (count : D → ℕ) (members : List Running)
-    (olds news : List (LogState D)) (k : ℕ) : Type 0 where
-  pub all : length news ≡ length olds
-  pub made : (m : ℕ) (r : Running) (old new : LogState D) → m < k → slice_get members m ≡ Some r
-      → slice_get olds m ≡ Some old → slice_get news m ≡ Some new → IsRoomy told count r old new
-  pub others : (m : ℕ) → k ≤ m → slice_get news m ≡ slice_get olds m
+pub record HasMadeRoom {D : Type 0} (told : D → Option Told) (count : D → ℕ) (members : List (Option Running))
+    (olds news : List (Option (LogState D))) (k : ℕ) : Type 0 where
+  pub made : (m : ℕ) (r : Running) (old new : LogState D) → m < k → present_at members m ≡ Some r
+      → present_at olds m ≡ Some old → present_at news m ≡ Some new → IsRoomy told count r old new
+  pub others : (m : ℕ) → k ≤ m → present_at news m ≡ present_at olds m
+  pub places : HaveSamePlaces olds news
   pub same : AreAsBefore olds news
   pub calm : AreCalm told count olds news
 
 -- before the first
-pub none_made : {D : Type 0} (told : D → Option Told) (count : D → ℕ) (members : List Running)
-    (logs : List (LogState D)) → HasMadeRoom told count members logs logs 0
+pub none_made : {D : Type 0} (told : D → Option Told) (count : D → ℕ) (members : List (Option Running))
+    (logs : List (Option (LogState D))) → HasMadeRoom told count members logs logs 0
 none_made told count members logs = record {
-  all = refl;
   made = λ m r old new below member there here. absurd (omega (arith, below));
   others = λ m above. refl;
-  same = λ m old new there here.
-      let is = same_Some old new (sym there ∙ here) in
-      subst (λ x. IsAsBefore old x) is refl;
+  places = record { all = refl; each = λ m. refl };
+  same = λ m old new there here. subst (λ x. IsAsBefore old x) (same_Some old new (sym there ∙ here)) refl;
   calm = λ m old new there here.
       let is = same_Some new old (sym here ∙ there) in
       (ap (λ x. told x.disk) is, ap (λ x. count x.disk) is);
 }
 
--- a log that is as before in the place of one leaves all as before
-pub same_set : {D : Type 0} (olds news : List (LogState D)) (k : ℕ) (x new : LogState D)
-    → AreAsBefore olds news → k < length news → IsAsBefore (get_or news k x) new
-    → AreAsBefore olds (slice_set news k new)
-same_set olds news k x new same within is = λ m old y there here. elim (cases_eq m k) [
-  | inr other ↦ same m old y there (sym (replica_kept news k m new other) ∙ here)
-  | inl at ↦
-      let before = same m old (get_or news k x) there
-      (ap (slice_get news) at ∙ slice_get-get_or news k x within) in
-      subst (λ z. IsAsBefore old z)
-      (same_Some new y (sym (replica_set news k new within) ∙ ap (slice_get (slice_set news k new)) (sym at)
-      ∙ here))
-      (is ∙ before)
-]
+-- what stands at place k once it was set, and at the others
+here_set : {D : Type 0} (news : List (Option (LogState D))) (k : ℕ) (new : Option (LogState D)) → k < length news
+    → present_at (slice_set news k new) k ≡ new
+here_set news k new within = get_or-set_same news k new None within
 
--- so does one whose disk tells what it told, and has counted no fault
-pub calm_set : {D : Type 0} (told : D → Option Told) (count : D → ℕ) (olds news : List (LogState D)) (k : ℕ)
-    (x new : LogState D) → AreCalm told count olds news → k < length news
-    → told new.disk ≡ told (get_or news k x).disk → count new.disk ≡ count (get_or news k x).disk
-    → AreCalm told count olds (slice_set news k new)
-calm_set told count olds news k x new calm within same is = λ m old y there here. elim (cases_eq m k) [
-  | inr other ↦ calm m old y there (sym (replica_kept news k m new other) ∙ here)
-  | inl at ↦
-      let before = calm m old (get_or news k x) there
-      (ap (slice_get news) at ∙ slice_get-get_or news k x within) in
-      subst (λ z. (told z.disk ≡ told old.disk) × (count z.disk ≡ count old.disk))
-      (same_Some new y (sym (replica_set news k new within) ∙ ap (slice_get (slice_set news k new)) (sym at)
-      ∙ here))
-      (same ∙ before.0, is ∙ before.1)
-]
+others_set : {D : Type 0} (news : List (Option (LogState D))) (m k : ℕ) (new : Option (LogState D))
+    → (m ≡ k → ⊥) → present_at (slice_set news k new) m ≡ present_at news m
+others_set news m k new other = get_or-set_other news k m new None other
 
--- the next log got room
-pub one_more_made : {D : Type 0} (told : D → Option Told) (count : D → ℕ) (members : List Running)
-    (olds news : List (LogState D)) (k : ℕ) (r : Running) (x new : LogState D)
-    → HasMadeRoom told count members olds news k → k < length news → slice_get members k ≡ Some r
-    → IsRoomy told count r (get_or news k x) new → IsAsBefore (get_or news k x) new
+-- a place that stays as it was, in the place of one
+pub stays_set : {D : Type 0} (told : D → Option Told) (count : D → ℕ) (olds news : List (Option (LogState D)))
+    (k : ℕ) (x new : Option (LogState D)) → k < length news → StaysAt told count (get_or news k x) new
+    → HaveSamePlaces olds news → AreAsBefore olds news → AreCalm told count olds news
+    → HaveSamePlaces olds (slice_set news k new) × AreAsBefore olds (slice_set news k new)
+    × AreCalm told count olds (slice_set news k new)
+stays_set {D} told count olds news k x new within stays places same calm = (
+  record {
+    all = length-set news k new ∙ places.all;
+    each = λ m. elim (cases_eq m k) [
+      | inr other ↦ ap is_some (others_set news m k new other) ∙ places.each m
+      | inl at ↦ ap (λ n. is_some (present_at (slice_set news k new) n)) at
+          ∙ ap is_some (here_set news k new within) ∙ stays.place ∙ ap is_some (sym was)
+          ∙ ap (λ n. is_some (present_at news n)) (sym at) ∙ places.each m
+    ];
+  },
+  λ m old y there here. elim (cases_eq m k) [
+    | inr other ↦ same m old y there (sym (others_set news m k new other) ∙ here)
+    | inl at ↦ by_same m old y at there (sym (now m at) ∙ here)
+  ],
+  λ m old y there here. elim (cases_eq m k) [
+    | inr other ↦ calm m old y there (sym (others_set news m k new other) ∙ here)
+    | inl at ↦ by_calm m old y at there (sym (now m at) ∙ here)
+  ],
+)
+  where
+    was : present_at news k ≡ get_or news k x
+    was = get_or_default news k None x within
+
+    now : (m : ℕ) → m ≡ k → present_at (slice_set news k new) m ≡ new
+    now m at = ap (present_at (slice_set news k new)) at ∙ here_set news k new within
+
+    before : (m : ℕ) (y : LogState D) → m ≡ k → new ≡ Some y
+        → (z : LogState D) × (get_or news k x ≡ Some z) × (present_at news m ≡ Some z)
+    before m y at is = by (get_or news k x) refl
+      where
+        by : (o : Option (LogState D)) → get_or news k x ≡ o
+            → (z : LogState D) × (get_or news k x ≡ Some z) × (present_at news m ≡ Some z)
+        by None none = absurd (cc (ap is_some is, stays.place, ap is_some none))
+        by (Some z) some = (z, some, ap (present_at news) at ∙ was ∙ some)
+
+    by_same : (m : ℕ) (old y : LogState D) → m ≡ k → present_at olds m ≡ Some old → new ≡ Some y
+        → IsAsBefore old y
+    by_same m old y at there is =
+        let z = before m y at is in stays.kept z.0 y z.1 is ∙ same m old z.0 there z.2
+
+    by_calm : (m : ℕ) (old y : LogState D) → m ≡ k → present_at olds m ≡ Some old → new ≡ Some y
+        → (told y.disk ≡ told old.disk) × (count y.disk ≡ count old.disk)
+    by_calm m old y at there is =
+        let z = before m y at is in
+        let first = calm m old z.0 there z.2 in
+        let then = stays.calm z.0 y z.1 is in (then.0 ∙ first.0, then.1 ∙ first.1)
+
+-- the log of the next place got room
+pub one_more_made : {D : Type 0} (told : D → Option Told) (count : D → ℕ) (members : List (Option Running))
+    (olds news : List (Option (LogState D))) (k : ℕ) (o : Option Running) (x new : Option (LogState D))
+    → HasMadeRoom told count members olds news k → k < length news → present_at members k ≡ o
+    → StaysAt told count (get_or news k x) new → GotRoomAt told count o (get_or news k x) new
     → HasMadeRoom told count members olds (slice_set news k new) (k + 1)
-one_more_made told count members olds news k r x new so_far within member room is = record {
-  all = length-set news k new ∙ so_far.all;
-  made = λ m q old y below there from here. elim (cases_eq m k) [
-    | inr other ↦ so_far.made m q old y (omega (arith, below, other)) there from
-        (sym (replica_kept news k m new other) ∙ here)
-    | inl at ↦
-        let same_r = same_Some r q (sym member ∙ ap (slice_get members) (sym at) ∙ there) in
-        let same_new = same_Some new y (sym (replica_set news k new within)
-        ∙ ap (slice_get (slice_set news k new)) (sym at) ∙ here) in
-        let same_old = same_Some (get_or news k x) old (sym (slice_get-get_or news k x within)
-        ∙ so_far.others k (le_refl k) ∙ ap (slice_get olds) (sym at) ∙ from) in
-        subst (λ z. IsRoomy told count z old y) same_r
-        (subst (λ z. IsRoomy told count r z y) same_old
-        (subst (λ z. IsRoomy told count r (get_or news k x) z) same_new room))
-  ];
-  others = λ m above. replica_kept news k m new (λ at. absurd (omega (arith, above, at)))
-      ∙ so_far.others m (omega (arith, above));
-  same = same_set olds news k x new so_far.same within is;
-  calm = calm_set told count olds news k x new so_far.calm within room.tells room.calm;
+one_more_made {D} told count members olds news k o x new so_far within member stays room =
+    let stay = stays_set told count olds news k x new within stays so_far.places so_far.same so_far.calm in
+    record {
+      made = λ m q old y below there from here. elim (cases_eq m k) [
+        | inr other ↦ so_far.made m q old y (omega (arith, below, other)) there from
+            (sym (others_set news m k new other) ∙ here)
+        | inl at ↦ room q old y
+            (sym member ∙ ap (present_at members) (sym at) ∙ there)
+            (get_or_default news k x None within ∙ so_far.others k (le_refl k)
+            ∙ ap (present_at olds) (sym at) ∙ from)
+            (sym (here_set news k new within) ∙ ap (present_at (slice_set news k new)) (sym at) ∙ here)
+      ];
+      others = λ m above. others_set news m k new (λ at. absurd (omega (arith, above, at)))
+          ∙ so_far.others m (omega (arith, above));
+      places = stay.0;
+      same = stay.1;
+      calm = stay.2;
+    }
+
+-- ---- one place
+
+-- a place stays as it was where nothing was done
+pub stays_same : {D : Type 0} (told : D → Option Told) (count : D → ℕ) (place : Option (LogState D))
+    → StaysAt told count place place
+stays_same {D} told count place = record {
+  place = refl;
+  kept = λ x y from to. ap (λ (l : LogState D). l.content) (same_Some y x (sym to ∙ from));
+  calm = λ x y from to.
+      let is = same_Some y x (sym to ∙ from) in
+      (ap (λ (l : LogState D). told l.disk) is, ap (λ (l : LogState D). count l.disk) is);
 }
+
+-- no room is asked where no member stands, nor where no log does
+pub no_member_there : {D : Type 0} (told : D → Option Told) (count : D → ℕ) (member : Option Running)
+    (old new : Option (LogState D)) → member ≡ None → GotRoomAt told count member old new
+no_member_there told count member old new none = λ r x y there from to. absurd (cc (none, there))
+
+pub no_log_there : {D : Type 0} (told : D → Option Told) (count : D → ℕ) (member : Option Running)
+    (old new : Option (LogState D)) → old ≡ None → GotRoomAt told count member old new
+no_log_there told count member old new none = λ r x y there from to. absurd (cc (none, from))
+
+-- what room is made for leaves what is on the log, whether there was memory or not
+pub reserve_keeps : {D : Type 0} (result : Result (Unit {0}) AllocError) (old new more less : LogState D)
+    → more.content ≡ old.content → less.content ≡ old.content → OnOk result (new ≡ more)
+    → OnErr result (new ≡ less) → IsAsBefore old new
+reserve_keeps {D} (Ok u) old new more less kept lost ok err = ap (λ (l : LogState D). l.content) ok ∙ kept
+reserve_keeps {D} (Err e) old new more less kept lost ok err = ap (λ (l : LogState D). l.content) err ∙ lost
+
+-- what follows where there was memory
+pub on_ok : (A B : Type 0) (result : Result (Unit {0}) AllocError) → (A → B) → OnOk result A → OnOk result B
+on_ok A B (Ok u) so ok = so ok
+on_ok A B (Err e) so ok = tt
+
+-- a log in the place of one
+pub log_stays : {D : Type 0} (told : D → Option Told) (count : D → ℕ) (place : Option (LogState D))
+    (old new : LogState D) → place ≡ Some old → IsAsBefore old new → told new.disk ≡ told old.disk
+    → count new.disk ≡ count old.disk → StaysAt told count place (Some new)
+log_stays {D} told count place old new there same tells calm = record {
+  place = sym (ap is_some there);
+  kept = λ x y from to.
+      ap (λ (l : LogState D). l.content) (sym (same_Some new y to)) ∙ same
+      ∙ ap (λ (l : LogState D). l.content) (same_Some old x (sym there ∙ from));
+  calm = λ x y from to.
+      let is = sym (same_Some new y to) in
+      let was = same_Some old x (sym there ∙ from) in (
+        ap (λ (l : LogState D). told l.disk) is ∙ tells ∙ ap (λ (l : LogState D). told l.disk) was,
+        ap (λ (l : LogState D). count l.disk) is ∙ calm ∙ ap (λ (l : LogState D). count l.disk) was,
+      );
+}
+
+pub log_got_room : {D : Type 0} (told : D → Option Told) (count : D → ℕ) (member : Option Running)
+    (place : Option (LogState D)) (r : Running) (old new : LogState D) → member ≡ Some r → place ≡ Some old
+    → IsRoomy told count r old new → GotRoomAt told count member place (Some new)
+log_got_room {D} told count member place r old new at there roomy = λ q x y member from to.
+    subst (λ s. IsRoomy told count s x y) (same_Some r q (sym at ∙ member))
+    (subst (λ l. IsRoomy told count r l y) (same_Some old x (sym there ∙ from))
+    (subst (λ l. IsRoomy told count r old l) (same_Some new y to) roomy))

@@ -1,8 +1,9 @@
 -- A member of a sound program takes its next deed.
+use Rattle.std.proofs.lemmas.List.{get_or_read}
 use Rattle.std.proofs.Common.{◌≡◌, refl, sym, ap, ◌∙◌, subst, inl, inr, ◌⊎◌, ℕ, ◌<◌, ◌≤◌, false, List, length, get_or, arith}
-use Rattle.std.specs.Prelude.{All, Option, Some, None, slice_get, slice_set}
+use Rattle.std.specs.Prelude.{Option, Some, None}
 use Rattle.std.proofs.lemmas.List.Sums.{sum_by-set}
-use Rattle.std.proofs.lemmas.Option.{same_Some, slice_get-get_or, slice_get_within, get_or_from_slice_get, slice_get_read}
+use Rattle.std.proofs.lemmas.Option.{same_Some}
 use Rattle.dr_words.specs.Layout.{words_of}
 use Rattle.dr_machine.specs.Group.{Group}
 use Rattle.dr_program.specs.Form.{IsRunningMember}
@@ -10,9 +11,7 @@ use Rattle.dr_program.specs.Running.{Running}
 use Rattle.dr_program.specs.declared.outcome.LogWhy.{LogWhy}
 use Rattle.dr_program.specs.declared.outcome.Outcome.{Outcome}
 use Rattle.dr_program.specs.declared.outcome.Outcome.TheVariants.{Ok}
-use Rattle.dr_program.specs.Program.{Move, Program, step_of}
-use Rattle.dr_program.proofs.Holdings.{replica_set}
-use Rattle.dr_program.specs.Schedule.{has_ended}
+use Rattle.dr_program.specs.Program.{Move, Program, step_of, has_ended}
 use Rattle.dr_refine.proofs.Deeds.{step_is}
 use Rattle.dr_program_laws.proofs.Keeping.{move_kept, sees}
 use Rattle.dr_member.specs.Deeds.{table_size}
@@ -20,7 +19,9 @@ use Rattle.dr_turn.specs.Work.{deeds_left}
 use Rattle.dr_sim.specs.Deeds.{SeesWell, member_after, outcome_by, stores, table_after, went_so}
 use Rattle.dr_sim.specs.Simulated.{SomeFailed}
 use Rattle.dr_age.specs.Sound.{IsSound}
-use Rattle.dr_sim.specs.Sound.{IsAmong, TookDeed, move}
+use Rattle.dr_sim.specs.Sound.{IsAmong, TookDeed, move, left_at}
+use Rattle.dr_program.specs.Presence.{present_at, with_present}
+use Rattle.dr_program.proofs.Present.{present_within, present_set}
 
 -- a sound program stays one over each move
 pub move_sound : (g : Group) (p : Program) (e : Move) → IsSound g p → IsSound g (step_of p e)
@@ -36,9 +37,9 @@ pub record HasStepped (g : Group) (p : Program) (m : ℕ) (q : Program) : Type 0
 
 -- a member takes its step, and the others stay
 pub stepped : (g : Group) (p : Program) (m : ℕ) (r x : Running) (cells : List ℕ) → IsSound g p
-    → slice_get p.members m ≡ Some r → r.replica.end ≡ None
+    → present_at p.members m ≡ Some r → r.replica.end ≡ None
     → x ≡ member_after p.table (outcome_by x.failed) r → cells ≡ table_after p.table r
-    → HasStepped g p m (record { members = slice_set p.members m x; table = cells })
+    → HasStepped g p m (record { members = with_present p.members m x; table = cells })
 stepped g p m r x cells is there none member table = record {
   outcome = outcome_by x.failed;
   step = step;
@@ -46,28 +47,28 @@ stepped g p m r x cells is there none member table = record {
   sound = subst (IsSound g) (sym step) (move_sound g p (move m (outcome_by x.failed)) is);
 }
   where
-    step : record { members = slice_set p.members m x; table = cells }
+    step : record { members = with_present p.members m x; table = cells }
         ≡ step_of p (move m (outcome_by x.failed))
     step =
         (λ z. record {
-          members = slice_set p.members m ((member
+          members = with_present p.members m ((member
               ∙ ap (went_so p.table (outcome_by x.failed) r) none) z);
           table = (table ∙ ap (stores p.table r) none) z;
         })
         ∙ sym (step_is p (move m (outcome_by x.failed)) r there none)
 
     well : (o : Option LogWhy) → x.failed ≡ o → (outcome_by o ≡ Ok)
-        ⊎ SomeFailed (record { members = slice_set p.members m x; table = cells })
+        ⊎ SomeFailed (record { members = with_present p.members m x; table = cells })
     well None at = inl refl
     well (Some why) at =
-        inr (m, x, why, replica_set p.members m x (slice_get_within p.members m r there), at)
+        inr (m, x, why, present_set p.members m x (present_within p.members m r there), at)
 
 -- and where its deeds left fall, those of all do
 pub took : (g : Group) (p : Program) (m : ℕ) (r x : Running) (cells : List ℕ) → IsSound g p
-    → slice_get p.members m ≡ Some r → r.replica.end ≡ None
+    → present_at p.members m ≡ Some r → r.replica.end ≡ None
     → x ≡ member_after p.table (outcome_by x.failed) r → cells ≡ table_after p.table r
     → deeds_left x < deeds_left r
-    → TookDeed g p m (record { members = slice_set p.members m x; table = cells })
+    → TookDeed g p m (record { members = with_present p.members m x; table = cells })
 took g p m r x cells is there none member table falls =
     let now = stepped g p m r x cells is there none member table in
     record {
@@ -77,84 +78,95 @@ took g p m r x cells is there none member table falls =
       sound = now.sound;
       falls = omega (
         arith,
-        sum_by-set deeds_left p.members m x r (slice_get_within p.members m r there),
-        ap deeds_left (get_or_from_slice_get p.members m r r there),
+        sum_by-set left_at p.members m (Some x) None (present_within p.members m r there),
+        ap left_at there,
         falls,
       );
     }
 
 -- in a sound program every member sees well
-pub sees_well : (g : Group) (p : Program) (m : ℕ) (r : Running) → IsSound g p → slice_get p.members m
+pub sees_well : (g : Group) (p : Program) (m : ℕ) (r : Running) → IsSound g p → present_at p.members m
     ≡ Some r → SeesWell p.table r
 sees_well g p m r is there = λ i c due. sees g p m r i c is.group is.form is.reached there due
 
 -- a member that has not ended is one of the program
-pub going_within : (rs : List Running) (m : ℕ) → has_ended (slice_get rs m) ≡ false → m < length rs
-going_within rs m going = by (slice_get rs m) refl going
+pub going_within : (rs : List (Option Running)) (m : ℕ) → has_ended (present_at rs m) ≡ false → m < length rs
+going_within rs m going = by (present_at rs m) refl going
   where
-    by : (o : Option Running) → slice_get rs m ≡ o → has_ended o ≡ false → m < length rs
+    by : (o : Option Running) → present_at rs m ≡ o → has_ended o ≡ false → m < length rs
     by None e not = absurd (cc)
-    by (Some r) e not = slice_get_within rs m r e
+    by (Some r) e not = present_within rs m r e
 
 -- the table has all words that the member may name
 pub whole_table : (g : Group) (p : Program) (m : ℕ) (r : Running) → IsSound g p
-    → slice_get p.members m ≡ Some r → table_size r ≡ length p.table
+    → present_at p.members m ≡ Some r → table_size r ≡ length p.table
 whole_table g p m r is there =
     let of = is.form.of m r there in
     (λ z. words_of (of.members z) (of.window z) (of.banks z)) ∙ sym is.form.table
 
 -- so there is one at its number
-pub going_there : (rs : List Running) (cells : List ℕ) (now : Program) (m : ℕ)
+pub going_there : (rs : List (Option Running)) (cells : List ℕ) (now : Program) (m : ℕ)
     → record { members = rs; table = cells } ≡ now
-    → has_ended (slice_get now.members m) ≡ false → m < length rs
+    → has_ended (present_at now.members m) ≡ false → m < length rs
 going_there rs cells now m is going =
-    subst (λ (v : Program). has_ended (slice_get v.members m) ≡ false → m < length rs) is
+    subst (λ (v : Program). has_ended (present_at v.members m) ≡ false → m < length rs) is
     (going_within rs m) going
 
--- the member that is read at its number
-pub member_read : (rs : List Running) (cells : List ℕ) (now : Program) (m : ℕ) (r : Running)
-    → record { members = rs; table = cells } ≡ now
-    → has_ended (slice_get now.members m) ≡ false → r ≡ get_or rs m r → slice_get now.members m
-    ≡ Some r
-member_read rs cells now m r is going read =
-    subst (λ (v : Program). has_ended (slice_get v.members m) ≡ false → slice_get v.members m
-    ≡ Some r) is
-    (λ goes. slice_get_read rs (length rs) m r refl (going_within rs m goes) read) going
+-- the place that is read at its number, and the member that stands there
+pub place_read : (rs : List (Option Running)) (cells : List ℕ) (now : Program) (m : ℕ) (o : Option Running)
+    → record { members = rs; table = cells } ≡ now → m < length now.members → o ≡ get_or rs m o
+    → present_at now.members m ≡ o
+place_read rs cells now m o is within read =
+    subst (λ (v : Program). m < length v.members → present_at v.members m ≡ o) is
+    (λ below. sym (get_or_read rs m o below read None)) within
 
-pub member_there : (rs : List Running) (cells : List ℕ) (now : Program) (m : ℕ) (r : Running)
-    → record { members = rs; table = cells } ≡ now → m < length now.members → r ≡ get_or rs m r
-    → slice_get now.members m ≡ Some r
-member_there rs cells now m r is within read =
-    subst (λ (v : Program). m < length v.members → slice_get v.members m ≡ Some r) is
-    (λ below. slice_get_read rs (length rs) m r refl below read) within
+pub member_read : (rs : List (Option Running)) (cells : List ℕ) (now : Program) (m : ℕ) (o : Option Running)
+    (r : Running) → record { members = rs; table = cells } ≡ now
+    → has_ended (present_at now.members m) ≡ false → o ≡ get_or rs m o → o ≡ Some r
+    → present_at now.members m ≡ Some r
+member_read rs cells now m o r is going read some =
+    subst (λ (v : Program). has_ended (present_at v.members m) ≡ false → present_at v.members m
+    ≡ Some r) is
+    (λ goes. sym (get_or_read rs m o (going_within rs m goes) read None) ∙ some) going
+
+-- a member that has not ended stands at its place
+pub goes_there : (rs : List (Option Running)) (cells : List ℕ) (now : Program) (m : ℕ) (o : Option Running)
+    → record { members = rs; table = cells } ≡ now → has_ended (present_at now.members m) ≡ false
+    → o ≡ get_or rs m o → o ≡ None → ⊥
+goes_there rs cells now m o is going read none =
+    absurd (cc (
+      going,
+      ap has_ended (place_read rs cells now m o is
+          (subst (λ (v : Program). m < length v.members) is (going_there rs cells now m is going)) read ∙ none),
+    ))
 
 -- so it is one of the program
-pub among_read : (g : Group) (rs : List Running) (cells words : List ℕ) (now : Program) (m : ℕ)
-    (r : Running) → record { members = rs; table = cells } ≡ now → IsSound g now
-    → has_ended (slice_get now.members m) ≡ false → r ≡ get_or rs m r → words ≡ cells
+pub among_read : (g : Group) (rs : List (Option Running)) (cells words : List ℕ) (now : Program) (m : ℕ)
+    (o : Option Running) (r : Running) → record { members = rs; table = cells } ≡ now → IsSound g now
+    → has_ended (present_at now.members m) ≡ false → o ≡ get_or rs m o → o ≡ Some r → words ≡ cells
     → IsAmong g now m r words
-among_read g rs cells words now m r is sound going read same = record {
+among_read g rs cells words now m o r is sound going read some same = record {
   sound = sound;
-  there = member_read rs cells now m r is going read;
+  there = member_read rs cells now m o r is going read some;
   table = sym (same ∙ ap (λ (v : Program). v.table) is);
 }
 
 -- what is so of the member that was put at a number is so of the one that stands there
-pub at_set : (P : Running → Type 0) (rs : List Running) (m : ℕ) (x r : Running) → m < length rs → P x
-    → slice_get (slice_set rs m x) m ≡ Some r → P r
-at_set P rs m x r within is there = subst P (same_Some x r (sym (replica_set rs m x within) ∙ there)) is
+pub at_set : (P : Running → Type 0) (rs : List (Option Running)) (m : ℕ) (x r : Running) → m < length rs → P x
+    → present_at (with_present rs m x) m ≡ Some r → P r
+at_set P rs m x r within is there = subst P (same_Some x r (sym (present_set rs m x within) ∙ there)) is
 
 -- all members of a sound program are in form
-pub all_in_form : (g : Group) (p : Program) (rs : List Running) → IsSound g p → rs ≡ p.members
-    → All IsRunningMember rs
-all_in_form g p rs is same = λ k d l. is.form.form k (get_or rs k d)
-    (ap (λ xs. slice_get xs k) (sym same) ∙ slice_get-get_or rs k d l)
+pub all_in_form : (g : Group) (p : Program) (rs : List (Option Running)) → IsSound g p → rs ≡ p.members
+    → (m : ℕ) (r : Running) → present_at rs m ≡ Some r → IsRunningMember r
+all_in_form g p rs is same m r there = is.form.form m r (ap (λ xs. present_at xs m) (sym same) ∙ there)
 
 -- and the table has all words that they may name
-pub all_within : (g : Group) (p : Program) (rs : List Running) (cells : List ℕ) → IsSound g p → rs ≡ p.members
-    → cells ≡ p.table → All (λ (r : Running). table_size r ≤ length cells) rs
-all_within g p rs cells is same words = λ k d l. omega (
+pub all_within : (g : Group) (p : Program) (rs : List (Option Running)) (cells : List ℕ) → IsSound g p
+    → rs ≡ p.members → cells ≡ p.table
+    → (m : ℕ) (r : Running) → present_at rs m ≡ Some r → table_size r ≤ length cells
+all_within g p rs cells is same words m r there = omega (
   arith,
-  whole_table g p k (get_or rs k d) is (ap (λ xs. slice_get xs k) (sym same) ∙ slice_get-get_or rs k d l),
+  whole_table g p m r is (ap (λ xs. present_at xs m) (sym same) ∙ there),
   ap length words,
 )

@@ -1,8 +1,7 @@
 -- Sweeps: what comes of a program, and of a log, by looks and pushes of one member.
 use Rattle.std.proofs.Common.{◌≡◌, refl, sym, ap, ◌∙◌, subst, inl, inr, ℕ, zero, suc, ◌<◌, ◌≤◌, true, false, ◌||◌, List, length, length-append, le_of_eq, arith}
-use Rattle.std.specs.Prelude.{Option, None, Some, is_some, slice_get, slice_set}
+use Rattle.std.specs.Prelude.{Option, None, Some, is_some}
 use Rattle.std.proofs.lemmas.List.Sums.{sum_by-set}
-use Rattle.std.proofs.lemmas.Option.{slice_get_within}
 use Rattle.dr_disk.specs.Disk.{Told}
 use Rattle.dr_entry.specs.declared.end.End.{End}
 use Rattle.dr_log.specs.State.{LogState}
@@ -25,18 +24,19 @@ use Rattle.dr_program.specs.Sight.{MaySee}
 use Rattle.dr_program.specs.Schedule.{IsTurn, is_between_turns}
 use Rattle.dr_program.specs.Steps.{stored}
 use Rattle.dr_program.specs.Turn.{is_beat, part_of}
-use Rattle.dr_program.proofs.Holdings.{replica_set}
 use Rattle.dr_turn.specs.Work.{deeds_left}
 use Rattle.dr_age.specs.Sound.{IsSound}
 use Rattle.dr_age.proofs.Deeds.{at_look, at_push}
 use Rattle.dr_sim.specs.Deeds.{member_after, outcome_by, table_after}
 use Rattle.dr_sim.specs.Simulated.{WentWell}
-use Rattle.dr_sim.specs.Sound.{IsAmong, IsSomewhere, all_left, with_member}
+use Rattle.dr_sim.specs.Sound.{IsAmong, IsSomewhere, all_left, with_member, left_at}
 use Rattle.dr_sim.specs.Sweeps.{HasGoneOn}
 use Rattle.dr_sim.specs.Watched.{TakesNoNote, WasTold}
 use Rattle.dr_sim.proofs.Deeds.{IsTaken, other_taken}
 use Rattle.dr_sim.proofs.Steps.{HasStepped, sees_well, stepped, whole_table}
 use Rattle.dr_sim.proofs.Turns.{HasTurn, IsInTurn, IsUnderWay, more_moves, set_twice, stands, turn_ends, turn_goes_on}
+use Rattle.dr_program.specs.Presence.{present_at, with_present}
+use Rattle.dr_program.proofs.Present.{present_within, present_set}
 
 -- ---- a member at a look or a push
 
@@ -87,11 +87,11 @@ somewhere_on r x words cells (g, p, m, is) none taken =
     (subst (λ t. x ≡ member_after t (outcome_by x.failed) r) (sym is.table) taken.member)
     (subst (λ t. cells ≡ table_after t r) (sym is.table) taken.table) in (
       g,
-      record { members = slice_set p.members m x; table = cells },
+      record { members = with_present p.members m x; table = cells },
       m,
       record {
         sound = now.sound;
-        there = replica_set p.members m x (slice_get_within p.members m r is.there);
+        there = present_set p.members m x (present_within p.members m r is.there);
         table = refl;
       },
     )
@@ -145,8 +145,8 @@ steps_there : (g : Group) (p : Program) (m : ℕ) (x y : Running) (cells next : 
     → HasStepped g (with_member p m x cells) m (with_member p m y next)
 steps_there g p m x y cells next within sound none taken =
     subst (λ rs. HasStepped g (with_member p m x cells) m (record { members = rs; table = next }))
-    (set_twice p.members m x y)
-    (stepped g (with_member p m x cells) m x y next sound (replica_set p.members m x within) none
+    (set_twice p.members m (Some x) (Some y))
+    (stepped g (with_member p m x cells) m x y next sound (present_set p.members m x within) none
     taken.member taken.table)
 
 gone_by : {W : Type 0} {sees : W → Running → List ℕ → W → Type 0} {old mid : W} (new : W) (g : Group)
@@ -155,7 +155,7 @@ gone_by : {W : Type 0} {sees : W → Running → List ℕ → W → Type 0} {old
     → sees mid x cells new → HasGone sees old new g p m y next
 gone_by new g p m x y cells next within way none taken seen =
     let step = steps_there g p m x y cells next within way.sound none taken in
-    let there = replica_set p.members m x within in
+    let there = present_set p.members m x within in
     record {
       amid = λ amid. record {
         sound = step.sound;
@@ -201,12 +201,12 @@ module _ {W : Type 0} (sees : W → Running → List ℕ → W → Type 0) (old 
       ((gone_swept words r way due).amid (at_sweep x then).amid) (at_sweep x then).amid (then, rest)
 
 -- fewer deeds are left to all, where a member has fewer left
-left_falls : (p : Program) (m : ℕ) (r x y : Running) (cells next : List ℕ) → slice_get p.members m ≡ Some r
+left_falls : (p : Program) (m : ℕ) (r x y : Running) (cells next : List ℕ) → present_at p.members m ≡ Some r
     → deeds_left y < deeds_left x → all_left (with_member p m y next) < all_left (with_member p m x cells)
 left_falls p m r x y cells next there falls = omega (
   arith,
-  sum_by-set deeds_left p.members m x r (slice_get_within p.members m r there),
-  sum_by-set deeds_left p.members m y r (slice_get_within p.members m r there),
+  sum_by-set left_at p.members m (Some x) None (present_within p.members m r there),
+  sum_by-set left_at p.members m (Some y) None (present_within p.members m r there),
   falls,
 )
 
@@ -238,7 +238,7 @@ way_on {W} {sees} {old} {mid} new g p m r x y table cells next is way none goes 
     less = left_falls p m r x y cells next is.there falls
 
     within : m < length p.members
-    within = slice_get_within p.members m r is.there
+    within = present_within p.members m r is.there
 
     here : IsOnWay sees old mid g p m (with_member p m x cells)
     here = record { sound = way.sound; turn = way.turn }

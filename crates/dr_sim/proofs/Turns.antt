@@ -1,18 +1,16 @@
 -- Runs in lockstep: turns, rounds, and what goes on.
 use Rattle.std.proofs.Common.{◌≡◌, refl, sym, ap, ◌∙◌, subst, inl, inr, ◌⊎◌, ℕ, zero, suc, ◌+◌, ◌<◌, ◌≤◌, Bool, true, false, ◌||◌, List, [], ◌∷◌, ◌++◌, length, take, append-nil, le_refl, arith}
-use Rattle.std.specs.Prelude.{All, Option, None, Some, IsTrue, is_some, slice_get, slice_index_or, slice_set}
+use Rattle.std.specs.Prelude.{All, Option, None, Some, is_some, slice_index_or, slice_set}
 use Rattle.std.specs.List.{range_with_len}
-use Rattle.std.proofs.lemmas.List.{append_assoc, get_or_default, length_push, set-get_or, take-append-le, take_all}
+use Rattle.std.proofs.lemmas.List.{append_assoc, length_push, set-get_or, take-append-le, take_all}
 use Rattle.std.proofs.lemmas.List.Elements.{All-append, All-nil}
-use Rattle.std.proofs.lemmas.Option.{get_or_from_slice_get, slice_get_read, slice_get_within}
 use Rattle.dr_entry.specs.declared.end.End.{End}
 use Rattle.dr_machine.specs.Group.{Group}
 use Rattle.dr_program.specs.declared.outcome.Outcome.TheVariants as outcomes
-use Rattle.dr_program.specs.Schedule.{has_ended, is_between_turns, IsTurn, Rounds, TakeTurns, TakesTurn}
-use Rattle.dr_program.specs.Program.{AllEnded, Move, Program, ran, step_of}
+use Rattle.dr_program.specs.Schedule.{is_between_turns, IsTurn, Rounds, TakeTurns, TakesTurn}
+use Rattle.dr_program.specs.Program.{AllEnded, Move, Program, ran, step_of, has_ended}
 use Rattle.dr_program.specs.Running.{Running}
 use Rattle.dr_program.specs.Turn.{is_beat, part_of}
-use Rattle.dr_program.proofs.Holdings.{replica_set}
 use Rattle.dr_program.proofs.Runs.{ran_on}
 use Rattle.dr_program_laws.proofs.Schedules.{turns_taken}
 use Rattle.dr_program.specs.declared.outcome.Outcome.{Outcome}
@@ -25,6 +23,8 @@ use Rattle.dr_sim.proofs.Ranges.{count_more}
 use Rattle.dr_sim.specs.Watched.{WasTold}
 use Rattle.dr_sim.proofs.Steps.{took}
 use Rattle.dr_sim.proofs.Tellings.{told_both, told_more}
+use Rattle.dr_program.specs.Presence.{present_at, with_present}
+use Rattle.dr_program.proofs.Present.{present_within, present_set, all_ended}
 
 -- ---- a turn
 
@@ -49,7 +49,7 @@ pub record IsInTurn {W : Type 0} (sees : W → Running → List ℕ → W → Ty
   pub well : WentWell moves p
   pub taken : p ≡ ran begun moves
   pub amid : (k : ℕ) → 0 < k → k ≤ length moves
-      → is_between_turns (slice_get (ran begun (take k moves)).members m) ≡ false
+      → is_between_turns (present_at (ran begun (take k moves)).members m) ≡ false
   pub told : WasTold sees begun moves old new
 
 -- a turn begins with no move
@@ -103,14 +103,14 @@ more_length m o begun p is = length_push is.moves (move m o)
 more_amid : {W : Type 0} {sees : W → Running → List ℕ → W → Type 0} {old new : W} (m : ℕ)
     (o : Outcome) (begun p : Program) (is : IsInTurn sees old new m begun p) (k : ℕ) → 0 < k
     → k ≤ length is.moves
-    → is_between_turns (slice_get (ran begun (take k (more_moves m o begun p is))).members m) ≡ false
+    → is_between_turns (present_at (ran begun (take k (more_moves m o begun p is))).members m) ≡ false
 more_amid m o begun p is k some few =
-    subst (λ es. is_between_turns (slice_get (ran begun es).members m) ≡ false)
+    subst (λ es. is_between_turns (present_at (ran begun es).members m) ≡ false)
     (sym (take-append-le k is.moves (move m o ∷ []) few)) (is.amid k some few)
 
 more_told : {W : Type 0} {sees : W → Running → List ℕ → W → Type 0} {old mid : W} (new : W) (m : ℕ)
     (o : Outcome) (begun p : Program) (is : IsInTurn sees old mid m begun p) (r : Running)
-    → slice_get p.members m ≡ Some r → sees mid r p.table new
+    → present_at p.members m ≡ Some r → sees mid r p.table new
     → WasTold sees begun (more_moves m o begun p is) old new
 more_told {W} {sees} {old} {mid} new m o begun p is r there seen =
     told_more sees begun is.moves p m o r old mid new is.taken is.told there seen
@@ -119,7 +119,7 @@ more_told {W} {sees} {old} {mid} new m o begun p is r there seen =
 pub turn_ends : {W : Type 0} {sees : W → Running → List ℕ → W → Type 0} {old mid : W} (new : W) (m : ℕ)
     (o : Outcome) (begun p q : Program) (r : Running) (is : IsInTurn sees old mid m begun p)
     → q ≡ step_of p (move m o) → (o ≡ outcomes.Ok) ⊎ SomeFailed q
-    → is_between_turns (slice_get q.members m) ≡ true → slice_get p.members m ≡ Some r
+    → is_between_turns (present_at q.members m) ≡ true → present_at p.members m ≡ Some r
     → sees mid r p.table new
     → IsTurn m begun (more_moves m o begun p is) q × WentWell (more_moves m o begun p is) q
     × WasTold sees begun (more_moves m o begun p is) old new
@@ -139,7 +139,7 @@ turn_ends new m o begun p q r is step well whole there seen = (
 pub turn_goes_on : {W : Type 0} {sees : W → Running → List ℕ → W → Type 0} {old mid : W} (new : W) (m : ℕ)
     (o : Outcome) (begun p q : Program) (r : Running) → IsInTurn sees old mid m begun p
     → q ≡ step_of p (move m o) → (o ≡ outcomes.Ok) ⊎ SomeFailed q
-    → is_between_turns (slice_get q.members m) ≡ false → slice_get p.members m ≡ Some r
+    → is_between_turns (present_at q.members m) ≡ false → present_at p.members m ≡ Some r
     → sees mid r p.table new → IsInTurn sees old new m begun q
 turn_goes_on new m o begun p q r is step well amid there seen = record {
   moves = more_moves m o begun p is;
@@ -154,10 +154,10 @@ turn_goes_on new m o begun p q r is step well amid there seen = record {
     last_or_before k n h = grind arith
 
     each : (k : ℕ) → 0 < k → k ≤ length (more_moves m o begun p is)
-        → is_between_turns (slice_get (ran begun (take k (more_moves m o begun p is))).members m) ≡ false
+        → is_between_turns (present_at (ran begun (take k (more_moves m o begun p is))).members m) ≡ false
     each k some few = elim (last_or_before k (length is.moves)
         (omega (arith, few, more_length m o begun p is))) [
-          | inl last ↦ subst (λ (x : Program). is_between_turns (slice_get x.members m) ≡ false)
+          | inl last ↦ subst (λ (x : Program). is_between_turns (present_at x.members m) ≡ false)
               (more_taken m o begun p q is step
               ∙ ap (ran begun) (sym
               (take_all k (more_moves m o begun p is) (omega (arith, last, more_length m o begun p is))))) amid
@@ -172,10 +172,9 @@ set_twice [] i a b = refl
 set_twice (x ∷ xs) zero a b = refl
 set_twice (x ∷ xs) (suc i) a b = ap (λ ys. x ∷ ys) (set_twice xs i a b)
 
-set_itself : {A : Type 0} (xs : List A) (i : ℕ) (a : A) → slice_get xs i ≡ Some a → slice_set xs i a
-    ≡ xs
-set_itself xs i a there = ap (λ x. slice_set xs i x) (sym (get_or_from_slice_get xs i a a there))
-    ∙ set-get_or xs i a
+set_itself : {A : Type 0} (xs : List (Option A)) (m : ℕ) (x : A) → present_at xs m ≡ Some x
+    → with_present xs m x ≡ xs
+set_itself xs m x there = ap (λ o. slice_set xs m o) (sym there) ∙ set-get_or xs m None
 
 -- the program in which the member has gone so far
 pub record IsUnderWay {W : Type 0} (sees : W → Running → List ℕ → W → Type 0) (old new : W) (g : Group)
@@ -204,15 +203,15 @@ pub way_among : {W : Type 0} {sees : W → Running → List ℕ → W → Type 0
 way_among g p m r x table cells is way =
     record {
       sound = way.sound;
-      there = replica_set p.members m x (slice_get_within p.members m r is.there);
+      there = present_set p.members m x (present_within p.members m r is.there);
       table = refl;
     }
 
 -- where it stands then is where it stands in the program
 pub stands : (p : Program) (m : ℕ) (y : Running) (next : List ℕ) (b : Bool) → m < length p.members
-    → is_between_turns (Some y) ≡ b → is_between_turns (slice_get (with_member p m y next).members m)
+    → is_between_turns (Some y) ≡ b → is_between_turns (present_at (with_member p m y next).members m)
     ≡ b
-stands p m y next b within at = ap is_between_turns (replica_set p.members m y within) ∙ at
+stands p m y next b within at = ap is_between_turns (present_set p.members m y within) ∙ at
 
 -- member m took one whole turn, and the watcher was told of it
 abbrev pub HasTurn : {W : Type 0} → (W → Running → List ℕ → W → Type 0) → W → W → Group → Program → ℕ
@@ -289,7 +288,7 @@ pub record IsInRound {W : Type 0} (sees : W → Running → List ℕ → W → T
     (begun p : Program) : Type 0 where
   pub turns : HasTurns sees old new (range_with_len 0 m) begun p
   pub sound : IsSound g p
-  pub falls : ((p ≡ begun) × ((k : ℕ) → k < m → has_ended (slice_get begun.members k) ≡ true))
+  pub falls : ((p ≡ begun) × ((k : ℕ) → k < m → has_ended (present_at begun.members k) ≡ true))
       ⊎ (all_left p < all_left begun)
 
 -- a round begins with a sound program
@@ -304,7 +303,7 @@ round_begins sees w g p sound = record {
 -- a round passes a member that has ended
 pub round_passes : {W : Type 0} {sees : W → Running → List ℕ → W → Type 0} {old new : W} (g : Group) (m : ℕ)
     (begun p : Program) → IsInRound sees old new g m begun p
-    → has_ended (slice_get p.members m) ≡ true → IsInRound sees old new g (m + 1) begun p
+    → has_ended (present_at p.members m) ≡ true → IsInRound sees old new g (m + 1) begun p
 round_passes {W} {sees} {old} {new} g m begun p is ended = record {
   turns = turns_by sees old new new m begun p p [] is.turns (inl (ended, refl, refl)) (none_well p) refl;
   sound = is.sound;
@@ -314,16 +313,16 @@ round_passes {W} {sees} {old} {new} g m begun p is ended = record {
     last_or_before : (k n : ℕ) → k < n + 1 → (k ≡ n) ⊎ (k < n)
     last_or_before k n h = grind arith
 
-    by : ((p ≡ begun) × ((k : ℕ) → k < m → has_ended (slice_get begun.members k) ≡ true))
+    by : ((p ≡ begun) × ((k : ℕ) → k < m → has_ended (present_at begun.members k) ≡ true))
         ⊎ (all_left p < all_left begun)
-        → ((p ≡ begun) × ((k : ℕ) → k < m + 1 → has_ended (slice_get begun.members k) ≡ true))
+        → ((p ≡ begun) × ((k : ℕ) → k < m + 1 → has_ended (present_at begun.members k) ≡ true))
         ⊎ (all_left p < all_left begun)
     by (inr less) = inr less
     by (inl (same, each)) = inl (
       same,
       λ k few. elim (last_or_before k m few) [
-        | inl last ↦ subst (λ n. has_ended (slice_get begun.members n) ≡ true) (sym last)
-            (subst (λ (x : Program). has_ended (slice_get x.members m) ≡ true) same ended)
+        | inl last ↦ subst (λ n. has_ended (present_at begun.members n) ≡ true) (sym last)
+            (subst (λ (x : Program). has_ended (present_at x.members m) ≡ true) same ended)
         | inr before ↦ each k before
       ],
     )
@@ -331,7 +330,7 @@ round_passes {W} {sees} {old} {new} g m begun p is ended = record {
 -- a round goes on with the turn of a member that has not ended
 pub round_goes_on : {W : Type 0} {sees : W → Running → List ℕ → W → Type 0} {old mid : W} (new : W)
     (g : Group) (m : ℕ) (begun p q : Program) → IsInRound sees old mid g m begun p
-    → has_ended (slice_get p.members m) ≡ false
+    → has_ended (present_at p.members m) ≡ false
     → HasTurn sees mid new g p m q
     → IsInRound sees old new g (m + 1) begun q
 round_goes_on {W} {sees} {old} {mid} new g m begun p q is going (took, told) = record {
@@ -340,25 +339,16 @@ round_goes_on {W} {sees} {old} {mid} new g m begun p q is going (took, told) = r
   falls = inr (by is.falls);
 }
   where
-    by : ((p ≡ begun) × ((k : ℕ) → k < m → has_ended (slice_get begun.members k) ≡ true))
+    by : ((p ≡ begun) × ((k : ℕ) → k < m → has_ended (present_at begun.members k) ≡ true))
         ⊎ (all_left p < all_left begun) → all_left q < all_left begun
     by (inr fewer) = omega (arith, took.falls, fewer)
     by (inl (same, each)) = omega (arith, took.falls, ap all_left same)
 
 -- where each member has ended, all have
 pub each_ended : (p : Program)
-    → ((k : ℕ) → k < length p.members → has_ended (slice_get p.members k) ≡ true) → AllEnded p
-each_ended p each = λ k d within. ended k (slice_index_or p.members k d)
-    (slice_get_read p.members (length p.members) k (slice_index_or p.members k d) refl within
-    (read k d within)) within
-  where
-    read : (k : ℕ) (d : Running) → k < length p.members → slice_index_or p.members k d
-        ≡ slice_index_or p.members k (slice_index_or p.members k d)
-    read k d within = get_or_default p.members k d (slice_index_or p.members k d) within
-
-    ended : (k : ℕ) (r : Running) → slice_get p.members k ≡ Some r → k < length p.members
-        → IsTrue (is_some r.replica.end)
-    ended k r at within = sym (ap has_ended at) ∙ each k within
+    → ((k : ℕ) → k < length p.members → has_ended (present_at p.members k) ≡ true) → AllEnded p
+each_ended p each = all_ended p (λ m r there.
+    sym (ap has_ended there) ∙ each m (present_within p.members m r there))
 
 -- a round in which not all had ended leaves less to do
 pub round_ends : {W : Type 0} {sees : W → Running → List ℕ → W → Type 0} {old new : W} (g : Group) (m : ℕ)
@@ -366,7 +356,7 @@ pub round_ends : {W : Type 0} {sees : W → Running → List ℕ → W → Type 
     → all_left p < all_left begun
 round_ends g m begun p is all someone = by is.falls
   where
-    by : ((p ≡ begun) × ((k : ℕ) → k < m → has_ended (slice_get begun.members k) ≡ true))
+    by : ((p ≡ begun) × ((k : ℕ) → k < m → has_ended (present_at begun.members k) ≡ true))
         ⊎ (all_left p < all_left begun) → all_left p < all_left begun
     by (inr less) = less
     by (inl (same, each)) = absurd (someone (each_ended begun (λ k within. each k (omega arith))))

@@ -4,4 +4,5 @@ pub mod Sweeps
 pub mod Inside
 pub mod Simulated
 pub mod Watched
+pub mod Rooms
 pub mod Repeated

@@ -1,5 +1,5 @@
 -- What a simulated age is.
-use Rattle.std.specs.Prelude.{◌≡◌, ◌⊎◌, ℕ, List, slice_get, Some}
+use Rattle.std.specs.Prelude.{◌≡◌, ◌⊎◌, ℕ, List, Some}
 use Rattle.dr_entry.specs.declared.end.AgeEnd.{AgeEnd}
 use Rattle.dr_script.specs.declared.script.Script.{Script}
 use Rattle.dr_script.specs.declared.script.Schedule.{Schedule}
@@ -11,6 +11,7 @@ use Rattle.dr_program.specs.Schedule.{IsLockstep, IsSeeded}
 use Rattle.dr_restart.specs.declared.start.Start.{Start}
 use Rattle.dr_restart.specs.Groups.{group_of}
 use Rattle.dr_restart.specs.Setups.{IsBegun}
+use Rattle.dr_program.specs.Presence.{present_at}
 
 -- the program has run by the schedule until all its members had ended, by these moves
 abbrev pub IsRunBy : Schedule → Program → List Move → Program → Type 0
@@ -19,7 +20,7 @@ IsRunBy (Seed seed) begun es p = IsSeeded seed begun es p
 
 -- some member's append has failed
 abbrev pub SomeFailed : Program → Type 0
-SomeFailed p = (m : ℕ) × (r : Running) × (why : LogWhy) × (slice_get p.members m ≡ Some r)
+SomeFailed p = (m : ℕ) × (r : Running) × (why : LogWhy) × (present_at p.members m ≡ Some r)
     × (r.failed ≡ Some why)
 
 -- all appends of these moves to p went well, unless some member's has failed

@@ -1,5 +1,5 @@
 -- What a member of a sound program does, and how much is left to all.
-use Rattle.std.specs.Prelude.{◌≡◌, ◌≢◌, ◌⊎◌, ℕ, ◌<◌, List, slice_get, slice_set, Some, sum_by}
+use Rattle.std.specs.Prelude.{◌≡◌, ◌≢◌, ◌⊎◌, ℕ, ◌<◌, List, Some, sum_by, Option, None}
 use Rattle.dr_machine.specs.Group.{Group}
 use Rattle.dr_program.specs.Running.{Running}
 use Rattle.dr_program.specs.declared.outcome.Outcome.{Outcome}
@@ -9,11 +9,12 @@ use Rattle.dr_program.specs.Schedule.{IsTurn, TakeTurns}
 use Rattle.dr_age.specs.Sound.{IsSound}
 use Rattle.dr_sim.specs.Simulated.{SomeFailed, WentWell}
 use Rattle.dr_turn.specs.Work.{deeds_left}
+use Rattle.dr_program.specs.Presence.{present_at, with_present}
 
 -- a member of a sound program, over the words of its table
 pub record IsAmong (g : Group) (p : Program) (m : ℕ) (r : Running) (cells : List ℕ) : Type 0 where
   pub sound : IsSound g p
-  pub there : slice_get p.members m ≡ Some r
+  pub there : present_at p.members m ≡ Some r
   pub table : p.table ≡ cells
 
 -- a member of some sound program
@@ -22,15 +23,19 @@ IsSomewhere r table = (g : Group) × (p : Program) × (m : ℕ) × IsAmong g p m
 
 -- the program in which this is member m, and this the table
 abbrev pub with_member : Program → ℕ → Running → List ℕ → Program
-with_member p m r table = record { members = slice_set p.members m r; table = table }
+with_member p m r table = record { members = with_present p.members m r; table = table }
 
--- more deeds than the members of the program still do
+-- more deeds than whoever stands at a place still does, and than the members of the program do
+abbrev pub left_at : Option Running → ℕ
+left_at None = 0
+left_at (Some r) = deeds_left r
+
 abbrev pub all_left : Program → ℕ
-all_left p = sum_by deeds_left p.members
+all_left p = sum_by left_at p.members
 
 -- the members but m are the same in both programs
 abbrev pub AreOthers : Program → ℕ → Program → Type 0
-AreOthers p m q = (i : ℕ) → i ≢ m → slice_get q.members i ≡ slice_get p.members i
+AreOthers p m q = (i : ℕ) → i ≢ m → present_at q.members i ≡ present_at p.members i
 
 -- the next deed of member m, where an append goes so
 abbrev pub move : ℕ → Outcome → Move

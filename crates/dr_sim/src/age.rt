@@ -1,16 +1,16 @@
 //! An age, from its opening to the ends of all members.
-ghost use Rattle.std.specs.Prelude.{◌≡◌, ◌≤◌, IfOk, OnErr, All, List, [], length, vec_capacity};
+ghost use Rattle.std.specs.Prelude.{◌≡◌, ◌≤◌, IfOk, OnErr, List, [], length, vec_capacity, Option};
 ghost use Rattle.dr_program_laws.specs.Ended.{HaveEnded};
 ghost use Rattle.dr_program_laws.specs.Trusting.{NoneLeft, SuspectsNobody};
 ghost use Rattle.dr_history.specs.Agreement.{EndsAgreed};
-ghost use Rattle.dr_machine.specs.Group.{AllPresent, Group, IsGroup};
+ghost use Rattle.dr_machine.specs.Group.{Group, IsGroup};
 ghost use Rattle.dr_program.specs.Program.{Program, age_of};
 ghost use Rattle.dr_restart.specs.Groups.{group_of};
 ghost use Rattle.dr_restart.specs.Setups.{crashes_of};
 ghost use Rattle.dr_script.specs.Ranges.{HasRanges};
 ghost use Rattle.dr_log.specs.State.{LogState};
-ghost use Rattle.dr_logged.specs.Served.{AreReady, HaveServed};
-ghost use Rattle.dr_age.specs.Logged.{AreAsBefore, AreCalm, AreOpened, HaveCome, IsAmple, NoneFull};
+ghost use Rattle.dr_logged.specs.Served.{AreReady, HaveSamePlaces, HaveServed};
+ghost use Rattle.dr_age.specs.Logged.{AreAmple, AreAsBefore, AreCalm, AreOpened, HaveCome, NoneFull};
 ghost use Rattle.dr_sim.specs.Simulated.{HasRun, IsSimulated};
 ghost use Rattle.dr_age.specs.Sound.{IsSound};
 ghost use Rattle.dr_sim.specs.Watched.{IsWatched, WasTold};
@@ -27,7 +27,8 @@ use std::alloc::{AllocError, Global};
 
 /// Runs the group of a script through one age, by the script's schedule, and answers how it ended.
 /// `nth` is the number of the age in the run, from 0: it says which of the faults are those of this
-/// age. Each member appends to the log of its number; one whose append fails ends with that.
+/// age. Each member that is there appends to the log of its number; one whose append fails ends with that. The
+/// place of a log is empty where its member is absent, and such a member takes no part.
 ///
 /// # Errors
 ///
@@ -37,11 +38,10 @@ pub fn sim_age<D: Disk>(
     script: &Script,
     start: &Start,
     nth: u8,
-    logs: &mut [Log<D>],
+    logs: &mut [Option<Log<D>>],
 ) -> Result<AgeEnd, AllocError>
     requires ranges { HasRanges script.now }
     requires group { IsGroup (group_of script.now start.now) }
-    requires present { AllPresent (group_of script.now start.now) }
     requires logs { AreOpened (group_of script.now start.now) logs.old }
     ensures run { IfOk result (λ age. IsSimulated script.now start.now nth age) }
     ensures agreed { IfOk result (λ age.
@@ -53,11 +53,11 @@ pub fn sim_age<D: Disk>(
     // any moment.
     ensures logged { IfOk result (λ age. (is : IsSimulated script.now start.now nth age)
         × HaveCome D.told D.faults logs.old logs.new is.over.members) }
-    ensures ample { IfOk result (λ age. All (IsAmple (group_of script.now start.now)) logs.old
+    ensures ample { IfOk result (λ age. AreAmple (group_of script.now start.now) logs.old
         → NoneFull age.members) }
     ensures kept { OnErr result (AreAsBefore logs.old logs.new) }
     ensures calm { OnErr result (AreCalm D.told D.faults logs.old logs.new) }
-    ensures count { length logs.new ≡ length logs.old }
+    ensures places { HaveSamePlaces logs.old logs.new }
     ensures members { IfOk result (λ age. length age.members ≡ length logs.old) }
 {
     watch_age(alloc, script, start, nth, logs, &mut Unwatched)
@@ -74,12 +74,11 @@ pub fn watch_age<D: Disk, W: Watcher>(
     script: &Script,
     start: &Start,
     nth: u8,
-    logs: &mut [Log<D>],
+    logs: &mut [Option<Log<D>>],
     watcher: &mut W,
 ) -> Result<AgeEnd, AllocError>
     requires ranges { HasRanges script.now }
     requires group { IsGroup (group_of script.now start.now) }
-    requires present { AllPresent (group_of script.now start.now) }
     requires logs { AreOpened (group_of script.now start.now) logs.old }
     ensures run { IfOk result (λ age. IsSimulated script.now start.now nth age) }
     ensures watched { IfOk result (IsWatched W.opens W.sees W.closes script.now start.now nth
@@ -94,29 +93,32 @@ pub fn watch_age<D: Disk, W: Watcher>(
     // any moment.
     ensures logged { IfOk result (λ age. (is : IsSimulated script.now start.now nth age)
         × HaveCome D.told D.faults logs.old logs.new is.over.members) }
-    ensures ample { IfOk result (λ age. All (IsAmple (group_of script.now start.now)) logs.old
+    ensures ample { IfOk result (λ age. AreAmple (group_of script.now start.now) logs.old
         → NoneFull age.members) }
     ensures kept { OnErr result (AreAsBefore logs.old logs.new) }
     ensures calm { OnErr result (AreCalm D.told D.faults logs.old logs.new) }
-    ensures count { length logs.new ≡ length logs.old }
+    ensures places { HaveSamePlaces logs.old logs.new }
     ensures members { IfOk result (λ age. length age.members ≡ length logs.old) }
 {
     let entries = copy_entries(alloc, &start.entries)?;
     let ends = Vec::with_capacity(alloc, usize::from(script.members))?;
     let simulation = Simulation::begin(alloc, script, start, nth)?;
     simulation.make_room(logs)?;
-    Ok(run(simulation, script, start, entries, ends, logs, watcher))
+    Ok(run(
+        alloc, simulation, script, start, entries, ends, logs, watcher,
+    ))
 }
 
 /// Runs the members by the script's schedule, and tells how their age ended, by its entries and with
 /// room for its ends.
 fn run<D: Disk, W: Watcher>(
+    alloc: Global,
     mut simulation: Simulation,
     script: &Script,
     start: &Start,
     entries: Seq<Entry>,
     ends: Vec<MemberEnd>,
-    logs: &mut [Log<D>],
+    logs: &mut [Option<Log<D>>],
     watcher: &mut W,
 ) -> AgeEnd
     ghost group: { Group }
@@ -127,9 +129,9 @@ fn run<D: Disk, W: Watcher>(
     requires ready { AreReady logs.old simulation.members }
     ensures { (p : Program) × (run : HasRun script.now.schedule simulation p) × IsSound group p
         × (result ≡ age_of (group_of script.now start.now).opening p)
-        × ((bases : List (LogState D)) → HaveServed D.told D.faults bases logs.old simulation.members
+        × ((bases : List (Option (LogState D))) → HaveServed D.told D.faults bases logs.old simulation.members
         → HaveServed D.told D.faults bases logs.new p.members)
-        × (length logs.new ≡ length logs.old)
+        × HaveSamePlaces logs.old logs.new
         × (opened ended : W) × W.opens watcher.old start.now opened
         × WasTold W.sees simulation run.moves opened ended
         × W.closes ended p.members p.table watcher.new }
@@ -143,6 +145,6 @@ fn run<D: Disk, W: Watcher>(
     AgeEnd {
         age: start.age,
         start: entries,
-        members: Seq::of(ends_of(simulation.into_members(), ends)),
+        members: Seq::of(ends_of(alloc, simulation.into_members(), ends)),
     }
 }

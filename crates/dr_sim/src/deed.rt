@@ -2,7 +2,7 @@ ghost use Rattle.std.specs.Prelude.{◌≡◌, ℕ, ◌<◌, ◌≤◌, ◌↔�
 ghost use Rattle.dr_machine.specs.Group.{Group};
 ghost use Rattle.dr_log.specs.State.{LogState};
 ghost use Rattle.dr_program.specs.Form.{IsRunningMember};
-ghost use Rattle.dr_program.specs.Program.{Program};
+ghost use Rattle.dr_program.specs.Program.{Program, has_ended};
 ghost use Rattle.dr_member.specs.Deeds.{is_append, table_size};
 ghost use Rattle.dr_program.specs.Running.{next_deed};
 ghost use Rattle.dr_turn.specs.Work.{deeds_left};
@@ -147,9 +147,19 @@ pub fn take_turn<D: Disk, W: Watcher>(
     }
 }
 
-/// Whether all these members have ended.
-pub fn all_ended(members: &[Member]) -> bool
-    ensures { IsTrue result ↔ All (λ member. IsTrue (is_some member.replica.end)) members.now }
+/// Whether whoever stands at a place has ended; an empty one is that of a member that is absent.
+pub fn has_ended(place: &Option<Member>) -> bool
+    ensures { result ≡ has_ended place.now }
 {
-    members.iter().all(|member| member.end().is_some())
+    match place {
+        Some(member) => member.end().is_some(),
+        None => true,
+    }
+}
+
+/// Whether all these members have ended.
+pub fn all_ended(members: &[Option<Member>]) -> bool
+    ensures { IsTrue result ↔ All (λ place. IsTrue (has_ended place)) members.now }
+{
+    members.iter().all(|place| has_ended(place))
 }

@@ -1,13 +1,14 @@
-ghost use Rattle.std.specs.Prelude.{◌<◌, List, length};
+ghost use Rattle.dr_program.specs.Presence.{present_at};
+ghost use Rattle.std.specs.Prelude.{◌<◌, List, length, Option, false, ◌≡◌};
 ghost use Rattle.std.specs.List.{range_with_len};
 ghost use Rattle.dr_machine.specs.Group.{Group};
-ghost use Rattle.dr_program.specs.Program.{AllEnded};
+ghost use Rattle.dr_program.specs.Program.{AllEnded, has_ended};
 ghost use Rattle.dr_script.specs.declared.script.Schedule.TheVariants.{Lockstep};
 ghost use Rattle.dr_log.specs.State.{LogState};
-ghost use Rattle.dr_logged.specs.Served.{AreReady, HaveServed};
+ghost use Rattle.dr_logged.specs.Served.{AreReady, HaveServed, HaveSamePlaces};
 ghost use Rattle.dr_sim.specs.Simulated.{HasRun};
 ghost use Rattle.dr_age.specs.Sound.{IsSound};
-ghost use Rattle.dr_sim.specs.Sound.{TookTurns, all_left};
+ghost use Rattle.dr_sim.specs.Sound.{TookTurns, all_left, TookTurn};
 ghost use Rattle.dr_sim.specs.Watched.{WasTold};
 
 use crate::simulation::Simulation;
@@ -20,7 +21,11 @@ impl Simulation {
     /// that has not ended takes a whole turn, by their numbers. A watcher that takes note of deeds is told of
     /// each first.
     #[inline(never)]
-    pub fn run_lockstep<D: Disk, W: Watcher>(&mut self, logs: &mut [Log<D>], watcher: &mut W)
+    pub fn run_lockstep<D: Disk, W: Watcher>(
+        &mut self,
+        logs: &mut [Option<Log<D>>],
+        watcher: &mut W,
+    )
         ghost group: { Group }
         requires sound { IsSound group self.old }
         requires ready { AreReady logs.old self.old.members }
@@ -28,7 +33,8 @@ impl Simulation {
             × WasTold W.sees self.old run.moves watcher.old watcher.new }
         ensures sound { IsSound group self.new }
         ensures ready { AreReady logs.new self.new.members }
-        ensures served { (bases : List (LogState D))
+        ensures places { HaveSamePlaces logs.old logs.new }
+        ensures served { (bases : List (Option (LogState D)))
             → HaveServed D.told D.faults bases logs.old self.old.members
             → HaveServed D.told D.faults bases logs.new self.new.members }
     {
@@ -38,7 +44,7 @@ impl Simulation {
     }
 
     /// Each member that has not ended takes a whole turn, by their numbers.
-    fn take_round<D: Disk, W: Watcher>(&mut self, logs: &mut [Log<D>], watcher: &mut W)
+    fn take_round<D: Disk, W: Watcher>(&mut self, logs: &mut [Option<Log<D>>], watcher: &mut W)
         ghost group: { Group }
         requires sound { IsSound group self.old }
         requires ready { AreReady logs.old self.old.members }
@@ -47,14 +53,41 @@ impl Simulation {
         ensures sound { IsSound group self.new }
         ensures falls { ¬ AllEnded self.old → all_left self.new < all_left self.old }
         ensures ready { AreReady logs.new self.new.members }
-        ensures served { (bases : List (LogState D))
+        ensures places { HaveSamePlaces logs.old logs.new }
+        ensures served { (bases : List (Option (LogState D)))
             → HaveServed D.told D.faults bases logs.old self.old.members
             → HaveServed D.told D.faults bases logs.new self.new.members }
     {
         for m in 0..self.len() {
             if !self.has_ended(m) {
-                self.take_turn(m, &mut logs[m], watcher);
+                self.take_turn_of(m, logs, watcher);
             }
         }
+    }
+
+    /// Member `m`, which has not ended, takes a whole turn, with the log of its number.
+    fn take_turn_of<D: Disk, W: Watcher>(
+        &mut self,
+        m: usize,
+        logs: &mut [Option<Log<D>>],
+        watcher: &mut W,
+    )
+        ghost group: { Group }
+        requires sound { IsSound group self.old }
+        requires going { has_ended (present_at self.old.members m) ≡ false }
+        requires within { m < length logs.old }
+        requires ready { AreReady logs.old self.old.members }
+        ensures took { (took : TookTurn group self.old m self.new)
+            × WasTold W.sees self.old took.moves watcher.old watcher.new }
+        ensures ready { AreReady logs.new self.new.members }
+        ensures places { HaveSamePlaces logs.old logs.new }
+        ensures served { (bases : List (Option (LogState D)))
+            → HaveServed D.told D.faults bases logs.old self.old.members
+            → HaveServed D.told D.faults bases logs.new self.new.members }
+    {
+        let Some(log) = &mut logs[m] else {
+            unreachable!()
+        };
+        self.take_turn(m, log, watcher);
     }
 }

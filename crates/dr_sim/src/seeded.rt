@@ -1,13 +1,15 @@
-ghost use Rattle.std.specs.Prelude.{◌≡◌, ◌<◌, ◌≤◌, List, false, length, slice_get};
+ghost use Rattle.std.specs.Prelude.{◌≡◌, ◌<◌, ◌≤◌, List, false, length, Option};
 ghost use Rattle.dr_machine.specs.Group.{Group};
-ghost use Rattle.dr_program.specs.Schedule.{going, has_ended};
+ghost use Rattle.dr_program.specs.Program.{has_ended};
+ghost use Rattle.dr_program.specs.Schedule.{going};
 ghost use Rattle.dr_script.specs.declared.script.Schedule.TheVariants.{Seed};
 ghost use Rattle.dr_log.specs.State.{LogState};
-ghost use Rattle.dr_logged.specs.Served.{AreReady, AtMember, HaveServed};
+ghost use Rattle.dr_logged.specs.Served.{AreReady, AtMember, HaveServed, HaveSamePlaces};
 ghost use Rattle.dr_sim.specs.Simulated.{HasRun};
 ghost use Rattle.dr_age.specs.Sound.{IsSound};
 ghost use Rattle.dr_sim.specs.Sound.{TookDeed};
 ghost use Rattle.dr_sim.specs.Watched.{WasTold};
+ghost use Rattle.dr_program.specs.Presence.{present_at};
 
 use crate::lcg::Lcg;
 use crate::simulation::Simulation;
@@ -24,7 +26,7 @@ impl Simulation {
     pub fn run_seeded<D: Disk, W: Watcher>(
         &mut self,
         seed: u64,
-        logs: &mut [Log<D>],
+        logs: &mut [Option<Log<D>>],
         watcher: &mut W,
     )
         ghost group: { Group }
@@ -34,7 +36,8 @@ impl Simulation {
             × WasTold W.sees self.old run.moves watcher.old watcher.new }
         ensures sound { IsSound group self.new }
         ensures ready { AreReady logs.new self.new.members }
-        ensures served { (bases : List (LogState D))
+        ensures places { HaveSamePlaces logs.old logs.new }
+        ensures served { (bases : List (Option (LogState D)))
             → HaveServed D.told D.faults bases logs.old self.old.members
             → HaveServed D.told D.faults bases logs.new self.new.members }
     {
@@ -60,23 +63,27 @@ impl Simulation {
     fn take_deed_of<D: Disk, W: Watcher>(
         &mut self,
         m: usize,
-        logs: &mut [Log<D>],
+        logs: &mut [Option<Log<D>>],
         watcher: &mut W,
     ) -> bool
         ghost group: { Group }
         requires sound { IsSound group self.old }
-        requires going { has_ended (slice_get self.old.members m) ≡ false }
+        requires going { has_ended (present_at self.old.members m) ≡ false }
         requires within { m < length logs.old }
         requires ready { AreReady logs.old self.old.members }
         ensures took { TookDeed group self.old m self.new }
-        ensures ended { result ≡ has_ended (slice_get self.new.members m) }
+        ensures ended { result ≡ has_ended (present_at self.new.members m) }
         ensures ready { AreReady logs.new self.new.members }
-        ensures served { (bases : List (LogState D))
+        ensures places { HaveSamePlaces logs.old logs.new }
+        ensures served { (bases : List (Option (LogState D)))
             → HaveServed D.told D.faults bases logs.old self.old.members
             → HaveServed D.told D.faults bases logs.new self.new.members }
         ensures told { AtMember self.old m (λ r. W.sees watcher.old r self.old.table watcher.new) }
     {
-        self.take_deed(m, &mut logs[m], watcher)
+        let Some(log) = &mut logs[m] else {
+            unreachable!()
+        };
+        self.take_deed(m, log, watcher)
     }
 
     /// The numbers of the members that have not ended, ascending.

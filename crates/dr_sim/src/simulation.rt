@@ -1,18 +1,19 @@
-ghost use Rattle.std.specs.Prelude.{◌≡◌, ◌<◌, ◌↔◌, IfOk, OnOk, IsTrue, true, false, length, slice_get};
-ghost use Rattle.dr_machine.specs.Group.{AllPresent, Group, IsGroup};
-ghost use Rattle.dr_program.specs.Program.{AllEnded, Program};
-ghost use Rattle.dr_program.specs.Schedule.{has_ended};
+ghost use Rattle.std.specs.Prelude.{◌≡◌, ◌<◌, ◌↔◌, IfOk, OnOk, IsTrue, false, length};
+ghost use Rattle.dr_machine.specs.Group.{Group, IsGroup};
+ghost use Rattle.dr_program.specs.Presence.{present_at};
+ghost use Rattle.dr_program.specs.Program.{AllEnded, Program, has_ended};
 ghost use Rattle.dr_restart.specs.Groups.{group_of};
 ghost use Rattle.dr_restart.specs.Setups.{IsBegun};
 ghost use Rattle.dr_script.specs.Ranges.{HasRanges};
 ghost use Rattle.dr_log.specs.State.{LogState};
 ghost use Rattle.dr_age.specs.Logged.{AreAsBefore, AreCalm};
-ghost use Rattle.dr_logged.specs.Served.{AreRoomy, AtMember, HasServed, IsReady};
+ghost use Rattle.dr_logged.specs.Served.{AreRoomy, AtMember, HasServed, HaveSamePlaces, IsReady};
 ghost use Rattle.dr_age.specs.Sound.{IsSound};
+ghost use Rattle.dr_sim.specs.Rooms.{GotRoomAt, StaysAt};
 ghost use Rattle.dr_sim.specs.Sound.{AreOthers, TookDeed, TookTurn};
 ghost use Rattle.dr_sim.specs.Watched.{WasTold};
 
-use crate::deed::{all_ended, take, take_turn};
+use crate::deed::{all_ended, has_ended, take, take_turn};
 use crate::watcher::Watcher;
 use dr_age::begun_members;
 use dr_disk::Disk;
@@ -27,7 +28,7 @@ use std::marker::Model;
 /// program.
 #[derive(Drop)]
 pub struct Simulation {
-    members: Vec<Member>,
+    members: Vec<Option<Member>>,
     table: Vec<u64>,
 }
 
@@ -56,7 +57,6 @@ impl Simulation {
     ) -> Result<Simulation, AllocError>
         requires ranges { HasRanges script.now }
         requires group { IsGroup (group_of script.now start.now) }
-        requires present { AllPresent (group_of script.now start.now) }
         ensures begun { IfOk result (λ s. IsBegun script.now start.now nth s) }
         ensures sound { IfOk result (λ s. IsSound (group_of script.now start.now) s) }
     {
@@ -71,16 +71,15 @@ impl Simulation {
     /// # Errors
     ///
     /// Want of memory alone.
-    pub fn make_room<D: Disk>(&self, logs: &mut [Log<D>]) -> Result<(), AllocError>
+    pub fn make_room<D: Disk>(&self, logs: &mut [Option<Log<D>>]) -> Result<(), AllocError>
         requires all { length logs.old ≡ length self.now.members }
         ensures room { OnOk result (AreRoomy D.told D.faults self.now.members logs.old logs.new) }
         ensures kept { AreAsBefore logs.old logs.new }
         ensures calm { AreCalm D.told D.faults logs.old logs.new }
-        ensures count { length logs.new ≡ length logs.old }
+        ensures places { HaveSamePlaces logs.old logs.new }
     {
         for m in 0..logs.len() {
-            let member = &self.members[m];
-            logs[m].reserve(member.appends_left(), member.votes_left())?;
+            make_room_at(&self.members[m], &mut logs[m])?;
         }
         Ok(())
     }
@@ -94,26 +93,26 @@ impl Simulation {
         watcher.close(&self.members, &self.table);
     }
 
-    /// The members.
-    pub fn into_members(self) -> Vec<Member>
+    /// The members, by number; there is none at the place of one that is absent.
+    pub fn into_members(self) -> Vec<Option<Member>>
         ensures { result.items ≡ self.members }
     {
         self.members
     }
 
-    /// The number of members.
+    /// The number of members of the roster.
     pub fn len(&self) -> usize
         ensures { result ≡ length self.now.members }
     {
         self.members.len()
     }
 
-    /// Whether member `m` has ended.
+    /// Whether member `m` has ended, or is absent.
     pub fn has_ended(&self, m: usize) -> bool
         requires { m < length self.now.members }
-        ensures { result ≡ has_ended (slice_get self.now.members m) }
+        ensures { result ≡ has_ended (present_at self.now.members m) }
     {
-        self.members[m].end().is_some()
+        has_ended(&self.members[m])
     }
 
     /// Whether all members have ended.
@@ -134,22 +133,20 @@ impl Simulation {
     ) -> bool
         ghost group: { Group }
         requires sound { IsSound group self.old }
-        requires going { has_ended (slice_get self.old.members m) ≡ false }
+        requires going { has_ended (present_at self.old.members m) ≡ false }
         requires ready { AtMember self.old m (IsReady log.old) }
         ensures took { TookDeed group self.old m self.new }
-        ensures ended { result ≡ has_ended (slice_get self.new.members m) }
+        ensures ended { result ≡ has_ended (present_at self.new.members m) }
         ensures others { AreOthers self.old m self.new }
         ensures ready { AtMember self.new m (IsReady log.new) }
         ensures served { (base : LogState D) → AtMember self.old m (HasServed D.told D.faults base log.old)
             → AtMember self.new m (HasServed D.told D.faults base log.new) }
         ensures told { AtMember self.old m (λ r. W.sees watcher.old r self.old.table watcher.new) }
     {
-        take(
-            &mut self.members[m],
-            self.table.as_mut_slice(),
-            log,
-            watcher,
-        )
+        let Some(member) = &mut self.members[m] else {
+            unreachable!()
+        };
+        take(member, self.table.as_mut_slice(), log, watcher)
     }
 
     /// Member `m`, which has not ended, takes a whole turn, with its log: its deeds up to the first after
@@ -157,7 +154,7 @@ impl Simulation {
     pub fn take_turn<D: Disk, W: Watcher>(&mut self, m: usize, log: &mut Log<D>, watcher: &mut W)
         ghost group: { Group }
         requires sound { IsSound group self.old }
-        requires going { has_ended (slice_get self.old.members m) ≡ false }
+        requires going { has_ended (present_at self.old.members m) ≡ false }
         requires ready { AtMember self.old m (IsReady log.old) }
         ensures took { (took : TookTurn group self.old m self.new)
             × WasTold W.sees self.old took.moves watcher.old watcher.new }
@@ -166,6 +163,26 @@ impl Simulation {
         ensures served { (base : LogState D) → AtMember self.old m (HasServed D.told D.faults base log.old)
             → AtMember self.new m (HasServed D.told D.faults base log.new) }
     {
-        take_turn(&mut self.members[m], &mut self.table, log, watcher);
+        let Some(member) = &mut self.members[m] else {
+            unreachable!()
+        };
+        take_turn(member, &mut self.table, log, watcher);
     }
+}
+
+/// Makes room on a log for all that the member of its number may append, where both are there.
+fn make_room_at<D: Disk>(
+    member: &Option<Member>,
+    place: &mut Option<Log<D>>,
+) -> Result<(), AllocError>
+    ensures room { OnOk result (GotRoomAt D.told D.faults member.now place.old place.new) }
+    ensures stays { StaysAt D.told D.faults place.old place.new }
+{
+    let Some(member) = member else {
+        return Ok(());
+    };
+    let Some(log) = place else {
+        return Ok(());
+    };
+    log.reserve(member.appends_left(), member.votes_left())
 }

@@ -1,5 +1,6 @@
 //! Watchers of simulated ages.
-ghost use Rattle.std.specs.Prelude.{◌≡◌, ◌≤◌, ℕ, All, List, None, false, length};
+ghost use Rattle.std.specs.Prelude.{◌≡◌, ◌≤◌, ℕ, List, None, Option, Some, false, length};
+ghost use Rattle.dr_program.specs.Presence.{present_at};
 ghost use Rattle.dr_member.specs.Deeds.{table_size};
 ghost use Rattle.dr_program.specs.Form.{IsRunningMember};
 ghost use Rattle.dr_program.specs.Running.{Running};
@@ -19,7 +20,7 @@ pub trait Watcher {
     ghost sees: { Self → Running → List ℕ → Self → Type 0 };
 
     // What becomes of it as it is told how the members and the table stand at the end.
-    ghost closes: { Self → List Running → List ℕ → Self → Type 0 };
+    ghost closes: { Self → List (Option Running) → List ℕ → Self → Type 0 };
 
     /// An age opens from this start.
     fn open(&mut self, start: &Start)
@@ -37,10 +38,11 @@ pub trait Watcher {
         requires size { table_size member.now ≤ length table.now }
         ensures { sees self.old member.now table.now self.new };
 
-    /// All members have ended, and this is the table.
-    fn close(&mut self, members: &[Member], table: &[u64])
-        requires form { All IsRunningMember members.now }
-        requires size { All (λ member. table_size member ≤ length table.now) members.now }
+    /// All members have ended, and this is the table. There is no member at the place of one that is absent.
+    fn close(&mut self, members: &[Option<Member>], table: &[u64])
+        requires form { (m : ℕ) (r : Running) → present_at members.now m ≡ Some r → IsRunningMember r }
+        requires size { (m : ℕ) (r : Running) → present_at members.now m ≡ Some r
+            → table_size r ≤ length table.now }
         ensures { closes self.old members.now table.now self.new };
 }
 
@@ -67,5 +69,5 @@ impl Watcher for Unwatched {
     fn see(&mut self, _member: &Member, _table: &[u64]) {}
 
     #[inline(always)]
-    fn close(&mut self, _members: &[Member], _table: &[u64]) {}
+    fn close(&mut self, _members: &[Option<Member>], _table: &[u64]) {}
 }

@@ -1,4 +1,5 @@
 use Rattle.std.proofs.Common.{◌∙◌, sym, true≢false}
+use Rattle.dr_sim.proofs.Logs.{places_both, places_same}
 use Rattle.dr_sim.proofs.Turns.{no_rounds, rounds_end, rounds_go_on}
 use Rattle.dr_sim.proofs.simulation.Simulation.run_lockstep.Goals as goal
 
@@ -7,6 +8,7 @@ loop-self-init g c = record {
   sound = c.requires.1.1.1.0;
   rounds = no_rounds g.W.Watcher.sees c.args.watcher.now c.args.self.now;
   ready = c.requires.1.1.1.1;
+  places = places_same c.args.logs.now;
   served = λ bases served. served;
 }
 
@@ -16,6 +18,8 @@ loop-self-preserved g c = record {
   rounds = rounds_go_on c.take_round.new.watcher c.args.self.now c.loop-self.self c.take_round.new.self
       c.loop-self.invariant.rounds c.take_round.ensures.turns;
   ready = c.take_round.ensures.ready;
+  places = places_both c.args.logs.now c.loop-self.logs c.take_round.new.logs c.loop-self.invariant.places
+      c.take_round.ensures.places;
   served = λ bases served. c.take_round.ensures.served bases (c.loop-self.invariant.served bases served);
 }
 

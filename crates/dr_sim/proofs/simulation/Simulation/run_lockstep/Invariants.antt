@@ -1,10 +1,11 @@
 use Rattle.std.proofs.Common.{List}
 use Rattle.dr_log.specs.State.{LogState}
-use Rattle.dr_logged.specs.Served.{AreReady, HaveServed}
+use Rattle.dr_logged.specs.Served.{AreReady, HaveSamePlaces, HaveServed}
 use Rattle.dr_age.specs.Sound.{IsSound}
 use Rattle.dr_sim.specs.Sound.{all_left}
 use Rattle.dr_sim.proofs.Turns.{HasRounds}
 use Rattle.dr_sim.proofs.simulation.Simulation.run_lockstep.Given as goal
+use Rattle.std.specs.Prelude.{Option}
 
 abbrev pub ghost-take_round : goal.ghost-take_round
 ghost-take_round g a = g.group
@@ -14,7 +15,8 @@ invariant-loop-self g l = record {
   sound : IsSound g.group l.self;
   rounds : HasRounds g.W.Watcher.sees l.fn.watcher l.watcher l.fn.self l.self;
   ready : AreReady l.logs l.self.members;
-  served : (bases : List (LogState g.row.D.Denot))
+  places : HaveSamePlaces l.fn.logs l.logs;
+  served : (bases : List (Option (LogState g.row.D.Denot)))
       → HaveServed g.D.Disk.told g.D.Disk.faults bases l.fn.logs l.fn.self.members
       → HaveServed g.D.Disk.told g.D.Disk.faults bases l.logs l.self.members;
 }

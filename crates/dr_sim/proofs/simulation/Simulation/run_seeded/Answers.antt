@@ -1,5 +1,6 @@
 use Rattle.std.proofs.Common.{rules, sym, ap, ◌∙◌, ◌==◌, arith}
 use Rattle.std.specs.List.{remove}
+use Rattle.dr_sim.proofs.Logs.{places_both, places_same}
 use Rattle.dr_sim.proofs.Choices.{chosen_again, going_on, count_none, nothing_chosen, one_has_ended, picked, seeded, count_some}
 use Rattle.dr_sim.proofs.Steps.{going_within}
 use Rattle.dr_sim.proofs.simulation.Simulation.run_seeded.Goals as goal
@@ -11,6 +12,7 @@ members-init g c = record {
   chosen = nothing_chosen g.W.Watcher.sees c.args.watcher.now c.args.seed c.new-lcg.result c.args.self.now
       c.new-lcg.ensures;
   ready = c.requires.1.1.1.1;
+  places = places_same c.args.logs.now;
   served = λ bases served. served;
 }
 
@@ -23,6 +25,7 @@ deeds-init g c = record {
       ∙ sym c.is_empty.ensures ∙ c.members-test.true);
   chosen = c.members.invariant.chosen;
   ready = c.members.invariant.ready;
+  places = c.members.invariant.places;
   served = c.members.invariant.served;
 }
 
@@ -71,6 +74,8 @@ members-preserved g c =
           c.deeds.invariant.chosen pick.choice
           c.choose_few-at.ensures.state took.step took.well pick.goes c.take_deed_of.ensures.told;
       ready = c.take_deed_of.ensures.ready;
+      places = places_both c.args.logs.now c.deeds.logs c.take_deed_of.new.logs c.deeds.invariant.places
+          c.take_deed_of.ensures.places;
       served = λ bases served. c.take_deed_of.ensures.served bases (c.deeds.invariant.served bases served);
     }
 
@@ -92,6 +97,8 @@ deeds-preserved g c =
           c.deeds.invariant.chosen pick.choice
           c.choose_few-at.ensures.state took.step took.well pick.goes c.take_deed_of.ensures.told;
       ready = c.take_deed_of.ensures.ready;
+      places = places_both c.args.logs.now c.deeds.logs c.take_deed_of.new.logs c.deeds.invariant.places
+          c.take_deed_of.ensures.places;
       served = λ bases served. c.take_deed_of.ensures.served bases (c.deeds.invariant.served bases served);
     }
 

@@ -1,6 +1,11 @@
 use Rattle.std.proofs.Common.{rules}
-use Rattle.dr_sim.proofs.Logs.{as_many, log_at, ready_on, served_at, served_on}
+use Rattle.dr_sim.proofs.Logs.{as_many, log_read, log_there, places_on, ready_on, served_on}
 use Rattle.dr_sim.proofs.simulation.Simulation.take_deed_of.Goals as goal
+
+pub unreachable-requires : goal.unreachable-requires
+unreachable-requires g c =
+    log_there c.args.logs.now c.args.self.now c.args.m c.index-logs-m.result c.requires.1.1.1.1.1.1
+    c.requires.1.1.1.1.0 c.in_default.is
 
 pub take_deed-requires-send-D : goal.take_deed-requires-send-D
 take_deed-requires-send-D g c = λ ks within. (
@@ -13,9 +18,9 @@ take_deed-requires-send-D g c = λ ks within. (
         c.requires.1.1.1.0,
         (
           c.requires.1.1.1.1.0,
-          λ r there.
-              log_at c.args.logs.now c.index-logs-m.result c.args.self.now c.args.m r c.requires.1.1.1.1.1.1
-              there,
+          λ r there. c.requires.1.1.1.1.1.1.each c.args.m c.in-Some.log r
+              (log_read c.args.logs.now c.args.m c.index-logs-m.result c.in-Some.log c.requires.1.1.1.1.1.0
+              c.in-Some.is) there,
         ),
       ),
     ),
@@ -29,10 +34,15 @@ returns-clause-ready g c =
     (as_many g.group c.args.self.now c.take_deed.new.self c.requires.1.1.1.0 c.take_deed.ensures.took.sound)
     c.take_deed.ensures.others c.take_deed.ensures.ready c.requires.1.1.1.1.1.0
 
+pub returns-clause-places : goal.returns-clause-places
+returns-clause-places g c = places_on c.args.logs.now c.args.m c.in-Some.log c.take_deed.new.log
+    (log_read c.args.logs.now c.args.m c.index-logs-m.result c.in-Some.log c.requires.1.1.1.1.1.0 c.in-Some.is)
+
 pub returns-clause-served : goal.returns-clause-served
 returns-clause-served g c = λ bases served.
     served_on g.D.Disk.told g.D.Disk.faults bases c.args.logs.now c.take_deed.new.log c.args.self.now
     c.take_deed.new.self c.args.m c.take_deed.ensures.others c.requires.1.1.1.1.1.0
     (λ base from. c.take_deed.ensures.served base
-    (served_at g.D.Disk.told g.D.Disk.faults bases c.args.logs.now base c.index-logs-m.result c.args.self.now
-    c.args.m served from c.requires.1.1.1.1.1.0)) served
+    (λ r there. served c.args.m base c.in-Some.log r from
+    (log_read c.args.logs.now c.args.m c.index-logs-m.result c.in-Some.log c.requires.1.1.1.1.1.0 c.in-Some.is)
+    there)) served

@@ -1,6 +1,6 @@
-use Rattle.std.proofs.Common.{rules, sym, ◌∙◌, ◌≡◌, ◌<◌, length, subst, arith}
+use Rattle.std.proofs.Common.{rules, sym, ◌∙◌, ◌≡◌, length, subst, arith}
 use Rattle.std.specs.List.{range_with_len}
-use Rattle.dr_sim.proofs.Logs.{as_many, log_at, ready_on, served_at, served_on}
+use Rattle.dr_sim.proofs.Logs.{places_both, places_same}
 use Rattle.dr_sim.proofs.Turns.{HasTurns, round_begins, round_ends, round_goes_on, round_passes}
 use Rattle.dr_sim.proofs.simulation.Simulation.take_round.Goals as goal
 use Rattle.dr_sim.proofs.simulation.Simulation.take_round.Goals.{then-not-has_ended, else-not-has_ended}
@@ -9,11 +9,12 @@ pub loop-m-init : goal.loop-m-init
 loop-m-init g c = record {
   round = round_begins g.W.Watcher.sees c.args.watcher.now g.group c.args.self.now c.requires.1.1.1.0;
   ready = c.requires.1.1.1.1;
+  places = places_same c.args.logs.now;
   served = λ bases served. served;
 }
 
-pub take_turn-requires-send-D : goal.take_turn-requires-send-D
-take_turn-requires-send-D g c = λ ks within. (
+pub take_turn_of-requires-send-D : goal.take_turn_of-requires-send-D
+take_turn_of-requires-send-D g c = λ ks within. (
   within.0,
   (
     within.1,
@@ -23,9 +24,17 @@ take_turn-requires-send-D g c = λ ks within. (
         c.loop-m.invariant.round.sound,
         (
           sym c.has_ended.ensures ∙ c.if-not-has_ended.true,
-          λ r there.
-              log_at c.loop-m.logs c.index-logs-m.result c.loop-m.self c.loop-m.m r c.loop-m.invariant.ready
-              there,
+          (
+            omega (
+              arith,
+              c.loop-m.invariant.ready.all,
+              c.loop-m.invariant.round.sound.form.all,
+              c.loop-m-test.true,
+              c.len-m-end.ensures,
+              c.requires.1.1.1.0.form.all,
+            ),
+            c.loop-m.invariant.ready,
+          ),
         ),
       ),
     ),
@@ -36,35 +45,20 @@ pub loop-m-preserved : goal.loop-m-preserved
 loop-m-preserved g c =
     elim c.if-not-has_ended.branch [
       | then-not-has_ended w ↦
-          let round = round_goes_on w.take_turn.new.watcher g.group c.loop-m.m c.args.self.now c.loop-m.self
-          w.take_turn.new.self c.loop-m.invariant.round (sym c.has_ended.ensures ∙ w.if-not-has_ended.true)
-          w.take_turn.ensures.took in
-          let ready = c.loop-m.invariant.ready in
-          let within : c.loop-m.m < length c.loop-m.logs = omega (
-            arith,
-            ready.all,
-            c.loop-m.invariant.round.sound.form.all,
-            c.loop-m-test.true,
-            c.len-m-end.ensures,
-            c.requires.1.1.1.0.form.all,
-          ) in
           rw (w.self-is, w.logs-is, w.watcher-is) (record {
-            round = round;
-            ready = ready_on c.loop-m.logs w.take_turn.new.log c.loop-m.self w.take_turn.new.self c.loop-m.m
-                ready (as_many g.group c.loop-m.self w.take_turn.new.self c.loop-m.invariant.round.sound
-                round.sound) w.take_turn.ensures.others w.take_turn.ensures.ready within;
-            served = λ bases served.
-                let so_far = c.loop-m.invariant.served bases served in
-                served_on g.D.Disk.told g.D.Disk.faults bases c.loop-m.logs w.take_turn.new.log c.loop-m.self
-                w.take_turn.new.self c.loop-m.m w.take_turn.ensures.others within
-                (λ base from. w.take_turn.ensures.served base
-                (served_at g.D.Disk.told g.D.Disk.faults bases c.loop-m.logs base w.index-logs-m.result
-                c.loop-m.self c.loop-m.m so_far from within)) so_far;
+            round = round_goes_on w.take_turn_of.new.watcher g.group c.loop-m.m c.args.self.now c.loop-m.self
+                w.take_turn_of.new.self c.loop-m.invariant.round
+                (sym c.has_ended.ensures ∙ w.if-not-has_ended.true) w.take_turn_of.ensures.took;
+            ready = w.take_turn_of.ensures.ready;
+            places = places_both c.args.logs.now c.loop-m.logs w.take_turn_of.new.logs c.loop-m.invariant.places
+                w.take_turn_of.ensures.places;
+            served = λ bases served. w.take_turn_of.ensures.served bases (c.loop-m.invariant.served bases served);
           })
       | else-not-has_ended w ↦ rw (w.self-is, w.logs-is, w.watcher-is) (record {
         round = round_passes g.group c.loop-m.m c.args.self.now c.loop-m.self c.loop-m.invariant.round
             (sym c.has_ended.ensures ∙ w.if-not-has_ended.false);
         ready = c.loop-m.invariant.ready;
+        places = c.loop-m.invariant.places;
         served = c.loop-m.invariant.served;
       })
     ]

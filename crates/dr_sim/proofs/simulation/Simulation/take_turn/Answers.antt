@@ -1,43 +1,48 @@
 use Rattle.std.proofs.Common.{refl, sym, ap, ◌∙◌, subst, List}
-use Rattle.std.specs.Prelude.{slice_get, slice_set}
 use Rattle.dr_logged.specs.Served.{HasServed, IsReady}
-use Rattle.dr_program.specs.Program.{Program}
-use Rattle.dr_program.proofs.Holdings.{replica_kept}
+use Rattle.dr_program.specs.Program.{Program, has_ended}
+use Rattle.dr_program.proofs.Present.{present_kept}
 use Rattle.dr_program.specs.Running.{Running}
-use Rattle.dr_program.specs.Schedule.{has_ended}
 use Rattle.dr_sim.proofs.Turns.{HasTurn}
-use Rattle.dr_sim.proofs.Steps.{among_read, at_set, going_there}
+use Rattle.dr_sim.proofs.Steps.{among_read, at_set, going_there, goes_there}
 use Rattle.dr_sim.proofs.simulation.Simulation.take_turn.Goals as goal
+use Rattle.dr_program.specs.Presence.{present_at, with_present}
+use Rattle.std.specs.Prelude.{Option}
+
+pub unreachable-requires : goal.unreachable-requires
+unreachable-requires g c =
+    goes_there c.self.inside.members.items c.self.inside.table.items c.args.self.now c.args.m c.index_mut.result.now
+    c.self.view_is c.requires.1.1.1.1.0 c.index_mut.ensures.value c.in_default.is
 
 pub take_turn-requires-clause-somewhere : goal.take_turn-requires-clause-somewhere
 take_turn-requires-clause-somewhere g c = λ ks within.
     let among = among_read g.group c.self.inside.members.items c.self.inside.table.items
-    c.self.inside.table.items c.args.self.now c.args.m c.index_mut.result.now c.self.view_is
-    c.requires.1.1.1.0 c.requires.1.1.1.1.0 c.index_mut.ensures.value refl in
+    c.self.inside.table.items c.args.self.now c.args.m c.index_mut.result.now c.in-Some.member c.self.view_is
+    c.requires.1.1.1.0 c.requires.1.1.1.1.0 c.index_mut.ensures.value c.in-Some.is refl in
     (g.group, c.args.self.now, c.args.m, among)
 
 pub take_turn-requires-clause-going : goal.take_turn-requires-clause-going
 take_turn-requires-clause-going g c = λ ks within.
     let among = among_read g.group c.self.inside.members.items c.self.inside.table.items
-    c.self.inside.table.items c.args.self.now c.args.m c.index_mut.result.now c.self.view_is
-    c.requires.1.1.1.0 c.requires.1.1.1.1.0 c.index_mut.ensures.value refl in
+    c.self.inside.table.items c.args.self.now c.args.m c.index_mut.result.now c.in-Some.member c.self.view_is
+    c.requires.1.1.1.0 c.requires.1.1.1.1.0 c.index_mut.ensures.value c.in-Some.is refl in
     sym (ap has_ended among.there) ∙ c.requires.1.1.1.1.0
 
 pub take_turn-requires-clause-ready : goal.take_turn-requires-clause-ready
 take_turn-requires-clause-ready g c = λ ks within.
     let among = among_read g.group c.self.inside.members.items c.self.inside.table.items
-    c.self.inside.table.items c.args.self.now c.args.m c.index_mut.result.now c.self.view_is
-    c.requires.1.1.1.0 c.requires.1.1.1.1.0 c.index_mut.ensures.value refl in
-    c.requires.1.1.1.1.1 c.index_mut.result.now among.there
+    c.self.inside.table.items c.args.self.now c.args.m c.index_mut.result.now c.in-Some.member c.self.view_is
+    c.requires.1.1.1.0 c.requires.1.1.1.1.0 c.index_mut.ensures.value c.in-Some.is refl in
+    c.requires.1.1.1.1.1 c.in-Some.member among.there
 
 pub returns-clause-took : goal.returns-clause-took
 returns-clause-took g c =
     let among = among_read g.group c.self.inside.members.items c.self.inside.table.items
-    c.self.inside.table.items c.args.self.now c.args.m c.index_mut.result.now c.self.view_is
-    c.requires.1.1.1.0 c.requires.1.1.1.1.0 c.index_mut.ensures.value refl in
-    subst (λ (rs : List Running). HasTurn g.W.Watcher.sees c.args.watcher.now c.take_turn.new.watcher g.group
+    c.self.inside.table.items c.args.self.now c.args.m c.index_mut.result.now c.in-Some.member c.self.view_is
+    c.requires.1.1.1.0 c.requires.1.1.1.1.0 c.index_mut.ensures.value c.in-Some.is refl in
+    subst (λ (rs : List (Option Running)). HasTurn g.W.Watcher.sees c.args.watcher.now c.take_turn.new.watcher g.group
     c.args.self.now c.args.m
-    (record { members = slice_set rs c.args.m c.take_turn.new.member; table = c.take_turn.new.table.items }))
+    (record { members = with_present rs c.args.m c.take_turn.new.member; table = c.take_turn.new.table.items }))
     (sym (ap (λ (v : Program). v.members) c.self.view_is))
     (c.take_turn.ensures.turn g.group c.args.self.now c.args.m among)
 
@@ -50,15 +55,15 @@ returns-clause-ready g c = λ r there.
 pub returns-clause-served : goal.returns-clause-served
 returns-clause-served g c = λ base served r there.
     let among = among_read g.group c.self.inside.members.items c.self.inside.table.items
-    c.self.inside.table.items c.args.self.now c.args.m c.index_mut.result.now c.self.view_is
-    c.requires.1.1.1.0 c.requires.1.1.1.1.0 c.index_mut.ensures.value refl in
+    c.self.inside.table.items c.args.self.now c.args.m c.index_mut.result.now c.in-Some.member c.self.view_is
+    c.requires.1.1.1.0 c.requires.1.1.1.1.0 c.index_mut.ensures.value c.in-Some.is refl in
     at_set (HasServed g.D.Disk.told g.D.Disk.faults base c.take_turn.new.log) c.self.inside.members.items
     c.args.m c.take_turn.new.member r
     (going_there c.self.inside.members.items c.self.inside.table.items c.args.self.now c.args.m c.self.view_is
     c.requires.1.1.1.1.0)
-    (c.take_turn.ensures.served base (served c.index_mut.result.now among.there)) there
+    (c.take_turn.ensures.served base (served c.in-Some.member among.there)) there
 
 pub returns-clause-others : goal.returns-clause-others
 returns-clause-others g c = λ i other.
-    replica_kept c.self.inside.members.items c.args.m i c.take_turn.new.member other
-    ∙ ap (λ (v : Program). slice_get v.members i) c.self.view_is
+    present_kept c.self.inside.members.items c.args.m i c.take_turn.new.member other
+    ∙ ap (λ (v : Program). present_at v.members i) c.self.view_is
