@@ -1,11 +1,13 @@
 -- What an age opens with: the members that are dealt, and their logs.
-use Rattle.std.proofs.Common.{◌≡◌, sym, ap, ◌∙◌, subst, ℕ, ◌≤◌, List, length}
-use Rattle.std.specs.Prelude.{All, Option, slice_get}
+use Rattle.std.proofs.Common.{◌≡◌, refl, sym, ap, ◌∙◌, subst, ℕ, ◌≤◌, List, length, arith}
+use Rattle.std.specs.Prelude.{None, Option, Some, is_some, option_map}
 use Rattle.std.proofs.lemmas.List.{length-map}
 use Rattle.dr_disk.specs.Disk.{Told}
 use Rattle.dr_log.specs.State.{LogState}
-use Rattle.dr_logged.specs.Served.{HaveServed}
-use Rattle.dr_machine.specs.Group.{IsGroup}
+use Rattle.dr_logged.specs.Served.{HaveSamePlaces, HaveServed}
+use Rattle.dr_machine.specs.Group.{IsGroup, IsPresent}
+use Rattle.dr_program.proofs.Present.{all_ended, present_map, present_within}
+use Rattle.dr_program.specs.Presence.{present_at}
 use Rattle.dr_program.specs.Program.{AreSetups, IsRanFrom, Program, begun_program}
 use Rattle.dr_program.specs.Running.{Running, begun_running}
 use Rattle.dr_restart.specs.declared.start.Start.{Start}
@@ -14,15 +16,15 @@ use Rattle.dr_restart.specs.Groups.{group_of}
 use Rattle.dr_restart.specs.Setups.{IsBegun}
 use Rattle.dr_restart.proofs.Setups.{are_setups}
 use Rattle.dr_script.specs.declared.script.Script.{Script}
-use Rattle.dr_age.specs.Logged.{AreOpened, IsOpened}
+use Rattle.dr_age.specs.Logged.{AreOpened}
 use Rattle.dr_age.specs.Begun.{HaveBegun}
-use Rattle.dr_age.proofs.Ends.{IsOver, all_failing, begun_fresh, each_at}
-use Rattle.dr_table.specs.Cards.{IsAtEnd}
+use Rattle.dr_age.proofs.Ends.{IsFresh, IsOver, all_failing, begun_fresh}
+use Rattle.dr_table.specs.Cards.{AreAtEnd}
 use Rattle.dr_table.specs.Rule.{IsDealt}
 use Rattle.dr_threads.specs.Logs.{AreFor}
 
 -- the members of a script are those of its group
-abbrev pub is_dealt : (script : Script) (start : Start) (nth : ℕ) (members : List Running)
+abbrev pub is_dealt : (script : Script) (start : Start) (nth : ℕ) (members : List (Option Running))
     → IsGroup (group_of script start) → length script.messages ≡ script.members → 1 ≤ script.turns
     → HaveBegun script start nth script.members members → IsDealt members
 is_dealt script start nth members group lists some begun = record {
@@ -36,22 +38,22 @@ is_dealt script start nth members group lists some begun = record {
 }
 
 -- so they are as many
-pub as_many_begun : (script : Script) (start : Start) (nth : ℕ) (members : List Running)
+pub as_many_begun : (script : Script) (start : Start) (nth : ℕ) (members : List (Option Running))
     → HaveBegun script start nth script.members members → length members ≡ script.members
 as_many_begun script start nth members begun =
-    ap length begun.begun ∙ length-map begun.setups begun_running ∙ begun.are.all
+    ap length begun.begun ∙ length-map begun.setups (option_map begun_running) ∙ begun.are.all
 
 -- logs that are opened are for them
-pub are_for : {D : Type 0} (script : Script) (start : Start) (nth : ℕ) (members : List Running)
-    (logs : List (LogState D)) → length script.messages ≡ script.members
+pub are_for : {D : Type 0} (script : Script) (start : Start) (nth : ℕ) (members : List (Option Running))
+    (logs : List (Option (LogState D))) → length script.messages ≡ script.members
     → HaveBegun script start nth script.members members → AreOpened (group_of script start) logs
     → AreFor logs members
 are_for {D} script start nth members logs lists begun opened = record {
-  all = opened.all ∙ sym (ap length begun.begun ∙ length-map begun.setups begun_running ∙ are.all);
+  all = opened.all ∙ sym (ap length begun.begun ∙ length-map begun.setups (option_map begun_running) ∙ are.all);
+  there = λ k. by k (present_at logs k) (present_at members k) refl refl;
   each = λ k log r there here.
-      let opens = each_at (IsOpened (group_of script start)) logs k log opened.each there in
-      let fresh = begun_fresh (group_of script start) script.turns begun.setups k r are
-      (ap (λ l. slice_get l k) (sym begun.begun) ∙ here) in record {
+      let opens = (opened.each k log there).1 in
+      let fresh = (is_fresh k r here).1 in record {
         entries = opens.entries ∙ sym fresh.history;
         whole = opens.whole;
         logged = fresh.logged;
@@ -63,24 +65,50 @@ are_for {D} script start nth members logs lists begun opened = record {
     are : AreSetups (group_of script start) script.turns begun.setups
     are = are_setups script start nth begun.setups lists begun.are
 
+    is_fresh : (k : ℕ) (r : Running) → present_at members k ≡ Some r
+        → IsPresent (group_of script start) k × IsFresh (group_of script start) r
+    is_fresh k r here = begun_fresh (group_of script start) script.turns begun.setups k r are
+        (ap (λ l. present_at l k) (sym begun.begun) ∙ here)
+
+    -- a member is there where its log is
+    by : (k : ℕ) (o : Option (LogState D)) (q : Option Running) → present_at logs k ≡ o
+        → present_at members k ≡ q → is_some (present_at logs k) ≡ is_some (present_at members k)
+    by k None None at here = ap is_some at ∙ sym (ap is_some here)
+    by k (Some log) (Some r) at here = ap is_some at ∙ sym (ap is_some here)
+    by k None (Some r) at here =
+        let log = opened.there k (omega (
+          arith,
+          present_within members k r here,
+          ap length begun.begun,
+          length-map begun.setups (option_map begun_running),
+          are.all,
+        )) (is_fresh k r here).0 in
+        absurd (cc (at, log.1))
+    by k (Some log) None at here =
+        let setup = are.there k (omega (arith, present_within logs k log at, opened.all))
+        (opened.each k log at).0 in
+        let member = ap (λ l. present_at l k) begun.begun ∙ present_map begun_running begun.setups k
+        ∙ ap (option_map begun_running) setup.1 in
+        absurd (cc (here, member))
+
 -- ---- the end
 
 -- the program of the age, as it began and as it is over
 pub record IsAgeOver {D : Type 0} (told : D → Option Told) (faults : D → ℕ) (script : Script)
-    (start : Start) (nth : ℕ) (bases logs : List (LogState D)) (begun p : Program) : Type 0 where
+    (start : Start) (nth : ℕ) (bases logs : List (Option (LogState D))) (begun p : Program) : Type 0 where
   pub begins : IsBegun script start nth begun
   pub ran : IsRanFrom begun p
   pub over : IsOver told faults (group_of script start) bases logs p
 
 pub age_over : {D : Type 0} (told : D → Option Told) (faults : D → ℕ) (script : Script) (start : Start)
-    (nth : ℕ) (members : List Running) (bases logs : List (LogState D)) (begun p : Program)
+    (nth : ℕ) (members : List (Option Running)) (bases logs : List (Option (LogState D))) (begun p : Program)
     → IsGroup (group_of script start) → length script.messages ≡ script.members → 1 ≤ script.turns
     → (b : HaveBegun script start nth script.members members)
     → ((d : IsDealt members) → begun ≡ begun_program d.group d.setups) → IsRanFrom begun p
-    → All IsAtEnd p.members
-    → AreOpened (group_of script start) bases → length logs ≡ length bases
+    → AreAtEnd p.members
+    → AreOpened (group_of script start) bases → HaveSamePlaces bases logs
     → HaveServed told faults bases logs p.members → IsAgeOver told faults script start nth bases logs begun p
-age_over told faults script start nth members bases logs begun p group lists some b opens ran ended opened all
+age_over told faults script start nth members bases logs begun p group lists some b opens ran ended opened places
     served =
     let same : begun ≡ begun_program (group_of script start) b.setups =
     opens (is_dealt script start nth members group lists some b) in
@@ -91,10 +119,10 @@ age_over told faults script start nth members bases logs begun p group lists som
       ran = ran;
       over = record {
         sound = record { group = group; form = kept.0; reached = kept.1 };
-        ended = ended;
+        ended = all_ended p ended;
         failing = all_failing script start nth begun p group lists some begins ran;
-        all = opened.all;
-        as_many = all;
+        opened = opened;
+        places = places;
         served = served;
       };
     }

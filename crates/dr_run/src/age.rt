@@ -1,14 +1,15 @@
 //! An age in threads, from its opening to the ends of all members.
-ghost use Rattle.std.specs.Prelude.{◌≡◌, MatchResult, IfOk, All, length};
+ghost use Rattle.std.specs.Prelude.{◌≡◌, MatchResult, IfOk, length, Option};
 ghost use Rattle.dr_history.specs.Agreement.{EndsAgreed};
-ghost use Rattle.dr_machine.specs.Group.{AllPresent, IsGroup};
+ghost use Rattle.dr_machine.specs.Group.{IsGroup};
 ghost use Rattle.dr_program_laws.specs.Ended.{HaveEnded};
 ghost use Rattle.dr_program_laws.specs.Trusting.{NoneLeft, SuspectsNobody};
 ghost use Rattle.dr_restart.specs.Groups.{group_of};
 ghost use Rattle.dr_restart.specs.Setups.{crashes_of};
 ghost use Rattle.dr_script.specs.Ranges.{HasRanges};
-ghost use Rattle.dr_age.specs.Logged.{AreOpened, HaveCome, IsAmple, NoneFull};
+ghost use Rattle.dr_age.specs.Logged.{AreAmple, AreOpened, HaveCome, NoneFull};
 ghost use Rattle.dr_age.specs.Run.{IsRun};
+ghost use Rattle.dr_logged.specs.Served.{HaveSamePlaces};
 ghost use Rattle.dr_threads.specs.Logs.{AreLonger};
 
 use dr_age::{begun_members, ends_of};
@@ -25,7 +26,8 @@ use std::thread::Threads;
 
 /// Runs the group of a script through one age, each member in a thread, and answers how it ended.
 /// `nth` is the number of the age in the run, from 0: it says which of the faults are those of this
-/// age. Each member appends to the log of its number; one whose append fails ends with that.
+/// age. Each member that is there appends to the log of its number; one whose append fails ends with that. The
+/// place of a log is empty where its member is absent, and such a member takes no part.
 ///
 /// # Errors
 ///
@@ -36,12 +38,11 @@ pub fn run_script_age<R: Threads + Sync, D: Disk, P: Pace + Sync>(
     script: &Script,
     start: &Start,
     nth: u8,
-    logs: Vec<Log<D>>,
+    logs: Vec<Option<Log<D>>>,
     pace: &P,
-) -> Result<(AgeEnd, Vec<Log<D>>), (Vec<Log<D>>, AllocError)>
+) -> Result<(AgeEnd, Vec<Option<Log<D>>>), (Vec<Option<Log<D>>>, AllocError)>
     requires ranges { HasRanges script.now }
     requires group { IsGroup (group_of script.now start.now) }
-    requires present { AllPresent (group_of script.now start.now) }
     requires logs { AreOpened (group_of script.now start.now) logs.items }
     ensures run { IfOk result (λ r. IsRun script.now start.now nth r.0) }
     ensures agreed { IfOk result (λ r. EndsAgreed (group_of script.now start.now).opening r.0.members) }
@@ -52,9 +53,9 @@ pub fn run_script_age<R: Threads + Sync, D: Disk, P: Pace + Sync>(
         (λ r. (is : IsRun script.now start.now nth r.0)
         × HaveCome D.told D.faults logs.items r.1.items is.over.members)
         (λ r. AreLonger D.told D.faults logs.items r.0.items) }
-    ensures ample { IfOk result (λ r. All (IsAmple (group_of script.now start.now)) logs.items
+    ensures ample { IfOk result (λ r. AreAmple (group_of script.now start.now) logs.items
         → NoneFull r.0.members) }
-    ensures count { IfOk result (λ r. length r.1.items ≡ length logs.items) }
+    ensures places { IfOk result (λ r. HaveSamePlaces logs.items r.1.items) }
     ensures members { IfOk result (λ r. length r.0.members ≡ length logs.items) }
 {
     let Ok(entries) = copy_entries(alloc, &start.entries) else {
@@ -74,7 +75,7 @@ pub fn run_script_age<R: Threads + Sync, D: Disk, P: Pace + Sync>(
     let age = AgeEnd {
         age: start.age,
         start: entries,
-        members: Seq::of(ends_of(members, ends)),
+        members: Seq::of(ends_of(alloc, members, ends)),
     };
     Ok((age, logs))
 }

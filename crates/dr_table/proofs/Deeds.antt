@@ -1,7 +1,6 @@
 -- Deeds that store, appends, and which program a deed makes.
 use Rattle.std.proofs.Common.{◌≡◌, refl, sym, ap, ◌∙◌, subst, ℕ, true, List, [], ◌∷◌, ◌++◌, set-set}
-use Rattle.std.specs.Prelude.{None, Some, slice_get, slice_set}
-use Rattle.std.proofs.lemmas.Option.{slice_get_within}
+use Rattle.std.specs.Prelude.{None, Some, Option}
 use Rattle.dr_member.specs.Deeds.{is_append}
 use Rattle.dr_program.specs.declared.deed.Deed.{Deed}
 use Rattle.dr_program.specs.declared.deed.Deed.TheVariants as deeds
@@ -11,14 +10,15 @@ use Rattle.dr_program.specs.Program.{IsRanFrom, Move, Program, after_deed, appen
 use Rattle.dr_program.specs.Running.{Running, after_step, next_deed, next_step, took}
 use Rattle.dr_program.specs.Steps.{IsAppend, stored}
 use Rattle.dr_program.proofs.Fixed.{Told, told, step_told}
-use Rattle.dr_program.proofs.Holdings.{replica_set}
 use Rattle.dr_program.proofs.Runs.{ran_on}
 use Rattle.dr_refine.proofs.Deeds.{settle_replica, step_is}
 use Rattle.dr_age.proofs.Deeds.{IsStoreAt, after_append, deed_tells, stored_append}
 use Rattle.dr_table.specs.Rule.{number}
 use Rattle.dr_table.specs.Deeds.{IsStore}
 use Rattle.dr_table.specs.Steps.{HasAppended}
-use Rattle.dr_table.proofs.Lists.{set_again}
+use Rattle.dr_table.proofs.Lists.{again}
+use Rattle.dr_program.specs.Presence.{present_at, with_present}
+use Rattle.dr_program.proofs.Present.{present_within, present_set}
 
 -- ---- a step, by its deed
 
@@ -74,11 +74,11 @@ same_number r x same = ap (λ (t : Told). t.number) same
 -- ---- programs
 
 -- one deed more
-pub deed_ran : (begun : Program) (words : List ℕ) (members : List Running) (m : ℕ) (o : Outcome)
-    (r : Running) → slice_get members m ≡ Some r → r.replica.end ≡ None
+pub deed_ran : (begun : Program) (words : List ℕ) (members : List (Option Running)) (m : ℕ) (o : Outcome)
+    (r : Running) → present_at members m ≡ Some r → r.replica.end ≡ None
     → IsRanFrom begun (record { members = members; table = words })
     → IsRanFrom begun (record {
-      members = slice_set members m (after_deed (next_sight words r) o r (next_step r));
+      members = with_present members m (after_deed (next_sight words r) o r (next_step r));
       table = stored words r.replica (next_step r);
     })
 unfolding ran
@@ -92,44 +92,44 @@ deed_ran begun words members m o r there none (es, is) = (
     e = record { member = m; outcome = o }
 
 -- appends, one after the other
-pub appends_ran : (begun : Program) (words : List ℕ) (os : List Outcome) (members : List Running) (m : ℕ)
-    (r q : Running) → HasAppended os r q → slice_get members m ≡ Some r
+pub appends_ran : (begun : Program) (words : List ℕ) (os : List Outcome) (members : List (Option Running)) (m : ℕ)
+    (r q : Running) → HasAppended os r q → present_at members m ≡ Some r
     → IsRanFrom begun (record { members = members; table = words })
-    → IsRanFrom begun (record { members = slice_set members m q; table = words })
+    → IsRanFrom begun (record { members = with_present members m q; table = words })
 appends_ran begun words [] members m r q same there ran =
-    subst (λ x. IsRanFrom begun (record { members = slice_set members m x; table = words })) same
-    (subst (λ l. IsRanFrom begun (record { members = l; table = words })) (sym (set_again members m r there))
+    subst (λ x. IsRanFrom begun (record { members = with_present members m x; table = words })) same
+    (subst (λ l. IsRanFrom begun (record { members = l; table = words })) (sym (again members m r there))
     ran)
 appends_ran begun words (o ∷ os) members m r q (due, more) there ran =
     let (none, step) = append_due r due in
     let x = appended_as o r in
-    let once : IsRanFrom begun (record { members = slice_set members m x; table = words }) =
-    subst (λ t. IsRanFrom begun (record { members = slice_set members m x; table = t }))
+    let once : IsRanFrom begun (record { members = with_present members m x; table = words }) =
+    subst (λ t. IsRanFrom begun (record { members = with_present members m x; table = t }))
     (stored_append words r.replica (next_step r) step)
     (subst (λ y. IsRanFrom begun
-    (record { members = slice_set members m y; table = stored words r.replica (next_step r) }))
+    (record { members = with_present members m y; table = stored words r.replica (next_step r) }))
     (after_append (next_sight words r) o r (next_step r) step)
     (deed_ran begun words members m o r there none ran)) in
-    subst (λ l. IsRanFrom begun (record { members = l; table = words })) (set-set members m x q)
-    (appends_ran begun words os (slice_set members m x) m x q more
-    (replica_set members m x (slice_get_within members m r there)) once)
+    subst (λ l. IsRanFrom begun (record { members = l; table = words })) (set-set members m (Some x) (Some q))
+    (appends_ran begun words os (with_present members m x) m x q more
+    (present_set members m x (present_within members m r there)) once)
 
 -- appends, and then a deed
-pub deeds_ran : (begun : Program) (words cells : List ℕ) (os : List Outcome) (members : List Running) (m : ℕ)
-    (r q x : Running) → HasAppended os r q → slice_get members m ≡ Some r → q.replica.end ≡ None
+pub deeds_ran : (begun : Program) (words cells : List ℕ) (os : List Outcome) (members : List (Option Running)) (m : ℕ)
+    (r q x : Running) → HasAppended os r q → present_at members m ≡ Some r → q.replica.end ≡ None
     → after_deed (next_sight words q) outcomes.Ok q (next_step q) ≡ x → stored words q.replica (next_step q)
     ≡ cells
     → IsRanFrom begun (record { members = members; table = words })
-    → IsRanFrom begun (record { members = slice_set members m x; table = cells })
+    → IsRanFrom begun (record { members = with_present members m x; table = cells })
 deeds_ran begun words cells os members m r q x more there none to stores ran =
     let caught = appends_ran begun words os members m r q more there ran in
-    let here = replica_set members m q (slice_get_within members m r there) in
-    subst (λ l. IsRanFrom begun (record { members = l; table = cells })) (set-set members m q x)
-    (subst (λ t. IsRanFrom begun (record { members = slice_set (slice_set members m q) m x; table = t }))
+    let here = present_set members m q (present_within members m r there) in
+    subst (λ l. IsRanFrom begun (record { members = l; table = cells })) (set-set members m (Some q) (Some x))
+    (subst (λ t. IsRanFrom begun (record { members = with_present (with_present members m q) m x; table = t }))
     stores
     (subst (λ y. IsRanFrom begun
     (record {
-      members = slice_set (slice_set members m q) m y;
+      members = with_present (with_present members m q) m y;
       table = stored words q.replica (next_step q);
     })) to
-    (deed_ran begun words (slice_set members m q) m outcomes.Ok q here none caught)))
+    (deed_ran begun words (with_present members m q) m outcomes.Ok q here none caught)))

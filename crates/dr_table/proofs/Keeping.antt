@@ -1,8 +1,7 @@
 -- The steps of a hand's members keep the rule, and what they tell.
-use Rattle.std.proofs.Common.{◌≡◌, refl, sym, ap, ◌∙◌, subst, ℕ, true, List}
-use Rattle.std.specs.Prelude.{None, Some, slice_get, slice_index, slice_set}
+use Rattle.std.proofs.Common.{◌≡◌, refl, sym, ap, ◌∙◌, subst, ℕ, true, List, length, length-set}
+use Rattle.std.specs.Prelude.{None, Some, slice_get, slice_index, slice_set, Option}
 use Rattle.std.proofs.lemmas.List.{set-get_or}
-use Rattle.std.proofs.lemmas.Option.{slice_get_within}
 use Rattle.atomic_table.specs.Table.{keeps, Allows, Me}
 use Rattle.dr_machine.specs.Group.{Group}
 use Rattle.dr_machine.specs.Run.{IsReached}
@@ -15,7 +14,6 @@ use Rattle.dr_program.specs.Reading.{step_due, step_of_member, world}
 use Rattle.dr_program.specs.Running.{Running, after_step, next_deed, next_step}
 use Rattle.dr_program.specs.Sight.{MaySee}
 use Rattle.dr_program.specs.Steps.{stored}
-use Rattle.dr_program.proofs.Holdings.{replica_set}
 use Rattle.dr_program_laws.proofs.Keeping.{deeds_kept, move_kept, sees}
 use Rattle.dr_refine.specs.Programs.{IsProgram}
 use Rattle.dr_refine.proofs.Deeds.{step_is}
@@ -24,13 +22,15 @@ use Rattle.dr_table.specs.Deeds.{IsStore}
 use Rattle.dr_table.specs.Rule.{HasSuchProgram, number}
 use Rattle.dr_table.specs.Steps.{HasAppended, IsAhead, IsOfProgram, IsReachedMember, Looked, MayFind, Stored}
 use Rattle.dr_table.proofs.Deeds.{after_told, append_due, appended_told, appends_ran, appends_told, deeds_ran, same_number, stores}
-use Rattle.dr_table.proofs.Lists.{by_table}
+use Rattle.dr_table.proofs.Lists.{by_table, sum_again}
 use Rattle.dr_table.proofs.Places.{stands_set}
+use Rattle.dr_program.specs.Presence.{present_at, with_present}
+use Rattle.dr_program.proofs.Present.{present_within, present_set}
 
 -- ---- members of programs that are reached
 
 -- the program of the rule is one of its group, in a world that is reached
-pub kept_program : (dealt : List Running) (words : List ℕ) (views : List (List Running))
+pub kept_program : (dealt : List (Option Running)) (words : List ℕ) (views : List (List (Option Running)))
     (k : HasSuchProgram dealt words views) (p : Program) → IsRanFrom (begun_program k.opening.group k.opening.setups)
     p
     → IsProgram k.opening.group p × IsReached k.opening.group (world k.opening.group p)
@@ -48,11 +48,11 @@ goes_on g p r x o is none to same =
       step_of p e,
       record {
         sound = record { group = is.sound.group; form = kept.0; reached = kept.1 };
-        there = ap (λ (q : Program). slice_get q.members (number x)) (step_is p e r is.there none)
-            ∙ ap (slice_get (slice_set p.members (number r)
+        there = ap (λ (q : Program). present_at q.members (number x)) (step_is p e r is.there none)
+            ∙ ap (present_at (with_present p.members (number r)
             (after_deed (next_sight p.table r) o r (next_step r)))) same
-            ∙ replica_set p.members (number r) (after_deed (next_sight p.table r) o r (next_step r))
-            (slice_get_within p.members (number r) r is.there)
+            ∙ present_set p.members (number r) (after_deed (next_sight p.table r) o r (next_step r))
+            (present_within p.members (number r) r is.there)
             ∙ ap (λ y. Some y) to;
       },
     )
@@ -98,30 +98,31 @@ find_seen r index word next (g, p, is, found) =
 -- ---- the rule
 
 -- moves of the member at a place of a hand
-kept_step : (dealt : List Running) (words cells : List ℕ) (views : List (List Running)) (id : ℕ)
-    (v : List Running) (at : ℕ) (r x : Running) → slice_get views id ≡ Some v → slice_get v at ≡ Some r
+kept_step : (dealt : List (Option Running)) (words cells : List ℕ) (views : List (List (Option Running))) (id : ℕ)
+    (v : List (Option Running)) (at : ℕ) (r x : Running) → slice_get views id ≡ Some v → present_at v at ≡ Some r
     → number x ≡ number r
-    → ((begun : Program) (members : List Running) → slice_get members (number r) ≡ Some r
+    → ((begun : Program) (members : List (Option Running)) → present_at members (number r) ≡ Some r
     → IsRanFrom begun (record { members = members; table = words })
-    → IsRanFrom begun (record { members = slice_set members (number r) x; table = cells }))
-    → HasSuchProgram dealt words views → HasSuchProgram dealt cells (slice_set views id (slice_set v at x))
+    → IsRanFrom begun (record { members = with_present members (number r) x; table = cells }))
+    → HasSuchProgram dealt words views → HasSuchProgram dealt cells (slice_set views id (with_present v at x))
 kept_step dealt words cells views id v at r x is here same moves k = record {
   opening = k.opening;
-  members = slice_set k.members (number r) x;
+  members = with_present k.members (number r) x;
   ran = moves (begun_program k.opening.group k.opening.setups) k.members (k.stands.each id at r (v, is, here))
       k.ran;
   stands = stands_set views k.members id v at r x is here same k.stands;
+  places = sum_again length views id v (with_present v at x) is (length-set v at (Some x)) ∙ k.places;
 }
 
 -- the member that has appended since the seat's last step may find the word that stands there
-may_find : (dealt : List Running) (words : List ℕ) (views : List (List Running)) (id : ℕ)
-    (v : List Running) (at : ℕ) (os : List Outcome) (r q : Running) (index : ℕ) → slice_get views id ≡ Some v
-    → slice_get v at ≡ Some r → HasAppended os r q → next_deed q ≡ deeds.Look index
+may_find : (dealt : List (Option Running)) (words : List ℕ) (views : List (List (Option Running))) (id : ℕ)
+    (v : List (Option Running)) (at : ℕ) (os : List Outcome) (r q : Running) (index : ℕ) → slice_get views id ≡ Some v
+    → present_at v at ≡ Some r → HasAppended os r q → next_deed q ≡ deeds.Look index
     → HasSuchProgram dealt words views → MayFind q (slice_index words index)
 may_find dealt words views id v at os r q index is here more next k =
     let there = k.stands.each id at r (v, is, here) in
     let named = same_number r q (appends_told os r q more) in
-    let p : Program = record { members = slice_set k.members (number r) q; table = words } in
+    let p : Program = record { members = with_present k.members (number r) q; table = words } in
     let kept = kept_program dealt words views k p
     (appends_ran (begun_program k.opening.group k.opening.setups) words os k.members (number r) r q more there
     k.ran) in (
@@ -129,15 +130,15 @@ may_find dealt words views id v at os r q index is here more next k =
       p,
       record {
         sound = record { group = k.opening.is; form = kept.0; reached = kept.1 };
-        there = ap (slice_get (slice_set k.members (number r) q)) named
-            ∙ replica_set k.members (number r) q (slice_get_within k.members (number r) r there);
+        there = ap (present_at (with_present k.members (number r) q)) named
+            ∙ present_set k.members (number r) q (present_within k.members (number r) r there);
       },
       (deed_tells words q (deeds.Look index) next).says.sees,
     )
 
-pub look_allowed : (dealt : List Running) (slots id at index : ℕ) (me : Me ℕ (List Running)) (r q : Running)
-    → slice_get me.0 at ≡ Some r → IsAhead r q → next_deed q ≡ deeds.Look index
-    → Allows {S = ℕ} {V = List Running} (λ s. HasSuchProgram dealt s.words s.views) slots id me index (λ n. n)
+pub look_allowed : (dealt : List (Option Running)) (slots id at index : ℕ) (me : Me ℕ (List (Option Running))) (r q : Running)
+    → present_at me.0 at ≡ Some r → IsAhead r q → next_deed q ≡ deeds.Look index
+    → Allows {S = ℕ} {V = List (Option Running)} (λ s. HasSuchProgram dealt s.words s.views) slots id me index (λ n. n)
     (λ n w. Looked at q me.0 n w.0 × (w.1 ≡ me.1))
 look_allowed dealt slots id at index me r q here (os, more) next s k _ is _ =
     let v = me.0 in
@@ -152,17 +153,17 @@ look_allowed dealt slots id at index me r q here (os, more) next s k _ is _ =
     ∙ ap (λ w. after_step w q) t.says.sees)
     (ap (stored s.words q.replica) t.says.look) ran)
     k in (
-      slice_set v at x,
+      with_present v at x,
       keeps,
       tt,
-      subst (λ ws. HasSuchProgram dealt ws (slice_set s.views id (slice_set v at x)))
+      subst (λ ws. HasSuchProgram dealt ws (slice_set s.views id (with_present v at x)))
           (sym (set-get_or s.words index 0)) kept,
       ((refl, may_find dealt s.words s.views id v at os r q index home here more next k), refl),
     )
 
-pub store_allowed : (dealt : List Running) (slots id at index new : ℕ) (me : Me ℕ (List Running))
-    (r q : Running) → slice_get me.0 at ≡ Some r → IsAhead r q → IsStore index new (next_deed q)
-    → Allows {S = ℕ} {V = List Running} (λ s. HasSuchProgram dealt s.words s.views) slots id me index (λ _. new)
+pub store_allowed : (dealt : List (Option Running)) (slots id at index new : ℕ) (me : Me ℕ (List (Option Running)))
+    (r q : Running) → present_at me.0 at ≡ Some r → IsAhead r q → IsStore index new (next_deed q)
+    → Allows {S = ℕ} {V = List (Option Running)} (λ s. HasSuchProgram dealt s.words s.views) slots id me index (λ _. new)
     (λ _ w. Stored at q me.0 w.0 × (w.1 ≡ me.1))
 store_allowed dealt slots id at index new me r q here (os, more) next s k _ is _ =
     let v = me.0 in
@@ -177,4 +178,4 @@ store_allowed dealt slots id at index new me r q here (os, more) next s k _ is _
     (any_outcome (next_sight s.words q) outcomes.Ok q (next_step q) t.says.other
     ∙ ap (λ w. after_step w q) t.says.sees) t.says.stores ran)
     k in
-    (slice_set v at x, keeps, tt, kept, (refl, refl))
+    (with_present v at x, keeps, tt, kept, (refl, refl))

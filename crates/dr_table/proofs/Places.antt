@@ -1,22 +1,24 @@
 -- Where members stand after one of them changes, after a hand is cut in two, and after two are put together.
-use Rattle.std.proofs.Common.{◌≡◌, ◌≢◌, ◌⊎◌, inl, inr, refl, sym, ap, ◌∙◌, ℕ, ◌+◌, ◌-◌, ◌<◌, ◌≤◌, List, [], ◌∷◌, ◌++◌, length, take, drop, length-set, arith, eq-eqb, ne_eqb, lt-ltb, le-ltb, eqb, ltb, cond}
-use Rattle.std.specs.Prelude.{Some, slice_get, slice_set}
+use Rattle.std.proofs.Common.{◌≡◌, ◌≢◌, ◌⊎◌, inl, inr, refl, sym, ap, ◌∙◌, ℕ, ◌+◌, ◌-◌, ◌≤◌, List, [], ◌∷◌, ◌++◌, length, take, drop, length-set, arith, eq-eqb, ne_eqb, lt-ltb, le-ltb, eqb, ltb, cond}
+use Rattle.std.specs.Prelude.{Some, slice_get, slice_set, Option}
 use Rattle.std.proofs.lemmas.Bool.{cases_eq, cases_lt}
 use Rattle.std.proofs.lemmas.Option.{same_Some, slice_get_within}
-use Rattle.dr_history_laws.proofs.Lists.{slice_get-left, slice_get-push_cases, slice_get-seam, slice_get-take}
+use Rattle.dr_history_laws.proofs.Lists.{slice_get-left, slice_get-push_cases, slice_get-seam}
 use Rattle.dr_program.proofs.Holdings.{replica_kept, replica_set}
 use Rattle.dr_program.specs.Running.{Running}
 use Rattle.dr_table.specs.Rule.{Found, Stands, number}
-use Rattle.dr_table.proofs.Lists.{at_append, at_drop, at_set, at_take, behind}
+use Rattle.dr_table.proofs.Lists.{at_set, place_append, place_behind, place_drop, place_front, place_set, place_take, take_place}
+use Rattle.dr_program.specs.Presence.{present_at, with_present}
+use Rattle.dr_program.proofs.Present.{present_within, present_set, present_kept}
 
 -- ---- one member changes
 
 -- what stands where one member of a hand was replaced: the new one, or what stood there
-found_set : (views : List (List Running)) (id : ℕ) (v : List Running) (at : ℕ) (x : Running) (s a : ℕ)
-    (r : Running) → slice_get views id ≡ Some v → Found (slice_set views id (slice_set v at x)) s a r
+found_set : (views : List (List (Option Running))) (id : ℕ) (v : List (Option Running)) (at : ℕ) (x : Running) (s a : ℕ)
+    (r : Running) → slice_get views id ≡ Some v → Found (slice_set views id (with_present v at x)) s a r
     → ((s ≡ id) × (a ≡ at) × (x ≡ r)) ⊎ (Found views s a r × ((s ≡ id) × (a ≡ at) → ⊥))
-found_set views id v at x s a r is (w, there, stands) = elim (at_set views id s (slice_set v at x) w there) [
-  | inl here ↦ elim (at_set v at a x r (ap (λ u. slice_get u a) here.1 ∙ stands)) [
+found_set views id v at x s a r is (w, there, stands) = elim (at_set views id s (with_present v at x) w there) [
+  | inl here ↦ elim (place_set v at a x r (ap (λ u. present_at u a) here.1 ∙ stands)) [
     | inl new ↦ inl (here.0, new.0, new.1)
     | inr old ↦ inr ((v, ap (slice_get views) here.0 ∙ is, old.1), λ h. old.0 h.1)
   ]
@@ -24,52 +26,52 @@ found_set views id v at x s a r is (w, there, stands) = elim (at_set views id s 
 ]
 
 -- the others stand where they stood
-found_kept : (views : List (List Running)) (id : ℕ) (v : List Running) (at : ℕ) (x : Running) (s a : ℕ)
+found_kept : (views : List (List (Option Running))) (id : ℕ) (v : List (Option Running)) (at : ℕ) (x : Running) (s a : ℕ)
     (r : Running) → slice_get views id ≡ Some v → Found views s a r → ((s ≡ id) × (a ≡ at) → ⊥)
-    → Found (slice_set views id (slice_set v at x)) s a r
+    → Found (slice_set views id (with_present v at x)) s a r
 found_kept views id v at x s a r is (w, there, stands) apart = elim (cases_eq s id) [
   | inl here ↦ (
-    slice_set v at x,
-    ap (slice_get (slice_set views id (slice_set v at x))) here
-        ∙ replica_set views id (slice_set v at x) (slice_get_within views id v is),
-    replica_kept v at a x (λ same. apart (here, same))
-        ∙ ap (λ u. slice_get u a) (same_Some v w (sym is ∙ ap (slice_get views) (sym here) ∙ there)) ∙ stands,
+    with_present v at x,
+    ap (slice_get (slice_set views id (with_present v at x))) here
+        ∙ replica_set views id (with_present v at x) (slice_get_within views id v is),
+    present_kept v at a x (λ same. apart (here, same))
+        ∙ ap (λ u. present_at u a) (same_Some v w (sym is ∙ ap (slice_get views) (sym here) ∙ there)) ∙ stands,
   )
-  | inr other ↦ (w, replica_kept views id s (slice_set v at x) other ∙ there, stands)
+  | inr other ↦ (w, replica_kept views id s (with_present v at x) other ∙ there, stands)
 ]
 
 -- the members stand so where one of them is replaced in its hand and in the program
-pub stands_set : (views : List (List Running)) (members : List Running) (id : ℕ) (v : List Running) (at : ℕ)
-    (r x : Running) → slice_get views id ≡ Some v → slice_get v at ≡ Some r → number x ≡ number r
+pub stands_set : (views : List (List (Option Running))) (members : List (Option Running)) (id : ℕ) (v : List (Option Running)) (at : ℕ)
+    (r x : Running) → slice_get views id ≡ Some v → present_at v at ≡ Some r → number x ≡ number r
     → Stands views members
-    → Stands (slice_set views id (slice_set v at x)) (slice_set members (number r) x)
+    → Stands (slice_set views id (with_present v at x)) (with_present members (number r) x)
 stands_set views members id v at r x is here same h = record { each = each; once = once; all = all }
   where
-    after : List (List Running)
-    after = slice_set views id (slice_set v at x)
+    after : List (List (Option Running))
+    after = slice_set views id (with_present v at x)
 
     mine : Found views id at r
     mine = (v, is, here)
 
     new : Found after id at x
     new = (
-      slice_set v at x,
-      replica_set views id (slice_set v at x) (slice_get_within views id v is),
-      replica_set v at x (slice_get_within v at r here),
+      with_present v at x,
+      replica_set views id (with_present v at x) (slice_get_within views id v is),
+      present_set v at x (present_within v at r here),
     )
 
     other : (s a : ℕ) (q : Running) → Found views s a q → ((s ≡ id) × (a ≡ at) → ⊥) → number q ≢ number r
     other s a q f apart e = apart (h.once s a id at q r f mine e)
 
     each : (s a : ℕ) (q : Running) → Found after s a q
-        → slice_get (slice_set members (number r) x) (number q) ≡ Some q
+        → present_at (with_present members (number r) x) (number q) ≡ Some q
     each s a q f = elim (found_set views id v at x s a q is f) [
       | inl now ↦
-          ap (slice_get (slice_set members (number r) x)) (ap number (sym now.2) ∙ same)
-          ∙ replica_set members (number r) x (slice_get_within members (number r) r (h.each id at r mine))
+          ap (present_at (with_present members (number r) x)) (ap number (sym now.2) ∙ same)
+          ∙ present_set members (number r) x (present_within members (number r) r (h.each id at r mine))
           ∙ ap (λ y. Some y) now.2
       | inr old ↦
-          replica_kept members (number r) (number q) x (other s a q old.0 old.1) ∙ h.each s a q old.0
+          present_kept members (number r) (number q) x (other s a q old.0 old.1) ∙ h.each s a q old.0
     ]
 
     once : (s a t b : ℕ) (q u : Running) → Found after s a q → Found after t b u → number q ≡ number u
@@ -85,13 +87,12 @@ stands_set views members id v at r x is here same h = record { each = each; once
       ]
     ]
 
-    all : (k : ℕ) → k < length (slice_set members (number r) x)
+    all : (k : ℕ) (u : Running) → present_at (with_present members (number r) x) k ≡ Some u
         → (s a : ℕ) × (q : Running) × Found after s a q × (number q ≡ k)
-    all k within =
-        let (s, a, q, f, named) = h.all k (omega (arith, within, length-set members (number r) x)) in
-        elim (cases_eq k (number r)) [
-          | inl here ↦ (id, at, x, new, same ∙ sym here)
-          | inr apart ↦ (
+    all k u stood = elim (cases_eq k (number r)) [
+      | inl here ↦ (id, at, x, new, same ∙ sym here)
+      | inr apart ↦
+          let (s, a, q, f, named) = h.all k u (sym (present_kept members (number r) k x apart) ∙ stood) in (
             s,
             a,
             q,
@@ -99,19 +100,19 @@ stands_set views members id v at r x is here same h = record { each = each; once
                 ∙ ap number (one s a q f places))),
             named,
           )
-        ]
+    ]
       where
         one : (s a : ℕ) (q : Running) → Found views s a q → (s ≡ id) × (a ≡ at) → q ≡ r
         one s a q (w, there, stands) places =
-            same_Some q r (sym stands ∙ ap (λ u. slice_get u a)
+            same_Some q r (sym stands ∙ ap (λ u. present_at u a)
             (same_Some w v (sym there ∙ ap (slice_get views) places.0 ∙ is))
-            ∙ ap (slice_get v) places.1 ∙ here)
+            ∙ ap (present_at v) places.1 ∙ here)
 
 -- ---- members change their places
 
 -- each place in the new hands comes from one in the old, which `back` leads there, and each member still
 -- stands somewhere
-stands_moved : (views views' : List (List Running)) (members : List Running) (back : ℕ → ℕ → ℕ × ℕ)
+stands_moved : (views views' : List (List (Option Running))) (members : List (Option Running)) (back : ℕ → ℕ → ℕ × ℕ)
     → ((s a : ℕ) (r : Running) → Found views' s a r
     → (t b : ℕ) × Found views t b r × (back t b ≡ (s, a)))
     → ((s a : ℕ) (r : Running) → Found views s a r → (t b : ℕ) × Found views' t b r)
@@ -124,8 +125,8 @@ stands_moved views views' members back way on h = record {
       let o = h.once x.0 x.1 y.0 y.1 r q x.2 y.2 e in
       let same : (s, a) ≡ (t, b) = sym x.3 ∙ (λ k. back (o.0 k) (o.1 k)) ∙ y.3 in
       (ap (λ (z : ℕ × ℕ). z.0) same, ap (λ (z : ℕ × ℕ). z.1) same);
-  all = λ k within.
-      let (s, a, r, f, named) = h.all k within in
+  all = λ k q there.
+      let (s, a, r, f, named) = h.all k q there in
       let (t, b, g) = on s a r f in (t, b, r, g, named);
 }
 
@@ -133,14 +134,14 @@ stands_moved views views' members back way on h = record {
 cut_back : ℕ → ℕ → ℕ → ℕ → ℕ → ℕ × ℕ
 cut_back id at n s a = cond (eqb s id) (cond (ltb a at) (id, a) (n, a - at)) (s, a)
 
-pub stands_cut : (views : List (List Running)) (members : List Running) (id at : ℕ) (v : List Running)
+pub stands_cut : (views : List (List (Option Running))) (members : List (Option Running)) (id at : ℕ) (v : List (Option Running))
     → slice_get views id ≡ Some v → Stands views members
     → Stands (slice_set views id (take at v) ++ drop at v ∷ []) members
 unfolding cut_back
 stands_cut views members id at v is h =
     stands_moved views after members (cut_back id at (length views)) way on h
   where
-    after : List (List Running)
+    after : List (List (Option Running))
     after = slice_set views id (take at v) ++ drop at v ∷ []
 
     way : (s a : ℕ) (r : Running) → Found after s a r
@@ -149,12 +150,12 @@ stands_cut views members id at v is h =
         elim (slice_get-push_cases (slice_set views id (take at v)) (drop at v) w s there) [
           | inl first ↦ elim (at_set views id s (take at v) w first.1) [
             | inl here ↦
-                let t = at_take at v a r (ap (λ l. slice_get l a) here.1 ∙ stands) in
+                let t = place_take at v a r (ap (λ l. present_at l a) here.1 ∙ stands) in
                 (id, a, (v, is, t.1), (rw (eq-eqb id id refl, lt-ltb a at t.0) (λ k. (sym here.0 k, a))))
             | inr other ↦ (s, a, (w, other.1, stands), rw (ne_eqb s id other.0) refl)
           ]
           | inr last ↦
-              let t = sym (at_drop at v a) ∙ (ap (λ l. slice_get l a) last.1 ∙ stands) in
+              let t = sym (place_drop at v a) ∙ (ap (λ l. present_at l a) last.1 ∙ stands) in
               let le : at ≤ at + a = omega arith in
               let here : at + a - at ≡ a = omega arith in (
                 id,
@@ -178,7 +179,7 @@ stands_cut views members id at v is h =
                 slice_get-left (slice_set views id (take at v)) (drop at v ∷ []) id
                     (omega (arith, length-set views id (take at v), slice_get_within views id v is))
                     ∙ replica_set views id (take at v) (slice_get_within views id v is),
-                slice_get-take at v a below ∙ ap (λ l. slice_get l a) (sym same) ∙ stands,
+                take_place at v a below ∙ ap (λ l. present_at l a) (sym same) ∙ stands,
               ),
             )
             | inr past ↦
@@ -188,7 +189,7 @@ stands_cut views members id at v is h =
                   (
                     drop at v,
                     slice_get-seam (slice_set views id (take at v)) (drop at v) [],
-                    at_drop at v (a - at) ∙ ap (slice_get v) back ∙ ap (λ l. slice_get l a) (sym same)
+                    place_drop at v (a - at) ∙ ap (present_at v) back ∙ ap (λ l. present_at l a) (sym same)
                         ∙ stands,
                   ),
                 )
@@ -210,25 +211,25 @@ stands_cut views members id at v is h =
 joined_back : ℕ → ℕ → ℕ → ℕ → ℕ → ℕ × ℕ
 joined_back id other n s a = cond (eqb s other) (id, n + a) (s, a)
 
-pub stands_joined : (views : List (List Running)) (members : List Running) (id : ℕ) (v : List Running)
-    (other : ℕ) (w : List Running) → slice_get views id ≡ Some v → other ≢ id → slice_get views other ≡ Some w
+pub stands_joined : (views : List (List (Option Running))) (members : List (Option Running)) (id : ℕ) (v : List (Option Running))
+    (other : ℕ) (w : List (Option Running)) → slice_get views id ≡ Some v → other ≢ id → slice_get views other ≡ Some w
     → Stands views members → Stands (slice_set (slice_set views id (v ++ w)) other []) members
 unfolding joined_back
 stands_joined views members id v other w is apart there h =
     stands_moved views after members (joined_back id other (length v)) way on h
   where
-    both : List (List Running)
+    both : List (List (Option Running))
     both = slice_set views id (v ++ w)
 
-    after : List (List Running)
+    after : List (List (Option Running))
     after = slice_set both other []
 
     way : (s a : ℕ) (r : Running) → Found after s a r
         → (t b : ℕ) × Found views t b r × (joined_back id other (length v) t b ≡ (s, a))
     way s a r (u, at, stands) = elim (at_set both other s [] u at) [
-      | inl spent ↦ absurd (cc (ap (λ l. slice_get l a) spent.1 ∙ stands))
+      | inl spent ↦ absurd (cc (ap (λ l. present_at l a) spent.1 ∙ stands))
       | inr old ↦ elim (at_set views id s (v ++ w) u old.1) [
-        | inl here ↦ elim (at_append v w a r (ap (λ l. slice_get l a) here.1 ∙ stands)) [
+        | inl here ↦ elim (place_append v w a r (ap (λ l. present_at l a) here.1 ∙ stands)) [
           | inl first ↦
               let ne : id ≢ other = λ e. apart (sym e) in
               (id, a, (v, is, first), rw (ne_eqb id other ne) (λ k. (sym here.0 k, a)))
@@ -253,14 +254,14 @@ stands_joined views members id v other w is apart there h =
     on : (s a : ℕ) (r : Running) → Found views s a r → (t b : ℕ) × Found after t b r
     on s a r (u, at, stands) = elim (cases_eq s id) [
       | inl here ↦
-          let mine = ap (λ l. slice_get l a)
+          let mine = ap (λ l. present_at l a)
           (same_Some v u (sym is ∙ ap (slice_get views) (sym here) ∙ at)) ∙ stands in
-          (id, a, (v ++ w, home, slice_get-left v w a (slice_get_within v a r mine) ∙ mine))
+          (id, a, (v ++ w, home, place_front v w a (present_within v a r mine) ∙ mine))
       | inr away ↦ elim (cases_eq s other) [
         | inl second ↦
-            let its = ap (λ l. slice_get l a)
+            let its = ap (λ l. present_at l a)
             (same_Some w u (sym there ∙ ap (slice_get views) (sym second) ∙ at)) ∙ stands in
-            (id, length v + a, (v ++ w, home, behind v w a ∙ its))
+            (id, length v + a, (v ++ w, home, place_behind v w a ∙ its))
         | inr third ↦ (
           s,
           a,

@@ -1,11 +1,9 @@
 -- Sweeps: what a hand knows as one begins, as it goes on, and as it ends.
 use Rattle.std.proofs.Common.{◌≡◌, refl, sym, ap, ◌∙◌, subst, ℕ, List, [], ◌∷◌, ◌++◌, set-set}
-use Rattle.std.specs.Prelude.{slice_get, slice_set, vec_capacity}
-use Rattle.std.proofs.lemmas.Option.{slice_get_within}
+use Rattle.std.specs.Prelude.{Option, Some, vec_capacity}
 use Rattle.dr_program.specs.declared.deed.Deed.TheVariants as deeds
 use Rattle.dr_program.specs.Running.{Running, after_step, next_deed}
 use Rattle.dr_program.proofs.Fixed.{Told, told}
-use Rattle.dr_program.proofs.Holdings.{replica_set}
 use Rattle.dr_words.specs.Layout.{words_of}
 use Rattle.dr_table.specs.Cards.{Cards}
 use Rattle.dr_table.specs.Deeds.{IsStore}
@@ -15,8 +13,10 @@ use Rattle.dr_table.specs.Steps.{IsReachedMember, MayFind}
 use Rattle.dr_table.specs.Sweeps.{HasComeBySweep, HasSwept, HasTaken, IsSwept}
 use Rattle.dr_table.proofs.Deeds.{after_told, stores}
 use Rattle.dr_table.proofs.Hands.{seat_has}
-use Rattle.dr_table.proofs.Lists.{set_again}
+use Rattle.dr_table.proofs.Lists.{again}
 use Rattle.dr_table.proofs.Members.{StandsAt, only, stepped_inside}
+use Rattle.dr_program.specs.Presence.{present_at, with_present}
+use Rattle.dr_program.proofs.Present.{present_within, present_set}
 
 -- one deed more
 taken_more : (words : List ℕ) (word : ℕ) (r q : Running) → HasTaken words r q → IsSwept (next_deed q)
@@ -39,15 +39,15 @@ come_begins {h} {hand} {at} {m} s =
     let (r, there, ahead) = seat_has h.seat.me.0 h.members.items at m s.is.ahead s.here in
     record {
       taken = ([], refl);
-      seat = (r, ahead, there, sym (set_again h.seat.me.0 at r there));
+      seat = (r, ahead, there, sym (again h.seat.me.0 at r there));
       reached = s.is.reached at m s.here;
       of = s.is.of at m s.here;
     }
 
 -- one more was taken
-pub come_on : (size : ℕ) (v : List Running) (from : Running) (w u : List Running) (at : ℕ) (q : Running)
+pub come_on : (size : ℕ) (v : List (Option Running)) (from : Running) (w u : List (Option Running)) (at : ℕ) (q : Running)
     (word : ℕ) → HasComeBySweep size v from w at q → IsSwept (next_deed q) → MayFind q word
-    → u ≡ slice_set w at (after_step word q) → IsReachedMember (after_step word q)
+    → u ≡ with_present w at (after_step word q) → IsReachedMember (after_step word q)
     → HasComeBySweep size v from u at (after_step word q)
 come_on size v from w u at q word come swept found to reached =
     let x = after_step word q in
@@ -58,8 +58,8 @@ come_on size v from w u at q word come swept found to reached =
       seat = (
         x,
         ([], refl),
-        ap (λ l. slice_get l at) to ∙ replica_set w at x (slice_get_within w at r there),
-        to ∙ ap (λ l. slice_set l at x) is ∙ set-set v at r x,
+        ap (λ l. present_at l at) to ∙ present_set w at x (present_within w at r there),
+        to ∙ ap (λ l. with_present l at x) is ∙ set-set v at (Some r) (Some x),
       );
       reached = reached;
       of = ap (λ (t : Told). words_of t.roster t.window t.banks) (after_told word q) ∙ come.of;
@@ -82,20 +82,20 @@ push_swept q index new next = subst IsSwept (sym next) tt
 
 -- the hand keeps what it knows
 pub swept_inside : {h : Inside} {hand : Cards} {at : ℕ} {m : Running} (k : Inside) (x : Running)
-    → StandsAt h hand at m → k.members.items ≡ slice_set h.members.items at x
-    → vec_capacity k.members ≡ vec_capacity h.members → k.seat.table_id ≡ h.seat.table_id → k.seat.me.1 ≡ []
+    → StandsAt h hand at m → k.members.items ≡ with_present h.members.items at x
+    → vec_capacity k.members ≡ vec_capacity h.members → k.places ≡ h.places → k.seat.table_id ≡ h.seat.table_id → k.seat.me.1 ≡ []
     → HasComeBySweep k.seat.table_id.words h.seat.me.0 m k.seat.me.0 at x → IsInsideHand k
-swept_inside {m = m} k x s items room table slots come =
+swept_inside {m = m} k x s items room places table slots come =
     let (words, taken) = come.taken in
     let (r, ahead, there, to) = come.seat in
-    stepped_inside k r x s (taken_told words m x taken) come.reached items room table slots to ahead
+    stepped_inside k r x s (taken_told words m x taken) come.reached items room places table slots to ahead
 
 -- what the member has become, where it stood
 pub went_sweeping : {h : Inside} {hand : Cards} {at : ℕ} {m : Running} (x : Running) → StandsAt h hand at m
-    → (words : List ℕ) × HasTaken words m x → HasSwept hand.members at (slice_set h.members.items at x)
+    → (words : List ℕ) × HasTaken words m x → HasSwept hand.members at (with_present h.members.items at x)
 went_sweeping {at = at} x s (words, taken) r stands = (
   words,
   x,
   subst (λ q. HasTaken words q x) (only s stands) taken,
-  λ k. slice_set (s.items k) at x,
+  λ k. with_present (s.items k) at x,
 )

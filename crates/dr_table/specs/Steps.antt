@@ -1,5 +1,5 @@
 -- What steps make of the members of a seat, and what they tell.
-use Rattle.std.specs.Prelude.{◌≡◌, ℕ, true, List, [], ◌∷◌, length, slice_get, slice_set, None, Some}
+use Rattle.std.specs.Prelude.{◌≡◌, ℕ, true, List, [], ◌∷◌, length, None, Some, Option, is_some}
 use Rattle.dr_age.specs.Sound.{IsSound}
 use Rattle.dr_machine.specs.Group.{Group}
 use Rattle.dr_machine.specs.World.{no_value}
@@ -8,11 +8,12 @@ use Rattle.dr_program.specs.declared.outcome.Outcome.{Outcome}
 use Rattle.dr_program.specs.Program.{Program, appended_as, next_sight}
 use Rattle.dr_program.specs.Running.{Running, after_step, next_deed}
 use Rattle.dr_table.specs.Rule.{number}
+use Rattle.dr_program.specs.Presence.{present_at, with_present}
 
 -- r is a member of this sound program of the group
 pub record IsOfProgram (g : Group) (p : Program) (r : Running) : Type 0 where
   pub sound : IsSound g p
-  pub there : slice_get p.members (number r) ≡ Some r
+  pub there : present_at p.members (number r) ≡ Some r
 
 -- r is a member of some such program
 abbrev pub IsReachedMember : Running → Type 0
@@ -23,12 +24,12 @@ abbrev pub MayFind : Running → ℕ → Type 0
 MayFind r word = (g : Group) × (p : Program) × IsOfProgram g p r × (next_sight p.table r ≡ word)
 
 -- the member at this place, now r, has looked at this word
-abbrev pub Looked : ℕ → Running → List Running → ℕ → List Running → Type 0
-Looked at r v word w = (w ≡ slice_set v at (after_step word r)) × MayFind r word
+abbrev pub Looked : ℕ → Running → List (Option Running) → ℕ → List (Option Running) → Type 0
+Looked at r v word w = (w ≡ with_present v at (after_step word r)) × MayFind r word
 
 -- the member at this place, now r, has stored the word of its deed
-abbrev pub Stored : ℕ → Running → List Running → List Running → Type 0
-Stored at r v w = w ≡ slice_set v at (after_step 0 r)
+abbrev pub Stored : ℕ → Running → List (Option Running) → List (Option Running) → Type 0
+Stored at r v w = w ≡ with_present v at (after_step 0 r)
 
 -- q is r after these appends
 abbrev pub HasAppended : List Outcome → Running → Running → Type 0
@@ -40,9 +41,10 @@ abbrev pub IsAhead : Running → Running → Type 0
 IsAhead r q = (os : List Outcome) × HasAppended os r q
 
 -- so it is place by place
-pub record AreAhead (v members : List Running) : Type 0 where
+pub record AreAhead (v members : List (Option Running)) : Type 0 where
   pub all : length v ≡ length members
-  pub each : (k : ℕ) (r q : Running) → slice_get v k ≡ Some r → slice_get members k ≡ Some q → IsAhead r q
+  pub places : (k : ℕ) → is_some (present_at members k) ≡ is_some (present_at v k)
+  pub each : (k : ℕ) (r q : Running) → present_at v k ≡ Some r → present_at members k ≡ Some q → IsAhead r q
 
 -- a member for places at which nobody stands
 abbrev pub nobody : Running

@@ -1,10 +1,11 @@
 -- Sweeps: looks and pushes that a member takes one after the other.
-use Rattle.std.specs.Prelude.{◌≡◌, ℕ, List, [], ◌∷◌, slice_get, slice_set, Some}
+use Rattle.std.specs.Prelude.{◌≡◌, ℕ, List, [], ◌∷◌, Some, Option}
 use Rattle.dr_member.specs.Deeds.{table_size}
 use Rattle.dr_program.specs.declared.deed.Deed.{Deed}
 use Rattle.dr_program.specs.declared.deed.Deed.TheVariants as deeds
 use Rattle.dr_program.specs.Running.{Running, after_step, next_deed}
 use Rattle.dr_table.specs.Steps.{IsAhead, IsReachedMember, MayFind}
+use Rattle.dr_program.specs.Presence.{present_at, with_present}
 
 -- the deed is a look or a push
 abbrev pub IsSwept : Deed → Type 0
@@ -18,15 +19,15 @@ HasTaken [] r q = r ≡ q
 HasTaken (word ∷ words) r q = IsSwept (next_deed r) × MayFind r word × HasTaken words (after_step word r) q
 
 -- the member at this place of a hand has taken some looks and pushes
-abbrev pub HasSwept : List Running → ℕ → List Running → Type 0
-HasSwept old at new = (r : Running) → slice_get old at ≡ Some r
-    → (words : List ℕ) × (q : Running) × HasTaken words r q × (new ≡ slice_set old at q)
+abbrev pub HasSwept : List (Option Running) → ℕ → List (Option Running) → Type 0
+HasSwept old at new = (r : Running) → present_at old at ≡ Some r
+    → (words : List ℕ) × (q : Running) × HasTaken words r q × (new ≡ with_present old at q)
 
 -- a seat that knew the hand v knows w, and the member at this place, which was `from`, is q now: it has taken
 -- some looks and pushes, over a table of so many words
-pub record HasComeBySweep (size : ℕ) (v : List Running) (from : Running) (w : List Running) (at : ℕ) (q : Running)
-    : Type 0 where
+pub record HasComeBySweep (size : ℕ) (v : List (Option Running)) (from : Running)
+    (w : List (Option Running)) (at : ℕ) (q : Running) : Type 0 where
   pub taken : (words : List ℕ) × HasTaken words from q
-  pub seat : (r : Running) × IsAhead r q × (slice_get w at ≡ Some r) × (w ≡ slice_set v at r)
+  pub seat : (r : Running) × IsAhead r q × (present_at w at ≡ Some r) × (w ≡ with_present v at r)
   pub reached : IsReachedMember q
   pub of : table_size q ≡ size

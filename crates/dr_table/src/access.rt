@@ -11,7 +11,7 @@ impl Access<Board> for Seat<u64, View> {
     ghost use Rattle.std.specs.Prelude.{◌≡◌, []};
     ghost use Rattle.dr_table.specs.Sweeps.{HasComeBySweep};
 
-    ghost home = { λ seat board. seat.table_id ≡ board.table };
+    ghost home = { λ seat board. seat.table_id ≡ board.table.id };
 
     ghost came = { λ first from seat at now.
         (seat.table_id ≡ first.table_id) × (seat.me.1 ≡ []) × HasComeBySweep seat.table_id.words first.me.0 from

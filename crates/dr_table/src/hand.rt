@@ -1,14 +1,15 @@
 //! Hands of members, and the steps that these take.
-ghost use Rattle.std.specs.Prelude.{◌≡◌, ◌≤◌, ◌<◌, ◌+◌, ◌-◌, ◌++◌, true, IfErr, IfOk, drop, length, slice_get, slice_set, Some, take, vec_capacity, vec_len};
+ghost use Rattle.std.specs.Prelude.{◌≡◌, ◌≤◌, ◌<◌, ◌+◌, ◌-◌, ◌++◌, true, IfErr, IfOk, is_some, not, drop, length, Some, take, vec_capacity, vec_len, Option};
 ghost use Rattle.dr_member.specs.Deeds.{is_act, is_append, is_look, is_push};
+ghost use Rattle.dr_program.specs.Presence.{present_at, with_present};
 ghost use Rattle.dr_program.specs.Running.{Running, broken_off, next_deed};
 ghost use Rattle.dr_table.specs.Cards.{AtPlace, HasFewerLeft, HasGoneOn};
 ghost use Rattle.dr_table.specs.Steps.{IsReachedMember};
 ghost use Rattle.dr_table.specs.Sweeps.{HasSwept};
 
 use crate::board::Board;
-use crate::moves::{cut_at, store_at};
-use crate::rule::{Counts, Gathers, View};
+use crate::moves::{count_at, cut_at, store_at};
+use crate::rule::{Gathers, View};
 use atomic_table::Seat;
 use dr_member::{Deed, LogWhy, Member};
 use std::alloc::{AllocError, Global};
@@ -19,7 +20,9 @@ use std::marker::{Brand, Model};
 #[derive(Drop)]
 pub struct Hand {
     pub(crate) seat: Seat<u64, View>,
-    pub(crate) members: Vec<Member>,
+    /// How many places were dealt, for which `members` has room.
+    pub(crate) places: usize,
+    pub(crate) members: Vec<Option<Member>>,
 }
 
 impl Model for Hand {
@@ -35,33 +38,46 @@ impl Model for Hand {
 }
 
 impl Hand {
-    /// The number of members.
+    /// The number of places.
     pub fn len(&self) -> usize
         ensures { result ≡ length self.now.members }
     {
         self.members.len()
     }
 
+    /// Whether nobody stands at a place.
+    pub fn is_empty_at(&self, i: usize) -> bool
+        requires within { i < length self.now.members }
+        ensures { result ≡ not (is_some (present_at self.now.members i)) }
+    {
+        self.members[i].is_none()
+    }
+
     /// The member at a place.
     pub fn member(&self, i: usize) -> &Member
-        requires within { i < length self.now.members }
-        ensures there { slice_get self.now.members i ≡ Some result.now }
+        requires there { is_some (present_at self.now.members i) ≡ true }
+        ensures there { present_at self.now.members i ≡ Some result.now }
         ensures reached { IsReachedMember result.now }
     {
-        &self.members[i]
+        let Some(member) = &self.members[i] else {
+            unreachable!()
+        };
+        member
     }
 
     /// The member at a place takes its looks from the next deed, which is one, to the last of the row.
     #[inline(always)]
     pub fn look_row(&mut self, board: &Board, i: usize)
         requires board { self.old.table ≡ board.now.table }
-        requires within { i < length self.old.members }
+        requires there { is_some (present_at self.old.members i) ≡ true }
         requires deed { AtPlace self.old.members i (λ r. is_look (next_deed r) ≡ true) }
         ensures table { self.new.table ≡ self.old.table }
         ensures members { HasSwept self.old.members i self.new.members }
         ensures falls { HasFewerLeft self.old.members i self.new.members }
     {
-        let member = &mut self.members[i];
+        let Some(member) = &mut self.members[i] else {
+            unreachable!()
+        };
         member.look_row(&mut self.seat, board, i);
     }
 
@@ -69,13 +85,15 @@ impl Hand {
     #[inline(always)]
     pub fn push_row(&mut self, board: &Board, i: usize)
         requires board { self.old.table ≡ board.now.table }
-        requires within { i < length self.old.members }
+        requires there { is_some (present_at self.old.members i) ≡ true }
         requires deed { AtPlace self.old.members i (λ r. is_push (next_deed r) ≡ true) }
         ensures table { self.new.table ≡ self.old.table }
         ensures members { HasSwept self.old.members i self.new.members }
         ensures falls { HasFewerLeft self.old.members i self.new.members }
     {
-        let member = &mut self.members[i];
+        let Some(member) = &mut self.members[i] else {
+            unreachable!()
+        };
         member.push_row(&mut self.seat, board, i);
     }
 
@@ -84,43 +102,51 @@ impl Hand {
     #[inline(always)]
     pub fn act(&mut self, board: &Board, i: usize)
         requires board { self.old.table ≡ board.now.table }
-        requires within { i < length self.old.members }
+        requires there { is_some (present_at self.old.members i) ≡ true }
         requires deed { AtPlace self.old.members i (λ r. is_act (next_deed r) ≡ true) }
         ensures table { self.new.table ≡ self.old.table }
         ensures members { HasGoneOn self.old.members i self.new.members }
         ensures falls { HasFewerLeft self.old.members i self.new.members }
     {
-        let member = &self.members[i];
+        let Some(member) = &self.members[i] else {
+            unreachable!()
+        };
         let Deed::Act(word, new) = member.next() else {
             unreachable!()
         };
         store_at::<Brand>(board, &mut self.seat, i, &member.standing(), word, new);
-        let member = &mut self.members[i];
+        let Some(member) = &mut self.members[i] else {
+            unreachable!()
+        };
         member.acted();
     }
 
     /// The log of the member at a place has the record that it appended.
     pub fn appended(&mut self, i: usize)
-        requires within { i < length self.old.members }
+        requires there { is_some (present_at self.old.members i) ≡ true }
         requires deed { AtPlace self.old.members i (λ r. is_append (next_deed r) ≡ true) }
         ensures table { self.new.table ≡ self.old.table }
         ensures members { HasGoneOn self.old.members i self.new.members }
         ensures falls { HasFewerLeft self.old.members i self.new.members }
     {
-        let member = &mut self.members[i];
+        let Some(member) = &mut self.members[i] else {
+            unreachable!()
+        };
         member.appended();
     }
 
     /// The append to its log failed, for this reason.
     pub fn append_failed(&mut self, i: usize, why: &LogWhy)
-        requires within { i < length self.old.members }
+        requires there { is_some (present_at self.old.members i) ≡ true }
         requires deed { AtPlace self.old.members i (λ r. is_append (next_deed r) ≡ true) }
         ensures table { self.new.table ≡ self.old.table }
-        ensures members { (r : Running) → slice_get self.old.members i ≡ Some r
-            → self.new.members ≡ slice_set self.old.members i (broken_off why.now r) }
+        ensures members { (r : Running) → present_at self.old.members i ≡ Some r
+            → self.new.members ≡ with_present self.old.members i (broken_off why.now r) }
         ensures falls { HasFewerLeft self.old.members i self.new.members }
     {
-        let member = &mut self.members[i];
+        let Some(member) = &mut self.members[i] else {
+            unreachable!()
+        };
         member.append_failed(why);
     }
 
@@ -144,17 +170,30 @@ impl Hand {
     {
         let Hand {
             mut seat,
+            places,
             mut members,
         } = self;
         let Ok(mut tail) = Vec::with_capacity(alloc, members.capacity()) else {
-            return Err((Hand { seat, members }, AllocError));
+            return Err((
+                Hand {
+                    seat,
+                    places,
+                    members,
+                },
+                AllocError,
+            ));
         };
         move_tail(&mut members, &mut tail, at);
         let other = cut_at::<Brand>(board, &mut seat, at);
         Ok((
-            Hand { seat, members },
+            Hand {
+                seat,
+                places,
+                members,
+            },
             Hand {
                 seat: other,
+                places,
                 members: tail,
             },
         ))
@@ -170,26 +209,26 @@ pub fn gather_hands(board: &Board, a: Hand, b: Hand) -> Hand
 {
     let Hand {
         mut seat,
+        places,
         mut members,
     } = a;
     let Hand {
         seat: other,
         members: mut more,
+        ..
     } = b;
     board.table.shared.join_seat::<Gathers>(&mut seat, other);
-    board.table.shared.load::<Counts>(&mut seat, 0);
-    if members.is_empty() {
-        return Hand {
-            seat,
-            members: more,
-        };
-    }
+    count_at::<Brand>(board, &mut seat);
     members.append(&mut more).unwrap();
-    Hand { seat, members }
+    Hand {
+        seat,
+        places,
+        members,
+    }
 }
 
 /// Moves the members from a place on, in their order, to the end of another list that has room for them.
-fn move_tail(from: &mut Vec<Member>, into: &mut Vec<Member>, at: usize)
+fn move_tail(from: &mut Vec<Option<Member>>, into: &mut Vec<Option<Member>>, at: usize)
     requires at { at ≤ length from.old.items }
     requires room { vec_len into.old + (length from.old.items - at) ≤ vec_capacity into.old }
     ensures from { (from.new.items ≡ take at from.old.items)

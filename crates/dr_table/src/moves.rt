@@ -1,12 +1,13 @@
 //! The steps on the table, one for each kind.
-ghost use Rattle.std.specs.Prelude.{◌≡◌, ◌<◌, [], drop, slice_get, Some, take};
+ghost use Rattle.std.specs.Prelude.{◌≡◌, ◌<◌, ◌≤◌, [], drop, length, Some, take};
 ghost use Rattle.dr_program.specs.declared.deed.Deed.TheVariants.{Look};
 ghost use Rattle.dr_program.specs.Running.{Running, next_deed};
 ghost use Rattle.dr_table.specs.Deeds.{IsStore};
 ghost use Rattle.dr_table.specs.Steps.{IsAhead, Looked, Stored};
+ghost use Rattle.dr_program.specs.Presence.{present_at};
 
 use crate::board::Board;
-use crate::rule::{Cuts, Looks, Place, Stores, View};
+use crate::rule::{Counts, Cuts, Looks, Place, Stores, View};
 use atomic_table::Seat;
 use dr_member::Standing;
 
@@ -22,10 +23,10 @@ pub(crate) fn look_at<J: Place>(
 ) -> u64
     requires at { i ≡ J.at }
     requires now { member.now ≡ J.now }
-    requires table { seat.old.table_id ≡ board.now.table }
+    requires table { seat.old.table_id ≡ board.now.table.id }
     requires slots { seat.old.me.1 ≡ [] }
-    requires word { word < board.now.table.words }
-    requires there { (r : Running) × (slice_get seat.old.me.0 i ≡ Some r) × IsAhead r member.now }
+    requires word { word < board.now.table.id.words }
+    requires there { (r : Running) × (present_at seat.old.me.0 i ≡ Some r) × IsAhead r member.now }
     requires deed { next_deed member.now ≡ Look word }
     ensures table { seat.new.table_id ≡ seat.old.table_id }
     ensures looked { Looked i member.now seat.old.me.0 result seat.new.me.0 }
@@ -46,10 +47,10 @@ pub(crate) fn store_at<J: Place>(
 )
     requires at { i ≡ J.at }
     requires now { member.now ≡ J.now }
-    requires table { seat.old.table_id ≡ board.now.table }
+    requires table { seat.old.table_id ≡ board.now.table.id }
     requires slots { seat.old.me.1 ≡ [] }
-    requires word { word < board.now.table.words }
-    requires there { (r : Running) × (slice_get seat.old.me.0 i ≡ Some r) × IsAhead r member.now }
+    requires word { word < board.now.table.id.words }
+    requires there { (r : Running) × (present_at seat.old.me.0 i ≡ Some r) × IsAhead r member.now }
     requires deed { IsStore word new (next_deed member.now) }
     ensures table { seat.new.table_id ≡ seat.old.table_id }
     ensures stored { Stored i member.now seat.old.me.0 seat.new.me.0 }
@@ -65,11 +66,22 @@ pub(crate) fn cut_at<J: Place>(
     at: usize,
 ) -> Seat<u64, View>
     requires at { at ≡ J.at }
-    requires table { seat.old.table_id ≡ board.now.table }
+    requires table { seat.old.table_id ≡ board.now.table.id }
     requires slots { seat.old.me.1 ≡ [] }
-    requires words { 0 < board.now.table.words }
-    ensures seat { (seat.new.table_id ≡ board.now.table) × (seat.new.me ≡ (take at seat.old.me.0, [])) }
-    ensures other { (result.table_id ≡ board.now.table) × (result.me ≡ (drop at seat.old.me.0, [])) }
+    requires words { 0 < board.now.table.id.words }
+    ensures seat { (seat.new.table_id ≡ board.now.table.id) × (seat.new.me ≡ (take at seat.old.me.0, [])) }
+    ensures other { (result.table_id ≡ board.now.table.id) × (result.me ≡ (drop at seat.old.me.0, [])) }
 {
     board.table.shared.split_seat::<Cuts<J>>(seat)
+}
+
+/// The hand of a seat has no more places than were dealt.
+pub(crate) fn count_at<J: Place>(board: &Board, seat: &mut Seat<u64, View>)
+    requires at { length board.now.members ≡ J.at }
+    requires table { seat.old.table_id ≡ board.now.table.id }
+    requires words { 0 < board.now.table.id.words }
+    ensures seat { (seat.new.table_id ≡ seat.old.table_id) × (seat.new.me ≡ seat.old.me) }
+    ensures few { length seat.old.me.0 ≤ length board.now.members }
+{
+    board.table.shared.load::<Counts<J>>(seat, 0);
 }

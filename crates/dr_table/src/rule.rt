@@ -5,13 +5,13 @@ use dr_member::Member;
 use std::collections::LinkedList;
 use std::marker::{Brand, PhantomData};
 
-/// What a seat knows: the members of its hand, in its order. No value of it is made.
-pub type View = LinkedList<Member>;
+/// What a seat knows: the members of its hand, each at its place. No value of it is made.
+pub type View = LinkedList<Option<Member>>;
 
 /// The words, with the members of all seats, are a program that the dealt members have come to.
 pub struct Ruled;
 
-impl TableRule<u64, View, Vec<Member>> for Ruled {
+impl TableRule<u64, View, Vec<Option<Member>>> for Ruled {
     ghost use Rattle.dr_table.specs.Rule.{HasSuchProgram};
 
     ghost holds = { λ dealt s. HasSuchProgram dealt.items s.words s.views };
@@ -19,9 +19,9 @@ impl TableRule<u64, View, Vec<Member>> for Ruled {
     ghost first = { λ dealt. dealt.items };
 }
 
-/// A place in a hand, and the member that stands there. Each step picks it.
+/// A place in a hand or behind it, and the member that stands there. Each step picks it.
 pub trait Place {
-    ghost use Rattle.std.specs.Prelude.{ℕ};
+    ghost use Rattle.std.specs.Prelude.{ℕ, Option};
     ghost use Rattle.dr_program.specs.Running.{Running};
 
     ghost at: { ℕ };
@@ -85,12 +85,13 @@ impl Join<View> for Gathers {
     ghost spent = { [] };
 }
 
-/// A hand learns that it has no more members than the roster.
-pub struct Counts;
+/// A hand learns that it has no more places than were dealt.
+pub struct Counts<J> {
+    at: PhantomData<J>,
+}
 
-impl Play<u64, View> for Counts {
-    ghost use Rattle.std.specs.Prelude.{◌≡◌};
-    ghost use Rattle.dr_table.specs.Cards.{AreFew};
+impl<J: Place> Play<u64, View> for Counts<J> {
+    ghost use Rattle.std.specs.Prelude.{◌≡◌, ◌≤◌, length};
 
-    ghost then = { λ _ me _ after. (after ≡ me) × AreFew me.0 };
+    ghost then = { λ _ me _ after. (after ≡ me) × (length me.0 ≤ J.at) };
 }

@@ -1,49 +1,44 @@
 -- The answers of two halves are the answer of both.
-use Rattle.std.proofs.Common.{◌≡◌, refl, sym, ap, ◌∙◌, subst, inl, inr, ◌⊎◌, ℕ, zero, suc, ◌+◌, List, [], ◌∷◌, ◌++◌, length, length-append, map, take, drop, le_refl, arith}
-use Rattle.std.specs.Prelude.{All, Option, Some, Result, Ok, Err, Vec, slice_get}
+use Rattle.std.proofs.Common.{◌≡◌, refl, sym, ap, ◌∙◌, subst, inl, inr, ◌⊎◌, ℕ, zero, suc, ◌+◌, List, [], ◌∷◌, ◌++◌, ◌-◌, length, length-append, length-take, map, min, take, drop, le_refl, arith}
+use Rattle.std.specs.Prelude.{None, Option, Some, Result, Ok, Err, Vec, is_some, option_map}
 use Rattle.std.specs.declared.alloc.AllocError.{AllocError}
 use Rattle.std.specs.declared.alloc.Global.{Global}
-use Rattle.std.proofs.lemmas.List.{map-append}
-use Rattle.std.proofs.lemmas.Option.{same_Some, slice_get_within}
-use Rattle.atomic_table.specs.Seated.{TableId}
+use Rattle.std.proofs.lemmas.List.{get_or-drop, length-drop, map-append}
+use Rattle.std.proofs.lemmas.Option.{same_Some}
 use Rattle.dr_disk.proofs.Moments.{lasts_still}
 use Rattle.dr_disk.specs.Disk.{Told}
-use Rattle.dr_history_laws.proofs.Lists.{slice_get-some}
 use Rattle.dr_log.specs.Standing.{LosesNone}
 use Rattle.dr_log.specs.State.{LogState}
 use Rattle.dr_log.proofs.Ordinary.{has_itself}
-use Rattle.dr_logged.specs.Served.{HaveServed}
+use Rattle.dr_logged.specs.Served.{HaveSamePlaces, HaveServed}
 use Rattle.dr_logged.proofs.Serving.{has_base}
 use Rattle.dr_program.specs.Running.{Running}
-use Rattle.dr_table.specs.Cards.{Cards, IsAtEnd}
+use Rattle.dr_table.specs.Cards.{AreAtEnd, Cards, DealtTable}
 use Rattle.dr_table.specs.Rule.{number}
-use Rattle.dr_table.proofs.Lists.{at_drop, at_take}
 use Rattle.dr_threads.specs.Answers.{IsHandAnswer, logs_of}
 use Rattle.dr_threads.specs.Course.{HaveRun}
 use Rattle.dr_threads.specs.Logs.{AreFor, AreLonger, IsLonger}
-use Rattle.dr_threads.proofs.Runs.{as_many}
+use Rattle.dr_threads.proofs.Runs.{as_filled, as_many, some_at}
+use Rattle.dr_program.specs.Presence.{present_at}
 
 -- ---- lists of one length
 
 -- what stands at one place of two lists, each of two parts, stands so in the first parts or in the second
-pairs : {X Y : Type 0} (xs us : List X) (ys vs : List Y) (k : ℕ) (x : X) (y : Y) → length xs ≡ length ys
-    → slice_get (xs ++ us) k ≡ Some x → slice_get (ys ++ vs) k ≡ Some y
-    → ((slice_get xs k ≡ Some x) × (slice_get ys k ≡ Some y))
-    ⊎ ((j : ℕ) × (slice_get us j ≡ Some x) × (slice_get vs j ≡ Some y))
+pairs : {X Y : Type 0} (xs us : List (Option X)) (ys vs : List (Option Y)) (k : ℕ) (x : X) (y : Y)
+    → length xs ≡ length ys → present_at (xs ++ us) k ≡ Some x → present_at (ys ++ vs) k ≡ Some y
+    → ((present_at xs k ≡ Some x) × (present_at ys k ≡ Some y))
+    ⊎ ((j : ℕ) × (present_at us j ≡ Some x) × (present_at vs j ≡ Some y))
 pairs [] us [] vs k x y e a b = inr (k, a, b)
 pairs [] us (z ∷ zs) vs k x y e a b = absurd (omega arith)
 pairs (w ∷ ws) us [] vs k x y e a b = absurd (omega arith)
 pairs (w ∷ ws) us (z ∷ zs) vs zero x y e a b = inl (a, b)
-pairs (w ∷ ws) us (z ∷ zs) vs (suc k) x y e a b = elim (pairs ws us zs vs k x y (omega arith) a b) [
-  | inl first ↦ inl first
-  | inr second ↦ inr second
-]
+pairs (w ∷ ws) us (z ∷ zs) vs (suc k) x y e a b = pairs ws us zs vs k x y (omega arith) a b
 
-triples : {X : Type 0} (xs us ys vs : List X) (rs qs : List Running) (k : ℕ) (x y : X) (r : Running)
-    → length xs ≡ length ys → length xs ≡ length rs → slice_get (xs ++ us) k ≡ Some x
-    → slice_get (ys ++ vs) k ≡ Some y → slice_get (rs ++ qs) k ≡ Some r
-    → ((slice_get xs k ≡ Some x) × (slice_get ys k ≡ Some y) × (slice_get rs k ≡ Some r))
-    ⊎ ((j : ℕ) × (slice_get us j ≡ Some x) × (slice_get vs j ≡ Some y) × (slice_get qs j ≡ Some r))
+triples : {X Y : Type 0} (xs us ys vs : List (Option X)) (rs qs : List (Option Y)) (k : ℕ) (x y : X) (r : Y)
+    → length xs ≡ length ys → length xs ≡ length rs → present_at (xs ++ us) k ≡ Some x
+    → present_at (ys ++ vs) k ≡ Some y → present_at (rs ++ qs) k ≡ Some r
+    → ((present_at xs k ≡ Some x) × (present_at ys k ≡ Some y) × (present_at rs k ≡ Some r))
+    ⊎ ((j : ℕ) × (present_at us j ≡ Some x) × (present_at vs j ≡ Some y) × (present_at qs j ≡ Some r))
 triples [] us [] vs [] qs k x y r e f a b c = inr (k, a, b, c)
 triples [] us (z ∷ zs) vs rs qs k x y r e f a b c = absurd (omega arith)
 triples [] us [] vs (t ∷ ts) qs k x y r e f a b c = absurd (omega arith)
@@ -51,26 +46,41 @@ triples (w ∷ ws) us [] vs rs qs k x y r e f a b c = absurd (omega arith)
 triples (w ∷ ws) us (z ∷ zs) vs [] qs k x y r e f a b c = absurd (omega arith)
 triples (w ∷ ws) us (z ∷ zs) vs (t ∷ ts) qs zero x y r e f a b c = inl (a, b, c)
 triples (w ∷ ws) us (z ∷ zs) vs (t ∷ ts) qs (suc k) x y r e f a b c =
-    elim (triples ws us zs vs ts qs k x y r (omega arith) (omega arith) a b c) [
-      | inl first ↦ inl first
-      | inr second ↦ inr second
-    ]
+    triples ws us zs vs ts qs k x y r (omega arith) (omega arith) a b c
 
-all_append : (P : Running → Type 0) (rs qs : List Running) → All P rs → All P qs → All P (rs ++ qs)
-all_append P [] qs a b k d h = b k d h
-all_append P (r ∷ rs) qs a b zero d h = a 0 d (omega arith)
-all_append P (r ∷ rs) qs a b (suc k) d h = all_append P rs qs (λ j e l. a (suc j) e (omega arith)) b k d
-    (omega arith)
+-- the same places are filled, one list behind the other
+filled_behind : {X : Type 0} (xs us ys vs : List (Option X)) → length ys ≡ length xs
+    → ((k : ℕ) → is_some (present_at ys k) ≡ is_some (present_at xs k))
+    → ((k : ℕ) → is_some (present_at vs k) ≡ is_some (present_at us k))
+    → (k : ℕ) → is_some (present_at (ys ++ vs) k) ≡ is_some (present_at (xs ++ us) k)
+filled_behind [] us [] vs e a b k = b k
+filled_behind [] us (z ∷ zs) vs e a b k = absurd (omega arith)
+filled_behind (w ∷ ws) us [] vs e a b k = absurd (omega arith)
+filled_behind (w ∷ ws) us (z ∷ zs) vs e a b zero = a zero
+filled_behind (w ∷ ws) us (z ∷ zs) vs e a b (suc k) =
+    filled_behind ws us zs vs (omega arith) (λ j. a (suc j)) b k
+
+places_behind : {D : Type 0} (logs more news newer : List (Option (LogState D))) → HaveSamePlaces logs news
+    → HaveSamePlaces more newer → HaveSamePlaces (logs ++ more) (news ++ newer)
+places_behind logs more news newer a b = record {
+  all = length-append news newer ∙ (λ z. a.all z + b.all z) ∙ sym (length-append logs more);
+  each = filled_behind logs more news newer a.all a.each b.each;
+}
+
+ended_behind : (rs qs : List (Option Running)) → AreAtEnd rs → AreAtEnd qs → AreAtEnd (rs ++ qs)
+ended_behind [] qs a b k r there = b k r there
+ended_behind (x ∷ rs) qs a b zero r there = a zero r there
+ended_behind (x ∷ rs) qs a b (suc k) r there = ended_behind rs qs (λ j. a (suc j)) b k r there
 
 -- ---- answers
 
 abbrev pub Answer : Type 0 → Type 0
-Answer D = Result (Cards × Vec (LogState D) Global) (Vec (LogState D) Global × AllocError)
+Answer D = Result (Cards × Vec (Option (LogState D)) Global) (Vec (Option (LogState D)) Global × AllocError)
 
 module _ {D : Type 0} (told : D → Option Told) (faults : D → ℕ) where
   -- both halves have run
-  pub both_run : (table : TableId) (before after : List Running) (logs more : List (LogState D))
-      (a b both : Cards) (news newer all : List (LogState D)) → length logs ≡ length before
+  pub both_run : (table : DealtTable) (before after : List (Option Running)) (logs more : List (Option (LogState D)))
+      (a b both : Cards) (news newer all : List (Option (LogState D))) → length logs ≡ length before
       → length more ≡ length after → both.table ≡ table → both.members ≡ a.members ++ b.members
       → all ≡ news ++ newer → HaveRun told faults table before logs a news
       → HaveRun told faults table after more b newer
@@ -78,35 +88,40 @@ module _ {D : Type 0} (told : D → Option Told) (faults : D → ℕ) where
   both_run table before after logs more a b both news newer all m n home is to h k = record {
     over = record {
       home = home;
-      same = ap (map number) is ∙ map-append number a.members b.members
+      same = ap (map (option_map number)) is ∙ map-append (option_map number) a.members b.members
           ∙ (λ z. h.over.same z ++ k.over.same z)
-          ∙ sym (map-append number before after);
-      ended = subst (λ l. All IsAtEnd l) (sym is)
-          (all_append IsAtEnd a.members b.members h.over.ended k.over.ended);
+          ∙ sym (map-append (option_map number) before after);
+      ended = subst AreAtEnd (sym is) (ended_behind a.members b.members h.over.ended k.over.ended);
     };
-    all = ap length to ∙ length-append news newer ∙ (λ z. h.all z + k.all z) ∙ sym (length-append logs more);
+    places = subst (HaveSamePlaces (logs ++ more)) (sym to)
+        (places_behind logs more news newer h.places k.places);
     served = subst (λ l. HaveServed told faults (logs ++ more) l both.members) (sym to)
         (subst (λ l. HaveServed told faults (logs ++ more) (news ++ newer) l) (sym is)
         (λ i base log r from there member.
-        elim (triples logs more news newer a.members b.members i base log r (sym h.all)
+        elim (triples logs more news newer a.members b.members i base log r (sym h.places.all)
         (m ∙ sym (as_many before a.members h.over.same)) from there member) [
           | inl first ↦ h.served i base log r first.0 first.1 first.2
           | inr second ↦ k.served second.0 base log r second.1 second.2 second.3
         ]));
   }
 
-  -- the logs of an answer are longer
-  answer_longer : (table : TableId) (before : List Running) (logs : List (LogState D)) (r : Answer D)
-      → length logs ≡ length before → IsHandAnswer told faults table before logs r
-      → AreLonger told faults logs (logs_of r)
-  answer_longer table before logs (Err r) m h = h
-  answer_longer table before logs (Ok r) m h = record {
-    all = h.all;
-    each = λ k old new from there.
-        let members = r.0.members in
-        let (x, member) = slice_get-some members k
-        (omega (arith, slice_get_within logs k old from, m, as_many before members h.over.same)) in
-        let come = h.served k old new x from there member in
+  -- the logs of an answer are as many
+  pub as_many_logs : (table : DealtTable) (before : List (Option Running)) (logs : List (Option (LogState D)))
+      (r : Answer D) → IsHandAnswer told faults table before logs r → length (logs_of r) ≡ length logs
+  as_many_logs table before logs (Ok r) h = h.places.all
+  as_many_logs table before logs (Err r) h = h.places.all
+
+  -- and longer
+  answer_longer : (table : DealtTable) (before : List (Option Running)) (logs : List (Option (LogState D))) (r : Answer D)
+      → ((k : ℕ) → is_some (present_at logs k) ≡ is_some (present_at before k))
+      → IsHandAnswer told faults table before logs r → AreLonger told faults logs (logs_of r)
+  answer_longer table before logs (Err r) there h = h
+  answer_longer table before logs (Ok r) there h = record {
+    places = h.places;
+    each = λ k old new from to.
+        let (x, member) = some_at (present_at r.0.members k)
+        (as_filled before r.0.members k h.over.same ∙ sym (there k) ∙ ap is_some from) in
+        let come = h.served k old new x from to member in
         record {
           has = has_base told faults old new x.replica x.failed come.come;
           moments = inr come.come.moments;
@@ -116,15 +131,17 @@ module _ {D : Type 0} (told : D → Option Told) (faults : D → ℕ) where
   }
 
   -- so are those of two answers
-  pub both_longer : (table : TableId) (before after : List Running) (logs more all : List (LogState D))
-      (first second : Answer D) → all ≡ logs_of first ++ logs_of second → length logs ≡ length before
-      → length more ≡ length after → IsHandAnswer told faults table before logs first
+  pub both_longer : (table : DealtTable) (before after : List (Option Running))
+      (logs more all : List (Option (LogState D))) (first second : Answer D) → all ≡ logs_of first ++ logs_of second
+      → ((k : ℕ) → is_some (present_at logs k) ≡ is_some (present_at before k))
+      → ((k : ℕ) → is_some (present_at more k) ≡ is_some (present_at after k))
+      → IsHandAnswer told faults table before logs first
       → IsHandAnswer told faults table after more second → AreLonger told faults (logs ++ more) all
   both_longer table before after logs more all first second to m n h k = record {
-    all = ap length to ∙ length-append (logs_of first) (logs_of second) ∙ (λ z. a.all z + b.all z)
-        ∙ sym (length-append logs more);
+    places = subst (HaveSamePlaces (logs ++ more)) (sym to)
+        (places_behind logs more (logs_of first) (logs_of second) a.places b.places);
     each = λ i old new from there. elim (pairs logs more (logs_of first) (logs_of second) i old new
-        (sym a.all) from (ap (λ l. slice_get l i) (sym to) ∙ there)) [
+        (sym a.places.all) from (ap (λ l. present_at l i) (sym to) ∙ there)) [
           | inl left ↦ a.each i old new left.0 left.1
           | inr right ↦ b.each right.0 old new right.1 right.2
         ];
@@ -137,9 +154,9 @@ module _ {D : Type 0} (told : D → Option Told) (faults : D → ℕ) where
       b = answer_longer table after more second n k
 
   -- logs as they were
-  pub same_longer : (logs : List (LogState D)) → AreLonger told faults logs logs
+  pub same_longer : (logs : List (Option (LogState D))) → AreLonger told faults logs logs
   same_longer logs = record {
-    all = refl;
+    places = record { all = refl; each = λ k. refl };
     each = λ k old new from there.
         let is = same_Some old new (sym from ∙ there) in
         subst (λ x. IsLonger told faults old x) is
@@ -153,33 +170,39 @@ module _ {D : Type 0} (told : D → Option Told) (faults : D → ℕ) where
 
 -- ---- the two halves of logs and members
 
-pub for_take : {D : Type 0} (n : ℕ) (logs : List (LogState D)) (members : List Running) → AreFor logs members
-    → AreFor (take n logs) (take n members)
-for_take n logs members are = record {
-  all = lengths n logs members are.all;
-  each = λ k log r there here. are.each k log r (at_take n logs k log there).1 (at_take n members k r here).1;
-}
-  where
-    lengths : {X : Type 0} (n : ℕ) (xs : List X) (rs : List Running) → length xs ≡ length rs
-        → length (take n xs) ≡ length (take n rs)
-    lengths zero xs rs e = refl
-    lengths (suc n) [] [] e = refl
-    lengths (suc n) [] (y ∷ ys) e = absurd (omega arith)
-    lengths (suc n) (x ∷ xs) [] e = absurd (omega arith)
-    lengths (suc n) (x ∷ xs) (y ∷ ys) e = ap suc (lengths n xs ys (omega arith))
+-- what stands at a place of the first places stands there
+at_first : {X : Type 0} (n : ℕ) (xs : List (Option X)) (k : ℕ) (x : X) → present_at (take n xs) k ≡ Some x
+    → present_at xs k ≡ Some x
+at_first zero xs k x there = absurd (cc)
+at_first (suc n) [] k x there = there
+at_first (suc n) (y ∷ ys) zero x there = there
+at_first (suc n) (y ∷ ys) (suc k) x there = at_first n ys k x there
 
-pub for_drop : {D : Type 0} (n : ℕ) (logs : List (LogState D)) (members : List Running) → AreFor logs members
-    → AreFor (drop n logs) (drop n members)
-for_drop n logs members are = record {
-  all = lengths n logs members are.all;
-  each = λ k log r there here.
-      are.each (n + k) log r (sym (at_drop n logs k) ∙ there) (sym (at_drop n members k) ∙ here);
+filled_first : {X Y : Type 0} (n : ℕ) (xs : List (Option X)) (ys : List (Option Y)) → length xs ≡ length ys
+    → ((k : ℕ) → is_some (present_at xs k) ≡ is_some (present_at ys k))
+    → (k : ℕ) → is_some (present_at (take n xs) k) ≡ is_some (present_at (take n ys) k)
+filled_first zero xs ys e same k = refl
+filled_first (suc n) [] [] e same k = refl
+filled_first (suc n) [] (z ∷ zs) e same k = absurd (omega arith)
+filled_first (suc n) (w ∷ ws) [] e same k = absurd (omega arith)
+filled_first (suc n) (w ∷ ws) (z ∷ zs) e same zero = same zero
+filled_first (suc n) (w ∷ ws) (z ∷ zs) e same (suc k) =
+    filled_first n ws zs (omega arith) (λ j. same (suc j)) k
+
+pub for_take : {D : Type 0} (n : ℕ) (logs : List (Option (LogState D))) (members : List (Option Running))
+    → AreFor logs members → AreFor (take n logs) (take n members)
+for_take n logs members are = record {
+  all = length-take n logs ∙ ap (min n) are.all ∙ sym (length-take n members);
+  there = filled_first n logs members are.all are.there;
+  each = λ k log r there here. are.each k log r (at_first n logs k log there) (at_first n members k r here);
 }
-  where
-    lengths : {X : Type 0} (n : ℕ) (xs : List X) (rs : List Running) → length xs ≡ length rs
-        → length (drop n xs) ≡ length (drop n rs)
-    lengths zero xs rs e = e
-    lengths (suc n) [] [] e = refl
-    lengths (suc n) [] (y ∷ ys) e = absurd (omega arith)
-    lengths (suc n) (x ∷ xs) [] e = absurd (omega arith)
-    lengths (suc n) (x ∷ xs) (y ∷ ys) e = lengths n xs ys (omega arith)
+
+pub for_drop : {D : Type 0} (n : ℕ) (logs : List (Option (LogState D))) (members : List (Option Running))
+    → AreFor logs members → AreFor (drop n logs) (drop n members)
+for_drop n logs members are = record {
+  all = length-drop n logs ∙ ap (λ m. m - n) are.all ∙ sym (length-drop n members);
+  there = λ k. ap is_some (get_or-drop n logs k None) ∙ are.there (n + k)
+      ∙ sym (ap is_some (get_or-drop n members k None));
+  each = λ k log r there here. are.each (n + k) log r (sym (get_or-drop n logs k None) ∙ there)
+      (sym (get_or-drop n members k None) ∙ here);
+}

@@ -1,42 +1,74 @@
 -- The run of one member: its log before, and behind it.
-use Rattle.std.proofs.Common.{◌≡◌, sym, ap, ◌∙◌, subst, inl, ℕ, ◌*◌, ◌-◌, max, false, List, [], length, length-set, get_or, arith}
-use Rattle.std.specs.Prelude.{Option, Some, slice_get, slice_set}
-use Rattle.std.proofs.lemmas.Option.{same_Some, slice_get_read, slice_get_within}
-use Rattle.atomic_table.specs.Seated.{TableId}
+use Rattle.std.proofs.Common.{◌≡◌, refl, sym, ap, ◌∙◌, subst, inl, inr, ℕ, ◌*◌, ◌-◌, max, not, true, false, List, length, length-set, get_or, true≢false, arith}
+use Rattle.std.specs.Prelude.{None, Option, Some, is_some}
+use Rattle.std.proofs.lemmas.Bool.{cases_eq}
+use Rattle.std.proofs.lemmas.List.{get_or_default}
+use Rattle.std.proofs.lemmas.Option.{same_Some}
 use Rattle.dr_disk.proofs.Moments.{lasts_still}
 use Rattle.dr_disk.specs.Disk.{Told}
 use Rattle.dr_log.specs.Standing.{HasAllOf, LosesNone}
 use Rattle.dr_log.specs.State.{LogState}
 use Rattle.dr_log.proofs.Ordinary.{has_itself}
-use Rattle.dr_logged.specs.Served.{HasServed, IsReady, IsSafe}
+use Rattle.dr_logged.specs.Served.{HasServed, HaveSamePlaces, IsReady, IsSafe}
 use Rattle.dr_logged.proofs.Serving.{begins}
-use Rattle.dr_program.proofs.Holdings.{replica_set}
 use Rattle.dr_program.specs.Running.{Running}
 use Rattle.dr_logged.proofs.Rooms.{roomy}
-use Rattle.dr_table.specs.Cards.{Cards}
+use Rattle.dr_table.specs.Cards.{Cards, DealtTable}
 use Rattle.dr_threads.specs.Course.{HasGone, HaveRun, IsEndOf}
 use Rattle.dr_threads.specs.Logs.{AreFor, AreLonger, IsLonger}
+use Rattle.dr_program.specs.Presence.{present_at, with_present}
+use Rattle.dr_program.proofs.Present.{present_kept, present_set, present_within}
 
 -- the one place of a list
-only : {X : Type 0} (xs : List X) (k : ℕ) (x : X) → length xs ≡ 1 → slice_get xs k ≡ Some x → k ≡ 0
-only xs k x one there = omega (arith, slice_get_within xs k x there, one)
+only : {X : Type 0} (xs : List (Option X)) (k : ℕ) (x : X) → length xs ≡ 1 → present_at xs k ≡ Some x → k ≡ 0
+only xs k x one there = omega (arith, present_within xs k x there, one)
 
--- the log that an index lends is the first one
-pub first_log : {D : Type 0} (logs : List (LogState D)) (log : LogState D) → length logs ≡ 1
-    → log ≡ get_or logs 0 log → slice_get logs 0 ≡ Some log
-first_log logs log one is = slice_get_read logs 1 0 log (sym one) (omega arith) is
+-- the log that is read at the one place stands there
+pub first_log : {D : Type 0} (logs : List (Option (LogState D))) (x : Option (LogState D)) (log : LogState D)
+    → length logs ≡ 1 → x ≡ get_or logs 0 x → x ≡ Some log → present_at logs 0 ≡ Some log
+first_log logs x log one read is = get_or_default logs 0 None x (omega (arith, one)) ∙ sym read ∙ is
 
--- and the one that was put there
-pub put_log : {D : Type 0} (logs : List (LogState D)) (new log : LogState D) → length logs ≡ 1
-    → log ≡ get_or (slice_set logs 0 new) 0 log → log ≡ new
-put_log logs new log one is =
-    same_Some log new (sym (first_log (slice_set logs 0 new) log (length-set logs 0 new ∙ one) is)
-    ∙ replica_set logs 0 new (omega (arith, one)))
+-- and it is a log where one stands there
+pub some_log : {D : Type 0} (logs : List (Option (LogState D))) (x : Option (LogState D)) → length logs ≡ 1
+    → is_some (present_at logs 0) ≡ true → x ≡ get_or logs 0 x → x ≡ None → ⊥
+some_log logs x one there read none = true≢false
+    (sym there ∙ ap is_some (get_or_default logs 0 None x (omega (arith, one)) ∙ sym read ∙ none))
+
+-- where nothing is there is none
+none_at : {X : Type 0} (o : Option X) → not (is_some o) ≡ true → o ≡ None
+none_at None is = refl
+none_at (Some x) is = absurd (cc)
+
+-- the log at the one place, as it was and as it is now
+first_was : {D : Type 0} (logs : List (Option (LogState D))) (old was : LogState D) (k : ℕ) → length logs ≡ 1
+    → present_at logs 0 ≡ Some old → present_at logs k ≡ Some was → old ≡ was
+first_was logs old was k one there from =
+    same_Some old was (sym there ∙ ap (present_at logs) (sym (only logs k was one from)) ∙ from)
+
+first_now : {D : Type 0} (logs : List (Option (LogState D))) (new now : LogState D) (k : ℕ) → length logs ≡ 1
+    → present_at (with_present logs 0 new) k ≡ Some now → new ≡ now
+first_now logs new now k one to =
+    first_was (with_present logs 0 new) new now k (length-set logs 0 (Some new) ∙ one)
+    (present_set logs 0 new (omega (arith, one))) to
+
+-- where a log was put in place of one the same places are filled
+put_places : {D : Type 0} (logs : List (Option (LogState D))) (old new : LogState D) (m : ℕ)
+    → present_at logs m ≡ Some old → HaveSamePlaces logs (with_present logs m new)
+put_places logs old new m there = record {
+  all = length-set logs m (Some new);
+  each = λ k. elim (cases_eq k m) [
+    | inl here ↦ ap (λ i. is_some (present_at (with_present logs m new) i)) here
+        ∙ ap is_some (present_set logs m new (present_within logs m old there)) ∙ sym (ap is_some there)
+        ∙ sym (ap (λ i. is_some (present_at logs i)) here)
+    | inr other ↦ ap is_some (present_kept logs m k new other)
+  ];
+}
 
 module _ {D : Type 0} (told : D → Option Told) (faults : D → ℕ) where
   -- the log got room for all that its member may append: it is ready, and has served it so far
-  pub opened_ready : (logs : List (LogState D)) (members : List Running) (old new : LogState D) (r : Running)
-      (n k : ℕ) → AreFor logs members → slice_get logs 0 ≡ Some old → slice_get members 0 ≡ Some r
+  pub opened_ready : (logs : List (Option (LogState D))) (members : List (Option Running))
+      (old new : LogState D) (r : Running) (n k : ℕ) → AreFor logs members → present_at logs 0 ≡ Some old
+      → present_at members 0 ≡ Some r
       → n ≡ r.replica.room - r.replica.logged
       → k ≡ r.replica.banks * r.replica.roster - length r.replica.votes
       → new ≡ record old {
@@ -53,17 +85,14 @@ module _ {D : Type 0} (told : D → Option Told) (faults : D → ℕ) where
       is.entries is.logged is.votes is.none
 
   -- no room was got
-  pub reserve_longer : (logs : List (LogState D)) (old new : LogState D) → length logs ≡ 1
-      → slice_get logs 0 ≡ Some old → new ≡ record old { disk = new.disk } → told new.disk ≡ told old.disk
-      → faults new.disk ≡ faults old.disk → AreLonger told faults logs (slice_set logs 0 new)
+  pub reserve_longer : (logs : List (Option (LogState D))) (old new : LogState D) → length logs ≡ 1
+      → present_at logs 0 ≡ Some old → new ≡ record old { disk = new.disk } → told new.disk ≡ told old.disk
+      → faults new.disk ≡ faults old.disk → AreLonger told faults logs (with_present logs 0 new)
   reserve_longer logs old new one there made tells calm = record {
-    all = length-set logs 0 new;
+    places = put_places logs old new 0 there;
     each = λ k was now from to.
-        let first = only logs k was one from in
-        let is = same_Some old was (sym there ∙ ap (slice_get logs) (sym first) ∙ from) in
-        let be = same_Some new now (sym (replica_set logs 0 new (omega (arith, one)))
-        ∙ ap (slice_get (slice_set logs 0 new)) (sym first) ∙ to) in
-        subst (λ x. IsLonger told faults x now) is (subst (λ x. IsLonger told faults old x) be (record {
+        subst (λ x. IsLonger told faults x now) (first_was logs old was k one there from)
+        (subst (λ x. IsLonger told faults old x) (first_now logs new now k one to) (record {
           has = subst (HasAllOf old.content) (sym (ap (λ (l : LogState D). l.content) made)) (has_itself old.content);
           moments = inl tells;
           lasting = λ first. rw tells (lasts_still (told old.disk) (LosesNone first));
@@ -72,22 +101,31 @@ module _ {D : Type 0} (told : D → Option Told) (faults : D → ℕ) where
   }
 
   -- the member has run to its end
-  pub run_served : (table : TableId) (members : List Running) (logs : List (LogState D))
-      (old middle log new : LogState D) (after : Cards) → length logs ≡ 1 → slice_get logs 0 ≡ Some old
+  pub run_served : (table : DealtTable) (members : List (Option Running)) (logs : List (Option (LogState D)))
+      (old log new : LogState D) (after : Cards) → length logs ≡ 1 → present_at logs 0 ≡ Some old
       → IsEndOf table members after → HasGone told faults members log after.members new
-      → ((r : Running) → slice_get members 0 ≡ Some r → HasServed told faults old log r)
-      → HaveRun told faults table members logs after (slice_set (slice_set logs 0 middle) 0 new)
-  run_served table members logs old middle log new after one there over gone served = record {
+      → ((r : Running) → present_at members 0 ≡ Some r → HasServed told faults old log r)
+      → HaveRun told faults table members logs after (with_present logs 0 new)
+  run_served table members logs old log new after one there over gone served = record {
     over = over;
-    all = length-set (slice_set logs 0 middle) 0 new ∙ length-set logs 0 middle;
+    places = put_places logs old new 0 there;
     served = λ k base now r from to member.
-        let first = only logs k base one from in
-        let is = same_Some old base (sym there ∙ ap (slice_get logs) (sym first) ∙ from) in
-        let lengths = length-set logs 0 middle in
-        let be = same_Some new now
-        (sym (replica_set (slice_set logs 0 middle) 0 new (omega (arith, one, lengths)))
-        ∙ ap (slice_get (slice_set (slice_set logs 0 middle) 0 new)) (sym first) ∙ to) in
-        subst (λ x. HasServed told faults x now r) is
-        (subst (λ x. HasServed told faults old x r) be
-        (gone.served old served r (ap (slice_get after.members) (sym first) ∙ member)));
+        subst (λ x. HasServed told faults x now r) (first_was logs old base k one there from)
+        (subst (λ x. HasServed told faults old x r) (first_now logs new now k one to)
+        (gone.served old served r (ap (present_at after.members) (sym (only logs k base one from)) ∙ member)));
   }
+
+  -- nobody is there: there is no log, and nothing to run
+  pub none_run : (table : DealtTable) (hand : Cards) (logs : List (Option (LogState D))) → hand.table ≡ table
+      → length hand.members ≡ 1 → not (is_some (present_at hand.members 0)) ≡ true
+      → HaveRun told faults table hand.members logs hand logs
+  none_run table hand logs home one empty = record {
+    over = record { home = home; same = refl; ended = λ k r there. absurd (nobody k r there) };
+    places = record { all = refl; each = λ k. refl };
+    served = λ k base now r from to there. absurd (nobody k r there);
+  }
+    where
+      nobody : (k : ℕ) (r : Running) → present_at hand.members k ≡ Some r → ⊥
+      nobody k r there =
+          let first = ap (present_at hand.members) (only hand.members k r one there) in
+          absurd (cc (none_at (present_at hand.members 0) empty, there, first))

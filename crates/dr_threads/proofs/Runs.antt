@@ -1,6 +1,6 @@
 -- The run of one member, sweep by sweep and deed by deed.
-use Rattle.std.proofs.Common.{◌≡◌, refl, sym, ap, ◌∙◌, subst, ℕ, zero, suc, ◌<◌, true, false, List, [], ◌∷◌, length, map, true≢false, arith}
-use Rattle.std.specs.Prelude.{All, IsTrue, Option, None, Some, is_some, slice_get, slice_set, sum_by}
+use Rattle.std.proofs.Common.{◌≡◌, refl, sym, ap, ◌∙◌, subst, ℕ, ◌<◌, true, false, List, [], ◌∷◌, length, map, true≢false, arith}
+use Rattle.std.specs.Prelude.{IsTrue, Option, None, Some, is_some, option_map}
 use Rattle.std.proofs.lemmas.List.{length-map}
 use Rattle.std.proofs.lemmas.Option.{same_Some}
 use Rattle.dr_disk.specs.Disk.{Told}
@@ -16,13 +16,15 @@ use Rattle.dr_program.specs.Running.{Running, after_step, next_deed, next_step}
 use Rattle.dr_age.proofs.Deeds.{at_look, at_push, deed_tells}
 use Rattle.dr_age.proofs.Sound.{appends_well}
 use Rattle.dr_turn.specs.Work.{deeds_left}
-use Rattle.dr_table.specs.Cards.{AreSame, HasFewerLeft, IsAtEnd}
+use Rattle.dr_table.specs.Cards.{AreAtEnd, AreSame, HasFewerLeft, IsAtEnd}
 use Rattle.dr_table.specs.Rule.{number}
 use Rattle.dr_table.specs.Steps.{IsReachedMember}
 use Rattle.dr_table.specs.Sweeps.{HasSwept, HasTaken, IsSwept}
 use Rattle.dr_table.proofs.Deeds.{after_told, same_number}
 use Rattle.dr_table.proofs.Sweeps.{taken_told}
 use Rattle.dr_threads.specs.Course.{HasGone}
+use Rattle.dr_program.specs.Presence.{present_at, with_present}
+use Rattle.dr_program.proofs.Present.{present_map, present_within}
 
 -- ---- a member that is reached
 
@@ -61,10 +63,10 @@ swept_ready log (word ∷ words) r q (swept, found, rest) ready =
     swept_ready log words (after_step word r) q rest (other_ready log word r (swept_other r swept) ready)
 
 module _ {D : Type 0} (told : D → Option Told) (faults : D → ℕ) where
-  pub gone_none : (rs : List Running) (log : LogState D) → HasGone told faults rs log rs log
+  pub gone_none : (rs : List (Option Running)) (log : LogState D) → HasGone told faults rs log rs log
   gone_none rs log = record { same = refl; ready = λ is. is; served = λ base is. is }
 
-  pub gone_more : (rs qs ps : List Running) (log new newer : LogState D) → HasGone told faults rs log qs new
+  pub gone_more : (rs qs ps : List (Option Running)) (log new newer : LogState D) → HasGone told faults rs log qs new
       → HasGone told faults qs new ps newer → HasGone told faults rs log ps newer
   gone_more rs qs ps log new newer a b = record {
     same = b.same ∙ a.same;
@@ -73,26 +75,27 @@ module _ {D : Type 0} (told : D → Option Told) (faults : D → ℕ) where
   }
 
   -- the one member is x now
-  pub gone_by : (rs qs : List Running) (r x : Running) (log new : LogState D) → length rs ≡ 1
-      → slice_get rs 0 ≡ Some r → qs ≡ slice_set rs 0 x → number x ≡ number r
+  pub gone_by : (rs qs : List (Option Running)) (r x : Running) (log new : LogState D) → length rs ≡ 1
+      → present_at rs 0 ≡ Some r → qs ≡ with_present rs 0 x → number x ≡ number r
       → (IsReady log r → IsReady new x)
       → ((base : LogState D) → HasServed told faults base log r → HasServed told faults base new x)
       → HasGone told faults rs log qs new
   gone_by [] qs r x log new one there to same ready served = absurd (omega arith)
   gone_by (y ∷ z ∷ zs) qs r x log new one there to same ready served = absurd (omega arith)
   gone_by (y ∷ []) qs r x log new one there to same ready served = record {
-    same = ap (map number) to ∙ ap (λ n. n ∷ []) (same ∙ ap number (sym (same_Some y r there)));
+    same = ap (map (option_map number)) to ∙ ap (λ n. Some n ∷ []) same
+        ∙ sym (ap (λ o. option_map number o ∷ []) there);
     ready = λ is q here. subst (IsReady new) (now q here) (ready (is r there));
     served = λ base is q here. subst (HasServed told faults base new) (now q here) (served base (is r there));
   }
     where
-      now : (q : Running) → slice_get qs 0 ≡ Some q → x ≡ q
-      now q here = same_Some x q (sym (ap (λ l. slice_get l 0) to) ∙ here)
+      now : (q : Running) → present_at qs 0 ≡ Some q → x ≡ q
+      now q here = same_Some x q (sym (ap (λ l. present_at l 0) to) ∙ here)
 
   -- by a step that is no append
-  pub gone_step : (rs qs : List Running) (r : Running) (word : ℕ) (log : LogState D) → length rs ≡ 1
-      → slice_get rs 0 ≡ Some r → IsReachedMember r → r.replica.end ≡ None → is_append (next_step r) ≡ false
-      → qs ≡ slice_set rs 0 (after_step word r) → HasGone told faults rs log qs log
+  pub gone_step : (rs qs : List (Option Running)) (r : Running) (word : ℕ) (log : LogState D) → length rs ≡ 1
+      → present_at rs 0 ≡ Some r → IsReachedMember r → r.replica.end ≡ None → is_append (next_step r) ≡ false
+      → qs ≡ with_present rs 0 (after_step word r) → HasGone told faults rs log qs log
   gone_step rs qs r word log one there reached none other to =
       gone_by rs qs r (after_step word r) log log one there to
       (same_number r (after_step word r) (after_told word r))
@@ -109,35 +112,58 @@ module _ {D : Type 0} (told : D → Option Told) (faults : D → ℕ) where
       (reached_form r (g, p, is)).replica.logged served)
 
   -- by looks and pushes
-  pub gone_sweeping : (rs qs : List Running) (r : Running) (log : LogState D) → length rs ≡ 1
-      → slice_get rs 0 ≡ Some r → HasSwept rs 0 qs → HasGone told faults rs log qs log
+  pub gone_sweeping : (rs qs : List (Option Running)) (r : Running) (log : LogState D) → length rs ≡ 1
+      → present_at rs 0 ≡ Some r → HasSwept rs 0 qs → HasGone told faults rs log qs log
   gone_sweeping rs qs r log one there swept =
       let (words, q, taken, to) = swept r there in
       gone_by rs qs r q log log one there to (same_number r q (taken_told words r q taken))
       (swept_ready log words r q taken) (λ base. swept_served base log words r q taken)
 
--- ---- fewer deeds left
-
--- the one member, x now, has fewer left
-pub left_falls : (rs qs : List Running) (x : Running) → length rs ≡ 1 → qs ≡ slice_set rs 0 x
-    → HasFewerLeft rs 0 qs → sum_by deeds_left qs < sum_by deeds_left rs
-left_falls [] qs x one to fewer = absurd (omega arith)
-left_falls (r ∷ s ∷ rs) qs x one to fewer = absurd (omega arith)
-left_falls (r ∷ []) qs x one to fewer =
-    let less = fewer r x refl (ap (λ l. slice_get l 0) to) in
-    subst (λ l. sum_by deeds_left l < sum_by deeds_left (r ∷ [])) (sym to) (omega (arith, less))
+-- ---- the same places
 
 -- the same members are as many
-pub as_many : (rs qs : List Running) → AreSame rs qs → length qs ≡ length rs
-as_many rs qs same = sym (length-map qs number) ∙ ap length same ∙ length-map rs number
+pub as_many : (rs qs : List (Option Running)) → AreSame rs qs → length qs ≡ length rs
+as_many rs qs same = sym (length-map qs (option_map number)) ∙ ap length same ∙ length-map rs (option_map number)
+
+filled : (o : Option Running) → is_some (option_map number o) ≡ is_some o
+filled None = refl
+filled (Some r) = refl
+
+-- and stand at the same places
+pub as_filled : (rs qs : List (Option Running)) (k : ℕ) → AreSame rs qs
+    → is_some (present_at qs k) ≡ is_some (present_at rs k)
+as_filled rs qs k same = sym (filled (present_at qs k))
+    ∙ ap is_some (sym (present_map number qs k) ∙ ap (λ l. present_at l k) same ∙ present_map number rs k)
+    ∙ filled (present_at rs k)
+
+-- what is there is something
+pub some_at : {X : Type 0} (o : Option X) → is_some o ≡ true → (x : X) × (o ≡ Some x)
+some_at None is = absurd (cc)
+some_at (Some x) is = (x, refl)
+
+-- ---- fewer deeds left
+
+-- the deeds that are left to whoever stands at a place
+abbrev pub left_to : Option Running → ℕ
+left_to None = 0
+left_to (Some r) = deeds_left r
+
+-- the first member has fewer left
+pub left_falls : (rs qs : List (Option Running)) → is_some (present_at rs 0) ≡ true → AreSame rs qs
+    → HasFewerLeft rs 0 qs → left_to (present_at qs 0) < left_to (present_at rs 0)
+left_falls rs qs there same fewer =
+    let (r, old) = some_at (present_at rs 0) there in
+    let (q, new) = some_at (present_at qs 0) (as_filled rs qs 0 same ∙ there) in
+    rw old (rw new (fewer r q old new))
+
+-- ---- the end
 
 -- the one member has ended
-pub one_ended : (rs : List Running) (r : Running) → length rs ≡ 1 → slice_get rs 0 ≡ Some r → IsAtEnd r
-    → All IsAtEnd rs
-one_ended [] r one there ended k d within = absurd (omega arith)
-one_ended (x ∷ y ∷ ys) r one there ended k d within = absurd (omega arith)
-one_ended (x ∷ []) r one there ended zero d within = subst IsAtEnd (sym (same_Some x r there)) ended
-one_ended (x ∷ []) r one there ended (suc k) d within = absurd (omega arith)
+pub one_ended : (rs : List (Option Running)) (r : Running) → length rs ≡ 1 → present_at rs 0 ≡ Some r → IsAtEnd r
+    → AreAtEnd rs
+one_ended rs r one there ended k q here =
+    let first : k ≡ 0 = omega (arith, present_within rs k q here, one) in
+    subst IsAtEnd (same_Some r q (sym there ∙ ap (present_at rs) (sym first) ∙ here)) ended
 
 -- a member that tells an end has ended
 pub ended_by : (r : Running) (o : Option End) → o ≡ r.replica.end → is_some o ≡ true → IsAtEnd r

@@ -1,15 +1,14 @@
 -- What a run makes of a hand and its logs.
-use Rattle.std.specs.Prelude.{◌≡◌, ℕ, All, List, length, Option}
-use Rattle.atomic_table.specs.Seated.{TableId}
+use Rattle.std.specs.Prelude.{◌≡◌, ℕ, List, Option}
 use Rattle.dr_disk.specs.Disk.{Told}
 use Rattle.dr_log.specs.State.{LogState}
-use Rattle.dr_logged.specs.Served.{HasServed, HaveServed, IsReady}
+use Rattle.dr_logged.specs.Served.{HasServed, HaveSamePlaces, HaveServed, IsReady}
 use Rattle.dr_program.specs.Running.{Running}
-use Rattle.dr_table.specs.Cards.{AreSame, AtPlace, Cards, IsAtEnd}
+use Rattle.dr_table.specs.Cards.{AreAtEnd, AreSame, AtPlace, Cards, DealtTable}
 
 -- a hand of one member and its log have gone on: it is the same member still, and its log ready and served
-pub record HasGone {D : Type 0} (told : D → Option Told) (faults : D → ℕ) (rs : List Running)
-    (log : LogState D) (qs : List Running) (new : LogState D) : Type 0 where
+pub record HasGone {D : Type 0} (told : D → Option Told) (faults : D → ℕ) (rs : List (Option Running))
+    (log : LogState D) (qs : List (Option Running)) (new : LogState D) : Type 0 where
   pub same : AreSame rs qs
   pub ready : AtPlace rs 0 (IsReady log) → AtPlace qs 0 (IsReady new)
   pub served : (base : LogState D) → AtPlace rs 0 (HasServed told faults base log)
@@ -17,15 +16,15 @@ pub record HasGone {D : Type 0} (told : D → Option Told) (faults : D → ℕ) 
 
 -- the members of a hand over this table have run to their ends: it is a hand over this table still, with the
 -- same members in the same order, all of which have ended
-pub record IsEndOf (table : TableId) (before : List Running) (after : Cards) : Type 0 where
+pub record IsEndOf (table : DealtTable) (before : List (Option Running)) (after : Cards) : Type 0 where
   pub home : after.table ≡ table
   pub same : AreSame before after.members
-  pub ended : All IsAtEnd after.members
+  pub ended : AreAtEnd after.members
 
 -- and each log has served its member
-pub record HaveRun {D : Type 0} (told : D → Option Told) (faults : D → ℕ) (table : TableId)
-    (before : List Running) (logs : List (LogState D)) (after : Cards) (news : List (LogState D))
-    : Type 0 where
+pub record HaveRun {D : Type 0} (told : D → Option Told) (faults : D → ℕ) (table : DealtTable)
+    (before : List (Option Running)) (logs : List (Option (LogState D))) (after : Cards)
+    (news : List (Option (LogState D))) : Type 0 where
   pub over : IsEndOf table before after
-  pub all : length news ≡ length logs
+  pub places : HaveSamePlaces logs news
   pub served : HaveServed told faults logs news after.members

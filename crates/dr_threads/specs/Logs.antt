@@ -1,11 +1,12 @@
 -- The logs of a hand's members, before a run and behind it.
-use Rattle.std.specs.Prelude.{◌≡◌, ◌⊎◌, ◌≤◌, ℕ, false, List, [], length, slice_get, Option, None, Some}
+use Rattle.std.specs.Prelude.{◌≡◌, ◌⊎◌, ◌≤◌, ℕ, false, List, [], length, Option, None, Some, is_some}
 use Rattle.dr_disk.specs.Disk.{Told}
 use Rattle.dr_disk.specs.Images.{Goes}
 use Rattle.dr_log.specs.Standing.{HasAllOf, LosesNone}
 use Rattle.dr_log.specs.State.{LogState}
-use Rattle.dr_logged.specs.Served.{LosesNothing}
+use Rattle.dr_logged.specs.Served.{HaveSamePlaces, LosesNothing}
 use Rattle.dr_program.specs.Running.{Running}
+use Rattle.dr_program.specs.Presence.{present_at}
 
 -- a log has all of its member's history, as the age opens, no append to it has failed, and the member has not
 -- voted
@@ -16,11 +17,13 @@ pub record IsFor {D : Type 0} (log : LogState D) (r : Running) : Type 0 where
   pub votes : r.replica.votes ≡ []
   pub none : r.failed ≡ None
 
--- so it is with the logs of these members, in their order
-pub record AreFor {D : Type 0} (logs : List (LogState D)) (members : List Running) : Type 0 where
+-- so it is with the logs of these members, in their order: there is a log where there is a member, and no other
+pub record AreFor {D : Type 0} (logs : List (Option (LogState D))) (members : List (Option Running))
+    : Type 0 where
   pub all : length logs ≡ length members
-  pub each : (k : ℕ) (log : LogState D) (r : Running) → slice_get logs k ≡ Some log
-      → slice_get members k ≡ Some r → IsFor log r
+  pub there : (k : ℕ) → is_some (present_at logs k) ≡ is_some (present_at members k)
+  pub each : (k : ℕ) (log : LogState D) (r : Running) → present_at logs k ≡ Some log
+      → present_at members k ≡ Some r → IsFor log r
 
 -- a log has all that it had, and maybe more; its disk tells what it told, or at no moment
 -- of what it did would a crash have lost one; what no crash would have lost at a moment, of what was there and
@@ -35,7 +38,7 @@ pub record IsLonger {D : Type 0} (told : D → Option Told) (faults : D → ℕ)
 
 -- so it is with all of them, each at its place
 pub record AreLonger {D : Type 0} (told : D → Option Told) (faults : D → ℕ)
-    (olds news : List (LogState D)) : Type 0 where
-  pub all : length news ≡ length olds
-  pub each : (k : ℕ) (old new : LogState D) → slice_get olds k ≡ Some old → slice_get news k ≡ Some new
+    (olds news : List (Option (LogState D))) : Type 0 where
+  pub places : HaveSamePlaces olds news
+  pub each : (k : ℕ) (old new : LogState D) → present_at olds k ≡ Some old → present_at news k ≡ Some new
       → IsLonger told faults old new

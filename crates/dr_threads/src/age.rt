@@ -1,5 +1,5 @@
 //! The run of an age.
-ghost use Rattle.std.specs.Prelude.{◌≡◌, ◌<◌, ◌≤◌, ◌+◌, ◌++◌, IfErr, IfOk, List, length, vec_capacity};
+ghost use Rattle.std.specs.Prelude.{◌≡◌, ◌<◌, ◌≤◌, ◌+◌, ◌++◌, IfErr, IfOk, List, length, vec_capacity, Option};
 ghost use Rattle.std.specs.Thread.{IsSync};
 ghost use Rattle.dr_log.specs.State.{LogState};
 ghost use Rattle.dr_program.specs.Running.{Running};
@@ -27,9 +27,9 @@ pub fn run_age<R: Threads + Sync, D: Disk, P: Pace + Sync>(
     alloc: Global,
     board: &Board,
     hand: Hand,
-    logs: Vec<Log<D>>,
+    logs: Vec<Option<Log<D>>>,
     pace: &P,
-) -> Result<(Hand, Vec<Log<D>>), (Vec<Log<D>>, AllocError)>
+) -> Result<(Hand, Vec<Option<Log<D>>>), (Vec<Option<Log<D>>>, AllocError)>
     requires board { hand.table ≡ board.now.table }
     requires some { 0 < length hand.members }
     requires logs { AreFor logs.items hand.members }
@@ -42,13 +42,13 @@ pub fn run_age<R: Threads + Sync, D: Disk, P: Pace + Sync>(
     let ((left, logs), (right, more)) = halve(alloc, board, hand, logs)?;
     let (first, second) = thread::join(
         rt,
-        move || -> Result<(Hand, Vec<Log<D>>), (Vec<Log<D>>, AllocError)>
+        move || -> Result<(Hand, Vec<Option<Log<D>>>), (Vec<Option<Log<D>>>, AllocError)>
             requires { IsSync R.row × IsSync P.row × (left.table ≡ board.now.table)
                 × (0 < length left.members) × AreFor logs.items left.members }
             ensures { IsHandAnswer D.told D.faults board.entry.now.table left.members logs.items result
                 × (vec_capacity logs ≤ room_of result) }
         { run_age(rt, alloc, board, left, logs, pace) },
-        move || -> Result<(Hand, Vec<Log<D>>), (Vec<Log<D>>, AllocError)>
+        move || -> Result<(Hand, Vec<Option<Log<D>>>), (Vec<Option<Log<D>>>, AllocError)>
             requires { IsSync R.row × IsSync P.row × (right.table ≡ board.now.table)
                 × (0 < length right.members) × AreFor more.items right.members }
             ensures { IsHandAnswer D.told D.faults board.entry.now.table right.members more.items result }
@@ -58,24 +58,30 @@ pub fn run_age<R: Threads + Sync, D: Disk, P: Pace + Sync>(
 }
 
 /// Runs the one member of a hand to its end, with its log, once that has room for all that the member may
-/// append.
+/// append. Where the place is that of a member that is absent there is nothing to run.
 fn run_one<D: Disk, P: Pace>(
     board: &Board,
     hand: Hand,
-    mut logs: Vec<Log<D>>,
+    mut logs: Vec<Option<Log<D>>>,
     pace: &P,
-) -> Result<(Hand, Vec<Log<D>>), (Vec<Log<D>>, AllocError)>
+) -> Result<(Hand, Vec<Option<Log<D>>>), (Vec<Option<Log<D>>>, AllocError)>
     requires board { hand.table ≡ board.now.table }
     requires one { length hand.members ≡ 1 }
     requires logs { AreFor logs.items hand.members }
     ensures run { IsHandAnswer D.told D.faults board.now.table hand.members logs.items result }
     ensures room { vec_capacity logs ≤ room_of result }
 {
+    if hand.is_empty_at(0) {
+        return Ok((hand, logs));
+    }
     let member = hand.member(0);
-    if let Err(error) = logs[0].reserve(member.appends_left(), member.votes_left()) {
+    let Some(log) = &mut logs[0] else {
+        unreachable!()
+    };
+    if let Err(error) = log.reserve(member.appends_left(), member.votes_left()) {
         return Err((logs, error));
     }
-    let hand = run_member(board, hand, &mut logs[0], pace);
+    let hand = run_member(board, hand, log, pace);
     Ok((hand, logs))
 }
 
@@ -84,8 +90,11 @@ fn halve<D: Disk>(
     alloc: Global,
     board: &Board,
     hand: Hand,
-    mut logs: Vec<Log<D>>,
-) -> Result<((Hand, Vec<Log<D>>), (Hand, Vec<Log<D>>)), (Vec<Log<D>>, AllocError)>
+    mut logs: Vec<Option<Log<D>>>,
+) -> Result<
+    ((Hand, Vec<Option<Log<D>>>), (Hand, Vec<Option<Log<D>>>)),
+    (Vec<Option<Log<D>>>, AllocError),
+>
     requires board { hand.table ≡ board.now.table }
     requires several { 1 < length hand.members }
     requires logs { AreFor logs.items hand.members }
@@ -115,14 +124,14 @@ fn halve<D: Disk>(
 /// for which the first has room.
 fn gather_ends<D: Disk>(
     board: &Board,
-    first: Result<(Hand, Vec<Log<D>>), (Vec<Log<D>>, AllocError)>,
-    second: Result<(Hand, Vec<Log<D>>), (Vec<Log<D>>, AllocError)>,
-) -> Result<(Hand, Vec<Log<D>>), (Vec<Log<D>>, AllocError)>
+    first: Result<(Hand, Vec<Option<Log<D>>>), (Vec<Option<Log<D>>>, AllocError)>,
+    second: Result<(Hand, Vec<Option<Log<D>>>), (Vec<Option<Log<D>>>, AllocError)>,
+) -> Result<(Hand, Vec<Option<Log<D>>>), (Vec<Option<Log<D>>>, AllocError)>
     requires first { IfOk first (λ r. r.0.table ≡ board.now.table) }
     requires second { IfOk second (λ r. r.0.table ≡ board.now.table) }
     requires room { length (logs_of first) + length (logs_of second) ≤ room_of first }
-    ensures run { (before after : List Running) (logs more : List (LogState D)) → length logs ≡ length before
-        → length more ≡ length after
+    ensures run { (before after : List (Option Running)) (logs more : List (Option (LogState D)))
+        → AreFor logs before → AreFor more after
         → IsHandAnswer D.told D.faults board.now.table before logs first
         → IsHandAnswer D.told D.faults board.now.table after more second
         → IsHandAnswer D.told D.faults board.now.table (before ++ after) (logs ++ more) result }

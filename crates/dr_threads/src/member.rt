@@ -1,10 +1,10 @@
 //! The run of one member.
-ghost use Rattle.std.specs.Prelude.{◌≡◌, ◌<◌, true, None, length, sum_by};
+ghost use Rattle.std.specs.Prelude.{◌≡◌, true, None, is_some, length};
 ghost use Rattle.dr_logged.specs.Served.{IsReady};
 ghost use Rattle.dr_member.specs.Deeds.{is_append};
 ghost use Rattle.dr_program.specs.Running.{next_deed};
-ghost use Rattle.dr_turn.specs.Work.{deeds_left};
-ghost use Rattle.dr_table.specs.Cards.{AtPlace};
+ghost use Rattle.dr_program.specs.Presence.{present_at};
+ghost use Rattle.dr_table.specs.Cards.{AtPlace, HasFewerLeft};
 ghost use Rattle.dr_threads.specs.Course.{HasGone, IsEndOf};
 
 use dr_disk::Disk;
@@ -14,7 +14,7 @@ use dr_member::Deed;
 use dr_pace::Pace;
 use dr_table::{Board, Hand};
 
-/// Runs the one member of a hand to its end, with its log.
+/// Runs the one member of a hand, which is there, to its end, with its log.
 pub(crate) fn run_member<D: Disk, P: Pace>(
     board: &Board,
     mut hand: Hand,
@@ -23,6 +23,7 @@ pub(crate) fn run_member<D: Disk, P: Pace>(
 ) -> Hand
     requires board { hand.table ≡ board.now.table }
     requires one { length hand.members ≡ 1 }
+    requires there { is_some (present_at hand.members 0) ≡ true }
     requires ready { AtPlace hand.members 0 (IsReady log.old) }
     ensures over { IsEndOf board.now.table hand.members result }
     ensures gone { HasGone D.told D.faults hand.members log.old result.members log.new }
@@ -43,11 +44,12 @@ pub(crate) fn run_member<D: Disk, P: Pace>(
 fn take<D: Disk>(board: &Board, hand: &mut Hand, log: &mut Log<D>)
     requires board { hand.old.table ≡ board.now.table }
     requires one { length hand.old.members ≡ 1 }
+    requires there { is_some (present_at hand.old.members 0) ≡ true }
     requires going { AtPlace hand.old.members 0 (λ r. r.replica.end ≡ None) }
     requires ready { AtPlace hand.old.members 0 (IsReady log.old) }
     ensures table { hand.new.table ≡ hand.old.table }
     ensures gone { HasGone D.told D.faults hand.old.members log.old hand.new.members log.new }
-    ensures falls { sum_by deeds_left hand.new.members < sum_by deeds_left hand.old.members }
+    ensures falls { HasFewerLeft hand.old.members 0 hand.new.members }
 {
     match hand.member(0).next() {
         Deed::Look(_) => hand.look_row(board, 0),
@@ -62,11 +64,12 @@ fn take<D: Disk>(board: &Board, hand: &mut Hand, log: &mut Log<D>)
 #[inline(never)]
 fn append<D: Disk>(hand: &mut Hand, log: &mut Log<D>)
     requires one { length hand.old.members ≡ 1 }
+    requires there { is_some (present_at hand.old.members 0) ≡ true }
     requires deed { AtPlace hand.old.members 0 (λ r. is_append (next_deed r) ≡ true) }
     requires ready { AtPlace hand.old.members 0 (IsReady log.old) }
     ensures table { hand.new.table ≡ hand.old.table }
     ensures gone { HasGone D.told D.faults hand.old.members log.old hand.new.members log.new }
-    ensures falls { sum_by deeds_left hand.new.members < sum_by deeds_left hand.old.members }
+    ensures falls { HasFewerLeft hand.old.members 0 hand.new.members }
 {
     if let Deed::Append(record) = hand.member(0).next() {
         match log.append(&record) {

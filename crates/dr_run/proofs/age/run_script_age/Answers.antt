@@ -1,10 +1,10 @@
-use Rattle.std.proofs.Common.{sym, ap, ◌∙◌, subst, List, length, arith}
-use Rattle.std.specs.Prelude.{All}
+use Rattle.std.proofs.Common.{sym, ap, ◌∙◌, subst, List, [], length, arith}
 use Rattle.std.proofs.lemmas.List.{length-map}
 use Rattle.dr_entry.specs.declared.end.MemberEnd.{MemberEnd}
 use Rattle.dr_history.specs.Agreement.{EndsAgreed}
 use Rattle.dr_logged.specs.Served.{HaveServed}
-use Rattle.dr_program.specs.Program.{Program, end_of}
+use Rattle.dr_program.specs.Program.{Program, end_at}
+use Rattle.dr_program.proofs.Present.{all_ended}
 use Rattle.dr_program_laws.specs.Ended.{HaveEnded}
 use Rattle.dr_program_laws.specs.Trusting.{NoneLeft}
 use Rattle.dr_program_laws.proofs.Ending.{ended_by_script}
@@ -14,7 +14,7 @@ use Rattle.dr_restart.specs.Groups.{group_of}
 use Rattle.dr_restart.specs.Setups.{crashes_of}
 use Rattle.dr_age.specs.Logged.{NoneFull}
 use Rattle.dr_age.proofs.Ends.{have_come, none_full}
-use Rattle.dr_table.specs.Cards.{IsAtEnd, opened}
+use Rattle.dr_table.specs.Cards.{AreAtEnd, opened}
 use Rattle.dr_threads.specs.Logs.{AreFor}
 use Rattle.dr_threads.proofs.Halves.{same_longer}
 use Rattle.dr_threads.proofs.Runs.{as_many}
@@ -52,7 +52,8 @@ run_age-requires-clause-logs g c = λ ks within.
 
 pub ends_of-requires-clause-ended : goal.ends_of-requires-clause-ended
 ends_of-requires-clause-ended g c =
-    subst (All IsAtEnd) (sym c.close-members.ensures.members) c.in_ok-hand.ensures.run.over.ended
+    all_ended (record { members = c.close-members.result.items; table = [] })
+    (subst AreAtEnd (sym c.close-members.ensures.members) c.in_ok-hand.ensures.run.over.ended)
 
 pub ends_of-requires-clause-room : goal.ends_of-requires-clause-room
 ends_of-requires-clause-room g c = omega (
@@ -79,8 +80,8 @@ over g c =
     c.in-Ok-begun_members.members.items c.args.logs.items c.in_ok-hand.logs.items (opened c.in-Ok-deal.board)
     (closed g c) c.requires.group c.requires.ranges.group.lists c.requires.ranges.some_turn
     c.in-Ok-begun_members.ensures c.in-Ok-deal.ensures.opened c.close-members.ensures.ran.1
-    (subst (All IsAtEnd) (sym c.close-members.ensures.members) c.in_ok-hand.ensures.run.over.ended)
-    c.requires.logs c.in_ok-hand.ensures.run.all
+    (subst AreAtEnd (sym c.close-members.ensures.members) c.in_ok-hand.ensures.run.over.ended)
+    c.requires.logs c.in_ok-hand.ensures.run.places
     (subst (HaveServed g.D.Disk.told g.D.Disk.faults c.args.logs.items c.in_ok-hand.logs.items)
     (sym c.close-members.ensures.members) c.in_ok-hand.ensures.run.served)
 
@@ -133,5 +134,5 @@ returns-clause-ample g c = λ ample.
 
 pub returns-clause-members : goal.returns-clause-members
 returns-clause-members g c =
-    ap length (c.of.ensures ∙ c.ends_of.ensures) ∙ length-map c.close-members.result.items end_of
+    ap length (c.of.ensures ∙ c.ends_of.ensures) ∙ length-map c.close-members.result.items end_at
     ∙ (over g c).over.sound.form.all ∙ sym c.requires.logs.all

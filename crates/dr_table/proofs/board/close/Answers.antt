@@ -1,7 +1,7 @@
-use Rattle.std.proofs.Common.{◌≡◌, sym, ap, ◌∙◌, subst, map}
-use Rattle.std.specs.Prelude.{All, Some, slice_get}
+use Rattle.std.proofs.Common.{◌≡◌, sym, ap, ◌∙◌, subst, length, map}
+use Rattle.std.specs.Prelude.{Some, option_map, slice_get}
 use Rattle.dr_program.specs.Program.{IsRanFrom, Program, begun_program}
-use Rattle.dr_table.specs.Cards.{AreSame, Cards, IsAtEnd}
+use Rattle.dr_table.specs.Cards.{AreAtEnd, AreSame, Cards}
 use Rattle.dr_table.specs.Rule.{number}
 use Rattle.dr_table.proofs.Hands.{board_opened, seat_knows}
 use Rattle.dr_table.proofs.Lists.{by_table}
@@ -17,14 +17,17 @@ returns-clause-ran c =
     let items = c.hand.inside.members.items in
     let is = ap (λ (w : Cards). w.members) c.hand.view_is in
     let knows = seat_knows c.hand.inside.seat.me.0 items c.hand.invariant.ahead
-    (subst (All IsAtEnd) (sym is) c.requires.ended) in
+    (subst AreAtEnd (sym is) c.requires.ended) in
     let mine : slice_get s.views c.hand.inside.seat.id ≡ Some items =
     by_table s.views c.hand.inside.seat.id c.hand.inside.seat.me.0 final.1.1 ∙ ap (λ v. Some v) knows in
     let all : AreSame shared.key.items items =
-    ap (map number) is ∙ c.requires.all ∙ ap (map number)
+    ap (map (option_map number)) is ∙ c.requires.all ∙ ap (map (option_map number))
     (sym (ap (λ (w : Cards). w.members) c.board.view_is)) in
     let same = whole shared.key.items s.words s.views c.hand.inside.seat.id items mine all kept in
-    let begins = board_opened (record { table = shared.table_id; members = shared.key.items }) c.args.board
+    let begins = board_opened (record {
+      table = record { id = shared.table_id; places = length shared.key.items };
+      members = shared.key.items;
+    }) c.args.board
     c.board.view_is kept.opening c.board.invariant.1 in (
       s.words,
       subst (λ (b : Program). IsRanFrom b (record { members = items; table = s.words })) (sym begins)

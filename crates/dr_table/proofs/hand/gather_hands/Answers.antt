@@ -1,23 +1,23 @@
-use Rattle.std.proofs.Common.{length, ◌+◌, ◌≤◌, ◌≡◌, ◌<◌, ◌++◌, ℕ, zero, suc, ◌==◌, false, [], List, sym, ap, ◌∙◌, subst, arith, Result, Ok, Err, IsOk, is_ok, if◌then◌else◌, true≢false}
+use Rattle.std.proofs.Common.{length, ◌+◌, ◌≤◌, ◌≡◌, ◌<◌, ◌++◌, ℕ, [], List, sym, ap, ◌∙◌, subst, arith, Result, Ok, Err, IsOk, is_ok, if◌then◌else◌, true≢false}
 use Rattle.std.specs.declared.alloc.AllocError.{AllocError}
-use Rattle.std.specs.Prelude.{vec_len, vec_capacity}
+use Rattle.std.specs.Prelude.{vec_capacity, Option}
 use Rattle.atomic_table.specs.Seated.{TableId}
 use Rattle.atomic_table.specs.Table.{Me}
 use Rattle.dr_member.specs.Deeds.{table_size}
 use Rattle.dr_program.specs.Running.{Running}
-use Rattle.dr_table.specs.Cards.{AreFew, AreOf, AreReached, Cards, HaveRoom}
+use Rattle.dr_table.specs.Cards.{AreOf, AreReached, Cards, DealtTable}
 use Rattle.dr_table.specs.Steps.{AreAhead, IsReachedMember}
 use Rattle.dr_table.proofs.Cuts.{join_allowed}
 use Rattle.dr_table.proofs.Hands.{ahead_append, both_fit, each_append}
-use Rattle.dr_table.proofs.Room.{count_allowed}
 use Rattle.dr_table.proofs.hand.gather_hands.Goals as goal
 use Rattle.dr_table.proofs.hand.gather_hands.Goals.{After-append}
 
 pub join_seat-requires : goal.join_seat-requires
 join_seat-requires c =
-    let home = sym (ap (λ (w : Cards). w.table) c.board.view_is) in
-    let a = ap (λ (w : Cards). w.table) c.a.view_is ∙ c.requires.first ∙ home in
-    let b = ap (λ (w : Cards). w.table) c.b.view_is ∙ c.requires.second ∙ home in (
+    let id : DealtTable → TableId = λ t. t.id in
+    let home = sym (ap (λ (w : Cards). w.table.id) c.board.view_is) in
+    let a = ap (λ (w : Cards). w.table.id) c.a.view_is ∙ ap id c.requires.first ∙ home in
+    let b = ap (λ (w : Cards). w.table.id) c.b.view_is ∙ ap id c.requires.second ∙ home in (
       a,
       b,
       c.b.invariant.slots,
@@ -25,70 +25,72 @@ join_seat-requires c =
       join_allowed _ _ _ _ _,
     )
 
-pub load-requires : goal.load-requires
-load-requires c =
-    let home = sym (ap (λ (w : Cards). w.table) c.board.view_is) in
-    let a = ap (λ (w : Cards). w.table) c.a.view_is ∙ c.requires.first ∙ home in (
-      c.join_seat.ensures.0 ∙ a,
-      subst (λ (t : TableId). 0 < t.words) a c.a.invariant.words,
-      count_allowed _ _ _ _,
-    )
+pub count_at-requires-clause-table : goal.count_at-requires-clause-table
+count_at-requires-clause-table c =
+    c.join_seat.ensures.0 ∙ ap (λ (w : Cards). w.table.id) c.a.view_is
+    ∙ ap (λ (t : DealtTable). t.id) c.requires.first
 
-appended : (r : Result (Unit {0}) AllocError) (new a b : List Running)
+pub count_at-requires-clause-words : goal.count_at-requires-clause-words
+count_at-requires-clause-words c =
+    subst (λ (t : TableId). 0 < t.words)
+    (ap (λ (w : Cards). w.table.id) c.a.view_is ∙ ap (λ (t : DealtTable). t.id) c.requires.first)
+    c.a.invariant.words
+
+appended : (r : Result (Unit {0}) AllocError) (new a b : List (Option Running))
     → new ≡ (if is_ok r then a ++ b else a) → IsOk r → new ≡ a ++ b
 appended (Ok x) new a b e is = e
 appended (Err x) new a b e is = absurd (true≢false (sym is))
 
-some_there : (n : ℕ) → (n == 0) ≡ false → 0 < n
-some_there zero e = absurd (true≢false e)
-some_there (suc n) e = omega arith
+-- the board counts as many places as the first hand
+places : (c : After-append) → length c.args.board.now.members ≡ c.a.inside.places
+places c = sym (ap (λ (w : Cards). length w.members) c.board.view_is)
+    ∙ ap (λ (w : Cards). w.table.places) c.board.view_is ∙ sym (ap (λ (t : DealtTable). t.places) c.requires.first)
+    ∙ sym (ap (λ (w : Cards). w.table.places) c.a.view_is)
 
 -- there is room for the members of both
 fits : (c : After-append)
-    → (length c.a.inside.members.items + length c.b.inside.members.items ≤ vec_capacity c.a.inside.members)
-    × HaveRoom (vec_capacity c.a.inside.members) (c.a.inside.members.items ++ c.b.inside.members.items)
+    → length c.a.inside.members.items + length c.b.inside.members.items ≤ vec_capacity c.a.inside.members
 fits c =
     let x = c.a.inside.members in
-    let few : AreFew (c.a.inside.seat.me.0 ++ c.b.inside.seat.me.0) =
-    subst (λ (m : Me ℕ (List Running)). AreFew m.0) c.join_seat.ensures.2 c.load.ensures.2.1 in
-    both_fit c.a.inside.seat.me.0 c.b.inside.seat.me.0 x.items c.b.inside.members.items (vec_capacity x)
-    c.a.invariant.ahead c.b.invariant.ahead few c.a.invariant.room
-    (omega (arith, some_there (vec_len x) (sym c.if-is_empty.ensures), x.ok))
+    let few : length (c.a.inside.seat.me.0 ++ c.b.inside.seat.me.0) ≤ c.a.inside.places =
+    subst (λ n. length (c.a.inside.seat.me.0 ++ c.b.inside.seat.me.0) ≤ n) (places c)
+    (subst (λ (m : Me ℕ (List (Option Running))). length m.0 ≤ length c.args.board.now.members)
+    c.join_seat.ensures.2 c.count_at.ensures.few) in
+    both_fit c.a.inside.seat.me.0 c.b.inside.seat.me.0 x.items c.b.inside.members.items c.a.inside.places
+    (vec_capacity x) c.a.invariant.ahead c.b.invariant.ahead few c.a.invariant.room
 
 both_there : (c : After-append) → IsOk c.append.result
 both_there c = let fit = fits c in c.append.ensures.succeeds
-    (omega (arith, fit.0, c.a.inside.members.ok, c.b.inside.members.ok))
+    (omega (arith, fit, c.a.inside.members.ok, c.b.inside.members.ok))
 
 pub unwrap-requires : goal.unwrap-requires
 unwrap-requires c = both_there c
 
-pub invariant_of-result-2 : goal.invariant_of-result-2
-invariant_of-result-2 c =
+pub invariant_of-result : goal.invariant_of-result
+invariant_of-result c =
     let x = c.a.inside.members in
     let y = c.b.inside.members in
-    let me : c.load.new.seat.me ≡ (c.a.inside.seat.me.0 ++ c.b.inside.seat.me.0, []) =
-    c.load.ensures.2.0 ∙ c.join_seat.ensures.2
+    let me : c.count_at.new.seat.me ≡ (c.a.inside.seat.me.0 ++ c.b.inside.seat.me.0, []) =
+    c.count_at.ensures.seat.1 ∙ c.join_seat.ensures.2
     ∙ ap (λ (l : List (ℕ × ℕ)). (c.a.inside.seat.me.0 ++ c.b.inside.seat.me.0, l)) c.a.invariant.slots in
     let items = appended c.append.result c.append.new.self.items x.items y.items c.append.ensures.items
-    (both_there (goal.at.invariant_of-result-2 c).After-append) in
-    let table = c.load.ensures.0 ∙ c.join_seat.ensures.0 in
-    let tables = ap (λ (w : Cards). w.table) c.a.view_is ∙ c.requires.first ∙ sym c.requires.second
-    ∙ sym (ap (λ (w : Cards). w.table) c.b.view_is) in record {
-      ahead = subst (λ (m : Me ℕ (List Running)). AreAhead m.0 c.append.new.self.items) (sym me)
+    (both_there (goal.at.invariant_of-result c).After-append) in
+    let table = c.count_at.ensures.seat.0 ∙ c.join_seat.ensures.0 in
+    let tables = ap (λ (t : DealtTable). t.id) (ap (λ (w : Cards). w.table) c.a.view_is ∙ c.requires.first
+    ∙ sym c.requires.second ∙ sym (ap (λ (w : Cards). w.table) c.b.view_is)) in record {
+      ahead = subst (λ (m : Me ℕ (List (Option Running))). AreAhead m.0 c.append.new.self.items) (sym me)
           (subst (AreAhead (c.a.inside.seat.me.0 ++ c.b.inside.seat.me.0)) (sym items)
           (ahead_append c.a.inside.seat.me.0 x.items c.b.inside.seat.me.0 y.items c.a.invariant.ahead
           c.b.invariant.ahead));
-      slots = ap (λ (m : Me ℕ (List Running)). m.1) me;
+      slots = ap (λ (m : Me ℕ (List (Option Running))). m.1) me;
       reached = subst AreReached (sym items)
           (each_append IsReachedMember x.items y.items c.a.invariant.reached c.b.invariant.reached);
-      of = subst (AreOf c.load.new.seat.table_id.words) (sym items)
+      of = subst (AreOf c.count_at.new.seat.table_id.words) (sym items)
           (subst (λ (t : TableId). AreOf t.words (x.items ++ y.items)) (sym table)
           (each_append (λ r. table_size r ≡ c.a.inside.seat.table_id.words) x.items y.items c.a.invariant.of
           (subst (λ (t : TableId). AreOf t.words y.items) (sym tables) c.b.invariant.of)));
       words = subst (λ (t : TableId). 0 < t.words) (sym table) c.a.invariant.words;
-      room = subst (HaveRoom _) (sym items) (λ k r there.
-          let fit = (fits (goal.at.invariant_of-result-2 c).After-append).1 k r there in omega
-          (arith, fit, c.append.ensures.capacity));
+      room = omega (arith, c.a.invariant.room, c.append.ensures.capacity);
     }
 
 pub returns-clause-members : goal.returns-clause-members

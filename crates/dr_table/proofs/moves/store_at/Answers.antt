@@ -1,19 +1,19 @@
 use Rattle.std.proofs.Common.{◌<◌, sym, ap, ◌∙◌, subst}
-use Rattle.std.specs.Prelude.{slice_get}
 use Rattle.dr_program.specs.Running.{next_deed}
 use Rattle.dr_table.specs.Cards.{Cards}
 use Rattle.dr_table.specs.Deeds.{IsStore}
 use Rattle.dr_table.specs.Steps.{IsAhead}
 use Rattle.dr_table.proofs.Keeping.{store_allowed}
 use Rattle.dr_table.proofs.moves.store_at.Goals as goal
+use Rattle.dr_program.specs.Presence.{present_at}
 
 pub store-requires : goal.store-requires
 store-requires g c =
     let t = c.requires.there in (
-      c.requires.table ∙ sym (ap (λ (w : Cards). w.table) c.board.view_is),
-      subst (λ (w : Cards). c.args.word < w.table.words) (sym c.board.view_is) c.requires.word,
+      c.requires.table ∙ sym (ap (λ (w : Cards). w.table.id) c.board.view_is),
+      subst (λ (w : Cards). c.args.word < w.table.id.words) (sym c.board.view_is) c.requires.word,
       store_allowed _ _ _ _ _ _ c.args.seat.now.me t.0 _
-          (ap (slice_get c.args.seat.now.me.0) (sym c.requires.at) ∙ t.1)
+          (ap (present_at c.args.seat.now.me.0) (sym c.requires.at) ∙ t.1)
           (subst (IsAhead t.0) c.requires.now t.2) (subst (λ r. IsStore c.args.word c.args.new (next_deed r))
           c.requires.now c.requires.deed),
     )

@@ -1,5 +1,5 @@
 use Rattle.std.proofs.Common.{◌≡◌, ◌≤◌, ◌+◌, ◌++◌, List, length, sym, ap, ◌∙◌, subst, arith, Result, Ok, Err, IsOk, is_ok, if◌then◌else◌, true≢false}
-use Rattle.std.specs.Prelude.{Vec, vec_capacity}
+use Rattle.std.specs.Prelude.{Vec, vec_capacity, Option}
 use Rattle.std.specs.declared.alloc.AllocError.{AllocError}
 use Rattle.std.specs.declared.alloc.Global.{Global}
 use Rattle.dr_log.specs.State.{LogState}
@@ -9,7 +9,7 @@ use Rattle.dr_threads.proofs.age.gather_ends.Goals as goal
 
 -- the first list has room for both, so it has them all
 gathered : {D : Type 0} (first second : Answer D) (r : Result (Unit {0}) AllocError)
-    (logs more : Vec (LogState D) Global) (all : List (LogState D)) → logs_of first ≡ logs.items
+    (logs more : Vec (Option (LogState D)) Global) (all : List (Option (LogState D))) → logs_of first ≡ logs.items
     → logs_of second ≡ more.items → room_of first ≡ vec_capacity logs
     → length (logs_of first) + length (logs_of second) ≤ room_of first
     → all ≡ (if is_ok r then logs.items ++ more.items else logs.items)
@@ -33,7 +33,7 @@ pub returns-in-Ok-Ok-clause-run : goal.returns-in-Ok-Ok-clause-run
 returns-in-Ok-Ok-clause-run g c = λ before after logs more m n h k.
     let w = c.in-Ok-Ok in
     both_run g.D.Disk.told g.D.Disk.faults c.args.board.now.table before after logs more w.a w.b
-    c.gather_hands.result w.logs.items w.more.items c.append-room.new.self.items m n
+    c.gather_hands.result w.logs.items w.more.items c.append-room.new.self.items m.all n.all
     c.gather_hands.ensures.table c.gather_hands.ensures.members
     (gathered c.args.first c.args.second c.append-room.result w.logs w.more c.append-room.new.self.items
     (ap logs_of w.is-0) (ap logs_of w.is-1) (ap room_of w.is-0) c.requires.room c.append-room.ensures.items
@@ -50,7 +50,7 @@ returns-in-Ok-Err-clause-run g c = λ before after logs more m n h k.
     (gathered c.args.first c.args.second c.append-room-in-Ok-Err.result w.logs w.more
     c.append-room-in-Ok-Err.new.self.items (ap logs_of w.is-0) (ap logs_of w.is-1) (ap room_of w.is-0)
     c.requires.room c.append-room-in-Ok-Err.ensures.items
-    (λ fits. c.append-room-in-Ok-Err.ensures.succeeds (omega (arith, fits, w.logs.ok, w.more.ok)))) m n h k
+    (λ fits. c.append-room-in-Ok-Err.ensures.succeeds (omega (arith, fits, w.logs.ok, w.more.ok)))) m.there n.there h k
 
 pub returns-in-Err-Ok-clause-run : goal.returns-in-Err-Ok-clause-run
 returns-in-Err-Ok-clause-run g c = λ before after logs more m n h k.
@@ -60,7 +60,7 @@ returns-in-Err-Ok-clause-run g c = λ before after logs more m n h k.
     (gathered c.args.first c.args.second c.append-room-in-Err-Ok.result w.logs w.more
     c.append-room-in-Err-Ok.new.self.items (ap logs_of w.is-0) (ap logs_of w.is-1) (ap room_of w.is-0)
     c.requires.room c.append-room-in-Err-Ok.ensures.items
-    (λ fits. c.append-room-in-Err-Ok.ensures.succeeds (omega (arith, fits, w.logs.ok, w.more.ok)))) m n h k
+    (λ fits. c.append-room-in-Err-Ok.ensures.succeeds (omega (arith, fits, w.logs.ok, w.more.ok)))) m.there n.there h k
 
 pub returns-clause-run : goal.returns-clause-run
 returns-clause-run g c = λ before after logs more m n h k.
@@ -70,4 +70,4 @@ returns-clause-run g c = λ before after logs more m n h k.
     (gathered c.args.first c.args.second c.append-room-in-Err-Err.result w.logs w.more
     c.append-room-in-Err-Err.new.self.items (ap logs_of w.is-0) (ap logs_of w.is-1) (ap room_of w.is-0)
     c.requires.room c.append-room-in-Err-Err.ensures.items
-    (λ fits. c.append-room-in-Err-Err.ensures.succeeds (omega (arith, fits, w.logs.ok, w.more.ok)))) m n h k
+    (λ fits. c.append-room-in-Err-Err.ensures.succeeds (omega (arith, fits, w.logs.ok, w.more.ok)))) m.there n.there h k

@@ -5,7 +5,7 @@ use Rattle.dr_program.specs.Running.{after_step, broken_off}
 use Rattle.dr_logged.proofs.Appends.{did_append, did_fail, has_place, has_spares}
 use Rattle.dr_age.proofs.Deeds.{at_append}
 use Rattle.dr_table.proofs.Deeds.{after_told, same_number}
-use Rattle.dr_threads.proofs.Runs.{gone_by, left_falls, reached_form, reached_well}
+use Rattle.dr_threads.proofs.Runs.{gone_by, reached_form, reached_well}
 use Rattle.dr_threads.proofs.member.append.Goals as goal
 
 pub append-requires-clause-valid : goal.append-requires-clause-valid
@@ -65,11 +65,6 @@ returns-in-Ok-clause-gone g c =
     (λ base served. appended_served _ _ base log new 0 r at.0.due served did.made did.fits did.goes
     did.lasting did.safe did.calm)
 
-pub returns-in-Ok-clause-falls : goal.returns-in-Ok-clause-falls
-returns-in-Ok-clause-falls g c =
-    left_falls c.args.hand.now.members c.appended.new.self.members _ c.requires.one
-    (c.appended.ensures.members c.member.result.now c.member.ensures.there) c.appended.ensures.falls
-
 pub returns-in-Err-clause-gone : goal.returns-in-Err-clause-gone
 returns-in-Err-clause-gone g c =
     let r = c.member.result.now in
@@ -86,8 +81,3 @@ returns-in-Err-clause-gone g c =
     (did_fail _ _ _ base log new r c.in-Append.record c.in-Err.fault at.0 at.1 c.in-Err.ensures.fault
     c.in-Err.ensures.full c.in-Err.ensures.limit c.in-Err.ensures.any_moment c.in-Err.ensures.lasting
     c.in-Err.ensures.cause c.in-Err.ensures.faults served))
-
-pub returns-in-Err-clause-falls : goal.returns-in-Err-clause-falls
-returns-in-Err-clause-falls g c =
-    left_falls c.args.hand.now.members c.append_failed.new.self.members _ c.requires.one
-    (c.append_failed.ensures.members c.member.result.now c.member.ensures.there) c.append_failed.ensures.falls

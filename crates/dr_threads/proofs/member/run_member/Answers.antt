@@ -1,16 +1,20 @@
 use Rattle.std.proofs.Common.{ap, not, ◌∙◌}
-use Rattle.dr_threads.proofs.Runs.{as_many, ended_by, gone_more, one_ended}
+use Rattle.dr_threads.proofs.Runs.{as_filled, as_many, ended_by, gone_more, one_ended}
 use Rattle.dr_threads.proofs.member.run_member.Goals as goal
 
 pub loop-hand-preserved-then-is_between_turns : goal.loop-hand-preserved-then-is_between_turns
 loop-hand-preserved-then-is_between_turns g c = record {
   table = c.take.ensures.table ∙ c.loop-hand.invariant.table;
+  there = as_filled c.loop-hand.hand.members c.take.new.hand.members 0 c.take.ensures.gone.same
+      ∙ c.loop-hand.invariant.there;
   gone = gone_more _ _ _ _ _ _ _ _ c.loop-hand.invariant.gone c.take.ensures.gone;
 }
 
 pub loop-hand-preserved : goal.loop-hand-preserved
 loop-hand-preserved g c = record {
   table = c.take.ensures.table ∙ c.loop-hand.invariant.table;
+  there = as_filled c.loop-hand.hand.members c.take.new.hand.members 0 c.take.ensures.gone.same
+      ∙ c.loop-hand.invariant.there;
   gone = gone_more _ _ _ _ _ _ _ _ c.loop-hand.invariant.gone c.take.ensures.gone;
 }
 

@@ -1,6 +1,6 @@
 use Rattle.std.proofs.Common.{sym}
 use Rattle.dr_age.proofs.Deeds.{at_act}
-use Rattle.dr_threads.proofs.Runs.{gone_step, gone_sweeping, left_falls}
+use Rattle.dr_threads.proofs.Runs.{gone_step, gone_sweeping}
 use Rattle.dr_threads.proofs.member.take.Goals as goal
 
 pub returns-in-Look-clause-gone : goal.returns-in-Look-clause-gone
@@ -8,22 +8,10 @@ returns-in-Look-clause-gone g c =
     gone_sweeping _ _ c.args.hand.now.members c.look_row.new.self.members c.member.result.now c.args.log.now
     c.requires.one c.member.ensures.there c.look_row.ensures.members
 
-pub returns-in-Look-clause-falls : goal.returns-in-Look-clause-falls
-returns-in-Look-clause-falls g c =
-    let (words, q, taken, to) = c.look_row.ensures.members c.member.result.now c.member.ensures.there in
-    left_falls c.args.hand.now.members c.look_row.new.self.members q c.requires.one to
-    c.look_row.ensures.falls
-
 pub returns-in-Push-clause-gone : goal.returns-in-Push-clause-gone
 returns-in-Push-clause-gone g c =
     gone_sweeping _ _ c.args.hand.now.members c.push_row.new.self.members c.member.result.now c.args.log.now
     c.requires.one c.member.ensures.there c.push_row.ensures.members
-
-pub returns-in-Push-clause-falls : goal.returns-in-Push-clause-falls
-returns-in-Push-clause-falls g c =
-    let (words, q, taken, to) = c.push_row.ensures.members c.member.result.now c.member.ensures.there in
-    left_falls c.args.hand.now.members c.push_row.new.self.members q c.requires.one to
-    c.push_row.ensures.falls
 
 pub returns-in-Act-clause-gone : goal.returns-in-Act-clause-gone
 returns-in-Act-clause-gone g c =
@@ -31,8 +19,3 @@ returns-in-Act-clause-gone g c =
     gone_step _ _ c.args.hand.now.members c.act.new.self.members r 0 c.args.log.now c.requires.one
     c.member.ensures.there c.member.ensures.reached (c.requires.going r c.member.ensures.there) (at_act r _ _ (sym c.in-Act.ensures.deed))
     (c.act.ensures.members r c.member.ensures.there)
-
-pub returns-in-Act-clause-falls : goal.returns-in-Act-clause-falls
-returns-in-Act-clause-falls g c =
-    left_falls c.args.hand.now.members c.act.new.self.members _ c.requires.one
-    (c.act.ensures.members c.member.result.now c.member.ensures.there) c.act.ensures.falls

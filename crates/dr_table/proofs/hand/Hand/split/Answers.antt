@@ -1,33 +1,38 @@
-use Rattle.std.proofs.Common.{◌≡◌, ◌<◌, ◌≤◌, ◌++◌, ℕ, List, drop, sym, ap, ◌∙◌, subst, arith}
+use Rattle.std.proofs.Common.{◌≡◌, ◌<◌, ◌++◌, ℕ, List, drop, sym, ap, ◌∙◌, subst, arith}
 use Rattle.atomic_table.specs.Seated.{TableId}
 use Rattle.atomic_table.specs.Table.{Me}
 use Rattle.dr_member.specs.Deeds.{table_size}
 use Rattle.dr_program.specs.Running.{Running}
-use Rattle.dr_table.specs.Cards.{AreOf, AreReached, Cards, HaveRoom}
+use Rattle.dr_table.specs.Cards.{AreOf, AreReached, Cards, DealtTable}
 use Rattle.dr_table.specs.Steps.{AreAhead, IsReachedMember}
 use Rattle.dr_table.proofs.Hands.{ahead_drop, each_drop}
 use Rattle.dr_table.proofs.hand.Hand.split.Goals as goal
+use Rattle.std.specs.Prelude.{Option}
 
 pub invariant_of-result-3 : goal.invariant_of-result-3
 invariant_of-result-3 c =
     let n = c.args.at in
     let x = c.self.inside.members in
     let items : c.move_tail.new.into.items ≡ drop n x.items =
-    c.move_tail.ensures.into.0 ∙ ap (λ (l : List Running). l ++ drop n x.items) c.in-Ok.ensures.items in
+    c.move_tail.ensures.into.0 ∙ ap (λ (l : List (Option Running)). l ++ drop n x.items) c.in-Ok.ensures.items in
     let me = c.cut_at-other.ensures.other.1 in
-    let tables = c.cut_at-other.ensures.other.0 ∙ sym (ap (λ (w : Cards). w.table) c.self.view_is
-    ∙ c.requires.board) in
+    let tables = c.cut_at-other.ensures.other.0 ∙ sym (ap (λ (w : Cards). w.table.id) c.self.view_is
+    ∙ ap (λ (t : DealtTable). t.id) c.requires.board) in
     record {
-      ahead = subst (λ (m : Me ℕ (List Running)). AreAhead m.0 c.move_tail.new.into.items) (sym me)
+      ahead = subst (λ (m : Me ℕ (List (Option Running))). AreAhead m.0 c.move_tail.new.into.items) (sym me)
           (subst (AreAhead (drop n c.self.inside.seat.me.0)) (sym items)
           (ahead_drop n c.self.inside.seat.me.0 x.items c.self.invariant.ahead));
-      slots = ap (λ (m : Me ℕ (List Running)). m.1) me;
+      slots = ap (λ (m : Me ℕ (List (Option Running))). m.1) me;
       reached = subst AreReached (sym items) (each_drop IsReachedMember n x.items c.self.invariant.reached);
       of = subst (λ (t : TableId). AreOf t.words c.move_tail.new.into.items) (sym tables)
           (subst (AreOf c.self.inside.seat.table_id.words) (sym items)
           (each_drop (λ r. table_size r ≡ c.self.inside.seat.table_id.words) n x.items c.self.invariant.of));
       words = subst (λ (t : TableId). 0 < t.words) (sym tables) c.self.invariant.words;
-      room = subst (HaveRoom _) (sym items) (λ k r there.
-          let fits = each_drop (λ q. q.replica.roster ≤ _) n x.items c.self.invariant.room k r there in
-          omega (arith, fits, c.move_tail.ensures.into.1, c.in-Ok.ensures.capacity, c.capacity.ensures));
+      room = omega (
+        arith,
+        c.self.invariant.room,
+        c.move_tail.ensures.into.1,
+        c.in-Ok.ensures.capacity,
+        c.capacity.ensures,
+      );
     }
