@@ -1,14 +1,11 @@
 -- Runs of the executable world.
-use Rattle.std.proofs.Common.{◌≡◌, subst, ℕ, ◌⊎◌, List}
-use Rattle.dr_entry.specs.declared.entry.Entry.{Entry}
-use Rattle.dr_history.specs.History.{IsPrefixOf}
+use Rattle.std.proofs.Common.{◌≡◌, subst, List}
 use Rattle.dr_script.specs.declared.script.Script.{Script}
 use Rattle.dr_restart.specs.declared.start.Start.{Start}
 use Rattle.dr_restart.specs.Groups.{group_of}
 use Rattle.dr_machine.specs.declared.event.Event.{Event}
-use Rattle.dr_machine.specs.Group.{Group, IsPresent}
-use Rattle.dr_machine.specs.World.{World, opening_world}
-use Rattle.dr_machine.specs.Run.{Run, WorldAgreed}
+use Rattle.dr_machine.specs.World.{opening_world}
+use Rattle.dr_machine.specs.Run.{Run}
 use Rattle.dr_world.specs.Held.{Held, its_group, its_world}
 
 -- a run from a world that has opened is one of its group from the opening
@@ -20,11 +17,3 @@ pub from_opening : (script : Script) (start : Start) (h k : Held) (events : List
 from_opening script start h k events same likewise opening run =
     subst (λ w. Run (group_of script start) w events (its_world k)) opening
     (subst (λ g. Run g (its_world h) events (its_world k)) (λ z. group_of (same z) (likewise z)) run)
-
--- of two histories that agree one is a prefix of the other
-pub either_prefix : (g : Group) (w : World) (i j : ℕ) (one other : List Entry)
-    → WorldAgreed g w → IsPresent g i → IsPresent g j
-    → one ≡ w.past.history i → other ≡ w.past.history j → IsPrefixOf one other
-    ⊎ IsPrefixOf other one
-either_prefix g w i j one other agrees here there is likewise =
-    rw (is, likewise) (agrees.prefix i j here there)

@@ -63,11 +63,20 @@ fn is_delivered(world: &World, entries: &[Entry]) -> bool
         × IsPrefixOf entries.now ((its_world world.now).past.history i)) }
 {
     for m in 0..world.members() {
-        if is_prefix(entries, world.history(m)) {
+        if is_delivered_by(world, m, entries) {
             return true;
         }
     }
     false
+}
+
+/// Whether a member is there and has delivered these entries first.
+fn is_delivered_by(world: &World, m: u8, entries: &[Entry]) -> bool
+    requires { m < roster (its_group world.now) }
+    ensures { IsTrue result ↔ (IsPresent (its_group world.now) m
+        × IsPrefixOf entries.now ((its_world world.now).past.history m)) }
+{
+    world.is_present(m) && is_prefix(entries, world.history(m))
 }
 
 /// Whether these entries begin with all that some member knows to be durable.
@@ -77,11 +86,23 @@ fn has_durable(world: &World, entries: &[Entry]) -> bool
         entries.now) }
 {
     for m in 0..world.members() {
-        if !is_prefix(durable_entries(world, m), entries) {
+        if !has_durable_of(world, m, entries) {
             return false;
         }
     }
     true
+}
+
+/// Whether a member is absent, or these entries begin with all that it knows to be durable.
+fn has_durable_of(world: &World, m: u8, entries: &[Entry]) -> bool
+    requires group { IsGroup (its_group world.now) }
+    requires events { ComesOfEvents (its_group world.now) (its_world world.now) }
+    requires member { m < roster (its_group world.now) }
+    ensures { IsTrue result ↔ (IsPresent (its_group world.now) m
+        → IsPrefixOf (take ((its_world world.now).past.durable m) ((its_world world.now).past.history m))
+        entries.now) }
+{
+    !world.is_present(m) || is_prefix(durable_entries(world, m), entries)
 }
 
 /// The entries that a member knows to be durable.

@@ -1,7 +1,7 @@
 //! Runs of the executable world, and what is certain of them.
-ghost use Rattle.std.specs.Prelude.{◌≡◌, ◌↔◌, ◌⊎◌, IfOk, IsTrue};
+ghost use Rattle.std.specs.Prelude.{◌≡◌, ◌↔◌, ◌<◌, ◌⊎◌, IfOk, IsTrue};
 ghost use Rattle.dr_history.specs.History.{IsPrefixOf};
-ghost use Rattle.dr_machine.specs.Group.{AllPresent, IsGroup};
+ghost use Rattle.dr_machine.specs.Group.{IsGroup, IsPresent, roster};
 ghost use Rattle.dr_machine.specs.Run.{NoLaterItem, Run, WorldAgreed};
 ghost use Rattle.dr_machine.specs.World.{opening_world};
 ghost use Rattle.dr_script.specs.Ranges.{HasGroupRanges};
@@ -32,7 +32,6 @@ pub fn agreed_run(
 ) -> Result<World, AllocError>
     requires ranges { HasGroupRanges script.now }
     requires group { IsGroup (group_of script.now start.now) }
-    requires present { AllPresent (group_of script.now start.now) }
     ensures run { IfOk result (λ w. Run (group_of script.now start.now)
         (opening_world (group_of script.now start.now)) events.now (its_world w)) }
     ensures agreed { IfOk result (λ w. WorldAgreed (group_of script.now start.now) (its_world w)) }
@@ -48,21 +47,33 @@ pub fn agreed_run(
     Ok(world)
 }
 
-/// Whether the members of a world agree. It compares each two histories, whether one is a prefix of
-/// the other; the rest needs no test, since a [`World`] is always one that events lead to. It takes no
-/// memory.
+/// Whether the members of a world agree. It compares each two histories of members that are there, whether one
+/// is a prefix of the other; the rest needs no test, since a [`World`] is always one that events lead to. It
+/// takes no memory.
 pub fn agree(world: &World) -> bool
     ensures { IsTrue result ↔ WorldAgreed (its_group world.now) (its_world world.now) }
 {
     let members = world.members();
     for i in 0..members {
         for j in 0..members {
-            if !is_either_prefix(world.history(i), world.history(j)) {
+            if !agree_on(world, i, j) {
                 return false;
             }
         }
     }
     true
+}
+
+/// Whether one of the histories of two members is a prefix of the other, where both are there.
+fn agree_on(world: &World, i: u8, j: u8) -> bool
+    requires one { i < roster (its_group world.now) }
+    requires other { j < roster (its_group world.now) }
+    ensures { IsTrue result ↔ (IsPresent (its_group world.now) i → IsPresent (its_group world.now) j
+        → IsPrefixOf ((its_world world.now).past.history i) ((its_world world.now).past.history j)
+        ⊎ IsPrefixOf ((its_world world.now).past.history j) ((its_world world.now).past.history i)) }
+{
+    let both = world.is_present(i) && world.is_present(j);
+    !both || is_either_prefix(world.history(i), world.history(j))
 }
 
 /// Whether one of two histories is a prefix of the other.

@@ -1,8 +1,8 @@
 //! A test program: it reads scripts and events, a line each, and prints which events came, and what a world
 //! comes to. What it has to print was worked out by hand.
 //!
-//! A line that begins with a brace is a script, and opens the world of its group; one that begins with `#`
-//! says what the lines behind it show. `world` prints the world, and `again` that of a new run through all
+//! A line that begins with a brace is a script, and opens the world of its group; `absent M` opens it anew
+//! without this member too. A line that begins with `#` says what the lines behind it show. `world` prints the world, and `again` that of a new run through all
 //! events so far. `word M ROW COLUMN` prints a word of a member's copy of the table, and `show FROM TO
 //! FIRST END` has a member push its words of these columns to another, which looks at them. Any other line
 //! is an event: its name, its member, and what else belongs to it.

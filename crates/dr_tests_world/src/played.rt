@@ -1,18 +1,26 @@
 //! A world, with the events that it was offered.
+ghost use Rattle.std.specs.Prelude.{IfSome};
+ghost use Rattle.dr_machine.specs.Group.{IsGroup};
+ghost use Rattle.dr_restart.specs.Groups.{group_of};
+ghost use Rattle.dr_script.specs.Ranges.{HasGroupRanges};
+
 use crate::events::event_of;
 use crate::printing::push_world;
+use anyhow::anyhow;
 use dr_agree::agreed_run;
-use dr_restart::first_start;
-use dr_script::read_script;
-use dr_words::Shape;
+use dr_entry::{MAX_MEMBERS, Seq};
+use dr_restart::Start;
+use dr_script::{Script, read_script};
+use dr_words::{Mask, Shape};
 use dr_world::{Event, World};
 use std::alloc::{AllocError, Global};
 use std::fmt::Write;
 
-/// The world of a script, and all events that it was offered.
+/// The world of a script without some members, and all events that it was offered.
 #[derive(Drop)]
 pub(crate) struct Played {
     script: String,
+    away: Mask,
     world: World,
     events: Vec<Event>,
 }
@@ -22,7 +30,8 @@ impl Played {
     pub(crate) fn open(alloc: Global, script: &str) -> anyhow::Result<Played> {
         Ok(Played {
             script: String::from_str(alloc, script)?,
-            world: run_of(alloc, script, &[])?,
+            away: Mask::empty(),
+            world: run_of(alloc, script, Mask::empty(), &[])?,
             events: Vec::new(alloc),
         })
     }
@@ -38,8 +47,14 @@ impl Played {
         match (name, numbers) {
             ("world", []) => push_world(&mut said, &self.world)?,
             ("again", []) => {
-                let world = run_of(alloc, self.script.as_str(), self.events.as_slice())?;
+                let events = self.events.as_slice();
+                let world = run_of(alloc, self.script.as_str(), self.away, events)?;
                 push_world(&mut said, &world)?;
+            }
+            ("absent", &[m]) if m < MAX_MEMBERS as u8 => {
+                self.away = self.away.with(m);
+                self.world = run_of(alloc, self.script.as_str(), self.away, &[])?;
+                self.events.clear();
             }
             ("word", &[m, row, column]) => push_word(&mut said, &self.world, m, row, column)?,
             ("show", &[from, to, first, end]) => {
@@ -80,11 +95,28 @@ impl Played {
     }
 }
 
-/// The world of a script behind these events in its first age.
-fn run_of(alloc: Global, script: &str, events: &[Event]) -> anyhow::Result<World> {
+/// The world of a script behind these events in its first age, without these members.
+fn run_of(alloc: Global, script: &str, away: Mask, events: &[Event]) -> anyhow::Result<World> {
     let script = read_script(alloc, script.as_bytes())?;
-    let start = first_start(alloc, &script);
+    let start = start_without(alloc, &script, away).ok_or(anyhow!("nobody is there"))?;
     Ok(agreed_run(alloc, &script, &start, events)?)
+}
+
+/// The first start of a script without these members, where somebody is left.
+fn start_without(alloc: Global, script: &Script, away: Mask) -> Option<Start>
+    requires { HasGroupRanges script.now }
+    ensures { IfSome result (λ start. IsGroup (group_of script.now start)) }
+{
+    let there = Mask::all(script.members).without(away).bits();
+    if there == 0 {
+        return None;
+    }
+    Some(Start {
+        age: 0,
+        members: there,
+        present: there,
+        entries: Seq::of(Vec::new(alloc)),
+    })
 }
 
 /// Appends a word of a member's copy, where there is one.

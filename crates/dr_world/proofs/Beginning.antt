@@ -1,9 +1,8 @@
 -- Replicas that have begun are the group's as its age opens.
 use Rattle.std.proofs.Common.{◌≡◌, refl, sym, ap, ◌∙◌, subst, ℕ, ◌+◌, ◌*◌, ◌<◌, List, [], ◌∷◌, ◌++◌, length, map, replicate, arith}
-use Rattle.std.specs.Prelude.{Option, Some, None, option_map, slice_get}
+use Rattle.std.specs.Prelude.{Option, Some, None, option_map}
 use Rattle.std.proofs.lemmas.List.{length-map, length-replicate, map-append}
-use Rattle.std.proofs.lemmas.Option.{slice_get-map, slice_get_within, same_Some}
-use Rattle.std.proofs.lemmas.Simd.{map-map}
+use Rattle.std.proofs.lemmas.Option.{same_Some}
 use Rattle.dr_program.specs.declared.setup.Setup.{Setup}
 use Rattle.dr_machine.specs.Group.{Group, IsGroup, roster, banks}
 use Rattle.dr_machine.specs.World.{opening_world}
@@ -19,9 +18,10 @@ use Rattle.dr_restart.specs.declared.start.Start.{Start}
 use Rattle.dr_restart.specs.Groups.{group_of}
 use Rattle.dr_words.specs.Layout.{words_of}
 use Rattle.dr_world.specs.Held.{Held, AreMembers, IsHeld, its_world}
-use Rattle.dr_restart.specs.Setups.{IsSetupOf}
-use Rattle.dr_restart.proofs.Setups.{are_setups, more, none}
-use Rattle.dr_world.specs.Begun.{HaveBegun}
+use Rattle.dr_restart.proofs.Setups.{absent, are_setups, more, none}
+use Rattle.dr_world.specs.Begun.{HasReplica, HaveBegun}
+use Rattle.dr_program.specs.Presence.{present_at}
+use Rattle.dr_program.proofs.Present.{present_map, present_within}
 
 -- ---- the replicas that begin
 
@@ -58,23 +58,27 @@ begun_room g limit m s setup =
     omega (arith, product, setup.banks, ap length setup.start)
 
 -- each replica has begun with the setup of its number
-begun_at : (g : Group) (limit : ℕ) (setups : List Setup) → AreSetups g limit setups
+begun_at : (g : Group) (limit : ℕ) (setups : List (Option Setup)) → AreSetups g limit setups
     → (P : Replica → Type 0) (m : ℕ) (r : Replica)
-    → slice_get (map begun_replica setups) m ≡ Some r
+    → present_at (map (option_map begun_replica) setups) m ≡ Some r
     → ((s : Setup) → IsSetup g limit m s → m < roster g → P (begun_replica s)) → P r
 begun_at g limit setups are P m r there begins =
-    by (slice_get setups m) refl (sym (slice_get-map begun_replica setups m) ∙ there)
+    by (present_at setups m) refl (sym (present_map begun_replica setups m) ∙ there)
   where
-    by : (o : Option Setup) → slice_get setups m ≡ o → option_map begun_replica o ≡ Some r → P r
+    by : (o : Option Setup) → present_at setups m ≡ o → option_map begun_replica o ≡ Some r → P r
     by None e is = absurd (cc)
     by (Some s) e is = subst P (same_Some (begun_replica s) r is)
-        (begins s (are.each m s e) (omega (arith, slice_get_within setups m s e, are.all)))
+        (begins s (are.each m s e) (omega (arith, present_within setups m s e, are.all)))
 
 -- replicas that have begun are the members of the group
-pub begun_members : (g : Group) (limit : ℕ) (setups : List Setup) → IsGroup g
-    → AreSetups g limit setups → AreMembers g (map begun_replica setups)
+pub begun_members : (g : Group) (limit : ℕ) (setups : List (Option Setup)) → IsGroup g
+    → AreSetups g limit setups → AreMembers g (map (option_map begun_replica) setups)
 begun_members g limit setups is are = record {
-  all = length-map setups begun_replica ∙ are.all;
+  all = length-map setups (option_map begun_replica) ∙ are.all;
+  there = λ m within here. let setup = are.there m within here in (
+    begun_replica setup.0,
+    present_map begun_replica setups m ∙ ap (option_map begun_replica) setup.1,
+  );
   form = λ m r there. begun_at g limit setups are HasForm m r there
       (λ s setup within. (begins g limit m s is setup within).0);
   of = λ m r there. begun_at g limit setups are (IsOf g m) m r there
@@ -84,13 +88,16 @@ begun_members g limit setups is are = record {
       (λ s setup within. begun_room g limit m s setup);
 }
 
-replicas_begun : (setups : List Setup) → map (λ (x : Running). x.replica) (map begun_running setups)
-    ≡ map begun_replica setups
-replicas_begun setups = map-map _ _ setups
+replicas_begun : (setups : List (Option Setup))
+    → map (option_map (λ (x : Running). x.replica)) (map (option_map begun_running) setups)
+    ≡ map (option_map begun_replica) setups
+replicas_begun [] = refl
+replicas_begun (None ∷ setups) = ap (λ rs. None ∷ rs) (replicas_begun setups)
+replicas_begun (Some s ∷ setups) = ap (λ rs. Some (begun_replica s) ∷ rs) (replicas_begun setups)
 
 -- their world is the opening's
-pub begun_world : (g : Group) (limit : ℕ) (setups : List Setup) → IsGroup g → AreSetups g limit setups
-    → world_of g (map begun_replica setups) (replicate (words_of (roster g) g.window (banks g)) 0)
+pub begun_world : (g : Group) (limit : ℕ) (setups : List (Option Setup)) → IsGroup g → AreSetups g limit setups
+    → world_of g (map (option_map begun_replica) setups) (replicate (words_of (roster g) g.window (banks g)) 0)
     ≡ opening_world g
 begun_world g limit setups is are =
     ap (λ rs. world_of g rs (replicate (words_of (roster g) g.window (banks g)) 0))
@@ -100,35 +107,41 @@ begun_world g limit setups is are =
 -- ---- one by one
 
 -- no member has begun
-pub begun_none : (script : Script) (start : Start) (rs : List Replica) → rs ≡ []
+pub begun_none : (script : Script) (start : Start) (rs : List (Option Replica)) → rs ≡ []
     → HaveBegun script start 0 rs
 begun_none script start rs empty = ([], none script start 0, empty)
 
--- one member more has begun
-pub begun_more : (script : Script) (start : Start) (n : ℕ) (rs qs : List Replica) (s : Setup)
-    (r : Replica) → HaveBegun script start n rs
-    → IsSetupOf script start 0 n s → r ≡ begun_replica s → qs ≡ rs ++ r ∷ []
+-- whoever stands at the next place, behind the first n, makes them the first n + 1
+pub begun_more : (script : Script) (start : Start) (n : ℕ) (rs qs : List (Option Replica))
+    (o : Option Replica) → HaveBegun script start n rs → HasReplica script start n o → qs ≡ rs ++ o ∷ []
     → HaveBegun script start (n + 1) qs
-begun_more script start n rs qs s r so_far setup begins pushed = (
-  so_far.0 ++ s ∷ [],
+begun_more script start n rs qs (Some r) so_far (s, setup, begins) pushed = (
+  so_far.0 ++ Some s ∷ [],
   more script start 0 n so_far.0 s so_far.1 setup,
-  pushed ∙ (λ z. so_far.2 z ++ begins z ∷ []) ∙ sym (map-append begun_replica so_far.0 (s ∷ [])),
+  pushed ∙ (λ z. so_far.2 z ++ Some (begins z) ∷ [])
+      ∙ sym (map-append (option_map begun_replica) so_far.0 (Some s ∷ [])),
+)
+begun_more script start n rs qs None so_far away pushed = (
+  so_far.0 ++ None ∷ [],
+  absent script start 0 n so_far.0 so_far.1 away,
+  pushed ∙ (λ z. so_far.2 z ++ None ∷ [])
+      ∙ sym (map-append (option_map begun_replica) so_far.0 (None ∷ [])),
 )
 
 -- ---- the world
 
 -- what is held of a group as it opens
-abbrev begun_held : Script → Start → List Setup → Held
+abbrev begun_held : Script → Start → List (Option Setup) → Held
 begun_held script start setups =
     let n = roster (group_of script start) in
     record {
       script = script;
       start = start;
-      replicas = map begun_replica setups;
+      replicas = map (option_map begun_replica) setups;
       table = replicate (words_of n script.window n) 0;
     }
 
--- the replicas of all members, over a table of zeros, are a group in its opening world
+-- the replicas of the members, over a table of zeros, are a group in its opening world
 pub opened : (script : Script) (start : Start) (h : Held) (k : ℕ) → h.script ≡ script → h.start
     ≡ start → IsGroup (group_of script start)
     → script.members ≡ roster (group_of script start) → HaveBegun script start script.members h.replicas

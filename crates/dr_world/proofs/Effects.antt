@@ -1,22 +1,22 @@
 -- What an event makes of the replica of its member and of the table is its effect on the world.
 use Rattle.std.proofs.Common.{◌≡◌, ◌≢◌, refl, sym, ap, ◌∙◌, subst, ℕ, ◌<◌, ◌&&◌, true, not, List, arith}
-use Rattle.std.specs.Prelude.{Some, slice_get, slice_index, slice_set}
+use Rattle.std.specs.Prelude.{Some, slice_index, Option}
 use Rattle.std.proofs.lemmas.Bool.{and_parts}
-use Rattle.std.proofs.lemmas.Option.{slice_get_within}
 use Rattle.dr_history.specs.Members.{has}
 use Rattle.dr_rows.specs.Words.{seen}
 use Rattle.dr_words.specs.Form.{IsInForm}
 use Rattle.dr_words.specs.Grown.{HasGrown}
+use Rattle.dr_words.specs.Layout.{word_index_of}
 use Rattle.dr_machine.specs.declared.event.Event.{Event}
 use Rattle.dr_machine.specs.declared.step.Step.{Step}
 use Rattle.dr_machine.specs.declared.step.Step.TheVariants.{Do}
 use Rattle.dr_machine.specs.Events.{member_of, step_of}
 use Rattle.dr_machine.proofs.Runs.{events_reached}
-use Rattle.dr_machine.specs.Group.{Group, roster, columns}
+use Rattle.dr_machine.specs.Group.{Group, banks, roster, columns}
 use Rattle.dr_machine.specs.World.{World}
 use Rattle.dr_machine.specs.Acts.{effect}
 use Rattle.dr_program.specs.Replica.{Replica, is_other}
-use Rattle.dr_program.specs.Steps.{has_cell, allows, found, index_in, stepped_over, stored}
+use Rattle.dr_program.specs.Steps.{has_cell, allows, found, stepped_over, stored}
 use Rattle.dr_program.specs.Reading.{world_of}
 use Rattle.dr_program.proofs.Holdings.{held_of}
 use Rattle.dr_faithful.specs.Faithful.{Faithful}
@@ -29,6 +29,8 @@ use Rattle.dr_world.specs.Held.{Held, its_group, its_world, IsHeld}
 use Rattle.dr_refine.proofs.Tests.{found_is, step_effect, cell_test}
 use Rattle.dr_world.specs.Steps.{IsSight}
 use Rattle.dr_world.proofs.Guarding.{is_member}
+use Rattle.dr_program.specs.Presence.{present_at, with_present}
+use Rattle.dr_program.proofs.Present.{present_within}
 
 -- ---- effects
 
@@ -36,7 +38,7 @@ use Rattle.dr_world.proofs.Guarding.{is_member}
 abbrev pub after : Held → Event → Replica → Held
 after h e r = record h {
   replicas =
-      slice_set h.replicas (member_of e) (stepped_over (stored h.table r (step_of e)) r (step_of e));
+      with_present h.replicas (member_of e) (stepped_over (stored h.table r (step_of e)) r (step_of e));
   table = stored h.table r (step_of e);
 }
 
@@ -47,11 +49,11 @@ stored_first table r (Do a) = refl
 stored_first table r s = refl
 
 -- what an event makes of what is held is its effect
-pub take_effect : (h : Held) (e : Event) (r : Replica) → IsHeld h → slice_get h.replicas (member_of e)
+pub take_effect : (h : Held) (e : Event) (r : Replica) → IsHeld h → present_at h.replicas (member_of e)
     ≡ Some r → allows r (step_of e) ≡ true
     → its_world (after h e r) ≡ effect (its_group h) (its_world h) e
 take_effect h e r is there may =
-    ap (λ q. world_of (its_group h) (slice_set h.replicas (member_of e) q) (stored h.table r (step_of e)))
+    ap (λ q. world_of (its_group h) (with_present h.replicas (member_of e) q) (stored h.table r (step_of e)))
     (stored_first h.table r (step_of e))
     ∙ step_effect (its_group h) h.replicas h.table (member_of e) r (step_of e)
     (is_member h (member_of e) r is there) may
@@ -59,7 +61,7 @@ take_effect h e r is there may =
 -- ---- looks
 
 -- the word that a look finds is the one in the world
-word_is : (g : Group) (rs : List Replica) (table : List ℕ) (m : ℕ) (r : Replica) (i c : ℕ)
+word_is : (g : Group) (rs : List (Option Replica)) (table : List ℕ) (m : ℕ) (r : Replica) (i c : ℕ)
     → IsMember g rs table m r → m < roster g → i < roster g → c < columns g
     → (world_of g rs table).table ((world_of g rs table).past.view m) m i c ≡ found table r i c
 word_is g rs table m r i c is member row column =
@@ -69,18 +71,17 @@ word_is g rs table m r i c is member row column =
     ∙ word_inside g table r.view m i c (omega (arith, is.form.bank, is.of.banks)) member row column
     ∙ sym (found_is g rs table m r i c is)
 
--- so is the word that stands at the index of a cell
-pub word_at : (h : Held) (m : ℕ) (r : Replica) (i c : ℕ) → IsHeld h → slice_get h.replicas m ≡ Some r
-    → i < roster (its_group h) → c < columns (its_group h)
-    → slice_index h.table (index_in r m i c) ≡ (its_world h).table ((its_world h).past.view m) m i c
-word_at h m r i c is there row column =
-    let member : IsMember (its_group h) h.replicas h.table m r = is_member h m r is there in
-    ap (λ j. slice_index h.table (index_in r j i c)) (sym member.of.number)
-    ∙ sym (word_is (its_group h) h.replicas h.table m r i c member
-    (omega (arith, slice_get_within h.replicas m r there, is.members.all)) row column)
+-- the word that stands at the index of a cell, in the bank of the view of its member
+pub word_there : (h : Held) (m v i c : ℕ) → v ≡ (its_world h).past.view m → v < banks (its_group h)
+    → m < roster (its_group h) → i < roster (its_group h) → c < columns (its_group h)
+    → slice_index h.table (word_index_of (roster (its_group h)) (its_group h).window v m i c)
+    ≡ (its_world h).table ((its_world h).past.view m) m i c
+word_there h m v i c view bank copy row column =
+    sym (word_inside (its_group h) h.table v m i c bank copy row column)
+    ∙ ap (λ b. (its_world h).table b m i c) view
 
 -- what a look finds is in form, and has grown from the word last seen
-sight : (h : Held) (m : ℕ) (r : Replica) (i c : ℕ) → IsHeld h → slice_get h.replicas m ≡ Some r
+sight : (h : Held) (m : ℕ) (r : Replica) (i c : ℕ) → IsHeld h → present_at h.replicas m ≡ Some r
     → has_cell r i c ≡ true → IsSight h.table r i c
 sight h m r i c is there cell = record {
   in_form = subst (λ n. IsInForm n c (found h.table r i c)) (sym member.of.members)
@@ -114,12 +115,12 @@ sight h m r i c is there cell = record {
 
     word : (its_world h).table ((its_world h).past.view m) m i c ≡ found h.table r i c
     word = word_is g h.replicas h.table m r i c member
-        (omega (arith, slice_get_within h.replicas m r there, is.members.all))
+        (omega (arith, present_within h.replicas m r there, is.members.all))
         (other_within g h.replicas h.table m r i member tests.0) tests.1
 
 -- so it is where its event has stored nothing
 pub in_sight : (h : Held) (e : Event) (r : Replica) (i c : ℕ) → IsHeld h
-    → slice_get h.replicas (member_of e) ≡ Some r → (not (has r.suspects i) && has_cell r i c) ≡ true
+    → present_at h.replicas (member_of e) ≡ Some r → (not (has r.suspects i) && has_cell r i c) ≡ true
     → stored h.table r (step_of e) ≡ h.table → IsSight (stored h.table r (step_of e)) r i c
 in_sight h e r i c is there may same =
     subst (λ t. IsSight t r i c) (sym same)

@@ -1,8 +1,7 @@
 -- The test of an event at the replica of its member is the guard of that event, in every world that is
 -- reached.
-use Rattle.std.proofs.Common.{◌≡◌, ◌↔◌, ℕ, ◌<◌, arith, true}
-use Rattle.std.specs.Prelude.{Some, slice_get}
-use Rattle.dr_history_laws.proofs.Lists.{slice_get-some}
+use Rattle.std.proofs.Common.{◌≡◌, ◌↔◌, ℕ, ◌<◌, true}
+use Rattle.std.specs.Prelude.{Some}
 use Rattle.dr_machine.specs.declared.event.Event.{Event}
 use Rattle.dr_machine.specs.Events.{member_of, step_of}
 use Rattle.dr_machine.proofs.Presence.{in_roster}
@@ -16,11 +15,12 @@ use Rattle.dr_refine.specs.Programs.{IsMember}
 use Rattle.dr_refine.proofs.Tests.{step_alive, step_test}
 use Rattle.dr_room.proofs.Bounds.{has_room}
 use Rattle.dr_world.specs.Held.{Held, its_group, its_world, IsHeld}
+use Rattle.dr_program.specs.Presence.{present_at}
 
 -- ---- a member of what is held
 
 -- a replica that is held is a member's
-pub is_member : (h : Held) (m : ℕ) (r : Replica) → IsHeld h → slice_get h.replicas m ≡ Some r
+pub is_member : (h : Held) (m : ℕ) (r : Replica) → IsHeld h → present_at h.replicas m ≡ Some r
     → IsMember (its_group h) h.replicas h.table m r
 is_member h m r is there = record {
   group = is.group;
@@ -30,17 +30,10 @@ is_member h m r is there = record {
   of = is.members.of m r there;
 }
 
--- there is one for each number of the roster, so each member of it is there
-pub held_there : (h : Held) (m : ℕ) → IsHeld h → m < roster (its_group h) → IsPresent (its_group h) m
-held_there h m is l = by (slice_get-some h.replicas m (omega (arith, l, is.members.all)))
-  where
-    by : (r : Replica) × (slice_get h.replicas m ≡ Some r) → IsPresent (its_group h) m
-    by (r, there) = (is.members.of m r there).present
-
 -- ---- the guard
 
 -- the test of an event is its guard
-pub take_test : (h : Held) (e : Event) (r : Replica) → IsHeld h → slice_get h.replicas (member_of e)
+pub take_test : (h : Held) (e : Event) (r : Replica) → IsHeld h → present_at h.replicas (member_of e)
     ≡ Some r
     → (may_take r (step_of e) ≡ true) ↔ Guard (its_group h) (its_world h) e
 take_test h e r is there =
@@ -55,6 +48,9 @@ take_test h e r is there =
       ),
     )
 
--- only members of the roster have events
+-- only members that are there have events, and these are of the roster
+pub of_present : (g : Group) (w : World) (e : Event) → Guard g w e → IsPresent g (member_of e)
+of_present g w e can = (step_alive g w (member_of e) (step_of e) can).present
+
 pub of_roster : (g : Group) (w : World) (e : Event) → IsGroup g → Guard g w e → member_of e < roster g
-of_roster g w e is can = in_roster g (member_of e) is (step_alive g w (member_of e) (step_of e) can).present
+of_roster g w e is can = in_roster g (member_of e) is (of_present g w e can)

@@ -1,9 +1,9 @@
 -- What is held stays the members of the group, in a world that is reached.
-use Rattle.std.proofs.Common.{◌≡◌, refl, sym, ap, ◌∙◌, subst, ℕ, ◌+◌, ◌*◌, ◌<◌, ◌≤◌, ◌⊎◌, inl, inr, true, false, not, List, [], ◌∷◌, length, take, get_or, arith}
-use Rattle.std.specs.Prelude.{Some, is_some, slice_get, slice_set}
+use Rattle.std.proofs.Common.{◌≡◌, ◌≢◌, refl, sym, ap, ◌∙◌, subst, ℕ, ◌+◌, ◌*◌, ◌<◌, ◌≤◌, ◌⊎◌, inl, inr, true, false, not, List, [], ◌∷◌, length, take, get_or, arith}
+use Rattle.std.specs.Prelude.{None, Some, is_some, Option}
 use Rattle.std.proofs.lemmas.Bool.{and_parts, cases_eq}
-use Rattle.std.proofs.lemmas.List.{length-set, take_more}
-use Rattle.std.proofs.lemmas.Option.{slice_get_within, same_Some}
+use Rattle.std.proofs.lemmas.List.{get_or_read_under, length-set, take_more}
+use Rattle.std.proofs.lemmas.Option.{same_Some}
 use Rattle.dr_restart.specs.Groups.{group_of}
 use Rattle.dr_words.specs.Layout.{words_of}
 use Rattle.dr_machine.specs.declared.event.Event.{Event}
@@ -16,13 +16,15 @@ use Rattle.dr_program.specs.Replica.{Replica, greatest}
 use Rattle.dr_program.specs.Form.{HasForm, IsOf}
 use Rattle.dr_machine.proofs.Runs.{events_more, events_reached, run_on}
 use Rattle.dr_program.proofs.Fixed.{Told, told, step_told, of_told}
-use Rattle.dr_program.proofs.Holdings.{replica_set, replica_kept}
 use Rattle.dr_world_laws.proofs.Worlds.{known, words_grew}
 use Rattle.dr_refine.proofs.Steps.{stored_length}
 use Rattle.dr_world.specs.Held.{Held, its_group, its_world, AreMembers, IsHeld}
 use Rattle.dr_program.specs.Steps.{allows, is_free, may_take, sight, stepped_over, stored}
-use Rattle.dr_world.proofs.Guarding.{take_test, of_roster}
+use Rattle.dr_world.specs.Steps.{may_come}
+use Rattle.dr_world.proofs.Guarding.{take_test, of_present, of_roster}
 use Rattle.dr_world.proofs.Effects.{after, take_effect}
+use Rattle.dr_program.specs.Presence.{present_at, with_present}
+use Rattle.dr_program.proofs.Present.{present_within, present_set, present_kept}
 
 -- ---- what no event changes of a replica
 
@@ -35,43 +37,50 @@ room_told g r q same room = subst
 
 -- ---- the members
 
-set_cases : (rs : List Replica) (m k : ℕ) (q x : Replica) → m < length rs
-    → slice_get (slice_set rs m q) k ≡ Some x
-    → ((k ≡ m) × (q ≡ x)) ⊎ (slice_get rs k ≡ Some x)
+set_cases : (rs : List (Option Replica)) (m k : ℕ) (q x : Replica) → m < length rs
+    → present_at (with_present rs m q) k ≡ Some x
+    → ((k ≡ m) × (q ≡ x)) ⊎ (present_at rs k ≡ Some x)
 set_cases rs m k q x within there = elim (cases_eq k m) [
   | inl same ↦ inl (
     same,
-    same_Some q x (sym (replica_set rs m q within) ∙ ap (slice_get (slice_set rs m q)) (sym same)
+    same_Some q x (sym (present_set rs m q within) ∙ ap (present_at (with_present rs m q)) (sym same)
         ∙ there),
   )
-  | inr other ↦ inr (sym (replica_kept rs m k q other) ∙ there)
+  | inr other ↦ inr (sym (present_kept rs m k q other) ∙ there)
 ]
 
-members_kept : (g : Group) (rs : List Replica) (m : ℕ) (r q : Replica) → AreMembers g rs
-    → slice_get rs m ≡ Some r → HasForm q → told q ≡ told r
-    → AreMembers g (slice_set rs m q)
+members_kept : (g : Group) (rs : List (Option Replica)) (m : ℕ) (r q : Replica) → AreMembers g rs
+    → present_at rs m ≡ Some r → HasForm q → told q ≡ told r
+    → AreMembers g (with_present rs m q)
 members_kept g rs m r q are there form same = record {
-  all = length-set rs m q ∙ are.all;
+  all = length-set rs m (Some q) ∙ are.all;
+  there = λ k below here. still k (cases_eq k m) (are.there k below here);
   form = λ k x is. by_form k x (set_cases rs m k q x within is);
   of = λ k x is. by_of k x (set_cases rs m k q x within is);
   room = λ k x is. by_room k x (set_cases rs m k q x within is);
 }
   where
     within : m < length rs
-    within = slice_get_within rs m r there
+    within = present_within rs m r there
 
-    by_form : (k : ℕ) (x : Replica) → ((k ≡ m) × (q ≡ x)) ⊎ (slice_get rs k ≡ Some x)
+    still : (k : ℕ) → (k ≡ m) ⊎ (k ≢ m) → (x : Replica) × (present_at rs k ≡ Some x)
+        → (x : Replica) × (present_at (with_present rs m q) k ≡ Some x)
+    still k (inl here) (x, at) =
+        (q, ap (present_at (with_present rs m q)) here ∙ present_set rs m q within)
+    still k (inr other) (x, at) = (x, present_kept rs m k q other ∙ at)
+
+    by_form : (k : ℕ) (x : Replica) → ((k ≡ m) × (q ≡ x)) ⊎ (present_at rs k ≡ Some x)
         → HasForm x
     by_form k x (inl here) = subst HasForm here.1 form
     by_form k x (inr other) = are.form k x other
 
-    by_of : (k : ℕ) (x : Replica) → ((k ≡ m) × (q ≡ x)) ⊎ (slice_get rs k ≡ Some x)
+    by_of : (k : ℕ) (x : Replica) → ((k ≡ m) × (q ≡ x)) ⊎ (present_at rs k ≡ Some x)
         → IsOf g k x
     by_of k x (inl here) = subst (IsOf g k) here.1
         (subst (λ i. IsOf g i q) (sym here.0) (of_told g m r q same (are.of m r there)))
     by_of k x (inr other) = are.of k x other
 
-    by_room : (k : ℕ) (x : Replica) → ((k ≡ m) × (q ≡ x)) ⊎ (slice_get rs k ≡ Some x)
+    by_room : (k : ℕ) (x : Replica) → ((k ≡ m) × (q ≡ x)) ⊎ (present_at rs k ≡ Some x)
         → length g.opening.start + banks g + greatest x.totals * roster g < x.room
     by_room k x (inl here) = subst
         (λ (y : Replica). length g.opening.start + banks g + greatest y.totals * roster g < y.room)
@@ -91,7 +100,7 @@ allowed r e may = (and_parts (is_free r (step_of e)) (allows r (step_of e))
     (and_parts (not (is_some r.end)) _ may).1).1
 
 -- an event that the replica of its member may take happens
-pub taken_happens : (h : Held) (e : Event) (r : Replica) → IsHeld h → slice_get h.replicas (member_of e)
+pub taken_happens : (h : Held) (e : Event) (r : Replica) → IsHeld h → present_at h.replicas (member_of e)
     ≡ Some r → may_take r (step_of e) ≡ true
     → Guard (its_group h) (its_world h) e
     × (its_world (after h e r) ≡ effect (its_group h) (its_world h) e)
@@ -99,7 +108,7 @@ taken_happens h e r is there may =
     ((take_test h e r is there).0 may, take_effect h e r is there (allowed r e may))
 
 -- what is held after an event is held
-pub taken_held : (h : Held) (e : Event) (r : Replica) → IsHeld h → slice_get h.replicas (member_of e)
+pub taken_held : (h : Held) (e : Event) (r : Replica) → IsHeld h → present_at h.replicas (member_of e)
     ≡ Some r → may_take r (step_of e) ≡ true
     → HasForm (stepped_over (stored h.table r (step_of e)) r (step_of e)) → IsHeld (after h e r)
 taken_held h e r is there may form = record {
@@ -112,11 +121,19 @@ taken_held h e r is there may form = record {
       (inl (taken_happens h e r is there may));
 }
 
--- an event that it may not take can't come, nor can one of a number that nobody has
-pub refused : (h : Held) (e : Event) (r : Replica) → IsHeld h → slice_get h.replicas (member_of e)
-    ≡ Some r → may_take r (step_of e) ≡ false
+-- an event that whoever stands at the place of its member may not take can't come, nor can one of a number that
+-- nobody has
+pub refused : (h : Held) (e : Event) (m : ℕ) (o : Option Replica) → IsHeld h → m ≡ member_of e
+    → present_at h.replicas m ≡ o → may_come o (step_of e) ≡ false
     → ¬ Guard (its_group h) (its_world h) e
-refused h e r is there not_may can = let may = (take_test h e r is there).1 can in absurd (cc)
+refused h e m (Some r) is number there not_may can =
+    let at = ap (present_at h.replicas) (sym number) ∙ there in
+    let may = (take_test h e r is at).1 can in absurd (cc)
+refused h e m None is number there not_may can =
+    let g = its_group h in
+    let here = is.members.there (member_of e) (of_roster g (its_world h) e is.group can)
+    (of_present g (its_world h) e can) in
+    let at = ap (present_at h.replicas) (sym number) ∙ there in absurd (cc (here.1, at))
 
 -- nobody has an event beyond the roster
 pub nobody : (h : Held) (e : Event) → IsHeld h → length h.replicas ≤ member_of e
@@ -125,7 +142,7 @@ nobody h e is past can = absurd
     (omega (arith, of_roster (its_group h) (its_world h) e is.group can, is.members.all, past))
 
 -- the words grow
-pub taken_grew : (h : Held) (e : Event) (r : Replica) → IsHeld h → slice_get h.replicas (member_of e)
+pub taken_grew : (h : Held) (e : Event) (r : Replica) → IsHeld h → present_at h.replicas (member_of e)
     ≡ Some r → may_take r (step_of e) ≡ true
     → WordsGrew (its_group h) (its_world h) (its_world (after h e r))
 taken_grew h e r is there may =
@@ -137,14 +154,34 @@ taken_grew h e r is there may =
 
 -- ---- as the program finds them
 
--- two reads of one place
-pub may_still : (rs : List Replica) (m : ℕ) (e : Event) (x r : Replica) → slice_get rs m ≡ Some x
-    → slice_get rs m ≡ Some r → may_take x (step_of e) ≡ true → may_take r (step_of e) ≡ true
-may_still rs m e x r one other may =
-    subst (λ (y : Replica). may_take y (step_of e) ≡ true) (same_Some x r (sym one ∙ other)) may
+-- the place that is read at a number
+pub place_at : (rs : List (Option Replica)) (m n : ℕ) (o : Option Replica) → n ≡ length rs
+    → m < n → o ≡ get_or rs m o → present_at rs m ≡ o
+place_at rs m n o long within read = sym (get_or_read_under rs m n o None read within long)
+
+-- a step that may come there is one of a replica that stands there
+pub may_stand : (h : Held) (m n : ℕ) (e : Event) (first then : Option Replica) → n ≡ length h.replicas
+    → m < n → first ≡ get_or h.replicas m first → then ≡ get_or h.replicas m then
+    → may_come first (step_of e) ≡ true → then ≡ None → ⊥
+may_stand h m n e first then long within one other may none =
+    let same : first ≡ None = sym (place_at h.replicas m n first long within one)
+    ∙ place_at h.replicas m n then long within other ∙ none in
+    absurd (cc (may, ap (λ o. may_come o (step_of e)) same))
+
+-- and that one may take it
+pub may_still : (h : Held) (m n : ℕ) (e : Event) (first then : Option Replica) (r : Replica)
+    → n ≡ length h.replicas → m < n → first ≡ get_or h.replicas m first → then ≡ get_or h.replicas m then
+    → may_come first (step_of e) ≡ true → then ≡ Some r
+    → (present_at h.replicas m ≡ Some r) × (may_take r (step_of e) ≡ true)
+may_still h m n e first then r long within one other may some =
+    let there : present_at h.replicas m ≡ Some r = place_at h.replicas m n then long within other ∙ some in
+    let before : present_at h.replicas m ≡ first = place_at h.replicas m n first long within one in (
+      there,
+      sym (ap (λ o. may_come o (step_of e)) (sym before ∙ there)) ∙ may,
+    )
 
 -- the table has the words of the shape that its replicas know
-pub words_within : (h : Held) (m : ℕ) (r : Replica) → IsHeld h → slice_get h.replicas m ≡ Some r
+pub words_within : (h : Held) (m : ℕ) (r : Replica) → IsHeld h → present_at h.replicas m ≡ Some r
     → length h.table ≡ words_of r.roster r.window r.banks
 words_within h m r is there =
     let of : IsOf (its_group h) m r = is.members.of m r there in
@@ -168,9 +205,9 @@ pub record Took (h : Held) (e : Event) (after : Held) : Type 0 where
 
 -- so an event happens
 pub took : (h : Held) (e : Event) (m : ℕ) (r q : Replica) (cells : List ℕ) → IsHeld h → m
-    ≡ member_of e → slice_get h.replicas m ≡ Some r → may_take r (step_of e) ≡ true
+    ≡ member_of e → present_at h.replicas m ≡ Some r → may_take r (step_of e) ≡ true
     → cells ≡ stored h.table r (step_of e) → q ≡ stepped_over cells r (step_of e) → HasForm q
-    → Took h e (record h { replicas = slice_set h.replicas m q; table = cells })
+    → Took h e (record h { replicas = with_present h.replicas m q; table = cells })
 took h e m r q cells is number there may stores takes form =
     subst (Took h e) (sym same) (record {
       guard = happens.0;
@@ -179,14 +216,14 @@ took h e m r q cells is number there may stores takes form =
       grew = taken_grew h e r is at may;
     })
   where
-    at : slice_get h.replicas (member_of e) ≡ Some r
-    at = ap (slice_get h.replicas) (sym number) ∙ there
+    at : present_at h.replicas (member_of e) ≡ Some r
+    at = ap (present_at h.replicas) (sym number) ∙ there
 
     replica : q ≡ stepped_over (stored h.table r (step_of e)) r (step_of e)
     replica = takes ∙ ap (λ t. stepped_over t r (step_of e)) stores
 
-    same : record h { replicas = slice_set h.replicas m q; table = cells } ≡ after h e r
-    same = λ z. record h { replicas = slice_set h.replicas (number z) (replica z); table = stores z }
+    same : record h { replicas = with_present h.replicas m q; table = cells } ≡ after h e r
+    same = λ z. record h { replicas = with_present h.replicas (number z) (replica z); table = stores z }
 
     happens : Guard (its_group h) (its_world h) e
         × (its_world (after h e r) ≡ effect (its_group h) (its_world h) e)

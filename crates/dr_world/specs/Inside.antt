@@ -1,9 +1,14 @@
 -- How the fields of a world hold what contracts see of it.
+use Rattle.std.specs.Prelude.{◌≡◌}
+use Rattle.dr_history.specs.Order.{first_entries}
+use Rattle.dr_restart.specs.Groups.{group_of}
 use Rattle.dr_world.specs.Held.{Held, IsHeld}
 use Rattle.dr_world.specs.declared.world.World.TheInside.{Inside}
 
 abbrev pub held_of : Inside → Held
 held_of a = record { script = a.script; start = a.start; replicas = a.replicas.items; table = a.table.items }
 
-abbrev pub IsInsideWorld : Inside → Type 0
-IsInsideWorld a = IsHeld (held_of a)
+-- beside them stand the entries that every history begins with
+pub record IsInsideWorld (a : Inside) : Type 0 where
+  pub held : IsHeld (held_of a)
+  pub first : a.first.items ≡ first_entries (group_of a.script a.start).opening

@@ -1,5 +1,5 @@
-//! The world of a group, as a value that takes events one by one: a replica for each member, and the
-//! table of words that they share.
+//! The world of a group, as a value that takes events one by one: a replica for each member that is
+//! there, and the table of words that they share.
 //!
 //! Each event does exactly what the machine's definitions say of it, for every list of events. Contracts
 //! see a [`World`] as its script, its start, its replicas and its table, and read it as the machine's

@@ -1,33 +1,71 @@
 //! What a world opens with.
-ghost use Rattle.std.specs.Prelude.{◌≡◌, IfOk};
-ghost use Rattle.dr_machine.specs.Group.{AllPresent, IsGroup};
+ghost use Rattle.std.specs.Prelude.{◌≡◌, ◌<◌, IfOk};
+ghost use Rattle.dr_history.specs.Order.{first_entries};
+ghost use Rattle.dr_machine.specs.Group.{IsGroup};
 ghost use Rattle.dr_script.specs.Ranges.{HasGroupRanges};
 ghost use Rattle.dr_restart.specs.Groups.{group_of};
-ghost use Rattle.dr_world.specs.Begun.{HaveBegun};
+ghost use Rattle.dr_world.specs.Begun.{HasReplica, HaveBegun};
 
-use dr_entry::Seq;
+use dr_entry::{Entry, Seq};
 use dr_replica::Replica;
-use dr_restart::{Start, copy_messages, setup_of};
+use dr_restart::{Start, copy_entries, copy_messages, setup_of};
 use dr_script::Script;
+use dr_words::Mask;
 use std::alloc::{AllocError, Global};
 
-/// The replicas of the members, ascending, as the age opens.
+/// The replicas of the members, by number, as the age opens; there is none at the place of a member that is
+/// absent.
 pub(crate) fn replicas_of(
     alloc: Global,
     script: &Script,
     start: &Start,
-) -> Result<Vec<Replica>, AllocError>
+) -> Result<Vec<Option<Replica>>, AllocError>
     requires ranges { HasGroupRanges script.now }
     requires group { IsGroup (group_of script.now start.now) }
-    requires present { AllPresent (group_of script.now start.now) }
     ensures { IfOk result (λ rs. HaveBegun script.now start.now script.now.members rs.items) }
 {
     let mut replicas = Vec::with_capacity(alloc, usize::from(script.members))?;
     for me in 0..script.members {
-        let setup = setup_of(alloc, script, start, 0, me)?;
-        replicas.push(Replica::begin(alloc, setup)?)?;
+        replicas.push(replica_of(alloc, script, start, me)?)?;
     }
     Ok(replicas)
+}
+
+/// The replica of the member `me` as the age opens; `None` exactly where it is absent.
+fn replica_of(
+    alloc: Global,
+    script: &Script,
+    start: &Start,
+    me: u8,
+) -> Result<Option<Replica>, AllocError>
+    requires ranges { HasGroupRanges script.now }
+    requires group { IsGroup (group_of script.now start.now) }
+    requires me { me < script.now.members }
+    ensures { IfOk result (HasReplica script.now start.now me) }
+{
+    if !Mask::of(start.present).has(me) {
+        return Ok(None);
+    }
+    let setup = setup_of(alloc, script, start, 0, me)?;
+    Ok(Some(Replica::begin(alloc, setup)?))
+}
+
+/// The entries that every history of the age begins with.
+pub(crate) fn first_entries(
+    alloc: Global,
+    script: &Script,
+    start: &Start,
+) -> Result<Vec<Entry>, AllocError>
+    ensures { IfOk result (λ entries. entries.items
+        ≡ first_entries (group_of script.now start.now).opening) }
+{
+    let mut entries = copy_entries(alloc, &start.entries)?.into_vec();
+    entries.push(Entry::View {
+        age: start.age,
+        number: 0,
+        members: start.members,
+    })?;
+    Ok(entries)
 }
 
 /// An equal script.

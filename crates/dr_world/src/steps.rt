@@ -6,14 +6,24 @@ ghost use Rattle.dr_program.specs.Form.{HasForm};
 ghost use Rattle.dr_program.specs.Steps.{index_in, is_free, may_take, stepped_over, stored};
 ghost use Rattle.dr_words.specs.Columns.{columns_of};
 ghost use Rattle.dr_words.specs.Layout.{words_of};
-ghost use Rattle.dr_world.specs.Steps.{IsSight};
+ghost use Rattle.dr_world.specs.Steps.{IsSight, may_come};
 
 use dr_machine::{Act, Event, Step};
 use dr_replica::Replica;
 use dr_words::BEAT_COLUMN;
 
+/// Whether the event may come, by what stands at the place of its member. None may come of an absent one.
+pub(crate) fn may_come(place: &Option<Replica>, event: &Event) -> bool
+    ensures { result ≡ may_come place.now (step_of event.now) }
+{
+    match place {
+        Some(replica) => may_take(replica, event),
+        None => false,
+    }
+}
+
 /// Whether the event may come, by the replica of its member.
-pub(crate) fn may_take(replica: &Replica, event: &Event) -> bool
+fn may_take(replica: &Replica, event: &Event) -> bool
     ensures { result ≡ may_take replica.now (step_of event.now) }
 {
     let step = event.step();
@@ -48,7 +58,7 @@ fn is_free(replica: &Replica, step: Step) -> bool
 }
 
 /// The index of a word of the table, in the bank of the replica's view.
-pub(crate) fn index_in(replica: &Replica, copy: u8, row: u8, column: usize) -> usize
+fn index_in(replica: &Replica, copy: u8, row: u8, column: usize) -> usize
     requires copy { copy < replica.now.roster }
     requires row { row < replica.now.roster }
     requires column { column < columns_of replica.now.roster replica.now.window }

@@ -1,19 +1,22 @@
-ghost use Rattle.std.specs.Prelude.{◌≡◌, ◌↔◌, ◌<◌, ℕ, IfOk, IsTrue, Some, false, slice_get};
-ghost use Rattle.dr_machine.specs.Group.{AllPresent, IsGroup, IsPresent, columns, roster};
+ghost use Rattle.std.specs.Prelude.{◌≡◌, ◌↔◌, ◌<◌, IfOk, IsTrue, false};
+ghost use Rattle.dr_history.specs.Order.{first_entries};
+ghost use Rattle.dr_machine.specs.Group.{IsGroup, IsPresent, banks, columns, roster};
 ghost use Rattle.dr_machine.specs.Acts.{Guard};
 ghost use Rattle.dr_machine.specs.Run.{ComesOfEvents, Happens, Run, WordsGrew};
 ghost use Rattle.dr_machine.specs.World.{items_received, opening_world};
 ghost use Rattle.dr_script.specs.Ranges.{HasGroupRanges};
+ghost use Rattle.dr_program.specs.Presence.{present_at};
 ghost use Rattle.dr_restart.specs.Groups.{group_of};
 ghost use Rattle.dr_world.specs.Held.{AreMembers, its_group, its_world};
 
-use crate::opening::{copy_script, replicas_of};
-use crate::steps::{index_in, may_take, store, take};
+use crate::opening::{copy_script, first_entries, replicas_of};
+use crate::steps::{may_come, store, take};
 use dr_entry::{Entry, SentItem};
 use dr_machine::Event;
 use dr_replica::Replica;
 use dr_restart::{Start, shape_of};
 use dr_script::Script;
+use dr_words::{Mask, Shape};
 use std::alloc::{AllocError, Global};
 use std::marker::Model;
 
@@ -22,7 +25,10 @@ use std::marker::Model;
 pub struct World {
     script: Script,
     start: Start,
-    replicas: Vec<Replica>,
+    // The entries that every history begins with.
+    first: Vec<Entry>,
+    // A place for each member of the roster, which is empty where the member is absent.
+    replicas: Vec<Option<Replica>>,
     table: Vec<u64>,
 }
 
@@ -48,7 +54,6 @@ impl World {
     pub fn opening(alloc: Global, script: &Script, start: &Start) -> Result<World, AllocError>
         requires ranges { HasGroupRanges script.now }
         requires group { IsGroup (group_of script.now start.now) }
-        requires present { AllPresent (group_of script.now start.now) }
         ensures opening { IfOk result (λ w. its_world w ≡ opening_world (group_of script.now start.now)) }
         ensures script { IfOk result (λ w. w.script ≡ script.now) }
         ensures start { IfOk result (λ w. w.start ≡ start.now) }
@@ -56,6 +61,7 @@ impl World {
         Ok(World {
             script: copy_script(alloc, script)?,
             start: start.copy(alloc)?,
+            first: first_entries(alloc, script, start)?,
             replicas: replicas_of(alloc, script, start)?,
             table: vec![in alloc; 0; shape_of(script).words()]?,
         })
@@ -72,10 +78,12 @@ impl World {
         ensures grown { WordsGrew (its_group self.old) (its_world self.old) (its_world self.new) }
     {
         let m = usize::from(event.member());
-        if m >= self.replicas.len() || !may_take(&self.replicas[m], event) {
+        if m >= self.replicas.len() || !may_come(&self.replicas[m], event) {
             return false;
         }
-        let replica = &mut self.replicas[m];
+        let Some(replica) = &mut self.replicas[m] else {
+            unreachable!()
+        };
         let table = self.table.as_mut_slice();
         store(replica, table, event);
         take(replica, table, event);
@@ -111,10 +119,17 @@ impl World {
     pub fn members(&self) -> u8
         ensures members { result ≡ roster (its_group self.now) }
         ensures group { IsGroup (its_group self.now) }
-        ensures present { (m : ℕ) → m < roster (its_group self.now) → IsPresent (its_group self.now) m }
         ensures events { ComesOfEvents (its_group self.now) (its_world self.now) }
     {
         self.replicas.len() as u8
+    }
+
+    /// Whether a member is there in this age. One that is absent stays as the age opens.
+    pub fn is_present(&self, m: u8) -> bool
+        requires { m < roster (its_group self.now) }
+        ensures { IsTrue result ↔ IsPresent (its_group self.now) m }
+    {
+        Mask::of(self.start.present).has(m)
     }
 
     /// What a member has delivered, with what every history begins with.
@@ -122,7 +137,10 @@ impl World {
         requires { m < roster (its_group self.now) }
         ensures { result.now ≡ (its_world self.now).past.history m }
     {
-        self.replica(m).history()
+        match self.replica(m) {
+            Some(replica) => replica.history(),
+            None => self.first(),
+        }
     }
 
     /// What a member has put in its view.
@@ -130,7 +148,10 @@ impl World {
         requires { m < roster (its_group self.now) }
         ensures { result.now ≡ (its_world self.now).past.sent m ((its_world self.now).past.view m) }
     {
-        self.replica(m).sent()
+        match self.replica(m) {
+            Some(replica) => replica.sent(),
+            None => &[],
+        }
     }
 
     /// The entries on a member's log: the first ones of its history.
@@ -138,8 +159,10 @@ impl World {
         requires { m < roster (its_group self.now) }
         ensures { result.now ≡ (its_world self.now).past.log m }
     {
-        let replica = self.replica(m);
-        &replica.history()[..replica.logged() as usize]
+        match self.replica(m) {
+            Some(replica) => &replica.history()[..replica.logged() as usize],
+            None => self.first(),
+        }
     }
 
     /// How many entries a member knows to be durable.
@@ -147,7 +170,10 @@ impl World {
         requires { m < roster (its_group self.now) }
         ensures { result ≡ (its_world self.now).past.durable m }
     {
-        self.replica(m).durable()
+        match self.replica(m) {
+            Some(replica) => replica.durable(),
+            None => self.first().len() as u64,
+        }
     }
 
     /// How many items of the sender `s` a member has in its view: received ones, or, of itself, those
@@ -157,7 +183,10 @@ impl World {
         requires sender { s < roster (its_group self.now) }
         ensures { result ≡ items_received (its_world self.now) m s }
     {
-        self.replica(m).count(s)
+        match self.replica(m) {
+            Some(replica) => replica.count(s),
+            None => 0,
+        }
     }
 
     /// The word of a column in a row of a member's copy of the table, in the bank of its view.
@@ -167,13 +196,47 @@ impl World {
         requires column { column < columns (its_group self.now) }
         ensures { result ≡ (its_world self.now).table ((its_world self.now).past.view m) m row column }
     {
-        self.table[index_in(self.replica(m), m, row, column)]
+        let index = self.shape().word_index(self.view(m), m, row, column);
+        self.table[index]
     }
 
-    /// The replica of a member.
-    fn replica(&self, m: u8) -> &Replica
+    /// The shape of the table.
+    fn shape(&self) -> Shape
+        ensures members { result.members ≡ roster (its_group self.now) }
+        ensures window { result.window ≡ (its_group self.now).window }
+        ensures banks { result.banks ≡ banks (its_group self.now) }
+    {
+        let members = self.members();
+        Shape {
+            members,
+            window: self.script.window,
+            banks: members,
+        }
+    }
+
+    /// The number of the view that a member is in.
+    fn view(&self, m: u8) -> u8
         requires { m < roster (its_group self.now) }
-        ensures replica { slice_get self.now.replicas m ≡ Some result.now }
+        ensures view { result ≡ (its_world self.now).past.view m }
+        ensures bank { result < banks (its_group self.now) }
+    {
+        match self.replica(m) {
+            Some(replica) => replica.view(),
+            None => 0,
+        }
+    }
+
+    /// The entries that every history begins with.
+    fn first(&self) -> &[Entry]
+        ensures { result.now ≡ first_entries (its_group self.now).opening }
+    {
+        self.first.as_slice()
+    }
+
+    /// What stands at the place of a member: its replica, or nothing where it is absent.
+    fn replica(&self, m: u8) -> &Option<Replica>
+        requires { m < roster (its_group self.now) }
+        ensures replica { present_at self.now.replicas m ≡ result.now }
         ensures members { AreMembers (its_group self.now) self.now.replicas }
     {
         &self.replicas[usize::from(m)]

@@ -1,7 +1,3 @@
-use Rattle.std.proofs.Common.{arith}
-use Rattle.dr_machine.proofs.Presence.{is_present}
-use Rattle.dr_restart.specs.Groups.{group_of}
-use Rattle.dr_program.proofs.OpeningForm.{can_begin}
 use Rattle.dr_world.proofs.Beginning.{begun_none, begun_more}
 use Rattle.dr_world.proofs.opening.replicas_of.Goals as goal
 
@@ -9,18 +5,8 @@ pub loop-me-init : goal.loop-me-init
 loop-me-init c = begun_none c.args.script.now c.args.start.now c.in_ok-replicas.replicas.items
     c.in_ok-replicas.ensures.items
 
-pub setup_of-requires-clause-present : goal.setup_of-requires-clause-present
-setup_of-requires-clause-present c =
-    is_present (group_of c.args.script.now c.args.start.now) c.loop-me.me c.requires.present
-    (omega (arith, c.loop-me-test.true, c.requires.ranges.lists))
-
-pub begin-requires : goal.begin-requires
-begin-requires c =
-    can_begin (group_of c.args.script.now c.args.start.now) c.args.script.now.turns c.loop-me.me
-    c.in_ok-setup.setup c.requires.group c.in_ok-setup.ensures.setup
-
 pub loop-me-preserved : goal.loop-me-preserved
 loop-me-preserved c =
     begun_more c.args.script.now c.args.start.now c.loop-me.me c.loop-me.replicas.items
-    c.push.new.self.items c.in_ok-setup.setup c.in_ok-begin.field-0
-    c.loop-me.invariant c.in_ok-setup.ensures c.in_ok-begin.ensures.begun c.in_ok-push.ensures.items
+    c.push.new.self.items c.in_ok-replica_of.field-0
+    c.loop-me.invariant c.in_ok-replica_of.ensures c.in_ok-push.ensures.items
