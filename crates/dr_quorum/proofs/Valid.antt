@@ -1,5 +1,5 @@
 -- The entries of a chosen start are valid.
-use Rattle.std.proofs.Common.{ℕ, List, All, take, get_or}
+use Rattle.std.proofs.Common.{List, All, take, get_or}
 use Rattle.std.proofs.lemmas.Option.{slice_get-get_or}
 use Rattle.dr_entry.specs.declared.entry.Entry.{Entry}
 use Rattle.dr_entry.specs.declared.entry.Entry.TheVariants.{View, Msg}

@@ -1,14 +1,15 @@
--- Where no log is missing, all may stand, and of any two one is a front of the other, they are refused only
--- where one knows the last age.
-use Rattle.std.proofs.Common.{◌≡◌, ◌≢◌, refl, ap, sym, ◌∙◌, ◌⊎◌, inl, inr, subst, ℕ, zero, suc, ◌*◌, ◌-◌, ◌^◌, ◌<◌, ◌≤◌, ◌==◌, ◌&&◌, not, nat_lt, arith, Bool, true, false, List, [], ◌∷◌, filter, length, Contains, Option, None, Some, is_some, slice_get, if◌then◌else◌, option_and_then, option_map}
+-- Where the logs of more than half of the roster come back, those of all members of the last age among them, or
+-- none is missing, all may stand, and of any two one is a front of the other, they are refused only where one
+-- knows the last age.
+use Rattle.std.proofs.Common.{◌≡◌, ◌≢◌, refl, ap, sym, ◌∙◌, ◌⊎◌, inl, inr, subst, ℕ, zero, suc, ◌-◌, ◌^◌, ◌<◌, ◌≤◌, ◌&&◌, not, nat_lt, arith, Bool, true, false, List, [], ◌∷◌, filter, length, Contains, Option, None, Some, is_some, slice_get, append-nil, if◌then◌else◌, option_and_then, option_map}
 use Rattle.std.specs.Option.{option_map_or}
-use Rattle.std.proofs.lemmas.Option.{none-some, same_Some, slice_get_within}
+use Rattle.std.proofs.lemmas.Option.{none-some, same_Some}
 use Rattle.dr_entry.specs.declared.entry.Entry.{Entry}
 use Rattle.dr_entry.specs.declared.entry.Entry.TheVariants.{View}
 use Rattle.dr_entry.specs.declared.record.Vote.{Vote}
 use Rattle.dr_history.specs.declared.opening.Opening.{Opening}
 use Rattle.dr_history.specs.Members.{has, members_of}
-use Rattle.dr_history.specs.Restarting.{AllStand, AreAllAlong}
+use Rattle.dr_history.specs.Restarting.{AllStand, AreAllAlong, AreAlong}
 use Rattle.dr_history.specs.Soundness.{AreOfRoster, whole_roster}
 use Rattle.dr_history_laws.proofs.Differing.{differ_not_along}
 use Rattle.dr_history_laws.proofs.Lists.{slice_get-some}
@@ -24,6 +25,7 @@ use Rattle.dr_restart.proofs.Listed.{listed}
 use Rattle.dr_words.proofs.Bits.{has_ones, has_zero}
 use Rattle.dr_words.proofs.Masks.{has_mask_of, has_without_mask, mask_of_small, same_masks}
 use Rattle.dr_words.specs.Masks.{mask_of, without}
+use Rattle.dr_quorum_laws.specs.Returning.{HasHandedIn, HaveReturned}
 use Rattle.dr_quorum_laws.proofs.Handing.{log-of_set, set-log}
 use Rattle.dr_quorum_laws.proofs.Lists.{filter-in, flat_map-in, highest-in, in-nothing, read-in}
 use Rattle.dr_quorum_laws.proofs.Refusals.{foreign-no, lacks-no}
@@ -75,29 +77,42 @@ some-members mask small some = by (members_of mask) refl
     by [] e = absurd (some (same_masks mask 0 (λ i. none e i (has mask i) refl)))
     by (m ∷ ms) e = omega (arith, ap length e)
 
--- members of the roster, and somebody
-record AreSomeOf (n mask : ℕ) : Type 0 where
+-- somebody, and all of them such members
+record AreSomeOf (IsSuch : ℕ → Type 0) (mask : ℕ) : Type 0 where
   small : mask < 2 ^ 16
   some : mask ≢ 0
-  within : (m : ℕ) → has mask m ≡ true → m < n
+  within : (m : ℕ) → has mask m ≡ true → IsSuch m
 
-some-of : (n mask : ℕ) → n ≤ 16 → AreOfRoster n mask → AreSomeOf n mask
+-- of the roster
+some-of : (n mask : ℕ) → n ≤ 16 → AreOfRoster n mask → AreSomeOf (λ m. m < n) mask
 some-of n mask most of = record {
   small = small-mask n mask most of.within;
   some = λ e. omega (arith, of.some, e);
   within = of.within;
 }
 
--- where all have handed in their logs, so have more than half of them
-all-handed : (h : Handed) (n mask : ℕ) → n ≤ 16 → ((m : ℕ) → m < n → is_some (h m) ≡ true) → AreSomeOf n mask
-    → HasQuorum h mask
-all-handed h n mask most all of =
+-- all of their own
+some-own : (n mask : ℕ) → n ≤ 16 → AreOfRoster n mask → AreSomeOf (λ m. has mask m ≡ true) mask
+some-own n mask most of = record {
+  small = small-mask n mask most of.within;
+  some = λ e. omega (arith, of.some, e);
+  within = λ m there. there;
+}
+
+-- where all such have handed in their logs, so have more than half of them
+all-handed : (h : Handed) (IsSuch : ℕ → Type 0) (mask : ℕ) → ((m : ℕ) → IsSuch m → HasHandedIn h m)
+    → AreSomeOf IsSuch mask → HasQuorum h mask
+all-handed h IsSuch mask all of =
     let some = some-members mask of.small of.some in
     omega (arith, some, ap (λ k. length (members_of k)) same)
   where
+    below : (i : ℕ) → has mask i ≡ true → (i < 16) ⊎ (16 ≤ i) → i < 16
+    below i e (inl l) = l
+    below i e (inr l) = absurd (grind (arith, e, bit_at_above mask 16 i of.small l))
+
     by : (i : ℕ) (b : Bool) → has mask i ≡ b → (nat_lt i 16 && (has mask i && is_some (h i))) ≡ has mask i
     by i true e =
-        let l : i < 16 = omega (arith, of.within i e, most) in
+        let l : i < 16 = below i e (cases_lt i 16) in
         let there = all i (of.within i e) in
         grind (arith, e, l, there)
     by i false e = grind (arith, e)
@@ -109,9 +124,9 @@ all-handed h n mask most all of =
 -- ---- the path
 
 -- so are the members of the view after such a view
-next-of : (h : Handed) (n age v members next : ℕ) → AreSomeOf n members
-    → next_on_path h n age v members ≡ Some next → AreSomeOf n next
-next-of h n age v members next of e = by (highest (next_votes h n age v members)) refl e
+next-of : (h : Handed) (IsSuch : ℕ → Type 0) (n age v members next : ℕ) → AreSomeOf IsSuch members
+    → next_on_path h n age v members ≡ Some next → AreSomeOf IsSuch next
+next-of h IsSuch n age v members next of e = by (highest (next_votes h n age v members)) refl e
   where
     left : (x : Vote) → Contains (next_votes h n age v members) x → without members x.value.leavers ≢ 0
     left x c =
@@ -120,7 +135,7 @@ next-of h n age v members next of e = by (highest (next_votes h n age v members)
         let f = filter-in (names_next n age v members) (option_map_or (λ (log : LogLists). log.votes) (h t.0) []) x t.2 in
         λ z. absurd (grind (arith, f.1, z))
 
-    part : (x : Vote) (m : ℕ) → has (without members x.value.leavers) m ≡ true → m < n
+    part : (x : Vote) (m : ℕ) → has (without members x.value.leavers) m ≡ true → IsSuch m
     part x m there =
         let mine : has members m ≡ true = grind (
           arith,
@@ -131,9 +146,9 @@ next-of h n age v members next of e = by (highest (next_votes h n age v members)
 
     by : (o : Option Vote) → highest (next_votes h n age v members) ≡ o
         → option_map (λ x. without members x.value.leavers) (highest (next_votes h n age v members)) ≡ Some next
-        → AreSomeOf n next
+        → AreSomeOf IsSuch next
     by None f g = absurd (none-some next (ap (option_map (λ (x : Vote). without members x.value.leavers)) (sym f) ∙ g))
-    by (Some x) f g = subst (AreSomeOf n)
+    by (Some x) f g = subst (AreSomeOf IsSuch)
         (same_Some (without members x.value.leavers) next
         (ap (option_map (λ (y : Vote). without members y.value.leavers)) (sym f) ∙ g))
         (record {
@@ -142,23 +157,53 @@ next-of h n age v members next of e = by (highest (next_votes h n age v members)
           within = part x;
         })
 
-path-of : (h : Handed) (n age first v members : ℕ) → AreSomeOf n first → on_path h n age first v ≡ Some members
-    → AreSomeOf n members
+path-of : (h : Handed) (IsSuch : ℕ → Type 0) (n age first v members : ℕ) → AreSomeOf IsSuch first → on_path h n age first v ≡ Some members
+    → AreSomeOf IsSuch members
 unfolding on_path
-path-of h n age first zero members of e = subst (AreSomeOf n) (same_Some first members e) of
-path-of h n age first (suc v) members of e =
-    go (λ u is. path-of h n age first v u of is) (nat_lt v 255) (on_path h n age first v) refl e
+path-of h IsSuch n age first zero members of e = subst (AreSomeOf IsSuch) (same_Some first members e) of
+path-of h IsSuch n age first (suc v) members of e =
+    go (λ u is. path-of h IsSuch n age first v u of is) (nat_lt v 255) (on_path h n age first v) refl e
   where
-    go : ((u : ℕ) → on_path h n age first v ≡ Some u → AreSomeOf n u) → (b : Bool) (o : Option ℕ)
+    go : ((u : ℕ) → on_path h n age first v ≡ Some u → AreSomeOf IsSuch u) → (b : Bool) (o : Option ℕ)
         → on_path h n age first v ≡ o
         → (if b then option_and_then (next_on_path h n age v) (on_path h n age first v) else None) ≡ Some members
-        → AreSomeOf n members
+        → AreSomeOf IsSuch members
     go old false o f g = absurd (none-some members g)
     go old true None f g = absurd (none-some members (ap (option_and_then (next_on_path h n age v)) (sym f) ∙ g))
     go old true (Some u) f g =
-        next-of h n age v u members (old u f) (ap (option_and_then (next_on_path h n age v)) (sym f) ∙ g)
+        next-of h IsSuch n age v u members (old u f) (ap (option_and_then (next_on_path h n age v)) (sym f) ∙ g)
+
+-- ---- logs that come back
+
+pub returned-pass : (o : Opening) (h : Handed) (why : Refusal) → length o.messages ≤ 16 → HaveReturned o h
+    → IsRefusedFor o h why → why ≡ AgesUsedUp
+returned-pass o h why most back = by why
+  where
+    n : ℕ
+    n = length o.messages
+
+    -- View 0 stands on a log, so it has some members of the roster
+    first-own : (age first : ℕ) → AreFirst h age first → AreSomeOf (λ m. has first m ≡ true) first
+    first-own age first (es, (m, log, at, ends, same), c) =
+        some-own n first most (back.enough.0 m log at k.0 (View age 0 first) k.1).0
+      where
+        k : (i : ℕ) × (slice_get log.entries i ≡ Some (View age 0 first))
+        k = read-in log.entries (View age 0 first) (subst (λ l. Contains l (View age 0 first)) same c)
+
+    by : (r : Refusal) → IsRefusedFor o h r → r ≡ AgesUsedUp
+    by (Foreign m place) x = absurd (foreign-no o h m place x back.enough.0)
+    by (NoQuorum None have need) x = absurd (lacks-no h (whole_roster o) have need x.1 back.enough.1)
+    by (Disagree a b place) x = absurd (differ_not_along x.3.one x.3.other place x.3.differ
+        (back.along x.1 x.2 x.3.one x.3.other (a, x.3.in_a.0, x.3.in_a.1, x.3.in_a.2, x.3.in_a.3) (b, x.3.in_b.0, x.3.in_b.1, x.3.in_b.2, x.3.in_b.3)))
+    by (NoQuorum (Some v) have need) x = absurd (lacks-no h x.6.members have need x.6.lacks
+        (all-handed h (λ m. has x.4 m ≡ true) x.6.members (λ m there. back.first x.1 x.4 m x.2 x.5 there)
+        (path-of h (λ m. has x.4 m ≡ true) n x.1 x.4 v x.6.members (first-own x.1 x.4 x.5) x.6.here)))
+    by AgesUsedUp x = refl
 
 -- ---- all logs
+
+apart : (i j : ℕ) → (i < j) ⊎ ((i ≡ j) ⊎ (j < i))
+apart i j = grind arith
 
 some_is : (o : Option LogLists) (log : LogLists) → o ≡ Some log → is_some o ≡ true
 some_is o log e = ap is_some e
@@ -168,7 +213,11 @@ pub all-pass : (o : Opening) (logs : List LogLists) (set : ℕ) (why : Refusal) 
     → ((m : ℕ) → m < length logs → has set m ≡ true)
     → ((m : ℕ) (log : LogLists) → slice_get logs m ≡ Some log → AllStand o log.entries)
     → AreAllAlong (entries_on_logs logs) → IsRefusedFor o (of_set logs set) why → why ≡ AgesUsedUp
-all-pass o logs set why least most long all stand along = by why
+all-pass o logs set why least most long all stand along = returned-pass o h why most (record {
+  enough = (sound, all-handed h (λ m. m < n) (whole_roster o) given (some-of n (whole_roster o) most roster));
+  along = λ age last f g x y. two f g x.0 y.0 (here x.0 f x.1 x.2 x.4) (here y.0 g y.1 y.2 y.4) (apart x.0 y.0);
+  first = λ age first m last of there. given m (first-within age first of m there);
+})
   where
     n : ℕ
     n = length o.messages
@@ -179,7 +228,7 @@ all-pass o logs set why least most long all stand along = by why
     sound : HaveNothingForeign o h
     sound m log at = stand m log (set-log logs set m log at).1
 
-    given : (m : ℕ) → m < n → is_some (h m) ≡ true
+    given : (m : ℕ) → m < n → HasHandedIn h m
     given m l =
         let t = slice_get-some logs m (omega (arith, l, long)) in
         some_is (h m) t.0 (log-of_set logs set m t.0 (all m (omega (arith, l, long))) t.1)
@@ -190,25 +239,25 @@ all-pass o logs set why least most long all stand along = by why
         below : (m : ℕ) → has (whole_roster o) m ≡ true → has (whole_roster o) m ≡ nat_lt m n → m < n
         below m e is = grind (arith, e, is)
 
-    first-some : (age first : ℕ) → AreFirst h age first → AreSomeOf n first
-    first-some age first (es, (m, log, at, ends, same), c) =
-        some-of n first most (stand m log (set-log logs set m log at).1 k.0 (View age 0 first) k.1).0
+    first-within : (age first : ℕ) → AreFirst h age first → (m : ℕ) → has first m ≡ true → m < n
+    first-within age first (es, (m, log, at, ends, same), c) =
+        (sound m log at k.0 (View age 0 first) k.1).0.within
       where
         k : (i : ℕ) × (slice_get log.entries i ≡ Some (View age 0 first))
         k = read-in log.entries (View age 0 first) (subst (λ l. Contains l (View age 0 first)) same c)
 
-    by : (r : Refusal) → IsRefusedFor o h r → r ≡ AgesUsedUp
-    by (Foreign m place) x = absurd (foreign-no o h m place x sound)
-    by (NoQuorum None have need) x = absurd (lacks-no h (whole_roster o) have need x.1
-        (all-handed h n (whole_roster o) most given (some-of n (whole_roster o) most roster)))
-    by (Disagree a b place) x = absurd (differ_not_along x.3.one x.3.other place x.3.differ
-        (along a b x.3.one x.3.other x.3.below (on a x.3.one x.3.in_a.0 x.3.in_a.1 x.3.in_a.3)
-        (on b x.3.other x.3.in_b.0 x.3.in_b.1 x.3.in_b.3)))
-      where
-        on : (m : ℕ) (es : List Entry) (log : LogLists) → h m ≡ Some log → es ≡ log.entries
-            → slice_get (entries_on_logs logs) m ≡ Some es
-        on m es log at e = listed logs m log (set-log logs set m log at).1 ∙ ap Some (sym e)
-    by (NoQuorum (Some v) have need) x = absurd (lacks-no h x.6.members have need x.6.lacks
-        (all-handed h n x.6.members most given
-        (path-of h n x.1 x.4 v x.6.members (first-some x.1 x.4 x.5) x.6.here)))
-    by AgesUsedUp x = refl
+    here : (m : ℕ) (es : List Entry) (log : LogLists) → h m ≡ Some log → es ≡ log.entries
+        → slice_get (entries_on_logs logs) m ≡ Some es
+    here m es log at e = listed logs m log (set-log logs set m log at).1 ∙ ap Some (sym e)
+
+    turned : (f g : List Entry) → AreAlong f g → AreAlong g f
+    turned f g (inl p) = inr p
+    turned f g (inr p) = inl p
+
+    two : (f g : List Entry) (i j : ℕ) → slice_get (entries_on_logs logs) i ≡ Some f
+        → slice_get (entries_on_logs logs) j ≡ Some g → (i < j) ⊎ ((i ≡ j) ⊎ (j < i)) → AreAlong f g
+    two f g i j at_f at_g (inl less) = along i j f g less at_f at_g
+    two f g i j at_f at_g (inr (inl same)) =
+        let e : f ≡ g = same_Some f g (sym at_f ∙ (ap (slice_get (entries_on_logs logs)) same ∙ at_g)) in
+        inl ([], append-nil f ∙ e)
+    two f g i j at_f at_g (inr (inr more)) = turned g f (along j i g f more at_g at_f)

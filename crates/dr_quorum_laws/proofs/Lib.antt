@@ -1,18 +1,18 @@
-mod AllThere
-mod Beginning
-mod ByMessages
-mod Chosen
-mod Ended
+pub mod AllThere
+pub mod Beginning
+pub mod ByMessages
+pub mod Chosen
+pub mod Ended
 mod Extra
-mod Grown
-mod Handing
-mod Keeping
-mod LastViews
+pub mod Grown
+pub mod Handing
+pub mod Keeping
+pub mod LastViews
 pub mod Lists
-mod Longest
-mod Missing
+pub mod Longest
+pub mod Missing
 mod OneValue
 mod Paths
 pub mod Refusals
 pub mod Sounding
-mod Tried
+pub mod Tried

@@ -3,7 +3,6 @@ use Rattle.std.proofs.Common.{◌≡◌, refl, ap, sym, ◌∙◌, ◌⊎◌, in
 use Rattle.std.proofs.lemmas.Bool.{cases_lt}
 use Rattle.std.proofs.lemmas.Option.{same_Some, slice_get_within}
 use Rattle.dr_entry.specs.declared.entry.Entry.{Entry}
-use Rattle.dr_entry.specs.declared.record.Vote.{Vote}
 use Rattle.dr_history.specs.declared.opening.Opening.{Opening}
 use Rattle.dr_history.specs.Members.{has}
 use Rattle.dr_history.specs.Restarting.{AllStand}
@@ -16,12 +15,12 @@ use Rattle.dr_restart.specs.declared.lists.Attempt.{Attempt}
 use Rattle.dr_restart.specs.declared.lists.LogLists.{LogLists}
 use Rattle.dr_restart.specs.declared.start.Start.{Start}
 use Rattle.dr_restart.specs.Groups.{group_of}
-use Rattle.dr_restart.specs.Left.{IsLeftByOther}
+use Rattle.dr_restart.specs.Left.{AreLeft, IsLeftByOther}
 use Rattle.dr_restart.specs.Trying.{IsTry, first_view_of, opened_by}
 use Rattle.dr_script.specs.declared.script.Script.{Script}
 use Rattle.dr_world_laws.proofs.Away.{there-or-not}
 use Rattle.dr_world_laws.proofs.Worlds.{Known}
-use Rattle.dr_quorum_laws.specs.Holding.{AreSoundTries, GoesOnFrom, HoldSince, IsKeptBy, IsOfAgeOrEarlier, IsOpenedTry}
+use Rattle.dr_quorum_laws.specs.Holding.{AreSoundTries, GoesOnFrom, HaveNoLaterVotes, HoldSince, IsKeptBy, IsOfAgeOrEarlier, IsOpenedTry}
 use Rattle.dr_quorum_laws.proofs.Chosen.{chosen-keeps}
 use Rattle.dr_quorum_laws.proofs.Ended.{stands}
 use Rattle.dr_quorum_laws.proofs.Grown.{ages-below}
@@ -136,39 +135,36 @@ held-stand g w choice logs tries m log is y held sounds at = by (held.grown m lo
 
 -- ---- the logs that a further try lacks
 
--- the votes on a log that holds are of the age that has ended, or of earlier ones
-votes-below : (g : Group) (w : World) (choice logs : List LogLists) (tries : List Attempt) (m : ℕ)
-    (log : LogLists) (x : Vote) → Since g w choice tries logs → slice_get logs m ≡ Some log
-    → Contains log.votes x → x.age ≤ g.opening.age
-votes-below g w choice logs tries m log x s at c = by (there-or-not g m)
+-- the votes on the logs that were left are of the age that has ended, or of earlier ones
+pub left-votes : (g : Group) (w : World) (choice : List LogLists) → AreLeft g w choice
+    → HaveNoLaterVotes g.opening.age choice
+left-votes g w choice left m log x at c = by (there-or-not g m)
   where
-    was : (old : LogLists) × (slice_get choice m ≡ Some old)
-    was = slice_get-some choice m (omega (arith, slice_get_within logs m log at, s.held.all, s.left.all))
-
-    on : Contains was.0.votes x
-    on = subst (λ l. Contains l x) (s.held.votes m was.0 log was.1 at) c
-
     by : IsPresent g m ⊎ (has g.opening.present m ≡ false) → x.age ≤ g.opening.age
-    by (inl there) = (s.left.members m was.0 there was.1).votes x on
+    by (inl there) = (left.members m log there at).votes x c
     by (inr none) =
-        let other = s.left.others m was.0 (λ there. absurd (cc (there, none))) was.1 in
-        omega (arith, other.earlier.votes x on)
+        let other = left.others m log (λ there. absurd (cc (there, none))) at in
+        omega (arith, other.earlier.votes x c)
+
+-- so they stay through tries
+pub tried-votes : (o : Opening) (before after : List LogLists) (try : Attempt) (age : ℕ) → IsTry o before after try
+    → HaveNoLaterVotes age before → HaveNoLaterVotes age after
+tried-votes o before after try age t below m log x at c =
+    let old = slice_get-some before m (omega (arith, slice_get_within after m log at, t.places)) in
+    below m old.0 x old.1 (subst (λ l. Contains l x) (t.votes m old.0 log old.1 at).0 c)
 
 pub others-left : (script : Script) (start : Start) (w : World) (choice before after : List LogLists)
     (tries : List Attempt) (try : Attempt) (m : ℕ) (log : LogLists)
     → Since (group_of script start) w choice tries before → AreSoundTries (group_of script start).opening tries
+    → HaveNoLaterVotes start.age before
     → IsTry (group_of script start).opening before after try → has try.set m ≡ false
     → slice_get after m ≡ Some log → IsLeftByOther (group_of script try.start) log
-others-left script start w choice before after tries try m log s sounds t none at = record {
+others-left script start w choice before after tries try m log s sounds below t none at = record {
   stands = all-by (group_of script start).opening (group_of script try.start).opening log.entries refl
       (held-stand (group_of script start) w choice before tries m log s.group s.known s.held sounds here);
   earlier = record {
     views = λ a n k c. ages-below (group_of script start) w choice before tries s try.start kept m log a n k here c;
-    votes = λ x c. omega (
-      arith,
-      votes-below (group_of script start) w choice before tries m log x s here c,
-      kept.later,
-    );
+    votes = λ x c. omega (arith, below m log x here c, kept.later);
   };
 }
   where

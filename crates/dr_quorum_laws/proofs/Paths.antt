@@ -148,7 +148,7 @@ next_is g w choice logs tries set v members next s held after quorum = from top
         → (was : LogLists) × IsLeftByMember g w m was × (log.votes ≡ was.votes)
     same_votes m log e at =
         let t = was-left g w choice m s.group s.left (there m e) in
-        (t.0, t.2, s.held.votes m t.0 log t.1 (set-log logs set m log at).1)
+        (t.0, t.2, s.held.votes m t.0 log (there m e) t.1 (set-log logs set m log at).1)
 
     found : Contains (next_votes (of_set logs set) (roster g) g.opening.age v members) one.0
     found =

@@ -203,7 +203,7 @@ one-view es a n f g rise c d =
     same_Some (View a n f) (View a n g) (sym s.1 ∙ (ap (slice_get es) place ∙ t.1)) in
     cc
 
-one-first : (o : Opening) (h : Handed) (age f g : ℕ) → HaveNothingForeign o h → AreHoldersAlong h age
+pub one-first : (o : Opening) (h : Handed) (age f g : ℕ) → HaveNothingForeign o h → AreHoldersAlong h age
     → AreFirst h age f → AreFirst h age g → f ≡ g
 one-first o h age f g sound along x y = by (along x.0 y.0 x.1 y.1)
   where

@@ -321,9 +321,9 @@ tried-held g w choice before after tries try s t = record {
   history = s.held.history;
   longest = s.held.longest;
   all = t.places ∙ s.held.all;
-  votes = λ m was log at here.
+  votes = λ m was log present at here.
       let old = old-log g before after try t m log here in
-      (t.votes m old.0 log old.1 here).0 ∙ s.held.votes m was old.0 at old.1;
+      (t.votes m old.0 log old.1 here).0 ∙ s.held.votes m was old.0 present at old.1;
   begins = λ m d k was log there at here l knows durable.
       let old = old-log g before after try t m log here in
       begins m d k old.0 log here old.1 knows durable

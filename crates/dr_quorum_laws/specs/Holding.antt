@@ -2,6 +2,7 @@
 use Rattle.std.specs.Prelude.{◌≡◌, ℕ, ◌<◌, ◌≤◌, ◌⊎◌, true, List, ◌∷◌, ◌++◌, length, take, Contains, Some, slice_get}
 use Rattle.dr_entry.specs.declared.entry.Entry.{Entry}
 use Rattle.dr_entry.specs.declared.entry.Entry.TheVariants.{View}
+use Rattle.dr_entry.specs.declared.record.Vote.{Vote}
 use Rattle.dr_history.specs.declared.opening.Opening.{Opening}
 use Rattle.dr_history.specs.History.{IsPrefixOf}
 use Rattle.dr_history.specs.Restarting.{AllStand}
@@ -50,6 +51,11 @@ pub record KeepsDurable (g : Group) (w : World) (history : List Entry) (tries : 
   pub goes : GoesOnFrom history tries front entries
   pub durable : (m : ℕ) → IsPresent g m → IsPrefixOf (take (w.past.durable m) (w.past.history m)) front
 
+-- no vote on any log is of a later age than this
+abbrev pub HaveNoLaterVotes : ℕ → List LogLists → Type 0
+HaveNoLaterVotes age logs = (m : ℕ) (log : LogLists) (x : Vote) → slice_get logs m ≡ Some log
+    → Contains log.votes x → x.age ≤ age
+
 -- a log that holds View 0 of the age goes on from a front of the history; any other is one that the script
 -- can have brought about, of earlier ages
 abbrev pub IsOfAgeOrEarlier : Group → List Entry → List Attempt → LogLists → Type 0
@@ -64,10 +70,10 @@ pub record HoldSince (g : Group) (w : World) (choice : List LogLists) (tries : L
   pub history : List Entry
   pub longest : IsLongestHistory g w history
   pub all : length logs ≡ roster g
-  -- the votes on each log are those that were left on it
-  pub votes : (m : ℕ) (was log : LogLists) → slice_get choice m ≡ Some was → slice_get logs m ≡ Some log
-      → log.votes ≡ was.votes
-  -- that of a member that was there begins with as much of the history as stood on it and some member knew to
+  -- the votes on the log of a member that was there are those that were left on it
+  pub votes : (m : ℕ) (was log : LogLists) → IsPresent g m → slice_get choice m ≡ Some was
+      → slice_get logs m ≡ Some log → log.votes ≡ was.votes
+  -- it begins with as much of the history as stood on it and some member knew to
   -- be durable
   pub begins : (m d k : ℕ) (was log : LogLists) → IsPresent g m → slice_get choice m ≡ Some was
       → slice_get logs m ≡ Some log → d ≤ length was.entries → IsPresent g k → d ≤ w.past.durable k

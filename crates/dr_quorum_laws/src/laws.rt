@@ -25,7 +25,8 @@ ghost use Rattle.dr_script.specs.Ranges.{HasGroupRanges};
 ghost use Rattle.dr_vote_laws.specs.Voting.{HaveVotedFor};
 ghost use Rattle.dr_words.specs.Masks.{IsMajorityOf};
 ghost use Rattle.dr_world_laws.specs.Views.{HasView};
-ghost use Rattle.dr_quorum_laws.specs.Holding.{AreSoundTries, HoldSince, IsKeptBy, IsLongestHistory};
+ghost use Rattle.dr_quorum_laws.specs.Holding.{AreSoundTries, HaveNoLaterVotes, HoldSince, IsKeptBy, IsLongestHistory};
+ghost use Rattle.dr_quorum_laws.specs.Returning.{HaveReturned};
 
 use dr_restart::{Attempt, LogLists, Start};
 use dr_script::Script;
@@ -93,6 +94,14 @@ pub fn all_logs_are_enough()
         → ((m : ℕ) (log : LogListsOf) → slice_get logs m ≡ Some log
         → AllStand o log.entries)
         → AreAllAlong (entries_on_logs logs) → IsRefusedFor o (of_set logs set) why → why ≡ AgesUsedUp }
+{}
+
+/// Where the logs of more than half of the roster come back, those of all members of the last age's View 0 among
+/// them, all of their entries may stand, and of any two of that age one is a front of the other, they are refused
+/// only where one knows the last age, whichever others are missing.
+pub fn returning_logs_are_enough()
+    ensures { (o : Opening) (h : Handed) (why : Refusal) → length o.messages ≤ 16 → HaveReturned o h
+        → IsRefusedFor o h why → why ≡ AgesUsedUp }
 {}
 
 /// In every world that a group reaches of which more than half of the roster is there, and whatever stops
@@ -163,12 +172,16 @@ pub fn kept_by_majority(
 {}
 
 /// Logs that hold with tries have nothing foreign, so a choice is never refused for their entries; the tries
-/// chose sound starts; and where a further try begins an age, the logs that it lacked are such as a member
-/// leaves that was not there in that age. So one age that has ended follows on another, whichever logs were
-/// missing.
+/// chose sound starts, and no log has a vote of a later age than the one that has ended; and where a further try
+/// begins an age, the logs that it lacked are such as a member leaves that was not there in that age. So one age
+/// that has ended follows on another, whichever logs were missing.
 pub fn missing_logs_are_of_earlier_ages()
     ensures sound { (o : Opening) (before after : List LogListsOf) (tries : List AttemptOf) (try : AttemptOf)
         → AreSoundTries o tries → IsTry o before after try → AreSoundTries o (tries ++ try ∷ []) }
+    ensures votes { (g : Group) (w : World) (choice : List LogListsOf) → AreLeft g w choice
+        → HaveNoLaterVotes g.opening.age choice }
+    ensures voted { (o : Opening) (before after : List LogListsOf) (try : AttemptOf) (age : ℕ)
+        → IsTry o before after try → HaveNoLaterVotes age before → HaveNoLaterVotes age after }
     ensures stand { (g : Group) (w : World) (choice logs : List LogListsOf) (tries : List AttemptOf) (m : ℕ)
         (log : LogListsOf) → IsGroup g → IsReached g w
         → HoldSince g w choice tries logs → AreSoundTries g.opening tries → slice_get logs m ≡ Some log
@@ -180,7 +193,7 @@ pub fn missing_logs_are_of_earlier_ages()
         → IsMajorityOf start.present (whole_roster (group_of script start).opening)
         → AreLeft (group_of script start) w choice
         → HoldSince (group_of script start) w choice tries before
-        → AreSoundTries (group_of script start).opening tries
+        → AreSoundTries (group_of script start).opening tries → HaveNoLaterVotes start.age before
         → IsTry (group_of script start).opening before after try → has try.set m ≡ false
         → slice_get after m ≡ Some log → IsLeftByOther (group_of script try.start) log }
 {}

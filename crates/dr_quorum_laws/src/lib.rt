@@ -3,7 +3,7 @@
 //!
 //! It speaks of lists of entries and of votes, and knows no disk. What logs make a start is `IsChosenStart`
 //! of `dr_restart`, what stops leave of an age is `AreLeft`, and what a try makes of logs is `IsTry` there.
-//! `HoldSince` has what any tries may make of the logs that were left. No program restarts so yet.
+//! `HoldSince` has what any tries may make of the logs that were left.
 #![tactic(auto)]
 
 mod laws;
@@ -11,5 +11,5 @@ mod laws;
 pub use laws::{
     all_logs_are_enough, all_logs_give_the_longest, choices_are_one, choices_are_sound,
     choices_go_by_messages, held_by_try, kept_after_choice, kept_by_majority,
-    missing_logs_are_of_earlier_ages, votes_left_are_one,
+    missing_logs_are_of_earlier_ages, returning_logs_are_enough, votes_left_are_one,
 };

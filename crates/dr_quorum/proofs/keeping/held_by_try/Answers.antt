@@ -1,0 +1,19 @@
+use Rattle.dr_machine.proofs.Runs.{run_reached}
+use Rattle.dr_restart.specs.Groups.{group_of}
+use Rattle.dr_world_laws.proofs.Worlds.{known}
+use Rattle.dr_quorum_laws.proofs.Keeping.{since-held, since-left}
+use Rattle.dr_quorum_laws.proofs.Tried.{tried-held}
+use Rattle.dr_quorum.proofs.keeping.held_by_try.Goals as goal
+
+pub returns : goal.returns
+returns c =
+    let g = group_of c.args.script.now c.args.start.now in record {
+      first = λ w run. (since-left g w c.args.choice.now c.requires.group
+          (known g w c.requires.group (run_reached g w c.args.events.now run)) c.requires.majority
+          (c.requires.left w run)).held;
+      tried = λ w run held try. tried-held g w c.args.choice.now c.args.before.now c.args.after.now
+          c.args.tries.now c.args.added.now
+          (since-held g w c.args.choice.now c.args.before.now c.args.tries.now c.requires.group
+          (known g w c.requires.group (run_reached g w c.args.events.now run)) c.requires.majority
+          (c.requires.left w run) held) try;
+    }

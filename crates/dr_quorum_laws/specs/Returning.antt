@@ -1,0 +1,17 @@
+-- Logs that come back behind an age, though others are missing.
+use Rattle.std.specs.Prelude.{◌≡◌, ℕ, true, is_some}
+use Rattle.dr_history.specs.declared.opening.Opening.{Opening}
+use Rattle.dr_history.specs.Members.{has}
+use Rattle.dr_restart.specs.Choosing.{AreFirst, Handed, IsLastAge}
+use Rattle.dr_restart.specs.Refusing.{AreEnough, AreHoldersAlong}
+
+-- the member has handed in its log
+abbrev pub HasHandedIn : Handed → ℕ → Type 0
+HasHandedIn h m = is_some (h m) ≡ true
+
+-- All entries may stand, and the logs are those of more than half of the roster. Of any two of the last age one
+-- is a front of the other, and all members of its View 0 have handed in theirs.
+pub record HaveReturned (o : Opening) (h : Handed) : Type 0 where
+  pub enough : AreEnough o h
+  pub along : (age : ℕ) → IsLastAge h age → AreHoldersAlong h age
+  pub first : (age first m : ℕ) → IsLastAge h age → AreFirst h age first → has first m ≡ true → HasHandedIn h m
