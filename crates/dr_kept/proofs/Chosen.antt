@@ -1,0 +1,145 @@
+-- What is known of an age that began with what was chosen of some logs.
+use Rattle.std.proofs.Common.{◌≡◌, refl, ap, sym, ◌∙◌, subst, ℕ, ◌<◌, ◌≤◌, arith, true, false, List, length, map}
+use Rattle.std.specs.Prelude.{Option, None, Some, is_some, option_map}
+use Rattle.dr_entry.specs.declared.end.End.TheVariants.{DiskFault}
+use Rattle.dr_history.specs.Members.{has}
+use Rattle.dr_history.specs.Soundness.{whole_roster}
+use Rattle.dr_log_bytes.specs.Content.{OnLog}
+use Rattle.dr_machine.specs.Group.{Group, IsGroup, IsPresent}
+use Rattle.dr_machine.specs.Run.{IsReached}
+use Rattle.dr_program.specs.Presence.{present_at}
+use Rattle.dr_program.specs.Program.{AreSetups, IsRanFrom, Program, begun_program}
+use Rattle.dr_program.specs.Reading.{world}
+use Rattle.dr_program.specs.Replica.{Replica}
+use Rattle.dr_program.specs.Running.{Running}
+use Rattle.dr_program.proofs.Present.{present_map}
+use Rattle.dr_program_laws.proofs.Keeping.{deeds_kept}
+use Rattle.dr_refine.specs.Programs.{IsMember, IsProgram}
+use Rattle.dr_restart.specs.declared.start.Start.{Start}
+use Rattle.dr_restart.specs.Choosing.{HasAge}
+use Rattle.dr_restart.specs.Groups.{first_group_of, group_of}
+use Rattle.dr_restart.proofs.Setups.{are_setups}
+use Rattle.dr_script.specs.declared.script.Script.{Script}
+use Rattle.dr_script.specs.Ranges.{HasGroupRanges}
+use Rattle.dr_words.specs.Masks.{IsMajorityOf}
+use Rattle.dr_world_laws.proofs.Worlds.{Known, known}
+use Rattle.dr_opening.specs.Lists.{as_lists}
+use Rattle.dr_opening.specs.Tries.{content_at}
+use Rattle.dr_opening.proofs.Choosing.{chosen_group}
+use Rattle.dr_opening.proofs.Lists.{handed_is}
+use Rattle.dr_opening.proofs.Trying.{in_set, out_of_set}
+use Rattle.dr_kept.specs.Leaving.{AreLeftFrom, IsAgeOfChoice}
+use Rattle.dr_kept.proofs.Waiting.{idle_end}
+
+-- its group, its program and its world; more than half of the roster is there, and no vote waits of who has ended
+-- by a disk
+pub record IsKnownAge (script : Script) (start : Start) (p : Program) : Type 0 where
+  pub group : IsGroup (group_of script start)
+  pub form : IsProgram (group_of script start) p
+  pub known : Known (group_of script start) (world (group_of script start) p)
+  pub majority : IsMajorityOf start.present (whole_roster (group_of script start).opening)
+  pub idle : (m : ℕ) (r : Running) → present_at p.members m ≡ Some r → r.replica.end ≡ Some DiskFault
+      → r.replica.pending ≡ None
+
+pub known_age : (script : Script) (start : Start) (nth : ℕ) (found : List (Option OnLog)) (p : Program)
+    → HasGroupRanges script → 1 ≤ script.turns → IsAgeOfChoice script start nth found p
+    → IsKnownAge script start p
+known_age script start nth found p ranges some is = record {
+  group = group;
+  form = kept.0;
+  known = known g (world g p) group kept.1;
+  majority = subst (λ mask. IsMajorityOf mask (whole_roster g.opening))
+      (sym (is.chosen.chosen.present ∙ is.chosen.chosen.members)) is.chosen.chosen.quorum;
+  idle = λ m r there over. idle_end g script.turns is.begins.0 p m r group some are ran there over;
+}
+  where
+    g : Group
+    g = group_of script start
+
+    group : IsGroup (group_of script start)
+    group = chosen_group script found start ranges is.chosen
+
+    are : AreSetups (group_of script start) script.turns is.begins.0
+    are = are_setups script start nth is.begins.0 ranges.lists is.begins.1
+
+    ran : IsRanFrom (begun_program (group_of script start) is.begins.0) p
+    ran = subst (λ (b : Program). IsRanFrom b p) is.begins.2 is.ran
+
+    kept : IsProgram (group_of script start) p
+        × IsReached (group_of script start) (world (group_of script start) p)
+    kept = deeds_kept g script.turns is.begins.0 p group some are ran
+
+-- the roster is small
+pub few : (script : Script) → HasGroupRanges script → length script.messages ≤ 16
+few script ranges = omega (arith, ranges.lists, ranges.most_members)
+
+-- ---- who is there
+
+-- who has a log there is there
+pub with_log : (script : Script) (start : Start) (nth : ℕ) (found : List (Option OnLog)) (p : Program) (m : ℕ)
+    (c : OnLog) → HasGroupRanges script → IsAgeOfChoice script start nth found p → content_at found m ≡ Some c
+    → IsPresent (group_of script start) m
+with_log script start nth found p m c ranges is at =
+    ap (λ mask. has mask m) is.chosen.chosen.present
+    ∙ in_set (first_group_of script).opening found start m c is.chosen (few script ranges) at
+
+-- and who is there has one
+pub has_log : (script : Script) (start : Start) (nth : ℕ) (found : List (Option OnLog)) (p : Program) (m : ℕ)
+    → HasGroupRanges script → IsAgeOfChoice script start nth found p → IsPresent (group_of script start) m
+    → is_some (content_at found m) ≡ true
+has_log script start nth found p m ranges is present = by (content_at found m) refl
+  where
+    by : (o : Option OnLog) → content_at found m ≡ o → is_some o ≡ true
+    by (Some c) at = refl
+    by None at =
+        let out : has start.present m ≡ false = ap (λ mask. has mask m) is.chosen.chosen.present
+        ∙ out_of_set (first_group_of script).opening found start m is.chosen (few script ranges) at in
+        absurd (cc (present, out))
+
+pub some_there : (o : Option OnLog) → is_some o ≡ true → (c : OnLog) × (o ≡ Some c)
+some_there None e = absurd (cc)
+some_there (Some c) e = (c, refl)
+
+-- behind the age too
+pub log_behind : (script : Script) (start : Start) (nth : ℕ) (found after : List (Option OnLog)) (p : Program) (m : ℕ)
+    → HasGroupRanges script → IsAgeOfChoice script start nth found p → AreLeftFrom start found p after
+    → IsPresent (group_of script start) m → (c : OnLog) × (content_at after m ≡ Some c)
+log_behind script start nth found after p m ranges is left present =
+    some_there (content_at after m) (left.same m ∙ has_log script start nth found p m ranges is present)
+
+pub behind_there : (script : Script) (start : Start) (nth : ℕ) (found after : List (Option OnLog)) (p : Program) (m : ℕ)
+    (c : OnLog) → HasGroupRanges script → IsAgeOfChoice script start nth found p → AreLeftFrom start found p after
+    → content_at after m ≡ Some c → IsPresent (group_of script start) m
+behind_there script start nth found after p m c ranges is left at =
+    let l = left.each m c at in with_log script start nth found p m l.first ranges is l.on
+
+-- ---- the ages that were known
+
+-- the age is above all on the logs
+pub age_above : (script : Script) (start : Start) (nth : ℕ) (found : List (Option OnLog)) (p : Program) (m a : ℕ)
+    (c : OnLog) → IsAgeOfChoice script start nth found p → content_at found m ≡ Some c → HasAge (as_lists c) a
+    → a < start.age
+age_above script start nth found p m a c is at has_age = is.chosen.chosen.age.above m a (as_lists c)
+    (handed_is found m ∙ ap (option_map as_lists) at) has_age
+
+-- ---- the members
+
+-- the replicas of the members of a program
+abbrev pub replicas_of : Program → List (Option Replica)
+replicas_of p = map (option_map (λ (r : Running). r.replica)) p.members
+
+pub replica_at : (p : Program) (m : ℕ) (r : Running) → present_at p.members m ≡ Some r
+    → present_at (replicas_of p) m ≡ Some r.replica
+replica_at p m r there =
+    present_map (λ (r : Running). r.replica) p.members m
+    ∙ ap (option_map (λ (r : Running). r.replica)) there
+
+pub member_at : (g : Group) (p : Program) (m : ℕ) (r : Running) → IsGroup g → IsProgram g p
+    → present_at p.members m ≡ Some r → IsMember g (replicas_of p) p.table m r.replica
+member_at g p m r group form there = record {
+  group = group;
+  cells = form.table;
+  there = replica_at p m r there;
+  form = (form.form m r there).replica;
+  of = form.of m r there;
+}

@@ -1,0 +1,224 @@
+-- What a member leaves on its log is what a stop may leave in the world of the program.
+use Rattle.std.proofs.Common.{◌≡◌, refl, ap, sym, ◌∙◌, ◌⊎◌, inl, inr, subst, ℕ, ◌+◌, ◌<◌, ◌≤◌, ◌==◌, arith, Bool, true, false, List, [], ◌∷◌, ◌++◌, append_assoc, filter, take, drop, Contains, Option, Some}
+use Rattle.std.specs.Prelude.{None, slice_get}
+use Rattle.std.proofs.lemmas.List.{take-append-drop, take_more}
+use Rattle.std.proofs.lemmas.List.Elements.{Contains-append_cases, filter-append}
+use Rattle.std.proofs.lemmas.Option.{get_or_from_slice_get, slice_get_within}
+use Rattle.dr_entry.specs.declared.entry.Entry.{Entry}
+use Rattle.dr_entry.specs.declared.record.Record.{Record}
+use Rattle.dr_entry.specs.declared.record.Record.TheVariants as records
+use Rattle.dr_entry.specs.declared.record.Vote.{Vote}
+use Rattle.dr_history.specs.History.{IsPrefixOf}
+use Rattle.dr_log_bytes.specs.Content.{OnLog, with_record}
+use Rattle.dr_logged.specs.Served.{IsDueVote, IsRecordDue}
+use Rattle.dr_machine.specs.Group.{Group}
+use Rattle.dr_machine.specs.World.{World}
+use Rattle.dr_program.proofs.Holdings.{Holding, held, held_of, holding_of}
+use Rattle.dr_program.specs.Program.{Program}
+use Rattle.dr_program.specs.Reading.{world}
+use Rattle.dr_program.specs.Replica.{Replica}
+use Rattle.dr_restart.specs.declared.lists.LogLists.{LogLists}
+use Rattle.dr_restart.specs.declared.start.Start.{Start}
+use Rattle.dr_restart.specs.Groups.{group_of}
+use Rattle.dr_restart.specs.Left.{IsLeftByMember, MayLogVote, votes_of_age}
+use Rattle.dr_restart.specs.Trying.{age_vote_of}
+use Rattle.dr_script.specs.declared.script.Script.{Script}
+use Rattle.dr_quorum_laws.proofs.Lists.{in-cases, in-head, in-nothing, in-tail, read-in}
+use Rattle.dr_opening.specs.Contents.{IsOpenFor, voted_for}
+use Rattle.dr_opening.specs.Lists.{as_lists}
+use Rattle.dr_opening.proofs.Lists.{voted_lists}
+use Rattle.dr_opening.proofs.Ways.{rising_keeps, rising_votes}
+use Rattle.dr_kept.specs.Leaving.{HasJustLogged, IsAgeOfChoice, IsLeftAt, LeavesSo}
+use Rattle.dr_kept.proofs.Chosen.{IsKnownAge, age_above, member_at, replica_at, replicas_of}
+use Rattle.dr_kept.proofs.Voting.{due_may}
+
+-- ---- filters that pass all, and none
+
+passes_none : {A : Type 0} (p : A → Bool) (xs : List A) → ((x : A) → Contains xs x → p x ≡ false)
+    → filter p xs ≡ []
+passes_none p [] none = refl
+passes_none p (x ∷ xs) none =
+    rw (none x (in-head x xs), passes_none p xs (λ y c. none y (in-tail x y xs c))) refl
+
+passes_all : {A : Type 0} (p : A → Bool) (xs : List A) → ((x : A) → Contains xs x → p x ≡ true)
+    → filter p xs ≡ xs
+passes_all p [] all = refl
+passes_all p (x ∷ xs) all =
+    rw (all x (in-head x xs), passes_all p xs (λ y c. all y (in-tail x y xs c))) refl
+
+-- votes of earlier ages, and behind them those of the age
+of_age : (age : ℕ) (olds own : List Vote) → ((x : Vote) → Contains olds x → x.age < age)
+    → ((x : Vote) → Contains own x → x.age ≡ age) → votes_of_age age (olds ++ own) ≡ own
+of_age age olds own before now =
+    filter-append (λ (x : Vote). x.age == age) olds own
+    ∙ ap (λ l. l ++ filter (λ (x : Vote). x.age == age) own)
+    (passes_none (λ (x : Vote). x.age == age) olds (λ x c. other x (before x c)))
+    ∙ passes_all (λ (x : Vote). x.age == age) own (λ x c. same x (now x c))
+  where
+    other : (x : Vote) → x.age < age → (x.age == age) ≡ false
+    other x l = grind (arith, l)
+
+    same : (x : Vote) → x.age ≡ age → (x.age == age) ≡ true
+    same x e = grind (arith, e)
+
+-- none is of a later age
+none_later : (age : ℕ) (olds own votes : List Vote) → votes ≡ olds ++ own
+    → ((x : Vote) → Contains olds x → x.age < age) → ((x : Vote) → Contains own x → x.age ≡ age)
+    → (x : Vote) → Contains votes x → x.age ≤ age
+none_later age olds own votes is before now x c =
+    by (Contains-append_cases olds own x (subst (λ l. Contains l x) is c))
+  where
+    by : Contains olds x ⊎ Contains own x → x.age ≤ age
+    by (inl h) = omega (arith, before x h)
+    by (inr h) = omega (arith, now x h)
+
+-- ---- the record that is due
+
+-- with the next entry of the history behind so many
+pub entry_more : (history : List Entry) (n : ℕ) (e : Entry) → slice_get history n ≡ Some e
+    → IsPrefixOf (take n history ++ e ∷ []) history
+entry_more history n e due = (
+  drop (n + 1) history,
+  ap (λ (l : List Entry). l ++ drop (n + 1) history) front ∙ take-append-drop (n + 1) history,
+)
+  where
+    front : take n history ++ e ∷ [] ≡ take (n + 1) history
+    front = ap (λ x. take n history ++ x ∷ []) (sym (get_or_from_slice_get history n e e due))
+        ∙ sym (take_more history n e (slice_get_within history n e due))
+
+-- it is no age vote, so these are as they were
+next_age_votes : (r : Replica) (next : Record) (c : OnLog) → IsRecordDue r next
+    → (with_record next c).age_votes ≡ c.age_votes
+next_age_votes r (records.Entry e) c due = refl
+next_age_votes r (records.Vote v) c due = refl
+next_age_votes r (records.AgeVote v) c due = absurd due
+next_age_votes r (records.Cut keep) c due = absurd due
+next_age_votes r records.Upgrade c due = absurd due
+
+pub age_votes_stay : (base : OnLog) (r : Replica) (c : OnLog) → LeavesSo base r c → c.age_votes ≡ base.age_votes
+age_votes_stay base r c (inl just) = just.age_votes
+age_votes_stay base r c (inr begun) =
+    ap (λ (d : OnLog). d.age_votes) begun.is ∙ next_age_votes r begun.next begun.before begun.due
+    ∙ begun.logged.age_votes
+
+-- ---- what an opening leaves of the votes
+
+pub base_votes : (start : Start) (first base : OnLog) → IsOpenFor start (voted_for start first) base
+    → base.votes ≡ first.votes
+base_votes start first base opened = (rising_keeps start first base (inr (inr opened))).votes
+
+pub base_age_votes : (start : Start) (first base : OnLog) → IsOpenFor start (voted_for start first) base
+    → base.age_votes ≡ first.age_votes ++ age_vote_of start ∷ []
+base_age_votes start first base opened =
+    (rising_votes start (voted_for start first) base (inr (inr opened))).age_votes
+    ∙ ap (λ (l : LogLists). l.age_votes) (voted_lists (age_vote_of start) first)
+
+-- ---- the log of a member
+
+pub left_by_member : (script : Script) (start : Start) (nth : ℕ) (found : List (Option OnLog)) (p : Program) (m : ℕ)
+    (c : OnLog) → IsAgeOfChoice script start nth found p → IsKnownAge script start p
+    → IsLeftAt start found p m c
+    → IsLeftByMember (group_of script start) (world (group_of script start) p) m (as_lists c)
+left_by_member script start nth found p m c is k l = by l.leaves
+  where
+    g : Group
+    g = group_of script start
+
+    w : World
+    w = world g p
+
+    r : Replica
+    r = l.member.replica
+
+    has_of : held (world (group_of script start) p) m ≡ holding_of (group_of script start) l.member.replica
+    has_of = held_of g (replicas_of p) p.table m r (replica_at p m l.member l.there)
+
+    log : (world (group_of script start) p).past.log m ≡ take l.member.replica.logged l.member.replica.history
+    log = ap (λ (h : Holding). h.log) has_of
+
+    history : (world (group_of script start) p).past.history m ≡ l.member.replica.history
+    history = ap (λ (h : Holding). h.history) has_of
+
+    cast : (world (group_of script start) p).past.votes m ≡ l.member.replica.votes
+    cast = ap (λ (h : Holding). h.votes) has_of
+
+    olds : (x : Vote) → Contains l.base.votes x → x.age < start.age
+    olds x h = age_above script start nth found p m x.age l.first is l.on
+        (inr (inl (x, subst (λ votes. Contains votes x) (base_votes start l.first l.base l.opened) h, refl)))
+
+    own : (x : Vote) → Contains l.member.replica.votes x → x.age ≡ start.age
+    own x h = ap (λ (z : Vote). z.age) (k.known.chosen.voting.valid.own m x
+        (read-in (w.past.votes m) x (subst (λ votes. Contains votes x) (sym cast) h)))
+
+    just : HasJustLogged l.base l.member.replica c
+        → IsLeftByMember (group_of script start) (world (group_of script start) p) m (as_lists c)
+    just j = record {
+      left = inl (
+        j.entries ∙ sym log,
+        ap (votes_of_age start.age) j.votes ∙ of_age start.age l.base.votes r.votes olds own ∙ sym cast,
+      );
+      votes = none_later start.age l.base.votes r.votes c.votes j.votes olds own;
+    }
+
+    entry : (e : Entry) (d : OnLog) → HasJustLogged l.base l.member.replica d
+        → slice_get l.member.replica.history l.member.replica.logged ≡ Some e
+        → IsLeftByMember (group_of script start) (world (group_of script start) p) m
+        (as_lists (with_record (records.Entry e) d))
+    entry e d j due = record {
+      left = inr (inl (
+        e,
+        ap (λ es. es ++ e ∷ []) (j.entries ∙ sym log),
+        subst (IsPrefixOf (d.entries ++ e ∷ [])) (sym history)
+            (subst (λ es. IsPrefixOf (es ++ e ∷ []) r.history) (sym j.entries)
+            (entry_more r.history r.logged e due)),
+        ap (votes_of_age start.age) j.votes ∙ of_age start.age l.base.votes r.votes olds own ∙ sym cast,
+      ));
+      votes = none_later start.age l.base.votes r.votes d.votes j.votes olds own;
+    }
+
+    vote : (v : Vote) (d : OnLog) → HasJustLogged l.base l.member.replica d → IsDueVote l.member.replica v
+        → MayLogVote (group_of script start) (world (group_of script start) p) m v
+        → IsLeftByMember (group_of script start) (world (group_of script start) p) m
+        (as_lists (with_record (records.Vote v) d))
+    vote v d j due may = record {
+      left = inr (inr (
+        v,
+        j.entries ∙ sym log,
+        ap (votes_of_age start.age) more ∙ of_age start.age l.base.votes (r.votes ++ v ∷ []) olds with_it
+            ∙ ap (λ votes. votes ++ v ∷ []) (sym cast),
+        may,
+      ));
+      votes = none_later start.age l.base.votes (r.votes ++ v ∷ []) (d.votes ++ v ∷ []) more olds with_it;
+    }
+      where
+        more : d.votes ++ v ∷ [] ≡ l.base.votes ++ (l.member.replica.votes ++ v ∷ [])
+        more = ap (λ votes. votes ++ v ∷ []) j.votes ∙ append_assoc l.base.votes r.votes (v ∷ [])
+
+        with_it : (x : Vote) → Contains (l.member.replica.votes ++ v ∷ []) x → x.age ≡ start.age
+        with_it x h = either (Contains-append_cases r.votes (v ∷ []) x h)
+          where
+            last : (v ≡ x) ⊎ Contains [] x → x.age ≡ start.age
+            last (inl e) = ap (λ (z : Vote). z.age) (sym e ∙ may.2)
+            last (inr none) = absurd (in-nothing x none)
+
+            either : Contains l.member.replica.votes x ⊎ Contains (v ∷ []) x → x.age ≡ start.age
+            either (inl old) = own x old
+            either (inr new) = last (in-cases v x [] new)
+
+    next_is : (next : Record) (d : OnLog) → HasJustLogged l.base l.member.replica d
+        → IsRecordDue l.member.replica next → l.member.replica.pending ≡ None
+        → IsLeftByMember (group_of script start) (world (group_of script start) p) m
+        (as_lists (with_record next d))
+    next_is (records.Entry e) d j due idle = entry e d j due
+    next_is (records.Vote v) d j due idle = vote v d j due
+        (due_may g (replicas_of p) p.table m r v (member_at g p m l.member k.group k.form l.there) idle due)
+    next_is (records.AgeVote v) d j due idle = absurd due
+    next_is (records.Cut keep) d j due idle = absurd due
+    next_is records.Upgrade d j due idle = absurd due
+
+    by : LeavesSo l.base l.member.replica c
+        → IsLeftByMember (group_of script start) (world (group_of script start) p) m (as_lists c)
+    by (inl j) = just j
+    by (inr b) =
+        subst (λ (d : OnLog). IsLeftByMember (group_of script start) (world (group_of script start) p) m (as_lists d))
+        (sym b.is) (next_is b.next b.before b.logged b.due (k.idle m l.member l.there b.failed))

@@ -1,0 +1,90 @@
+//! Laws of ages that come one after the other.
+ghost use Rattle.std.specs.Prelude.{◌≡◌, ◌≤◌, ◌+◌, [], ℕ, false, length, List, map, Option, slice_get, Some};
+ghost use Rattle.dr_history.specs.Agreement.{accounts_of};
+ghost use Rattle.dr_history.specs.History.{IsPrefixOf};
+ghost use Rattle.dr_history.specs.Members.{has};
+ghost use Rattle.dr_history.specs.Order.{first_entries};
+ghost use Rattle.dr_history.specs.Restarting.{Kept};
+ghost use Rattle.dr_history.specs.Soundness.{whole_roster};
+ghost use Rattle.dr_log_bytes.specs.Content.{OnLog};
+ghost use Rattle.dr_machine.specs.Group.{IsGroup, IsPresent};
+ghost use Rattle.dr_machine.specs.Run.{IsReached};
+ghost use Rattle.dr_machine.specs.World.{World};
+ghost use Rattle.dr_program.specs.Program.{Program, end_at};
+ghost use Rattle.dr_program.specs.Reading.{world};
+ghost use Rattle.dr_restart.specs.declared.lists.Attempt.{Attempt};
+ghost use Rattle.dr_restart.specs.declared.lists.LogLists.{LogLists};
+ghost use Rattle.dr_restart.specs.declared.start.Start.{Start};
+ghost use Rattle.dr_restart.specs.Groups.{first_group_of, group_of};
+ghost use Rattle.dr_restart.specs.Left.{AreLeft, IsLeftByOther};
+ghost use Rattle.dr_restart.specs.Refusing.{IsRefusedFor, Refusal};
+ghost use Rattle.dr_restart.specs.Refusing.Refusal.{AgesUsedUp};
+ghost use Rattle.dr_restart.specs.Trying.{IsTry};
+ghost use Rattle.dr_script.specs.declared.script.Script.{Script};
+ghost use Rattle.dr_script.specs.Ranges.{HasGroupRanges};
+ghost use Rattle.dr_words.specs.Masks.{IsMajorityOf};
+ghost use Rattle.dr_quorum.specs.Handing.{handed_by};
+ghost use Rattle.dr_quorum_laws.specs.Holding.{AreSoundTries, HaveNoLaterVotes, HoldSince};
+ghost use Rattle.dr_opening.specs.Lists.{all_as_lists};
+ghost use Rattle.dr_opening.specs.Tries.{AreAmong, IsChosenOf};
+ghost use Rattle.dr_kept.specs.Leaving.{AreLeftFrom, IsAgeOfChoice};
+
+/// An age that began with what was chosen of some logs is one of a group, in a world that is reached, and more
+/// than half of the roster is there in it. Wherever its members stop, the logs of all members of the roster are
+/// such as it may leave, if those that were missing are; so they hold with no tries. And where that age was
+/// opened by a try on logs that held since an earlier one, those that were missing are.
+pub fn ages_leave_what_holds()
+    ensures reached { (script : Script) (start : Start) (nth : ℕ) (found : List (Option OnLog)) (p : Program)
+        → HasGroupRanges script → 1 ≤ script.turns → IsAgeOfChoice script start nth found p
+        → IsGroup (group_of script start)
+        × IsReached (group_of script start) (world (group_of script start) p)
+        × IsMajorityOf start.present (whole_roster (group_of script start).opening) }
+    ensures left { (script : Script) (start : Start) (nth : ℕ) (found after : List (Option OnLog)) (p : Program)
+        (logs : List LogLists) → HasGroupRanges script → 1 ≤ script.turns
+        → IsAgeOfChoice script start nth found p → AreLeftFrom start found p after
+        → length logs ≡ script.members → AreAmong after logs
+        → ((m : ℕ) (log : LogLists) → ¬ IsPresent (group_of script start) m → slice_get logs m ≡ Some log
+        → IsLeftByOther (group_of script start) log)
+        → AreLeft (group_of script start) (world (group_of script start) p) logs
+        × HoldSince (group_of script start) (world (group_of script start) p) logs [] logs }
+    ensures behind { (script : Script) (earlier : Start) (w : World) (choice before opened logs : List LogLists)
+        (tries : List Attempt) (try : Attempt) (nth : ℕ) (found after : List (Option OnLog)) (p : Program)
+        → HasGroupRanges script → 1 ≤ script.turns → IsGroup (group_of script earlier)
+        → IsReached (group_of script earlier) w
+        → IsMajorityOf earlier.present (whole_roster (group_of script earlier).opening)
+        → AreLeft (group_of script earlier) w choice → HoldSince (group_of script earlier) w choice tries before
+        → AreSoundTries (group_of script earlier).opening tries → HaveNoLaterVotes earlier.age before
+        → IsTry (group_of script earlier).opening before opened try
+        → IsAgeOfChoice script try.start nth found p → AreLeftFrom try.start found p after
+        → length logs ≡ script.members → AreAmong after logs
+        → ((m : ℕ) → has try.set m ≡ false → slice_get logs m ≡ slice_get opened m)
+        → AreLeft (group_of script try.start) (world (group_of script try.start) p) logs
+        × HoldSince (group_of script try.start) (world (group_of script try.start) p) logs [] logs }
+{}
+
+/// Where the same logs are there again behind an age, the next one keeps what it has delivered durably, begins with
+/// all that its histories began with, and has the next number.
+pub fn kept_from_age_to_age()
+    ensures kept { (script : Script) (start next : Start) (nth : ℕ) (found after : List (Option OnLog)) (p : Program)
+        → HasGroupRanges script → 1 ≤ script.turns → IsAgeOfChoice script start nth found p
+        → AreLeftFrom start found p after → IsChosenOf (first_group_of script).opening after next
+        → Kept (group_of script start).opening (accounts_of (map end_at p.members))
+        (group_of script next).opening }
+    ensures begins { (script : Script) (start next : Start) (nth : ℕ) (found after : List (Option OnLog)) (p : Program)
+        → HasGroupRanges script → 1 ≤ script.turns → IsAgeOfChoice script start nth found p
+        → AreLeftFrom start found p after → IsChosenOf (first_group_of script).opening after next
+        → IsPrefixOf (first_entries (group_of script start).opening) next.entries }
+    ensures numbered { (script : Script) (start next : Start) (nth : ℕ) (found after : List (Option OnLog)) (p : Program)
+        → HasGroupRanges script → 1 ≤ script.turns → IsAgeOfChoice script start nth found p
+        → AreLeftFrom start found p after → IsChosenOf (first_group_of script).opening after next
+        → next.age ≡ start.age + 1 }
+{}
+
+/// And what is on them then is refused only behind the last age, because no number is left.
+pub fn later_ages_lack_a_number_alone()
+    ensures { (script : Script) (start : Start) (nth : ℕ) (found after : List (Option OnLog)) (p : Program)
+        (why : Refusal) → HasGroupRanges script → 1 ≤ script.turns → IsAgeOfChoice script start nth found p
+        → AreLeftFrom start found p after
+        → IsRefusedFor (first_group_of script).opening (handed_by (all_as_lists after)) why
+        → (why ≡ AgesUsedUp) × (start.age ≡ 65535) }
+{}

@@ -1,0 +1,9 @@
+//! What an age leaves on the logs of its members, whichever others are missing, and that the next age keeps it.
+//!
+//! The laws of `dr_quorum_laws` speak of worlds and of lists. Here they are told of a script's program, as it ended,
+//! and of what is on logs, one place for each member.
+#![tactic(auto)]
+
+mod laws;
+
+pub use laws::{ages_leave_what_holds, kept_from_age_to_age, later_ages_lack_a_number_alone};
