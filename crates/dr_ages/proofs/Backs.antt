@@ -1,26 +1,120 @@
 -- Yards whose disks are back under the logs that stand on them.
-use Rattle.std.proofs.Common.{◌≡◌, ◌≢◌, refl, sym, ap, ◌∙◌, subst, ℕ, ◌+◌, ◌<◌, ◌≤◌, ◌⊎◌, inl, inr, le_refl, arith, List, [], ◌∷◌, ◌++◌, length, length-append}
-use Rattle.std.specs.Prelude.{Option, None, Some, slice_get}
+use Rattle.std.proofs.Common.{◌≡◌, ◌≢◌, refl, sym, ap, ◌∙◌, subst, ⊎_elim, ℕ, ◌+◌, ◌<◌, ◌≤◌, ◌⊎◌, inl, inr, le_refl, arith, Bool, true, false, List, [], ◌∷◌, ◌++◌, length, length-append}
+use Rattle.std.specs.Prelude.{Option, None, Some, is_some}
 use Rattle.std.specs.Option.{option_map_or}
-use Rattle.std.proofs.lemmas.Bool.{cases_eq}
-use Rattle.std.proofs.lemmas.Option.{slice_get_cases, slice_get_past, slice_get_within}
+use Rattle.std.proofs.lemmas.Bool.{cases_eq, cases_lt}
+use Rattle.std.proofs.lemmas.List.{get_or_append_left, get_or_past, get_or_push}
 use Rattle.dr_disk.specs.Disk.{Told}
 use Rattle.dr_disk.specs.Images.{Goes}
-use Rattle.dr_history_laws.proofs.Lists.{slice_get-left, slice_get-seam, slice_get-some}
+use Rattle.dr_entry.specs.declared.entry.Entry.{Entry}
+use Rattle.dr_history.specs.Members.{has}
 use Rattle.dr_log.specs.Standing.{KeepsRecords}
 use Rattle.dr_log.specs.State.{LogState}
+use Rattle.dr_logged.specs.Served.{HaveSamePlaces}
+use Rattle.dr_opening.specs.Lists.{log_of}
+use Rattle.dr_program.specs.Presence.{present_at}
+use Rattle.dr_program.proofs.Present.{present_within}
 use Rattle.dr_yard.specs.Yards.{YardState}
-use Rattle.dr_ages.specs.Lent.{AreMounted, IsAlike, with_logs}
+use Rattle.dr_ages.specs.Lent.{AreAllBut, AreMounted, IsAlike, with_logs}
 use Rattle.dr_ages.specs.Opened.{AreLater}
-use Rattle.dr_ages.specs.Passing.{AreKeptSince, GoesOn, IsKeptSince, PassOn}
+use Rattle.dr_ages.specs.Passing.{AreKeptSince, AreUntouched, GoesOn, IsKeptSince, PassOn}
 use Rattle.dr_ages.proofs.Staying.{kept_since, on_since}
 
--- nothing stands behind the end of a list
-slice_get_none : {A : Type 0} (xs : List A) (k : ℕ) → slice_get xs k ≡ None → length xs ≤ k
-slice_get_none xs k none = elim (slice_get_cases xs k).1 [
-  | inl found ↦ absurd (cc (found.2, none))
-  | inr past ↦ past.0
-]
+-- ---- places
+
+-- where one of two is there both are
+pub both_there : {X Y : Type 0} (o : Option X) (p : Option Y) (x : X) → is_some o ≡ is_some p → o ≡ Some x
+    → (y : Y) × (p ≡ Some y)
+both_there o None x same at = absurd (cc (same, ap (λ q. is_some q) at))
+both_there o (Some y) x same at = (y, refl)
+
+pub neither_there : {X Y : Type 0} (o : Option X) (p : Option Y) → is_some o ≡ is_some p → o ≡ None → p ≡ None
+neither_there o None same at = refl
+neither_there o (Some y) same at = absurd (cc (same, ap (λ q. is_some q) at))
+
+-- the log that was there is there
+pub was_there : {D : Type 0} (olds news : List (Option (LogState D))) (m : ℕ) (new : LogState D)
+    → HaveSamePlaces olds news → log_of news m ≡ Some new → (old : LogState D) × (log_of olds m ≡ Some old)
+was_there olds news m new places at = both_there (log_of news m) (log_of olds m) new (places.each m) at
+
+pub stays_there : {D : Type 0} (olds news : List (Option (LogState D))) (m : ℕ) (old : LogState D)
+    → HaveSamePlaces olds news → log_of olds m ≡ Some old → (new : LogState D) × (log_of news m ≡ Some new)
+stays_there olds news m old places at =
+    both_there (log_of olds m) (log_of news m) old (sym (places.each m)) at
+
+pub was_none : {D : Type 0} (olds news : List (Option (LogState D))) (m : ℕ)
+    → HaveSamePlaces olds news → log_of news m ≡ None → log_of olds m ≡ None
+was_none olds news m places at = neither_there (log_of news m) (log_of olds m) (places.each m) at
+
+pub stays_none : {D : Type 0} (olds news : List (Option (LogState D))) (m : ℕ)
+    → HaveSamePlaces olds news → log_of olds m ≡ None → log_of news m ≡ None
+stays_none olds news m places at = neither_there (log_of olds m) (log_of news m) (sym (places.each m)) at
+
+pub same_places : {D : Type 0} (logs : List (Option (LogState D))) → HaveSamePlaces logs logs
+same_places logs = record { all = refl; each = λ m. refl }
+
+pub places_then : {D : Type 0} (a b c : List (Option (LogState D))) → HaveSamePlaces a b → HaveSamePlaces b c
+    → HaveSamePlaces a c
+places_then a b c first next = record {
+  all = next.all ∙ first.all;
+  each = λ m. next.each m ∙ first.each m;
+}
+
+-- the log of a member that is not missing is there, and no other
+pub log_at : {D : Type 0} (missing : ℕ) (logs : List (Option (LogState D))) (m : ℕ) → AreAllBut missing logs
+    → m < length logs → has missing m ≡ false → (log : LogState D) × (log_of logs m ≡ Some log)
+log_at {D} missing logs m but l there = by (log_of logs m) refl
+  where
+    by : (o : Option (LogState D)) → log_of logs m ≡ o → (log : LogState D) × (log_of logs m ≡ Some log)
+    by None at = absurd (cc (but m l, at, there))
+    by (Some log) at = (log, at)
+
+pub not_missing : {D : Type 0} (missing : ℕ) (logs : List (Option (LogState D))) (m : ℕ) (log : LogState D)
+    → AreAllBut missing logs → log_of logs m ≡ Some log → has missing m ≡ false
+not_missing {D} missing logs m log but at = by (has missing m) refl
+  where
+    by : (b : Bool) → has missing m ≡ b → has missing m ≡ false
+    by true is = absurd (cc (but m (present_within logs m log at), at, is))
+    by false is = is
+
+pub missing_at : {D : Type 0} (missing : ℕ) (logs : List (Option (LogState D))) (m : ℕ) → AreAllBut missing logs
+    → m < length logs → log_of logs m ≡ None → has missing m ≡ true
+missing_at {D} missing logs m but l none = by (has missing m) refl
+  where
+    by : (b : Bool) → has missing m ≡ b → has missing m ≡ true
+    by true is = is
+    by false is = absurd (cc (but m l, none, is))
+
+pub none_at : {D : Type 0} (missing : ℕ) (logs : List (Option (LogState D))) (m : ℕ) → AreAllBut missing logs
+    → has missing m ≡ true → log_of logs m ≡ None
+none_at {D} missing logs m but gone = by (log_of logs m) refl
+  where
+    by : (o : Option (LogState D)) → log_of logs m ≡ o → log_of logs m ≡ None
+    by None at = at
+    by (Some log) at = absurd (cc (not_missing missing logs m log but at, gone))
+
+-- a place more at the end
+pub place_before : {X : Type 0} (xs : List (Option X)) (x : Option X) (m : ℕ) → m < length xs
+    → present_at (xs ++ x ∷ []) m ≡ present_at xs m
+place_before xs x m l = get_or_append_left xs (x ∷ []) None m l
+
+pub place_new : {X : Type 0} (xs : List (Option X)) (x : Option X) (m : ℕ) → length xs ≡ m
+    → present_at (xs ++ x ∷ []) m ≡ x
+place_new xs x m at = get_or_push xs x None m at
+
+pub place_past : {X : Type 0} (xs : List (Option X)) (m : ℕ) → length xs ≤ m → present_at xs m ≡ None
+place_past xs m past = get_or_past xs m None past
+
+-- the others stay
+pub place_other : {X : Type 0} (xs : List (Option X)) (x : Option X) (m : ℕ) → m ≢ length xs
+    → present_at (xs ++ x ∷ []) m ≡ present_at xs m
+place_other xs x m apart = ⊎_elim
+    (λ (l : m < length xs). place_before xs x m l)
+    (λ (g : length xs ≤ m). place_past (xs ++ x ∷ []) m (omega (arith, g, apart, length-append xs (x ∷ [])))
+    ∙ sym (place_past xs m g))
+    (cases_lt m (length xs))
+
+-- ---- what is told of disks under logs
 
 -- yards that tell the same are in one state
 pub same_yard : (one other : YardState) → ((m : ℕ) → one.told m ≡ other.told m)
@@ -29,86 +123,95 @@ same_yard one other told faults = λ i. record { told = λ m. told m i; faults =
 
 -- what is told of a disk under a log
 pub told_at : {D : Type 0} (tells : D → Option Told) (faults : D → ℕ) (yard : YardState)
-    (logs : List (LogState D)) (m : ℕ) (log : LogState D) → slice_get logs m ≡ Some log
+    (logs : List (Option (LogState D))) (m : ℕ) (log : LogState D) → log_of logs m ≡ Some log
     → (with_logs tells faults yard logs).told m ≡ tells log.disk
 told_at {D} tells faults yard logs m log here =
     ap (λ (o : Option (LogState D)). option_map_or (λ (log : LogState D). tells log.disk) o (yard.told m)) here
 
 pub faults_at : {D : Type 0} (tells : D → Option Told) (faults : D → ℕ) (yard : YardState)
-    (logs : List (LogState D)) (m : ℕ) (log : LogState D) → slice_get logs m ≡ Some log
+    (logs : List (Option (LogState D))) (m : ℕ) (log : LogState D) → log_of logs m ≡ Some log
     → (with_logs tells faults yard logs).faults m ≡ faults log.disk
 faults_at {D} tells faults yard logs m log here =
     ap (λ (o : Option (LogState D)). option_map_or (λ (log : LogState D). faults log.disk) o (yard.faults m)) here
 
 -- what is told of one under none
-pub told_past : {D : Type 0} (tells : D → Option Told) (faults : D → ℕ) (yard : YardState)
-    (logs : List (LogState D)) (m : ℕ) → length logs ≤ m → (with_logs tells faults yard logs).told m ≡ yard.told m
-told_past {D} tells faults yard logs m past =
-    ap (λ (o : Option (LogState D)). option_map_or (λ (log : LogState D). tells log.disk) o (yard.told m))
-    (slice_get_past logs m past)
+pub told_none : {D : Type 0} (tells : D → Option Told) (faults : D → ℕ) (yard : YardState)
+    (logs : List (Option (LogState D))) (m : ℕ) → log_of logs m ≡ None
+    → (with_logs tells faults yard logs).told m ≡ yard.told m
+told_none {D} tells faults yard logs m none =
+    ap (λ (o : Option (LogState D)). option_map_or (λ (log : LogState D). tells log.disk) o (yard.told m)) none
 
-pub faults_past : {D : Type 0} (tells : D → Option Told) (faults : D → ℕ) (yard : YardState)
-    (logs : List (LogState D)) (m : ℕ) → length logs ≤ m → (with_logs tells faults yard logs).faults m ≡ yard.faults m
-faults_past {D} tells faults yard logs m past =
-    ap (λ (o : Option (LogState D)). option_map_or (λ (log : LogState D). faults log.disk) o (yard.faults m))
-    (slice_get_past logs m past)
+pub faults_none : {D : Type 0} (tells : D → Option Told) (faults : D → ℕ) (yard : YardState)
+    (logs : List (Option (LogState D))) (m : ℕ) → log_of logs m ≡ None
+    → (with_logs tells faults yard logs).faults m ≡ yard.faults m
+faults_none {D} tells faults yard logs m none =
+    ap (λ (o : Option (LogState D)). option_map_or (λ (log : LogState D). faults log.disk) o (yard.faults m)) none
 
 -- logs over the same other disks
 pub same_rest : {D : Type 0} (tells : D → Option Told) (faults : D → ℕ) (one other : YardState)
-    (logs : List (LogState D)) (m : ℕ)
-    → (length logs ≤ m → (one.told m ≡ other.told m) × (one.faults m ≡ other.faults m))
+    (logs : List (Option (LogState D))) (m : ℕ)
+    → (log_of logs m ≡ None → (one.told m ≡ other.told m) × (one.faults m ≡ other.faults m))
     → ((with_logs tells faults one logs).told m ≡ (with_logs tells faults other logs).told m)
     × ((with_logs tells faults one logs).faults m ≡ (with_logs tells faults other logs).faults m)
-same_rest {D} tells faults one other logs m rest = by (slice_get logs m) refl
+same_rest {D} tells faults one other logs m rest = by (log_of logs m) refl
   where
-    by : (o : Option (LogState D)) → slice_get logs m ≡ o
+    by : (o : Option (LogState D)) → log_of logs m ≡ o
         → (option_map_or (λ (log : LogState D). tells log.disk) o (one.told m)
         ≡ option_map_or (λ (log : LogState D). tells log.disk) o (other.told m))
         × (option_map_or (λ (log : LogState D). faults log.disk) o (one.faults m)
         ≡ option_map_or (λ (log : LogState D). faults log.disk) o (other.faults m))
-    by None at = rest (slice_get_none logs m at)
+    by None at = rest at
     by (Some log) at = (refl, refl)
 
 -- under logs as they were mounted no count has changed
 pub counts_still : {D : Type 0} (tells : D → Option Told) (faults : D → ℕ) (before : YardState)
-    (logs : List (LogState D)) → AreMounted tells faults before logs → (m : ℕ)
+    (logs : List (Option (LogState D))) → AreMounted tells faults before logs → (m : ℕ)
     → (with_logs tells faults before logs).faults m ≡ before.faults m
-counts_still {D} tells faults before logs mounted m = by (slice_get logs m) refl
+counts_still {D} tells faults before logs mounted m = by (log_of logs m) refl
   where
-    by : (o : Option (LogState D)) → slice_get logs m ≡ o
+    by : (o : Option (LogState D)) → log_of logs m ≡ o
         → option_map_or (λ (log : LogState D). faults log.disk) o (before.faults m) ≡ before.faults m
     by None at = refl
     by (Some log) at = (mounted m log at).calm
 
+-- the disks of the missing are as they were
+pub untouched_with : {D : Type 0} (tells : D → Option Told) (faults : D → ℕ) (missing : ℕ) (before : YardState)
+    (olds news : List (Option (LogState D))) → AreAllBut missing olds → HaveSamePlaces olds news
+    → AreUntouched missing before (with_logs tells faults before news)
+untouched_with tells faults missing before olds news but places m gone =
+    let none = stays_none olds news m places (none_at missing olds m but gone) in
+    (told_none tells faults before news m none, faults_none tells faults before news m none)
+
 -- disks of mounted logs that went on since, and others that did too
-pub passed_with : {D : Type 0} (tells : D → Option Told) (faults : D → ℕ) (before yard : YardState)
-    (olds news : List (LogState D)) → AreMounted tells faults before olds → AreLater tells faults olds news
-    → length news ≡ length olds
-    → ((m : ℕ) → length olds ≤ m → GoesOn (before.told m) (before.faults m) (yard.told m) (yard.faults m))
-    → PassOn before (with_logs tells faults yard news)
-passed_with {D} tells faults before yard olds news mounted later count rest m = by m (slice_get news m) refl
+pub passed_with : {D : Type 0} (tells : D → Option Told) (faults : D → ℕ) (starts : List (List Entry))
+    (before yard : YardState) (olds news : List (Option (LogState D))) → AreMounted tells faults before olds
+    → AreLater tells faults starts olds news → HaveSamePlaces olds news
+    → ((m : ℕ) → log_of olds m ≡ None
+    → GoesOn starts (before.told m) (before.faults m) (yard.told m) (yard.faults m))
+    → PassOn starts before (with_logs tells faults yard news)
+passed_with {D} tells faults starts before yard olds news mounted later places rest m = by (log_of news m) refl
   where
-    by : (m : ℕ) (o : Option (LogState D)) → slice_get news m ≡ o
-        → GoesOn (before.told m) (before.faults m)
+    by : (o : Option (LogState D)) → log_of news m ≡ o
+        → GoesOn starts (before.told m) (before.faults m)
         (option_map_or (λ (log : LogState D). tells log.disk) o (yard.told m))
         (option_map_or (λ (log : LogState D). faults log.disk) o (yard.faults m))
-    by m None at = rest m (omega (arith, slice_get_none news m at, count))
-    by m (Some new) at =
-        let old = slice_get-some olds m (omega (arith, slice_get_within news m new at, count)) in
-        on_since tells faults (before.told m) (before.faults m) old.0 new (mounted m old.0 old.1)
+    by None at = rest m (was_none olds news m places at)
+    by (Some new) at =
+        let old = was_there olds news m new places at in
+        on_since tells faults starts (before.told m) (before.faults m) old.0 new (mounted m old.0 old.1)
         (later m old.0 new old.1 at)
 
 -- the disks of these logs are back in their yard, which is else as it was
-abbrev pub AreAllBack : {D : Type 0} → (D → Option Told) → (D → ℕ) → YardState → YardState → List (LogState D)
-    → Type 0
+abbrev pub AreAllBack : {D : Type 0} → (D → Option Told) → (D → ℕ) → YardState → YardState
+    → List (Option (LogState D)) → Type 0
 AreAllBack {D} tells faults mid after logs =
     (m : ℕ) → (after.told m ≡ (with_logs tells faults mid logs).told m)
     × (after.faults m ≡ (with_logs tells faults mid logs).faults m)
 
 -- what is told behind them, where the disks are back and the others are as they were
 pub after_is : {D : Type 0} (tells : D → Option Told) (faults : D → ℕ) (before mid after : YardState)
-    (logs : List (LogState D))
-    → ((m : ℕ) → length logs ≤ m → (mid.told m ≡ before.told m) × (mid.faults m ≡ before.faults m))
+    (logs : List (Option (LogState D)))
+    → ((m : ℕ) → log_of logs m ≡ None → (mid.told m ≡ before.told m) × (mid.faults m ≡ before.faults m))
     → AreAllBack tells faults mid after logs
     → with_logs tells faults before logs ≡ after
 after_is tells faults before mid after logs rest back =
@@ -116,114 +219,144 @@ after_is tells faults before mid after logs rest back =
     (λ m. sym ((back m).0 ∙ (same_rest tells faults mid before logs m (rest m)).0))
     (λ m. sym ((back m).1 ∙ (same_rest tells faults mid before logs m (rest m)).1))
 
-pub passed_back : {D : Type 0} (tells : D → Option Told) (faults : D → ℕ) (before mid after : YardState)
-    (olds news : List (LogState D)) → AreMounted tells faults before olds → AreLater tells faults olds news
-    → length news ≡ length olds
-    → ((m : ℕ) → length olds ≤ m → GoesOn (before.told m) (before.faults m) (mid.told m) (mid.faults m))
+pub passed_back : {D : Type 0} (tells : D → Option Told) (faults : D → ℕ) (starts : List (List Entry))
+    (before mid after : YardState) (olds news : List (Option (LogState D))) → AreMounted tells faults before olds
+    → AreLater tells faults starts olds news → HaveSamePlaces olds news
+    → ((m : ℕ) → log_of olds m ≡ None
+    → GoesOn starts (before.told m) (before.faults m) (mid.told m) (mid.faults m))
     → AreAllBack tells faults mid after news
-    → PassOn before after
-passed_back tells faults before mid after olds news mounted later count rest back =
-    subst (λ (y : YardState). PassOn before y)
+    → PassOn starts before after
+passed_back tells faults starts before mid after olds news mounted later places rest back =
+    subst (λ (y : YardState). PassOn starts before y)
     (sym (same_yard after (with_logs tells faults mid news) (λ m. (back m).0) (λ m. (back m).1)))
-    (passed_with tells faults before mid olds news mounted later count rest)
+    (passed_with tells faults starts before mid olds news mounted later places rest)
 
 -- so what was on the disks as these logs were mounted is kept
-pub kept_back : {D : Type 0} (tells : D → Option Told) (faults : D → ℕ) (members : ℕ) (before mid after : YardState)
-    (olds news : List (LogState D)) → AreMounted tells faults before olds → AreLater tells faults olds news
-    → length news ≡ length olds
-    → ((m : ℕ) → length olds ≤ m → IsAlike (before.told m) (before.faults m) (mid.told m) (mid.faults m))
+pub kept_back : {D : Type 0} (tells : D → Option Told) (faults : D → ℕ) (members missing : ℕ)
+    (starts : List (List Entry)) (before mid after : YardState) (olds news : List (Option (LogState D)))
+    → AreMounted tells faults before olds → AreAllBut missing olds → AreLater tells faults starts olds news
+    → HaveSamePlaces olds news
+    → ((m : ℕ) → log_of olds m ≡ None → IsAlike (before.told m) (before.faults m) (mid.told m) (mid.faults m))
     → AreAllBack tells faults mid after news
-    → AreKeptSince members (length olds) before after
-kept_back {D} tells faults members before mid after olds news mounted later count rest back = record {
-  kept = λ m l.
-      let old = slice_get-some olds m l in
-      let new = slice_get-some news m (omega (arith, l, count)) in
-      subst (IsKeptSince (before.told m)) (sym ((back m).0 ∙ told_at tells faults mid news m new.0 new.1))
-      (kept_since tells faults (before.told m) (before.faults m) old.0 new.0 (mounted m old.0 old.1)
-      (later m old.0 new.0 old.1 new.1));
-  others = λ m past l.
-      subst (λ (o : Option Told). Goes (before.told m) o KeepsRecords)
-      (sym ((back m).0 ∙ told_past tells faults mid news m (omega (arith, past, count)))) (rest m past).moments;
-}
+    → AreKeptSince members missing (length olds) starts before after
+kept_back {D} tells faults members missing starts before mid after olds news mounted but later places rest back =
+    record {
+      kept = λ m l there.
+          let old = log_at missing olds m but l there in
+          let new = stays_there olds news m old.0 places old.1 in
+          subst (IsKeptSince starts (before.told m))
+          (sym ((back m).0 ∙ told_at tells faults mid news m new.0 new.1))
+          (kept_since tells faults starts (before.told m) (before.faults m) old.0 new.0 (mounted m old.0 old.1)
+          (later m old.0 new.0 old.1 new.1));
+      others = λ m past l.
+          subst (λ (o : Option Told). Goes (before.told m) o KeepsRecords)
+          (sym ((back m).0 ∙ told_none tells faults mid news m
+          (stays_none olds news m places (place_past olds m past))))
+          (rest m (place_past olds m past)).moments;
+    }
 
 -- where the logs are as they were mounted, a crash would leave what it might have left before them
 pub alike_back : {D : Type 0} (tells : D → Option Told) (faults : D → ℕ) (before mid after : YardState)
-    (logs : List (LogState D)) → AreMounted tells faults before logs
-    → ((m : ℕ) → length logs ≤ m → IsAlike (before.told m) (before.faults m) (mid.told m) (mid.faults m))
+    (logs : List (Option (LogState D))) → AreMounted tells faults before logs
+    → ((m : ℕ) → log_of logs m ≡ None → IsAlike (before.told m) (before.faults m) (mid.told m) (mid.faults m))
     → AreAllBack tells faults mid after logs
     → (m : ℕ) → Goes (before.told m) (after.told m) KeepsRecords
 alike_back {D} tells faults before mid after logs mounted rest back m =
-    subst (λ (o : Option Told). Goes (before.told m) o KeepsRecords) (sym (back m).0) (by (slice_get logs m) refl)
+    subst (λ (o : Option Told). Goes (before.told m) o KeepsRecords) (sym (back m).0) (by (log_of logs m) refl)
   where
-    by : (o : Option (LogState D)) → slice_get logs m ≡ o
+    by : (o : Option (LogState D)) → log_of logs m ≡ o
         → Goes (before.told m) (option_map_or (λ (log : LogState D). tells log.disk) o (mid.told m)) KeepsRecords
-    by None at = (rest m (slice_get_none logs m at)).moments
+    by None at = (rest m at).moments
     by (Some log) at = (mounted m log at).on.moments
 
 -- a disk that is back has counted no fewer faults than its yard had
 pub later_back : {D : Type 0} (tells : D → Option Told) (faults : D → ℕ) (mid after : YardState)
-    (logs : List (LogState D))
-    → ((m : ℕ) (log : LogState D) → slice_get logs m ≡ Some log → mid.faults m ≤ faults log.disk)
+    (logs : List (Option (LogState D)))
+    → ((m : ℕ) (log : LogState D) → log_of logs m ≡ Some log → mid.faults m ≤ faults log.disk)
     → AreAllBack tells faults mid after logs
     → (m : ℕ) → mid.faults m ≤ after.faults m
 later_back {D} tells faults mid after logs counted back m =
-    subst (λ (n : ℕ). mid.faults m ≤ n) (sym (back m).1) (by (slice_get logs m) refl)
+    subst (λ (n : ℕ). mid.faults m ≤ n) (sym (back m).1) (by (log_of logs m) refl)
   where
-    by : (o : Option (LogState D)) → slice_get logs m ≡ o
+    by : (o : Option (LogState D)) → log_of logs m ≡ o
         → mid.faults m ≤ option_map_or (λ (log : LogState D). faults log.disk) o (mid.faults m)
     by None at = le_refl (mid.faults m)
     by (Some log) at = counted m log at
 
 -- ---- disks that are given back, the last one first
 
+-- those of the last places are back, and the others are as they were under their logs
 pub record AreBack {D : Type 0} (tells : D → Option Told) (faults : D → ℕ) (first : YardState)
-    (all : List (LogState D)) (yard : YardState) (logs : List (LogState D)) : Type 0 where
+    (all : List (Option (LogState D))) (yard : YardState) (logs : List (Option (LogState D))) : Type 0 where
   pub few : length logs ≤ length all
-  pub same : (m : ℕ) → m < length logs → slice_get logs m ≡ slice_get all m
+  pub same : (m : ℕ) → m < length logs → log_of logs m ≡ log_of all m
+  pub rest : (m : ℕ) → m < length logs → (yard.told m ≡ first.told m) × (yard.faults m ≡ first.faults m)
   pub back : (m : ℕ) → length logs ≤ m → (yard.told m ≡ (with_logs tells faults first all).told m)
       × (yard.faults m ≡ (with_logs tells faults first all).faults m)
 
 pub none_back : {D : Type 0} (tells : D → Option Told) (faults : D → ℕ) (first : YardState)
-    (all : List (LogState D)) → AreBack tells faults first all first all
+    (all : List (Option (LogState D))) → AreBack tells faults first all first all
 none_back {D} tells faults first all = record {
   few = omega arith;
   same = λ m l. refl;
+  rest = λ m l. (refl, refl);
   back = λ m past. (
-    ap (λ (o : Option (LogState D)). option_map_or (λ (log : LogState D). tells log.disk) o (first.told m))
-        (sym (slice_get_past all m past)),
-    ap (λ (o : Option (LogState D)). option_map_or (λ (log : LogState D). faults log.disk) o (first.faults m))
-        (sym (slice_get_past all m past)),
+    sym (told_none tells faults first all m (place_past all m past)),
+    sym (faults_none tells faults first all m (place_past all m past)),
   );
 }
 
 pub one_more_back : {D : Type 0} (tells : D → Option Told) (faults : D → ℕ) (first : YardState)
-    (all : List (LogState D)) (old new : YardState) (logs rest : List (LogState D)) (log : LogState D)
-    → AreBack tells faults first all old logs → logs ≡ rest ++ log ∷ []
-    → new.told (length rest) ≡ tells log.disk → new.faults (length rest) ≡ faults log.disk
+    (all : List (Option (LogState D))) (old new : YardState) (logs rest : List (Option (LogState D)))
+    (place : Option (LogState D))
+    → AreBack tells faults first all old logs → logs ≡ rest ++ place ∷ []
+    → new.told (length rest) ≡ option_map_or (λ (log : LogState D). tells log.disk) place (old.told (length rest))
+    → new.faults (length rest)
+    ≡ option_map_or (λ (log : LogState D). faults log.disk) place (old.faults (length rest))
     → ((m : ℕ) → m ≢ length rest → (new.told m ≡ old.told m) × (new.faults m ≡ old.faults m))
     → AreBack tells faults first all new rest
-one_more_back {D} tells faults first all old new logs rest log are parts told count others = record {
+one_more_back {D} tells faults first all old new logs rest place are parts told count others = record {
   few = omega (arith, are.few, long);
-  same = λ m l. sym (slice_get-left rest (log ∷ []) m l)
-      ∙ (ap (λ (xs : List (LogState D)). slice_get xs m) (sym parts) ∙ are.same m (omega (arith, l, long)));
+  same = λ m l. sym (place_before rest place m l)
+      ∙ (ap (λ (xs : List (Option (LogState D))). log_of xs m) (sym parts) ∙ are.same m (omega (arith, l, long)));
+  rest = λ m l.
+      let o = others m (λ e. absurd (omega (arith, l, e))) in
+      let r = are.rest m (omega (arith, l, long)) in
+      (o.0 ∙ r.0, o.1 ∙ r.1);
   back = λ m past. by m past (cases_eq m (length rest));
 }
   where
     long : length logs ≡ length rest + 1
-    long = ap length parts ∙ length-append rest (log ∷ [])
+    long = ap length parts ∙ length-append rest (place ∷ [])
 
-    here : slice_get all (length rest) ≡ Some log
+    here : log_of all (length rest) ≡ place
     here = sym (are.same (length rest) (omega (arith, long)))
-        ∙ (ap (λ (xs : List (LogState D)). slice_get xs (length rest)) parts ∙ slice_get-seam rest log [])
+        ∙ (ap (λ (xs : List (Option (LogState D))). log_of xs (length rest)) parts
+        ∙ place_new rest place (length rest) refl)
+
+    -- under the place the disk was as at first
+    before : (old.told (length rest) ≡ first.told (length rest))
+        × (old.faults (length rest) ≡ first.faults (length rest))
+    before = are.rest (length rest) (omega (arith, long))
+
+    told_here : new.told (length rest) ≡ (with_logs tells faults first all).told (length rest)
+    told_here = told
+        ∙ (ap (λ (t : Option Told). option_map_or (λ (log : LogState D). tells log.disk) place t) before.0
+        ∙ ap (λ (o : Option (LogState D)).
+        option_map_or (λ (log : LogState D). tells log.disk) o (first.told (length rest))) (sym here))
+
+    count_here : new.faults (length rest) ≡ (with_logs tells faults first all).faults (length rest)
+    count_here = count
+        ∙ (ap (λ (n : ℕ). option_map_or (λ (log : LogState D). faults log.disk) place n) before.1
+        ∙ ap (λ (o : Option (LogState D)).
+        option_map_or (λ (log : LogState D). faults log.disk) o (first.faults (length rest))) (sym here))
 
     by : (m : ℕ) → length rest ≤ m → (m ≡ length rest) ⊎ (m ≢ length rest)
         → (new.told m ≡ (with_logs tells faults first all).told m)
         × (new.faults m ≡ (with_logs tells faults first all).faults m)
     by m past (inl at) =
-        let there : slice_get all m ≡ Some log = ap (slice_get all) at ∙ here in (
-          ap new.told at ∙ (told ∙ sym (told_at tells faults first all m log there)),
-          ap new.faults at ∙ (count ∙ sym (faults_at tells faults first all m log there)),
-        )
+        subst (λ (k : ℕ). (new.told k ≡ (with_logs tells faults first all).told k)
+        × (new.faults k ≡ (with_logs tells faults first all).faults k)) (sym at) (told_here, count_here)
     by m past (inr apart) =
         let o = others m apart in
         let b = are.back m (omega (arith, past, apart, long)) in

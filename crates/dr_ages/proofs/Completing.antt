@@ -10,11 +10,12 @@ use Rattle.dr_entry.specs.declared.end.AgeEnd.{AgeEnd}
 use Rattle.dr_entry.specs.declared.end.End.{End}
 use Rattle.dr_entry.specs.declared.end.End.TheVariants as ends
 use Rattle.dr_entry.specs.declared.end.MemberEnd.{MemberEnd}
-use Rattle.dr_machine.specs.Group.{IsGroup}
+use Rattle.dr_machine.specs.Group.{AllPresent, IsGroup}
 use Rattle.dr_program.specs.declared.outcome.LogWhy.{LogWhy}
 use Rattle.dr_program.specs.declared.outcome.LogWhy.TheVariants as whys
-use Rattle.dr_program.specs.Program.{AllEnded, Program, end_of}
-use Rattle.dr_program.specs.Running.{Running, end_by}
+use Rattle.dr_program.specs.Program.{AllEnded, Program, end_at, end_of}
+use Rattle.dr_program.specs.Running.{end_by}
+use Rattle.dr_program.proofs.Present.{ended_there, present_slice}
 use Rattle.dr_program_laws.specs.Ended.{AreComplete}
 use Rattle.dr_program_laws.specs.Failing.{AreFailing}
 use Rattle.dr_restart.specs.declared.start.Start.{Start}
@@ -32,15 +33,14 @@ by_log whys.DiskFault o is none = absurd (cc)
 by_log (whys.LogFull len) o is none = absurd (cc)
 
 -- where no member was ended by its log, no append has failed
-none_failed : (p : Program) → AllEnded p → AreFailing p → NoneStopped (map end_of p.members)
+none_failed : (p : Program) → AllEnded p → AreFailing p → NoneStopped (map end_at p.members)
     → SomeFailed p → ⊥
 none_failed p ended failing stopped (m, r, why, there, at) =
     elim ((failing m r there).broken why at) [
-      | inl still ↦ going r.replica.end still.0
-          (each_at (λ (x : Running). IsTrue (is_some x.replica.end)) p.members m r ended there)
+      | inl still ↦ going r.replica.end still.0 (ended_there p m r ended there)
       | inr over ↦ by_log why r.replica.end over
-          (each_at (λ (e : MemberEnd). why_ended e.end ≡ None) (map end_of p.members) m (end_of r) stopped
-          (slice_get-map end_of p.members m ∙ ap (option_map end_of) there))
+          (each_at (λ (e : MemberEnd). why_ended e.end ≡ None) (map end_at p.members) m (end_of r) stopped
+          (slice_get-map end_at p.members m ∙ ap (option_map end_at) (present_slice p.members m r there)))
     ]
   where
     going : (o : Option End) → o ≡ None → IsTrue (is_some o) → ⊥
@@ -49,13 +49,14 @@ none_failed p ended failing stopped (m, r, why, there, at) =
 
 -- a script that gives its members time enough makes them complete in an age of which no log failed
 pub complete_by_time : (script : Script) (start : Start) (nth : ℕ) (age : AgeEnd)
-    → IsGroup (group_of script start) → HasRanges script → IsSimulated script start nth age → HasTime script
+    → IsGroup (group_of script start) → AllPresent (group_of script start) → HasRanges script
+    → IsSimulated script start nth age → HasTime script
     → NoneStopped age.members
     → AreComplete (group_of script start).opening age.members
-complete_by_time script start nth age is ranges sim time stopped =
+complete_by_time script start nth age is whole ranges sim time stopped =
     subst (λ (a : AgeEnd). AreComplete (group_of script start).opening a.members) (sym sim.told)
     (elim sim.run.well [
-      | inl well ↦ completes_by_script script start nth sim.begun sim.over sim.run.moves is ranges time
+      | inl well ↦ completes_by_script script start nth sim.begun sim.over sim.run.moves is whole ranges time
           sim.begins well (subst (λ (schedule : Schedule). IsRunBy schedule sim.begun sim.run.moves sim.over)
           time.lockstep sim.run.by)
       | inr failed ↦ absurd (none_failed sim.over (schedule_ends script.schedule sim.begun sim.over sim.run)

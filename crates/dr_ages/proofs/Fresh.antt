@@ -1,108 +1,223 @@
--- Runs whose logs have room for all that they bring, as those over empty disks.
-use Rattle.std.proofs.Common.{◌≡◌, refl, sym, ap, ◌∙◌, subst, ℕ, zero, suc, ◌+◌, ◌*◌, ◌^◌, ◌<◌, ◌≤◌, arith, List, [], ◌∷◌, length, take, drop, filter, length-append, take_at, drop_at}
-use Rattle.std.specs.Prelude.{All, IsSomeAnd, IsTrue, Option, None, Some, is_some, slice_get}
-use Rattle.std.proofs.lemmas.List.Elements.{All-head, All-tail}
-use Rattle.std.proofs.lemmas.List.Sums.{sum_by-cons}
+-- Runs whose logs have room for all that they bring, as those over empty disks. None of their logs is missing.
+use Rattle.std.proofs.Common.{◌≡◌, ◌⊎◌, refl, sym, ap, ◌∙◌, subst, inl, inr, ℕ, zero, suc, ◌+◌, ◌*◌, ◌^◌, ◌<◌, ◌≤◌, arith, not, true, List, [], ◌∷◌, ◌++◌, length, length-append, take, drop, drop_at, append_assoc}
+use Rattle.std.specs.Option.{option_map_or}
+use Rattle.std.specs.Prelude.{All, IfSome, IsSomeAnd, IsTrue, Option, None, Some, is_some, slice_get}
+use Rattle.std.proofs.lemmas.List.{drop-append-le, length-map}
+use Rattle.std.proofs.lemmas.List.Elements.{All-drop}
+use Rattle.std.proofs.lemmas.List.Sums.{sum_by_push}
+use Rattle.std.proofs.lemmas.Nat.{mul-le}
 use Rattle.std.proofs.lemmas.Option.{same_Some, slice_get_within}
-use Rattle.dr_disk.specs.Disk.{Told, content_of}
+use Rattle.dr_age.proofs.Ends.{short_votes}
+use Rattle.dr_age.specs.Logged.{NoneFull}
+use Rattle.dr_disk.specs.Disk.{Told, content_of, state_of}
+use Rattle.dr_disk.specs.Images.{IsImage}
 use Rattle.dr_entry.specs.declared.end.AgeEnd.{AgeEnd}
 use Rattle.dr_entry.specs.declared.end.MemberEnd.{MemberEnd}
-use Rattle.dr_logged.specs.Left.{IsLeftOf}
 use Rattle.dr_entry.specs.declared.entry.Entry.{Entry}
-use Rattle.dr_entry.specs.declared.entry.Entry.TheVariants.{View, Msg}
-use Rattle.dr_entry.specs.Spelling.{IsValidEntry, entry_spelling}
-use Rattle.dr_gather.specs.Gathering.{IsStartOf}
+use Rattle.dr_entry.specs.declared.entry.Entry.TheVariants.{View}
+use Rattle.dr_entry.specs.declared.limits.TheConstants.{MAX_MEMBERS}
+use Rattle.dr_entry.specs.declared.record.Record.{Record}
+use Rattle.dr_entry.specs.declared.record.Record.TheVariants as records
+use Rattle.dr_entry.specs.declared.record.Vote.{Vote}
+use Rattle.dr_entry.specs.Spelling.{IsValidVote, entry_spelling, vote_spelling}
+use Rattle.dr_gather.specs.CatchingUp.{opened_with}
+use Rattle.dr_gather.specs.Gathering.{AreAccepted}
 use Rattle.dr_gather.proofs.Catching.{part_of_opened}
-use Rattle.dr_gather.proofs.Grouping.{part_of_start, start_group, start_valid}
-use Rattle.dr_history.specs.declared.opening.Opening.{Opening}
-use Rattle.dr_history.specs.Agreement.{accounts_of, sent_by}
-use Rattle.dr_history.specs.History.{GroupView, IsPrefixOf, Sent, view_after, view_of}
-use Rattle.dr_history.specs.Members.{members_of}
-use Rattle.dr_history.specs.Order.{InOrder, IsSucceededBy, first_entries}
-use Rattle.dr_history.specs.Restarting.{IsLongest, next_age}
-use Rattle.dr_history.proofs.ViewLemmas.{view_of-View, view_of-Msg}
-use Rattle.dr_history_laws.proofs.Lengths.{is_message, start-few, stood-told}
-use Rattle.dr_history_laws.proofs.Lists.{IsSomeAnd-at, slice_get-some, take-next}
-use Rattle.dr_log.specs.Standing.{entries_length}
-use Rattle.dr_log.proofs.Growing.{entries_length-append, short_block}
-use Rattle.dr_log_bytes.specs.Content.{OnLog}
+use Rattle.dr_history.specs.History.{IsPrefixOf}
+use Rattle.dr_history.specs.Order.{first_entries}
+use Rattle.dr_history_laws.proofs.Lists.{slice_get-some}
+use Rattle.dr_kept.proofs.Following.{among_lists, handed_there, lists_with}
+use Rattle.dr_log.specs.Standing.{entries_length, votes_length}
+use Rattle.dr_log.proofs.Growing.{entries_length-append}
+use Rattle.dr_log_bytes.specs.Content.{OnLog, empty_of, with_record}
+use Rattle.dr_log_bytes.specs.Grammar.{StandFor}
+use Rattle.dr_log_bytes.proofs.Meaning.{content_once}
+use Rattle.dr_logged.specs.Served.{IsRecordDue}
+use Rattle.dr_opening.specs.Contents.{IsCutFor, IsOpenFor, IsRisingStep, IsVoteStep, voted_for}
+use Rattle.dr_opening.specs.Lists.{all_as_lists, as_lists}
+use Rattle.dr_opening.specs.Tries.{IsChosenOf, content_at}
+use Rattle.dr_opening.proofs.Lists.{handed_is, voted_lists, within_places}
+use Rattle.dr_opening.proofs.Trying.{chosen_by}
+use Rattle.dr_opening.proofs.Ways.{open_entries}
+use Rattle.dr_opening.proofs.Whole.{all_in_set, entries_among, front_of_longest}
+use Rattle.dr_program.specs.Program.{member_end}
+use Rattle.dr_program.specs.Replica.{Replica}
+use Rattle.dr_quorum.specs.Handing.{handed_by}
+use Rattle.dr_quorum_laws.proofs.Lists.{in-nothing}
+use Rattle.dr_quorum_laws.proofs.Longest.{longest-chosen}
+use Rattle.dr_quorum_laws.proofs.Refusals.{one-start}
+use Rattle.dr_restart.specs.declared.lists.LogLists.{LogLists}
 use Rattle.dr_restart.specs.declared.start.Start.{Start}
-use Rattle.dr_restart.specs.Groups.{group_of}
+use Rattle.dr_restart.specs.Choosing.{AreOfHolders, AreOfNobody, HasAge, IsChosenStart}
+use Rattle.dr_restart.specs.Groups.{first_group_of}
+use Rattle.dr_restart.specs.Left.{entries_on_logs}
+use Rattle.dr_restart.specs.Refusing.{Refusal}
+use Rattle.dr_restart.specs.Trying.{age_vote_of}
 use Rattle.dr_script.specs.declared.script.Script.{Script}
-use Rattle.dr_script.specs.Ranges.{HasGroupRanges}
-use Rattle.dr_age.specs.Logged.{NoneFull}
+use Rattle.dr_script.specs.Ranges.{HasGroupRanges, HasRanges}
+use Rattle.dr_words.proofs.Bits.{has_zero}
 use Rattle.dr_yard.specs.Yards.{AllTell, AreEmpty, YardState}
 use Rattle.dr_ages.specs.declared.mode.Mode.{Mode}
 use Rattle.dr_ages.specs.declared.stop.Stop.{Stop}
-use Rattle.dr_ages.specs.declared.stop.Stop.TheVariants.{OutOfMemory, DiskFault, LogFull, Damaged, Disagree, Foreign, AgesUsedUp}
-use Rattle.dr_ages.specs.Ages.{AreAges, IsAgeOf, opening_of}
-use Rattle.dr_ages.specs.Found.{AreFew, AreFound, AreRoomy}
-use Rattle.dr_ages.specs.Stops.{HasStopped, IsOutside, IsTooFull}
+use Rattle.dr_ages.specs.declared.stop.Stop.TheVariants.{OutOfMemory, DiskFault, LogFull, Damaged, Disagree, Foreign, NoQuorum, AgesUsedUp}
+use Rattle.dr_ages.specs.Ages.{AreAges, IsAgeOf, IsMemberOf, opening_of, start_of}
+use Rattle.dr_ages.specs.Found.{AreFew, AreFound, AreRoomy, NoneMissing, ReadsAs}
+use Rattle.dr_ages.specs.Left.{HasLeft, with_logged}
+use Rattle.dr_ages.specs.Stops.{AreOpenBelow, AreRefusedFor, HasStopped, HaveVotesBelow, IsOutside, IsTooFull}
 use Rattle.dr_ages.proofs.Chain.{tell_on}
 use Rattle.dr_ages.proofs.Fit.{age_leaves_good}
-use Rattle.dr_ages.proofs.Good.{IsGood, empty_found, empty_good, good_never, part_of_history}
-use Rattle.dr_ages.proofs.Keeping.{IsBehind, behind, found_begins, found_left, left_begins, longest_begins}
-use Rattle.dr_ages.proofs.Reading.{found_read, longest_once, read_once}
+use Rattle.dr_ages.proofs.Good.{IsGood, empty_found, empty_good, found_of, found_whole, good_never}
+use Rattle.dr_ages.proofs.Keeping.{IsBehind, age_next, behind, ended_over, image_entries, left_begins}
+use Rattle.dr_ages.proofs.Reading.{found_read, read_once}
+use Rattle.dr_ages.proofs.Refusals.{refused_after}
+use Rattle.dr_ages.proofs.Short.{found_short, next_long, opened_short, voted_long}
+use Rattle.dr_ages.proofs.Votes.{found_valid}
 
--- ---- the view of what an age leaves
+-- ---- what an age brings to a log
 
--- behind View 0 a history in order is in views of its age
-age_after : (o : Opening) (sent : Sent) (h : List Entry) (i d : ℕ) (u : GroupView) → InOrder o sent h
-    → length o.start < i → i + d ≤ length h → view_of (take i h) ≡ Some u
-    → (w : GroupView) × (view_of (take (i + d) h) ≡ Some w) × (w.age ≡ u.age)
-age_after o sent h i zero u order l within e =
-    let same : i + 0 ≡ i = omega arith in
-    (u, ap (λ j. view_of (take j h)) same ∙ e, refl)
-age_after o sent h i (suc d) u order l within e =
-    next (age_after o sent h i d u order l (omega arith) e) (slice_get-some h (i + d) (omega arith))
+-- behind what stood on a log as the age began: little but the entries that came
+abbrev HasFewMore : OnLog → OnLog → Type 0
+HasFewMore base c = c.length ≤ base.length + 18688 + entries_length (drop (length base.entries) c.entries)
+
+image_few : (t : Told) (image : List ℕ) (n : ℕ) (r : Replica) (c base : OnLog) → IsImage (state_of t) image
+    → StandFor image c → n ≤ MAX_MEMBERS → IsMemberOf n r → IsPrefixOf base.entries (take r.logged r.history)
+    → All IsValidVote c.votes → HasLeft (Some t) r base → HasFewMore base c
+image_few t image n r c base is reads most of begins valid left = by left
   where
-    place : i + suc d ≡ i + d + 1
-    place = omega arith
+    -- the votes of a group are few
+    few : length r.votes ≤ MAX_MEMBERS * MAX_MEMBERS
+    few = omega (arith, of.few, mul-le n n MAX_MEMBERS MAX_MEMBERS most most)
 
-    next : (w : GroupView) × (view_of (take (i + d) h) ≡ Some w) × (w.age ≡ u.age)
-        → (x : Entry) × (slice_get h (i + d) ≡ Some x)
-        → (w : GroupView) × (view_of (take (i + suc d) h) ≡ Some w) × (w.age ≡ u.age)
-    next r (View a n m, at) =
-        let succeeded = IsSomeAnd-at (view_of (take (i + d) h)) (λ v. IsSucceededBy v a n m) r.0 r.1
-        (order.views (i + d) a n m (omega (arith, l)) at) in (
-          record { age = a; number = n; members = members_of m },
-          ap (λ j. view_of (take j h)) place
-              ∙ (ap view_of (take-next h (i + d) (View a n m) at) ∙ view_of-View (take (i + d) h) a n m),
-          succeeded.follows.same_age ∙ r.2,
+    same_as : (d : OnLog) → StandFor image d → c ≡ d
+    same_as d here = content_once image c d reads here
+
+    -- so they are short
+    short : (more : List Vote) → c.votes ≡ base.votes ++ more → length more ≤ MAX_MEMBERS * MAX_MEMBERS
+        → votes_length more ≤ 18688
+    short more parts less =
+        let behind : All IsValidVote more =
+        subst (All IsValidVote) (ap (drop (length base.votes)) parts
+        ∙ drop_at base.votes more (length base.votes) refl)
+        (All-drop IsValidVote (length base.votes) c.votes valid) in
+        omega (arith, short_votes more (λ k d l. (behind k d l).members), less)
+
+    -- just what is logged
+    just : StandFor image (with_logged base r) → HasFewMore base c
+    just s =
+        let same = same_as (with_logged base r) s in
+        omega (
+          arith,
+          ap (λ (d : OnLog). d.length) same,
+          ap (λ (d : OnLog). entries_length (drop (length base.entries) d.entries)) same,
+          short r.votes (ap (λ (d : OnLog). d.votes) same) few,
         )
-    next r (Msg s j b, at) = (
-      r.0,
-      ap (λ j. view_of (take j h)) place
-          ∙ (ap view_of (take-next h (i + d) (Msg s j b) at)
-          ∙ (view_of-Msg (take (i + d) h) s j b ∙ r.1)),
-      r.2,
+
+    -- with the record that is due: the next entry, or a vote
+    one_more : (next : Record) → IsRecordDue r next → StandFor image (with_record next (with_logged base r))
+        → HasFewMore base c
+    one_more (records.Entry x) due s =
+        let all = same_as (with_record (records.Entry x) (with_logged base r)) s in
+        let rest : drop (length base.entries) c.entries ≡ drop (length base.entries) (take r.logged r.history) ++ x ∷ [] =
+        ap (λ (d : OnLog). drop (length base.entries) d.entries) all
+        ∙ drop-append-le (length base.entries) (take r.logged r.history) (x ∷ [])
+        (omega (arith, ap length begins.1, length-append base.entries begins.0)) in
+        omega (
+          arith,
+          ap (λ (d : OnLog). d.length) all,
+          ap entries_length rest,
+          sum_by_push (λ (y : Entry). 1 + length (entry_spelling y)) (drop (length base.entries) (take r.logged r.history)) x,
+          short r.votes (ap (λ (d : OnLog). d.votes) all) few,
+        )
+    one_more (records.Vote v) due s =
+        let all = same_as (with_record (records.Vote v) (with_logged base r)) s in
+        let votes : c.votes ≡ base.votes ++ (r.votes ++ v ∷ []) =
+        ap (λ (d : OnLog). d.votes) all ∙ append_assoc base.votes r.votes (v ∷ []) in
+        let less : length (r.votes ++ v ∷ []) ≤ MAX_MEMBERS * MAX_MEMBERS = omega (
+          arith,
+          length-append r.votes (v ∷ []),
+          due.few,
+          mul-le r.banks r.roster MAX_MEMBERS MAX_MEMBERS (omega (arith, of.banks, most))
+              (omega (arith, of.roster, most)),
+        ) in
+        omega (
+          arith,
+          ap (λ (d : OnLog). d.length) all,
+          ap (λ (d : OnLog). entries_length (drop (length base.entries) d.entries)) all,
+          sum_by_push (λ (x : Vote). 1 + length (vote_spelling x)) r.votes v,
+          short (r.votes ++ v ∷ []) votes less,
+        )
+    one_more (records.AgeVote v) due s = absurd due
+    one_more (records.Cut keep) due s = absurd due
+    one_more records.Upgrade due s = absurd due
+
+    by : HasLeft (Some t) r base → HasFewMore base c
+    by (inl safe) = just (safe image is)
+    by (inr broken) = elim (broken.left image is) [
+      | inl before ↦ just before
+      | inr after ↦ one_more broken.next broken.due after
+    ]
+
+-- and it begins with what was logged
+read_few : (o : Option Told) (n : ℕ) (r : Replica) (c base : OnLog) (first : List Entry) → IsTrue (is_some o)
+    → IfSome o (ReadsAs c) → n ≤ MAX_MEMBERS → IsMemberOf n r → base.entries ≡ first
+    → IsPrefixOf first (take r.logged r.history) → All IsValidVote c.votes → HasLeft o r base
+    → HasFewMore base c × IsPrefixOf first c.entries
+read_few None n r c base first some reads most of opened begins valid left = absurd (cc)
+read_few (Some t) n r c base first some reads most of opened begins valid left = (
+  image_few t (content_of t) n r c base reads.image reads.stands most of
+      (subst (λ (es : List Entry). IsPrefixOf es (take r.logged r.history)) (sym opened) begins) valid left,
+  left_begins first (member_end r) c.entries begins
+      (image_entries t (content_of t) r c base reads.image reads.stands left),
+)
+
+-- ---- what an opening brings to a log where none is missing
+
+-- the start is the longest of what is found
+uncut : (script : Script) (yard : YardState) (contents : List (Option OnLog)) (start : Start) (m : ℕ) (c : OnLog)
+    → HasGroupRanges script → AreFound script.members 0 yard contents
+    → AreAccepted script (entries_on_logs (lists_with contents))
+    → IsChosenOf (first_group_of script).opening contents start → content_at contents m ≡ Some c
+    → IsPrefixOf c.entries start.entries
+uncut script yard contents start m c ranges found accepted chosen at =
+    front_of_longest (entries_on_logs (lists_with contents)) start.entries c.entries m accepted.along
+    (longest-chosen (first_group_of script).opening (lists_with contents) start.members start
+    (chosen_by (first_group_of script).opening contents (lists_with contents) start chosen few (among_lists contents))
+    (λ i l. all_in_set (first_group_of script).opening contents start i chosen few (there i l))
+    accepted.along)
+    (entries_among contents (lists_with contents) m c (among_lists contents) at)
+  where
+    few : length script.messages ≤ 16
+    few = omega (arith, ranges.lists, ranges.most_members)
+
+    there : (i : ℕ) → i < length (lists_with contents) → is_some (content_at contents i) ≡ true
+    there i l =
+        let c = found_of script.members yard contents i found (omega (arith, l, found.all, many)) in
+        ap is_some c.1
+      where
+        many : length (lists_with contents) ≡ length contents
+        many = length-map contents (λ (o : Option OnLog). option_map_or as_lists o (record { entries = []; votes = []; age_votes = [] }))
+
+-- so it takes what it lacks of all that the age begins with, a vote and an upgrade at most
+open_uncut : (start : Start) (c now : OnLog) → IsPrefixOf c.entries start.entries
+    → IsOpenFor start (voted_for start c) now
+    → now.length ≤ c.length + 8 + entries_length (drop (length c.entries) (opened_with start start.members))
+open_uncut start c now part (cut, is, same) = by is
+  where
+    voted : (voted_for start c).entries ≡ c.entries
+    voted = ap (λ (l : LogLists). l.entries) (voted_lists (age_vote_of start) c)
+
+    by : IsCutFor start (voted_for start c) cut
+        → now.length ≤ c.length + 8 + entries_length (drop (length c.entries) (opened_with start start.members))
+    by (inl (front, as_voted)) = omega (
+      arith,
+      ap (λ (x : OnLog). x.length) same,
+      ap (λ (x : OnLog). x.length) as_voted,
+      ap (λ (x : OnLog). entries_length (drop (length x.entries) (opened_with start start.members))) as_voted,
+      ap (λ (es : List Entry). entries_length (drop (length es) (opened_with start start.members))) voted,
+      voted_long start c,
     )
-
--- so the age behind a part of it is the next one
-next_of_part : (o : Opening) (sent : Sent) (es h : List Entry) → InOrder o sent h
-    → IsPrefixOf (first_entries o) es → IsPrefixOf es h → next_age (view_of es) ≡ o.age + 1
-next_of_part o sent es h order begins part =
-    let n = length o.start in
-    let i = length (first_entries o) in
-    let first : take i h ≡ first_entries o =
-    ap (take i) (sym order.begins.1) ∙ take_at (first_entries o) order.begins.0 i refl in
-    let view : view_of (take i h) ≡ Some (record { age = o.age; number = 0; members = members_of o.members }) =
-    ap view_of first ∙ view_of-View o.start o.age 0 o.members in
-    let long : i ≡ n + 1 = omega (arith, length-append o.start (View o.age 0 o.members ∷ [])) in
-    let far : i + length begins.0 ≡ length es =
-    omega (arith, ap length begins.1, length-append (first_entries o) begins.0) in
-    let within : length es ≤ length h = omega (arith, ap length part.1, length-append es part.0) in
-    let r = age_after o sent h i (length begins.0)
-    (record { age = o.age; number = 0; members = members_of o.members }) order (omega (arith, long))
-    (omega (arith, far, within)) view in
-    let all : take (i + length begins.0) h ≡ es =
-    ap (λ k. take k h) far ∙ (ap (take (length es)) (sym part.1) ∙ take_at es part.0 (length es) refl) in
-    let last : view_of es ≡ Some r.0 = ap view_of (sym all) ∙ r.1 in
-    ap next_age last ∙ omega (arith, r.2)
-
-no_age : next_age (view_of []) ≡ 0
-unfolding view_after
-no_age = refl
+    by (inr (keep, due, as_cut)) =
+        absurd (due.beside (subst (λ (es : List Entry). IsPrefixOf es start.entries) (sym voted) part))
 
 -- ---- disks behind so many ages from the first
 
@@ -111,247 +226,298 @@ no_age = refl
 pub record IsRoomyAt (script : Script) (bytes first k : ℕ) (yard : YardState) : Type 0 where
   pub tell : AllTell script.members yard
   pub good : IsGood script yard
-  pub few : (lists : List (List Entry)) (contents : ℕ → OnLog) → AreFound script.members yard lists contents
-      → (m : ℕ) → m < script.members
-      → (contents m).length ≤ bytes + 18688 * k + entries_length (contents m).entries
-  pub next : (lists : List (List Entry)) (contents : ℕ → OnLog) → AreFound script.members yard lists contents
-      → (es : List Entry) → IsLongest lists es → next_age (view_of es) ≡ first + k
+  pub few : (contents : List (Option OnLog)) → AreFound script.members 0 yard contents → (m : ℕ) (c : OnLog)
+      → content_at contents m ≡ Some c → c.length ≤ bytes + 18696 * k + entries_length c.entries
+  pub next : (contents : List (Option OnLog)) (start : Start) → AreFound script.members 0 yard contents
+      → IsChosenOf (first_group_of script).opening contents start → start.age ≡ first + k
+  pub last : (contents : List (Option OnLog)) → AreFound script.members 0 yard contents
+      → AreRefusedFor script Refusal.AgesUsedUp contents → 2 ^ 16 ≤ first + k
+
+-- no age is on an empty log
+ageless : (c : OnLog) (age : ℕ) → c ≡ empty_of true → HasAge (as_lists c) age → ⊥
+ageless c age empty has = by (subst (λ (d : OnLog). HasAge (as_lists d) age) empty has)
+  where
+    by : HasAge (as_lists (empty_of true)) age → ⊥
+    by (inl (number, members, there)) = in-nothing (View age number members) there
+    by (inr (inl (x, there, same))) = in-nothing x there
+    by (inr (inr (x, there, same))) = in-nothing x there
+
+-- an age that is on a log that was handed in is on one that was found
+on_found : (contents : List (Option OnLog)) (m : ℕ) (log : LogLists)
+    → handed_by (all_as_lists contents) m ≡ Some log
+    → (c : OnLog) × (content_at contents m ≡ Some c) × (as_lists c ≡ log)
+on_found contents m log at = handed_there contents m log (sym (handed_is contents m) ∙ at)
 
 -- empty ones
 pub fresh_first : (script : Script) (yard : YardState) → AreEmpty script.members yard → IsRoomyAt script 9 0 0 yard
 fresh_first script yard empty = record {
   tell = λ m l. tells (yard.told m) (empty m l);
   good = empty_good script yard empty;
-  few = λ lists contents found m l.
-      let es = slice_get-some lists m (omega (arith, l, found.all)) in
-      omega (arith, ap (λ (c : OnLog). c.length) (empty_found script yard lists contents m es.0 empty found es.1).1);
-  next = λ lists contents found es longest.
-      ap (λ (l : List Entry). next_age (view_of l))
-      (empty_found script yard lists contents longest.place es empty found longest.one).0 ∙ no_age;
+  few = λ contents found m c at.
+      omega (arith, ap (λ (d : OnLog). d.length) (empty_found script 0 yard contents m c empty found at));
+  next = λ contents start found chosen. number contents start found chosen chosen.chosen.age.next;
+  last = λ contents found used.
+      let c = on_found contents used.2 used.3 used.4 in
+      absurd (ageless c.0 65535 (empty_found script 0 yard contents used.2 c.0 empty found c.1)
+      (subst (λ (l : LogLists). HasAge l 65535) (sym c.2) used.5));
 }
   where
     tells : (o : Option Told) → IsSomeAnd o (λ t. content_of t ≡ []) → IsTrue (is_some o)
     tells None is = absurd is
     tells (Some t) is = refl
 
+    number : (contents : List (Option OnLog)) (start : Start) → AreFound script.members 0 yard contents
+        → IsChosenOf (first_group_of script).opening contents start
+        → (start.age ≡ 0) ⊎ ((a : ℕ) × (m : ℕ) × (log : LogLists)
+        × (handed_by (all_as_lists contents) m ≡ Some log) × HasAge log a × (start.age ≡ a + 1))
+        → start.age ≡ 0 + 0
+    number contents start found chosen (inl none) = none
+    number contents start found chosen (inr (a, m, log, at, has, same)) =
+        let c = on_found contents m log at in
+        absurd (ageless c.0 a (empty_found script 0 yard contents m c.0 empty found c.1)
+        (subst (λ (l : LogLists). HasAge l a) (sym c.2) has))
+
 -- the age has the number of those before it
-age_number : {mode : Mode} (script : Script) (bytes first k nth : ℕ) (before yard : YardState) (age : AgeEnd)
-    → IsRoomyAt script bytes first k before → IsAgeOf script mode nth before yard age → age.age ≡ first + k
-age_number script bytes first k nth before yard age roomy is =
-    is.starts.restart.next ∙ roomy.next is.lists is.contents is.found age.start is.starts.restart.longest
+age_number : (script : Script) (missing : ℕ) (mode : Mode) (bytes first k nth : ℕ) (before yard : YardState)
+    (age : AgeEnd) → NoneMissing script.members missing → IsRoomyAt script bytes first k before
+    → IsAgeOf script missing mode nth before yard age → age.age ≡ first + k
+age_number script missing mode bytes first k nth before yard age none roomy is =
+    roomy.next is.contents (start_of script missing age)
+    (found_whole script.members missing before is.contents none is.found) is.starts
 
 -- on each log there is little but entries
-few_at : (script : Script) (bytes first k : ℕ) (yard : YardState) (lists : List (List Entry)) (contents : ℕ → OnLog)
-    (m : ℕ) → IsRoomyAt script bytes first k yard → bytes ≤ 536870912 → k ≤ 16
-    → AreFound script.members yard lists contents → m < script.members → AreFew (contents m)
-few_at script bytes first k yard lists contents m roomy short small found l =
-    record { few = omega (arith, roomy.few lists contents found m l, small, short) }
+few_at : (script : Script) (bytes first k : ℕ) (yard : YardState) (contents : List (Option OnLog)) (m : ℕ) (c : OnLog)
+    → IsRoomyAt script bytes first k yard → bytes ≤ 536870912 → k ≤ 16 → AreFound script.members 0 yard contents
+    → content_at contents m ≡ Some c → AreFew c
+few_at script bytes first k yard contents m c roomy short small found at =
+    record { few = omega (arith, roomy.few contents found m c at, small, short) }
 
 -- the first age starts with nothing
-pub fresh_start : (script : Script) (mode : Mode) (nth : ℕ) (before : YardState) (ages : List AgeEnd) (last : YardState)
-    (a : AgeEnd) → AreEmpty script.members before → AreAges script mode nth before ages last
-    → slice_get ages 0 ≡ Some a → a.start ≡ []
-fresh_start script mode nth before [] last a empty are at = absurd (omega (arith, slice_get_within [] 0 a at))
-fresh_start script mode nth before (one ∷ ages) last a empty are at =
-    ap (λ (x : AgeEnd). x.start) (sym (same_Some one a at))
-    ∙ (empty_found script before are.1.lists are.1.contents are.1.starts.restart.longest.place one.start empty
-    are.1.found are.1.starts.restart.longest.one).0
+pub fresh_start : (script : Script) (missing : ℕ) (mode : Mode) (nth : ℕ) (before : YardState) (ages : List AgeEnd)
+    (last : YardState) (a : AgeEnd) → AreEmpty script.members before
+    → AreAges script missing mode nth before ages last → slice_get ages 0 ≡ Some a → a.start ≡ []
+fresh_start script missing mode nth before [] last a empty are at =
+    absurd (omega (arith, slice_get_within [] 0 a at))
+fresh_start script missing mode nth before (one ∷ ages) last a empty are at =
+    ap (λ (x : AgeEnd). x.start) (sym (same_Some one a at)) ∙ by are.1.starts.chosen.entries
+  where
+    by : AreOfHolders (first_group_of script).opening (handed_by (all_as_lists are.1.contents)) one.start
+        ⊎ AreOfNobody (handed_by (all_as_lists are.1.contents)) one.start → one.start ≡ []
+    by (inr nobody) = nobody.none
+    by (inl held) =
+        let c = on_found are.1.contents held.held.0 held.held.1 held.held.2 in
+        held.held.4 ∙ (sym (ap (λ (l : LogLists). l.entries) c.2)
+        ∙ ap (λ (d : OnLog). d.entries)
+        (empty_found script missing before are.1.contents held.held.0 c.0 empty are.1.found c.1))
 
--- the number behind an age, by what it leaves
-pub age_next : (script : Script) (mode : Mode) (nth : ℕ) (before yard : YardState) (age : AgeEnd)
-    (lists : List (List Entry)) (contents : ℕ → OnLog) (es : List Entry) → HasGroupRanges script
-    → IsAgeOf script mode nth before yard age → AllTell script.members yard
-    → AreFound script.members yard lists contents → IsLongest lists es → next_age (view_of es) ≡ age.age + 1
-age_next script mode nth before yard age lists contents es ranges is tell found longest =
-    let after : IsBehind script yard age lists contents =
-    behind script mode nth before yard age ranges is tell lists contents found in
-    let p = part_of_history script yard age lists contents longest.place es after longest.one in
-    next_of_part (opening_of script age) (sent_by (accounts_of age.members)) es
-    (accounts_of age.members longest.place).history (is.agreed.agreed.ordered longest.place p.0)
-    (longest_begins script yard age lists contents es after longest) p.1
-
--- what its member left begins with the entries that were found
-left_of_found : (script : Script) (yard : YardState) (age : AgeEnd) (lists : List (List Entry))
-    (contents : ℕ → OnLog) (m : ℕ) (e : MemberEnd) → (b : IsBehind script yard age lists contents)
-    → slice_get age.members m ≡ Some e → IsLeftOf e.history e.logged (contents m).entries
-    → IsPrefixOf (b.is.contents m).entries (contents m).entries
-left_of_found script yard age lists contents m e b there left =
-    left_begins (b.is.contents m).entries e (contents m).entries
-    (found_begins script yard age lists contents m e b there) left
-
-pub roomy_next : (script : Script) (mode : Mode) (bytes first k nth : ℕ) (before yard : YardState) (age : AgeEnd)
-    → HasGroupRanges script → IsRoomyAt script bytes first k before → IsAgeOf script mode nth before yard age
-    → IsRoomyAt script bytes first (k + 1) yard
-roomy_next script mode bytes first k nth before yard age ranges roomy is = record {
+-- what an age leaves on a log, by what was found on it as the age opened
+pub roomy_next : (script : Script) (missing : ℕ) (mode : Mode) (bytes first k nth : ℕ) (before yard : YardState)
+    (age : AgeEnd) → HasRanges script → NoneMissing script.members missing → IsRoomyAt script bytes first k before
+    → IsAgeOf script missing mode nth before yard age → IsRoomyAt script bytes first (k + 1) yard
+roomy_next script missing mode bytes first k nth before yard age ranges none roomy is = record {
   tell = tell;
-  good = age_leaves_good script mode nth before yard age ranges is tell;
-  few = λ lists contents found m l.
-      let e = slice_get-some age.members m (omega (arith, l, is.roster)) in
-      let es = slice_get-some lists m (omega (arith, l, found.all)) in
-      let b = behind script mode nth before yard age ranges is tell lists contents found in
-      let now = (found_left script yard age lists contents m e.0 es.0 b e.1 es.1).0 in
-      let old = (is.contents m).entries in
-      let parts = left_of_found script yard age lists contents m e.0 b e.1 now.entries in
-      let rest : drop (length old) (contents m).entries ≡ parts.0 =
-      ap (drop (length old)) (sym parts.1) ∙ drop_at old parts.0 (length old) refl in
-      omega (
-        arith,
-        now.long,
-        ap entries_length rest,
-        ap entries_length parts.1,
-        entries_length-append old parts.0,
-        roomy.few is.lists is.contents is.found m l,
-      );
-  next = λ lists contents found es longest.
-      age_next script mode nth before yard age lists contents es ranges is tell found longest
-      ∙ omega (arith, age_number script bytes first k nth before yard age roomy is);
+  good = age_leaves_good script missing mode nth before yard age ranges none is tell;
+  few = few;
+  next = λ contents start found chosen. omega (
+    arith,
+    age_next script missing yard age contents start (behind_of contents found) chosen,
+    number,
+  );
+  last = λ contents found used. omega (
+    arith,
+    (refused_after script missing yard age contents Refusal.AgesUsedUp (behind_of contents found) used).1,
+    number,
+  );
 }
   where
     tell : AllTell script.members yard
-    tell = tell_on script.members before yard is.passes roomy.tell
+    tell = tell_on script.members (age.start ∷ []) before yard is.passes roomy.tell
 
-pub roomy_last : (script : Script) (mode : Mode) (bytes first k nth : ℕ) (before : YardState) (ages : List AgeEnd)
-    (last : YardState) → HasGroupRanges script → IsRoomyAt script bytes first k before
-    → AreAges script mode nth before ages last → IsRoomyAt script bytes first (k + length ages) last
-roomy_last script mode bytes first k nth before [] last ranges roomy are =
+    number : age.age ≡ first + k
+    number = age_number script missing mode bytes first k nth before yard age none roomy is
+
+    -- as it is found with none missing, it is found with these missing
+    same_found : (contents : List (Option OnLog)) → AreFound script.members 0 yard contents
+        → AreFound script.members missing yard contents
+    same_found contents found = record {
+      all = found.all;
+      there = λ m l. found.there m l ∙ ap not (has_zero m ∙ sym (none m l));
+      each = found.each;
+    }
+
+    behind_of : (contents : List (Option OnLog)) → AreFound script.members 0 yard contents
+        → IsBehind script missing yard age contents
+    behind_of contents found =
+        behind script missing mode nth before yard age ranges is tell contents (same_found contents found)
+
+    whole_found : AreFound script.members 0 before is.contents
+    whole_found = found_whole script.members missing before is.contents none is.found
+
+    few : (contents : List (Option OnLog)) → AreFound script.members 0 yard contents → (m : ℕ) (c : OnLog)
+        → content_at contents m ≡ Some c → c.length ≤ bytes + 18696 * (k + 1) + entries_length c.entries
+    few contents found m c at =
+        let l : m < script.members = omega (arith, within_places contents m c at, found.all) in
+        let old = found_of script.members before is.contents m whole_found l in
+        let e = slice_get-some age.members m (omega (arith, l, is.roster)) in
+        let x = ended_over script missing mode nth before yard age is m e.0 e.1 (none m l) in
+        let start = start_of script missing age in
+        let whole = first_entries (opening_of script missing age) in
+        let opened = is.begins m old.0 old.1 in
+        let base = open_entries start (voted_for start old.0) (is.begun m) opened in
+        let begins = subst (λ (end : MemberEnd). IsPrefixOf whole (take end.logged end.history)) (sym x.is)
+        (is.opened m e.0 e.1 (none m l)) in
+        let part = uncut script before is.contents start m old.0 ranges.group whole_found
+        (roomy.good.accepted is.contents whole_found) is.starts old.1 in
+        let read = read_few (yard.told m) script.members x.r.replica c (is.begun m) whole (tell m l)
+        (found.each m c at).reads ranges.group.most_members (is.few m x.r x.at) base begins
+        (found_valid script.members 0 yard contents m c tell found l at) (is.left m x.r x.at) in
+        let front = part_of_opened old.0.entries start.entries (View age.age 0 start.members) part in
+        omega (
+          arith,
+          read.0,
+          ap (λ (es : List Entry). entries_length (drop (length es) c.entries)) base,
+          parts whole c.entries read.1,
+          open_uncut start old.0 (is.begun m) part opened,
+          parts old.0.entries whole front,
+          roomy.few is.contents whole_found m old.0 old.1,
+        )
+      where
+        parts : (es all : List Entry) → IsPrefixOf es all
+            → entries_length es + entries_length (drop (length es) all) ≡ entries_length all
+        parts es all front =
+            ap (λ (rest : List Entry). entries_length es + entries_length rest)
+            (ap (drop (length es)) (sym front.1) ∙ drop_at es front.0 (length es) refl)
+            ∙ (sym (entries_length-append es front.0) ∙ ap entries_length front.1)
+
+pub roomy_last : (script : Script) (missing : ℕ) (mode : Mode) (bytes first k nth : ℕ) (before : YardState)
+    (ages : List AgeEnd) (last : YardState) → HasRanges script → NoneMissing script.members missing
+    → IsRoomyAt script bytes first k before → AreAges script missing mode nth before ages last
+    → IsRoomyAt script bytes first (k + length ages) last
+roomy_last script missing mode bytes first k nth before [] last ranges none roomy are =
     subst (λ (n : ℕ). IsRoomyAt script bytes first n last) (omega arith)
     (subst (IsRoomyAt script bytes first k) are roomy)
-roomy_last script mode bytes first k nth before (age ∷ ages) last ranges roomy are =
+roomy_last script missing mode bytes first k nth before (age ∷ ages) last ranges none roomy are =
     subst (λ (n : ℕ). IsRoomyAt script bytes first n last) (omega arith)
-    (roomy_last script mode bytes first (k + 1) (nth + 1) are.0 ages last ranges
-    (roomy_next script mode bytes first k nth before are.0 age ranges roomy are.1) are.2)
+    (roomy_last script missing mode bytes first (k + 1) (nth + 1) are.0 ages last ranges none
+    (roomy_next script missing mode bytes first k nth before are.0 age ranges none roomy are.1) are.2)
 
-pub roomy_ages : (script : Script) (mode : Mode) (bytes first k nth : ℕ) (before : YardState) (ages : List AgeEnd)
-    (last : YardState) (i : ℕ) (a : AgeEnd) → HasGroupRanges script → bytes ≤ 536870912 → k + length ages ≤ 16
-    → IsRoomyAt script bytes first k before → AreAges script mode nth before ages last
+pub roomy_ages : (script : Script) (missing : ℕ) (mode : Mode) (bytes first k nth : ℕ) (before : YardState)
+    (ages : List AgeEnd) (last : YardState) (i : ℕ) (a : AgeEnd) → HasRanges script
+    → NoneMissing script.members missing → bytes ≤ 536870912 → k + length ages ≤ 16
+    → IsRoomyAt script bytes first k before → AreAges script missing mode nth before ages last
     → slice_get ages i ≡ Some a → (a.age ≡ first + k + i) × NoneFull a.members
-roomy_ages script mode bytes first k nth before [] last i a ranges short small roomy are at =
+roomy_ages script missing mode bytes first k nth before [] last i a ranges none short small roomy are at =
     absurd (omega (arith, slice_get_within [] i a at))
-roomy_ages script mode bytes first k nth before (age ∷ ages) last zero a ranges short small roomy are at =
-    let number = age_number script bytes first k nth before are.0 age roomy are.1 in
+roomy_ages script missing mode bytes first k nth before (age ∷ ages) last zero a ranges none short small roomy are at =
+    let number = age_number script missing mode bytes first k nth before are.0 age none roomy are.1 in
+    let found = found_whole script.members missing before are.1.contents none are.1.found in
     subst (λ (x : AgeEnd). (x.age ≡ first + k + 0) × NoneFull x.members) (same_Some age a at) (
       omega (arith, number),
-      are.1.ample (λ m l. few_at script bytes first k before are.1.lists are.1.contents m roomy short
-          (omega (arith, small)) are.1.found l),
+      are.1.ample (λ m c at. few_at script bytes first k before are.1.contents m c roomy short (omega (arith, small))
+          found at),
     )
-roomy_ages script mode bytes first k nth before (age ∷ ages) last (suc i) a ranges short small roomy are at =
-    let r = roomy_ages script mode bytes first (k + 1) (nth + 1) are.0 ages last i a ranges short
-    (omega (arith, small)) (roomy_next script mode bytes first k nth before are.0 age ranges roomy are.1) are.2 at in
+roomy_ages script missing mode bytes first k nth before (age ∷ ages) last (suc i) a ranges none short small roomy are at =
+    let r = roomy_ages script missing mode bytes first (k + 1) (nth + 1) are.0 ages last i a ranges none short
+    (omega (arith, small)) (roomy_next script missing mode bytes first k nth before are.0 age ranges none roomy are.1)
+    are.2 at in
     (omega (arith, r.0), r.1)
 
 -- those of a run over fit disks that are roomy
-pub roomy_first : (script : Script) (yard : YardState) (lists : List (List Entry)) (contents : ℕ → OnLog)
-    (es : List Entry) → AllTell script.members yard → IsGood script yard → AreRoomy script yard
-    → AreFound script.members yard lists contents → IsLongest lists es
-    → IsRoomyAt script 536870912 (next_age (view_of es)) 0 yard
-roomy_first script yard lists contents es tell good roomy found longest = record {
+pub roomy_first : (script : Script) (yard : YardState) (contents : List (Option OnLog)) (start : Start)
+    → HasRanges script → AllTell script.members yard → IsGood script yard → AreRoomy script yard
+    → AreFound script.members 0 yard contents → IsChosenOf (first_group_of script).opening contents start
+    → IsRoomyAt script 536870912 start.age 0 yard
+roomy_first script yard contents start ranges tell good roomy found chosen = record {
   tell = tell;
   good = good;
-  few = λ ls vs there m l.
-      let fs = slice_get-some ls m (omega (arith, l, there.all)) in
-      omega (arith, roomy.short ls vs there m fs.0 fs.1);
-  next = λ ls vs there fs most.
-      ap (λ (l : List Entry). next_age (view_of l))
-      (longest_once ls fs es (good.accepted ls vs there).along most
-      (subst (λ (x : List (List Entry)). IsLongest x es)
-      (read_once script.members yard lists ls (found_read script.members yard lists contents tell found)
-      (found_read script.members yard ls vs tell there)) longest))
-      ∙ omega arith;
+  few = λ cs there m c at. omega (arith, roomy.short cs there m c at);
+  next = λ cs other there is. omega (
+    arith,
+    ap (λ (s : Start). s.age) (one-start (first_group_of script).opening (handed_by (all_as_lists contents)) other start
+        (subst (λ (xs : List (Option OnLog)). IsChosenStart (first_group_of script).opening (handed_by (all_as_lists xs)) other)
+        (read_once script.members 0 yard cs contents (found_read script.members 0 yard cs tell there)
+        (found_read script.members 0 yard contents tell found)) is.chosen) chosen.chosen),
+  );
+  last = λ cs there used.
+      let c = on_found cs used.2 used.3 used.4 in
+      absurd (omega (
+        arith,
+        ranges.some_age,
+        roomy.numbered cs there used.2 65535 c.0 c.1
+            (subst (λ (l : LogLists). HasAge l 65535) (sym c.2) used.5),
+      ));
 }
+
+-- and there is a number for each of its ages
+pub roomy_numbers : (script : Script) (yard : YardState) (contents : List (Option OnLog)) (start : Start)
+    → HasRanges script → AreRoomy script yard → AreFound script.members 0 yard contents
+    → IsChosenOf (first_group_of script).opening contents start → start.age + script.ages ≤ 2 ^ 16
+roomy_numbers script yard contents start ranges roomy found chosen = by chosen.chosen.age.next
+  where
+    by : (start.age ≡ 0) ⊎ ((a : ℕ) × (m : ℕ) × (log : LogLists)
+        × (handed_by (all_as_lists contents) m ≡ Some log) × HasAge log a × (start.age ≡ a + 1))
+        → start.age + script.ages ≤ 2 ^ 16
+    by (inl none) = omega (arith, none, ranges.most_ages)
+    by (inr (a, m, log, at, has, same)) =
+        let c = on_found contents m log at in
+        omega (
+          arith,
+          same,
+          roomy.numbered contents found m a c.0 c.1 (subst (λ (l : LogLists). HasAge l a) (sym c.2) has),
+        )
+
+-- so the logs are not refused for their ages
+pub roomy_lasts : (script : Script) (yard : YardState) (contents : List (Option OnLog)) → HasRanges script
+    → AreRoomy script yard → AreFound script.members 0 yard contents
+    → AreRefusedFor script Refusal.AgesUsedUp contents → ⊥
+roomy_lasts script yard contents ranges roomy found used =
+    let c = on_found contents used.2 used.3 used.4 in
+    omega (
+      arith,
+      ranges.some_age,
+      roomy.numbered contents found used.2 65535 c.0 c.1
+          (subst (λ (l : LogLists). HasAge l 65535) (sym c.2) used.5),
+    )
 
 -- ---- no log is full
 
--- a View takes 7 bytes, and a message 72 at most
-entries_short : (es : List Entry) → All IsValidEntry es
-    → entries_length es ≤ 7 * length es + 65 * length (filter is_message es)
-entries_short [] valid = omega arith
-entries_short (View a k m ∷ es) valid =
-    let block : 1 + length (entry_spelling (View a k m)) ≤ 7 = omega arith in
-    let told : length (filter is_message (View a k m ∷ es)) ≡ length (filter is_message es) = refl in
-    omega (
-      arith,
-      block,
-      told,
-      sum_by-cons (λ (e : Entry). 1 + length (entry_spelling e)) (View a k m) es,
-      entries_short es (All-tail IsValidEntry (View a k m) es valid),
-    )
-entries_short (Msg s i b ∷ es) valid =
-    let block = short_block (Msg s i b) (All-head IsValidEntry (Msg s i b) es valid) in
-    let told : length (filter is_message (Msg s i b ∷ es)) ≡ suc (length (filter is_message es)) = refl in
-    omega (
-      arith,
-      block,
-      told,
-      sum_by-cons (λ (e : Entry). 1 + length (entry_spelling e)) (Msg s i b) es,
-      entries_short es (All-tail IsValidEntry (Msg s i b) es valid),
-    )
-
--- so many bytes has what an age begins with at most: 256 Views of each of 65,536 ages, 4096 messages of each of
--- 16 members, and View 0
-pub opened_short : (script : Script) (lists : List (List Entry)) (start : Start) → HasGroupRanges script
-    → start.age < 2 ^ 16 → IsStartOf script lists start
-    → entries_length (first_entries (group_of script start).opening) ≤ 122159111
-opened_short script lists start ranges small is =
-    let g = start_group script lists start ranges small is in
-    let o = (group_of script start).opening in
-    let more = entries_length-append start.entries (View start.age 0 start.members ∷ []) in
-    let block : 1 + length (entry_spelling (View start.age 0 start.members)) ≤ 7 = omega arith in
-    let last = sum_by-cons (λ (e : Entry). 1 + length (entry_spelling e)) (View start.age 0 start.members) [] in
-    omega (
-      arith,
-      more,
-      block,
-      last,
-      entries_short start.entries (start_valid script lists start ranges is),
-      start-few o g.sound small g.some_member g.most_members g.messages,
-      stood-told o start.entries g.sound.entries g.messages,
-    )
-
-full_never : (script : Script) (before after : YardState) (m len : ℕ) → HasGroupRanges script
-    → (is : IsTooFull script before after m len) → AreFew (is.contents m) → ⊥
-full_never script before after m len ranges is little = omega (
+-- each append of an opening leaves a log that is no longer than one that is open
+full_never : (script : Script) (missing : ℕ) (before after : YardState) (m len : ℕ) → HasGroupRanges script
+    → (is : IsTooFull script missing before after m len) → AreFew is.content → ⊥
+full_never script missing before after m len ranges is little = omega (
   arith,
-  opened_short script is.lists is.start ranges is.small is.starts,
-  total,
-  is.over,
   little.few,
+  found_short script is.contents is.start m is.content ranges is.chosen is.there,
+  opened_short script is.contents is.start ranges is.chosen,
+  next_long is.start is.content is.now is.next (steps is.phase),
+  is.at.1,
 )
   where
-    found : List Entry
-    found = (is.contents m).entries
-
-    whole : List Entry
-    whole = first_entries (group_of script is.start).opening
-
-    part : IsPrefixOf found whole
-    part =
-        let here = slice_get-some is.lists m (omega (arith, is.below, is.found.all)) in
-        subst (λ (es : List Entry). IsPrefixOf es whole) (sym (is.found.each m here.0 here.1).entries)
-        (part_of_opened here.0 is.start.entries (View is.start.age 0 is.start.members)
-        (part_of_start script is.lists is.start m here.0 is.starts here.1))
-
-    rest : drop (length found) whole ≡ part.0
-    rest = ap (drop (length found)) (sym part.1) ∙ drop_at found part.0 (length found) refl
-
-    total : entries_length found + entries_length (drop (length found) whole) ≡ entries_length whole
-    total = ap (λ (es : List Entry). entries_length found + entries_length es) rest
-        ∙ (sym (entries_length-append found part.0) ∙ ap entries_length part.1)
+    steps : (IsVoteStep is.start is.content is.now is.next × HaveVotesBelow is.start is.contents after m)
+        ⊎ (IsRisingStep is.start (voted_for is.start is.content) is.now is.next
+        × AreOpenBelow is.start is.contents after m)
+        → IsVoteStep is.start is.content is.now is.next
+        ⊎ IsRisingStep is.start (voted_for is.start is.content) is.now is.next
+    steps (inl voting) = inl voting.0
+    steps (inr rising) = inr rising.0
 
 -- ---- what stops a run
 
-pub roomy_stop : (script : Script) (bytes first k : ℕ) (last after : YardState) (s : Stop) → HasGroupRanges script
-    → bytes ≤ 536870912 → k ≤ 16 → first + k < 2 ^ 16 → IsRoomyAt script bytes first k last
-    → HasStopped script last after s → IsOutside s
-roomy_stop script bytes first k last after OutOfMemory ranges short small number roomy is = tt
-roomy_stop script bytes first k last after (DiskFault m) ranges short small number roomy is = tt
-roomy_stop script bytes first k last after (LogFull m len) ranges short small number roomy is =
-    full_never script last after m len ranges is
-    (few_at script bytes first k last is.lists is.contents m roomy short small is.found is.below)
-roomy_stop script bytes first k last after (Damaged m at) ranges short small number roomy is =
-    good_never script last after (Damaged m at) roomy.good is tt
-roomy_stop script bytes first k last after (Disagree a b p) ranges short small number roomy is =
-    good_never script last after (Disagree a b p) roomy.good is tt
-roomy_stop script bytes first k last after (Foreign m p) ranges short small number roomy is =
-    good_never script last after (Foreign m p) roomy.good is tt
-roomy_stop script bytes first k last after AgesUsedUp ranges short small number roomy is =
-    omega (arith, number, is.3.last, roomy.next is.0 is.1 is.2 is.3.entries is.3.longest)
+pub roomy_stop : (script : Script) (missing : ℕ) (bytes first k : ℕ) (last after : YardState) (s : Stop)
+    → HasRanges script → NoneMissing script.members missing → bytes ≤ 536870912 → k ≤ 16 → first + k < 2 ^ 16
+    → IsRoomyAt script bytes first k last → HasStopped script missing last after s → IsOutside s
+roomy_stop script missing bytes first k last after s ranges none short small number roomy stopped = by s stopped
+  where
+    by : (s : Stop) → HasStopped script missing last after s → IsOutside s
+    by OutOfMemory is = tt
+    by (DiskFault m) is = tt
+    by (LogFull m len) is =
+        full_never script missing last after m len ranges.group is
+        (few_at script bytes first k last is.contents m is.content roomy short small
+        (found_whole script.members missing last is.contents none is.found) is.there)
+    by (Damaged m at) is = good_never script missing last after (Damaged m at) ranges.group none roomy.good is tt
+    by (Disagree a b p) is = good_never script missing last after (Disagree a b p) ranges.group none roomy.good is tt
+    by (Foreign m p) is = good_never script missing last after (Foreign m p) ranges.group none roomy.good is tt
+    by (NoQuorum v h n) is = good_never script missing last after (NoQuorum v h n) ranges.group none roomy.good is tt
+    by AgesUsedUp is =
+        omega (arith, number, roomy.last is.0 (found_whole script.members missing last is.0 none is.1) is.2)

@@ -1,49 +1,217 @@
--- Disks whose logs are never refused, as they read: empty ones; and what an age leaves.
-use Rattle.std.proofs.Common.{◌≡◌, refl, sym, ap, ◌∙◌, subst, ℕ, ◌<◌, true, inl, inr, arith, List, [], length}
-use Rattle.std.specs.Prelude.{IfSome, IsSomeAnd, Option, None, Some, slice_get}
+-- Disks whose logs are never refused, as they read: empty ones, and what an age leaves.
+use Rattle.std.proofs.Common.{◌≡◌, sym, ap, ◌∙◌, subst, ⊎_elim, ℕ, ◌-◌, ◌^◌, ◌<◌, ◌≤◌, inl, inr, arith, Bool, true, false, not, List, [], length}
+use Rattle.std.proofs.Math.Path.{fun_ext}
+use Rattle.std.specs.Prelude.{IfSome, IsSomeAnd, IsTrue, Option, None, Some, if◌then◌else◌, is_some, nat_lt, option_map, slice_get}
 use Rattle.std.specs.Option.{option_map_or}
-use Rattle.std.proofs.lemmas.Option.{slice_get_within}
-use Rattle.dr_disk.specs.Disk.{Told, content_of}
+use Rattle.std.proofs.lemmas.Bool.{cases_lt}
+use Rattle.std.proofs.lemmas.List.{get_or_past, length-map}
+use Rattle.std.proofs.lemmas.Option.{same_Some, slice_get-map, slice_get_within}
+use Rattle.dr_disk.specs.Disk.{Told, content_of, state_of}
+use Rattle.dr_disk.specs.Images.{AllImages}
 use Rattle.dr_entry.specs.declared.end.AgeEnd.{AgeEnd}
-use Rattle.dr_entry.specs.declared.end.MemberEnd.{MemberEnd}
 use Rattle.dr_entry.specs.declared.entry.Entry.{Entry}
 use Rattle.dr_gather.specs.Gathering.{AreAccepted}
-use Rattle.dr_gather.proofs.Accepting.{accepted_none_differ, accepted_none_foreign, none_accepted}
-use Rattle.dr_gather.proofs.Following.{is_there}
-use Rattle.dr_history.specs.Agreement.{accounts_of}
-use Rattle.dr_history.specs.History.{IsPrefixOf}
-use Rattle.dr_history.specs.Soundness.{IsPresentIn}
+use Rattle.dr_gather.proofs.Accepting.{none_accepted}
+use Rattle.dr_history.specs.Members.{has}
 use Rattle.dr_history_laws.proofs.Lists.{slice_get-some}
-use Rattle.dr_log_bytes.specs.Content.{OnLog, empty_of}
+use Rattle.dr_kept.proofs.Chosen.{some_there}
+use Rattle.dr_kept.proofs.Following.{among_lists, lists_with}
+use Rattle.dr_log_bytes.specs.Content.{OnLog, empty_of, with_record}
 use Rattle.dr_log_bytes.specs.Grammar.{StandFor}
-use Rattle.dr_logged.specs.Left.{IsLeftOf}
+use Rattle.dr_log_bytes.proofs.Meaning.{stands_or_damaged}
+use Rattle.dr_opening.specs.Lists.{all_as_lists, as_lists}
+use Rattle.dr_opening.specs.Tries.{content_at}
+use Rattle.dr_opening.proofs.Lists.{handed_is, within_places}
+use Rattle.dr_program.specs.Replica.{Replica}
+use Rattle.dr_quorum.specs.Handing.{handed_by}
+use Rattle.dr_quorum_laws.proofs.AllThere.{all-pass}
+use Rattle.dr_restart.specs.declared.lists.LogLists.{LogLists}
+use Rattle.dr_restart.specs.Choosing.{of_set}
+use Rattle.dr_restart.specs.Groups.{first_group_of}
+use Rattle.dr_restart.specs.Left.{entries_on_logs}
+use Rattle.dr_restart.specs.Refusing.{IsRefusedFor, Refusal}
 use Rattle.dr_script.specs.declared.script.Script.{Script}
-use Rattle.dr_yard.specs.Yards.{AreEmpty, YardState}
+use Rattle.dr_script.specs.Ranges.{HasGroupRanges, HasRanges}
+use Rattle.dr_words.proofs.Bits.{has_ones, has_zero}
+use Rattle.dr_yard.specs.Yards.{AllTell, AreEmpty, YardState}
+use Rattle.dr_ages.specs.declared.mode.Mode.{Mode}
 use Rattle.dr_ages.specs.declared.stop.Stop.{Stop}
-use Rattle.dr_ages.specs.declared.stop.Stop.TheVariants.{OutOfMemory, DiskFault, LogFull, Damaged, Disagree, Foreign, AgesUsedUp}
-use Rattle.dr_ages.specs.Ages.{opening_of}
-use Rattle.dr_ages.specs.Found.{AreFound, ReadsAs}
-use Rattle.dr_ages.specs.Stops.{HasStopped, IsBadLogs, ReadsDamaged}
-use Rattle.dr_ages.proofs.Keeping.{IsBehind, found_left, left_part}
+use Rattle.dr_ages.specs.declared.stop.Stop.TheVariants.{OutOfMemory, DiskFault, LogFull, Damaged, Disagree, Foreign, NoQuorum, AgesUsedUp}
+use Rattle.dr_ages.specs.Ages.{IsAgeOf}
+use Rattle.dr_ages.specs.Fit.{IsReadable}
+use Rattle.dr_ages.specs.Found.{AreFound, NoneMissing, ReadsAs}
+use Rattle.dr_ages.specs.Left.{HasLeft, with_logged}
+use Rattle.dr_ages.specs.Stops.{AreRefusedFor, HasStopped, IsBadLogs, ReadsDamaged}
+use Rattle.dr_ages.proofs.Keeping.{behind, ended_over}
+use Rattle.dr_ages.proofs.Refusals.{refused_after}
+
+-- ---- an undamaged disk
+
+pub undamaged : (o : Option Told) (at : ℕ) → IsSomeAnd o (λ t. AllImages (state_of t) IsReadable)
+    → IfSome o (ReadsDamaged at) → ⊥
+undamaged None at is reads = is
+undamaged (Some t) at is reads =
+    let r = is (content_of t) reads.image in
+    stands_or_damaged (content_of t) r.0 at r.1 reads.damaged
+
+-- whatever a crash leaves of the disk of a member that an age has left is a log
+pub left_readable : (o : Option Told) (r : Replica) (base : OnLog) → IsTrue (is_some o) → HasLeft o r base
+    → IsSomeAnd o (λ t. AllImages (state_of t) IsReadable)
+left_readable None r base some left = absurd (cc)
+left_readable (Some t) r base some (inl safe) = λ image here. (with_logged base r, safe image here)
+left_readable (Some t) r base some (inr broken) = λ image here.
+    elim (broken.left image here) [
+      | inl before ↦ (with_logged base r, before)
+      | inr after ↦ (with_record broken.next (with_logged base r), after)
+    ]
+
+pub readable_behind : (script : Script) (missing : ℕ) (mode : Mode) (nth : ℕ) (before yard : YardState)
+    (age : AgeEnd) → IsAgeOf script missing mode nth before yard age → AllTell script.members yard → (m : ℕ)
+    → m < script.members → has missing m ≡ false
+    → IsSomeAnd (yard.told m) (λ t. AllImages (state_of t) IsReadable)
+readable_behind script missing mode nth before yard age is tell m l there =
+    let e = slice_get-some age.members m (omega (arith, l, is.roster)) in
+    let x = ended_over script missing mode nth before yard age is m e.0 e.1 there in
+    left_readable (yard.told m) x.r.replica (is.begun m) (tell m l) (is.left m x.r x.at)
+
+-- the logs that an age leaves are not refused by the next one, but as no number is left
+pub age_never : (script : Script) (missing : ℕ) (mode : Mode) (nth : ℕ) (before last after : YardState)
+    (age : AgeEnd) (s : Stop) → HasRanges script → IsAgeOf script missing mode nth before last age
+    → AllTell script.members last → HasStopped script missing last after s → IsBadLogs s → ⊥
+age_never script missing mode nth before last after age s ranges is tell stopped bad = by s stopped bad
+  where
+    other : (why : Refusal) → (found : (contents : List (Option OnLog))
+        × AreFound script.members missing last contents × AreRefusedFor script why contents)
+        → why ≡ Refusal.AgesUsedUp
+    other why found =
+        (refused_after script missing last age found.0 why
+        (behind script missing mode nth before last age ranges is tell found.0 found.1) found.2).0
+
+    by : (s : Stop) → HasStopped script missing last after s → IsBadLogs s → ⊥
+    by (Damaged m at) stopped bad = undamaged (last.told m) at
+        (readable_behind script missing mode nth before last age is tell m stopped.below stopped.there) stopped.damaged
+    by (Disagree a b p) stopped bad =
+        absurd (let same : Refusal.Disagree a b p ≡ Refusal.AgesUsedUp = other (Refusal.Disagree a b p) stopped in cc)
+    by (Foreign m p) stopped bad =
+        absurd (let same : Refusal.Foreign m p ≡ Refusal.AgesUsedUp = other (Refusal.Foreign m p) stopped in cc)
+    by (NoQuorum v h n) stopped bad =
+        absurd (let same : Refusal.NoQuorum v h n ≡ Refusal.AgesUsedUp = other (Refusal.NoQuorum v h n) stopped in cc)
+    by OutOfMemory stopped bad = bad
+    by (DiskFault m) stopped bad = bad
+    by (LogFull m len) stopped bad = bad
+    by AgesUsedUp stopped bad = bad
+
+-- ---- where none is missing
+
+pub found_whole : (n missing : ℕ) (yard : YardState) (contents : List (Option OnLog)) → NoneMissing n missing
+    → AreFound n missing yard contents → AreFound n 0 yard contents
+found_whole n missing yard contents none found = record {
+  all = found.all;
+  there = λ m l. found.there m l ∙ ap not (none m l ∙ sym (has_zero m));
+  each = found.each;
+}
+
+-- something is found of each member
+pub found_of : (n : ℕ) (yard : YardState) (contents : List (Option OnLog)) (m : ℕ) → AreFound n 0 yard contents
+    → m < n → (c : OnLog) × (content_at contents m ≡ Some c)
+found_of n yard contents m found l =
+    some_there (content_at contents m) (found.there m l ∙ ap not (has_zero m))
+
+-- and these are its entries
+pub listed_found : (n : ℕ) (yard : YardState) (contents : List (Option OnLog)) (m : ℕ) (es : List Entry)
+    → AreFound n 0 yard contents → slice_get (entries_on_logs (lists_with contents)) m ≡ Some es
+    → (c : OnLog) × (content_at contents m ≡ Some c) × (c.entries ≡ es)
+listed_found n yard contents m es found at =
+    let l : m < n = omega (
+      arith,
+      slice_get_within (entries_on_logs (lists_with contents)) m es at,
+      length-map (lists_with contents) (λ (log : LogLists). log.entries),
+      length-map contents (λ (o : Option OnLog). option_map_or as_lists o (record { entries = []; votes = []; age_votes = [] })),
+      found.all,
+    ) in
+    let c = found_of n yard contents m found l in (
+      c.0,
+      c.1,
+      same_Some c.0.entries es (sym (slice_get-map (λ (log : LogLists). log.entries) (lists_with contents) m
+          ∙ ap (option_map (λ (log : LogLists). log.entries)) (among_lists contents m c.0 c.1)) ∙ at),
+    )
+
+-- as they are handed in, they are those of all members
+handed_whole : (n : ℕ) (yard : YardState) (contents : List (Option OnLog)) → AreFound n 0 yard contents
+    → handed_by (all_as_lists contents) ≡ of_set (lists_with contents) (2 ^ n - 1)
+handed_whole n yard contents found = fun_ext λ m. ⊎_elim
+    (λ (l : m < n).
+    let c = found_of n yard contents m found l in
+    handed_is contents m ∙ ap (option_map as_lists) c.1
+    ∙ sym (ap (λ (b : Bool). if b then slice_get (lists_with contents) m else None) (has_ones n m ∙ below m l)
+    ∙ among_lists contents m c.0 c.1))
+    (λ (past : n ≤ m).
+    handed_is contents m ∙ ap (option_map as_lists) (get_or_past contents m None (omega (arith, past, found.all)))
+    ∙ sym (ap (λ (b : Bool). if b then slice_get (lists_with contents) m else None) (has_ones n m ∙ above m past)))
+    (cases_lt m n)
+  where
+    below : (m : ℕ) → m < n → nat_lt m n ≡ true
+    below m l = grind (arith, l)
+
+    above : (m : ℕ) → n ≤ m → nat_lt m n ≡ false
+    above m past = grind (arith, past)
+
+-- where they are accepted, they are refused only as no number is left
+pub accepted_pass : (script : Script) (yard : YardState) (contents : List (Option OnLog)) (why : Refusal)
+    → HasGroupRanges script → AreFound script.members 0 yard contents
+    → AreAccepted script (entries_on_logs (lists_with contents)) → AreRefusedFor script why contents
+    → why ≡ Refusal.AgesUsedUp
+accepted_pass script yard contents why ranges found accepted refused =
+    all-pass (first_group_of script).opening (lists_with contents) (2 ^ script.members - 1) why
+    (omega (arith, ranges.lists, ranges.some_member)) (omega (arith, ranges.lists, ranges.most_members))
+    (long ∙ sym ranges.lists) all
+    (λ m log at. accepted.sound m log.entries (slice_get-map (λ (log : LogLists). log.entries) (lists_with contents) m
+    ∙ ap (option_map (λ (log : LogLists). log.entries)) at))
+    accepted.along
+    (subst (λ h. IsRefusedFor (first_group_of script).opening h why)
+    (handed_whole script.members yard contents found) refused)
+  where
+    long : length (lists_with contents) ≡ script.members
+    long = length-map contents (λ (o : Option OnLog). option_map_or as_lists o (record { entries = []; votes = []; age_votes = [] }))
+        ∙ found.all
+
+    all : (m : ℕ) → m < length (lists_with contents) → has (2 ^ script.members - 1) m ≡ true
+    all m l = has_ones script.members m ∙ below (omega (arith, l, long))
+      where
+        below : m < script.members → nat_lt m script.members ≡ true
+        below less = grind (arith, less)
 
 -- whatever is found on the disks is accepted, and no disk is damaged
 pub record IsGood (script : Script) (yard : YardState) : Type 0 where
-  pub accepted : (lists : List (List Entry)) (contents : ℕ → OnLog) → AreFound script.members yard lists contents
-      → AreAccepted script lists
+  pub accepted : (contents : List (Option OnLog)) → AreFound script.members 0 yard contents
+      → AreAccepted script (entries_on_logs (lists_with contents))
   pub whole : (m at : ℕ) → m < script.members → IfSome (yard.told m) (ReadsDamaged at) → ⊥
 
 -- so their logs are never refused
-pub good_never : (script : Script) (last after : YardState) (s : Stop) → IsGood script last
-    → HasStopped script last after s → IsBadLogs s → ⊥
-good_never script last after (Damaged m at) good is bad = good.whole m at is.below is.damaged
-good_never script last after (Disagree a b p) good is bad =
-    accepted_none_differ script is.0 a b p (good.accepted is.0 is.1 is.2) is.3.1
-good_never script last after (Foreign m p) good is bad =
-    accepted_none_foreign script is.0 m p (good.accepted is.0 is.1 is.2) is.3
-good_never script last after OutOfMemory good is bad = bad
-good_never script last after (DiskFault m) good is bad = bad
-good_never script last after (LogFull m len) good is bad = bad
-good_never script last after AgesUsedUp good is bad = bad
+pub good_never : (script : Script) (missing : ℕ) (last after : YardState) (s : Stop) → HasGroupRanges script
+    → NoneMissing script.members missing → IsGood script last → HasStopped script missing last after s → IsBadLogs s
+    → ⊥
+good_never script missing last after s ranges none good stopped bad = by s stopped bad
+  where
+    other : (why : Refusal) → (found : (contents : List (Option OnLog))
+        × AreFound script.members missing last contents × AreRefusedFor script why contents)
+        → why ≡ Refusal.AgesUsedUp
+    other why found =
+        let all = found_whole script.members missing last found.0 none found.1 in
+        accepted_pass script last found.0 why ranges all (good.accepted found.0 all) found.2
+
+    by : (s : Stop) → HasStopped script missing last after s → IsBadLogs s → ⊥
+    by (Damaged m at) stopped bad = good.whole m at stopped.below stopped.damaged
+    by (Disagree a b p) stopped bad =
+        absurd (let same : Refusal.Disagree a b p ≡ Refusal.AgesUsedUp = other (Refusal.Disagree a b p) stopped in cc)
+    by (Foreign m p) stopped bad =
+        absurd (let same : Refusal.Foreign m p ≡ Refusal.AgesUsedUp = other (Refusal.Foreign m p) stopped in cc)
+    by (NoQuorum v h n) stopped bad =
+        absurd (let same : Refusal.NoQuorum v h n ≡ Refusal.AgesUsedUp = other (Refusal.NoQuorum v h n) stopped in cc)
+    by OutOfMemory stopped bad = bad
+    by (DiskFault m) stopped bad = bad
+    by (LogFull m len) stopped bad = bad
+    by AgesUsedUp stopped bad = bad
 
 -- ---- empty disks
 
@@ -57,38 +225,22 @@ empty_reads (Some t) c empty reads = by reads.stands
     by (inl few) = few.1
     by (inr more) = absurd (omega (arith, more.0, ap length empty))
 
-pub empty_found : (script : Script) (yard : YardState) (lists : List (List Entry)) (contents : ℕ → OnLog) (m : ℕ)
-    (es : List Entry) → AreEmpty script.members yard → AreFound script.members yard lists contents
-    → slice_get lists m ≡ Some es → (es ≡ []) × (contents m ≡ empty_of true)
-empty_found script yard lists contents m es empty found at =
-    let is = found.each m es at in
-    let nothing = empty_reads (yard.told m) (contents m)
-    (empty m (omega (arith, slice_get_within lists m es at, found.all))) is.reads in
-    (sym is.entries ∙ ap (λ (c : OnLog). c.entries) nothing, nothing)
+pub empty_found : (script : Script) (missing : ℕ) (yard : YardState) (contents : List (Option OnLog)) (m : ℕ)
+    (c : OnLog) → AreEmpty script.members yard → AreFound script.members missing yard contents
+    → content_at contents m ≡ Some c → c ≡ empty_of true
+empty_found script missing yard contents m c empty found at =
+    empty_reads (yard.told m) c (empty m (omega (arith, within_places contents m c at, found.all)))
+    (found.each m c at).reads
 
 pub empty_good : (script : Script) (yard : YardState) → AreEmpty script.members yard → IsGood script yard
 empty_good script yard empty = record {
-  accepted = λ lists contents found.
-      none_accepted script lists (λ m es at. (empty_found script yard lists contents m es empty found at).0);
+  accepted = λ contents found.
+      none_accepted script (entries_on_logs (lists_with contents)) (λ m es at.
+      let c = listed_found script.members yard contents m es found at in
+      sym c.2 ∙ ap (λ (d : OnLog). d.entries) (empty_found script 0 yard contents m c.0 empty found c.1));
   whole = λ m at l. none (yard.told m) at (empty m l);
 }
   where
     none : (o : Option Told) (at : ℕ) → IsSomeAnd o (λ t. content_of t ≡ []) → IfSome o (ReadsDamaged at) → ⊥
     none None at is reads = is
     none (Some t) at is reads = absurd (omega (arith, reads.damaged.0, ap length is))
-
--- ---- the disks that an age leaves
-
--- who left the log of a number was there, and its entries are a part of its history
-pub part_of_history : (script : Script) (yard : YardState) (age : AgeEnd) (lists : List (List Entry))
-    (contents : ℕ → OnLog) (m : ℕ) (es : List Entry) → IsBehind script yard age lists contents
-    → slice_get lists m ≡ Some es
-    → IsPresentIn (opening_of script age) m × IsPrefixOf es (accounts_of age.members m).history
-part_of_history script yard age lists contents m es b at =
-    let within : m < script.members = omega (arith, slice_get_within lists m es at, b.found.all) in
-    let e = slice_get-some age.members m (omega (arith, within, b.is.roster)) in
-    let left = found_left script yard age lists contents m e.0 es b e.1 at in (
-      is_there (opening_of script age) script.members m refl within,
-      subst (λ (end : Option MemberEnd). IsPrefixOf es (option_map_or (λ (x : MemberEnd). x.history) end []))
-          (sym e.1) (left_part e.0 es (subst (IsLeftOf e.0.history e.0.logged) left.1 left.0.entries)),
-    )

@@ -1,6 +1,4 @@
-mod Staying
 mod Backs
-mod Caught
 pub mod Chain
 mod Completing
 mod Crashes
@@ -9,10 +7,13 @@ pub mod Fresh
 pub mod Good
 pub mod Keeping
 mod Loans
+mod Opening
 mod Played
 mod Reading
 mod Refusals
 mod Runs
+mod Short
+mod Staying
 mod Stopping
 mod Votes
 mod Watching

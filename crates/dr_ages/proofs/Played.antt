@@ -1,9 +1,10 @@
--- An age that was run over logs that were mounted and brought up to its start.
-use Rattle.std.proofs.Common.{◌≡◌, ◌≢◌, ◌⊎◌, refl, sym, ap, ◌∙◌, subst, ℕ, ◌+◌, ◌^◌, ◌<◌, inl, inr, arith, le_refl, List, [], ◌∷◌, ◌++◌, length, length-append, take, drop, drop_at, get_or, append_assoc}
-use Rattle.std.specs.Prelude.{All, IfOk, OnErr, Option, None, Some, Result, Ok, Err, is_some, slice_get, unwrap_or}
+-- An age that was run over logs that were mounted and opened for it.
+use Rattle.std.proofs.Common.{◌≡◌, ◌≢◌, ◌⊎◌, ◌↔◌, refl, sym, ap, ◌∙◌, subst, ℕ, ◌+◌, ◌-◌, ◌^◌, ◌<◌, ◌≤◌, ◌&&◌, nat_lt, not, inl, inr, arith, le_refl, Bool, true, false, true≢false, List, [], ◌∷◌, ◌++◌, length, length-append, take, drop, drop_at}
+use Rattle.std.specs.Prelude.{IfOk, OnErr, Option, None, Some, Result, Ok, Err, is_some, option_map, slice_get, unwrap_or}
 use Rattle.std.specs.Option.{option_map_or}
-use Rattle.std.proofs.lemmas.List.{length-map}
-use Rattle.std.proofs.lemmas.Option.{same_Some, slice_get-get_or, slice_get_within}
+use Rattle.std.proofs.lemmas.Bool.{cases_Bool}
+use Rattle.std.proofs.lemmas.Bool.Decides.{nat_tests}
+use Rattle.std.proofs.lemmas.Option.{same_Some, slice_get_within}
 use Rattle.dr_complete.specs.Time.{HasTime}
 use Rattle.dr_disk.specs.Disk.{Told}
 use Rattle.dr_disk.specs.Images.{Goes, IsLeft}
@@ -15,112 +16,110 @@ use Rattle.dr_entry.specs.declared.end.MemberEnd.{MemberEnd}
 use Rattle.dr_entry.specs.declared.entry.Entry.{Entry}
 use Rattle.dr_entry.specs.declared.entry.Entry.TheVariants.{View}
 use Rattle.dr_entry.specs.declared.record.Record.{Record}
-use Rattle.dr_gather.specs.CatchingUp.{lacked, opened_with}
-use Rattle.dr_gather.specs.Gathering.{IsStartOf, entries_on}
+use Rattle.dr_gather.specs.CatchingUp.{opened_with}
 use Rattle.dr_gather.proofs.Catching.{rose_since}
-use Rattle.dr_gather.proofs.Grouping.{start_group}
+use Rattle.dr_history.specs.declared.opening.Opening.{Opening}
 use Rattle.dr_history.specs.Agreement.{EndsAgreed}
 use Rattle.dr_history.specs.History.{IsPrefixOf}
+use Rattle.dr_history.specs.Members.{has}
 use Rattle.dr_history.specs.Order.{first_entries}
 use Rattle.dr_history_laws.proofs.Lists.{slice_get-some}
 use Rattle.dr_io.specs.Faults.{Rose}
-use Rattle.dr_log.proofs.Growing.{entries_length-append}
-use Rattle.dr_log.proofs.Ordinary.{has_itself, less_lost}
+use Rattle.dr_log.proofs.Ordinary.{has_through, less_lost}
 use Rattle.dr_log.specs.Standing.{HasAllOf, IsBeforeOrAfter, LosesNone, entries_length, votes_length}
 use Rattle.dr_log.specs.State.{LogState}
-use Rattle.dr_log_bytes.specs.Content.{OnLog, block_length}
+use Rattle.dr_log_bytes.specs.Content.{OnLog, block_length, empty_of}
 use Rattle.dr_log_bytes.specs.Grammar.{StandFor}
 use Rattle.dr_logged.proofs.Serving.{has_base}
-use Rattle.dr_logged.specs.Served.{AtMember, BrokeOff, HasCome, IsFull, IsRecordDue, IsSafe, WentSo}
+use Rattle.dr_logged.specs.Served.{AtMember, BrokeOff, HasCome, HaveSamePlaces, IsFull, IsRecordDue, IsSafe, WentSo}
+use Rattle.dr_machine.specs.Group.{AllPresent, IsGroup, IsPresent}
+use Rattle.dr_machine.proofs.Presence.{in_roster}
+use Rattle.dr_opening.specs.Contents.{IsOpenFor, voted_for}
+use Rattle.dr_opening.specs.Lists.{all_as_lists, as_lists, contents_of, log_of}
+use Rattle.dr_opening.specs.Logs.{GotStart, GotVote, Together, WereOpened}
+use Rattle.dr_opening.specs.Tries.{IsChosenOf, content_at}
+use Rattle.dr_opening.proofs.Choosing.{chosen_group}
+use Rattle.dr_opening.proofs.Ways.{open_entries}
+use Rattle.dr_program.proofs.Present.{present_map, present_within}
 use Rattle.dr_program.specs.declared.outcome.LogWhy.{LogWhy}
+use Rattle.dr_program.specs.declared.setup.CrashPoint.{CrashPoint}
 use Rattle.dr_program.specs.declared.outcome.LogWhy.TheVariants as logs
+use Rattle.dr_program.specs.Presence.{present_at}
 use Rattle.dr_program.specs.Program.{Program, end_of}
 use Rattle.dr_program.specs.Replica.{Replica}
 use Rattle.dr_program.specs.Running.{Running}
-use Rattle.dr_program_laws.specs.Ended.{AreComplete, HaveEnded}
+use Rattle.dr_program_laws.specs.Ended.{AreComplete, HasEnded, HasReason, HaveEnded, IsLeftOut, is_log_end}
 use Rattle.dr_program_laws.specs.Trusting.{NoneLeft, SuspectsNobody}
+use Rattle.dr_quorum.specs.Handing.{handed_by}
+use Rattle.dr_restart.specs.Choosing.{handed_of}
 use Rattle.dr_restart.specs.declared.start.Start.{Start}
-use Rattle.dr_restart.specs.Groups.{group_of}
+use Rattle.dr_restart.specs.Groups.{first_group_of, group_of}
 use Rattle.dr_restart.specs.Setups.{crashes_of}
 use Rattle.dr_script.specs.declared.script.Script.{Script}
 use Rattle.dr_script.specs.Ranges.{HasRanges}
-use Rattle.dr_age.specs.Logged.{AreAsBefore, AreCalm, AreOpened, HaveCome, IsAmple, NoneFull, NoneStopped, why_ended}
+use Rattle.dr_age.specs.Logged.{AreAmple, AreAsBefore, AreCalm, AreOpened, HaveCome, NoneFull, NoneStopped, why_ended}
 use Rattle.dr_threads.specs.Logs.{AreLonger}
+use Rattle.dr_words.proofs.Bits.{has_ones}
+use Rattle.dr_words.proofs.Masks.{has_mask_of, same_masks}
 use Rattle.dr_yard.specs.Yards.{YardState}
 use Rattle.dr_ages.specs.declared.mode.Mode.{Mode}
 use Rattle.dr_ages.specs.declared.mode.Mode.TheVariants.{Sim}
-use Rattle.dr_ages.specs.Ages.{IsAgeOf, IsMemberOf, IsPlayed, over_of, start_of}
-use Rattle.dr_ages.specs.Found.{AreFew}
+use Rattle.dr_ages.specs.Ages.{IsAgeOf, IsMemberOf, IsPlayed, opening_of, over_of, start_of, taking_part}
+use Rattle.dr_ages.specs.Found.{AreFew, NoneMissing}
 use Rattle.dr_ages.specs.Left.{HasLeft, IsFullAt, with_logged}
-use Rattle.dr_ages.specs.Lent.{AreMounted, IsMounted, with_logs}
-use Rattle.dr_ages.specs.Opened.{AreCaughtUp, AreLater, IsCaughtUp, IsLater}
-use Rattle.dr_ages.specs.Passing.{AreKeptSince}
-use Rattle.dr_ages.proofs.Backs.{faults_at, kept_back, passed_with, told_at}
-use Rattle.dr_ages.proofs.Caught.{caught_later}
-use Rattle.dr_ages.proofs.Chain.{passes_none}
-use Rattle.dr_ages.proofs.Fresh.{opened_short}
-use Rattle.dr_ages.proofs.Loans.{are_found, contents_at, contents_on}
-use Rattle.dr_ages.proofs.Staying.{alike_same, goes_tells, lasts_goes, later_then}
-use Rattle.dr_ages.proofs.Votes.{EndsSo, few_cast, member_over, told_by}
-
--- logs that were all brought up to a start are those with which its age opens
-pub are_opened : {D : Type 0} (told : D → Option Told) (faults : D → ℕ) (script : Script) (start : Start)
-    (olds news : List (LogState D)) → length script.messages ≡ script.members → length olds ≡ script.members
-    → AreCaughtUp told faults (opened_with start start.members) olds news (length olds)
-    → AreOpened (group_of script start) news
-are_opened told faults script start olds news lists all caught = record {
-  all = caught.all ∙ (all ∙ sym lists);
-  each = λ k d l.
-      let whole = opened_with start start.members in
-      let old = slice_get-some olds k (omega (arith, l, caught.all)) in
-      let up = caught.done k old.0 (get_or news k d) (omega (arith, l, caught.all)) old.1 (slice_get-get_or news k d l) in
-      record {
-        entries = up.0.entries;
-        whole = up.0.unfailed;
-      };
-}
+use Rattle.dr_ages.specs.Lent.{AreAllBut, AreMounted, IsMounted, with_logs}
+use Rattle.dr_ages.specs.Opened.{AreLater, IsLater}
+use Rattle.dr_ages.specs.Passing.{AreKeptSince, PassOn}
+use Rattle.dr_ages.proofs.Backs.{faults_at, kept_back, log_at, not_missing, passed_with, places_then, stays_there, told_at, untouched_with, was_there}
+use Rattle.dr_ages.proofs.Loans.{are_found, content_at_log, contents_there, log_of_content}
+use Rattle.dr_ages.proofs.Opening.{are_opened, opened_on, opened_places}
+use Rattle.dr_ages.proofs.Short.{found_short, open_long, opened_short}
+use Rattle.dr_ages.proofs.Staying.{alike_same, goes_tells, lasts_goes, later_by_all, later_then, on_same}
+use Rattle.dr_ages.proofs.Votes.{EndsSo, few_cast, member_over, over_form, told_by}
 
 -- ---- the logs go on
 
 come_on : {D : Type 0} (told : D → Option Told) (faults : D → ℕ) (base log : LogState D) (r : Replica)
-    (why : Option LogWhy) → HasCome told faults base log r why → IsLater told faults base log
+    (why : Option LogWhy) → HasCome told faults base log r why → IsLater told faults [] base log
 come_on told faults base log r why come = record {
-  has = has_base told faults base log r why come;
+  has = λ first all has. has_through first base.content log.content has (has_base told faults base log r why come);
   tells = goes_tells (told base.disk) (told log.disk) (λ s. LosesNone base.content) come.moments;
   later = come.later;
-  stays = λ first part left.
+  stays = λ first all part left.
       lasts_goes (told base.disk) (told log.disk) (LosesNone first) (come.lasting first) left;
 }
 
-later_by_come : {D : Type 0} (told : D → Option Told) (faults : D → ℕ) (olds news : List (LogState D))
-    (members : List Running) → length members ≡ length olds → HaveCome told faults olds news members
-    → AreLater told faults olds news
+later_by_come : {D : Type 0} (told : D → Option Told) (faults : D → ℕ) (olds news : List (Option (LogState D)))
+    (members : List (Option Running))
+    → ((m : ℕ) (old : LogState D) → log_of olds m ≡ Some old → (r : Running) × (present_at members m ≡ Some r))
+    → HaveCome told faults olds news members → AreLater told faults [] olds news
 later_by_come told faults olds news members all come m old new there here =
-    let r = slice_get-some members m (omega (arith, slice_get_within olds m old there, all)) in
+    let r = all m old there in
     come_on told faults old new r.0.replica (why_ended (end_of r.0).end) (come m old new r.0 there here r.1)
 
-later_by_calm : {D : Type 0} (told : D → Option Told) (faults : D → ℕ) (olds news : List (LogState D))
-    → AreAsBefore olds news → AreCalm told faults olds news → AreLater told faults olds news
+pub later_by_calm : {D : Type 0} (told : D → Option Told) (faults : D → ℕ) (olds news : List (Option (LogState D)))
+    → AreAsBefore olds news → AreCalm told faults olds news → AreLater told faults [] olds news
 later_by_calm told faults olds news kept calm m old new there here =
     let is = kept m old new there here in
     let still = calm m old new there here in
     record {
-      has = subst (HasAllOf old.content) (sym is) (has_itself old.content);
+      has = λ first all has. subst (HasAllOf first) (sym is) has;
       tells = ap (λ o. is_some o) (sym still.0);
       later = omega (arith, still.1);
-      stays = λ first part left. subst (λ (o : Option Told). Goes (told old.disk) o (λ s. LosesNone first))
+      stays = λ first all part left. subst (λ (o : Option Told). Goes (told old.disk) o (λ s. LosesNone first))
           (sym still.0) (stays_at (told old.disk) (λ s. LosesNone first) left);
     }
 
-pub later_by_longer : {D : Type 0} (told : D → Option Told) (faults : D → ℕ) (olds news : List (LogState D))
-    → AreLonger told faults olds news → AreLater told faults olds news
+pub later_by_longer : {D : Type 0} (told : D → Option Told) (faults : D → ℕ)
+    (olds news : List (Option (LogState D)))
+    → AreLonger told faults olds news → AreLater told faults [] olds news
 later_by_longer told faults olds news longer m old new there here =
     let is = longer.each m old new there here in
     record {
-      has = is.has;
+      has = λ first all has. has_through first old.content new.content has is.has;
       tells = tells is.moments;
       later = is.later;
-      stays = λ first part left. stays first part left is.moments;
+      stays = λ first all part left. stays first part left is.moments;
     }
   where
     tells : (told new.disk ≡ told old.disk)
@@ -142,24 +141,26 @@ later_by_longer told faults olds news longer m old new there here =
 
 -- an age ran as its mode says, and its logs have come to what its members tell
 abbrev pub RanWith : {D : Type 0} → (D → Option Told) → (D → ℕ) → Script → Start → ℕ → AgeEnd → Mode
-    → List (LogState D) → List (LogState D) → Type 0
+    → List (Option (LogState D)) → List (Option (LogState D)) → Type 0
 RanWith told faults script start nth age mode olds news = (is : IsPlayed mode script start nth age)
     × HaveCome told faults olds news (over_of mode script start nth age is).members
 
--- there are as many as its end tells
-over_count : (mode : Mode) (script : Script) (start : Start) (nth : ℕ) (age : AgeEnd)
-    → (is : IsPlayed mode script start nth age)
-    → length (over_of mode script start nth age is).members ≡ length age.members
-over_count mode script start nth age is =
-    sym (ap (λ (a : AgeEnd). length a.members) (told_by mode script start nth age is)
-    ∙ length-map (over_of mode script start nth age is).members end_of)
+-- whoever is there stands in its program
+stands_over : (mode : Mode) (script : Script) (start : Start) (nth : ℕ) (age : AgeEnd) → HasRanges script
+    → IsGroup (group_of script start) → (is : IsPlayed mode script start nth age) → (m : ℕ)
+    → IsPresent (group_of script start) m
+    → (r : Running) × (present_at (over_of mode script start nth age is).members m ≡ Some r)
+stands_over mode script start nth age ranges group is m here =
+    (over_form mode script start nth age ranges group is).there m
+    (in_roster (group_of script start) m group here) here
 
 pub later_by_run : {D : Type 0} (told : D → Option Told) (faults : D → ℕ) (script : Script) (start : Start)
-    (nth : ℕ) (age : AgeEnd) (mode : Mode) (olds news : List (LogState D)) → length age.members ≡ length olds
-    → RanWith told faults script start nth age mode olds news → AreLater told faults olds news
-later_by_run told faults script start nth age mode olds news all ran =
+    (nth : ℕ) (age : AgeEnd) (mode : Mode) (olds news : List (Option (LogState D))) → HasRanges script
+    → IsGroup (group_of script start) → AreOpened (group_of script start) olds
+    → RanWith told faults script start nth age mode olds news → AreLater told faults [] olds news
+later_by_run told faults script start nth age mode olds news ranges group opened ran =
     later_by_come told faults olds news (over_of mode script start nth age ran.0).members
-    (over_count mode script start nth age ran.0 ∙ all) ran.1
+    (λ m old there. stands_over mode script start nth age ranges group ran.0 m (opened.each m old there).0) ran.1
 
 -- what holds of the value of an answer
 pub ok_at : {X E : Type 0} (P : X → Type 0) (result : Result X E) (x : X) → result ≡ Ok x → IfOk result P → P x
@@ -167,22 +168,24 @@ ok_at P result x is so = subst (λ r. IfOk r P) is so
 
 -- an age that ran, or that had no memory to begin
 pub later_by_result : {D E : Type 0} (tells : D → Option Told) (faults : D → ℕ) (script : Script) (start : Start)
-    (nth : ℕ) (mode : Mode) (olds news : List (LogState D))
-    (result : Result AgeEnd E) → IfOk result (λ age. length age.members ≡ length olds)
+    (nth : ℕ) (mode : Mode) (olds news : List (Option (LogState D)))
+    (result : Result AgeEnd E) → HasRanges script → IsGroup (group_of script start)
+    → AreOpened (group_of script start) olds
     → IfOk result (λ age. RanWith tells faults script start nth age mode olds news)
     → OnErr result (AreAsBefore olds news) → OnErr result (AreCalm tells faults olds news)
-    → AreLater tells faults olds news
-later_by_result tells faults script start nth mode olds news (Ok age) all ran kept calm =
-    later_by_run tells faults script start nth age mode olds news all ran
-later_by_result tells faults script start nth mode olds news (Err error) all ran kept calm =
+    → AreLater tells faults [] olds news
+later_by_result tells faults script start nth mode olds news (Ok age) ranges group opened ran kept calm =
+    later_by_run tells faults script start nth age mode olds news ranges group opened ran
+later_by_result tells faults script start nth mode olds news (Err error) ranges group opened ran kept calm =
     later_by_calm tells faults olds news kept calm
 
-pub later_on : {D : Type 0} (tells : D → Option Told) (faults : D → ℕ) (olds mids news : List (LogState D))
-    → length mids ≡ length olds → AreLater tells faults olds mids → AreLater tells faults mids news
-    → AreLater tells faults olds news
-later_on tells faults olds mids news count first next m old new there here =
-    let mid = slice_get-some mids m (omega (arith, slice_get_within olds m old there, count)) in
-    later_then tells faults old mid.0 new (first m old mid.0 there mid.1) (next m mid.0 new mid.1 here)
+pub later_on : {D : Type 0} (tells : D → Option Told) (faults : D → ℕ) (starts : List (List Entry))
+    (olds mids news : List (Option (LogState D)))
+    → HaveSamePlaces olds mids → AreLater tells faults starts olds mids → AreLater tells faults starts mids news
+    → AreLater tells faults starts olds news
+later_on tells faults starts olds mids news places first next m old new there here =
+    let mid = stays_there olds mids m old places there in
+    later_then tells faults starts old mid.0 new (first m old mid.0 there mid.1) (next m mid.0 new mid.1 here)
 
 -- ---- what is left on a disk
 
@@ -217,122 +220,215 @@ left_by {D} tells faults base log r found come kept = by (why_ended (end_of r).e
       left = subst (λ (c : OnLog). IsLeft (tells log.disk) (IsBeforeOrAfter c went.0)) kept went.2.left;
     })
 
--- what has come of a log in an age, by what was on it as it was mounted
-content_of_come : {D : Type 0} (tells : D → Option Told) (faults : D → ℕ) (whole : List Entry)
-    (old mid new : LogState D) (r : Replica) (why : Option LogWhy) → IsCaughtUp tells faults whole old mid
-    → HasCome tells faults mid new r why → new.content ≡ with_logged old.content r
-content_of_come {D} tells faults whole old mid new r why up come = λ i. record {
+-- what has come of a log in an age, by what was on it as the age began
+content_of_come : {D : Type 0} (tells : D → Option Told) (faults : D → ℕ) (base new : LogState D) (r : Replica)
+    (why : Option LogWhy) → HasCome tells faults base new r why → new.content ≡ with_logged base.content r
+content_of_come {D} tells faults base new r why come = λ i. record {
   entries = come.entries i;
-  votes = votes i;
-  age_votes = age_votes i;
-  newer = newer i;
+  votes = come.voted i;
+  age_votes = come.age_votes i;
+  newer = come.newer i;
   length = long i;
 }
   where
-    es : List Entry
-    es = old.content.entries
+    rest : drop (length base.content.entries) (take r.logged r.history) ≡ come.more.0
+    rest = ap (drop (length base.content.entries)) (sym come.entries ∙ come.more.1)
+        ∙ drop_at base.content.entries come.more.0 (length base.content.entries) refl
 
-    votes : new.content.votes ≡ old.content.votes ++ r.votes
-    votes = come.voted ∙ ap (λ (c : OnLog). c.votes ++ r.votes) up.0.content
+    long : new.content.length ≡ base.content.length
+        + (entries_length (drop (length base.content.entries) (take r.logged r.history)) + votes_length r.votes)
+    long = omega (arith, come.long, ap entries_length rest)
 
-    age_votes : new.content.age_votes ≡ old.content.age_votes
-    age_votes = come.age_votes ∙ ap (λ (c : OnLog). c.age_votes) up.0.content
+-- ---- who takes part
 
-    newer : new.content.newer ≡ old.content.newer
-    newer = come.newer ∙ ap (λ (c : OnLog). c.newer) up.0.content
+some_map : {X Y : Type 0} (f : X → Y) (o : Option X) → is_some (option_map f o) ≡ is_some o
+some_map f None = refl
+some_map f (Some x) = refl
 
-    -- what its member has logged is what was found, what was lacked, and what came behind
-    parts : take r.logged r.history ≡ es ++ (lacked old whole ++ come.more.0)
-    parts = sym come.entries ∙ come.more.1
-        ∙ ap (λ (c : OnLog). c.entries ++ come.more.0) up.0.content
-        ∙ append_assoc es (lacked old whole) come.more.0
+-- the members whose logs are handed in are those that are not missing
+handed_are : (script : Script) (missing : ℕ) (contents : List (Option OnLog))
+    → length script.messages ≡ script.members
+    → ((m : ℕ) → m < script.members → is_some (content_at contents m) ≡ not (has missing m))
+    → handed_of (handed_by (all_as_lists contents)) (2 ^ length script.messages - 1)
+    ≡ taking_part script missing
+handed_are script missing contents lists there =
+    same_masks (handed_of (handed_by (all_as_lists contents)) (2 ^ length script.messages - 1))
+    (taking_part script missing)
+    (λ i. has_mask_of (λ m. has (2 ^ length script.messages - 1) m && is_some (handed_by (all_as_lists contents) m)) i
+    ∙ ap (λ b. nat_lt i 16 && b) (each i)
+    ∙ sym (has_mask_of (λ m. has (2 ^ script.members - 1) m && not (has missing m)) i))
+  where
+    full : (i : ℕ) → has (2 ^ length script.messages - 1) i ≡ has (2 ^ script.members - 1) i
+    full i = ap (λ n. has (2 ^ n - 1) i) lists
 
-    rest : drop (length es) (take r.logged r.history) ≡ lacked old whole ++ come.more.0
-    rest = ap (drop (length es)) parts ∙ drop_at es (lacked old whole ++ come.more.0) (length es) refl
+    each : (i : ℕ) → (has (2 ^ length script.messages - 1) i && is_some (handed_by (all_as_lists contents) i))
+        ≡ (has (2 ^ script.members - 1) i && not (has missing i))
+    each i = by (has (2 ^ script.members - 1) i) refl
+      where
+        by : (b : Bool) → has (2 ^ script.members - 1) i ≡ b
+            → (has (2 ^ length script.messages - 1) i && is_some (handed_by (all_as_lists contents) i))
+            ≡ (has (2 ^ script.members - 1) i && not (has missing i))
+        by true e =
+            let below : i < script.members = grind (arith, nat_tests, sym (has_ones script.members i) ∙ e) in
+            ap (λ b. b && is_some (handed_by (all_as_lists contents) i)) (full i ∙ e)
+            ∙ ap (λ o. is_some o) (present_map as_lists contents i)
+            ∙ some_map as_lists (content_at contents i) ∙ there i below
+            ∙ sym (ap (λ b. b && not (has missing i)) e)
+        by false e = ap (λ b. b && is_some (handed_by (all_as_lists contents) i)) (full i ∙ e)
+            ∙ sym (ap (λ b. b && not (has missing i)) e)
 
-    long : new.content.length ≡ old.content.length
-        + (entries_length (drop (length es) (take r.logged r.history)) + votes_length r.votes)
-    long = omega (
+-- who takes part is of the roster, and not missing
+takes_part : (script : Script) (missing m : ℕ) → has (taking_part script missing) m ≡ true
+    → has missing m ≡ false
+takes_part script missing m here =
+    grind (arith, has_mask_of (λ k. has (2 ^ script.members - 1) k && not (has missing k)) m, here)
+
+part_of : (script : Script) (missing m : ℕ) → script.members ≤ 16 → m < script.members
+    → has missing m ≡ false → has (taking_part script missing) m ≡ true
+part_of script missing m few below there =
+    grind (
       arith,
-      come.long,
-      ap (λ (c : OnLog). c.length) up.0.content,
-      ap entries_length rest,
-      entries_length-append (lacked old whole) come.more.0,
+      nat_tests,
+      has_mask_of (λ k. has (2 ^ script.members - 1) k && not (has missing k)) m,
+      has_ones script.members m,
+      below,
+      few,
+      there,
     )
+
+-- where none is missing all do
+pub all_take_part : (script : Script) (missing : ℕ) → script.members ≤ 16 → NoneMissing script.members missing
+    → taking_part script missing ≡ 2 ^ script.members - 1
+all_take_part script missing few none =
+    same_masks (taking_part script missing) (2 ^ script.members - 1)
+    (λ i. by i (has (2 ^ script.members - 1) i) refl)
+  where
+    by : (i : ℕ) (b : Bool) → has (2 ^ script.members - 1) i ≡ b
+        → has (taking_part script missing) i ≡ has (2 ^ script.members - 1) i
+    by i true e =
+        let below : i < script.members = grind (arith, nat_tests, sym (has_ones script.members i) ∙ e) in
+        part_of script missing i few below (none i below) ∙ sym e
+    by i false e =
+        has_mask_of (λ k. has (2 ^ script.members - 1) k && not (has missing k)) i
+        ∙ grind (arith, e)
 
 -- ---- the age
 
 -- an age that was run over these logs: as they were mounted, as it began, and as they are
-pub record WasPlayed {D : Type 0} (tells : D → Option Told) (faults : D → ℕ) (script : Script) (mode : Mode) (nth : ℕ)
-    (before : YardState) (start : Start) (olds mids news : List (LogState D)) (age : AgeEnd) : Type 0 where
+pub record WasPlayed {D : Type 0} (tells : D → Option Told) (faults : D → ℕ) (script : Script) (missing : ℕ)
+    (mode : Mode) (nth : ℕ) (before : YardState) (start : Start) (olds mids news : List (Option (LogState D)))
+    (age : AgeEnd) : Type 0 where
   pub ranges : HasRanges script
   pub all : length olds ≡ script.members
   pub mounted : AreMounted tells faults before olds
-  pub starts : IsStartOf script (entries_on olds) start
-  pub small : start.age < 2 ^ 16
-  pub caught : AreCaughtUp tells faults (opened_with start start.members) olds mids (length olds)
+  pub but : AreAllBut missing olds
+  pub starts : IsChosenOf (first_group_of script).opening (contents_of olds) start
+  pub began : WereOpened tells faults start olds mids
   pub run : IsPlayed mode script start nth age
   pub come : HaveCome tells faults mids news (over_of mode script start nth age run).members
   pub agreed : EndsAgreed (group_of script start).opening age.members
   pub ended : HaveEnded (group_of script start).opening script.turns (crashes_of script.faults nth) age.members
   pub trusting : SuspectsNobody script → NoneLeft age.members
-  pub complete : mode ≡ Sim → HasTime script → NoneStopped age.members
+  pub complete : AllPresent (group_of script start) → mode ≡ Sim → HasTime script → NoneStopped age.members
       → AreComplete (group_of script start).opening age.members
-  pub ample : All (IsAmple (group_of script start)) mids → NoneFull age.members
-  pub count : length news ≡ length mids
+  pub ample : AreAmple (group_of script start) mids → NoneFull age.members
+  pub places : HaveSamePlaces mids news
   pub members : length age.members ≡ length mids
 
 -- its start is the one that its end tells
-pub same_start : (mode : Mode) (script : Script) (lists : List (List Entry)) (start : Start) (nth : ℕ)
-    (age : AgeEnd) → IsStartOf script lists start → IsPlayed mode script start nth age
-    → start ≡ start_of script age
-same_start mode script lists start nth age starts run = λ i. record {
+pub same_start : (mode : Mode) (script : Script) (missing : ℕ) (contents : List (Option OnLog)) (start : Start)
+    (nth : ℕ) (age : AgeEnd) → length script.messages ≡ script.members
+    → ((m : ℕ) → m < script.members → is_some (content_at contents m) ≡ not (has missing m))
+    → IsChosenOf (first_group_of script).opening contents start → IsPlayed mode script start nth age
+    → start ≡ start_of script missing age
+same_start mode script missing contents start nth age lists there starts run = λ i. record {
   age = sym (ap (λ (a : AgeEnd). a.age) (told_by mode script start nth age run)) i;
-  members = starts.members i;
-  present = starts.present i;
+  members = members i;
+  present = (starts.chosen.present ∙ members) i;
   entries = sym (ap (λ (a : AgeEnd). a.start) (told_by mode script start nth age run)) i;
 }
+  where
+    members : start.members ≡ taking_part script missing
+    members = starts.chosen.members ∙ handed_are script missing contents lists there
+
+-- what came of a log that was there
+together_some : {D : Type 0} (P : LogState D → LogState D → Type 0) (o p : Option (LogState D)) (old : LogState D)
+    → o ≡ Some old → Together P o p → (new : LogState D) × (p ≡ Some new) × P old new
+together_some P None p old is both = absurd (cc is)
+together_some P (Some x) None old is both = absurd both
+together_some P (Some x) (Some new) old is both =
+    (new, refl, subst (λ y. P y new) (same_Some x old is) both)
+
+-- a log, and a log that it was as its age began
+record IsOpenLog {D : Type 0} (tells : D → Option Told) (faults : D → ℕ) (start : Start) (yard : YardState)
+    (olds mids : List (Option (LogState D))) (m : ℕ) : Type 0 where
+  old : LogState D
+  voted : LogState D
+  mid : LogState D
+  from : log_of olds m ≡ Some old
+  by : log_of mids m ≡ Some mid
+  mounted : IsMounted tells faults (yard.told m) (yard.faults m) old
+  vote : GotVote tells faults start old voted
+  begun : GotStart tells faults start voted mid
+
+open_log : {D : Type 0} (tells : D → Option Told) (faults : D → ℕ) (start : Start) (yard : YardState)
+    (olds mids : List (Option (LogState D))) (m : ℕ) (old : LogState D) → AreMounted tells faults yard olds
+    → WereOpened tells faults start olds mids → log_of olds m ≡ Some old
+    → IsOpenLog tells faults start yard olds mids m
+open_log tells faults start yard olds mids m old mounted (votes, first, next) from =
+    let within = present_within olds m old from in
+    let voted = together_some (GotVote tells faults start) (log_of olds m) (log_of votes m) old from
+    (first.below m within) in
+    let mid = together_some (GotStart tells faults start) (log_of votes m) (log_of mids m) voted.0 voted.1
+    (next.below m within) in
+    record {
+      old = old;
+      voted = voted.0;
+      mid = mid.0;
+      from = from;
+      by = mid.1;
+      mounted = mounted m old from;
+      vote = voted.2;
+      begun = mid.2;
+    }
+
+-- it is open for the age
+is_open : {D : Type 0} (tells : D → Option Told) (faults : D → ℕ) (start : Start) (yard : YardState)
+    (olds mids : List (Option (LogState D))) (m : ℕ) (x : IsOpenLog tells faults start yard olds mids m)
+    → IsOpenFor start (voted_for start x.old.content) x.mid.content
+is_open tells faults start yard olds mids m x =
+    subst (λ c. IsOpenFor start c x.mid.content) x.vote.0.content x.begun.content
 
 -- a member of it, with its log
-record IsOf {D : Type 0} (tells : D → Option Told) (faults : D → ℕ) (whole : List Entry) (yard : YardState)
-    (olds mids news : List (LogState D)) (m : ℕ) (r : Running) : Type 0 where
-  old : LogState D
-  mid : LogState D
+record IsOf {D : Type 0} (tells : D → Option Told) (faults : D → ℕ) (start : Start) (yard : YardState)
+    (olds mids news : List (Option (LogState D))) (m : ℕ) (r : Running) : Type 0 where
+  open_one : IsOpenLog tells faults start yard olds mids m
   new : LogState D
-  from : slice_get olds m ≡ Some old
-  by : slice_get mids m ≡ Some mid
-  to : slice_get news m ≡ Some new
-  mounted : IsMounted tells faults (yard.told m) (yard.faults m) old
-  caught : IsCaughtUp tells faults whole old mid
-  come : HasCome tells faults mid new r.replica (why_ended (end_of r).end)
+  to : log_of news m ≡ Some new
+  come : HasCome tells faults open_one.mid new r.replica (why_ended (end_of r).end)
 
-is_of : {D : Type 0} (tells : D → Option Told) (faults : D → ℕ) (script : Script) (mode : Mode) (nth : ℕ)
-    (before : YardState) (start : Start) (olds mids news : List (LogState D)) (age : AgeEnd) (m : ℕ)
-    (r : Running) → (w : WasPlayed tells faults script mode nth before start olds mids news age)
-    → slice_get (over_of mode script start nth age w.run).members m ≡ Some r
-    → IsOf tells faults (opened_with start start.members) before olds mids news m r
-is_of tells faults script mode nth before start olds mids news age m r w at =
-    let within : m < length mids =
-    omega (
+is_of : {D : Type 0} (tells : D → Option Told) (faults : D → ℕ) (script : Script) (missing : ℕ) (mode : Mode)
+    (nth : ℕ) (before : YardState) (start : Start) (olds mids news : List (Option (LogState D))) (age : AgeEnd)
+    (m : ℕ) (r : Running)
+    → (w : WasPlayed tells faults script missing mode nth before start olds mids news age)
+    → start.present ≡ taking_part script missing → IsGroup (group_of script start)
+    → present_at (over_of mode script start nth age w.run).members m ≡ Some r
+    → IsOf tells faults start before olds mids news m r
+is_of tells faults script missing mode nth before start olds mids news age m r w present group at =
+    let form = over_form mode script start nth age w.ranges group w.run in
+    let below : m < length olds = omega (
       arith,
-      slice_get_within (over_of mode script start nth age w.run).members m r at,
-      over_count mode script start nth age w.run,
-      w.members,
+      present_within (over_of mode script start nth age w.run).members m r at,
+      form.all,
+      w.ranges.group.lists,
+      w.all,
     ) in
-    let old = slice_get-some olds m (omega (arith, within, w.caught.all)) in
-    let mid = slice_get-some mids m within in
-    let new = slice_get-some news m (omega (arith, within, w.count)) in
-    record {
-      old = old.0;
-      mid = mid.0;
-      new = new.0;
-      from = old.1;
-      by = mid.1;
-      to = new.1;
-      mounted = w.mounted m old.0 old.1;
-      caught = w.caught.done m old.0 mid.0 (omega (arith, within, w.caught.all)) old.1 mid.1;
-      come = w.come m mid.0 new.0 r mid.1 new.1 at;
-    }
+    let gone = takes_part script missing m
+    (subst (λ mask. has mask m ≡ true) present (form.of m r at).present) in
+    let old = log_at missing olds m w.but below gone in
+    let x = open_log tells faults start before olds mids m old.0 w.mounted w.began old.1 in
+    let new = stays_there mids news m x.mid w.places x.by in
+    record { open_one = x; new = new.0; to = new.1; come = w.come m x.mid new.0 r x.by new.1 at }
 
 -- what a member of it leaves
 record LeavesSo (members : ℕ) (found : OnLog) (told : Option Told) (r : Replica) : Type 0 where
@@ -340,141 +436,241 @@ record LeavesSo (members : ℕ) (found : OnLog) (told : Option Told) (r : Replic
   left : HasLeft told r found
   full : (len : ℕ) → r.end ≡ Some (ends.LogFull len) → IsFullAt r found len
 
-pub is_age : {D : Type 0} (tells : D → Option Told) (faults : D → ℕ) (script : Script) (mode : Mode) (nth : ℕ)
-    (before : YardState) (start : Start) (olds mids news : List (LogState D)) (age : AgeEnd)
-    → WasPlayed tells faults script mode nth before start olds mids news age
-    → IsAgeOf script mode nth before (with_logs tells faults before news) age
-is_age {D} tells faults script mode nth before start olds mids news age w = record {
-  lists = entries_on olds;
-  contents = contents_on olds;
-  found = are_found tells faults before olds script.members w.mounted w.all;
-  starts = subst (IsStartOf script (entries_on olds)) same w.starts;
-  small = omega (arith, w.small, ap (λ (s : Start). s.age) same);
+-- what is on the log of each member
+abbrev pub content_on : {D : Type 0} → List (Option (LogState D)) → ℕ → OnLog
+content_on {D} logs m = option_map_or (λ (log : LogState D). log.content) (log_of logs m) (empty_of true)
+
+content_here : {D : Type 0} (logs : List (Option (LogState D))) (m : ℕ) (log : LogState D)
+    → log_of logs m ≡ Some log → content_on logs m ≡ log.content
+content_here {D} logs m log there =
+    ap (λ (o : Option (LogState D)). option_map_or (λ (log : LogState D). log.content) o (empty_of true)) there
+
+-- nobody that is there ends as one that is absent
+not_away : (o : Opening) (all : List MemberEnd) (limit m : ℕ) (points : List CrashPoint) (e : MemberEnd)
+    → HasEnded o all limit m points e → e.end ≡ ends.Absent → ⊥
+not_away o all limit m points e ended away = by ended.reason
+  where
+    by : HasReason o all ended.number ended.members limit m points e → ⊥
+    by (inl done) = absurd (cc (done.whole.end, away))
+    by (inr (inl spent)) = absurd (cc (spent.end, away))
+    by (inr (inr (inl crashed))) = absurd (cc (crashed.end, away))
+    by (inr (inr (inr (inl by_log)))) = true≢false (sym by_log.end ∙ ap is_log_end away)
+    by (inr (inr (inr (inr left)))) = subst (IsLeftOut o all ended.number ended.members m) away left.end
+
+pub is_age : {D : Type 0} (tells : D → Option Told) (faults : D → ℕ) (script : Script) (missing : ℕ) (mode : Mode)
+    (nth : ℕ) (before : YardState) (start : Start) (olds mids news : List (Option (LogState D))) (age : AgeEnd)
+    → WasPlayed tells faults script missing mode nth before start olds mids news age
+    → IsAgeOf script missing mode nth before (with_logs tells faults before news) age
+is_age {D} tells faults script missing mode nth before start olds mids news age w = record {
+  contents = contents_of olds;
+  found = are_found tells faults missing before olds script.members w.mounted w.but w.all;
+  starts = subst (IsChosenOf (first_group_of script).opening (contents_of olds)) same w.starts;
+  begun = content_on mids;
+  begins = λ m c at. subst (λ (s : Start). IsOpenFor s (voted_for s c) (content_on mids m)) same (begins m c at);
   roster = roster;
   run = ran.0;
   agreed = subst (λ (s : Start). EndsAgreed (group_of script s).opening age.members) same w.agreed;
-  ended = subst (λ (s : Start). HaveEnded (group_of script s).opening script.turns
-      (crashes_of script.faults nth) age.members) same w.ended;
+  ended = ended;
   trusting = w.trusting;
-  complete = subst (λ (s : Start). mode ≡ Sim → HasTime script → NoneStopped age.members
-      → AreComplete (group_of script s).opening age.members) same w.complete;
+  complete = λ none. subst (λ (s : Start). mode ≡ Sim → HasTime script → NoneStopped age.members
+      → AreComplete (group_of script s).opening age.members) same (w.complete (whole none));
+  absent = absent;
   few = λ m r at. (ran.1 m r at).few;
-  opened = λ m e at. subst (λ (s : Start). IsPrefixOf (first_entries (group_of script s).opening)
-      (take e.logged e.history)) same (opened m e at);
+  opened = λ m e at there. subst (λ (s : Start). IsPrefixOf (first_entries (group_of script s).opening)
+      (take e.logged e.history)) same (opened m e at there);
   left = λ m r at. (ran.1 m r at).left;
   failed = failed;
   calm = calm;
   full = λ m r at. (ran.1 m r at).full;
-  ample = λ few. w.ample (λ k d l. ample few k d l);
-  passes = passed_with tells faults before before olds news w.mounted
-      (later_on tells faults olds mids news w.caught.all
-      (caught_later tells faults (opened_with start start.members) olds mids (length olds) w.caught)
-      later) (w.count ∙ w.caught.all)
-      (λ m past. passes_none before m);
-  since = subst (λ (k : ℕ). AreKeptSince script.members k before (with_logs tells faults before news)) w.all
-      (kept_back tells faults script.members before before (with_logs tells faults before news) olds news w.mounted
-      (later_on tells faults olds mids news w.caught.all
-      (caught_later tells faults (opened_with start start.members) olds mids (length olds) w.caught)
-      later) (w.count ∙ w.caught.all)
-      (λ m past. alike_same (before.told m) (before.told m) (before.faults m) (before.faults m) refl
-      (le_refl (before.faults m))) (λ m. (refl, refl)));
+  ample = λ few. w.ample (ample few);
+  passes = subst (λ (es : List Entry). PassOn (es ∷ []) before (with_logs tells faults before news))
+      (ap (λ (s : Start). s.entries) same)
+      (passed_with tells faults (start.entries ∷ []) before before olds news w.mounted later places
+      (λ m none. on_same (start.entries ∷ []) (before.told m) (before.told m) (before.faults m) (before.faults m) refl
+      (le_refl (before.faults m))));
+  since = subst (λ (es : List Entry). AreKeptSince script.members missing script.members (es ∷ []) before
+      (with_logs tells faults before news)) (ap (λ (s : Start). s.entries) same)
+      (subst (λ (k : ℕ). AreKeptSince script.members missing k (start.entries ∷ []) before
+      (with_logs tells faults before news)) w.all
+      (kept_back tells faults script.members missing (start.entries ∷ []) before before
+      (with_logs tells faults before news) olds news w.mounted w.but later places
+      (λ m none. alike_same (before.told m) (before.told m) (before.faults m) (before.faults m) refl
+      (le_refl (before.faults m))) (λ m. (refl, refl))));
+  untouched = untouched_with tells faults missing before olds news w.but places;
 }
   where
-    same : start ≡ start_of script age
-    same = same_start mode script (entries_on olds) start nth age w.starts w.run
+    group : IsGroup (group_of script start)
+    group = chosen_group script (contents_of olds) start w.ranges.group w.starts
 
-    whole : List Entry
-    whole = opened_with start start.members
+    there : (m : ℕ) → m < script.members → is_some (content_at (contents_of olds) m) ≡ not (has missing m)
+    there m below = contents_there olds m ∙ w.but m (omega (arith, below, w.all))
 
-    -- there are as many banks as members
+    same : start ≡ start_of script missing age
+    same = same_start mode script missing (contents_of olds) start nth age w.ranges.group.lists there w.starts w.run
+
+    present : start.present ≡ taking_part script missing
+    present = ap (λ (s : Start). s.present) same
+
+    began : HaveSamePlaces olds mids
+    began = opened_places tells faults start olds mids w.began
+
+    places : HaveSamePlaces olds news
+    places = places_then olds mids news began w.places
+
+    opens : AreOpened (group_of script start) mids
+    opens = are_opened tells faults script start olds mids w.ranges.group.lists w.ranges.group.most_members w.all
+        w.starts w.began
+
     roster : length age.members ≡ script.members
-    roster = w.members ∙ (w.caught.all ∙ w.all)
-
-    -- the logs are later behind it
-    later : AreLater tells faults mids news
-    later = later_by_run tells faults script start nth age mode mids news w.members (w.run, w.come)
+    roster = w.members ∙ (began.all ∙ w.all)
 
     over : Program
     over = over_of mode script start nth age w.run
 
-    one : (m : ℕ) (r : Running) → slice_get over.members m ≡ Some r
-        → IsOf tells faults whole before olds mids news m r
-    one m r at = is_of tells faults script mode nth before start olds mids news age m r w at
+    -- the logs are later behind it
+    later : AreLater tells faults (start.entries ∷ []) olds news
+    later = later_on tells faults (start.entries ∷ []) olds mids news began
+        (opened_on tells faults start olds mids w.began)
+        (λ m old new from to. later_by_all tells faults (start.entries ∷ []) old new
+        (later_by_run tells faults script start nth age mode mids news w.ranges group opens (w.run, w.come) m old new
+        from to))
 
-    -- by how its member ended
-    who : (m : ℕ) (e : MemberEnd) → slice_get age.members m ≡ Some e → EndsSo over m e
-    who m e at = member_over mode script start nth age w.run m e at
+    whole : NoneMissing script.members missing → AllPresent (group_of script start)
+    whole none = present ∙ all_take_part script missing w.ranges.group.most_members none
+        ∙ ap (λ n. 2 ^ n - 1) (sym w.ranges.group.lists)
 
-    opened : (m : ℕ) (e : MemberEnd) → slice_get age.members m ≡ Some e
-        → IsPrefixOf whole (take e.logged e.history)
-    opened m e at =
-        let end = who m e at in
+    begins : (m : ℕ) (c : OnLog) → content_at (contents_of olds) m ≡ Some c
+        → IsOpenFor start (voted_for start c) (content_on mids m)
+    begins m c at =
+        let old = log_of_content olds m c at in
+        let x = open_log tells faults start before olds mids m old.0 w.mounted w.began old.1 in
+        subst (λ b. IsOpenFor start (voted_for start b) (content_on mids m))
+        (ap (λ (l : LogState D). l.content) (same_Some x.old old.0 (sym x.from ∙ old.1)) ∙ old.2)
+        (subst (IsOpenFor start (voted_for start x.old.content)) (sym (content_here mids m x.mid x.by))
+        (is_open tells faults start before olds mids m x))
+
+    one : (m : ℕ) (r : Running) → present_at over.members m ≡ Some r
+        → IsOf tells faults start before olds mids news m r
+    one m r at =
+        is_of tells faults script missing mode nth before start olds mids news age m r w present group at
+
+    -- ---- who is absent
+
+    ended : HaveEnded (opening_of script missing age) script.turns (crashes_of script.faults nth) age.members
+    ended = subst (λ (s : Start). HaveEnded (group_of script s).opening script.turns
+        (crashes_of script.faults nth) age.members) same w.ended
+
+    below : (m : ℕ) (e : MemberEnd) → slice_get age.members m ≡ Some e → m < script.members
+    below m e at = omega (arith, slice_get_within age.members m e at, roster)
+
+    absent : (m : ℕ) (e : MemberEnd) → slice_get age.members m ≡ Some e
+        → (e.end ≡ ends.Absent) ↔ (has missing m ≡ true)
+    absent m e at = elim (cases_Bool (has missing m)) [
+      | inl gone ↦ (
+        λ away. gone,
+        λ _. ap (λ (x : MemberEnd). x.end) (ended.absent m e at
+            (λ here. true≢false (sym gone ∙ takes_part script missing m here))),
+      )
+      | inr stays ↦ (
+        λ away. absurd (not_away (opening_of script missing age) age.members script.turns m
+            (crashes_of script.faults nth m) e
+            (ended.each m e at
+            (part_of script missing m w.ranges.group.most_members (below m e at) stays)) away),
+        λ gone. absurd (true≢false (sym gone ∙ stays)),
+      )
+    ]
+
+    -- by how its member ended, where it is not missing
+    who : (m : ℕ) (e : MemberEnd) → slice_get age.members m ≡ Some e → e.end ≢ ends.Absent → EndsSo over m e
+    who m e at apart = elim (member_over mode script start nth age w.run m e at) [
+      | inl ends ↦ ends
+      | inr lacks ↦ absurd (apart (sym (ap (λ (x : MemberEnd). x.end) lacks.is)))
+    ]
+
+    opened : (m : ℕ) (e : MemberEnd) → slice_get age.members m ≡ Some e → has missing m ≡ false
+        → IsPrefixOf (opened_with start start.members) (take e.logged e.history)
+    opened m e at stays =
+        let end = who m e at (λ away. true≢false (sym ((absent m e at).0 away) ∙ stays)) in
         let x = one m end.r end.at in
-        subst (λ (e : MemberEnd). IsPrefixOf whole (take e.logged e.history)) end.is (
+        let y = x.open_one in
+        subst (λ (e : MemberEnd). IsPrefixOf (opened_with start start.members) (take e.logged e.history)) end.is (
           x.come.more.0,
-          ap (λ (l : List Entry). l ++ x.come.more.0) (sym x.caught.0.entries)
+          ap (λ (l : List Entry). l ++ x.come.more.0)
+              (sym (open_entries start (voted_for start y.old.content) y.mid.content
+              (is_open tells faults start before olds mids m y)))
               ∙ (sym x.come.more.1 ∙ x.come.entries),
         )
 
-    -- what is on its log then
-    content : (m : ℕ) (r : Running) (at : slice_get over.members m ≡ Some r)
-        → (one m r at).new.content ≡ with_logged (contents_on olds m) r.replica
+    -- ---- what is on a log then
+
+    content : (m : ℕ) (r : Running) (at : present_at over.members m ≡ Some r)
+        → (one m r at).new.content ≡ with_logged (content_on mids m) r.replica
     content m r at =
         let x = one m r at in
-        subst (λ (c : OnLog). x.new.content ≡ with_logged c r.replica) (sym (contents_at olds m x.old x.from))
-        (content_of_come tells faults whole x.old x.mid x.new r.replica (why_ended (end_of r).end) x.caught x.come)
+        subst (λ (c : OnLog). x.new.content ≡ with_logged c r.replica)
+        (sym (content_here mids m x.open_one.mid x.open_one.by))
+        (content_of_come tells faults x.open_one.mid x.new r.replica (why_ended (end_of r).end) x.come)
 
-    left : (m : ℕ) (r : Running) → slice_get over.members m ≡ Some r
-        → HasLeft ((with_logs tells faults before news).told m) r.replica (contents_on olds m)
+    left : (m : ℕ) (r : Running) → present_at over.members m ≡ Some r
+        → HasLeft ((with_logs tells faults before news).told m) r.replica (content_on mids m)
     left m r at =
         let x = one m r at in
-        subst (λ (o : Option Told). HasLeft o r.replica (contents_on olds m))
+        subst (λ (o : Option Told). HasLeft o r.replica (content_on mids m))
         (sym (told_at tells faults before news m x.new x.to))
-        (left_by tells faults x.mid x.new r (contents_on olds m) x.come (content m r at))
+        (left_by tells faults x.open_one.mid x.new r (content_on mids m) x.come (content m r at))
 
-    full : (m : ℕ) (r : Running) → slice_get over.members m ≡ Some r → (len : ℕ)
-        → r.replica.end ≡ Some (ends.LogFull len) → IsFullAt r.replica (contents_on olds m) len
+    limit : (m : ℕ) (y : IsOpenLog tells faults start before olds mids m) → y.mid.limit ≡ 2147483648
+    limit m y = y.begun.limit ∙ y.vote.0.limit ∙ y.mounted.limit
+
+    full : (m : ℕ) (r : Running) → present_at over.members m ≡ Some r → (len : ℕ)
+        → r.replica.end ≡ Some (ends.LogFull len) → IsFullAt r.replica (content_on mids m) len
     full m r at len end =
         let x = one m r at in
         let went : (next : Record) × (IsRecordDue r.replica next) × IsFull tells x.new len next =
-        subst (λ (o : Option End). WentSo tells faults x.mid x.new r.replica (why_ended (unwrap_or o ends.Done)))
-        end x.come.last in
+        subst (λ (o : Option End). WentSo tells faults x.open_one.mid x.new r.replica
+        (why_ended (unwrap_or o ends.Done))) end x.come.last in
         record {
           long = went.2.long ∙ ap (λ (c : OnLog). c.length) (content m r at);
           next = went.0;
           due = went.1;
           over = subst (λ (n : ℕ). n < len + block_length went.0)
-              (x.come.limit ∙ (x.caught.0.limit ∙ x.mounted.limit)) went.2.over;
+              (x.come.limit ∙ limit m x.open_one) went.2.over;
         }
 
     -- what holds of its members, by the start that its end tells
-    ran : (is : IsPlayed mode script (start_of script age) nth age)
-        × ((m : ℕ) → AtMember (over_of mode script (start_of script age) nth age is) m
-        (λ r. LeavesSo script.members (contents_on olds m) ((with_logs tells faults before news).told m) r.replica))
+    ran : (is : IsPlayed mode script (start_of script missing age) nth age)
+        × ((m : ℕ) → AtMember (over_of mode script (start_of script missing age) nth age is) m
+        (λ r. LeavesSo script.members (content_on mids m) ((with_logs tells faults before news).told m) r.replica))
     ran = subst (λ (s : Start). (is : IsPlayed mode script s nth age)
         × ((m : ℕ) → AtMember (over_of mode script s nth age is) m
-        (λ r. LeavesSo script.members (contents_on olds m) ((with_logs tells faults before news).told m) r.replica)))
+        (λ r. LeavesSo script.members (content_on mids m) ((with_logs tells faults before news).told m) r.replica)))
         same (
           w.run,
           λ m r at. record {
-            few = few_cast mode script start nth age w.ranges
-                (start_group script (entries_on olds) start w.ranges.group w.small w.starts) w.run m r at;
+            few = few_cast mode script start nth age w.ranges group w.run m r at;
             left = left m r at;
             full = full m r at;
           },
         )
 
+    -- ---- faults of disks
+
+    counted : (m : ℕ) (y : IsOpenLog tells faults start before olds mids m)
+        → faults y.mid.disk ≡ before.faults m
+    counted m y = y.begun.well.calm ∙ y.vote.0.well.calm ∙ y.mounted.calm
+
     failed : (m : ℕ) (e : MemberEnd) → slice_get age.members m ≡ Some e → e.end ≡ ends.DiskFault
         → Rose (before.faults m) ((with_logs tells faults before news).faults m)
     failed m e at end =
-        let by = who m e at in
+        let by = who m e at (λ away. absurd (cc (end, away))) in
         let x = one m by.r by.at in
-        let went : (next : Record) × (IsRecordDue by.r.replica next) × BrokeOff tells faults x.mid x.new next =
-        subst (λ (y : End). WentSo tells faults x.mid x.new by.r.replica (why_ended y))
+        let went : (next : Record) × (IsRecordDue by.r.replica next)
+        × BrokeOff tells faults x.open_one.mid x.new next =
+        subst (λ (y : End). WentSo tells faults x.open_one.mid x.new by.r.replica (why_ended y))
         (ap (λ (x : MemberEnd). x.end) by.is ∙ end) x.come.last in
         subst (Rose (before.faults m)) (sym (faults_at tells faults before news m x.new x.to))
-        (rose_since (before.faults m) (faults x.mid.disk) (faults x.new.disk)
-        (omega (arith, x.mounted.on.later, x.caught.0.calm)) went.2.rose)
+        (rose_since (before.faults m) (faults x.open_one.mid.disk) (faults x.new.disk)
+        (omega (arith, counted m x.open_one)) went.2.rose)
 
     -- a member that its disk has not ended was ended by no fault
     unless_disk : (end : End) → end ≢ ends.DiskFault → why_ended end ≢ Some logs.DiskFault
@@ -490,46 +686,48 @@ is_age {D} tells faults script mode nth before start olds mids news age w = reco
 
     calm : (m : ℕ) → ((e : MemberEnd) → slice_get age.members m ≡ Some e → e.end ≢ ends.DiskFault)
         → (with_logs tells faults before news).faults m ≡ before.faults m
-    calm m other = by (slice_get news m) refl
+    calm m other = by (log_of news m) refl
       where
-        by : (o : Option (LogState D)) → slice_get news m ≡ o
+        by : (o : Option (LogState D)) → log_of news m ≡ o
             → option_map_or (λ (log : LogState D). faults log.disk) o (before.faults m) ≡ before.faults m
         by None at = refl
         by (Some new) at =
+            let old = was_there olds news m new places at in
+            let stays = not_missing missing olds m old.0 w.but old.1 in
             let e = slice_get-some age.members m (omega (
               arith,
-              slice_get_within news m new at,
-              w.count,
-              w.members,
+              present_within olds m old.0 old.1,
+              w.all,
+              roster,
             )) in
-            let by = who m e.0 e.1 in
+            let by = who m e.0 e.1 (λ away. true≢false (sym ((absent m e.0 e.1).0 away) ∙ stays)) in
             let x = one m by.r by.at in
             ap (λ (log : LogState D). faults log.disk) (same_Some new x.new (sym at ∙ x.to))
             ∙ (x.come.calm (subst (λ (y : End). why_ended y ≢ Some logs.DiskFault)
-            (sym (ap (λ (x : MemberEnd). x.end) by.is)) (unless_disk e.0.end (other e.0 e.1))) ∙ (x.caught.0.calm ∙ x.mounted.calm))
+            (sym (ap (λ (x : MemberEnd). x.end) by.is)) (unless_disk e.0.end (other e.0 e.1))) ∙ counted m x.open_one)
 
-    ample : ((m : ℕ) → m < script.members → AreFew (contents_on olds m)) → (k : ℕ) (d : LogState D) → k < length mids
-        → IsAmple (group_of script start) (get_or mids k d)
-    ample few k d l =
-        let old = slice_get-some olds k (omega (arith, l, w.caught.all)) in
-        let up = w.caught.done k old.0 (get_or mids k d) (omega (arith, l, w.caught.all)) old.1
-        (slice_get-get_or mids k d l) in
-        let little = few k (omega (arith, l, w.caught.all, w.all)) in
-        let mid = get_or mids k d in
-        let was = contents_at olds k old.0 old.1 in
-        let parts = ap (λ (c : OnLog). c.entries) up.0.content in
+    -- ---- room
+
+    ample : ((m : ℕ) (c : OnLog) → content_at (contents_of olds) m ≡ Some c → AreFew c)
+        → AreAmple (group_of script start) mids
+    ample few m log there =
+        let old = was_there olds mids m log began there in
+        let x = open_log tells faults start before olds mids m old.0 w.mounted w.began old.1 in
+        let at = content_at_log olds m x.old x.from in
+        let is = same_Some log x.mid (sym there ∙ x.by) in
         record {
           limit = omega (
             arith,
-            ap (λ (c : OnLog). c.length) up.0.content,
-            ap length up.0.entries,
-            ap entries_length up.0.entries,
-            ap entries_length parts,
-            entries_length-append old.0.content.entries (lacked old.0 whole),
+            ap (λ (l : LogState D). l.content.length) is,
+            ap (λ (l : LogState D). length l.content.entries) is,
+            ap (λ (l : LogState D). l.limit) is,
+            ap length (open_entries start (voted_for start x.old.content) x.mid.content
+                (is_open tells faults start before olds mids m x)),
             length-append start.entries (View start.age 0 start.members ∷ []),
-            (subst AreFew was little).few,
-            up.0.limit,
-            (w.mounted k old.0 old.1).limit,
-            opened_short script (entries_on olds) start w.ranges.group w.small w.starts,
+            open_long start x.old.content x.mid.content (is_open tells faults start before olds mids m x),
+            (few m x.old.content at).few,
+            found_short script (contents_of olds) start m x.old.content w.ranges.group w.starts at,
+            opened_short script (contents_of olds) start w.ranges.group w.starts,
+            limit m x,
           );
         }

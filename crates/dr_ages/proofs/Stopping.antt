@@ -1,239 +1,342 @@
 -- Why the opening of an age stopped.
-use Rattle.std.proofs.Common.{◌≡◌, ◌≢◌, refl, sym, ap, ◌∙◌, subst, inl, inr, ℕ, ◌^◌, ◌<◌, ◌≤◌, le_refl, List, length, length-set, arith}
-use Rattle.std.specs.Prelude.{IsErrOf, Option, Result, Err, None, Some, slice_get, slice_set}
-use Rattle.std.specs.Option.{option_map_or}
-use Rattle.std.proofs.lemmas.Bool.{cases_eq, cases_lt}
-use Rattle.std.proofs.lemmas.Option.{slice_get_within}
+use Rattle.std.proofs.Common.{◌≡◌, refl, sym, ap, ◌∙◌, subst, inl, inr, ℕ, ◌<◌, arith, le_refl, List, [], ◌∷◌, length}
+use Rattle.std.specs.Prelude.{◌⊎◌, Option, None, Some}
 use Rattle.dr_disk.specs.Disk.{Told}
 use Rattle.dr_disk.specs.Images.{IsLeft}
-use Rattle.dr_entry.specs.declared.entry.Entry.{Entry}
 use Rattle.dr_gather.specs.declared.catching_up.CatchFault.{CatchFault}
 use Rattle.dr_gather.specs.declared.catching_up.CatchFault.TheVariants as catches
-use Rattle.dr_gather.specs.declared.gathering.GatherFault.{GatherFault}
-use Rattle.dr_gather.specs.declared.gathering.GatherFault.TheVariants as gathers
-use Rattle.dr_gather.specs.CatchingUp.{FitsOrIsFull, HasStayed, IsLeftAlone, lacked, opened_with}
-use Rattle.dr_gather.specs.Gathering.{AreUsedUp, IsStartOf, entries_on, judged_by}
-use Rattle.dr_gather.proofs.Catching.{rose_since}
-use Rattle.dr_history.specs.Restarting.{AreSound, IsFirstDisagreement, IsFirstForeign}
-use Rattle.dr_history_laws.proofs.Lists.{slice_get-some}
 use Rattle.dr_io.specs.Faults.{Rose}
-use Rattle.dr_log.specs.Standing.{entries_length}
 use Rattle.dr_log.specs.State.{LogState}
 use Rattle.dr_log_bytes.specs.Content.{OnLog}
 use Rattle.dr_log_bytes.specs.Grammar.{StandFor}
-use Rattle.dr_program.proofs.Holdings.{replica_kept, replica_set}
+use Rattle.dr_logged.specs.Served.{HaveSamePlaces, IsSafe}
+use Rattle.dr_opening.specs.declared.age.NotOpened.{NotOpened}
+use Rattle.dr_opening.specs.declared.age.NotOpened.TheVariants.{Unchosen, Unfinished}
+use Rattle.dr_opening.specs.declared.opening.OpenFault.{OpenFault}
+use Rattle.dr_opening.specs.Contents.{IsOpenFor, IsRisingStep, IsVoteStep, voted_for}
+use Rattle.dr_opening.specs.Lists.{contents_of, log_of}
+use Rattle.dr_opening.specs.Logs.{ComeBelow, Explains, GotStart, GotVote, LacksStart, LacksVote, StopAt, WereNotOpened}
+use Rattle.dr_opening.specs.Tries.{IsChosenOf}
+use Rattle.dr_opening.specs.Unopened.{IsUnchosen, IsWhyUnopened}
+use Rattle.dr_program.proofs.Present.{present_within}
+use Rattle.dr_quorum.specs.declared.faults.ChooseFault.{ChooseFault}
+use Rattle.dr_quorum.specs.declared.faults.ChooseFault.TheVariants as chooses
 use Rattle.dr_restart.specs.declared.start.Start.{Start}
+use Rattle.dr_restart.specs.Groups.{first_group_of}
 use Rattle.dr_script.specs.declared.script.Script.{Script}
 use Rattle.dr_yard.specs.Yards.{YardState}
-use Rattle.dr_ages.specs.declared.stop.Stop.{Stop}
-use Rattle.dr_ages.specs.declared.stop.Stop.TheVariants.{OutOfMemory, DiskFault, LogFull, Disagree, Foreign, AgesUsedUp}
 use Rattle.dr_ages.specs.Found.{AreFound}
-use Rattle.dr_ages.specs.Lent.{AreMounted, with_logs}
-use Rattle.dr_ages.specs.Opened.{AreCaughtUp, AreLater}
+use Rattle.dr_ages.specs.Lent.{AreAllBut, AreMounted, with_logs}
 use Rattle.dr_ages.specs.Passing.{AreKeptSince}
-use Rattle.dr_ages.specs.Stops.{HasStopped, IsBehindMounts, NamesFaults, WereCaughtUp, brought_up, in_start}
-use Rattle.dr_ages.proofs.Backs.{faults_at, kept_back, told_at}
-use Rattle.dr_ages.proofs.Caught.{caught_content}
-use Rattle.dr_ages.proofs.Loans.{are_found, contents_at, contents_on}
+use Rattle.dr_ages.specs.Stops.{AreOpenBelow, HasStopped, HaveVotesBelow, IsBehindMounts, IsStuckIn, NamesFaults, in_opening}
+use Rattle.dr_ages.specs.Telling.{stop_at, stop_of, stop_of_choice}
+use Rattle.dr_ages.proofs.Backs.{counts_still, faults_at, faults_none, kept_back, not_missing, stays_there, told_at, was_there}
+use Rattle.dr_ages.proofs.Loans.{are_found, content_at_log, log_of_content, names_none}
+use Rattle.dr_ages.proofs.Opening.{below_stop, come_mid, come_places, in_come, in_stop, stop_places, unopened_on, unopened_places}
 use Rattle.dr_ages.proofs.Staying.{alike_same}
 
--- the logs make no start
-pub gather_stops : (S : Type 0) (script : Script) (before after : YardState) (lists : List (List Entry))
-    (contents : ℕ → OnLog) (fault : GatherFault) (stop : Stop)
-    → AreFound script.members before lists contents
-    → ((m p : ℕ) → ◌≡◌ {A = Result S GatherFault} (Err fault) (Err (gathers.Foreign m p))
-    → IsFirstForeign (judged_by script) lists m p)
-    → ((a b p : ℕ) → ◌≡◌ {A = Result S GatherFault} (Err fault) (Err (gathers.Disagree a b p))
-    → AreSound (judged_by script) lists × IsFirstDisagreement lists a b p)
-    → (IsErrOf {T = S} (Err fault) gathers.AgesUsedUp → AreUsedUp script lists)
-    → (fault ≡ gathers.OutOfMemory → stop ≡ OutOfMemory)
-    → ((m p : ℕ) → fault ≡ gathers.Foreign m p → stop ≡ Foreign m p)
-    → ((a b p : ℕ) → fault ≡ gathers.Disagree a b p → stop ≡ Disagree a b p)
-    → (fault ≡ gathers.AgesUsedUp → stop ≡ AgesUsedUp) → HasStopped script before after stop
-gather_stops S script before after lists contents gathers.OutOfMemory stop found foreign differ up to_memory
-    to_foreign to_differ to_up =
-    subst (HasStopped script before after) (sym (to_memory refl)) tt
-gather_stops S script before after lists contents (gathers.Foreign m p) stop found foreign differ up to_memory
-    to_foreign to_differ to_up =
-    subst (HasStopped script before after) (sym (to_foreign m p refl)) (lists, contents, found, foreign m p refl)
-gather_stops S script before after lists contents (gathers.Disagree a b p) stop found foreign differ up to_memory
-    to_foreign to_differ to_up =
-    subst (HasStopped script before after) (sym (to_differ a b p refl)) (lists, contents, found, differ a b p refl)
-gather_stops S script before after lists contents gathers.AgesUsedUp stop found foreign differ up to_memory
-    to_foreign to_differ to_up =
-    subst (HasStopped script before after) (sym (to_up refl)) (lists, contents, found, up refl)
+-- ---- logs that make no start
 
--- a log that is brought up to a start, of those that were mounted
-pub record IsBroughtUp {D : Type 0} (tells : D → Option Told) (faults : D → ℕ) (script : Script)
-    (before : YardState) (start : Start) (olds news : List (LogState D)) (k : ℕ) (old : LogState D) : Type 0 where
-  pub below : k < script.members
+chosen_stops : (script : Script) (missing : ℕ) (before after : YardState) (contents : List (Option OnLog))
+    (fault : ChooseFault) → AreFound script.members missing before contents → IsUnchosen script contents fault
+    → HasStopped script missing before after (stop_of_choice fault)
+chosen_stops script missing before after contents chooses.OutOfMemory found is = tt
+chosen_stops script missing before after contents (chooses.Foreign m p) found is = (contents, found, is)
+chosen_stops script missing before after contents (chooses.NoQuorum v h n) found is = (contents, found, is)
+chosen_stops script missing before after contents (chooses.Disagree a b p) found is = (contents, found, is)
+chosen_stops script missing before after contents chooses.AgesUsedUp found is = (contents, found, is)
+
+-- ---- a log that was refused what it lacked
+
+-- an opening on logs that were mounted, whose start was chosen
+pub record IsOpeningOn {D : Type 0} (tells : D → Option Told) (faults : D → ℕ) (script : Script) (missing : ℕ)
+    (before : YardState) (start : Start) (olds : List (Option (LogState D))) : Type 0 where
   pub all : length olds ≡ script.members
   pub mounted : AreMounted tells faults before olds
-  pub starts : IsStartOf script (entries_on olds) start
-  pub small : start.age < 2 ^ 16
-  pub from : slice_get olds k ≡ Some old
-  pub within : k < length news
-  pub so_far : AreCaughtUp tells faults (opened_with start start.members) olds news k
+  pub but : AreAllBut missing olds
+  pub chosen : IsChosenOf (first_group_of script).opening (contents_of olds) start
 
--- the first of the logs were brought up to the start
-were_caught : {D : Type 0} (tells : D → Option Told) (faults : D → ℕ) (script : Script) (before : YardState)
-    (start : Start) (olds news : List (LogState D)) (k : ℕ) (old new : LogState D)
-    → IsBroughtUp tells faults script before start olds news k old
-    → WereCaughtUp script (with_logs tells faults before (slice_set news k new)) (entries_on olds) (contents_on olds)
-    start k
-were_caught {D} tells faults script before start olds news k old new b = record {
-  room = λ m es l at.
-      let was = slice_get-some olds m (omega (arith, l, b.below, b.all)) in
-      let is = slice_get-some news m (omega (arith, l, b.within)) in
-      let up = b.so_far.done m was.0 is.0 l was.1 is.1 in
-      subst (λ (c : OnLog). (brought_up script start c).length ≤ 2147483648)
-      (sym (contents_at olds m was.0 was.1)) (omega (arith, up.2, (b.mounted m was.0 was.1).limit));
-  left = λ m l.
-      let was = slice_get-some olds m (omega (arith, l, b.below, b.all)) in
-      let is = slice_get-some news m (omega (arith, l, b.within)) in
-      let up = b.so_far.done m was.0 is.0 l was.1 is.1 in
-      let here : slice_get (slice_set news k new) m ≡ Some is.0 =
-      replica_kept news k m new (λ e. omega (arith, l, e)) ∙ is.1 in
-      subst (λ (o : Option Told). IsLeft o (λ image. StandFor image (brought_up script start (contents_on olds m))))
-      (sym (told_at tells faults before (slice_set news k new) m is.0 here))
-      (subst (λ (c : OnLog). IsLeft (tells is.0.disk) (λ image. StandFor image (brought_up script start c)))
-      (sym (contents_at olds m was.0 was.1))
-      (subst (λ (c : OnLog). IsLeft (tells is.0.disk) (λ image. StandFor image c))
-      (caught_content tells faults (opened_with start start.members) was.0 is.0 up) up.0.safe));
+-- what a crash leaves of a disk under a log that is safe
+left_at : {D : Type 0} (tells : D → Option Told) (faults : D → ℕ) (before : YardState)
+    (news : List (Option (LogState D))) (m : ℕ) (new : LogState D) (c : OnLog) → log_of news m ≡ Some new
+    → new.content ≡ c → IsSafe tells new
+    → IsLeft ((with_logs tells faults before news).told m) (λ image. StandFor image c)
+left_at {D} tells faults before news m new c here same safe =
+    subst (λ (o : Option Told). IsLeft o (λ image. StandFor image c)) (sym (told_at tells faults before news m new here))
+    (subst (λ (d : OnLog). IsLeft (tells new.disk) (λ image. StandFor image d)) same safe)
+
+-- in the first phase
+votes_below : {D : Type 0} (tells : D → Option Told) (faults : D → ℕ) (script : Script) (missing : ℕ)
+    (before : YardState) (start : Start) (olds news : List (Option (LogState D))) (k : ℕ) (why : CatchFault)
+    → IsOpeningOn tells faults script missing before start olds
+    → StopAt (GotVote tells faults start) (λ old new. LacksVote tells faults start old new why) olds news k
+    → HaveVotesBelow start (contents_of olds) (with_logs tells faults before news) k
+votes_below {D} tells faults script missing before start olds news k why on stop = record {
+  below = λ m c l at.
+      let old = log_of_content olds m c at in
+      let new = stays_there olds news m old.0 places old.1 in
+      let got = below_stop (GotVote tells faults start) (λ old new. LacksVote tells faults start old new why)
+      olds news k m old.0 new.0 stop l old.1 new.1 in
+      left_at tells faults before news m new.0 (voted_for start c) new.1
+      (got.0.content ∙ ap (voted_for start) old.2) got.0.well.safe;
+  above = λ m c l at.
+      let old = log_of_content olds m c at in
+      left_at tells faults before news m old.0 c (stop.others m l ∙ old.1) old.2 (on.mounted m old.0 old.1).safe;
+}
+  where
+    places : HaveSamePlaces olds news
+    places = stop_places (GotVote tells faults start) (λ old new. LacksVote tells faults start old new why) olds news k
+        stop
+
+-- in the second
+open_below : {D : Type 0} (tells : D → Option Told) (faults : D → ℕ) (script : Script) (missing : ℕ)
+    (before : YardState) (start : Start) (olds mids news : List (Option (LogState D))) (k : ℕ) (why : CatchFault)
+    → IsOpeningOn tells faults script missing before start olds
+    → ComeBelow (GotVote tells faults start) olds mids (length olds)
+    → StopAt (GotStart tells faults start) (λ old new. LacksStart tells faults start old new why) mids news k
+    → AreOpenBelow start (contents_of olds) (with_logs tells faults before news) k
+open_below {D} tells faults script missing before start olds mids news k why on voted stop = record {
+  below = λ m c l at.
+      let old = log_of_content olds m c at in
+      let mid = come_mid (GotVote tells faults start) olds mids m old.0 voted old.1 in
+      let got = in_come (GotVote tells faults start) olds mids m old.0 mid.0 voted old.1 mid.1 in
+      let new = stays_there mids news m mid.0 places mid.1 in
+      let came = below_stop (GotStart tells faults start) (λ old new. LacksStart tells faults start old new why)
+      mids news k m mid.0 new.0 stop l mid.1 new.1 in (
+        new.0.content,
+        subst (λ (v : OnLog). IsOpenFor start v new.0.content) (got.0.content ∙ ap (voted_for start) old.2)
+            came.content,
+        left_at tells faults before news m new.0 new.0.content new.1 refl came.well.safe,
+      );
+  above = λ m c l at.
+      let old = log_of_content olds m c at in
+      let mid = come_mid (GotVote tells faults start) olds mids m old.0 voted old.1 in
+      let got = in_come (GotVote tells faults start) olds mids m old.0 mid.0 voted old.1 mid.1 in
+      left_at tells faults before news m mid.0 (voted_for start c) (stop.others m l ∙ mid.1)
+      (got.0.content ∙ ap (voted_for start) old.2) got.0.well.safe;
+}
+  where
+    places : HaveSamePlaces mids news
+    places = stop_places (GotStart tells faults start) (λ old new. LacksStart tells faults start old new why) mids news
+        k stop
+
+-- the log that was refused an append: as it was mounted, as the append found it, and as it is, and what the append
+-- was to make of it
+record IsStuckAt {D : Type 0} (tells : D → Option Told) (faults : D → ℕ) (script : Script) (missing : ℕ)
+    (before : YardState) (start : Start) (olds news : List (Option (LogState D))) (k : ℕ) (why : CatchFault)
+    : Type 0 where
+  old : LogState D
+  there : log_of olds k ≡ Some old
+  mid : LogState D
+  limit : mid.limit ≡ old.limit
+  calm : faults mid.disk ≡ faults old.disk
+  new : LogState D
+  here : log_of news k ≡ Some new
+  next : OnLog
+  phase : (IsVoteStep start old.content new.content next
+      × HaveVotesBelow start (contents_of olds) (with_logs tells faults before news) k)
+      ⊎ (IsRisingStep start (voted_for start old.content) new.content next
+      × AreOpenBelow start (contents_of olds) (with_logs tells faults before news) k)
+  reason : Explains tells faults new.content next mid new why
+
+stuck_at : {D : Type 0} (tells : D → Option Told) (faults : D → ℕ) (script : Script) (missing : ℕ)
+    (before : YardState) (start : Start) (olds news : List (Option (LogState D))) (fault : OpenFault)
+    → IsOpeningOn tells faults script missing before start olds → WereNotOpened tells faults start olds news fault
+    → IsStuckAt tells faults script missing before start olds news fault.member fault.why
+stuck_at tells faults script missing before start olds news fault on (inl stop) =
+    let at = stop.stop in
+    record {
+      old = at.0;
+      there = at.2;
+      mid = at.0;
+      limit = refl;
+      calm = refl;
+      new = at.1;
+      here = at.3;
+      next = at.4.next;
+      phase = inl (
+        at.4.step,
+        votes_below tells faults script missing before start olds news fault.member fault.why on stop,
+      );
+      reason = at.4.reason;
+    }
+stuck_at tells faults script missing before start olds news fault on (inr (mids, voted, stop)) =
+    let at = stop.stop in
+    let old = was_there olds mids fault.member at.0 (come_places (GotVote tells faults start) olds mids voted) at.2 in
+    let got = in_come (GotVote tells faults start) olds mids fault.member old.0 at.0 voted old.1 at.2 in
+    record {
+      old = old.0;
+      there = old.1;
+      mid = at.0;
+      limit = got.0.limit;
+      calm = got.0.well.calm;
+      new = at.1;
+      here = at.3;
+      next = at.4.next;
+      phase = inr (
+        subst (λ (v : OnLog). IsRisingStep start v at.1.content at.4.next) got.0.content at.4.step,
+        open_below tells faults script missing before start olds mids news fault.member fault.why on voted stop,
+      );
+      reason = at.4.reason;
+    }
+
+-- what was found, and chosen of it, as the append was refused
+is_stuck : {D : Type 0} (tells : D → Option Told) (faults : D → ℕ) (script : Script) (missing : ℕ)
+    (before : YardState) (start : Start) (olds news : List (Option (LogState D))) (k : ℕ) (why : CatchFault)
+    (At : OnLog → OnLog → Type 0) → IsOpeningOn tells faults script missing before start olds
+    → (s : IsStuckAt tells faults script missing before start olds news k why) → At s.new.content s.next
+    → IsStuckIn script missing before (with_logs tells faults before news) k At
+is_stuck tells faults script missing before start olds news k why At on s at = record {
+  below = omega (arith, present_within olds k s.old s.there, on.all);
+  contents = contents_of olds;
+  found = are_found tells faults missing before olds script.members on.mounted on.but on.all;
+  start = start;
+  chosen = on.chosen;
+  content = s.old.content;
+  there = content_at_log olds k s.old s.there;
+  now = s.new.content;
+  next = s.next;
+  phase = s.phase;
+  at = at;
 }
 
--- all of them are kept since
-all_kept : {D : Type 0} (tells : D → Option Told) (faults : D → ℕ) (script : Script) (before : YardState)
-    (start : Start) (olds news : List (LogState D)) (k : ℕ) (old new : LogState D)
-    → IsBroughtUp tells faults script before start olds news k old
-    → AreLater tells faults olds (slice_set news k new)
-    → AreKeptSince script.members script.members before (with_logs tells faults before (slice_set news k new))
-all_kept tells faults script before start olds news k old new b later =
-    let after = with_logs tells faults before (slice_set news k new) in
-    subst (λ (n : ℕ). AreKeptSince script.members n before after) b.all
-    (kept_back tells faults script.members before before after olds (slice_set news k new) b.mounted later
-    (length-set news k new ∙ b.so_far.all)
-    (λ m past. alike_same (before.told m) (before.told m) (before.faults m) (before.faults m) refl
+-- the disks are kept since they were mounted
+since_mounted : {D : Type 0} (tells : D → Option Told) (faults : D → ℕ) (script : Script) (missing : ℕ)
+    (before : YardState) (start : Start) (olds news : List (Option (LogState D))) (fault : OpenFault)
+    → IsOpeningOn tells faults script missing before start olds → WereNotOpened tells faults start olds news fault
+    → AreKeptSince script.members missing script.members (start.entries ∷ []) before
+    (with_logs tells faults before news)
+since_mounted tells faults script missing before start olds news fault on stopped =
+    subst (λ (n : ℕ). AreKeptSince script.members missing n (start.entries ∷ []) before
+    (with_logs tells faults before news)) on.all
+    (kept_back tells faults script.members missing (start.entries ∷ []) before before
+    (with_logs tells faults before news) olds news on.mounted on.but
+    (unopened_on tells faults start olds news fault stopped)
+    (unopened_places tells faults start olds news fault stopped)
+    (λ m none. alike_same (before.told m) (before.told m) (before.faults m) (before.faults m) refl
     (le_refl (before.faults m))) (λ m. (refl, refl)))
 
-pub catch_stops : {D : Type 0} (T : Type 0) (tells : D → Option Told) (faults : D → ℕ) (script : Script)
-    (before : YardState) (start : Start) (olds news : List (LogState D)) (k : ℕ) (old new : LogState D)
-    (fault : CatchFault) (stop : Stop) → IsBroughtUp tells faults script before start olds news k old
-    → AreLater tells faults olds (slice_set news k new) → HasStayed tells faults (opened_with start start.members) old new
-    → (fault ≢ catches.DiskFault → IsLeftAlone tells faults old new)
-    → (IsErrOf {T = T} (Err fault) catches.DiskFault → Rose (faults old.disk) (faults new.disk))
-    → FitsOrIsFull old.limit old.content.length (entries_length (lacked old (opened_with start start.members))) {T = T}
-    (Err fault)
-    → (fault ≡ catches.OutOfMemory → stop ≡ OutOfMemory) → (fault ≡ catches.DiskFault → stop ≡ DiskFault k)
-    → ((len : ℕ) → fault ≡ catches.LogFull len → stop ≡ LogFull k len)
-    → HasStopped script before (with_logs tells faults before (slice_set news k new)) stop
-catch_stops T tells faults script before start olds news k old new catches.OutOfMemory stop b later stayed alone cause
-    limit to_memory to_disk to_full =
-    subst (HasStopped script before (with_logs tells faults before (slice_set news k new))) (sym (to_memory refl)) tt
-catch_stops {D} T tells faults script before start olds news k old new catches.DiskFault stop b later stayed alone cause
-    limit to_memory to_disk to_full =
-    let logs : List (LogState D) = slice_set news k new in
-    subst (HasStopped script before (with_logs tells faults before logs)) (sym (to_disk refl)) (record {
-      below = b.below;
-      rose = subst (Rose (before.faults k))
-          (sym (faults_at tells faults before logs k new (replica_set news k new b.within)))
-          (rose_since (before.faults k) (faults old.disk) (faults new.disk) (b.mounted k old b.from).on.later
-          (cause refl));
-      at = in_start (entries_on olds) (contents_on olds) start
-          (are_found tells faults before olds script.members b.mounted b.all) b.starts b.small
-          (were_caught tells faults script before start olds news k old new b)
-          (all_kept tells faults script before start olds news k old new b later);
-    })
-catch_stops {D} T tells faults script before start olds news k old new (catches.LogFull len) stop b later stayed alone
-    cause limit to_memory to_disk to_full =
-    let logs : List (LogState D) = slice_set news k new in
-    let is = b.mounted k old b.from in
-    let contents : contents_on olds k ≡ old.content = contents_at olds k old b.from in
-    let safe : IsLeft (tells new.disk) (λ image. StandFor image old.content) =
-    subst (λ (c : OnLog). IsLeft (tells new.disk) (λ image. StandFor image c)) stayed.content
-    (alone (λ e. absurd (cc e))).safe in
-    subst (HasStopped script before (with_logs tells faults before logs)) (sym (to_full len refl)) (record {
-      below = b.below;
-      lists = entries_on olds;
-      contents = contents_on olds;
-      found = are_found tells faults before olds script.members b.mounted b.all;
-      start = start;
-      starts = b.starts;
-      small = b.small;
-      long = limit.0 ∙ ap (λ (c : OnLog). c.length) (sym contents);
-      over = subst (λ (c : OnLog). 2147483648 < (brought_up script start c).length) (sym contents)
-          (omega (arith, limit.1, is.limit));
-      first = were_caught tells faults script before start olds news k old new b;
-      left = subst (λ (o : Option Told). IsLeft o (λ image. StandFor image (contents_on olds k)))
-          (sym (told_at tells faults before logs k new (replica_set news k new b.within)))
-          (subst (λ (c : OnLog). IsLeft (tells new.disk) (λ image. StandFor image c)) (sym contents) safe);
-    })
+open_stops : {D : Type 0} (tells : D → Option Told) (faults : D → ℕ) (script : Script) (missing : ℕ)
+    (before : YardState) (start : Start) (olds news : List (Option (LogState D))) (k : ℕ) (why : CatchFault)
+    → IsOpeningOn tells faults script missing before start olds
+    → WereNotOpened tells faults start olds news (record { member = k; why = why })
+    → HasStopped script missing before (with_logs tells faults before news) (stop_at k why)
+unfolding is_stuck
+open_stops tells faults script missing before start olds news k catches.OutOfMemory on stopped = tt
+open_stops tells faults script missing before start olds news k catches.DiskFault on stopped =
+    let fault : OpenFault = record { member = k; why = catches.DiskFault } in
+    let s = stuck_at tells faults script missing before start olds news fault on stopped in
+    let is = on.mounted k s.old s.there in
+    record {
+      below = omega (arith, present_within olds k s.old s.there, on.all);
+      there = not_missing missing olds k s.old on.but s.there;
+      rose = subst (Rose (before.faults k)) (sym (faults_at tells faults before news k s.new s.here))
+          (subst (λ (n : ℕ). Rose n (faults s.new.disk)) (s.calm ∙ is.calm) s.reason.1);
+      at = in_opening (is_stuck tells faults script missing before start olds news k catches.DiskFault
+          (λ now next. IsLeft ((with_logs tells faults before news).told k)
+          (λ image. StandFor image now ⊎ StandFor image next)) on s
+          (subst (λ (o : Option Told). IsLeft o (λ image. StandFor image s.new.content ⊎ StandFor image s.next))
+          (sym (told_at tells faults before news k s.new s.here)) s.reason.2))
+          (since_mounted tells faults script missing before start olds news fault on stopped);
+    }
+open_stops tells faults script missing before start olds news k (catches.LogFull len) on stopped =
+    let fault : OpenFault = record { member = k; why = catches.LogFull len } in
+    let s = stuck_at tells faults script missing before start olds news fault on stopped in
+    let is = on.mounted k s.old s.there in
+    is_stuck tells faults script missing before start olds news k (catches.LogFull len)
+    (λ now next. (len ≡ now.length) × (2147483648 < next.length)
+    × IsLeft ((with_logs tells faults before news).told k) (λ image. StandFor image now)) on s (
+      s.reason.1,
+      omega (arith, s.reason.2, s.limit, is.limit),
+      left_at tells faults before news k s.new s.new.content s.here refl s.reason.0.safe,
+    )
+
+pub why_stops : {D : Type 0} (tells : D → Option Told) (faults : D → ℕ) (script : Script) (missing : ℕ)
+    (before : YardState) (olds news : List (Option (LogState D))) (why : NotOpened)
+    → length olds ≡ script.members → AreMounted tells faults before olds → AreAllBut missing olds
+    → IsWhyUnopened tells faults script olds news why
+    → HasStopped script missing before (with_logs tells faults before news) (stop_of why)
+why_stops tells faults script missing before olds news (Unchosen fault) all mounted but is =
+    chosen_stops script missing before (with_logs tells faults before news) (contents_of olds) fault
+    (are_found tells faults missing before olds script.members mounted but all) is.0
+why_stops tells faults script missing before olds news (Unfinished fault) all mounted but is =
+    open_stops tells faults script missing before is.0 olds news fault.member fault.why
+    (record { all = all; mounted = mounted; but = but; chosen = is.1 }) is.2
 
 -- ---- whose calls failed
 
--- but for the log at which the opening stopped no count has changed
-pub counts_so_far : {D : Type 0} (tells : D → Option Told) (faults : D → ℕ) (before : YardState) (whole : List Entry)
-    (olds news : List (LogState D)) (k : ℕ) (new : LogState D) → AreMounted tells faults before olds
-    → AreCaughtUp tells faults whole olds news k → (m : ℕ) → m ≢ k
-    → (with_logs tells faults before (slice_set news k new)).faults m ≡ before.faults m
-counts_so_far {D} tells faults before whole olds news k new mounted so_far m apart =
-    by (slice_get (slice_set news k new) m) refl
+-- of a disk no further one did in an opening that stopped, unless it is the disk of the log that was refused
+-- something, and that one did not stay calm
+calm_at : {D : Type 0} (tells : D → Option Told) (faults : D → ℕ) (before : YardState) (start : Start)
+    (olds news : List (Option (LogState D))) (fault : OpenFault) (m : ℕ) → AreMounted tells faults before olds
+    → WereNotOpened tells faults start olds news fault
+    → (m ≡ fault.member → (old new : LogState D) (next : OnLog)
+    → Explains tells faults new.content next old new fault.why → faults new.disk ≡ faults old.disk)
+    → (with_logs tells faults before news).faults m ≡ before.faults m
+calm_at {D} tells faults before start olds news fault m mounted stopped quiet = by (log_of news m) refl
   where
-    by : (o : Option (LogState D)) → slice_get (slice_set news k new) m ≡ o
-        → option_map_or (λ (log : LogState D). faults log.disk) o (before.faults m) ≡ before.faults m
-    by None at = refl
-    by (Some log) at =
-        let here : slice_get news m ≡ Some log = sym (replica_kept news k m new apart) ∙ at in
-        let was = slice_get-some olds m (omega (arith, slice_get_within news m log here, so_far.all)) in
-        elim (cases_lt m k) [
-          | inl below ↦
-              (so_far.done m was.0 log below was.1 here).0.calm ∙ (mounted m was.0 was.1).calm
-          | inr above ↦ (mounted m log (sym (so_far.others m above) ∙ here)).calm
-        ]
+    at_log : (new : LogState D) → log_of news m ≡ Some new → WereNotOpened tells faults start olds news fault
+        → faults new.disk ≡ before.faults m
+    at_log new here (inl stop) =
+        let old = was_there olds news m new (stop_places (GotVote tells faults start)
+        (λ old new. LacksVote tells faults start old new fault.why) olds news fault.member stop) here in
+        let calm = (mounted m old.0 old.1).calm in
+        in_stop (GotVote tells faults start) (λ old new. LacksVote tells faults start old new fault.why)
+        (faults new.disk ≡ before.faults m) olds news fault.member m old.0 new stop old.1 here
+        (λ l got. got.0.well.calm ∙ calm)
+        (λ at lacks. quiet at old.0 new lacks.next lacks.reason ∙ calm)
+        (λ l same. ap (λ (x : LogState D). faults x.disk) same ∙ calm)
+    at_log new here (inr (mids, voted, stop)) =
+        let mid = was_there mids news m new (stop_places (GotStart tells faults start)
+        (λ old new. LacksStart tells faults start old new fault.why) mids news fault.member stop) here in
+        let old = was_there olds mids m mid.0 (come_places (GotVote tells faults start) olds mids voted) mid.1 in
+        let got = in_come (GotVote tells faults start) olds mids m old.0 mid.0 voted old.1 mid.1 in
+        let calm : faults mid.0.disk ≡ before.faults m = got.0.well.calm ∙ (mounted m old.0 old.1).calm in
+        in_stop (GotStart tells faults start) (λ old new. LacksStart tells faults start old new fault.why)
+        (faults new.disk ≡ before.faults m) mids news fault.member m mid.0 new stop mid.1 here
+        (λ l came. came.well.calm ∙ calm)
+        (λ at lacks. quiet at mid.0 new lacks.next lacks.reason ∙ calm)
+        (λ l same. ap (λ (x : LogState D). faults x.disk) same ∙ calm)
 
-pub catch_names : {D : Type 0} (tells : D → Option Told) (faults : D → ℕ) (before : YardState) (whole : List Entry)
-    (olds news : List (LogState D)) (k : ℕ) (old new : LogState D) (fault : CatchFault) (stop : Stop)
-    → AreMounted tells faults before olds → AreCaughtUp tells faults whole olds news k → slice_get olds k ≡ Some old
-    → k < length news → (fault ≢ catches.DiskFault → IsLeftAlone tells faults old new)
-    → (fault ≡ catches.OutOfMemory → stop ≡ OutOfMemory) → (fault ≡ catches.DiskFault → stop ≡ DiskFault k)
-    → ((len : ℕ) → fault ≡ catches.LogFull len → stop ≡ LogFull k len)
-    → NamesFaults stop before (with_logs tells faults before (slice_set news k new))
-catch_names tells faults before whole olds news k old new catches.OutOfMemory stop mounted so_far from within alone
-    to_memory to_disk to_full =
-    subst (λ (s : Stop). NamesFaults s before (with_logs tells faults before (slice_set news k new)))
-    (sym (to_memory refl)) tt
-catch_names tells faults before whole olds news k old new catches.DiskFault stop mounted so_far from within alone
-    to_memory to_disk to_full =
-    subst (λ (s : Stop). NamesFaults s before (with_logs tells faults before (slice_set news k new)))
-    (sym (to_disk refl)) (counts_so_far tells faults before whole olds news k new mounted so_far)
-catch_names tells faults before whole olds news k old new (catches.LogFull len) stop mounted so_far from within alone
-    to_memory to_disk to_full =
-    subst (λ (s : Stop). NamesFaults s before (with_logs tells faults before (slice_set news k new)))
-    (sym (to_full len refl)) (λ m. elim (cases_eq m k) [
-      | inl at ↦
-          let still = (alone (λ e. absurd (cc e))).calm in
-          let there = faults_at tells faults before (slice_set news k new) m new
-          (ap (slice_get (slice_set news k new)) at ∙ replica_set news k new within) in
-          there ∙ (still ∙ ((mounted k old from).calm ∙ ap before.faults (sym at)))
-      | inr apart ↦ counts_so_far tells faults before whole olds news k new mounted so_far m apart
-    ])
+    by : (o : Option (LogState D)) → log_of news m ≡ o
+        → (with_logs tells faults before news).faults m ≡ before.faults m
+    by None at = faults_none tells faults before news m at
+    by (Some new) at = faults_at tells faults before news m new at ∙ at_log new at stopped
 
--- ---- what stops an opening once all disks are mounted
+open_names : {D : Type 0} (tells : D → Option Told) (faults : D → ℕ) (before : YardState) (start : Start)
+    (olds news : List (Option (LogState D))) (k : ℕ) (why : CatchFault) → AreMounted tells faults before olds
+    → WereNotOpened tells faults start olds news (record { member = k; why = why })
+    → NamesFaults (stop_at k why) before (with_logs tells faults before news)
+open_names tells faults before start olds news k catches.OutOfMemory mounted stopped = tt
+open_names tells faults before start olds news k catches.DiskFault mounted stopped = λ m apart.
+    calm_at tells faults before start olds news (record { member = k; why = catches.DiskFault }) m mounted stopped
+    (λ at. absurd (apart at))
+open_names tells faults before start olds news k (catches.LogFull len) mounted stopped = λ m.
+    calm_at tells faults before start olds news (record { member = k; why = catches.LogFull len }) m mounted stopped
+    (λ at old new next is. is.0.calm)
 
-pub gather_behind : (fault : GatherFault) (stop : Stop) → (fault ≡ gathers.OutOfMemory → stop ≡ OutOfMemory)
-    → ((m p : ℕ) → fault ≡ gathers.Foreign m p → stop ≡ Foreign m p)
-    → ((a b p : ℕ) → fault ≡ gathers.Disagree a b p → stop ≡ Disagree a b p)
-    → (fault ≡ gathers.AgesUsedUp → stop ≡ AgesUsedUp) → IsBehindMounts stop
-gather_behind gathers.OutOfMemory stop memory foreign differ up = subst IsBehindMounts (sym (memory refl)) tt
-gather_behind (gathers.Foreign m p) stop memory foreign differ up =
-    subst IsBehindMounts (sym (foreign m p refl)) tt
-gather_behind (gathers.Disagree a b p) stop memory foreign differ up =
-    subst IsBehindMounts (sym (differ a b p refl)) tt
-gather_behind gathers.AgesUsedUp stop memory foreign differ up = subst IsBehindMounts (sym (up refl)) tt
+pub why_names : {D : Type 0} (tells : D → Option Told) (faults : D → ℕ) (script : Script) (before : YardState)
+    (olds news : List (Option (LogState D))) (why : NotOpened) → AreMounted tells faults before olds
+    → IsWhyUnopened tells faults script olds news why
+    → NamesFaults (stop_of why) before (with_logs tells faults before news)
+why_names {D} tells faults script before olds news (Unchosen fault) mounted is =
+    names_none (stop_of_choice fault) before (with_logs tells faults before news) (λ m.
+    ap (λ (logs : List (Option (LogState D))). (with_logs tells faults before logs).faults m) is.1
+    ∙ counts_still tells faults before olds mounted m)
+why_names tells faults script before olds news (Unfinished fault) mounted is =
+    open_names tells faults before is.0 olds news fault.member fault.why mounted is.2
 
-pub catch_behind : (fault : CatchFault) (stop : Stop) (k : ℕ) → (fault ≡ catches.OutOfMemory → stop ≡ OutOfMemory)
-    → (fault ≡ catches.DiskFault → stop ≡ DiskFault k)
-    → ((len : ℕ) → fault ≡ catches.LogFull len → stop ≡ LogFull k len) → IsBehindMounts stop
-catch_behind catches.OutOfMemory stop k memory disk full = subst IsBehindMounts (sym (memory refl)) tt
-catch_behind catches.DiskFault stop k memory disk full = subst IsBehindMounts (sym (disk refl)) tt
-catch_behind (catches.LogFull len) stop k memory disk full = subst IsBehindMounts (sym (full len refl)) tt
+-- ---- all disks were mounted
+
+pub why_behind : (why : NotOpened) → IsBehindMounts (stop_of why)
+why_behind (Unchosen chooses.OutOfMemory) = tt
+why_behind (Unchosen (chooses.Foreign m p)) = tt
+why_behind (Unchosen (chooses.NoQuorum v h n)) = tt
+why_behind (Unchosen (chooses.Disagree a b p)) = tt
+why_behind (Unchosen chooses.AgesUsedUp) = tt
+why_behind (Unfinished fault) = by fault.member fault.why
+  where
+    by : (k : ℕ) (why : CatchFault) → IsBehindMounts (stop_at k why)
+    by k catches.OutOfMemory = tt
+    by k catches.DiskFault = tt
+    by k (catches.LogFull len) = tt

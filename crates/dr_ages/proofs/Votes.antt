@@ -1,5 +1,5 @@
 -- The votes that are found on disks, and those that the members of an age cast.
-use Rattle.std.proofs.Common.{◌≡◌, refl, sym, ap, ◌∙◌, subst, ℕ, ◌<◌, inl, inr, arith, List, [], ◌∷◌}
+use Rattle.std.proofs.Common.{◌≡◌, ◌⊎◌, refl, sym, ap, ◌∙◌, subst, ℕ, ◌<◌, inl, inr, arith, List, [], ◌∷◌}
 use Rattle.std.specs.Prelude.{All, IfSome, IsTrue, Option, None, Some, is_some, option_map, slice_get}
 use Rattle.std.proofs.lemmas.Option.{same_Some, slice_get-map}
 use Rattle.std.proofs.lemmas.List.Elements.{All-append, All-cons, All-nil}
@@ -7,17 +7,18 @@ use Rattle.std.proofs.lemmas.Nat.{mul-le}
 use Rattle.dr_disk.specs.Disk.{Told, content_of}
 use Rattle.dr_entry.specs.declared.end.AgeEnd.{AgeEnd}
 use Rattle.dr_entry.specs.declared.end.MemberEnd.{MemberEnd}
-use Rattle.dr_entry.specs.declared.entry.Entry.{Entry}
 use Rattle.dr_entry.specs.declared.record.Record.{Record}
 use Rattle.dr_entry.specs.declared.record.Record.TheVariants as records
 use Rattle.dr_entry.specs.Spelling.{IsValid, IsValidVote}
-use Rattle.dr_history_laws.proofs.Lists.{slice_get-some}
 use Rattle.dr_log_bytes.specs.Content.{OnLog, content_after, empty_of, with_record}
 use Rattle.dr_log_bytes.specs.Grammar.{AreSpelled, StandFor}
 use Rattle.dr_machine.specs.Group.{IsGroup}
 use Rattle.dr_logged.specs.Served.{AtMember}
-use Rattle.dr_program.specs.Program.{IsRanFrom, Program, age_of, end_of}
+use Rattle.dr_opening.specs.Tries.{content_at}
+use Rattle.dr_program.specs.Presence.{present_at}
+use Rattle.dr_program.specs.Program.{IsRanFrom, Program, absent_end, age_of, end_at, end_of}
 use Rattle.dr_program.specs.Running.{Running}
+use Rattle.dr_program.proofs.Present.{present_slice, slice_present}
 use Rattle.dr_program.proofs.Voting.{votes_within}
 use Rattle.dr_program_laws.proofs.Keeping.{deeds_kept}
 use Rattle.dr_refine.specs.Programs.{IsProgram}
@@ -55,26 +56,24 @@ stands_valid bytes c (inl few) = subst (λ (d : OnLog). All IsValidVote d.votes)
 stands_valid bytes c (inr more) = subst (λ (d : OnLog). All IsValidVote d.votes) more.1.content
     (made_valid more.1.records (empty_of more.1.newer) more.1.log.spelled (All-nil IsValidVote))
 
-pub found_valid : (n : ℕ) (yard : YardState) (lists : List (List Entry)) (contents : ℕ → OnLog) (m : ℕ)
-    → AllTell n yard → AreFound n yard lists contents → m < n → All IsValidVote (contents m).votes
-found_valid n yard lists contents m tell found l =
-    let es = slice_get-some lists m (omega (arith, l, found.all)) in
-    read (yard.told m) (tell m l) (found.each m es.0 es.1).reads
+pub found_valid : (n missing : ℕ) (yard : YardState) (contents : List (Option OnLog)) (m : ℕ) (c : OnLog)
+    → AllTell n yard → AreFound n missing yard contents → m < n → content_at contents m ≡ Some c
+    → All IsValidVote c.votes
+found_valid n missing yard contents m c tell found l at = read (yard.told m) (tell m l) (found.each m c at).reads
   where
-    read : (o : Option Told) → IsTrue (is_some o) → IfSome o (ReadsAs (contents m))
-        → All IsValidVote (contents m).votes
+    read : (o : Option Told) → IsTrue (is_some o) → IfSome o (ReadsAs c) → All IsValidVote c.votes
     read None some reads = absurd (cc)
-    read (Some t) some reads = stands_valid (content_of t) (contents m) reads.stands
+    read (Some t) some reads = stands_valid (content_of t) c reads.stands
 
 -- ---- the votes that an age brings
 
 -- the program of an age ran from its beginning
-record HasRanOver (script : Script) (start : Start) (nth : ℕ) (over : Program) : Type 0 where
-  begun : Program
-  begins : IsBegun script start nth begun
-  ran : IsRanFrom begun over
+pub record HasRanOver (script : Script) (start : Start) (nth : ℕ) (over : Program) : Type 0 where
+  pub begun : Program
+  pub begins : IsBegun script start nth begun
+  pub ran : IsRanFrom begun over
 
-ran_over : (mode : Mode) (script : Script) (start : Start) (nth : ℕ) (age : AgeEnd)
+pub ran_over : (mode : Mode) (script : Script) (start : Start) (nth : ℕ) (age : AgeEnd)
     → (is : IsPlayed mode script start nth age)
     → HasRanOver script start nth (over_of mode script start nth age is)
 ran_over Sim script start nth age is = record {
@@ -84,7 +83,18 @@ ran_over Sim script start nth age is = record {
 }
 ran_over Run script start nth age is = record { begun = is.begun; begins = is.begins; ran = is.ran }
 
--- so a member casts in each view no more votes than there are members
+-- so it is a program of the group
+pub over_form : (mode : Mode) (script : Script) (start : Start) (nth : ℕ) (age : AgeEnd) → HasRanges script
+    → IsGroup (group_of script start) → (is : IsPlayed mode script start nth age)
+    → IsProgram (group_of script start) (over_of mode script start nth age is)
+over_form mode script start nth age ranges group is =
+    let over : Program = over_of mode script start nth age is in
+    let r = ran_over mode script start nth age is in
+    (deeds_kept (group_of script start) script.turns r.begins.0 over group ranges.some_turn
+    (are_setups script start nth r.begins.0 ranges.group.lists r.begins.1)
+    (subst (λ (b : Program). IsRanFrom b over) r.begins.2 r.ran)).0
+
+-- and a member casts in each view no more votes than there are members
 pub few_cast : (mode : Mode) (script : Script) (start : Start) (nth : ℕ) (age : AgeEnd) → HasRanges script
     → IsGroup (group_of script start) → (is : IsPlayed mode script start nth age) → (m : ℕ)
     → AtMember (over_of mode script start nth age is) m (λ r. IsMemberOf script.members r.replica)
@@ -99,15 +109,8 @@ few_cast mode script start nth age ranges group is m r at = record {
   );
 }
   where
-    over : Program
-    over = over_of mode script start nth age is
-
-    form : IsProgram (group_of script start) over
-    form =
-        let r = ran_over mode script start nth age is in
-        (deeds_kept (group_of script start) script.turns r.begins.0 over group ranges.some_turn
-        (are_setups script start nth r.begins.0 ranges.group.lists r.begins.1)
-        (subst (λ (b : Program). IsRanFrom b over) r.begins.2 r.ran)).0
+    form : IsProgram (group_of script start) (over_of mode script start nth age is)
+    form = over_form mode script start nth age ranges group is
 
 -- ---- the members of an age
 
@@ -121,19 +124,41 @@ told_by Run script start nth age is = is.told
 -- a member of its program, by how it ended
 pub record EndsSo (p : Program) (m : ℕ) (e : MemberEnd) : Type 0 where
   pub r : Running
-  pub at : slice_get p.members m ≡ Some r
+  pub at : present_at p.members m ≡ Some r
   pub is : end_of r ≡ e
+
+-- or an empty place, of which nothing is told
+pub record LacksSo (p : Program) (m : ℕ) (e : MemberEnd) : Type 0 where
+  pub at : present_at p.members m ≡ None
+  pub is : absent_end ≡ e
 
 pub member_over : (mode : Mode) (script : Script) (start : Start) (nth : ℕ) (age : AgeEnd)
     → (is : IsPlayed mode script start nth age) → (m : ℕ) (e : MemberEnd) → slice_get age.members m ≡ Some e
-    → EndsSo (over_of mode script start nth age is) m e
+    → EndsSo (over_of mode script start nth age is) m e ⊎ LacksSo (over_of mode script start nth age is) m e
 member_over mode script start nth age is m e at = by (slice_get over.members m) refl
-    (sym (slice_get-map end_of over.members m)
+    (sym (slice_get-map end_at over.members m)
     ∙ sym (ap (λ (a : AgeEnd). slice_get a.members m) (told_by mode script start nth age is)) ∙ at)
   where
     over : Program
     over = over_of mode script start nth age is
 
-    by : (o : Option Running) → slice_get over.members m ≡ o → option_map end_of o ≡ Some e → EndsSo over m e
+    by : (o : Option (Option Running)) → slice_get over.members m ≡ o → option_map end_at o ≡ Some e
+        → EndsSo over m e ⊎ LacksSo over m e
     by None there same = absurd (cc)
-    by (Some r) there same = record { r = r; at = there; is = same_Some (end_of r) e same }
+    by (Some None) there same =
+        inr (record { at = slice_present over.members m None there; is = same_Some absent_end e same })
+    by (Some (Some r)) there same = inl (record {
+      r = r;
+      at = slice_present over.members m (Some r) there;
+      is = same_Some (end_of r) e same;
+    })
+
+-- and it tells of each that stands at a place
+pub age_told : (mode : Mode) (script : Script) (start : Start) (nth : ℕ) (age : AgeEnd)
+    → (is : IsPlayed mode script start nth age) → (m : ℕ) (r : Running)
+    → present_at (over_of mode script start nth age is).members m ≡ Some r
+    → slice_get age.members m ≡ Some (end_of r)
+age_told mode script start nth age is m r at =
+    ap (λ (a : AgeEnd). slice_get a.members m) (told_by mode script start nth age is)
+    ∙ (slice_get-map end_at (over_of mode script start nth age is).members m
+    ∙ ap (option_map end_at) (present_slice (over_of mode script start nth age is).members m r at))

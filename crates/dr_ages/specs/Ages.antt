@@ -1,48 +1,55 @@
 -- The ages of a run.
-use Rattle.std.specs.Prelude.{◌≡◌, ◌≢◌, ℕ, ◌+◌, ◌-◌, ◌*◌, ◌^◌, ◌<◌, ◌≤◌, List, [], ◌∷◌, length, slice_get, take, Some}
+use Rattle.std.specs.Prelude.{◌≡◌, ◌≢◌, ℕ, ◌+◌, ◌-◌, ◌*◌, ◌^◌, ◌≤◌, ◌↔◌, true, false, List, [], ◌∷◌, length, map, slice_get, take, Option, Some}
 use Rattle.dr_complete.specs.Time.{HasTime}
 use Rattle.dr_entry.specs.declared.end.AgeEnd.{AgeEnd}
-use Rattle.dr_entry.specs.declared.end.End.TheVariants.{DiskFault, LogFull}
+use Rattle.dr_entry.specs.declared.end.End.TheVariants.{Absent, DiskFault, LogFull}
 use Rattle.dr_entry.specs.declared.end.MemberEnd.{MemberEnd}
 use Rattle.dr_entry.specs.declared.entry.Entry.{Entry}
-use Rattle.dr_gather.specs.Gathering.{IsStartOf}
 use Rattle.dr_history.specs.declared.opening.Opening.{Opening}
 use Rattle.dr_history.specs.Agreement.{EndsAgreed}
 use Rattle.dr_history.specs.History.{IsPrefixOf}
+use Rattle.dr_history.specs.Members.{has}
 use Rattle.dr_history.specs.Order.{first_entries}
 use Rattle.dr_io.specs.Faults.{Rose}
 use Rattle.dr_log_bytes.specs.Content.{OnLog}
 use Rattle.dr_logged.specs.Served.{AtMember}
+use Rattle.dr_opening.specs.Contents.{IsOpenFor, voted_for}
+use Rattle.dr_opening.specs.Tries.{IsChosenOf, content_at}
 use Rattle.dr_program.specs.Program.{Program}
 use Rattle.dr_program.specs.Replica.{Replica}
 use Rattle.dr_program_laws.specs.Ended.{AreComplete, HaveEnded}
 use Rattle.dr_program_laws.specs.Trusting.{NoneLeft, SuspectsNobody}
 use Rattle.dr_restart.specs.declared.start.Start.{Start}
-use Rattle.dr_restart.specs.Groups.{group_of}
+use Rattle.dr_restart.specs.Groups.{first_group_of, group_of}
 use Rattle.dr_restart.specs.Setups.{crashes_of}
 use Rattle.dr_script.specs.declared.script.Script.{Script}
 use Rattle.dr_age.specs.Logged.{NoneFull, NoneStopped}
 use Rattle.dr_age.specs.Run.{IsRun}
 use Rattle.dr_sim.specs.Simulated.{IsSimulated}
+use Rattle.dr_words.specs.Masks.{without}
 use Rattle.dr_yard.specs.Yards.{YardState}
 use Rattle.dr_ages.specs.declared.mode.Mode.{Mode}
 use Rattle.dr_ages.specs.declared.mode.Mode.TheVariants.{Sim, Run}
-use Rattle.dr_ages.specs.Found.{AreFew, AreFound}
+use Rattle.dr_ages.specs.Found.{AreFew, AreFound, NoneMissing}
 use Rattle.dr_ages.specs.Left.{HasLeft, IsFullAt}
-use Rattle.dr_ages.specs.Passing.{AreKeptSince, PassOn}
+use Rattle.dr_ages.specs.Passing.{AreKeptSince, AreUntouched, PassOn}
 
--- the start that the end of an age tells: the whole roster takes part
-abbrev pub start_of : Script → AgeEnd → Start
-start_of script age = record {
+-- who takes part in the ages of a run: the members of the roster, but for the missing
+abbrev pub taking_part : Script → ℕ → ℕ
+taking_part script missing = without (2 ^ script.members - 1) missing
+
+-- the start that the end of an age tells
+abbrev pub start_of : Script → ℕ → AgeEnd → Start
+start_of script missing age = record {
   age = age.age;
-  members = 2 ^ script.members - 1;
-  present = 2 ^ script.members - 1;
+  members = taking_part script missing;
+  present = taking_part script missing;
   entries = age.start;
 }
 
 -- what the members of the age have begun with
-abbrev pub opening_of : Script → AgeEnd → Opening
-opening_of script age = (group_of script (start_of script age)).opening
+abbrev pub opening_of : Script → ℕ → AgeEnd → Opening
+opening_of script missing age = (group_of script (start_of script missing age)).opening
 
 -- the age is that of the script's program, which begins from the start: a simulated one runs by the script's
 -- schedule, and one in threads by some list of deeds
@@ -63,47 +70,60 @@ pub record IsMemberOf (members : ℕ) (r : Replica) : Type 0 where
   pub banks : r.banks ≡ members
   pub few : length r.votes ≤ members * members
 
--- this is age number nth of a run, from 0, over disks that were so before it and are so behind it
-pub record IsAgeOf (script : Script) (mode : Mode) (nth : ℕ) (before after : YardState) (age : AgeEnd) : Type 0 where
-  -- it starts with what is found on the disks
-  pub lists : List (List Entry)
-  pub contents : ℕ → OnLog
-  pub found : AreFound script.members before lists contents
-  pub starts : IsStartOf script lists (start_of script age)
-  pub small : age.age < 2 ^ 16
+-- this is age number nth of a run, from 0, over disks that were so before it and are so behind it, but for those
+-- of the missing
+pub record IsAgeOf (script : Script) (missing : ℕ) (mode : Mode) (nth : ℕ) (before after : YardState)
+    (age : AgeEnd) : Type 0 where
+  -- it starts with what is chosen of what is found on the disks
+  pub contents : List (Option OnLog)
+  pub found : AreFound script.members missing before contents
+  pub starts : IsChosenOf (first_group_of script).opening contents (start_of script missing age)
+  -- each log gets the age vote, is cut back and brought up to the start
+  pub begun : ℕ → OnLog
+  pub begins : (m : ℕ) (c : OnLog) → content_at contents m ≡ Some c
+      → IsOpenFor (start_of script missing age) (voted_for (start_of script missing age) c) (begun m)
   -- it is the run of the script's program from there on, and its members agree, and end as they should
   pub roster : length age.members ≡ script.members
-  pub run : IsPlayed mode script (start_of script age) nth age
-  pub agreed : EndsAgreed (opening_of script age) age.members
-  pub ended : HaveEnded (opening_of script age) script.turns (crashes_of script.faults nth) age.members
+  pub run : IsPlayed mode script (start_of script missing age) nth age
+  pub agreed : EndsAgreed (opening_of script missing age) age.members
+  pub ended : HaveEnded (opening_of script missing age) script.turns (crashes_of script.faults nth) age.members
   pub trusting : SuspectsNobody script → NoneLeft age.members
-  pub complete : mode ≡ Sim → HasTime script → NoneStopped age.members
-      → AreComplete (opening_of script age) age.members
+  pub complete : NoneMissing script.members missing → mode ≡ Sim → HasTime script → NoneStopped age.members
+      → AreComplete (opening_of script missing age) age.members
+  -- exactly the missing are absent
+  pub absent : (m : ℕ) (e : MemberEnd) → slice_get age.members m ≡ Some e
+      → (e.end ≡ Absent) ↔ (has missing m ≡ true)
   -- its members have cast no more votes than they may
-  pub few : (m : ℕ) → AtMember (over_of mode script (start_of script age) nth age run) m
+  pub few : (m : ℕ) → AtMember (over_of mode script (start_of script missing age) nth age run) m
       (λ r. IsMemberOf script.members r.replica)
   -- each log begins with what every history of the age does
-  pub opened : (m : ℕ) (e : MemberEnd) → slice_get age.members m ≡ Some e
-      → IsPrefixOf (first_entries (opening_of script age)) (take e.logged e.history)
-  -- whatever a crash leaves of each disk is what its member may leave, behind what was found
-  pub left : (m : ℕ) → AtMember (over_of mode script (start_of script age) nth age run) m
-      (λ r. HasLeft (after.told m) r.replica (contents m))
+  pub opened : (m : ℕ) (e : MemberEnd) → slice_get age.members m ≡ Some e → has missing m ≡ false
+      → IsPrefixOf (first_entries (opening_of script missing age)) (take e.logged e.history)
+  -- whatever a crash leaves of each disk is what its member may leave, behind what stood there as the age began
+  pub left : (m : ℕ) → AtMember (over_of mode script (start_of script missing age) nth age run) m
+      (λ r. HasLeft (after.told m) r.replica (begun m))
   -- who ends by its disk has one that failed, no call of another disk did, and who ends by a full log has one
   pub failed : (m : ℕ) (e : MemberEnd) → slice_get age.members m ≡ Some e → e.end ≡ DiskFault
       → Rose (before.faults m) (after.faults m)
   pub calm : (m : ℕ) → ((e : MemberEnd) → slice_get age.members m ≡ Some e → e.end ≢ DiskFault)
       → after.faults m ≡ before.faults m
-  pub full : (m : ℕ) → AtMember (over_of mode script (start_of script age) nth age run) m
-      (λ r. (len : ℕ) → r.replica.end ≡ Some (LogFull len) → IsFullAt r.replica (contents m) len)
+  pub full : (m : ℕ) → AtMember (over_of mode script (start_of script missing age) nth age run) m
+      (λ r. (len : ℕ) → r.replica.end ≡ Some (LogFull len) → IsFullAt r.replica (begun m) len)
   -- logs on which there is little but entries have room for all that an age may bring
-  pub ample : ((m : ℕ) → m < script.members → AreFew (contents m)) → NoneFull age.members
-  -- no disk has lost anything, nor would a crash have lost what was on one as the age mounted it
-  pub passes : PassOn before after
-  pub since : AreKeptSince script.members script.members before after
+  pub ample : ((m : ℕ) (c : OnLog) → content_at contents m ≡ Some c → AreFew c) → NoneFull age.members
+  -- no disk has lost anything, nor would a crash have lost what was on one as the age mounted it, but for entries
+  -- that the start lacks; and those of the missing are as they were
+  pub passes : PassOn (age.start ∷ []) before after
+  pub since : AreKeptSince script.members missing script.members (age.start ∷ []) before after
+  pub untouched : AreUntouched missing before after
 
 -- these ages came one after the other, the first of them as number nth of the run
-abbrev pub AreAges : Script → Mode → ℕ → YardState → List AgeEnd → YardState → Type 0
-AreAges script mode nth before [] after = before ≡ after
-AreAges script mode nth before (age ∷ ages) after =
-    (between : YardState) × IsAgeOf script mode nth before between age
-    × AreAges script mode (nth + 1) between ages after
+abbrev pub AreAges : Script → ℕ → Mode → ℕ → YardState → List AgeEnd → YardState → Type 0
+AreAges script missing mode nth before [] after = before ≡ after
+AreAges script missing mode nth before (age ∷ ages) after =
+    (between : YardState) × IsAgeOf script missing mode nth before between age
+    × AreAges script missing mode (nth + 1) between ages after
+
+-- the entries of their starts
+abbrev pub starts_of : List AgeEnd → List (List Entry)
+starts_of ages = map (λ (age : AgeEnd). age.start) ages

@@ -1,13 +1,14 @@
 -- What is found on the disks of a yard as an age opens.
-use Rattle.std.specs.Prelude.{◌≡◌, ℕ, ◌+◌, ◌^◌, ◌≤◌, List, length, slice_get, Option, Some, IfSome}
+use Rattle.std.specs.Prelude.{◌≡◌, ℕ, ◌+◌, ◌<◌, ◌^◌, ◌≤◌, false, not, List, length, Option, Some, IfSome, is_some}
 use Rattle.dr_disk.specs.Disk.{Told, content_of}
 use Rattle.dr_disk.specs.Images.{ReadsAnImage}
-use Rattle.dr_entry.specs.declared.entry.Entry.{Entry}
-use Rattle.dr_history.specs.History.{view_of}
-use Rattle.dr_history.specs.Restarting.{IsLongest, next_age}
+use Rattle.dr_history.specs.Members.{has}
 use Rattle.dr_log.specs.Standing.{entries_length, least_length}
 use Rattle.dr_log_bytes.specs.Content.{OnLog}
 use Rattle.dr_log_bytes.specs.Grammar.{StandFor}
+use Rattle.dr_opening.specs.Lists.{as_lists}
+use Rattle.dr_opening.specs.Tries.{content_at}
+use Rattle.dr_restart.specs.Choosing.{HasAge}
 use Rattle.dr_script.specs.declared.script.Script.{Script}
 use Rattle.dr_yard.specs.Yards.{YardState}
 
@@ -16,28 +17,31 @@ pub record ReadsAs (c : OnLog) (t : Told) : Type 0 where
   pub image : ReadsAnImage t
   pub stands : StandFor (content_of t) c
 
--- what is found on the log of a member: these entries, with what else is on it, which takes no less than their
--- bytes; and where its disk tells, it reads as this
-pub record WasFound (told : Option Told) (es : List Entry) (c : OnLog) : Type 0 where
-  pub entries : c.entries ≡ es
+-- what is found on the log of a member takes no less than the bytes of its lists; and where its disk tells, it
+-- reads as this
+pub record WasFound (told : Option Told) (c : OnLog) : Type 0 where
   pub least : least_length c ≤ c.length
   pub reads : IfSome told (ReadsAs c)
 
--- the entries on the logs of the first n members, and all that is on them, by number, as they are found
-pub record AreFound (n : ℕ) (yard : YardState) (lists : List (List Entry)) (contents : ℕ → OnLog) : Type 0
-  where
-    pub all : length lists ≡ n
-    pub each : (m : ℕ) (es : List Entry) → slice_get lists m ≡ Some es → WasFound (yard.told m) es (contents m)
+-- what is on the logs of the first n members, in a place for each, as they are found: nothing for the missing
+pub record AreFound (n missing : ℕ) (yard : YardState) (contents : List (Option OnLog)) : Type 0 where
+  pub all : length contents ≡ n
+  pub there : (m : ℕ) → m < n → is_some (content_at contents m) ≡ not (has missing m)
+  pub each : (m : ℕ) (c : OnLog) → content_at contents m ≡ Some c → WasFound (yard.told m) c
+
+-- of so many members none is missing
+abbrev pub NoneMissing : ℕ → ℕ → Type 0
+NoneMissing n missing = (m : ℕ) → m < n → has missing m ≡ false
 
 -- a log that leaves room for a start, and for all that an age may bring: but for its entries it takes three
 -- quarters of the bytes that a log may have, or fewer
 pub record AreFew (c : OnLog) : Type 0 where
   pub few : c.length ≤ 1610612736 + entries_length c.entries
 
--- Logs that leave room for all ages that a script asks for, as they are found: none has more than 536,870,912
--- bytes, and there is a number for each age.
+-- Logs that leave room for all ages that a script asks for, as they are found where none is missing: none has
+-- more than 536,870,912 bytes, and above each age on one of them there is a number for each age.
 pub record AreRoomy (script : Script) (yard : YardState) : Type 0 where
-  pub short : (lists : List (List Entry)) (contents : ℕ → OnLog) → AreFound script.members yard lists contents
-      → (m : ℕ) (es : List Entry) → slice_get lists m ≡ Some es → (contents m).length ≤ 536870912
-  pub numbered : (lists : List (List Entry)) (contents : ℕ → OnLog) → AreFound script.members yard lists contents
-      → (es : List Entry) → IsLongest lists es → next_age (view_of es) + script.ages ≤ 2 ^ 16
+  pub short : (contents : List (Option OnLog)) → AreFound script.members 0 yard contents
+      → (m : ℕ) (c : OnLog) → content_at contents m ≡ Some c → c.length ≤ 536870912
+  pub numbered : (contents : List (Option OnLog)) → AreFound script.members 0 yard contents → (m a : ℕ) (c : OnLog)
+      → content_at contents m ≡ Some c → HasAge (as_lists c) a → a + script.ages < 2 ^ 16

@@ -10,8 +10,8 @@ use Rattle.dr_log_bytes.specs.Grammar.{StandFor}
 use Rattle.dr_logged.specs.Served.{IsRecordDue}
 use Rattle.dr_program.specs.Replica.{Replica}
 
--- what is on a log behind an age, by what was found on it: the entries that its member has logged, which begin with
--- those, and the votes that it cast behind the others
+-- what is on a log behind an age, by what stood on it as the age began: the entries that its member has logged, which
+-- begin with those, and the votes that it cast behind the others
 abbrev pub with_logged : OnLog → Replica → OnLog
 with_logged found r = record found {
   entries = take r.logged r.history;
@@ -21,7 +21,7 @@ with_logged found r = record found {
 }
 
 -- the disk of a member that stands so at its end failed: whatever a crash leaves has what the member has logged,
--- behind the votes that were found those that it cast, or the record besides that it has due
+-- behind the votes that stood there those that it cast, or the record besides that it has due
 pub record HasBroken (told : Option Told) (r : Replica) (found : OnLog) : Type 0 where
   pub failed : r.end ≡ Some DiskFault
   pub next : Record

@@ -1,11 +1,11 @@
 -- The disks of a yard that are lent, and the logs on them.
-use Rattle.std.specs.Prelude.{◌≡◌, ⊤, ℕ, ◌<◌, ◌≤◌, Bool, nat_lt, false, List, length, slice_get, Option, Some, IfSome}
+use Rattle.std.specs.Prelude.{◌≡◌, ⊤, ℕ, ◌<◌, ◌≤◌, Bool, not, false, List, length, Option, Some, IfSome, is_some}
 use Rattle.std.specs.Option.{option_map_or}
 use Rattle.dr_disk.specs.Calls.{Sync}
 use Rattle.dr_disk.specs.Disk.{Told, added}
 use Rattle.dr_disk.specs.Images.{Goes}
-use Rattle.dr_entry.specs.declared.entry.Entry.{Entry}
 use Rattle.dr_entry.specs.declared.limits.TheConstants.{MAX_MEMBERS}
+use Rattle.dr_history.specs.Members.{has}
 use Rattle.dr_io.specs.Faults.{Rose}
 use Rattle.dr_log.specs.Appending as mounts
 use Rattle.dr_log.specs.Standing.{KeepsRecords}
@@ -13,20 +13,25 @@ use Rattle.dr_log.specs.Standing.{least_length}
 use Rattle.dr_log.specs.State.{LogState}
 use Rattle.dr_log_bytes.specs.Content.{OnLog}
 use Rattle.dr_logged.specs.Served.{IsSafe}
+use Rattle.dr_opening.specs.Lists.{log_of}
 use Rattle.dr_yard.specs.Yards.{YardState}
 use Rattle.dr_ages.specs.declared.stop.Stop.{Stop}
 use Rattle.dr_ages.specs.declared.stop.Stop.TheVariants.{OutOfMemory, DiskFault, Damaged}
 use Rattle.dr_ages.specs.Found.{AreFound, ReadsAs}
 use Rattle.dr_ages.specs.Stops.{HasDamaged, ReadsDamaged}
 
--- the disks of the first members are lent, and stand under these logs, by number; a disk has counted no fewer
--- faults than the yard has
+-- the disks of members are lent that stand under these logs, by number; a disk has counted no fewer faults than
+-- the yard has
 pub record AreLent {Y D : Type 0} (is_lent : Y → ℕ → Bool) (yard_faults : Y → ℕ → ℕ) (faults : D → ℕ)
-    (yard : Y) (logs : List (LogState D)) : Type 0 where
+    (yard : Y) (logs : List (Option (LogState D))) : Type 0 where
   pub few : length logs ≤ MAX_MEMBERS
-  pub lent : (m : ℕ) → m < MAX_MEMBERS → is_lent yard m ≡ nat_lt m (length logs)
-  pub counted : (m : ℕ) (log : LogState D) → slice_get logs m ≡ Some log
+  pub lent : (m : ℕ) → m < MAX_MEMBERS → is_lent yard m ≡ is_some (log_of logs m)
+  pub counted : (m : ℕ) (log : LogState D) → log_of logs m ≡ Some log
       → yard_faults yard m ≤ faults log.disk
+
+-- there is a log in each place but those of the missing
+abbrev pub AreAllBut : {D : Type 0} → ℕ → List (Option (LogState D)) → Type 0
+AreAllBut missing logs = (m : ℕ) → m < length logs → is_some (log_of logs m) ≡ not (has missing m)
 
 -- a disk that told so, and had counted so many faults, counts no fewer, and at each moment since a crash
 -- would have left what it might have left before, as far as records go
@@ -48,15 +53,17 @@ pub record IsMounted {D : Type 0} (tells : D → Option Told) (faults : D → �
   pub calls : mounts.IsMounted told (tells log.disk)
 
 -- these logs were mounted from the disks of a yard, by number
-abbrev pub AreMounted : {D : Type 0} → (D → Option Told) → (D → ℕ) → YardState → List (LogState D) → Type 0
-AreMounted {D} tells faults before logs = (m : ℕ) (log : LogState D) → slice_get logs m ≡ Some log
+abbrev pub AreMounted : {D : Type 0} → (D → Option Told) → (D → ℕ) → YardState → List (Option (LogState D))
+    → Type 0
+AreMounted {D} tells faults before logs = (m : ℕ) (log : LogState D) → log_of logs m ≡ Some log
     → IsMounted tells faults (before.told m) (before.faults m) log
 
 -- the state of a yard that has the disks of these logs in the place of its own
-abbrev pub with_logs : {D : Type 0} → (D → Option Told) → (D → ℕ) → YardState → List (LogState D) → YardState
+abbrev pub with_logs : {D : Type 0} → (D → Option Told) → (D → ℕ) → YardState → List (Option (LogState D))
+    → YardState
 with_logs {D} tells faults yard logs = record {
-  told = λ m. option_map_or (λ (log : LogState D). tells log.disk) (slice_get logs m) (yard.told m);
-  faults = λ m. option_map_or (λ (log : LogState D). faults log.disk) (slice_get logs m) (yard.faults m);
+  told = λ m. option_map_or (λ (log : LogState D). tells log.disk) (log_of logs m) (yard.told m);
+  faults = λ m. option_map_or (λ (log : LogState D). faults log.disk) (log_of logs m) (yard.faults m);
 }
 
 -- why the log of a member was not mounted, from a disk that told so and tells so now, while the count of its
@@ -70,18 +77,18 @@ WasRefused member told now before after stop = ⊥
 
 -- the disk of one of the first n members failed as it was to be mounted behind those below it; those above it
 -- are as they were
-pub record IsKeptBack (n : ℕ) (before after : YardState) (member : ℕ) : Type 0 where
+pub record IsKeptBack (n missing : ℕ) (before after : YardState) (member : ℕ) : Type 0 where
   pub below : member < n
+  pub there : has missing member ≡ false
   pub rose : Rose (before.faults member) (after.faults member)
-  pub lists : List (List Entry)
-  pub contents : ℕ → OnLog
-  pub found : AreFound member before lists contents
+  pub contents : List (Option OnLog)
+  pub found : AreFound member missing before contents
   pub above : (m : ℕ) → member < m → (after.told m ≡ before.told m) × (after.faults m ≡ before.faults m)
 
--- why the logs of the first n members were not all mounted, but those of the first k
-abbrev pub WereRefused : ℕ → ℕ → YardState → YardState → Stop → Type 0
-WereRefused n k before after OutOfMemory = ⊤
-WereRefused n k before after (DiskFault m) = (m ≡ k) × IsKeptBack n before after m
-WereRefused n k before after (Damaged m at) = (m ≡ k) × HasDamaged n before after m at
+-- why the logs of the first n members that are not missing were not all mounted, but those of the first k
+abbrev pub WereRefused : ℕ → ℕ → ℕ → YardState → YardState → Stop → Type 0
+WereRefused n missing k before after OutOfMemory = ⊤
+WereRefused n missing k before after (DiskFault m) = (m ≡ k) × IsKeptBack n missing before after m
+WereRefused n missing k before after (Damaged m at) = (m ≡ k) × HasDamaged n missing before after m at
     × ((j : ℕ) → k ≤ j → after.faults j ≡ before.faults j)
-WereRefused n k before after stop = ⊥
+WereRefused n missing k before after stop = ⊥

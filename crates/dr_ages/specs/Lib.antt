@@ -1,10 +1,11 @@
-pub mod Passing
-pub mod Lent
-pub mod Opened
 pub mod Found
+pub mod Passing
+pub mod Opened
+pub mod Stops
+pub mod Telling
+pub mod Lent
 pub mod Left
 pub mod Ages
-pub mod Stops
 pub mod Fit
 pub mod Crashed
 pub mod Refused

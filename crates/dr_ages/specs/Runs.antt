@@ -1,31 +1,34 @@
 -- What a run of ages is.
-use Rattle.std.specs.Prelude.{◌≡◌, ◌≢◌, ◌⊎◌, ℕ, ◌+◌, ◌<◌, All, true, List, [], ◌∷◌, ◌++◌, length, slice_get, take, Option, None, Some, IfSome, IsSomeAnd}
+use Rattle.std.specs.Prelude.{◌≡◌, ◌≢◌, ◌⊎◌, ℕ, ◌+◌, ◌<◌, All, true, false, List, [], ◌∷◌, ◌++◌, length, slice_get, take, Option, None, Some, IfSome, IsSomeAnd}
 use Rattle.dr_disk.specs.Images.{IsLeft}
 use Rattle.dr_entry.specs.declared.end.AgeEnd.{AgeEnd}
 use Rattle.dr_entry.specs.declared.end.MemberEnd.{MemberEnd}
 use Rattle.dr_entry.specs.declared.entry.Entry.{Entry}
 use Rattle.dr_history.specs.Agreement.{accounts_of}
 use Rattle.dr_history.specs.History.{IsPrefixOf}
+use Rattle.dr_history.specs.Members.{has}
 use Rattle.dr_history.specs.Restarting.{Kept}
 use Rattle.dr_log.specs.Standing.{LosesNone, with_entries}
 use Rattle.dr_log_bytes.specs.Content.{OnLog, empty_of}
 use Rattle.dr_script.specs.declared.script.Script.{Script}
 use Rattle.dr_age.specs.Logged.{NoneFull}
+use Rattle.dr_logged.specs.Served.{AtMember}
 use Rattle.dr_yard.specs.Yards.{AllTell, AreEmpty, YardState}
 use Rattle.dr_ages.specs.declared.mode.Mode.{Mode}
 use Rattle.dr_ages.specs.declared.stop.Stop.{Stop}
 use Rattle.dr_ages.specs.declared.stop.Stop.TheVariants.{OutOfMemory, AgesUsedUp}
-use Rattle.dr_ages.specs.Ages.{AreAges, opening_of}
+use Rattle.dr_ages.specs.Ages.{AreAges, IsAgeOf, opening_of, over_of, start_of, starts_of}
 use Rattle.dr_ages.specs.Fit.{AreFit}
-use Rattle.dr_ages.specs.Found.{AreRoomy}
-use Rattle.dr_ages.specs.Passing.{AreKeptSince, PassOn}
+use Rattle.dr_ages.specs.Found.{AreRoomy, NoneMissing}
+use Rattle.dr_ages.specs.Left.{with_logged}
+use Rattle.dr_ages.specs.Passing.{AreKeptSince, AreUntouched, PassOn}
 use Rattle.dr_ages.specs.Refused.{IsRefusal}
-use Rattle.dr_ages.specs.Stops.{HasMounted, HasStopped, IsBadLogs, IsOfLogs, IsOutside, NamesFaults}
+use Rattle.dr_ages.specs.Stops.{AreChosenIn, HasMounted, HasStopped, IsBadLogs, IsOfLogs, IsOutside, NamesFaults}
 
 -- each age keeps the one before it, and begins with all that a member of any earlier one knew to be durable
-pub record AreKept (script : Script) (ages : List AgeEnd) : Type 0 where
+pub record AreKept (script : Script) (missing : ℕ) (ages : List AgeEnd) : Type 0 where
   pub next : (i : ℕ) (a b : AgeEnd) → slice_get ages i ≡ Some a → slice_get ages (i + 1) ≡ Some b
-      → Kept (opening_of script a) (accounts_of a.members) (opening_of script b)
+      → Kept (opening_of script missing a) (accounts_of a.members) (opening_of script missing b)
   pub ever : (i j m : ℕ) (a b : AgeEnd) (e : MemberEnd) → i < j → slice_get ages i ≡ Some a
       → slice_get ages j ≡ Some b → slice_get a.members m ≡ Some e
       → IsPrefixOf (take e.durable e.history) b.start
@@ -57,22 +60,22 @@ IsStoppedBy due stop = IsSomeAnd stop (λ s. (s ≡ due) ⊎ IsOutside s)
 -- For what the logs of a run were refused, over disks that tell. In the first age it is the first thing for
 -- which they are refused as they read then. In a later age it is that no age is left, behind age 65,535. And
 -- where the logs are to be refused so they are, unless memory was wanting or a disk failed before.
-pub record IsRightlyRefused (script : Script) (before : YardState) (ages : List AgeEnd) (stop : Option Stop)
-    : Type 0 where
-  pub first : ages ≡ [] → IfSome stop (λ s. IsOfLogs s → IsRefusal script before s)
-  pub due : (s : Stop) → IsRefusal script before s → (ages ≡ []) × IsStoppedBy s stop
+pub record IsRightlyRefused (script : Script) (missing : ℕ) (before : YardState) (ages : List AgeEnd)
+    (stop : Option Stop) : Type 0 where
+  pub first : ages ≡ [] → IfSome stop (λ s. IsOfLogs s → IsRefusal script missing before s)
+  pub due : (s : Stop) → IsRefusal script missing before s → (ages ≡ []) × IsStoppedBy s stop
   pub later : ages ≢ [] → IfSome stop (λ s. IsOfLogs s → s ≡ AgesUsedUp)
   pub used_up : (earlier : List AgeEnd) (age : AgeEnd) → ages ≡ earlier ++ age ∷ [] → stop ≡ Some AgesUsedUp
       → age.age ≡ 65535
   pub no_more : (earlier : List AgeEnd) (age : AgeEnd) → ages ≡ earlier ++ age ∷ [] → age.age ≡ 65535
       → (length ages ≡ script.ages) ⊎ IsStoppedBy AgesUsedUp stop
 
--- What was on the disks as the first age mounted them, so many of them, no crash would have lost at any
--- moment since then. All were mounted where that age ran.
-pub record IsKeptRun (script : Script) (before after : YardState) (ages : List AgeEnd) (stop : Option Stop)
-    : Type 0 where
+-- What was on the disks as the first age mounted them, so many of them but for the missing, no crash would have
+-- lost at any moment since then, but for entries that one of the starts lacks. All were mounted where that age ran.
+pub record IsKeptRun (script : Script) (missing : ℕ) (starts : List (List Entry)) (before after : YardState)
+    (ages : List AgeEnd) (stop : Option Stop) : Type 0 where
   pub mounted : ℕ
-  pub since : AreKeptSince script.members mounted before after
+  pub since : AreKeptSince script.members missing mounted starts before after
   pub all : ages ≢ [] → mounted ≡ script.members
   pub count : ages ≡ [] → IfSome stop (HasMounted script.members mounted)
 
@@ -81,38 +84,55 @@ abbrev pub with_these : List Entry → OnLog
 with_these es = with_entries es (empty_of true)
 
 -- whatever a crash leaves of a disk behind the last of these ages begins with what its member has logged
-abbrev pub HaveLogged : List AgeEnd → YardState → Type 0
-HaveLogged ages after = (earlier : List AgeEnd) (age : AgeEnd) (m : ℕ) (e : MemberEnd)
-    → ages ≡ earlier ++ age ∷ [] → slice_get age.members m ≡ Some e
+abbrev pub HaveLogged : ℕ → List AgeEnd → YardState → Type 0
+HaveLogged missing ages after = (earlier : List AgeEnd) (age : AgeEnd) (m : ℕ) (e : MemberEnd)
+    → ages ≡ earlier ++ age ∷ [] → slice_get age.members m ≡ Some e → has missing m ≡ false
     → IsLeft (after.told m) (LosesNone (with_these (take e.logged e.history)))
 
+-- and has its votes: all that stood on the log of the member where this age, which ended over such disks, has ended
+abbrev pub HaveEndedWith : Script → ℕ → Mode → List AgeEnd → YardState → YardState → Type 0
+HaveEndedWith script missing mode ages last after = (earlier : List AgeEnd) (age : AgeEnd) (nth : ℕ)
+    (before : YardState) → ages ≡ earlier ++ age ∷ []
+    → (is : IsAgeOf script missing mode nth before last age) → (m : ℕ)
+    → AtMember (over_of mode script (start_of script missing age) nth age is.run) m
+    (λ r. IsLeft (after.told m) (LosesNone (with_logged (is.begun m) r.replica)))
+
 -- so many ages ran as the script asks for, or fewer, and this is why the next one was not opened, by which no
--- disk has lost anything, and only the one that is named has failed
-abbrev pub HasFinished : Script → YardState → YardState → List AgeEnd → Option Stop → Type 0
-HasFinished script last after ages None = (length ages ≡ script.ages) × (last ≡ after)
-HasFinished script last after ages (Some stop) =
-    (length ages < script.ages) × HasStopped script last after stop × PassOn last after
-    × NamesFaults stop last after
+-- disk has lost anything but entries that the start lacks which was chosen then, if one was, and only the one that
+-- is named has failed
+abbrev pub HasFinished : Script → ℕ → YardState → YardState → List (List Entry) → List AgeEnd → Option Stop
+    → Type 0
+HasFinished script missing last after chosen ages None =
+    (length ages ≡ script.ages) × (last ≡ after) × (chosen ≡ [])
+HasFinished script missing last after chosen ages (Some stop) =
+    (length ages < script.ages) × HasStopped script missing last after stop
+    × AreChosenIn script missing last chosen × PassOn chosen last after × NamesFaults stop last after
 
 -- these are the ages of a run of the script in this mode, over disks that were so before it and are so behind
--- it, and this is why it ended before its last age, if it did
-pub record IsRunOf (script : Script) (mode : Mode) (before after : YardState) (ages : List AgeEnd)
+-- it, but for those of the missing, and this is why it ended before its last age, if it did
+pub record IsRunOf (script : Script) (missing : ℕ) (mode : Mode) (before after : YardState) (ages : List AgeEnd)
     (stop : Option Stop) : Type 0 where
   pub last : YardState
-  pub course : AreAges script mode 0 before ages last
-  pub finish : HasFinished script last after ages stop
-  -- whatever ended it, no disk has lost anything
-  pub passes : PassOn before after
+  pub course : AreAges script missing mode 0 before ages last
+  -- the entries of the start that was chosen of what was found behind the last age, where one was
+  pub chosen : List (List Entry)
+  pub finish : HasFinished script missing last after chosen ages stop
+  -- whatever ended it, no disk has lost anything but entries that one of the starts lacks, and those of the missing
+  -- are as they were
+  pub passes : PassOn (starts_of ages ++ chosen) before after
+  pub untouched : AreUntouched missing before after
   -- over disks that tell, nothing durable is ever lost, and what an age leaves is never refused
-  pub kept : AllTell script.members before → AreKept script ages
+  pub kept : AllTell script.members before → AreKept script missing ages
   pub never : AllTell script.members before → ages ≢ [] → IfSome stop (λ s. IsBadLogs s → ⊥)
-  pub fresh : AreEmpty script.members before → IsFreshRun ages stop
+  pub fresh : NoneMissing script.members missing → AreEmpty script.members before → IsFreshRun ages stop
   -- what was found on the disks, and what was logged in the last age, is kept
-  pub since : IsKeptRun script before after ages stop
-  pub logged : HaveLogged ages after
-  -- and fit disks stay fit
-  pub fit : AreFit script before → IsFitRun script after stop
+  pub since : IsKeptRun script missing (starts_of ages ++ chosen) before after ages stop
+  pub logged : AllTell script.members before → HaveLogged missing ages after
+  pub voted : AllTell script.members before → HaveEndedWith script missing mode ages last after
+  -- and fit disks stay fit, where none is missing
+  pub fit : NoneMissing script.members missing → AreFit script before → IsFitRun script after stop
   -- all their ages are opened, where the logs leave room for them, unless memory is wanting or a disk fails
-  pub roomy : AreFit script before → AreRoomy script before → IsRoomyRun ages stop
+  pub roomy : NoneMissing script.members missing → AreFit script before → AreRoomy script before
+      → IsRoomyRun ages stop
   -- and logs are refused for what is wrong with them, and for nothing else
-  pub refused : AllTell script.members before → IsRightlyRefused script before ages stop
+  pub refused : AllTell script.members before → IsRightlyRefused script missing before ages stop

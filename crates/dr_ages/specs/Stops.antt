@@ -1,76 +1,101 @@
 -- Why an age of a run was not opened.
-use Rattle.std.specs.Prelude.{◌≡◌, ◌≢◌, ◌⊎◌, ⊤, ℕ, ◌+◌, ◌<◌, ◌≤◌, ◌^◌, List, length, drop, slice_get, Some, IfSome}
+use Rattle.std.specs.Prelude.{◌≡◌, ◌≢◌, ◌⊎◌, ⊤, ℕ, ◌<◌, false, List, [], ◌∷◌, Option, Some, IfSome}
 use Rattle.dr_disk.specs.Calls.{Sync}
 use Rattle.dr_disk.specs.Disk.{Told, added, content_of}
 use Rattle.dr_disk.specs.Images.{IsLeft, ReadsAnImage}
 use Rattle.dr_entry.specs.declared.entry.Entry.{Entry}
-use Rattle.dr_gather.specs.Gathering.{AreUsedUp, IsStartOf, judged_by}
-use Rattle.dr_history.specs.Order.{first_entries}
-use Rattle.dr_history.specs.Restarting.{AreSound, IsFirstDisagreement, IsFirstForeign}
+use Rattle.dr_history.specs.Members.{has}
 use Rattle.dr_io.specs.Faults.{Rose}
-use Rattle.dr_log.specs.Standing.{entries_length}
 use Rattle.dr_log_bytes.specs.Content.{OnLog}
 use Rattle.dr_log_bytes.specs.Grammar.{IsDamaged, StandFor}
+use Rattle.dr_opening.specs.Contents.{IsOpenFor, IsRisingStep, IsVoteStep, voted_for}
+use Rattle.dr_opening.specs.Lists.{all_as_lists}
+use Rattle.dr_opening.specs.Tries.{IsChosenOf, content_at}
+use Rattle.dr_quorum.specs.Handing.{handed_by}
 use Rattle.dr_restart.specs.declared.start.Start.{Start}
-use Rattle.dr_restart.specs.Groups.{group_of}
+use Rattle.dr_restart.specs.Groups.{first_group_of}
+use Rattle.dr_restart.specs.Refusing.{IsRefusedFor, Refusal}
 use Rattle.dr_script.specs.declared.script.Script.{Script}
 use Rattle.dr_yard.specs.Yards.{YardState}
 use Rattle.dr_ages.specs.declared.stop.Stop.{Stop}
-use Rattle.dr_ages.specs.declared.stop.Stop.TheVariants.{OutOfMemory, DiskFault, LogFull, Damaged, Disagree, Foreign, AgesUsedUp}
+use Rattle.dr_ages.specs.declared.stop.Stop.TheVariants.{OutOfMemory, DiskFault, LogFull, Damaged, Disagree, Foreign, NoQuorum, AgesUsedUp}
 use Rattle.dr_ages.specs.Found.{AreFound}
-use Rattle.dr_ages.specs.Passing.{AreKeptSince}
+use Rattle.dr_ages.specs.Opened.{AreChosenOf}
+use Rattle.dr_ages.specs.Passing.{AreKeptSince, AreUntouched, PassOn}
 
--- what is on a log once it has all of what an age begins with, whose first entries are its own
-abbrev pub brought_up : Script → Start → OnLog → OnLog
-brought_up script start c = record c {
-  entries = first_entries (group_of script start).opening;
-  length = c.length
-      + entries_length (drop (length c.entries) (first_entries (group_of script start).opening));
-}
+-- what is found on the logs that are not missing has P
+abbrev pub AreFoundSo : Script → ℕ → YardState → (List (Option OnLog) → Type 0) → Type 0
+AreFoundSo script missing before P =
+    (contents : List (Option OnLog)) × AreFound script.members missing before contents × P contents
 
--- The logs of the first members were brought up to a start: each had room for what it lacked of the entries
--- that the age begins with, and whatever a crash leaves of its disk has all of these, with all else that was
--- found.
-pub record WereCaughtUp (script : Script) (after : YardState) (lists : List (List Entry))
-    (contents : ℕ → OnLog) (start : Start) (count : ℕ) : Type 0 where
-  pub room : (m : ℕ) (es : List Entry) → m < count → slice_get lists m ≡ Some es
-      → (brought_up script start (contents m)).length ≤ 2147483648
-  pub left : (m : ℕ) → m < count → IsLeft (after.told m)
-      (λ image. StandFor image (brought_up script start (contents m)))
+-- logs with this on them make no start, for this
+abbrev pub AreRefusedFor : Script → Refusal → List (Option OnLog) → Type 0
+AreRefusedFor script why contents =
+    IsRefusedFor (first_group_of script).opening (handed_by (all_as_lists contents)) why
+
+-- ---- a log that was refused what an age needs
+
+-- whatever a crash leaves of the logs of the members below this one has the age vote, and that of each one above
+-- it what was found
+pub record HaveVotesBelow (start : Start) (contents : List (Option OnLog)) (after : YardState) (member : ℕ)
+    : Type 0 where
+  pub below : (m : ℕ) (c : OnLog) → m < member → content_at contents m ≡ Some c
+      → IsLeft (after.told m) (λ image. StandFor image (voted_for start c))
+  pub above : (m : ℕ) (c : OnLog) → member < m → content_at contents m ≡ Some c
+      → IsLeft (after.told m) (λ image. StandFor image c)
+
+-- whatever a crash leaves of the logs of the members below this one has all that the age begins with, and that of
+-- each one above it has the age vote
+pub record AreOpenBelow (start : Start) (contents : List (Option OnLog)) (after : YardState) (member : ℕ)
+    : Type 0 where
+  pub below : (m : ℕ) (c : OnLog) → m < member → content_at contents m ≡ Some c
+      → (d : OnLog) × IsOpenFor start (voted_for start c) d × IsLeft (after.told m) (λ image. StandFor image d)
+  pub above : (m : ℕ) (c : OnLog) → member < m → content_at contents m ≡ Some c
+      → IsLeft (after.told m) (λ image. StandFor image (voted_for start c))
+
+-- An append of the opening was refused to the log of a member, when `now` stood on it, and it was to come to
+-- `next`: in the first phase, or in the second.
+pub record IsStuckIn (script : Script) (missing : ℕ) (before after : YardState) (member : ℕ)
+    (At : OnLog → OnLog → Type 0) : Type 0 where
+  pub below : member < script.members
+  pub contents : List (Option OnLog)
+  pub found : AreFound script.members missing before contents
+  pub start : Start
+  pub chosen : IsChosenOf (first_group_of script).opening contents start
+  pub content : OnLog
+  pub there : content_at contents member ≡ Some content
+  pub now : OnLog
+  pub next : OnLog
+  pub phase : (IsVoteStep start content now next × HaveVotesBelow start contents after member)
+      ⊎ (IsRisingStep start (voted_for start content) now next × AreOpenBelow start contents after member)
+  pub at : At now next
 
 -- when the disk of a member failed: as it was to be mounted, when the logs of those below it had been, and
--- the disks of those above it were as before; or as its log was to be brought up to a start, when those of
--- all below it had been. The disks that were mounted by then are kept since: those below it, or all.
-pub data FailedAt (script : Script) (before after : YardState) (member : ℕ) : Type 0 where
-  in_mount : (lists : List (List Entry)) (contents : ℕ → OnLog) → AreFound member before lists contents
+-- the disks of those above it were as before; or as its log was to be brought to where the age begins. The disks
+-- that were mounted by then are kept since: those below it, or all.
+pub data FailedAt (script : Script) (missing : ℕ) (before after : YardState) (member : ℕ) : Type 0 where
+  in_mount : (contents : List (Option OnLog)) → AreFound member missing before contents
       → ((m : ℕ) → member < m → after.told m ≡ before.told m)
-      → AreKeptSince script.members member before after → FailedAt script before after member
-  in_start : (lists : List (List Entry)) (contents : ℕ → OnLog) (start : Start)
-      → AreFound script.members before lists contents → IsStartOf script lists start → start.age < 2 ^ 16
-      → WereCaughtUp script after lists contents start member
-      → AreKeptSince script.members script.members before after → FailedAt script before after member
+      → AreKeptSince script.members missing member [] before after
+      → FailedAt script missing before after member
+  in_opening : (stuck : IsStuckIn script missing before after member (λ now next.
+      IsLeft (after.told member) (λ image. StandFor image now ⊎ StandFor image next)))
+      → AreKeptSince script.members missing script.members (stuck.start.entries ∷ []) before after
+      → FailedAt script missing before after member
 
--- the disk of a member failed
-pub record HasFailed (script : Script) (before after : YardState) (member : ℕ) : Type 0 where
+-- the disk of a member that is not missing failed
+pub record HasFailed (script : Script) (missing : ℕ) (before after : YardState) (member : ℕ) : Type 0 where
   pub below : member < script.members
+  pub there : has missing member ≡ false
   pub rose : Rose (before.faults member) (after.faults member)
-  pub at : FailedAt script before after member
+  pub at : FailedAt script missing before after member
 
--- The logs that are found make a start, and with what it lacks of the entries that its age begins with that
--- of a member would be longer than a log may be, the first one so. It is as it was found, and outlives a
--- crash.
-pub record IsTooFull (script : Script) (before after : YardState) (member len : ℕ) : Type 0 where
-  pub below : member < script.members
-  pub lists : List (List Entry)
-  pub contents : ℕ → OnLog
-  pub found : AreFound script.members before lists contents
-  pub start : Start
-  pub starts : IsStartOf script lists start
-  pub small : start.age < 2 ^ 16
-  pub long : len ≡ (contents member).length
-  pub over : 2147483648 < (brought_up script start (contents member)).length
-  pub first : WereCaughtUp script after lists contents start member
-  pub left : IsLeft (after.told member) (λ image. StandFor image (contents member))
+-- The log of a member, of this length, would have been longer than a log may be with what was to be appended to
+-- it. It outlives a crash.
+abbrev pub IsTooFull : Script → ℕ → YardState → YardState → ℕ → ℕ → Type 0
+IsTooFull script missing before after member len = IsStuckIn script missing before after member (λ now next.
+    (len ≡ now.length) × (2147483648 < next.length)
+    × IsLeft (after.told member) (λ image. StandFor image now))
 
 -- what a read gives of a disk that tells this is what a crash may leave of it, and damaged at this place
 pub record ReadsDamaged (at : ℕ) (t : Told) : Type 0 where
@@ -78,31 +103,30 @@ pub record ReadsDamaged (at : ℕ) (t : Told) : Type 0 where
   pub damaged : IsDamaged (content_of t) at
 
 -- the log of one of the first n members is damaged, and the logs of those below it can be read
-pub record HasDamaged (n : ℕ) (before after : YardState) (member at : ℕ) : Type 0 where
+pub record HasDamaged (n missing : ℕ) (before after : YardState) (member at : ℕ) : Type 0 where
   pub below : member < n
+  pub there : has missing member ≡ false
   pub damaged : IfSome (before.told member) (ReadsDamaged at)
   -- its bytes were synced, and are as they were
   pub kept : after.told member ≡ added Sync (before.told member)
-  pub lists : List (List Entry)
-  pub contents : ℕ → OnLog
-  pub found : AreFound member before lists contents
-
--- the logs that are found have P
-abbrev pub AreFoundSo : Script → YardState → (List (List Entry) → Type 0) → Type 0
-AreFoundSo script before P =
-    (lists : List (List Entry)) × (contents : ℕ → OnLog) × AreFound script.members before lists contents × P lists
+  pub contents : List (Option OnLog)
+  pub found : AreFound member missing before contents
 
 -- why the next age was not opened, over disks that were so before and are so now
-abbrev pub HasStopped : Script → YardState → YardState → Stop → Type 0
-HasStopped script before after OutOfMemory = ⊤
-HasStopped script before after (DiskFault member) = HasFailed script before after member
-HasStopped script before after (LogFull member len) = IsTooFull script before after member len
-HasStopped script before after (Damaged member at) = HasDamaged script.members before after member at
-HasStopped script before after (Disagree a b place) = AreFoundSo script before
-    (λ lists. AreSound (judged_by script) lists × IsFirstDisagreement lists a b place)
-HasStopped script before after (Foreign member place) = AreFoundSo script before
-    (λ lists. IsFirstForeign (judged_by script) lists member place)
-HasStopped script before after AgesUsedUp = AreFoundSo script before (AreUsedUp script)
+abbrev pub HasStopped : Script → ℕ → YardState → YardState → Stop → Type 0
+HasStopped script missing before after OutOfMemory = ⊤
+HasStopped script missing before after (DiskFault member) = HasFailed script missing before after member
+HasStopped script missing before after (LogFull member len) = IsTooFull script missing before after member len
+HasStopped script missing before after (Damaged member at) =
+    HasDamaged script.members missing before after member at
+HasStopped script missing before after (Disagree a b place) =
+    AreFoundSo script missing before (AreRefusedFor script (Refusal.Disagree a b place))
+HasStopped script missing before after (Foreign member place) =
+    AreFoundSo script missing before (AreRefusedFor script (Refusal.Foreign member place))
+HasStopped script missing before after (NoQuorum view have need) =
+    AreFoundSo script missing before (AreRefusedFor script (Refusal.NoQuorum view have need))
+HasStopped script missing before after AgesUsedUp =
+    AreFoundSo script missing before (AreRefusedFor script Refusal.AgesUsedUp)
 
 -- which disks' calls failed in an opening that stopped so: that of the member which the stop names, and no
 -- other. Nothing is said where memory was wanting.
@@ -111,11 +135,12 @@ NamesFaults OutOfMemory before after = ⊤
 NamesFaults (DiskFault member) before after = (m : ℕ) → m ≢ member → after.faults m ≡ before.faults m
 NamesFaults stop before after = (m : ℕ) → after.faults m ≡ before.faults m
 
--- a stop at logs that are not those of one group
+-- a stop at logs that are not those of one group, or of which too many are missing
 abbrev pub IsBadLogs : Stop → Type 0
 IsBadLogs (Damaged member at) = ⊤
 IsBadLogs (Disagree a b place) = ⊤
 IsBadLogs (Foreign member place) = ⊤
+IsBadLogs (NoQuorum view have need) = ⊤
 IsBadLogs stop = ⊥
 
 -- a stop at logs, whichever it is
@@ -123,11 +148,12 @@ abbrev pub IsOfLogs : Stop → Type 0
 IsOfLogs (Damaged member at) = ⊤
 IsOfLogs (Disagree a b place) = ⊤
 IsOfLogs (Foreign member place) = ⊤
+IsOfLogs (NoQuorum view have need) = ⊤
 IsOfLogs AgesUsedUp = ⊤
 IsOfLogs stop = ⊥
 
--- so many disks of n members were mounted in an opening that stopped so: those below one that was damaged, or
--- that failed as it was to be mounted, and all where their logs were compared
+-- the disks of so many of n members were mounted in an opening that stopped so, but for the missing: those below
+-- one that was damaged, or that failed as it was to be mounted, and all where their logs were compared
 abbrev pub HasMounted : ℕ → ℕ → Stop → Type 0
 HasMounted n mounted OutOfMemory = ⊤
 HasMounted n mounted (DiskFault member) = (mounted ≡ member) ⊎ (mounted ≡ n)
@@ -139,10 +165,20 @@ abbrev pub IsBehindMounts : Stop → Type 0
 IsBehindMounts (Damaged member at) = ⊥
 IsBehindMounts stop = ⊤
 
--- the disks that were mounted in an opening that stopped so are kept since
-pub record HasKept (script : Script) (before after : YardState) (stop : Stop) : Type 0 where
+-- the entries of the start that was chosen, of what was found, in an opening that stopped; or there was none
+abbrev pub AreChosenIn : Script → ℕ → YardState → List (List Entry) → Type 0
+AreChosenIn script missing before starts =
+    (starts ≡ []) ⊎ AreFoundSo script missing before (AreChosenOf script starts)
+
+-- an opening that stopped so has lost nothing but entries that the start lacks which was chosen in it: the disks
+-- that were mounted are kept since, and those of the missing are as they were
+pub record HasKept (script : Script) (missing : ℕ) (before after : YardState) (stop : Stop) : Type 0 where
   pub mounted : ℕ
-  pub since : AreKeptSince script.members mounted before after
+  pub starts : List (List Entry)
+  pub chosen : AreChosenIn script missing before starts
+  pub since : AreKeptSince script.members missing mounted starts before after
+  pub passes : PassOn starts before after
+  pub untouched : AreUntouched missing before after
   pub count : HasMounted script.members mounted stop
 
 -- a stop for want of memory, or by a disk

@@ -1,11 +1,13 @@
 //! Runs ages one after the other.
-ghost use Rattle.std.specs.Prelude.{◌≡◌, ◌≢◌, ◌<◌, ℕ, All, IfErr, IfOk, OnErr, false, length};
-ghost use Rattle.dr_age.specs.Logged.{AreOpened, HaveCome, IsAmple, NoneFull, NoneStopped};
+ghost use Rattle.std.specs.Prelude.{◌≡◌, ◌≢◌, ◌<◌, ℕ, [], Some, IfErr, IfOk, OnErr, false, length};
+ghost use Rattle.dr_age.specs.Logged.{AreAmple, AreOpened, HaveCome, NoneFull, NoneStopped};
 ghost use Rattle.dr_complete.specs.Time.{HasTime};
 ghost use Rattle.dr_entry.specs.declared.limits.TheConstants.{MAX_MEMBERS};
 ghost use Rattle.dr_history.specs.Agreement.{EndsAgreed};
 ghost use Rattle.dr_log.specs.State.{LogState};
+ghost use Rattle.dr_logged.specs.Served.{HaveSamePlaces};
 ghost use Rattle.dr_machine.specs.Group.{AllPresent, IsGroup};
+ghost use Rattle.dr_opening.specs.Lists.{contents_of, log_of};
 ghost use Rattle.dr_program_laws.specs.Ended.{AreComplete, HaveEnded};
 ghost use Rattle.dr_program_laws.specs.Trusting.{NoneLeft, SuspectsNobody};
 ghost use Rattle.dr_restart.specs.Groups.{group_of};
@@ -14,9 +16,9 @@ ghost use Rattle.dr_script.specs.Ranges.{HasRanges};
 ghost use Rattle.dr_yard.specs.Yards.{YardState, state_by};
 ghost use Rattle.dr_ages.specs.Ages.{IsAgeOf, IsPlayed, over_of, start_of};
 ghost use Rattle.dr_ages.specs.Fit.{AreFit};
-ghost use Rattle.dr_ages.specs.Lent.{AreMounted, with_logs};
-ghost use Rattle.dr_ages.specs.Opened.{AreLater};
-ghost use Rattle.dr_ages.specs.Passing.{PassOn};
+ghost use Rattle.dr_ages.specs.Found.{NoneMissing};
+ghost use Rattle.dr_ages.specs.Lent.{AreAllBut, AreMounted, with_logs};
+ghost use Rattle.dr_ages.specs.Opened.{AreLater, HaveGoneOn};
 ghost use Rattle.dr_ages.specs.Runs.{IsRunOf};
 ghost use Rattle.dr_ages.specs.Stops.{HasKept, HasStopped, IsBehindMounts, NamesFaults};
 ghost use Rattle.dr_ages.specs.Watched.{AreWatched, HasSeen};
@@ -25,11 +27,12 @@ ghost use Rattle.dr_ages.specs.declared.stop.Stop.TheVariants as stops;
 
 use crate::lending::{give_all_back, mount_all};
 use crate::mode::Mode;
-use crate::opening::open_age;
+use crate::part::Part;
 use crate::stop::Stop;
 use dr_disk::Disk;
 use dr_entry::{AgeEnd, Seq};
 use dr_log::Log;
+use dr_opening::open_age;
 use dr_pace::Pace;
 use dr_restart::Start;
 use dr_run::run_script_age;
@@ -48,15 +51,17 @@ pub struct AgesEnd {
 }
 
 /// Runs the ages of a script, one after the other, over the disks of a yard, those in this folder. For each
-/// age the logs of all members are mounted, ascending, and brought up to the start that they make together;
-/// then its members take their deeds, as the mode says, and all disks are given back. The first thing that is
-/// in the way of an age ends the run. No disk of the yard is lent, before and behind it, and what no crash
-/// would have lost of a log before it none would lose behind it. Threads call the pace after each turn of a
-/// member, a simulation never.
+/// age the logs of all members that take part are mounted, ascending, and a start is chosen of them. Each gets a
+/// vote for the age, and is then cut back and brought up to the start; then the members take their deeds, as the
+/// mode says, and all disks are given back. The first thing that is in the way of an age ends the run. No disk of
+/// the yard is lent, before and behind it, and what no crash would have lost of a log before it none would lose
+/// behind it, but for entries that a start lacks. Threads call the pace after each turn of a member, a simulation
+/// never.
 pub fn run_ages<R: Threads + Sync, Y: Yard, P: Pace + Sync>(
     rt: &R,
     alloc: Global,
     script: &Script,
+    part: &Part,
     mode: Mode,
     folder: &str,
     yard: &mut Y,
@@ -66,10 +71,20 @@ pub fn run_ages<R: Threads + Sync, Y: Yard, P: Pace + Sync>(
     requires here { (m : ℕ) → m < MAX_MEMBERS → Y.is_lent yard.old m ≡ false }
     ensures here { (m : ℕ) → m < MAX_MEMBERS → Y.is_lent yard.new m ≡ false }
     // How the disks were, and are, tells which ages ran, and why no further one did.
-    ensures run { IsRunOf script.now mode (state_by Y.told Y.faults yard.old)
+    ensures run { IsRunOf script.now part.now.missing mode (state_by Y.told Y.faults yard.old)
         (state_by Y.told Y.faults yard.new) result.ages result.stop }
 {
-    watch_ages(rt, alloc, script, mode, folder, yard, pace, &mut Unwatched)
+    watch_ages(
+        rt,
+        alloc,
+        script,
+        part,
+        mode,
+        folder,
+        yard,
+        pace,
+        &mut Unwatched,
+    )
 }
 
 /// Runs the ages of a script, as [`run_ages`] does, before a watcher. It is told of each simulated age, in
@@ -78,6 +93,7 @@ pub fn watch_ages<R: Threads + Sync, Y: Yard, P: Pace + Sync, W: Watcher>(
     rt: &R,
     alloc: Global,
     script: &Script,
+    part: &Part,
     mode: Mode,
     folder: &str,
     yard: &mut Y,
@@ -87,9 +103,9 @@ pub fn watch_ages<R: Threads + Sync, Y: Yard, P: Pace + Sync, W: Watcher>(
     requires ranges { HasRanges script.now }
     requires here { (m : ℕ) → m < MAX_MEMBERS → Y.is_lent yard.old m ≡ false }
     ensures here { (m : ℕ) → m < MAX_MEMBERS → Y.is_lent yard.new m ≡ false }
-    ensures run { IsRunOf script.now mode (state_by Y.told Y.faults yard.old)
+    ensures run { IsRunOf script.now part.now.missing mode (state_by Y.told Y.faults yard.old)
         (state_by Y.told Y.faults yard.new) result.ages result.stop }
-    ensures watched { AreWatched W.opens W.sees W.closes mode script.now 0 result.ages
+    ensures watched { AreWatched W.opens W.sees W.closes mode script.now part.now.missing 0 result.ages
         watcher.old watcher.new }
 {
     let Ok(mut ages) = Vec::with_capacity(alloc, usize::from(script.ages)) else {
@@ -99,7 +115,9 @@ pub fn watch_ages<R: Threads + Sync, Y: Yard, P: Pace + Sync, W: Watcher>(
         };
     };
     for nth in 0..script.ages {
-        match run_age(rt, alloc, script, mode, folder, nth, yard, pace, watcher) {
+        match run_age(
+            rt, alloc, script, part, mode, folder, nth, yard, pace, watcher,
+        ) {
             Ok(age) => ages.push(age).unwrap(),
             Err(stop) => {
                 return AgesEnd {
@@ -121,6 +139,7 @@ fn run_age<R: Threads + Sync, Y: Yard, P: Pace + Sync, W: Watcher>(
     rt: &R,
     alloc: Global,
     script: &Script,
+    part: &Part,
     mode: Mode,
     folder: &str,
     nth: u8,
@@ -131,26 +150,26 @@ fn run_age<R: Threads + Sync, Y: Yard, P: Pace + Sync, W: Watcher>(
     requires ranges { HasRanges script.now }
     requires here { (m : ℕ) → m < MAX_MEMBERS → Y.is_lent yard.old m ≡ false }
     ensures here { (m : ℕ) → m < MAX_MEMBERS → Y.is_lent yard.new m ≡ false }
-    ensures age { IfOk result (IsAgeOf script.now mode nth (state_by Y.told Y.faults yard.old)
-        (state_by Y.told Y.faults yard.new)) }
-    ensures stopped { IfErr result (HasStopped script.now (state_by Y.told Y.faults yard.old)
-        (state_by Y.told Y.faults yard.new)) }
-    ensures passes { PassOn (state_by Y.told Y.faults yard.old) (state_by Y.told Y.faults yard.new) }
-    ensures kept { IfErr result (HasKept script.now (state_by Y.told Y.faults yard.old)
+    ensures age { IfOk result (IsAgeOf script.now part.now.missing mode nth
+        (state_by Y.told Y.faults yard.old) (state_by Y.told Y.faults yard.new)) }
+    ensures stopped { IfErr result (HasStopped script.now part.now.missing
+        (state_by Y.told Y.faults yard.old) (state_by Y.told Y.faults yard.new)) }
+    ensures kept { IfErr result (HasKept script.now part.now.missing (state_by Y.told Y.faults yard.old)
         (state_by Y.told Y.faults yard.new)) }
     ensures fit { IfErr result (λ stop. stop ≢ stops.OutOfMemory
+        → NoneMissing script.now.members part.now.missing
         → AreFit script.now (state_by Y.told Y.faults yard.old)
         → AreFit script.now (state_by Y.told Y.faults yard.new)) }
     ensures names { IfErr result (λ stop. NamesFaults stop (state_by Y.told Y.faults yard.old)
         (state_by Y.told Y.faults yard.new)) }
     ensures watched { IfOk result (λ age. HasSeen W.opens W.sees W.closes mode script.now
-        (start_of script.now age) nth watcher.old watcher.new age) }
+        (start_of script.now part.now.missing age) nth watcher.old watcher.new age) }
     ensures untold { OnErr result (watcher.new ≡ watcher.old) }
 {
     let Ok(mut logs) = Vec::with_capacity(alloc, usize::from(script.members)) else {
         return Err(Stop::OutOfMemory);
     };
-    let (ended, logs) = match mount_all(alloc, folder, yard, script.members, &mut logs) {
+    let (ended, logs) = match mount_all(alloc, folder, yard, part, script.members, &mut logs) {
         Ok(()) => run_over(rt, alloc, script, mode, nth, logs, pace, watcher),
         Err(stop) => (Err(stop), logs),
     };
@@ -158,42 +177,45 @@ fn run_age<R: Threads + Sync, Y: Yard, P: Pace + Sync, W: Watcher>(
     ended
 }
 
-/// Opens an age over these logs, and runs it. The logs come back.
+/// Opens an age over these logs, where there is none for a missing member, and runs it. The logs come back.
 fn run_over<R: Threads + Sync, D: Disk, P: Pace + Sync, W: Watcher>(
     rt: &R,
     alloc: Global,
     script: &Script,
     mode: Mode,
     nth: u8,
-    mut logs: Vec<Log<D>>,
+    mut logs: Vec<Option<Log<D>>>,
     pace: &P,
     watcher: &mut W,
-) -> (Result<AgeEnd, Stop>, Vec<Log<D>>)
+) -> (Result<AgeEnd, Stop>, Vec<Option<Log<D>>>)
     requires ranges { HasRanges script.now }
     requires all { length logs.items ≡ script.now.members }
-    requires whole { All (λ (log : LogState D). log.failed ≡ false) logs.items }
+    requires whole { (m : ℕ) (log : LogState D) → log_of logs.items m ≡ Some log → log.failed ≡ false }
     // Over any yard from whose disks these logs were mounted.
-    ensures age { IfOk result.0 (λ age. (before : YardState) → AreMounted D.told D.faults before logs.items
-        → IsAgeOf script.now mode nth before (with_logs D.told D.faults before result.1.items) age) }
-    ensures stopped { IfErr result.0 (λ stop. (before : YardState)
-        → AreMounted D.told D.faults before logs.items
-        → HasStopped script.now before (with_logs D.told D.faults before result.1.items) stop) }
+    ensures age { IfOk result.0 (λ age. (before : YardState) (missing : ℕ)
+        → AreMounted D.told D.faults before logs.items → AreAllBut missing logs.items
+        → IsAgeOf script.now missing mode nth before (with_logs D.told D.faults before result.1.items) age) }
+    ensures stopped { IfErr result.0 (λ stop. (before : YardState) (missing : ℕ)
+        → AreMounted D.told D.faults before logs.items → AreAllBut missing logs.items
+        → HasStopped script.now missing before (with_logs D.told D.faults before result.1.items) stop) }
     ensures fit { IfErr result.0 (λ stop. (before : YardState) → AreMounted D.told D.faults before logs.items
-        → stop ≢ stops.OutOfMemory → AreFit script.now before
+        → stop ≢ stops.OutOfMemory → AreAllBut 0 logs.items → AreFit script.now before
         → AreFit script.now (with_logs D.told D.faults before result.1.items)) }
     ensures names { IfErr result.0 (λ stop. (before : YardState)
         → AreMounted D.told D.faults before logs.items
         → NamesFaults stop before (with_logs D.told D.faults before result.1.items)) }
     ensures behind { IfErr result.0 IsBehindMounts }
-    ensures later { AreLater D.told D.faults logs.items result.1.items }
-    ensures count { length result.1.items ≡ length logs.items }
-    ensures watched { IfOk result.0 (λ age. HasSeen W.opens W.sees W.closes mode script.now
-        (start_of script.now age) nth watcher.old watcher.new age) }
+    ensures later { HaveGoneOn D.told D.faults script.now (contents_of logs.items) logs.items
+        result.1.items }
+    ensures places { HaveSamePlaces logs.items result.1.items }
+    ensures watched { IfOk result.0 (λ age. (missing : ℕ) → AreAllBut missing logs.items
+        → HasSeen W.opens W.sees W.closes mode script.now (start_of script.now missing age) nth
+        watcher.old watcher.new age) }
     ensures untold { OnErr result.0 (watcher.new ≡ watcher.old) }
 {
     let start = match open_age(alloc, script, logs.as_mut_slice()) {
         Ok(start) => start,
-        Err(stop) => return (Err(stop), logs),
+        Err(why) => return (Err(Stop::of_unopened(why)), logs),
     };
     let (ended, logs) = play_age(rt, alloc, script, mode, &start, nth, logs, pace, watcher);
     match ended {
@@ -210,13 +232,12 @@ fn play_age<R: Threads + Sync, D: Disk, P: Pace + Sync, W: Watcher>(
     mode: Mode,
     start: &Start,
     nth: u8,
-    mut logs: Vec<Log<D>>,
+    mut logs: Vec<Option<Log<D>>>,
     pace: &P,
     watcher: &mut W,
-) -> (Result<AgeEnd, AllocError>, Vec<Log<D>>)
+) -> (Result<AgeEnd, AllocError>, Vec<Option<Log<D>>>)
     requires ranges { HasRanges script.now }
     requires group { IsGroup (group_of script.now start.now) }
-    requires present { AllPresent (group_of script.now start.now) }
     requires logs { AreOpened (group_of script.now start.now) logs.items }
     ensures run { IfOk result.0 (λ age. (is : IsPlayed mode script.now start.now nth age)
         × HaveCome D.told D.faults logs.items result.1.items
@@ -226,13 +247,14 @@ fn play_age<R: Threads + Sync, D: Disk, P: Pace + Sync, W: Watcher>(
     ensures ended { IfOk result.0 (λ age. HaveEnded (group_of script.now start.now).opening
         script.now.turns (crashes_of script.now.faults nth) age.members) }
     ensures trusting { IfOk result.0 (λ age. SuspectsNobody script.now → NoneLeft age.members) }
-    ensures complete { IfOk result.0 (λ age. mode ≡ Sim → HasTime script.now → NoneStopped age.members
+    ensures complete { IfOk result.0 (λ age. AllPresent (group_of script.now start.now) → mode ≡ Sim
+        → HasTime script.now → NoneStopped age.members
         → AreComplete (group_of script.now start.now).opening age.members) }
-    ensures ample { IfOk result.0 (λ age. All (IsAmple (group_of script.now start.now)) logs.items
+    ensures ample { IfOk result.0 (λ age. AreAmple (group_of script.now start.now) logs.items
         → NoneFull age.members) }
     ensures members { IfOk result.0 (λ age. length age.members ≡ length logs.items) }
-    ensures later { AreLater D.told D.faults logs.items result.1.items }
-    ensures count { length result.1.items ≡ length logs.items }
+    ensures later { AreLater D.told D.faults [] logs.items result.1.items }
+    ensures places { HaveSamePlaces logs.items result.1.items }
     ensures watched { IfOk result.0 (HasSeen W.opens W.sees W.closes mode script.now start.now nth
         watcher.old watcher.new) }
     ensures untold { OnErr result.0 (watcher.new ≡ watcher.old) }

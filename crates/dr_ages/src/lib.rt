@@ -5,11 +5,14 @@ mod ages;
 mod laws;
 mod lending;
 mod mode;
-mod opening;
+mod part;
 mod stop;
 
 pub use ages::{AgesEnd, run_ages, watch_ages};
-pub use laws::{fit_disks_outlive_crashes, runs_outlive_crashes, timely_ages_complete};
+pub use laws::{
+    fit_ages_start_with_all, fit_disks_outlive_crashes, runs_outlive_crashes, timely_ages_complete,
+};
 pub use lending::LOG_LIMIT;
 pub use mode::Mode;
+pub use part::Part;
 pub use stop::Stop;

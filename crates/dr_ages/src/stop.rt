@@ -1,12 +1,13 @@
 //! Why a run ended before its last age.
 ghost use Rattle.std.specs.Prelude.{◌≡◌, ℕ};
-ghost use Rattle.dr_gather.specs.declared.catching_up.CatchFault.TheVariants as catches;
-ghost use Rattle.dr_gather.specs.declared.gathering.GatherFault.TheVariants as gathers;
 ghost use Rattle.dr_log.specs.declared.fault.MountWhy.TheVariants as whys;
 ghost use Rattle.dr_ages.specs.declared.stop.Stop.TheVariants as stops;
+ghost use Rattle.dr_ages.specs.Telling.{stop_at, stop_of, stop_of_choice};
 
-use dr_gather::{CatchFault, GatherFault};
+use dr_gather::CatchFault;
 use dr_log::MountWhy;
+use dr_opening::NotOpened;
+use dr_quorum::ChooseFault;
 
 /// Why the next age of a run was not opened. Members count from 0, and so do the entries and the bytes of a
 /// log.
@@ -14,17 +15,39 @@ use dr_log::MountWhy;
 pub enum Stop {
     /// There was no memory for it.
     OutOfMemory,
-    /// The disk of this member failed, as it was lent, mounted or brought up to the start.
-    DiskFault { member: u8 },
-    /// The log of this member, `len` bytes long, had no room for what it lacks of the entries that the age
-    /// begins with.
-    LogFull { member: u8, len: u64 },
+    /// The disk of this member failed, as it was lent or mounted, or as the age was opened on it.
+    DiskFault {
+        member: u8,
+    },
+    /// The log of this member, `len` bytes long, had no room for what it lacked for the age.
+    LogFull {
+        member: u8,
+        len: u64,
+    },
     /// The log of this member is no log, where `at` is 0, or its records break off at the byte `at`.
-    Damaged { member: u8, at: u64 },
-    /// The logs of two members, `a` below `b`, both have an entry at `place`, and differ there first.
-    Disagree { a: u8, b: u8, place: u64 },
+    Damaged {
+        member: u8,
+        at: u64,
+    },
+    /// The logs of two members, `a` below `b`, both of the last age, have an entry at `place`, and differ there
+    /// first.
+    Disagree {
+        a: u8,
+        b: u8,
+        place: u64,
+    },
     /// The log of this member is not one of the script: the entry `place` is the first that is not.
-    Foreign { member: u8, place: u64 },
+    Foreign {
+        member: u8,
+        place: u64,
+    },
+    /// Too many logs are missing: of the roster, or of the members of this view of the last age, so many are
+    /// there, and so many are needed.
+    NoQuorum {
+        view: Option<u8>,
+        have: u8,
+        need: u8,
+    },
     /// The logs have come to the last age that there is a number for.
     AgesUsedUp,
 }
@@ -43,28 +66,32 @@ impl Stop {
         }
     }
 
-    /// What logs of which no start can be made end it with.
-    pub(crate) fn of_gather(fault: GatherFault) -> Stop
-        ensures memory { fault ≡ gathers.OutOfMemory → result ≡ stops.OutOfMemory }
-        ensures foreign { (member place : ℕ) → fault ≡ gathers.Foreign member place
-            → result ≡ stops.Foreign member place }
-        ensures disagree { (a b place : ℕ) → fault ≡ gathers.Disagree a b place
-            → result ≡ stops.Disagree a b place }
-        ensures used_up { fault ≡ gathers.AgesUsedUp → result ≡ stops.AgesUsedUp }
+    /// What an opening that stopped ends it with.
+    pub(crate) fn of_unopened(why: NotOpened) -> Stop
+        ensures { result ≡ stop_of why }
     {
-        match fault {
-            GatherFault::OutOfMemory => Stop::OutOfMemory,
-            GatherFault::Foreign { member, place } => Stop::Foreign { member, place },
-            GatherFault::Disagree { a, b, place } => Stop::Disagree { a, b, place },
-            GatherFault::AgesUsedUp => Stop::AgesUsedUp,
+        match why {
+            NotOpened::Unchosen(fault) => Stop::of_choice(fault),
+            NotOpened::Unfinished(fault) => Stop::of_catch(fault.member, fault.why),
         }
     }
 
-    /// What the log of a member that could not be brought up to a start ends it with.
-    pub(crate) fn of_catch(member: u8, fault: CatchFault) -> Stop
-        ensures memory { fault ≡ catches.OutOfMemory → result ≡ stops.OutOfMemory }
-        ensures disk { fault ≡ catches.DiskFault → result ≡ stops.DiskFault member }
-        ensures full { (len : ℕ) → fault ≡ catches.LogFull len → result ≡ stops.LogFull member len }
+    /// What logs of which no start can be made end it with.
+    fn of_choice(fault: ChooseFault) -> Stop
+        ensures { result ≡ stop_of_choice fault }
+    {
+        match fault {
+            ChooseFault::OutOfMemory => Stop::OutOfMemory,
+            ChooseFault::Foreign { member, place } => Stop::Foreign { member, place },
+            ChooseFault::NoQuorum { view, have, need } => Stop::NoQuorum { view, have, need },
+            ChooseFault::Disagree { a, b, place } => Stop::Disagree { a, b, place },
+            ChooseFault::AgesUsedUp => Stop::AgesUsedUp,
+        }
+    }
+
+    /// What the log of a member that was refused what it lacked ends it with.
+    fn of_catch(member: u8, fault: CatchFault) -> Stop
+        ensures { result ≡ stop_at member fault }
     {
         match fault {
             CatchFault::OutOfMemory => Stop::OutOfMemory,

@@ -1,40 +1,48 @@
-use Rattle.std.proofs.Common.{◌≡◌, ◌≤◌, ◌∙◌, refl, subst, ℕ, List, length, get_or, arith}
-use Rattle.std.proofs.lemmas.Option.{slice_get-get_or}
+use Rattle.std.proofs.Common.{◌≡◌, ◌⊎◌, ◌∙◌, refl, sym, ap, subst, ⊎_elim, inl, inr, ℕ, ◌<◌, ◌≤◌, Bool, true, false, List, [], length, arith}
+use Rattle.std.specs.Prelude.{not, Option, None}
+use Rattle.std.proofs.lemmas.Bool.{cases_lt}
 use Rattle.std.proofs.lemmas.Result.{IfErr-weaker, IfOk-weaker}
-use Rattle.dr_history_laws.proofs.Lists.{slice_get-some}
+use Rattle.dr_disk.specs.Disk.{Told}
+use Rattle.dr_entry.specs.declared.entry.Entry.{Entry}
+use Rattle.dr_history.specs.Members.{has}
 use Rattle.dr_log.specs.State.{LogState}
+use Rattle.dr_logged.specs.Served.{HaveSamePlaces}
+use Rattle.dr_opening.specs.Lists.{contents_of, log_of}
+use Rattle.dr_script.specs.declared.script.Script.{Script}
+use Rattle.dr_words.proofs.Bits.{has_zero}
 use Rattle.dr_yard.specs.Yards.{YardState, state_by}
 use Rattle.dr_ages.specs.Ages.{IsAgeOf}
-use Rattle.dr_ages.specs.Lent.{with_logs}
 use Rattle.dr_ages.specs.Fit.{AreFit}
-use Rattle.dr_ages.specs.Passing.{GoesOn}
-use Rattle.dr_ages.specs.Stops.{HasStopped, NamesFaults}
-use Rattle.dr_ages.proofs.Backs.{AreAllBack, after_is, faults_at, faults_past, kept_back, later_back, passed_back, told_past}
-use Rattle.dr_ages.proofs.Caught.{on_still}
-use Rattle.dr_ages.proofs.Chain.{none_kept, passes_none}
+use Rattle.dr_ages.specs.Found.{NoneMissing}
+use Rattle.dr_ages.specs.Lent.{AreAllBut, AreMounted, with_logs}
+use Rattle.dr_ages.specs.Opened.{AreChosenOf}
+use Rattle.dr_ages.specs.Passing.{AreUntouched, GoesOn}
+use Rattle.dr_ages.specs.Stops.{AreChosenIn, HasStopped, NamesFaults}
+use Rattle.dr_ages.proofs.Backs.{AreAllBack, after_is, faults_at, faults_none, kept_back, later_back, log_at, missing_at, none_at, passed_back, place_past, same_places, stays_none, told_none, was_none}
+use Rattle.dr_ages.proofs.Chain.{none_kept}
 use Rattle.dr_ages.proofs.Fit.{mounted_fit}
-use Rattle.dr_ages.proofs.Loans.{lent_later, refused_mounted, refused_names, refused_stop, stopped_mounted}
+use Rattle.dr_ages.proofs.Loans.{are_found, lent_later, refused_mounted, refused_names, refused_stop, stopped_mounted}
+use Rattle.dr_ages.proofs.Opening.{on_still}
 use Rattle.dr_ages.proofs.Staying.{on_alike}
 use Rattle.dr_ages.proofs.ages.run_age.Given.{Over}
 use Rattle.dr_ages.proofs.ages.run_age.Goals as goal
 use Rattle.dr_ages.proofs.ages.run_age.Goals.{After-give_all_back, in-Ok-mount_all, in-Err}
 
 pub run_over-requires-clause-whole : goal.run_over-requires-clause-whole
-run_over-requires-clause-whole g c κs h =
-    λ k d l. (c.mount_all.ensures.mounted k (get_or c.mount_all.new.logs.items k d)
-    (slice_get-get_or c.mount_all.new.logs.items k d l)).whole
+run_over-requires-clause-whole g c κs h m log at = (c.mount_all.ensures.mounted m log at).whole
 
 pub give_all_back-requires-clause-lent : goal.give_all_back-requires-clause-lent
 give_all_back-requires-clause-lent g c κs h = elim c.match-mount_all.branch [
   | in-Ok-mount_all w ↦
       rw w.ended-is
       (lent_later g.Y.Yard.is_lent g.Y.Yard.faults g.Y.Store.Disk.told g.Y.Store.Disk.faults
-      c.mount_all.new.yard c.mount_all.new.logs.items w.run_over.result.1.items c.mount_all.ensures.lent
-      w.run_over.ensures.later w.run_over.ensures.count)
+      w.run_over.ensures.later.0 c.mount_all.new.yard c.mount_all.new.logs.items w.run_over.result.1.items
+      c.mount_all.ensures.lent w.run_over.ensures.later.2 w.run_over.ensures.places)
   | in-Err w ↦ rw w.ended-is c.mount_all.ensures.lent
 ]
 
--- the yard before, with the logs of the age out, and behind it
+-- ---- the yard before, with the logs of the age out, and behind it
+
 abbrev before : (g : Over) → After-give_all_back g → YardState
 before g c = state_by g.Y.Yard.told g.Y.Yard.faults c.args.yard.now
 
@@ -44,119 +52,180 @@ mid g c = state_by g.Y.Yard.told g.Y.Yard.faults c.mount_all.new.yard
 abbrev after : (g : Over) → After-give_all_back g → YardState
 after g c = state_by g.Y.Yard.told g.Y.Yard.faults c.give_all_back.new.yard
 
+-- the logs of its disks
+abbrev Logs : Over → Type 0
+Logs g = List (Option (LogState g.row.Y-Store.Denot))
+
+-- where no log stands a disk was as before, once all were mounted
+still : (script : Script) (missing : ℕ) (before mid : YardState) {D : Type 0} (logs : List (Option (LogState D)))
+    (m : ℕ) → AreAllBut missing logs → AreUntouched missing before mid → length logs ≡ script.members
+    → ((j : ℕ) → script.members ≤ j → (mid.told j ≡ before.told j) × (mid.faults j ≡ before.faults j))
+    → log_of logs m ≡ None → (mid.told m ≡ before.told m) × (mid.faults m ≡ before.faults m)
+still script missing before mid logs m but untouched all rest none = ⊎_elim
+    (λ (l : m < length logs). untouched m (missing_at missing logs m but l none))
+    (λ (past : length logs ≤ m). rest m (omega (arith, past, all)))
+    (cases_lt m (length logs))
+
+-- those of the missing are as before behind it
+untouched_back : {D : Type 0} (tells : D → Option Told) (faults : D → ℕ) (missing : ℕ)
+    (before mid after : YardState) (olds news : List (Option (LogState D))) → AreAllBut missing olds
+    → HaveSamePlaces olds news → AreUntouched missing before mid → AreAllBack tells faults mid after news
+    → AreUntouched missing before after
+untouched_back tells faults missing before mid after olds news but places untouched back m gone =
+    let none = stays_none olds news m places (none_at missing olds m but gone) in
+    let same = untouched m gone in (
+      (back m).0 ∙ (told_none tells faults mid news m none ∙ same.0),
+      (back m).1 ∙ (faults_none tells faults mid news m none ∙ same.1),
+    )
+
+-- what was chosen of the logs was chosen of what was found
+chosen_in : {D : Type 0} (tells : D → Option Told) (faults : D → ℕ) (script : Script) (missing : ℕ)
+    (before : YardState) (logs : List (Option (LogState D))) (starts : List (List Entry))
+    → AreMounted tells faults before logs → AreAllBut missing logs → length logs ≡ script.members
+    → (starts ≡ []) ⊎ AreChosenOf script starts (contents_of logs) → AreChosenIn script missing before starts
+chosen_in tells faults script missing before logs starts mounted but all (inl none) = inl none
+chosen_in tells faults script missing before logs starts mounted but all (inr is) =
+    inr (contents_of logs, are_found tells faults missing before logs script.members mounted but all, is)
+
+-- where none is missing all logs are there
+all_there : {D : Type 0} (n missing : ℕ) (logs : List (Option (LogState D))) → AreAllBut missing logs
+    → length logs ≡ n → NoneMissing n missing → AreAllBut 0 logs
+all_there n missing logs but all none m l =
+    but m l ∙ ap not (none m (omega (arith, l, all)) ∙ sym (has_zero m))
+
 -- the logs that the age ended with are back
-back : (g : Over) (c : After-give_all_back g) (logs : List (LogState g.row.Y-Store.Denot))
-    → c.match-mount_all.ended.1.items ≡ logs
+back : (g : Over) (c : After-give_all_back g) (logs : Logs g) → c.match-mount_all.ended.1.items ≡ logs
     → AreAllBack g.Y.Store.Disk.told g.Y.Store.Disk.faults (mid g c) (after g c) logs
 back g c logs same =
-    subst (λ (l : List (LogState g.row.Y-Store.Denot)). AreAllBack g.Y.Store.Disk.told g.Y.Store.Disk.faults
+    subst (λ (l : Logs g). AreAllBack g.Y.Store.Disk.told g.Y.Store.Disk.faults
     (mid g c) (after g c) l) same c.give_all_back.ensures.back
 
 -- so the yard is as before but for them
-whole_yard : (g : Over) (c : After-give_all_back g) (news : List (LogState g.row.Y-Store.Denot))
-    → c.match-mount_all.ended.1.items ≡ news
-    → ((m : ℕ) → length news ≤ m
-    → ((mid g c).told m ≡ (before g c).told m) × ((mid g c).faults m ≡ (before g c).faults m))
+whole_yard : (g : Over) (c : After-give_all_back g) (news : Logs g) → c.match-mount_all.ended.1.items ≡ news
+    → HaveSamePlaces c.mount_all.new.logs.items news
+    → length c.mount_all.new.logs.items ≡ c.args.script.now.members
+    → ((j : ℕ) → c.args.script.now.members ≤ j
+    → ((mid g c).told j ≡ (before g c).told j) × ((mid g c).faults j ≡ (before g c).faults j))
     → with_logs g.Y.Store.Disk.told g.Y.Store.Disk.faults (before g c) news ≡ after g c
-whole_yard g c news same rest = after_is g.Y.Store.Disk.told g.Y.Store.Disk.faults (before g c) (mid g c)
-    (after g c) news rest (back g c news same)
+whole_yard g c news same places all rest = after_is g.Y.Store.Disk.told g.Y.Store.Disk.faults (before g c) (mid g c)
+    (after g c) news
+    (λ m none. still c.args.script.now c.args.part.now.missing (before g c) (mid g c) c.mount_all.new.logs.items m
+    c.mount_all.ensures.places c.mount_all.ensures.untouched all rest
+    (was_none c.mount_all.new.logs.items news m places none))
+    (back g c news same)
 
 -- the disks of the members whose logs were not mounted go on
-on : (g : Over) (c : After-give_all_back g) (m : ℕ) → length c.mount_all.new.logs.items ≤ m
-    → GoesOn ((before g c).told m) ((before g c).faults m) ((mid g c).told m) ((mid g c).faults m)
-on g c m past = on_alike ((before g c).told m) ((mid g c).told m) ((before g c).faults m) ((mid g c).faults m)
-    (c.mount_all.ensures.on m past)
+on : (g : Over) (c : After-give_all_back g) (starts : List (List Entry)) (m : ℕ)
+    → log_of c.mount_all.new.logs.items m ≡ None
+    → GoesOn starts ((before g c).told m) ((before g c).faults m) ((mid g c).told m) ((mid g c).faults m)
+on g c starts m none = on_alike starts ((before g c).told m) ((mid g c).told m) ((before g c).faults m)
+    ((mid g c).faults m) (c.mount_all.ensures.on m none)
 
 pub returns-clause-age : goal.returns-clause-age
 returns-clause-age g c = elim c.match-mount_all.branch [
   | in-Ok-mount_all w ↦
-      let is = whole_yard g c w.run_over.result.1.items (rw w.ended-is refl)
-      (λ m past. w.in-Ok-mount_all.ensures.rest m
-      (omega (arith, past, w.run_over.ensures.count, w.in-Ok-mount_all.ensures.all))) in
+      let is = whole_yard g c w.run_over.result.1.items (rw w.ended-is refl) w.run_over.ensures.places
+      w.in-Ok-mount_all.ensures.all w.in-Ok-mount_all.ensures.rest in
       rw w.ended-is (IfOk-weaker w.run_over.result.0 _ _
-      (λ age so. subst (λ (y : YardState). IsAgeOf c.args.script.now c.args.mode c.args.nth (before g c) y age) is
-      (so (before g c) c.mount_all.ensures.mounted)) w.run_over.ensures.age)
+      (λ age so. subst (λ (y : YardState).
+      IsAgeOf c.args.script.now c.args.part.now.missing c.args.mode c.args.nth (before g c) y age) is
+      (so (before g c) c.args.part.now.missing c.mount_all.ensures.mounted c.mount_all.ensures.places))
+      w.run_over.ensures.age)
   | in-Err w ↦ rw w.ended-is tt
 ]
 
 pub returns-clause-stopped : goal.returns-clause-stopped
 returns-clause-stopped g c = elim c.match-mount_all.branch [
   | in-Ok-mount_all w ↦
-      let is = whole_yard g c w.run_over.result.1.items (rw w.ended-is refl)
-      (λ m past. w.in-Ok-mount_all.ensures.rest m
-      (omega (arith, past, w.run_over.ensures.count, w.in-Ok-mount_all.ensures.all))) in
+      let is = whole_yard g c w.run_over.result.1.items (rw w.ended-is refl) w.run_over.ensures.places
+      w.in-Ok-mount_all.ensures.all w.in-Ok-mount_all.ensures.rest in
       rw w.ended-is (IfErr-weaker w.run_over.result.0 _ _
-      (λ stop so. subst (λ (y : YardState). HasStopped c.args.script.now (before g c) y stop) is
-      (so (before g c) c.mount_all.ensures.mounted)) w.run_over.ensures.stopped)
+      (λ stop so. subst (λ (y : YardState).
+      HasStopped c.args.script.now c.args.part.now.missing (before g c) y stop) is
+      (so (before g c) c.args.part.now.missing c.mount_all.ensures.mounted c.mount_all.ensures.places))
+      w.run_over.ensures.stopped)
   | in-Err w ↦
       let told = g.Y.Store.Disk.told in
       let faults = g.Y.Store.Disk.faults in
-      let logs = c.mount_all.new.logs.items in
+      let logs : Logs g = c.mount_all.new.logs.items in
       let are_back = back g c logs (rw w.ended-is refl) in
-      rw w.ended-is (refused_stop c.args.script.now (length logs) (before g c) (mid g c) (after g c)
-      w.in-Err.stop (later_back told faults (mid g c) (after g c) logs c.mount_all.ensures.lent.counted are_back)
-      (λ m past. (are_back m).0 ∙ told_past told faults (mid g c) logs m past)
-      (kept_back told faults c.args.script.now.members (before g c) (mid g c) (after g c) logs logs
-      c.mount_all.ensures.mounted (on_still told faults logs) refl c.mount_all.ensures.on are_back)
+      rw w.ended-is (refused_stop c.args.script.now c.args.part.now.missing (length logs) (before g c) (mid g c)
+      (after g c) w.in-Err.stop
+      (later_back told faults (mid g c) (after g c) logs c.mount_all.ensures.lent.counted are_back)
+      (λ m past. (are_back m).0 ∙ told_none told faults (mid g c) logs m (place_past logs m past))
+      (kept_back told faults c.args.script.now.members c.args.part.now.missing [] (before g c) (mid g c) (after g c)
+      logs logs c.mount_all.ensures.mounted c.mount_all.ensures.places (on_still told faults [] logs)
+      (same_places logs) c.mount_all.ensures.on are_back)
       w.in-Err.ensures.stopped)
 ]
 
-pub returns-clause-passes : goal.returns-clause-passes
-returns-clause-passes g c = elim c.match-mount_all.branch [
-  | in-Ok-mount_all w ↦
-      let news = w.run_over.result.1.items in
-      passed_back g.Y.Store.Disk.told g.Y.Store.Disk.faults (before g c) (mid g c) (after g c)
-      c.mount_all.new.logs.items news c.mount_all.ensures.mounted w.run_over.ensures.later
-      w.run_over.ensures.count (on g c) (back g c news (rw w.ended-is refl))
-  | in-Err w ↦
-      let logs = c.mount_all.new.logs.items in
-      passed_back g.Y.Store.Disk.told g.Y.Store.Disk.faults (before g c) (mid g c) (after g c) logs logs
-      c.mount_all.ensures.mounted (on_still g.Y.Store.Disk.told g.Y.Store.Disk.faults logs) refl
-      (on g c) (back g c logs (rw w.ended-is refl))
-]
-
--- the disks of all logs were mounted, and kept since
+-- what was kept, where the disks of all logs were mounted, and where one was refused
 pub returns-clause-kept : goal.returns-clause-kept
 returns-clause-kept g c = elim c.match-mount_all.branch [
   | in-Ok-mount_all w ↦
-      let news = w.run_over.result.1.items in
+      let told = g.Y.Store.Disk.told in
+      let faults = g.Y.Store.Disk.faults in
+      let script = c.args.script.now in
+      let missing = c.args.part.now.missing in
+      let olds : Logs g = c.mount_all.new.logs.items in
+      let news : Logs g = w.run_over.result.1.items in
+      let starts = w.run_over.ensures.later.0 in
+      let are_back = back g c news (rw w.ended-is refl) in
       rw w.ended-is (IfErr-weaker w.run_over.result.0 _ _ (λ stop so. record {
-        mounted = length c.mount_all.new.logs.items;
-        since = kept_back g.Y.Store.Disk.told g.Y.Store.Disk.faults c.args.script.now.members (before g c) (mid g c)
-            (after g c) c.mount_all.new.logs.items news c.mount_all.ensures.mounted w.run_over.ensures.later
-            w.run_over.ensures.count c.mount_all.ensures.on (back g c news (rw w.ended-is refl));
-        count = stopped_mounted c.args.script.now.members (length c.mount_all.new.logs.items) stop
-            w.in-Ok-mount_all.ensures.all so;
+        mounted = length olds;
+        starts = starts;
+        chosen = chosen_in told faults script missing (before g c) olds starts c.mount_all.ensures.mounted
+            c.mount_all.ensures.places w.in-Ok-mount_all.ensures.all w.run_over.ensures.later.1;
+        since = kept_back told faults script.members missing starts (before g c) (mid g c)
+            (after g c) olds news c.mount_all.ensures.mounted c.mount_all.ensures.places
+            w.run_over.ensures.later.2 w.run_over.ensures.places c.mount_all.ensures.on are_back;
+        passes = passed_back told faults starts (before g c) (mid g c) (after g c) olds news
+            c.mount_all.ensures.mounted w.run_over.ensures.later.2 w.run_over.ensures.places (on g c starts) are_back;
+        untouched = untouched_back told faults missing (before g c) (mid g c) (after g c) olds news
+            c.mount_all.ensures.places w.run_over.ensures.places c.mount_all.ensures.untouched are_back;
+        count = stopped_mounted script.members (length olds) stop w.in-Ok-mount_all.ensures.all so;
       }) w.run_over.ensures.behind)
   | in-Err w ↦
-      let logs = c.mount_all.new.logs.items in
+      let told = g.Y.Store.Disk.told in
+      let faults = g.Y.Store.Disk.faults in
+      let members = c.args.script.now.members in
+      let missing = c.args.part.now.missing in
+      let logs : Logs g = c.mount_all.new.logs.items in
+      let are_back = back g c logs (rw w.ended-is refl) in
       rw w.ended-is (record {
         mounted = length logs;
-        since = kept_back g.Y.Store.Disk.told g.Y.Store.Disk.faults c.args.script.now.members (before g c) (mid g c)
-            (after g c) logs logs c.mount_all.ensures.mounted
-            (on_still g.Y.Store.Disk.told g.Y.Store.Disk.faults logs) refl c.mount_all.ensures.on
-            (back g c logs (rw w.ended-is refl));
-        count = refused_mounted c.args.script.now.members (length logs) (before g c) (mid g c) w.in-Err.stop
+        starts = [];
+        chosen = inl refl;
+        since = kept_back told faults members missing [] (before g c) (mid g c)
+            (after g c) logs logs c.mount_all.ensures.mounted c.mount_all.ensures.places
+            (on_still told faults [] logs) (same_places logs) c.mount_all.ensures.on are_back;
+        passes = passed_back told faults [] (before g c) (mid g c) (after g c) logs logs
+            c.mount_all.ensures.mounted (on_still told faults [] logs) (same_places logs) (on g c []) are_back;
+        untouched = untouched_back told faults missing (before g c) (mid g c) (after g c) logs logs
+            c.mount_all.ensures.places (same_places logs) c.mount_all.ensures.untouched are_back;
+        count = refused_mounted members missing (length logs) (before g c) (mid g c) w.in-Err.stop
             w.in-Err.ensures.stopped;
       })
 ]
 
 pub returns-in_default-clause-kept : goal.returns-in_default-clause-kept
 returns-in_default-clause-kept g c =
-    none_kept c.args.script.now (state_by g.Y.Yard.told g.Y.Yard.faults c.args.yard.now)
+    none_kept c.args.script.now c.args.part.now.missing (state_by g.Y.Yard.told g.Y.Yard.faults c.args.yard.now)
 
 pub returns-clause-fit : goal.returns-clause-fit
 returns-clause-fit g c = elim c.match-mount_all.branch [
   | in-Ok-mount_all w ↦
-      let is = whole_yard g c w.run_over.result.1.items (rw w.ended-is refl)
-      (λ m past. w.in-Ok-mount_all.ensures.rest m
-      (omega (arith, past, w.run_over.ensures.count, w.in-Ok-mount_all.ensures.all))) in
+      let is = whole_yard g c w.run_over.result.1.items (rw w.ended-is refl) w.run_over.ensures.places
+      w.in-Ok-mount_all.ensures.all w.in-Ok-mount_all.ensures.rest in
+      let logs : Logs g = c.mount_all.new.logs.items in
       rw w.ended-is (IfErr-weaker w.run_over.result.0 _ _
-      (λ stop so other fit. subst (λ (y : YardState). AreFit c.args.script.now y) is
-      (so (before g c) c.mount_all.ensures.mounted other fit)) w.run_over.ensures.fit)
+      (λ stop so other none fit. subst (λ (y : YardState). AreFit c.args.script.now y) is
+      (so (before g c) c.mount_all.ensures.mounted other
+      (all_there c.args.script.now.members c.args.part.now.missing logs c.mount_all.ensures.places
+      w.in-Ok-mount_all.ensures.all none) fit)) w.run_over.ensures.fit)
   | in-Err w ↦
-      let logs = c.mount_all.new.logs.items in
-      rw w.ended-is (λ other fit. mounted_fit g.Y.Store.Disk.told g.Y.Store.Disk.faults c.args.script.now
+      let logs : Logs g = c.mount_all.new.logs.items in
+      rw w.ended-is (λ other none fit. mounted_fit g.Y.Store.Disk.told g.Y.Store.Disk.faults c.args.script.now
       (before g c) (mid g c) (after g c) logs fit c.mount_all.ensures.mounted c.mount_all.ensures.on
       (back g c logs (rw w.ended-is refl)))
 ]
@@ -164,32 +233,44 @@ returns-clause-fit g c = elim c.match-mount_all.branch [
 pub returns-clause-names : goal.returns-clause-names
 returns-clause-names g c = elim c.match-mount_all.branch [
   | in-Ok-mount_all w ↦
-      let is = whole_yard g c w.run_over.result.1.items (rw w.ended-is refl)
-      (λ m past. w.in-Ok-mount_all.ensures.rest m
-      (omega (arith, past, w.run_over.ensures.count, w.in-Ok-mount_all.ensures.all))) in
+      let is = whole_yard g c w.run_over.result.1.items (rw w.ended-is refl) w.run_over.ensures.places
+      w.in-Ok-mount_all.ensures.all w.in-Ok-mount_all.ensures.rest in
       rw w.ended-is (IfErr-weaker w.run_over.result.0 _ _
       (λ stop so. subst (λ (y : YardState). NamesFaults stop (before g c) y) is
       (so (before g c) c.mount_all.ensures.mounted)) w.run_over.ensures.names)
   | in-Err w ↦
       let told = g.Y.Store.Disk.told in
       let faults = g.Y.Store.Disk.faults in
-      let logs = c.mount_all.new.logs.items in
+      let missing = c.args.part.now.missing in
+      let logs : Logs g = c.mount_all.new.logs.items in
       let are_back = back g c logs (rw w.ended-is refl) in
-      rw w.ended-is (refused_names c.args.script.now.members (length logs) (before g c) (mid g c) (after g c)
+      rw w.ended-is (refused_names c.args.script.now.members missing (length logs) (before g c) (mid g c) (after g c)
       w.in-Err.stop
-      (λ m l.
-      let log = slice_get-some logs m l in
-      (are_back m).1 ∙ (faults_at told faults (mid g c) logs m log.0 log.1
-      ∙ (c.mount_all.ensures.mounted m log.0 log.1).calm))
-      (λ m past. (are_back m).1 ∙ faults_past told faults (mid g c) logs m past) w.in-Err.ensures.stopped)
+      (λ m l. low g c m l (has missing m) refl are_back)
+      (λ m past. (are_back m).1 ∙ faults_none told faults (mid g c) logs m (place_past logs m past))
+      w.in-Err.ensures.stopped)
 ]
-
-pub returns-in_default-clause-passes : goal.returns-in_default-clause-passes
-returns-in_default-clause-passes g c = passes_none (state_by g.Y.Yard.told g.Y.Yard.faults c.args.yard.now)
+  where
+    -- of a disk below the one that was refused none failed
+    low : (g : Over) (c : After-give_all_back g) (m : ℕ) → m < length c.mount_all.new.logs.items
+        → (b : Bool) → has c.args.part.now.missing m ≡ b
+        → AreAllBack g.Y.Store.Disk.told g.Y.Store.Disk.faults (mid g c) (after g c) c.mount_all.new.logs.items
+        → (after g c).faults m ≡ (before g c).faults m
+    low g c m l true gone are_back =
+        let logs : Logs g = c.mount_all.new.logs.items in
+        (are_back m).1 ∙ (faults_none g.Y.Store.Disk.told g.Y.Store.Disk.faults (mid g c) logs m
+        (none_at c.args.part.now.missing logs m c.mount_all.ensures.places gone)
+        ∙ (c.mount_all.ensures.untouched m gone).1)
+    low g c m l false there are_back =
+        let logs : Logs g = c.mount_all.new.logs.items in
+        let log = log_at c.args.part.now.missing logs m c.mount_all.ensures.places l there in
+        (are_back m).1 ∙ (faults_at g.Y.Store.Disk.told g.Y.Store.Disk.faults (mid g c) logs m log.0 log.1
+        ∙ (c.mount_all.ensures.mounted m log.0 log.1).calm)
 
 pub returns-clause-watched : goal.returns-clause-watched
 returns-clause-watched g c = elim c.match-mount_all.branch [
-  | in-Ok-mount_all w ↦ rw (w.ended-is, w.watcher-is) w.run_over.ensures.watched
+  | in-Ok-mount_all w ↦ rw (w.ended-is, w.watcher-is) (IfOk-weaker w.run_over.result.0 _ _
+      (λ age so. so c.args.part.now.missing c.mount_all.ensures.places) w.run_over.ensures.watched)
   | in-Err w ↦ rw w.ended-is tt
 ]
 

@@ -1,135 +1,228 @@
-use Rattle.std.proofs.Common.{◌∙◌, sym, ap, subst, length, List}
-use Rattle.std.specs.Prelude.{All}
+use Rattle.std.proofs.Common.{◌≡◌, ◌<◌, ◌∙◌, refl, sym, ap, subst, inr, length, ℕ, List, [], ◌∷◌, Option}
 use Rattle.std.proofs.lemmas.List.{with_items_is}
-use Rattle.dr_age.specs.Logged.{AreOpened, HaveCome, IsAmple}
-use Rattle.dr_gather.specs.CatchingUp.{opened_with}
-use Rattle.dr_gather.specs.Gathering.{IsStartOf, entries_on}
+use Rattle.dr_age.specs.Logged.{AreAmple, AreOpened, HaveCome}
 use Rattle.dr_log.specs.State.{LogState}
+use Rattle.dr_logged.specs.Served.{HaveSamePlaces}
+use Rattle.dr_opening.specs.Lists.{contents_of, log_of}
+use Rattle.dr_opening.specs.Logs.{WereOpened}
+use Rattle.dr_opening.specs.Tries.{IsChosenOf}
+use Rattle.dr_opening.specs.Unopened.{IsWhyUnopened}
 use Rattle.dr_restart.specs.declared.start.Start.{Start}
-use Rattle.dr_restart.specs.Groups.{group_of}
+use Rattle.dr_restart.specs.Groups.{first_group_of, group_of}
+use Rattle.dr_ages.specs.declared.stop.Stop.{Stop}
 use Rattle.dr_ages.specs.Ages.{over_of}
 use Rattle.dr_ages.specs.Fit.{AreFit}
-use Rattle.dr_ages.specs.Lent.{AreMounted, with_logs}
-use Rattle.dr_ages.specs.Opened.{AreCaughtUp, AreLater}
-use Rattle.dr_ages.specs.Stops.{HasStopped, NamesFaults}
+use Rattle.dr_ages.specs.Lent.{with_logs}
+use Rattle.dr_ages.specs.Opened.{AreLater, HaveGoneOn}
+use Rattle.dr_ages.specs.Stops.{HasStopped, IsBehindMounts, NamesFaults}
 use Rattle.dr_ages.specs.Watched.{HasSeen}
-use Rattle.dr_ages.proofs.Played.{are_opened, is_age, later_on, ok_at, same_start}
+use Rattle.dr_ages.proofs.Backs.{places_then}
+use Rattle.dr_ages.proofs.Fit.{why_fit}
+use Rattle.dr_ages.proofs.Loans.{contents_there}
+use Rattle.dr_ages.proofs.Opening.{are_opened, gone_on, opened_on, opened_places, why_places}
+use Rattle.dr_ages.proofs.Played.{is_age, later_on, ok_at, same_start}
+use Rattle.dr_ages.proofs.Staying.{later_by_all}
+use Rattle.dr_ages.proofs.Stopping.{why_behind, why_names, why_stops}
 use Rattle.dr_ages.proofs.ages.run_over.Given.{Over}
 use Rattle.dr_ages.proofs.ages.run_over.Goals as goal
-use Rattle.dr_ages.proofs.ages.run_over.Goals.{After-play_age-ended}
+use Rattle.dr_ages.proofs.ages.run_over.Goals.{After-of_unopened, After-play_age-ended}
+
+pub open_age-requires-clause-whole : goal.open_age-requires-clause-whole
+open_age-requires-clause-whole g c κs h m log at =
+    c.requires.whole m log (ap (λ (l : List (Option (LogState g.row.D.Denot))). log_of l m)
+    (sym c.as_mut_slice.ensures.value) ∙ at)
+
+-- the logs of which the age opens are those that came
+abbrev Logs : Over → Type 0
+Logs g = List (Option (LogState g.row.D.Denot))
 
 pub play_age-ended-requires-clause-logs : goal.play_age-ended-requires-clause-logs
 play_age-ended-requires-clause-logs g c κs h =
-    subst (λ (l : List (LogState g.row.D.Denot)). AreOpened (group_of c.args.script.now c.in-Ok.start) l)
-    (sym (with_items_is c.args.logs c.open_age.new.logs (c.open_age.ensures.count ∙ c.as_mut_slice.ensures.len)))
-    (are_opened g.D.Disk.told g.D.Disk.faults c.args.script.now c.in-Ok.start c.as_mut_slice.result.now
-    c.open_age.new.logs c.requires.ranges.group.lists (ap length c.as_mut_slice.ensures.value ∙ c.requires.all)
-    c.in-Ok.ensures.caught)
+    let told = g.D.Disk.told in
+    let faults = g.D.Disk.faults in
+    let places = opened_places told faults c.in-Ok.start c.as_mut_slice.result.now c.open_age.new.logs
+    c.in-Ok.ensures.opened in
+    subst (λ (l : Logs g). AreOpened (group_of c.args.script.now c.in-Ok.start) l)
+    (sym (with_items_is c.args.logs c.open_age.new.logs (places.all ∙ c.as_mut_slice.ensures.len)))
+    (are_opened told faults c.args.script.now c.in-Ok.start c.as_mut_slice.result.now
+    c.open_age.new.logs c.requires.ranges.group.lists c.requires.ranges.group.most_members
+    (ap length c.as_mut_slice.ensures.value ∙ c.requires.all) c.in-Ok.ensures.chosen c.in-Ok.ensures.opened)
+
+-- ---- an age that was not opened
+
+-- why, over the logs that came
+why : (g : Over) (c : After-of_unopened g) → IsWhyUnopened g.D.Disk.told g.D.Disk.faults c.args.script.now
+    c.args.logs.items c.open_age.new.logs c.in-Err.why
+why g c = subst (λ (l : Logs g).
+    IsWhyUnopened g.D.Disk.told g.D.Disk.faults c.args.script.now l c.open_age.new.logs c.in-Err.why)
+    c.as_mut_slice.ensures.value c.in-Err.ensures.why
+
+-- there are as many behind it
+as_many : (g : Over) (c : After-of_unopened g)
+    → length c.open_age.new.logs ≡ length c.as_mut_slice.result.now
+as_many g c = (why_places g.D.Disk.told g.D.Disk.faults c.args.script.now c.as_mut_slice.result.now
+    c.open_age.new.logs c.in-Err.why c.in-Err.ensures.why).all
 
 pub returns-in-Err-clause-stopped : goal.returns-in-Err-clause-stopped
-returns-in-Err-clause-stopped g c before mounted =
+returns-in-Err-clause-stopped g c before missing mounted but =
     let told = g.D.Disk.told in
     let faults = g.D.Disk.faults in
-    subst (λ (l : List (LogState g.row.D.Denot)). HasStopped c.args.script.now before
-    (with_logs told faults before l) c.in-Err.stop)
-    (sym (with_items_is c.args.logs c.open_age.new.logs (c.open_age.ensures.count ∙ c.as_mut_slice.ensures.len)))
-    (c.in-Err.ensures.stopped before (subst (λ (l : List (LogState g.row.D.Denot)).
-    AreMounted told faults before l) (sym c.as_mut_slice.ensures.value) mounted))
-
-pub returns-in-Err-clause-fit : goal.returns-in-Err-clause-fit
-returns-in-Err-clause-fit g c before mounted unlike fit =
-    let told = g.D.Disk.told in
-    let faults = g.D.Disk.faults in
-    subst (λ (l : List (LogState g.row.D.Denot)). AreFit c.args.script.now (with_logs told faults before l))
-    (sym (with_items_is c.args.logs c.open_age.new.logs (c.open_age.ensures.count ∙ c.as_mut_slice.ensures.len)))
-    (c.in-Err.ensures.fit before (subst (λ (l : List (LogState g.row.D.Denot)).
-    AreMounted told faults before l) (sym c.as_mut_slice.ensures.value) mounted) fit)
+    let script = c.args.script.now in
+    subst (λ (l : Logs g). HasStopped script missing before (with_logs told faults before l) c.of_unopened.result)
+    (sym (with_items_is c.args.logs c.open_age.new.logs (as_many g c ∙ c.as_mut_slice.ensures.len)))
+    (subst (λ (s : Stop). HasStopped script missing before (with_logs told faults before c.open_age.new.logs) s)
+    (sym c.of_unopened.ensures)
+    (why_stops told faults script missing before c.args.logs.items c.open_age.new.logs c.in-Err.why c.requires.all
+    mounted but (why g c)))
 
 pub returns-in-Err-clause-names : goal.returns-in-Err-clause-names
 returns-in-Err-clause-names g c before mounted =
     let told = g.D.Disk.told in
     let faults = g.D.Disk.faults in
-    subst (λ (l : List (LogState g.row.D.Denot)). NamesFaults c.in-Err.stop before (with_logs told faults before l))
-    (sym (with_items_is c.args.logs c.open_age.new.logs (c.open_age.ensures.count ∙ c.as_mut_slice.ensures.len)))
-    (c.in-Err.ensures.names before (subst (λ (l : List (LogState g.row.D.Denot)).
-    AreMounted told faults before l) (sym c.as_mut_slice.ensures.value) mounted))
+    subst (λ (l : Logs g). NamesFaults c.of_unopened.result before (with_logs told faults before l))
+    (sym (with_items_is c.args.logs c.open_age.new.logs (as_many g c ∙ c.as_mut_slice.ensures.len)))
+    (subst (λ (s : Stop). NamesFaults s before (with_logs told faults before c.open_age.new.logs))
+    (sym c.of_unopened.ensures)
+    (why_names told faults c.args.script.now before c.args.logs.items c.open_age.new.logs c.in-Err.why
+    mounted (why g c)))
+
+pub returns-in-Err-clause-behind : goal.returns-in-Err-clause-behind
+returns-in-Err-clause-behind g c =
+    subst IsBehindMounts (sym c.of_unopened.ensures) (why_behind c.in-Err.why)
 
 pub returns-in-Err-clause-later : goal.returns-in-Err-clause-later
 returns-in-Err-clause-later g c =
     let told = g.D.Disk.told in
     let faults = g.D.Disk.faults in
-    subst (λ (l : List (LogState g.row.D.Denot)). AreLater told faults c.args.logs.items l)
-    (sym (with_items_is c.args.logs c.open_age.new.logs (c.open_age.ensures.count ∙ c.as_mut_slice.ensures.len)))
-    (subst (λ (l : List (LogState g.row.D.Denot)). AreLater told faults l c.open_age.new.logs)
-    c.as_mut_slice.ensures.value c.open_age.ensures.later)
+    let script = c.args.script.now in
+    subst (λ (l : Logs g). HaveGoneOn told faults script (contents_of c.args.logs.items) c.args.logs.items l)
+    (sym (with_items_is c.args.logs c.open_age.new.logs (as_many g c ∙ c.as_mut_slice.ensures.len)))
+    (gone_on told faults script c.args.logs.items c.open_age.new.logs c.in-Err.why (why g c))
+
+pub returns-in-Err-clause-places : goal.returns-in-Err-clause-places
+returns-in-Err-clause-places g c =
+    subst (λ (l : Logs g). HaveSamePlaces c.args.logs.items l)
+    (sym (with_items_is c.args.logs c.open_age.new.logs (as_many g c ∙ c.as_mut_slice.ensures.len)))
+    (why_places g.D.Disk.told g.D.Disk.faults c.args.script.now c.args.logs.items c.open_age.new.logs
+    c.in-Err.why (why g c))
+
+pub returns-in-Err-clause-fit : goal.returns-in-Err-clause-fit
+returns-in-Err-clause-fit g c before mounted unlike but fit =
+    let told = g.D.Disk.told in
+    let faults = g.D.Disk.faults in
+    subst (λ (l : Logs g). AreFit c.args.script.now (with_logs told faults before l))
+    (sym (with_items_is c.args.logs c.open_age.new.logs (as_many g c ∙ c.as_mut_slice.ensures.len)))
+    (why_fit told faults c.args.script.now before c.args.logs.items c.open_age.new.logs c.in-Err.why
+    c.requires.ranges.group c.requires.all but fit mounted (why g c))
+
+-- ---- an age that was played
+
+-- the start was chosen of the logs that came, and the age opened on them
+chosen : (g : Over) (c : After-play_age-ended g)
+    → IsChosenOf (first_group_of c.args.script.now).opening (contents_of c.args.logs.items) c.in-Ok.start
+chosen g c = subst (λ (l : Logs g).
+    IsChosenOf (first_group_of c.args.script.now).opening (contents_of l) c.in-Ok.start)
+    c.as_mut_slice.ensures.value c.in-Ok.ensures.chosen
+
+began : (g : Over) (c : After-play_age-ended g)
+    → WereOpened g.D.Disk.told g.D.Disk.faults c.in-Ok.start c.args.logs.items c.open_age.new.logs
+began g c = subst (λ (l : Logs g).
+    WereOpened g.D.Disk.told g.D.Disk.faults c.in-Ok.start l c.open_age.new.logs)
+    c.as_mut_slice.ensures.value c.in-Ok.ensures.opened
+
+-- as many logs came of it
+same_logs : (g : Over) (c : After-play_age-ended g) → length c.open_age.new.logs ≡ length c.as_mut_slice.result.now
+same_logs g c = (opened_places g.D.Disk.told g.D.Disk.faults c.in-Ok.start c.as_mut_slice.result.now
+    c.open_age.new.logs c.in-Ok.ensures.opened).all
 
 pub returns-in-Ok-ended-clause-age : goal.returns-in-Ok-ended-clause-age
-returns-in-Ok-ended-clause-age g c before mounted =
+returns-in-Ok-ended-clause-age g c before missing mounted but =
     let told = g.D.Disk.told in
     let faults = g.D.Disk.faults in
     let script = c.args.script.now in
     let start = c.in-Ok.start in
-    let olds : List (LogState g.row.D.Denot) = c.args.logs.items in
-    let mids : List (LogState g.row.D.Denot) = c.open_age.new.logs in
-    let news : List (LogState g.row.D.Denot) = c.play_age-ended.result.1.items in
-    let value = c.as_mut_slice.ensures.value in
-    let same = with_items_is c.args.logs mids (c.open_age.ensures.count ∙ c.as_mut_slice.ensures.len) in
+    let olds : Logs g = c.args.logs.items in
+    let mids : Logs g = c.open_age.new.logs in
+    let news : Logs g = c.play_age-ended.result.1.items in
+    let a = (goal.at.returns-in-Ok-ended-clause-age g c).After-play_age-ended in
+    let same = with_items_is c.args.logs mids (same_logs g a ∙ c.as_mut_slice.ensures.len) in
     let ended = c.play_age-ended.result.0 in
     let age = c.in-Ok-ended.age in
     let is = c.in-Ok-ended.is in
     let run = ok_at _ ended age is c.play_age-ended.ensures.run in
-    is_age told faults script c.args.mode c.args.nth before start olds mids news age (record {
+    is_age told faults script missing c.args.mode c.args.nth before start olds mids news age (record {
       ranges = c.requires.ranges;
       all = c.requires.all;
       mounted = mounted;
-      starts = subst (λ (l : List (LogState g.row.D.Denot)). IsStartOf script (entries_on l) start) value
-          c.in-Ok.ensures.start;
-      small = c.in-Ok.ensures.small;
-      caught = subst (λ (l : List (LogState g.row.D.Denot)). AreCaughtUp told faults
-          (opened_with start start.members) l mids (length l)) value c.in-Ok.ensures.caught;
+      but = but;
+      starts = chosen g a;
+      began = began g a;
       run = run.0;
-      come = subst (λ (l : List (LogState g.row.D.Denot)).
+      come = subst (λ (l : Logs g).
           HaveCome told faults l news (over_of c.args.mode script start c.args.nth age run.0).members) same run.1;
       agreed = ok_at _ ended age is c.play_age-ended.ensures.agreed;
       ended = ok_at _ ended age is c.play_age-ended.ensures.ended;
       trusting = ok_at _ ended age is c.play_age-ended.ensures.trusting;
       complete = ok_at _ ended age is c.play_age-ended.ensures.complete;
       ample = λ all. ok_at _ ended age is c.play_age-ended.ensures.ample
-          (subst (λ (l : List (LogState g.row.D.Denot)). All (IsAmple (group_of script start)) l) (sym same) all);
-      count = c.play_age-ended.ensures.count ∙ ap length same;
+          (subst (λ (l : Logs g). AreAmple (group_of script start) l) (sym same) all);
+      places = subst (λ (l : Logs g). HaveSamePlaces l news) same c.play_age-ended.ensures.places;
       members = ok_at _ ended age is c.play_age-ended.ensures.members ∙ ap length same;
     })
 
 pub returns-in-Ok-ended-clause-watched : goal.returns-in-Ok-ended-clause-watched
-returns-in-Ok-ended-clause-watched g c =
+returns-in-Ok-ended-clause-watched g c missing but =
     let script = c.args.script.now in
     let ended = c.play_age-ended.result.0 in
     let age = c.in-Ok-ended.age in
+    let a = (goal.at.returns-in-Ok-ended-clause-watched g c).After-play_age-ended in
     let run = ok_at _ ended age c.in-Ok-ended.is c.play_age-ended.ensures.run in
     subst (λ (start : Start). HasSeen g.W.Watcher.opens g.W.Watcher.sees g.W.Watcher.closes c.args.mode script
     start c.args.nth c.args.watcher.now c.play_age-ended.new.watcher age)
-    (same_start c.args.mode script (entries_on c.as_mut_slice.result.now) c.in-Ok.start c.args.nth age
-    c.in-Ok.ensures.start run.0)
+    (same_start c.args.mode script missing (contents_of c.args.logs.items) c.in-Ok.start c.args.nth age
+    c.requires.ranges.group.lists
+    (λ m l. contents_there c.args.logs.items m ∙ but m (subst (λ (n : ℕ). m < n) (sym c.requires.all) l))
+    (chosen g a) run.0)
     (ok_at _ ended age c.in-Ok-ended.is c.play_age-ended.ensures.watched)
 
 -- a log is later behind the opening and the age
-both : (g : Over) (c : After-play_age-ended g)
-    → AreLater g.D.Disk.told g.D.Disk.faults c.args.logs.items c.play_age-ended.result.1.items
+both : (g : Over) (c : After-play_age-ended g) → HaveGoneOn g.D.Disk.told g.D.Disk.faults c.args.script.now
+    (contents_of c.args.logs.items) c.args.logs.items c.play_age-ended.result.1.items
 both g c =
     let told = g.D.Disk.told in
     let faults = g.D.Disk.faults in
-    let same = with_items_is c.args.logs c.open_age.new.logs
-    (c.open_age.ensures.count ∙ c.as_mut_slice.ensures.len) in
-    later_on told faults c.args.logs.items c.open_age.new.logs c.play_age-ended.result.1.items
-    (c.open_age.ensures.count ∙ ap length c.as_mut_slice.ensures.value)
-    (subst (λ (l : List (LogState g.row.D.Denot)). AreLater told faults l c.open_age.new.logs)
-    c.as_mut_slice.ensures.value c.open_age.ensures.later)
-    (subst (λ (l : List (LogState g.row.D.Denot)). AreLater told faults l c.play_age-ended.result.1.items) same
-    c.play_age-ended.ensures.later)
+    let start = c.in-Ok.start in
+    let starts = start.entries ∷ [] in
+    let same = with_items_is c.args.logs c.open_age.new.logs (same_logs g c ∙ c.as_mut_slice.ensures.len) in
+    let news : Logs g = c.play_age-ended.result.1.items in (
+      starts,
+      inr (start, chosen g c, refl),
+      later_on told faults starts c.args.logs.items c.open_age.new.logs news
+          (opened_places told faults start c.args.logs.items c.open_age.new.logs (began g c))
+          (opened_on told faults start c.args.logs.items c.open_age.new.logs (began g c))
+          (λ m old new there here. later_by_all told faults starts old new
+          (subst (λ (l : Logs g). AreLater told faults [] l news) same c.play_age-ended.ensures.later m old new there
+          here)),
+    )
+
+-- in the same places
+same_places : (g : Over) (c : After-play_age-ended g)
+    → HaveSamePlaces c.args.logs.items c.play_age-ended.result.1.items
+same_places g c =
+    let same = with_items_is c.args.logs c.open_age.new.logs (same_logs g c ∙ c.as_mut_slice.ensures.len) in
+    places_then c.args.logs.items c.open_age.new.logs c.play_age-ended.result.1.items
+    (opened_places g.D.Disk.told g.D.Disk.faults c.in-Ok.start c.args.logs.items c.open_age.new.logs (began g c))
+    (subst (λ (l : Logs g). HaveSamePlaces l c.play_age-ended.result.1.items) same c.play_age-ended.ensures.places)
 
 pub returns-in-Ok-ended-clause-later : goal.returns-in-Ok-ended-clause-later
-returns-in-Ok-ended-clause-later g c =
-    both g (goal.at.returns-in-Ok-ended-clause-later g c).After-play_age-ended
+returns-in-Ok-ended-clause-later g c = both g (goal.at.returns-in-Ok-ended-clause-later g c).After-play_age-ended
 
 pub returns-clause-later : goal.returns-clause-later
 returns-clause-later g c = both g (goal.at.returns-clause-later g c).After-play_age-ended
+
+pub returns-in-Ok-ended-clause-places : goal.returns-in-Ok-ended-clause-places
+returns-in-Ok-ended-clause-places g c =
+    same_places g (goal.at.returns-in-Ok-ended-clause-places g c).After-play_age-ended
+
+pub returns-clause-places : goal.returns-clause-places
+returns-clause-places g c = same_places g (goal.at.returns-clause-places g c).After-play_age-ended

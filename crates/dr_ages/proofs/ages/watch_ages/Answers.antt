@@ -2,11 +2,11 @@ use Rattle.std.proofs.Common.{◌≡◌, ◌∙◌, refl, sym, ap, subst, arith,
 use Rattle.std.specs.Prelude.{None, Some}
 use Rattle.dr_entry.specs.declared.end.AgeEnd.{AgeEnd}
 use Rattle.dr_yard.specs.Yards.{YardState, state_by}
-use Rattle.dr_ages.specs.Ages.{AreAges}
 use Rattle.dr_ages.specs.declared.stop.Stop.TheVariants.{OutOfMemory}
+use Rattle.dr_ages.specs.Ages.{AreAges}
 use Rattle.dr_ages.specs.Runs.{IsRunOf}
-use Rattle.dr_ages.proofs.Chain.{ages_more, none_kept, passes_none}
 use Rattle.dr_ages.specs.Watched.{AreWatched}
+use Rattle.dr_ages.proofs.Chain.{ages_more, none_kept}
 use Rattle.dr_ages.proofs.Runs.{a_run}
 use Rattle.dr_ages.proofs.Watching.{watched_more}
 use Rattle.dr_ages.proofs.ages.watch_ages.Goals as goal
@@ -14,6 +14,7 @@ use Rattle.dr_ages.proofs.ages.watch_ages.Goals as goal
 pub loop-nth-preserved : goal.loop-nth-preserved
 loop-nth-preserved g c =
     let items : c.push.new.self.items ≡ c.loop-nth.ages.items ++ c.in-Ok-run_age.age ∷ [] = search rules in
+    let missing = c.args.part.now.missing in
     let before : YardState = state_by g.Y.Yard.told g.Y.Yard.faults c.args.yard.now in
     let mid : YardState = state_by g.Y.Yard.told g.Y.Yard.faults c.loop-nth.yard in
     let after : YardState = state_by g.Y.Yard.told g.Y.Yard.faults c.run_age.new.yard in (
@@ -21,13 +22,13 @@ loop-nth-preserved g c =
           ∙ omega (arith, c.loop-nth.invariant.0)),
       search rules,
       c.in-Ok-run_age.ensures.here,
-      subst (λ (ages : List AgeEnd). AreAges c.args.script.now c.args.mode 0 before ages after) (sym items)
-          (ages_more c.args.script.now c.args.mode 0 c.loop-nth.nth before c.loop-nth.ages.items mid after
+      subst (λ (ages : List AgeEnd). AreAges c.args.script.now missing c.args.mode 0 before ages after) (sym items)
+          (ages_more c.args.script.now missing c.args.mode 0 c.loop-nth.nth before c.loop-nth.ages.items mid after
           c.in-Ok-run_age.age (omega (arith, c.loop-nth.invariant.0)) c.loop-nth.invariant.3
           c.in-Ok-run_age.ensures.age),
       subst (λ (ages : List AgeEnd). AreWatched g.W.Watcher.opens g.W.Watcher.sees g.W.Watcher.closes
-          c.args.mode c.args.script.now 0 ages c.args.watcher.now c.run_age.new.watcher) (sym items)
-          (watched_more g.W.Watcher.opens g.W.Watcher.sees g.W.Watcher.closes c.args.mode c.args.script.now 0
+          c.args.mode c.args.script.now missing 0 ages c.args.watcher.now c.run_age.new.watcher) (sym items)
+          (watched_more g.W.Watcher.opens g.W.Watcher.sees g.W.Watcher.closes c.args.mode c.args.script.now missing 0
           c.loop-nth.nth c.loop-nth.ages.items c.in-Ok-run_age.age c.args.watcher.now c.loop-nth.watcher
           c.run_age.new.watcher (omega (arith, c.loop-nth.invariant.0)) c.loop-nth.invariant.4
           c.in-Ok-run_age.ensures.watched),
@@ -35,54 +36,63 @@ loop-nth-preserved g c =
 
 pub returns-in_default-clause-run : goal.returns-in_default-clause-run
 returns-in_default-clause-run g c =
+    let missing = c.args.part.now.missing in
     let before : YardState = state_by g.Y.Yard.told g.Y.Yard.faults c.args.yard.now in
-    subst (λ (ages : List AgeEnd). IsRunOf c.args.script.now c.args.mode before before ages (Some OutOfMemory))
+    let kept = none_kept c.args.script.now missing before in
+    subst (λ (ages : List AgeEnd).
+    IsRunOf c.args.script.now missing c.args.mode before before ages (Some OutOfMemory))
     (sym (c.of.ensures ∙ c.new.ensures.items))
-    (a_run c.args.script.now c.args.mode before [] before before (Some OutOfMemory) c.requires.ranges refl
-    (omega (arith, c.requires.ranges.some_age), tt, passes_none before, tt) (passes_none before)
-    (none_kept c.args.script.now before) (λ other fit. fit))
+    (a_run c.args.script.now missing c.args.mode before [] before before (Some OutOfMemory) kept.starts
+    c.requires.ranges refl (omega (arith, c.requires.ranges.some_age), tt, kept.chosen, kept.passes, tt) (kept, refl)
+    (λ other none fit. fit))
 
 pub returns-in-Err-clause-run : goal.returns-in-Err-clause-run
 returns-in-Err-clause-run g c =
+    let missing = c.args.part.now.missing in
     let before : YardState = state_by g.Y.Yard.told g.Y.Yard.faults c.args.yard.now in
     let last : YardState = state_by g.Y.Yard.told g.Y.Yard.faults c.loop-nth.yard in
     let after : YardState = state_by g.Y.Yard.told g.Y.Yard.faults c.run_age.new.yard in
-    subst (λ (ages : List AgeEnd). IsRunOf c.args.script.now c.args.mode before after ages (Some c.in-Err.stop))
+    subst (λ (ages : List AgeEnd).
+    IsRunOf c.args.script.now missing c.args.mode before after ages (Some c.in-Err.stop))
     (sym c.of-in-Err.ensures)
-    (a_run c.args.script.now c.args.mode before c.loop-nth.ages.items last after (Some c.in-Err.stop) c.requires.ranges
-    c.loop-nth.invariant.3 (
+    (a_run c.args.script.now missing c.args.mode before c.loop-nth.ages.items last after (Some c.in-Err.stop)
+    c.in-Err.ensures.kept.starts c.requires.ranges c.loop-nth.invariant.3 (
       omega (arith, c.loop-nth.invariant.0, c.loop-nth-test.true),
       c.in-Err.ensures.stopped,
-      c.run_age.ensures.passes,
+      c.in-Err.ensures.kept.chosen,
+      c.in-Err.ensures.kept.passes,
       c.in-Err.ensures.names,
     )
-    c.run_age.ensures.passes c.in-Err.ensures.kept c.in-Err.ensures.fit)
+    (c.in-Err.ensures.kept, refl) c.in-Err.ensures.fit)
 
 pub returns-clause-run : goal.returns-clause-run
 returns-clause-run g c =
+    let missing = c.args.part.now.missing in
     let before : YardState = state_by g.Y.Yard.told g.Y.Yard.faults c.args.yard.now in
     let last : YardState = state_by g.Y.Yard.told g.Y.Yard.faults c.loop-nth.yard in
-    subst (λ (ages : List AgeEnd). IsRunOf c.args.script.now c.args.mode before last ages None) (sym c.of-2.ensures)
-    (a_run c.args.script.now c.args.mode before c.loop-nth.ages.items last last None c.requires.ranges c.loop-nth.invariant.3
-    (omega (arith, c.loop-nth.invariant.0, c.loop-nth-test.false, c.loop-nth.auto.nth-end), refl)
-    (passes_none last) tt tt)
+    subst (λ (ages : List AgeEnd). IsRunOf c.args.script.now missing c.args.mode before last ages None)
+    (sym c.of-2.ensures)
+    (a_run c.args.script.now missing c.args.mode before c.loop-nth.ages.items last last None [] c.requires.ranges
+    c.loop-nth.invariant.3
+    (omega (arith, c.loop-nth.invariant.0, c.loop-nth-test.false, c.loop-nth.auto.nth-end), refl, refl) tt tt)
 
 pub returns-in_default-clause-watched : goal.returns-in_default-clause-watched
 returns-in_default-clause-watched g c =
     subst (λ (ages : List AgeEnd). AreWatched g.W.Watcher.opens g.W.Watcher.sees g.W.Watcher.closes
-    c.args.mode c.args.script.now 0 ages c.args.watcher.now c.args.watcher.now)
+    c.args.mode c.args.script.now c.args.part.now.missing 0 ages c.args.watcher.now c.args.watcher.now)
     (sym (c.of.ensures ∙ c.new.ensures.items)) refl
 
 pub returns-in-Err-clause-watched : goal.returns-in-Err-clause-watched
 returns-in-Err-clause-watched g c =
     subst (λ (ages : List AgeEnd). AreWatched g.W.Watcher.opens g.W.Watcher.sees g.W.Watcher.closes
-    c.args.mode c.args.script.now 0 ages c.args.watcher.now c.run_age.new.watcher) (sym c.of-in-Err.ensures)
+    c.args.mode c.args.script.now c.args.part.now.missing 0 ages c.args.watcher.now c.run_age.new.watcher)
+    (sym c.of-in-Err.ensures)
     (subst (λ (w : g.row.W.Denot). AreWatched g.W.Watcher.opens g.W.Watcher.sees g.W.Watcher.closes
-    c.args.mode c.args.script.now 0 c.loop-nth.ages.items c.args.watcher.now w) (sym c.in-Err.ensures.untold)
-    c.loop-nth.invariant.4)
+    c.args.mode c.args.script.now c.args.part.now.missing 0 c.loop-nth.ages.items c.args.watcher.now w)
+    (sym c.in-Err.ensures.untold) c.loop-nth.invariant.4)
 
 pub returns-clause-watched : goal.returns-clause-watched
 returns-clause-watched g c =
     subst (λ (ages : List AgeEnd). AreWatched g.W.Watcher.opens g.W.Watcher.sees g.W.Watcher.closes
-    c.args.mode c.args.script.now 0 ages c.args.watcher.now c.loop-nth.watcher) (sym c.of-2.ensures)
-    c.loop-nth.invariant.4
+    c.args.mode c.args.script.now c.args.part.now.missing 0 ages c.args.watcher.now c.loop-nth.watcher)
+    (sym c.of-2.ensures) c.loop-nth.invariant.4

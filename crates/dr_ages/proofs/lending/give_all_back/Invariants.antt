@@ -3,11 +3,11 @@ use Rattle.dr_ages.specs.Lent.{AreLent}
 use Rattle.dr_ages.proofs.Backs.{AreBack}
 use Rattle.dr_ages.proofs.lending.give_all_back.Given as goal
 
-abbrev pub invariant-loop-log : goal.invariant-loop-log
-invariant-loop-log g l =
+abbrev pub invariant-loop-place : goal.invariant-loop-place
+invariant-loop-place g l =
     AreLent g.Y.Yard.is_lent g.Y.Yard.faults g.Y.Store.Disk.faults l.yard l.logs.items
     × AreBack g.Y.Store.Disk.told g.Y.Store.Disk.faults (state_by g.Y.Yard.told g.Y.Yard.faults l.fn.yard)
     l.fn.logs.items (state_by g.Y.Yard.told g.Y.Yard.faults l.yard) l.logs.items
 
-abbrev pub decreases-loop-log : goal.decreases-loop-log
-decreases-loop-log g l = goal.left-loop-log g l
+abbrev pub decreases-loop-place : goal.decreases-loop-place
+decreases-loop-place g l = goal.left-loop-place g l
