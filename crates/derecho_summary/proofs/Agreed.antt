@@ -1,13 +1,17 @@
 -- The members of each age of a run agree.
-use Rattle.std.proofs.Common.{refl, ℕ, ◌+◌, List, [], ◌∷◌, Option, arith}
+use Rattle.std.proofs.Common.{◌≡◌, ◌⊎◌, ◌∙◌, inl, inr, sym, ap, true≢false, ℕ, ◌+◌, List, [], ◌∷◌, Option, Some, slice_get}
+use Rattle.std.proofs.lemmas.Bool.{cases_Bool}
 use Rattle.std.proofs.lemmas.List.Elements.{All-cons, All-nil}
 use Rattle.dr_ages.specs.declared.mode.Mode.{Mode}
 use Rattle.dr_ages.specs.declared.stop.Stop.{Stop}
-use Rattle.dr_ages.specs.Ages.{AreAges, opening_of}
+use Rattle.dr_ages.specs.Ages.{AreAges, IsAgeOf, opening_of}
 use Rattle.dr_entry.specs.declared.end.AgeEnd.{AgeEnd}
-use Rattle.dr_gather.proofs.Following.{is_there}
+use Rattle.dr_entry.specs.declared.end.MemberEnd.{MemberEnd}
 use Rattle.dr_history.specs.declared.opening.Opening.{Opening}
+use Rattle.dr_history.specs.Members.{has}
+use Rattle.dr_history.specs.Soundness.{IsPresentIn}
 use Rattle.dr_outcome.specs.Outcome.{IsRunInMemory}
+use Rattle.dr_program.specs.Program.{absent_end}
 use Rattle.dr_script.specs.declared.script.Script.{Script}
 use Rattle.dr_summary.specs.Summary.{HaveAgreed}
 use Rattle.dr_yard.specs.Yards.{YardState, empty_yard}
@@ -17,21 +21,31 @@ use Rattle.derecho_summary.specs.Summary.{AreAgreed}
 abbrev IsAgreed : AgeEnd → Type 0
 IsAgreed age = (o : Opening) × HaveAgreed o age.members
 
--- the whole roster takes part
-agreed_ages : (script : Script) (mode : Mode) (nth : ℕ) (before after : YardState) (ages : List AgeEnd)
-    → AreAges script mode nth before ages after → AreAgreed ages
-agreed_ages script mode nth before after [] are = All-nil IsAgreed
-agreed_ages script mode nth before after (age ∷ ages) (between, is, rest) =
+-- whoever is absent has no history
+part_or_none : (script : Script) (missing : ℕ) (mode : Mode) (nth : ℕ) (before after : YardState) (age : AgeEnd)
+    (i : ℕ) (e : MemberEnd) → IsAgeOf script missing mode nth before after age → slice_get age.members i ≡ Some e
+    → IsPresentIn (opening_of script missing age) i ⊎ (e.history ≡ [])
+part_or_none script missing mode nth before after age i e is at =
+    elim (cases_Bool (has (opening_of script missing age).present i)) [
+      | inl here ↦ inl here
+      | inr away ↦
+          let none : e ≡ absent_end = is.ended.absent i e at (λ here. true≢false (sym here ∙ away)) in
+          inr (ap (λ (x : MemberEnd). x.history) none)
+    ]
+
+agreed_ages : (script : Script) (missing : ℕ) (mode : Mode) (nth : ℕ) (before after : YardState)
+    (ages : List AgeEnd) → AreAges script missing mode nth before ages after → AreAgreed ages
+agreed_ages script missing mode nth before after [] are = All-nil IsAgreed
+agreed_ages script missing mode nth before after (age ∷ ages) (between, is, rest) =
     All-cons IsAgreed age ages (
-      opening_of script age,
+      opening_of script missing age,
       record {
-        present = λ i below. is_there (opening_of script age) script.members i refl
-            (omega (arith, is.roster, below));
+        present = λ i e at. part_or_none script missing mode nth before between age i e is at;
         agreed = is.agreed;
       },
-    ) (agreed_ages script mode (nth + 1) between after ages rest)
+    ) (agreed_ages script missing mode (nth + 1) between after ages rest)
 
 pub agreed_run : (script : Script) (mode : Mode) (ages : List AgeEnd) (stop : Option Stop)
     → IsRunInMemory script mode ages stop → AreAgreed ages
 agreed_run script mode ages stop run =
-    agreed_ages script mode 0 empty_yard run.run.last ages run.run.course
+    agreed_ages script 0 mode 0 empty_yard run.run.last ages run.run.course

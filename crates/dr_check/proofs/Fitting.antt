@@ -1,5 +1,5 @@
 -- What is printed of ages whose members agree is told by lines.
-use Rattle.std.proofs.Common.{◌≡◌, refl, sym, ap, ◌∙◌, subst, ℕ, zero, suc, ◌+◌, ◌*◌, ◌^◌, ◌<◌, ◌≤◌, arith, List, [], ◌∷◌, length, take, get_or, All, None, Some, slice_get, append_assoc}
+use Rattle.std.proofs.Common.{◌≡◌, ◌⊎◌, inl, inr, refl, sym, ap, ◌∙◌, subst, ℕ, zero, suc, ◌+◌, ◌*◌, ◌^◌, ◌<◌, ◌≤◌, arith, List, [], ◌∷◌, length, take, get_or, All, None, Some, slice_get, append_assoc}
 use Rattle.std.specs.Prelude.{Contains, Option}
 use Rattle.std.proofs.lemmas.List.{take_all}
 use Rattle.std.proofs.lemmas.List.Elements.{All-contains, All-head, All-tail}
@@ -12,6 +12,7 @@ use Rattle.dr_entry.specs.declared.limits.TheConstants.{MAX_MESSAGE_LENGTH}
 use Rattle.dr_history.specs.declared.opening.Opening.{Opening}
 use Rattle.dr_history.specs.Agreement.{accounts_of, sent_by}
 use Rattle.dr_history.specs.History.{GroupView, messages_of, view_of}
+use Rattle.dr_history.specs.Order.{InOrder}
 use Rattle.dr_history.specs.Restarting.{AllStand, next_age}
 use Rattle.dr_history_laws.proofs.Lengths.{stood-short}
 use Rattle.dr_history_laws.proofs.Stood.{age_below, small_number, some_of, view_below}
@@ -19,8 +20,9 @@ use Rattle.dr_script.specs.declared.script.Script.{Script}
 use Rattle.dr_script.specs.Ranges.{HasGroupRanges}
 use Rattle.dr_words.proofs.Masks.{in_roster_small}
 use Rattle.dr_check.specs.Lines.{EndFits, EntryFits, IsLong}
-use Rattle.dr_check.specs.Values.{HasSmallNumbers, IsAgreed, IsTellable, IsTellableAge, whole_opening}
+use Rattle.dr_check.specs.Values.{HasSmallNumbers, IsAgreed, IsTellable, IsTellableAge, TellsNothing, TellsPart, told_opening}
 use Rattle.dr_check.proofs.Agreed.{durable_within, order, stand}
+use Rattle.dr_check.proofs.Telling.{not_absent}
 use Rattle.dr_check.proofs.LastViews.{first_at, view_age}
 use Rattle.dr_check.proofs.Places.{all_at, all_from_places}
 
@@ -94,47 +96,60 @@ pub agreed_fit : (script : Script) (a : AgeEnd) → HasGroupRanges script → Is
 agreed_fit script a ranges good small = record {
   age = small.age;
   all = good.all;
-  entries = entries_fit script (whole_opening script a) a.start ranges refl good.sound.entries earlier;
-  start = entries_few script (whole_opening script a) a.start ranges refl good.sound.entries earlier;
+  entries = entries_fit script (told_opening script a) a.start ranges refl good.sound.entries earlier;
+  start = entries_few script (told_opening script a) a.start ranges refl good.sound.entries earlier;
   ends = all_from_places (IsTellable a.start) a.members each;
 }
   where
     earlier : (v : GroupView) → view_of a.start ≡ Some v → v.age < 2 ^ 16
     earlier v is = omega (arith, good.sound.later v is, small.age)
 
-    each : (i : ℕ) (e : MemberEnd) → slice_get a.members i ≡ Some e → IsTellable a.start e
-    each i e at = record {
+    ordered : (i : ℕ) (e : MemberEnd) → slice_get a.members i ≡ Some e → EndFits e.end
+        → InOrder (told_opening script a) (sent_by (accounts_of a.members)) e.history
+    ordered i e at fits = order script a ranges.most_members good i e at (not_absent e.end fits)
+
+    stands : (i : ℕ) (e : MemberEnd) → slice_get a.members i ≡ Some e → EndFits e.end
+        → AllStand (told_opening script a) e.history
+    stands i e at fits = stand script a ranges.most_members good i e at (not_absent e.end fits)
+
+    part : (i : ℕ) (e : MemberEnd) → slice_get a.members i ≡ Some e → EndFits e.end → TellsPart a.start e
+    part i e at fits = record {
       begins = (
-        View a.age 0 (whole_opening script a).members ∷ (order script a good i e at).begins.0,
-        sym (append_assoc a.start (View a.age 0 (whole_opening script a).members ∷ [])
-            (order script a good i e at).begins.0)
-            ∙ (order script a good i e at).begins.1,
+        View a.age 0 (told_opening script a).members ∷ (ordered i e at fits).begins.0,
+        sym (append_assoc a.start (View a.age 0 (told_opening script a).members ∷ [])
+            (ordered i e at fits).begins.0)
+            ∙ (ordered i e at fits).begins.1,
       );
-      entries = entries_fit script (whole_opening script a) e.history ranges refl (stand script a good i e at)
-          last;
-      ended = all_at (λ (e : MemberEnd). EndFits e.end) a.members i e small.ends at;
+      entries = entries_fit script (told_opening script a) e.history ranges refl (stands i e at fits) last;
+      ended = fits;
       history = long;
       logged = omega (
         arith,
         all_at (λ (f : MemberEnd). f.logged ≤ length f.history) a.members i e good.agreed.told at,
         long,
       );
-      durable = omega (arith, durable_within script a good i e at, long);
+      durable = omega (arith, durable_within script a ranges.most_members good i e at (not_absent e.end fits), long);
     }
       where
         -- its last view is of the age
         last : (v : GroupView) → view_of e.history ≡ Some v → v.age < 2 ^ 16
         last v is =
             let h = e.history in
-            let within = slice_get_within h (length a.start) (View a.age 0 (whole_opening script a).members)
-            (first_at (whole_opening script a) (sent_by (accounts_of a.members)) h (order script a good i e at)) in
+            let within = slice_get_within h (length a.start) (View a.age 0 (told_opening script a).members)
+            (first_at (told_opening script a) (sent_by (accounts_of a.members)) h (ordered i e at fits)) in
             omega (
               arith,
-              view_age (whole_opening script a) (sent_by (accounts_of a.members)) h (order script a good i e at)
+              view_age (told_opening script a) (sent_by (accounts_of a.members)) h (ordered i e at fits)
                   (length h) within (omega arith) v
                   (ap view_of (take_all (length h) h (omega arith)) ∙ is),
               small.age,
             )
 
         long : IsLong (length e.history)
-        long = entries_few script (whole_opening script a) e.history ranges refl (stand script a good i e at) last
+        long = entries_few script (told_opening script a) e.history ranges refl (stands i e at fits) last
+
+    each : (i : ℕ) (e : MemberEnd) → slice_get a.members i ≡ Some e → IsTellable a.start e
+    each i e at = elim (all_at (λ (e : MemberEnd). EndFits e.end ⊎ TellsNothing e) a.members i e small.ends at) [
+      | inl fits ↦ inl (part i e at fits)
+      | inr nothing ↦ inr nothing
+    ]

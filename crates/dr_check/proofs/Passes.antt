@@ -1,12 +1,11 @@
 -- A report of ages that agree and are kept breaks no clause.
-use Rattle.std.proofs.Common.{◌≡◌, ◌⊎◌, inl, inr, refl, sym, ap, ◌∙◌, subst, ℕ, zero, suc, ◌+◌, ◌-◌, ◌^◌, ◌<◌, ◌≤◌, arith, true, List, [], length, filter, take, All, Contains, None, Some, slice_get}
+use Rattle.std.proofs.Common.{◌≡◌, ◌⊎◌, inl, inr, refl, sym, ap, ◌∙◌, subst, ℕ, zero, suc, ◌+◌, ◌-◌, ◌<◌, ◌≤◌, arith, not, Bool, true, false, List, [], length, filter, take, get_or, All, Contains, None, Some, slice_get}
 use Rattle.std.specs.Prelude.{Option, IfSome, IsSomeAnd}
 use Rattle.std.specs.List.{Any}
 use Rattle.std.specs.Option.{option_map_or}
-use Rattle.std.proofs.lemmas.Bool.{ltb-true}
 use Rattle.std.proofs.lemmas.List.{length-take, take_all}
 use Rattle.std.proofs.lemmas.List.Elements.{All-weaker}
-use Rattle.std.proofs.lemmas.Option.{same_Some, slice_get_within}
+use Rattle.std.proofs.lemmas.Option.{same_Some, slice_get-get_or, slice_get_within}
 use Rattle.dr_entry.specs.declared.end.AgeEnd.{AgeEnd}
 use Rattle.dr_entry.specs.declared.end.MemberEnd.{MemberEnd}
 use Rattle.dr_entry.specs.declared.entry.Entry.{Entry}
@@ -17,11 +16,13 @@ use Rattle.dr_history.specs.Members.{has, members_of}
 use Rattle.dr_history.specs.Order.{IsSucceededBy}
 use Rattle.dr_history.specs.Restarting.{Kept}
 use Rattle.dr_history.specs.Soundness.{IsPresentIn, MayStand}
-use Rattle.dr_history_laws.proofs.Lists.{slice_get-prefix, slice_get-some}
-use Rattle.dr_history_laws.proofs.Stood.{kept_members, named_below, roster_below, some_of}
+use Rattle.dr_history_laws.proofs.Lists.{slice_get-prefix}
+use Rattle.dr_history_laws.proofs.Members.{member-has}
+use Rattle.dr_history_laws.proofs.Stood.{kept_members, named_below, some_of}
 use Rattle.dr_script.specs.declared.script.Script.{Script}
 use Rattle.dr_script.specs.Ranges.{HasGroupRanges}
-use Rattle.dr_words.proofs.Bits.{has_ones}
+use Rattle.dr_text.specs.Report.{is_absent}
+use Rattle.dr_words.specs.Masks.{mask_of}
 use Rattle.dr_text.specs.declared.last.Clause.{Clause}
 use Rattle.dr_text.specs.declared.last.Clause.TheVariants as clauses
 use Rattle.dr_check.specs.declared.report.Report.{Report}
@@ -30,8 +31,8 @@ use Rattle.dr_check.specs.declared.report.ReportMember.{ReportMember}
 use Rattle.dr_check.specs.Clauses.{AgeItself, MemberItself, EntryItself, AreLogged, TakesPart, KeepsBytes, KeepsIndex, KeepsPrefix, KeepsSender, HasDelivered, HasSame, IsDurableView, IsKeptIn, log_of, IsLate, WasNamed, KeepsStart, KeepsView, KeepsDurable, KeepsAge, MayComeNext, MayStart, IsFirstView, FollowsView, logged_by}
 use Rattle.dr_check.specs.Firsts.{AllKeep}
 use Rattle.dr_check.specs.Flaws.{IsRight, own_entries}
-use Rattle.dr_check.specs.Values.{KeepEachOther, HasAge, HasMember, HasValues, IsAgreed, whole_opening}
-use Rattle.dr_check.proofs.Agreed.{history_of, is_here, knows, order, stand}
+use Rattle.dr_check.specs.Values.{KeepEachOther, HasAge, HasMember, HasValues, IsAgreed, told_opening, took_part}
+use Rattle.dr_check.proofs.Agreed.{end_there, history_of, is_here, knows, order, stand}
 use Rattle.dr_check.proofs.Roster.{may_start}
 use Rattle.dr_check.proofs.LastViews.{first_at, last_view_at, view_age}
 use Rattle.dr_check.proofs.Places.{all_at, all_below, all_from_places, any_at, if_some}
@@ -45,10 +46,28 @@ same_at g h i x y (inr p) in_g in_h = same_Some x y (sym in_g ∙ slice_get-pref
 
 -- a message that may stand keeps what is said of messages
 message_keeps : (script : Script) (a : AgeEnd) (before : List Entry) (e : Entry)
-    → MayStand (whole_opening script a) before e
+    → MayStand (told_opening script a) before e
     → KeepsSender before e × KeepsIndex before e × KeepsBytes script e
 message_keeps script a before (View g k m) stands = (tt, tt, tt)
 message_keeps script a before (Msg s k b) stands = stands
+
+-- the members of View 0 of an age
+abbrev mask_told : AgeEnd → ℕ
+mask_told a = mask_of (took_part a.members)
+
+-- what holds of whoever is in a mask holds of its members
+all_members : (mask : ℕ) (P : ℕ → Type 0) → ((s : ℕ) → has mask s ≡ true → P s) → All P (members_of mask)
+all_members mask P each k d within =
+    let s = get_or (members_of mask) k d in
+    each s (member-has mask k s (slice_get-get_or (members_of mask) k d within))
+
+-- a member of a report took part exactly where the end does that it has the values of
+there_was : (e : MemberEnd) (m : ReportMember) → HasMember e m → m.present ≡ true → is_absent e.end ≡ false
+there_was e m same present = by (is_absent e.end) (sym same.present ∙ present)
+  where
+    by : (b : Bool) → not b ≡ true → b ≡ false
+    by false is = refl
+    by true is = absurd (cc is)
 
 -- one age of a report
 module _ (script : Script) (a : AgeEnd) (ra : ReportAge) (ranges : HasGroupRanges script)
@@ -58,11 +77,14 @@ module _ (script : Script) (a : AgeEnd) (ra : ReportAge) (ranges : HasGroupRange
       → (e : MemberEnd) × (slice_get a.members i ≡ Some e) × HasMember e m
   end_of i m at = zip_at HasMember a.members ra.members values.members i m at
 
-  there : (s : ℕ) → s < script.members → TakesPart ra s
-  there s less =
-      let e = slice_get-some a.members s (omega (arith, less, good.all)) in
+  few : script.members ≤ 16
+  few = ranges.most_members
+
+  there : (s : ℕ) → IsPresentIn (told_opening script a) s → TakesPart ra s
+  there s here =
+      let e = end_there script a s here in
       let m = zip_to HasMember a.members ra.members values.members s e.0 e.1 in
-      subst (λ r. IsSomeAnd r (λ (x : ReportMember). x.present ≡ true)) (sym m.1) m.2.present
+      subst (λ r. IsSomeAnd r (λ (x : ReportMember). x.present ≡ true)) (sym m.1) (m.2.present ∙ ap not e.2)
 
   starts : length ra.start ≡ length a.start
   starts = ap length values.start
@@ -73,7 +95,7 @@ module _ (script : Script) (a : AgeEnd) (ra : ReportAge) (ranges : HasGroupRange
   keeps_start = record {
     entries = subst (λ (es : List Entry). AllKeep (λ i e. MayStart script (take i es) e) es)
         (sym values.start)
-        (λ i e at. may_start script (whole_opening script a) a.start refl ranges.lists ranges.most_members
+        (λ i e at. may_start script (told_opening script a) a.start refl ranges.lists ranges.most_members
         good.sound.entries i e at);
     later = λ v is. subst (λ (n : ℕ). v.age < n) (sym values.age)
         (good.sound.later v (sym (ap view_of values.start) ∙ is));
@@ -82,14 +104,14 @@ module _ (script : Script) (a : AgeEnd) (ra : ReportAge) (ranges : HasGroupRange
   -- ---- those on a member
 
   module _ (i : ℕ) (m : ReportMember) (e : MemberEnd) (at : slice_get a.members i ≡ Some e)
-      (same : HasMember e m) where
-    first : slice_get e.history (length a.start) ≡ Some (View a.age 0 (2 ^ script.members - 1))
-    first = first_at (whole_opening script a) (sent_by (accounts_of a.members)) e.history (order script a good i e at)
+      (same : HasMember e m) (took : is_absent e.end ≡ false) where
+    first : slice_get e.history (length a.start) ≡ Some (View a.age 0 (mask_told a))
+    first = first_at (told_opening script a) (sent_by (accounts_of a.members)) e.history
+        (order script a few good i e at took)
 
     has_own : length ra.start < length m.history
     has_own =
-        let within = slice_get_within e.history (length a.start) (View a.age 0 (2 ^ script.members - 1))
-        first in
+        let within = slice_get_within e.history (length a.start) (View a.age 0 (mask_told a)) first in
         omega (arith, within, starts, ap length same.history)
 
     -- ---- those on an entry
@@ -99,17 +121,16 @@ module _ (script : Script) (a : AgeEnd) (ra : ReportAge) (ranges : HasGroupRange
           × KeepsBytes script x
       keeps_messages =
           subst (λ (h : List Entry). KeepsSender (take j h) x × KeepsIndex (take j h) x × KeepsBytes script x)
-          (sym same.history) (message_keeps script a (take j e.history) x (stand script a good i e at j x spot))
+          (sym same.history) (message_keeps script a (take j e.history) x (stand script a few good i e at took j x spot))
 
       is_first : j ≡ length ra.start → IsFirstView ra x
       is_first is =
-          let one : View a.age 0 (2 ^ script.members - 1) ≡ x =
+          let one : View a.age 0 (mask_told a) ≡ x =
           same_Some _ x (sym first ∙ (ap (slice_get e.history) (sym (is ∙ starts)) ∙ spot)) in
           subst (IsFirstView ra) one (
             sym values.age,
             refl,
-            All-weaker (λ s. s < script.members) (TakesPart ra) there (members_of (2 ^ script.members - 1))
-                (roster_below script.members),
+            all_members (mask_told a) (TakesPart ra) there,
           )
 
       goes_on : (y : Entry) → slice_get e.history j ≡ Some y → length ra.start < j
@@ -118,7 +139,7 @@ module _ (script : Script) (a : AgeEnd) (ra : ReportAge) (ranges : HasGroupRange
       goes_on (View g k mask) spot less =
           let behind : length a.start < j = omega (arith, less, starts) in
           let u = some_of (λ v. IsSucceededBy v g k mask) (view_of (take j e.history))
-          ((order script a good i e at).views j g k mask behind spot) in
+          ((order script a few good i e at took).views j g k mask behind spot) in
           let now : view_of (take j m.history) ≡ Some u.0 =
           ap (λ (h : List Entry). view_of (take j h)) same.history ∙ u.1 in
           let named = last_view_at (take j e.history) u.0 u.1 in
@@ -131,7 +152,8 @@ module _ (script : Script) (a : AgeEnd) (ra : ReportAge) (ranges : HasGroupRange
             next_number = u.2.follows.next_number;
             other = λ is. absurd (omega (arith, u.2.follows.fewer, ap length is));
             roster = subst (λ (n : ℕ). All (λ s. s < n) (members_of mask)) ranges.lists
-                (named_below (whole_opening script a) e.history (stand script a good i e at) j g k mask spot);
+                (named_below (told_opening script a) e.history (stand script a few good i e at took) j g k mask
+                spot);
             majority = omega (arith, u.2.majority, ap length kept);
             newcomers = All-weaker (Contains u.0.members)
                 (λ s. Contains u.0.members s ⊎ (IsLate ra m s × (WasNamed ra (take j m.history) s → ⊥)))
@@ -142,16 +164,17 @@ module _ (script : Script) (a : AgeEnd) (ra : ReportAge) (ranges : HasGroupRange
       keeps_view : KeepsView script ra m j x
       keeps_view = record { first = is_first; later = goes_on x spot }
 
-      has_same : (k : ℕ) (other : ReportMember) → slice_get ra.members k ≡ Some other → (y : Entry)
-          → slice_get other.history j ≡ Some y → y ≡ x
-      has_same k other other_at y y_at =
+      has_same : (k : ℕ) (other : ReportMember) → slice_get ra.members k ≡ Some other → other.present ≡ true
+          → (y : Entry) → slice_get other.history j ≡ Some y → y ≡ x
+      has_same k other other_at present y y_at =
           let f = end_of k other other_at in
-          let along = good.agreed.agreed.prefix k i (is_here script a good k f.0 f.1)
-          (is_here script a good i e at) in
+          let along = good.agreed.agreed.prefix k i
+          (is_here script a few good k f.0 f.1 (there_was f.0 other f.2 present))
+          (is_here script a few good i e at took) in
           let one : IsPrefixOf f.0.history e.history ⊎ IsPrefixOf e.history f.0.history =
-          subst (λ (h : List Entry). IsPrefixOf f.0.history h ⊎ IsPrefixOf h f.0.history) (history_of script a good i e at)
+          subst (λ (h : List Entry). IsPrefixOf f.0.history h ⊎ IsPrefixOf h f.0.history) (history_of script a few good i e at)
           (subst (λ (g : List Entry). IsPrefixOf g (accounts_of a.members i).history
-          ⊎ IsPrefixOf (accounts_of a.members i).history g) (history_of script a good k f.0 f.1) along) in
+          ⊎ IsPrefixOf (accounts_of a.members i).history g) (history_of script a few good k f.0 f.1) along) in
           same_at f.0.history e.history j y x one
           (subst (λ (h : List Entry). slice_get h j ≡ Some y) f.2.history y_at) spot
 
@@ -159,7 +182,7 @@ module _ (script : Script) (a : AgeEnd) (ra : ReportAge) (ranges : HasGroupRange
       keeps_prefix n =
           all_below (HasSame j x) ra.members n
           (λ k other other_at present. if_some (slice_get other.history j) (λ y. y ≡ x)
-          (has_same k other other_at))
+          (has_same k other other_at present))
 
     -- ---- what is durable
 
@@ -183,7 +206,7 @@ module _ (script : Script) (a : AgeEnd) (ra : ReportAge) (ranges : HasGroupRange
 
     its_view : (v : GroupView) × (view_of e.history ≡ Some v) × AreLogged ra m v.members
     its_view =
-        let u = knows script a good i e at in (
+        let u = knows script a few good i e at took in (
           u.0,
           u.1,
           All-weaker (λ j. e.durable ≤ length (accounts_of a.members j).log) (λ s. m.durable ≤ logged_by ra s)
@@ -193,8 +216,9 @@ module _ (script : Script) (a : AgeEnd) (ra : ReportAge) (ranges : HasGroupRange
     of_age : its_view.0.age ≡ ra.age
     of_age =
         let h = e.history in
-        let within = slice_get_within h (length a.start) (View a.age 0 (2 ^ script.members - 1)) first in
-        view_age (whole_opening script a) (sent_by (accounts_of a.members)) h (order script a good i e at) (length h) within
+        let within = slice_get_within h (length a.start) (View a.age 0 (mask_told a)) first in
+        view_age (told_opening script a) (sent_by (accounts_of a.members)) h (order script a few good i e at took)
+        (length h) within
         (omega arith) its_view.0 (ap view_of (take_all (length h) h (omega arith)) ∙ its_view.1)
         ∙ sym values.age
 
@@ -217,30 +241,25 @@ module _ (script : Script) (a : AgeEnd) (ra : ReportAge) (ranges : HasGroupRange
 -- an age keeps what the one before it had
 keeps_age : (script : Script) (p a : AgeEnd) (rp ra : ReportAge) → HasGroupRanges script → IsAgreed script p
     → HasAge p rp → HasAge a ra
-    → Kept (whole_opening script p) (accounts_of p.members) (whole_opening script a) → KeepsAge rp ra
+    → Kept (told_opening script p) (accounts_of p.members) (told_opening script a) → KeepsAge rp ra
 keeps_age script p a rp ra ranges good before after kept = record {
   later = omega (arith, kept.later, before.age, after.age);
   delivered = delivered;
   durable = durable;
 }
   where
-    inside : (i : ℕ) → IsPresentIn (whole_opening script p) i → i < length p.members
-    inside i here = omega (
-      arith,
-      good.all,
-      ltb-true i script.members (sym (has_ones script.members i)
-          ∙ here),
-    )
+    few : script.members ≤ 16
+    few = ranges.most_members
 
     delivered : Any (HasDelivered ra) rp.members
     delivered =
         let i = kept.delivered.0 in
-        let e = slice_get-some p.members i (inside i kept.delivered.1) in
+        let e = end_there script p i kept.delivered.1 in
         let m = zip_to HasMember p.members rp.members before.members i e.0 e.1 in
         any_at (HasDelivered ra) rp.members i m.0 m.1 (
-          m.2.present,
+          m.2.present ∙ ap not e.2,
           subst (λ (h : List Entry). IsPrefixOf ra.start h)
-              (history_of script p good i e.0 e.1 ∙ sym m.2.history)
+              (history_of script p few good i e.0 e.1 ∙ sym m.2.history)
               (subst (λ (es : List Entry). IsPrefixOf es (accounts_of p.members i).history) (sym after.start)
               kept.delivered.2),
         )
@@ -251,11 +270,11 @@ keeps_age script p a rp ra ranges good before after kept = record {
         let known : (accounts_of p.members i).durable ≡ m.durable =
         ap (λ z. option_map_or (λ (e : MemberEnd). e.durable) z 0) e.1 ∙ sym e.2.durable in
         let history : (accounts_of p.members i).history ≡ m.history =
-        history_of script p good i e.0 e.1 ∙ sym e.2.history in
+        history_of script p few good i e.0 e.1 ∙ sym e.2.history in
         subst (λ (es : List Entry). IsPrefixOf (take m.durable m.history) es) (sym after.start)
         (subst (λ (h : List Entry). IsPrefixOf (take m.durable h) a.start) history
         (subst (λ (n : ℕ). IsPrefixOf (take n (accounts_of p.members i).history) a.start) known
-        (kept.durable i (is_here script p good i e.0 e.1))))
+        (kept.durable i (is_here script p few good i e.0 e.1 (there_was e.0 m e.2 present)))))
 
     durable : All (IsKeptIn ra) rp.members
     durable = all_from_places (IsKeptIn ra) rp.members kept_in
@@ -266,8 +285,8 @@ pub passes : (script : Script) (ages : List AgeEnd) (r : Report) → HasGroupRan
 passes script ages r ranges values good kept c i ra at = (
   itself c i at,
   λ n m spot present. let e = end_of script a.0 ra ranges fine a.2 n m spot in (
-    member c n m e.0 e.1 e.2,
-    λ k x own. entry c n m e.0 e.1 e.2 k x own,
+    member c n m e.0 e.1 e.2 (there_was e.0 m e.2 present),
+    λ k x own. entry c n m e.0 e.1 e.2 (there_was e.0 m e.2 present) k x own,
   ),
 )
   where
@@ -301,20 +320,21 @@ passes script ages r ranges values good kept c i ra at = (
     itself clauses.Kept (suc j) here = after j here
 
     member : (c : Clause) (n : ℕ) (m : ReportMember) (e : MemberEnd) → slice_get a.0.members n ≡ Some e
-        → HasMember e m → MemberItself c ra m
-    member clauses.Start n m e at same = tt
-    member clauses.View n m e at same = has_own script a.0 ra ranges fine a.2 n m e at same
-    member clauses.Sender n m e at same = tt
-    member clauses.Index n m e at same = tt
-    member clauses.Bytes n m e at same = tt
-    member clauses.Prefix n m e at same = tt
-    member clauses.Durable n m e at same = keeps_durable script a.0 ra ranges fine a.2 n m e at same
-    member clauses.Kept n m e at same = tt
+        → HasMember e m → is_absent e.end ≡ false → MemberItself c ra m
+    member clauses.Start n m e at same took = tt
+    member clauses.View n m e at same took = has_own script a.0 ra ranges fine a.2 n m e at same took
+    member clauses.Sender n m e at same took = tt
+    member clauses.Index n m e at same took = tt
+    member clauses.Bytes n m e at same took = tt
+    member clauses.Prefix n m e at same took = tt
+    member clauses.Durable n m e at same took = keeps_durable script a.0 ra ranges fine a.2 n m e at same took
+    member clauses.Kept n m e at same took = tt
 
     entry : (c : Clause) (n : ℕ) (m : ReportMember) (e : MemberEnd) → slice_get a.0.members n ≡ Some e
-        → HasMember e m → (k : ℕ) (x : Entry) → slice_get (own_entries ra m) k ≡ Some x
+        → HasMember e m → is_absent e.end ≡ false → (k : ℕ) (x : Entry)
+        → slice_get (own_entries ra m) k ≡ Some x
         → EntryItself c script ra n m (length ra.start + k) x
-    entry c n m e at same k x own = by c
+    entry c n m e at same took k x own = by c
       where
         j : ℕ
         j = length ra.start + k
@@ -325,10 +345,10 @@ passes script ages r ranges values good kept c i ra at = (
 
         by : (c : Clause) → EntryItself c script ra n m j x
         by clauses.Start = tt
-        by clauses.View = keeps_view script a.0 ra ranges fine a.2 n m e at same j x spot
-        by clauses.Sender = (keeps_messages script a.0 ra ranges fine a.2 n m e at same j x spot).0
-        by clauses.Index = (keeps_messages script a.0 ra ranges fine a.2 n m e at same j x spot).1
-        by clauses.Bytes = (keeps_messages script a.0 ra ranges fine a.2 n m e at same j x spot).2
-        by clauses.Prefix = keeps_prefix script a.0 ra ranges fine a.2 n m e at same j x spot n
+        by clauses.View = keeps_view script a.0 ra ranges fine a.2 n m e at same took j x spot
+        by clauses.Sender = (keeps_messages script a.0 ra ranges fine a.2 n m e at same took j x spot).0
+        by clauses.Index = (keeps_messages script a.0 ra ranges fine a.2 n m e at same took j x spot).1
+        by clauses.Bytes = (keeps_messages script a.0 ra ranges fine a.2 n m e at same took j x spot).2
+        by clauses.Prefix = keeps_prefix script a.0 ra ranges fine a.2 n m e at same took j x spot n
         by clauses.Durable = tt
         by clauses.Kept = tt

@@ -1,5 +1,5 @@
 -- What is printed of ages is a report with their values.
-use Rattle.std.proofs.Common.{◌≡◌, refl, sym, ap, ◌∙◌, subst, ℕ, zero, suc, ◌+◌, ◌<◌, ◌≤◌, ◌^◌, ◌==◌, inl, arith, All, Bool, true, false, List, [], ◌∷◌, ◌++◌, codes, length, map, drop, None, Some, append_assoc, append-nil}
+use Rattle.std.proofs.Common.{◌≡◌, refl, sym, ap, ◌∙◌, subst, ℕ, zero, suc, ◌+◌, ◌<◌, ◌≤◌, ◌^◌, ◌==◌, ◌⊎◌, inl, inr, arith, All, Bool, not, true, false, if◌then◌else◌, List, [], ◌∷◌, ◌++◌, codes, length, map, drop, None, Some, append_assoc, append-nil}
 use Rattle.std.specs.Fmt.{decimal}
 use Rattle.std.specs.List.{AllZip, concat, enumerate_from, flat_map}
 use Rattle.std.proofs.lemmas.Bool.{eqb-true, false≢true}
@@ -20,10 +20,11 @@ use Rattle.dr_check.specs.declared.report.Report.{Report}
 use Rattle.dr_check.specs.declared.report.ReportAge.{ReportAge}
 use Rattle.dr_check.specs.declared.report.ReportMember.{ReportMember}
 use Rattle.dr_check.specs.Fields.{is_end}
-use Rattle.dr_check.specs.Grammar.{AgesFrom, HasStart, IsReport, IsWholeAge, MembersFrom, age_lines, members_lines, report_lines}
-use Rattle.dr_check.specs.Lines.{EndFits, EntryFits, IsLineText, LastFits, age_start_text, lines_of, present_text}
-use Rattle.dr_check.specs.Values.{HasAge, HasMember, HasValues, IsTellable, IsTellableAge}
+use Rattle.dr_check.specs.Grammar.{AgesFrom, HasStart, IsReport, IsWholeAge, MembersFrom, age_lines, member_head, members_lines, report_lines}
+use Rattle.dr_check.specs.Lines.{EndFits, EntryFits, IsLineText, LastFits, absent_text, age_start_text, lines_of, present_text}
+use Rattle.dr_check.specs.Values.{HasAge, HasMember, HasValues, IsTellable, IsTellableAge, TellsNothing, TellsPart}
 use Rattle.dr_check.proofs.Feeds.{AreFed, IsFed, free_both, is_free, lines_fed, lines_none}
+use Rattle.dr_check.proofs.Printed.{absent_fed}
 use Rattle.dr_check.proofs.Splitting.{IsPlain, plain_decimal, plain_mask, plain_message}
 
 -- ---- no line feed within a line
@@ -234,19 +235,67 @@ fit_behind (suc n) (e ∷ es) fit = fit_behind n es (All-tail EntryFits e es fit
 
 -- ---- members
 
+-- whoever took part is not absent
+pub not_absent : (e : End) → EndFits e → is_absent e ≡ false
+not_absent Done fits = refl
+not_absent Crashed fits = refl
+not_absent (Suspected by) fits = refl
+not_absent (Excluded view) fits = refl
+not_absent (NoMajority mask) fits = refl
+not_absent DiskFault fits = refl
+not_absent (LogFull len) fits = refl
+not_absent (Spent turns) fits = refl
+not_absent Absent fits = absurd fits
+
+abbrev told_member : ℕ → MemberEnd → ReportMember
+told_member line e = record {
+  line = line;
+  present = not (is_absent e.end);
+  history = e.history;
+  logged = e.logged;
+  durable = e.durable;
+}
+
 abbrev told_members : ℕ → ℕ → List MemberEnd → List ReportMember
 told_members start line [] = []
 told_members start line (e ∷ es) =
-    record { line = line; present = true; history = e.history; logged = e.logged; durable = e.durable }
-    ∷ told_members start (line + (1 + length (drop start e.history))) es
+    told_member line e ∷ told_members start (line + (1 + length (drop start e.history))) es
+
+abbrev head_of : ℕ → MemberEnd → List ℕ
+head_of i e =
+    if is_absent e.end then absent_text i else present_text i e.end (length e.history) e.logged e.durable
 
 abbrev member_texts : ℕ → ℕ → MemberEnd → List (List ℕ)
-member_texts start i e =
-    present_text i e.end (length e.history) e.logged e.durable ∷ map entry_text (drop start e.history)
+member_texts start i e = head_of i e ∷ map entry_text (drop start e.history)
 
 abbrev members_texts : ℕ → ℕ → List MemberEnd → List (List ℕ)
 members_texts start i [] = []
 members_texts start i (e ∷ es) = member_texts start i e ++ members_texts start (i + 1) es
+
+-- the line of a member
+line_printed : (start : List Entry) (i line : ℕ) (e : MemberEnd) → i < 16 → IsTellable start e
+    → IsLineText (member_head i (told_member line e)) (head_of i e) × IsFed (head_of i e)
+line_printed start i line e small (inl part) =
+    subst (λ (t : Bool). IsLineText
+    (if not t then lines.Present i (length e.history) e.logged e.durable else lines.Absent i)
+    (if t then absent_text i else present_text i e.end (length e.history) e.logged e.durable)
+    × IsFed (if t then absent_text i else present_text i e.end (length e.history) e.logged e.durable))
+    (sym (not_absent e.end part.ended)) (
+      (small, part.history, part.logged, part.durable, (e.end, part.ended, refl)),
+      present_fed i e.end (length e.history) e.logged e.durable small part.ended part.history part.logged
+          part.durable,
+    )
+line_printed start i line e small (inr nothing) =
+    subst (λ (t : Bool). IsLineText
+    (if not t then lines.Present i (length e.history) e.logged e.durable else lines.Absent i)
+    (if t then absent_text i else present_text i e.end (length e.history) e.logged e.durable)
+    × IsFed (if t then absent_text i else present_text i e.end (length e.history) e.logged e.durable))
+    (sym (ap is_absent nothing.absent)) ((small, refl), absent_fed i small)
+
+-- the entries of a history are such as lines tell
+entries_of : (start : List Entry) (e : MemberEnd) → IsTellable start e → All EntryFits e.history
+entries_of start e (inl part) = part.entries
+entries_of start e (inr nothing) = subst (All EntryFits) (sym nothing.history) (All-nil EntryFits)
 
 members_printed : (start : List Entry) (i line : ℕ) (es : List MemberEnd) → i + length es ≤ 16
     → All (IsTellable start) es
@@ -258,36 +307,30 @@ members_printed start i line (e ∷ es) few fit =
     let own = drop (length start) e.history in
     let next = line + (1 + length own) in
     let small : i < 16 = omega (arith, few) in
+    let its = line_printed start i line e small head in
     both_printed
-    (lines.Present i (length e.history) e.logged e.durable ∷ map (λ e. lines.Entry e) own)
+    (member_head i (told_member line e) ∷ map (λ e. lines.Entry e) own)
     (members_lines (length start) (i + 1) (told_members (length start) next es))
     (member_texts (length start) i e) (members_texts (length start) (i + 1) es)
-    (one_printed (lines.Present i (length e.history) e.logged e.durable) (map (λ e. lines.Entry e) own)
-    (present_text i e.end (length e.history) e.logged e.durable) (map entry_text own)
-    (small, head.history, head.logged, head.durable, (e.end, head.ended, refl))
-    (present_fed i e.end (length e.history) e.logged e.durable small head.ended head.history head.logged
-    head.durable)
-    (entries_printed own (fit_behind (length start) e.history head.entries)))
+    (one_printed (member_head i (told_member line e)) (map (λ e. lines.Entry e) own)
+    (head_of i e) (map entry_text own) its.0 its.1
+    (entries_printed own (fit_behind (length start) e.history (entries_of start e head))))
     (members_printed start (i + 1) next es (omega (arith, few)) (All-tail (IsTellable start) e es fit))
 
-took_part : (e : End) → EndFits e → is_absent e ≡ false
-took_part Done fits = refl
-took_part Crashed fits = refl
-took_part (Suspected by) fits = refl
-took_part (Excluded view) fits = refl
-took_part (NoMajority mask) fits = refl
-took_part DiskFault fits = refl
-took_part (LogFull len) fits = refl
-took_part (Spent turns) fits = refl
-took_part Absent fits = absurd fits
+-- the parts of an absent member's line, joined in another order
+absent_told : (i : ℕ) → absent_text i
+    ≡ concat (codes "member " ∷ decimal i ∷ codes " " ∷ codes "absent" ∷ []) ++ codes "\n"
+absent_told i =
+    ap (λ z. codes "member " ++ z) (sym (append_assoc (decimal i) (codes " absent") (codes "\n")))
+    ∙ sym (append_assoc (codes "member ") (decimal i ++ codes " absent") (codes "\n"))
 
-line_told : (i : ℕ) (e : MemberEnd) → EndFits e.end
-    → present_text i e.end (length e.history) e.logged e.durable ≡ member_line i e
-line_told i e fits =
-    rw (took_part e.end fits) (concat-append
+line_told : (start : List Entry) (i : ℕ) (e : MemberEnd) → IsTellable start e → head_of i e ≡ member_line i e
+line_told start i e (inl part) =
+    rw (not_absent e.end part.ended) (concat-append
     (codes "member " ∷ decimal i ∷ codes " " ∷ end_text e.end ∷ [])
     (codes " history " ∷ decimal (length e.history)
     ∷ codes " logged " ∷ decimal e.logged ∷ codes " durable " ∷ decimal e.durable ∷ codes "\n" ∷ []))
+line_told start i e (inr nothing) = rw nothing.absent (absent_told i)
 
 members_told_text : (start : List Entry) (n i : ℕ) (es : List MemberEnd) → All (IsTellable start) es
     → concat (members_texts n i es) ≡ flat_map (λ t. member_text n t.0 t.1) (enumerate_from i es)
@@ -295,10 +338,9 @@ members_told_text start n i [] fit = refl
 members_told_text start n i (e ∷ es) fit =
     let rest = concat (members_texts n (i + 1) es) in
     concat-append (member_texts n i e) (members_texts n (i + 1) es)
-    ∙ (ap (λ z. (present_text i e.end (length e.history) e.logged e.durable ++ z)
-    ++ rest) (entries_text (drop n e.history))
+    ∙ (ap (λ z. (head_of i e ++ z) ++ rest) (entries_text (drop n e.history))
     ∙ (ap (λ z. (z ++ flat_map entry_text (drop n e.history)) ++ rest)
-    (line_told i e (All-head (IsTellable start) e es fit).ended)
+    (line_told start i e (All-head (IsTellable start) e es fit))
     ∙ ap (λ z. member_text n i e ++ z)
     (members_told_text start n (i + 1) es (All-tail (IsTellable start) e es fit))))
 
@@ -311,14 +353,20 @@ members_many start line [] = refl
 members_many start line (e ∷ es) =
     let rest = members_many start (line + (1 + length (drop start e.history))) es in omega (arith, rest)
 
+-- a member that is told has the start, or nothing where it was absent
+member_whole : (start : List Entry) (line : ℕ) (e : MemberEnd) → IsTellable start e
+    → HasStart start (told_member line e)
+member_whole start line e (inl part) = inl (ap not (not_absent e.end part.ended), part.begins)
+member_whole start line e (inr nothing) =
+    inr (ap (λ end. not (is_absent end)) nothing.absent, nothing.history, nothing.logged, nothing.durable)
+
 members_whole : (start : List Entry) (line : ℕ) (es : List MemberEnd) → All (IsTellable start) es
     → All (HasStart start) (told_members (length start) line es)
 members_whole start line [] fit = All-nil (HasStart start)
 members_whole start line (e ∷ es) fit =
     let next = line + (1 + length (drop (length start) e.history)) in
-    All-cons (HasStart start)
-    (record { line = line; present = true; history = e.history; logged = e.logged; durable = e.durable })
-    (told_members (length start) next es) (inl (refl, (All-head (IsTellable start) e es fit).begins))
+    All-cons (HasStart start) (told_member line e) (told_members (length start) next es)
+    (member_whole start line e (All-head (IsTellable start) e es fit))
     (members_whole start next es (All-tail (IsTellable start) e es fit))
 
 members_values : (start line : ℕ) (es : List MemberEnd) → AllZip HasMember es (told_members start line es)

@@ -11,7 +11,7 @@ use Rattle.dr_outcome.specs.declared.outcome.Body.TheVariants as bodies
 use Rattle.dr_outcome.specs.declared.outcome.Body.{Body}
 use Rattle.dr_outcome.specs.declared.outcome.Outcome.{Outcome}
 use Rattle.dr_outcome.specs.Outcome.{HasPlayed, HasRun, OfScript, Plays, SaysOnly, body_text, outcome_text}
-use Rattle.dr_outcome.specs.Playing.{Playing}
+use Rattle.dr_outcome.specs.Playing.{InFolder, Playing}
 use Rattle.dr_script.specs.declared.script.Script.{Script}
 use Rattle.dr_script.specs.Json.{json_of}
 use Rattle.dr_script.specs.Reading.{NotJson, Reading, Reads, TooLong, Wrong, reading_of}
@@ -64,12 +64,13 @@ played_right play script before after o last played report is end tell =
     subst (λ text. IsVerdict script (text ++ last_text last) lasts.Right)
     (ap (λ (b : Body). body_text b o.ages) (sym report)) (by play.folder played.run tell)
   where
-    by : (folder : Option (List ℕ)) → HasRun play.mode folder script before after o.ages o.stop
+    by : (folder : Option InFolder) → HasRun play.mode folder script before after o.ages o.stop
         → DisksTell folder script.members before → IsVerdict script (report_text o.ages last) lasts.Right
-    by (Some name) run tell =
-        run_right script play.mode before after o.ages o.stop last played.ranges tell run (sym played.line ∙ is) end
+    by (Some folder) run tell =
+        run_right script folder.missing play.mode before after o.ages o.stop last played.ranges tell run
+        (sym played.line ∙ is) end
     by None run tell =
-        run_right script play.mode empty_yard run.1.after o.ages o.stop last played.ranges (λ m below. refl)
+        run_right script 0 play.mode empty_yard run.1.after o.ages o.stop last played.ranges (λ m below. refl)
         run.1.run (sym played.line ∙ is) end
 
 -- one that is refused has another status

@@ -1,43 +1,51 @@
 -- The report of a run whose last line has status 0, 8 or 9 is right.
-use Rattle.std.proofs.Common.{◌≡◌, ◌≢◌, ◌⊎◌, refl, sym, ap, ◌∙◌, subst, inl, inr, ℕ, zero, suc, ◌+◌, ◌^◌, ◌<◌, ◌≤◌, true, false, true≢false, pow_mono, arith, List, [], ◌∷◌, All, Contains, Option, None, Some, is_some, length, slice_get}
+use Rattle.std.proofs.Common.{◌≡◌, ◌≢◌, ◌⊎◌, ◌↔◌, refl, sym, ap, ◌∙◌, subst, inl, inr, ℕ, zero, suc, ◌+◌, ◌-◌, ◌^◌, ◌<◌, ◌≤◌, ◌&&◌, nat_lt, Bool, not, true, false, true≢false, pow_mono, arith, List, [], ◌∷◌, All, Contains, Option, None, Some, is_some, length, slice_get}
+use Rattle.std.specs.Option.{option_map_or}
 use Rattle.std.specs.List.{list_any}
 use Rattle.std.proofs.lemmas.Bool.{cases_Bool, or_parts}
+use Rattle.std.proofs.lemmas.Bool.Decides.{nat_tests}
 use Rattle.std.proofs.lemmas.List.Elements.{All-cons, All-nil}
 use Rattle.std.proofs.lemmas.List.Folds.{list_any_at}
-use Rattle.std.proofs.lemmas.Option.{get_or_from_slice_get, slice_get_within}
-use Rattle.dr_ages.specs.Ages.{AreAges, IsAgeOf, start_of}
+use Rattle.std.proofs.lemmas.Option.{get_or_from_slice_get, same_Some, slice_get_cases, slice_get_within}
+use Rattle.dr_ages.specs.Ages.{AreAges, IsAgeOf, opening_of, start_of, taking_part}
 use Rattle.dr_ages.specs.Runs.{AreKept, IsRunOf}
 use Rattle.dr_ages.specs.declared.mode.Mode.{Mode}
 use Rattle.dr_ages.specs.declared.stop.Stop.{Stop}
-use Rattle.dr_check.proofs.Agreed.{order}
+use Rattle.dr_check.proofs.Agreed.{end_there, is_here, order}
 use Rattle.dr_check.proofs.Flawless.{printed_right}
 use Rattle.dr_check.proofs.Places.{all_at, all_from_places}
 use Rattle.dr_check.specs.Lines.{EndFits, LastFits}
-use Rattle.dr_check.specs.Values.{HasSmallNumbers, IsAgreed, KeepEachOther, whole_opening}
+use Rattle.dr_check.specs.Values.{HasSmallNumbers, IsAgreed, KeepEachOther, TellsNothing, told_opening, took_part}
 use Rattle.dr_entry.specs.declared.end.AgeEnd.{AgeEnd}
 use Rattle.dr_entry.specs.declared.end.End.{End}
 use Rattle.dr_entry.specs.declared.end.End.TheVariants as ends
 use Rattle.dr_entry.specs.declared.end.MemberEnd.{MemberEnd}
-use Rattle.dr_gather.proofs.Grouping.{start_group}
 use Rattle.dr_history.specs.declared.opening.Opening.{Opening}
-use Rattle.dr_history.specs.Agreement.{accounts_of, sent_by}
+use Rattle.dr_history.specs.Agreement.{EndsAgreed, accounts_of, sent_by}
 use Rattle.dr_history.specs.History.{GroupView}
 use Rattle.dr_history.specs.Members.{has, members_of}
+use Rattle.dr_history.specs.Restarting.{Kept}
+use Rattle.dr_history.specs.Soundness.{IsPresentIn, Sound}
 use Rattle.dr_history_laws.proofs.Standing.{last-few}
 use Rattle.dr_intake.specs.Status.{status_of}
+use Rattle.dr_machine.specs.Group.{IsGroup}
+use Rattle.dr_opening.proofs.Choosing.{chosen_group}
 use Rattle.dr_outcome.proofs.Due.{line_behind}
 use Rattle.dr_outcome.proofs.Lasts.{refusal_status, told_so}
 use Rattle.dr_outcome.specs.declared.last.Kind.TheVariants.{DiskFault, LogFull, NoMajority, Spent}
 use Rattle.dr_outcome.specs.Last.{first_end, first_told, is_of, last_by, last_of, refusal_of, some_end, stopped_by}
+use Rattle.dr_program.specs.Program.{absent_end}
 use Rattle.dr_program_laws.specs.Ended.{HasEnded, HasReason, IsLeftOut, is_log_end}
+use Rattle.dr_restart.specs.Groups.{group_of}
 use Rattle.dr_restart.specs.Setups.{crashes_of}
 use Rattle.dr_script.specs.declared.script.Script.{Script}
 use Rattle.dr_script.specs.Ranges.{HasRanges}
 use Rattle.dr_text.specs.declared.last.Last.{Last}
 use Rattle.dr_text.specs.declared.last.Last.TheVariants as lasts
-use Rattle.dr_text.specs.Report.{report_text}
-use Rattle.dr_words.proofs.Bits.{has_zero}
-use Rattle.dr_words.proofs.Masks.{in_roster_small}
+use Rattle.dr_text.specs.Report.{is_absent, report_text}
+use Rattle.dr_words.proofs.Bits.{has_ones, has_zero}
+use Rattle.dr_words.proofs.Masks.{has_mask_of, in_roster_small, same_masks}
+use Rattle.dr_words.specs.Masks.{mask_of}
 use Rattle.dr_yard.specs.Yards.{AllTell, YardState}
 use Rattle.dr_checked.specs.Checked.{IsVerdict}
 
@@ -139,10 +147,10 @@ log_fits ends.Absent by_log other = absurd (true≢false (sym by_log))
 
 -- any but that of a full log
 end_fits : (script : Script) (a : AgeEnd) (nth m : ℕ) (e : MemberEnd) → HasRanges script → IsAgreed script a
-    → slice_get a.members m ≡ Some e
-    → HasEnded (whole_opening script a) a.members script.turns m (crashes_of script.faults nth m) e
+    → slice_get a.members m ≡ Some e → is_absent e.end ≡ false
+    → HasEnded (told_opening script a) a.members script.turns m (crashes_of script.faults nth m) e
     → is_of LogFull e.end ≡ false → EndFits e.end
-end_fits script a nth m e ranges good here ended other = by ended.reason
+end_fits script a nth m e ranges good here took ended other = by ended.reason
   where
     few : length script.messages ≤ 16
     few = omega (arith, ranges.group.most_members, ranges.group.lists)
@@ -150,11 +158,11 @@ end_fits script a nth m e ranges good here ended other = by ended.reason
     low : ended.number ≤ 16
     low =
         let view : GroupView = record { age = a.age; number = ended.number; members = members_of ended.members } in
-        let last = last-few (whole_opening script a) (sent_by (accounts_of a.members)) e.history view good.sound
-        (order script a good m e here) ended.view in
+        let last = last-few (told_opening script a) (sent_by (accounts_of a.members)) e.history view good.sound
+        (order script a ranges.group.most_members good m e here took) ended.view in
         omega (arith, last)
 
-    by : HasReason (whole_opening script a) a.members ended.number ended.members script.turns m
+    by : HasReason (told_opening script a) a.members ended.number ended.members script.turns m
         (crashes_of script.faults nth m) e → EndFits e.end
     by (inl done) = subst EndFits (sym done.whole.end) tt
     by (inr (inl spent)) =
@@ -163,62 +171,173 @@ end_fits script a nth m e ranges good here ended other = by ended.reason
     by (inr (inr (inl crashed))) = subst EndFits (sym crashed.end) tt
     by (inr (inr (inr (inl by_log)))) = log_fits e.end by_log.end other
     by (inr (inr (inr (inr left)))) =
-        left_fits (whole_opening script a) a.members ended.number ended.members m e.end few low ended.roster
+        left_fits (told_opening script a) a.members ended.number ended.members m e.end few low ended.roster
         left.end
+
+-- ---- who took part
+
+is_end : (end : End) → is_absent end ≡ true → end ≡ ends.Absent
+is_end ends.Absent is = refl
+is_end ends.Done is = absurd (true≢false (sym is))
+is_end ends.Crashed is = absurd (true≢false (sym is))
+is_end ends.DiskFault is = absurd (true≢false (sym is))
+is_end (ends.Suspected by) is = absurd (true≢false (sym is))
+is_end (ends.Excluded view) is = absurd (true≢false (sym is))
+is_end (ends.NoMajority mask) is = absurd (true≢false (sym is))
+is_end (ends.LogFull len) is = absurd (true≢false (sym is))
+is_end (ends.Spent turns) is = absurd (true≢false (sym is))
+
+-- who is absent exactly where something else is so
+as_absent : (end : End) (b : Bool) → (end ≡ ends.Absent) ↔ (b ≡ true) → is_absent end ≡ b
+as_absent end true same = ap is_absent (same.1 refl)
+as_absent end false same = elim (cases_Bool (is_absent end)) [
+  | inl away ↦ absurd (true≢false (sym (same.0 (is_end end away))))
+  | inr there ↦ there
+]
+
+-- the members that took part, by the ends of an age, are those that are not missing
+took : (members missing i : ℕ) (es : List MemberEnd) → length es ≡ members
+    → ((m : ℕ) (e : MemberEnd) → slice_get es m ≡ Some e → (e.end ≡ ends.Absent) ↔ (has missing m ≡ true))
+    → took_part es i ≡ (has (2 ^ members - 1) i && not (has missing i))
+took members missing i es all away = by (slice_get es i) refl
+  where
+    by : (z : Option MemberEnd) → slice_get es i ≡ z
+        → took_part es i ≡ (has (2 ^ members - 1) i && not (has missing i))
+    by None none =
+        let past : nat_lt i members ≡ false = elim (slice_get_cases es i).1 [
+          | inl found ↦ absurd (cc (found.2, none))
+          | inr behind ↦ grind (arith, nat_tests, behind.0, all)
+        ] in
+        ap (λ z. option_map_or (λ (e : MemberEnd). not (is_absent e.end)) z false) none
+        ∙ sym (ap (λ b. b && not (has missing i)) (has_ones members i ∙ past))
+    by (Some e) some =
+        let below : nat_lt i members ≡ true = grind (arith, nat_tests, slice_get_within es i e some, all) in
+        ap (λ z. option_map_or (λ (e : MemberEnd). not (is_absent e.end)) z false) some
+        ∙ ap not (as_absent e.end (has missing i) (away i e some))
+        ∙ sym (ap (λ b. b && not (has missing i)) (has_ones members i ∙ below))
+
+-- so an age opened as its ends tell
+opened_as_told : (script : Script) (missing : ℕ) (mode : Mode) (nth : ℕ) (before after : YardState) (age : AgeEnd)
+    → IsAgeOf script missing mode nth before after age → told_opening script age ≡ opening_of script missing age
+opened_as_told script missing mode nth before after age is =
+    ap (λ mask. record (told_opening script age) { members = mask; present = mask }) same
+  where
+    same : mask_of (took_part age.members) ≡ taking_part script missing
+    same = same_masks (mask_of (took_part age.members)) (taking_part script missing)
+        (λ i. has_mask_of (took_part age.members) i
+        ∙ ap (λ b. nat_lt i 16 && b) (took script.members missing i age.members is.roster is.absent)
+        ∙ sym (has_mask_of (λ k. has (2 ^ script.members - 1) k && not (has missing k)) i))
 
 -- ---- the ages of a run
 
 -- what holds of each age of a run holds of all
-all_ages : (P : AgeEnd → Type 0) (script : Script) (mode : Mode)
-    → ((nth : ℕ) (before after : YardState) (age : AgeEnd) → IsAgeOf script mode nth before after age → P age)
-    → (nth : ℕ) (before after : YardState) (ages : List AgeEnd) → AreAges script mode nth before ages after
+all_ages : (P : AgeEnd → Type 0) (script : Script) (missing : ℕ) (mode : Mode)
+    → ((nth : ℕ) (before after : YardState) (age : AgeEnd) → IsAgeOf script missing mode nth before after age
+    → P age)
+    → (nth : ℕ) (before after : YardState) (ages : List AgeEnd)
+    → AreAges script missing mode nth before ages after
     → All P ages
-all_ages P script mode each nth before after [] are = All-nil P
-all_ages P script mode each nth before after (age ∷ ages) (between, is, rest) =
+all_ages P script missing mode each nth before after [] are = All-nil P
+all_ages P script missing mode each nth before after (age ∷ ages) (between, is, rest) =
     All-cons P age ages (each nth before between age is)
-    (all_ages P script mode each (nth + 1) between after ages rest)
+    (all_ages P script missing mode each (nth + 1) between after ages rest)
 
-agreed_age : (script : Script) (mode : Mode) (nth : ℕ) (before after : YardState) (age : AgeEnd)
-    → HasRanges script → IsAgeOf script mode nth before after age → IsAgreed script age
-agreed_age script mode nth before after age ranges is = record {
+its_group : (script : Script) (missing : ℕ) (mode : Mode) (nth : ℕ) (before after : YardState) (age : AgeEnd)
+    → HasRanges script → IsAgeOf script missing mode nth before after age
+    → IsGroup (group_of script (start_of script missing age))
+its_group script missing mode nth before after age ranges is =
+    chosen_group script is.contents (start_of script missing age) ranges.group is.starts
+
+agreed_age : (script : Script) (missing : ℕ) (mode : Mode) (nth : ℕ) (before after : YardState) (age : AgeEnd)
+    → HasRanges script → IsAgeOf script missing mode nth before after age → IsAgreed script age
+agreed_age script missing mode nth before after age ranges is = record {
   all = is.roster;
-  sound = (start_group script is.lists (start_of script age) ranges.group is.small is.starts).sound;
-  agreed = is.agreed;
+  sound = subst Sound (sym same) (its_group script missing mode nth before after age ranges is).sound;
+  agreed = subst (λ o. EndsAgreed o age.members) (sym same) is.agreed;
 }
+  where
+    same : told_opening script age ≡ opening_of script missing age
+    same = opened_as_told script missing mode nth before after age is
 
 -- an age, and that its numbers are small where no log was full
 abbrev IsSmallUnlessFull : AgeEnd → Type 0
 IsSmallUnlessFull age = ((m : ℕ) (e : MemberEnd) → slice_get age.members m ≡ Some e → is_of LogFull e.end ≡ false)
     → HasSmallNumbers age
 
-small_age : (script : Script) (mode : Mode) (nth : ℕ) (before after : YardState) (age : AgeEnd)
-    → HasRanges script → IsAgeOf script mode nth before after age → IsSmallUnlessFull age
-small_age script mode nth before after age ranges is room = record {
-  age = is.small;
-  ends = all_from_places (λ (e : MemberEnd). EndFits e.end) age.members
-      (λ m e at. end_fits script age nth m e ranges
-      (agreed_age script mode nth before after age ranges is) at (is.ended m e at) (room m e at));
+-- what tells nothing
+nothing_told : (e : MemberEnd) → e ≡ absent_end → TellsNothing e
+nothing_told e is = record {
+  absent = ap (λ (x : MemberEnd). x.end) is;
+  history = ap (λ (x : MemberEnd). x.history) is;
+  logged = ap (λ (x : MemberEnd). x.logged) is;
+  durable = ap (λ (x : MemberEnd). x.durable) is;
 }
 
-keep_each_other : (script : Script) (ages : List AgeEnd) → AreKept script ages → KeepEachOther script ages
-keep_each_other script ages kept i a next at after =
-    let same : suc i ≡ i + 1 = omega arith in
-    kept.next i a next at (ap (slice_get ages) (sym same) ∙ after)
+small_age : (script : Script) (missing : ℕ) (mode : Mode) (nth : ℕ) (before after : YardState) (age : AgeEnd)
+    → HasRanges script → IsAgeOf script missing mode nth before after age → IsSmallUnlessFull age
+small_age script missing mode nth before after age ranges is room = record {
+  age = (its_group script missing mode nth before after age ranges is).age;
+  ends = all_from_places (λ (e : MemberEnd). EndFits e.end ⊎ TellsNothing e) age.members each;
+}
+  where
+    good : IsAgreed script age
+    good = agreed_age script missing mode nth before after age ranges is
 
-pub run_right : (script : Script) (mode : Mode) (before after : YardState) (ages : List AgeEnd)
+    same : told_opening script age ≡ opening_of script missing age
+    same = opened_as_told script missing mode nth before after age is
+
+    not_there : (m : ℕ) (e : MemberEnd) → slice_get age.members m ≡ Some e → is_absent e.end ≡ true
+        → IsPresentIn (told_opening script age) m → ⊥
+    not_there m e at away here =
+        let other = end_there script age m here in
+        absurd (cc (
+          away,
+          other.2,
+          ap (λ (x : MemberEnd). is_absent x.end)
+              (same_Some other.0 e (sym other.1 ∙ at)),
+        ))
+
+    each : (m : ℕ) (e : MemberEnd) → slice_get age.members m ≡ Some e → EndFits e.end ⊎ TellsNothing e
+    each m e at = elim (cases_Bool (is_absent e.end)) [
+      | inl away ↦ inr (nothing_told e (is.ended.absent m e at (λ here. not_there m e at away
+          (subst (λ o. IsPresentIn o m) (sym same) here))))
+      | inr there ↦
+          let here : IsPresentIn (opening_of script missing age) m =
+          subst (λ o. IsPresentIn o m) same (is_here script age ranges.group.most_members good m e at there) in
+          let ended = subst
+          (λ o. HasEnded o age.members script.turns m (crashes_of script.faults nth m) e) (sym same)
+          (is.ended.each m e at here) in
+          inl (end_fits script age nth m e ranges good at there ended (room m e at))
+    ]
+
+keep_each_other : (script : Script) (missing : ℕ) (ages : List AgeEnd) → AreKept script missing ages
+    → All (λ age. told_opening script age ≡ opening_of script missing age) ages → KeepEachOther script ages
+keep_each_other script missing ages kept told i a next at after =
+    let same : suc i ≡ i + 1 = omega arith in
+    let one = all_at (λ age. told_opening script age ≡ opening_of script missing age) ages i a told at in
+    let other = all_at (λ age. told_opening script age ≡ opening_of script missing age) ages (suc i) next told after in
+    subst (λ o. Kept o (accounts_of a.members) (told_opening script next)) (sym one)
+    (subst (λ o. Kept (opening_of script missing a) (accounts_of a.members) o) (sym other)
+    (kept.next i a next at (ap (slice_get ages) (sym same) ∙ after)))
+
+pub run_right : (script : Script) (missing : ℕ) (mode : Mode) (before after : YardState) (ages : List AgeEnd)
     (stop : Option Stop) (last : Last) → HasRanges script → AllTell script.members before
-    → IsRunOf script mode before after ages stop → last_of ages stop ≡ Some last → IsRunEnd (status_of last)
+    → IsRunOf script missing mode before after ages stop → last_of ages stop ≡ Some last
+    → IsRunEnd (status_of last)
     → IsVerdict script (report_text ages last) lasts.Right
-run_right script mode before after ages stop last ranges tell run is end =
+run_right script missing mode before after ages stop last ranges tell run is end =
     let fits = last_fits ages stop last is end in
-    let small = all_ages IsSmallUnlessFull script mode
-    (λ nth before after age is. small_age script mode nth before after age ranges is) 0 before run.last ages
+    let small = all_ages IsSmallUnlessFull script missing mode
+    (λ nth before after age is. small_age script missing mode nth before after age ranges is) 0 before run.last ages
     run.course in
     printed_right script ages last ranges.group
-    (all_ages (IsAgreed script) script mode
-    (λ nth before after age is. agreed_age script mode nth before after age ranges is) 0 before run.last ages
-    run.course)
-    (keep_each_other script ages (run.kept tell))
+    (all_ages (IsAgreed script) script missing mode
+    (λ nth before after age is. agreed_age script missing mode nth before after age ranges is) 0 before run.last
+    ages run.course)
+    (keep_each_other script missing ages (run.kept tell)
+    (all_ages (λ age. told_opening script age ≡ opening_of script missing age) script missing mode
+    (λ nth before after age is. opened_as_told script missing mode nth before after age is) 0 before run.last
+    ages run.course))
     (all_from_places HasSmallNumbers ages
     (λ i age at. all_at IsSmallUnlessFull ages i age small at
     (λ m e there. none_full ages i age m e fits.0 at there)))

@@ -14,6 +14,7 @@ use Rattle.dr_text.specs.declared.last.Last.{Last}
 use Rattle.dr_text.specs.declared.last.Last.TheVariants as lasts
 use Rattle.dr_outcome.specs.declared.outcome.Outcome.{Outcome}
 use Rattle.dr_outcome.specs.Outcome.{SaysOnly}
+use Rattle.dr_outcome.specs.Playing.{InFolder}
 use Rattle.dr_yard.specs.Yards.{AllTell, YardState}
 
 -- the value is an object with two keys
@@ -77,7 +78,7 @@ pub record HandsIn (bytes script text : List ℕ) : Type 0 where
   pub texts : handed_in value ≡ Some (script, text)
 
 -- the disks of a script's members tell, those in a folder; in memory they do
-abbrev pub DisksTell : Option (List ℕ) → ℕ → YardState → Type 0
+abbrev pub DisksTell : Option InFolder → ℕ → YardState → Type 0
 DisksTell (Some folder) members yard = AllTell members yard
 DisksTell None members yard = ⊤
 

@@ -20,9 +20,9 @@ ghost use Rattle.dr_checked.specs.Checked.{DisksTell, HandsIn, IsChecked, IsJudg
 
 /// The report of a run over disks that tell is right, where its last line has status 0, 8 or 9.
 pub fn runs_are_right()
-    ensures { (script : Script) (mode : Mode) (before after : YardState) (ages : List AgeEnd)
+    ensures { (script : Script) (missing : ℕ) (mode : Mode) (before after : YardState) (ages : List AgeEnd)
         (stop : Option Stop) (last : LastOf) → HasRanges script → AllTell script.members before
-        → IsRunOf script mode before after ages stop → last_of ages stop ≡ Some last
+        → IsRunOf script missing mode before after ages stop → last_of ages stop ≡ Some last
         → Contains (0 ∷ 8 ∷ 9 ∷ []) (status_of last) → IsVerdict script (report_text ages last) Right }
 {}
 

@@ -10,6 +10,7 @@ use Rattle.dr_entry.specs.declared.end.MemberEnd.{MemberEnd}
 use Rattle.dr_history.specs.declared.opening.Opening.{Opening}
 use Rattle.dr_history.specs.Agreement.{accounts_of}
 use Rattle.dr_history.specs.History.{IsPrefixOf}
+use Rattle.dr_history.specs.Soundness.{IsPresentIn}
 use Rattle.dr_summary.specs.Summary.{HaveAgreed}
 use Rattle.dr_summary.specs.Histories.{longer, longest, longest_from}
 
@@ -64,6 +65,29 @@ is_longest h (m ∷ ms) =
     All-cons (λ (e : MemberEnd). length e.history ≤ length (longest_from (longer h m) ms)) m ms
     (omega (arith, longest_is_long (longer h m) ms, (longer_is_long h m).1)) (is_longest (longer h m) ms)
 
+-- of two members that took part the one with the history that isn't longer has a front of the other's
+one_begins : (o : Opening) (members : List MemberEnd) (k i : ℕ) (d : MemberEnd) → HaveAgreed o members
+    → IsPresentIn o k → IsPresentIn o i → k < length members → i < length members
+    → length (get_or members k d).history ≤ length (get_or members i d).history
+    → IsPrefixOf (get_or members k d).history (get_or members i d).history
+one_begins o members k i d agreed here there below within short =
+    let own = history_of members k d below in
+    let other = history_of members i d within in
+    let alike = agreed.agreed.agreed.prefix k i here there in
+    shorter_begins (get_or members k d).history (get_or members i d).history
+    (subst (λ (h : List Entry). IsPrefixOf (get_or members k d).history h ⊎ IsPrefixOf h (get_or members k d).history)
+    other (subst (λ (h : List Entry). IsPrefixOf h (accounts_of members i).history
+    ⊎ IsPrefixOf (accounts_of members i).history h) own alike))
+    short
+
+-- no history begins every other
+empty_begins : (h g : List Entry) → h ≡ [] → IsPrefixOf h g
+empty_begins h g none = (g, ap (λ x. x ++ g) none)
+
+-- what is no longer than no history is none
+as_empty : (h g l : List Entry) → g ≡ [] → l ≡ g → length h ≤ length l → h ≡ []
+as_empty h g l none same short = nil_from_length h (omega (arith, short, ap length same, ap length none))
+
 pub fronts_of_longest : (o : Opening) (members : List MemberEnd) → HaveAgreed o members
     → All (λ (m : MemberEnd). IsPrefixOf m.history (longest members)) members
 fronts_of_longest o members agreed k d below = elim (is_one_of [] members) [
@@ -71,14 +95,17 @@ fronts_of_longest o members agreed k d below = elim (is_one_of [] members) [
       let empty : (get_or members k d).history ≡ [] =
       nil_from_length (get_or members k d).history (omega (arith, is_longest [] members k d below, ap length none)) in
       (longest members, rw empty refl)
-  | inr (i, within, is) ↦
-      let own = history_of members k d below in
-      let other = history_of members i d within in
-      let alike = agreed.agreed.agreed.prefix k i (agreed.present k below) (agreed.present i within) in
-      subst (IsPrefixOf (get_or members k d).history) (sym (is d))
-      (shorter_begins (get_or members k d).history (get_or members i d).history
-      (subst (λ (h : List Entry). IsPrefixOf (get_or members k d).history h ⊎ IsPrefixOf h (get_or members k d).history)
-      other (subst (λ (h : List Entry). IsPrefixOf h (accounts_of members i).history
-      ⊎ IsPrefixOf (accounts_of members i).history h) own alike))
-      (omega (arith, is_longest [] members k d below, ap length (is d))))
+  | inr (i, within, is) ↦ elim (agreed.present k (get_or members k d) (slice_get-get_or members k d below)) [
+    | inr none ↦ empty_begins (get_or members k d).history (longest members) none
+    | inl here ↦ elim (agreed.present i (get_or members i d) (slice_get-get_or members i d within)) [
+      | inr none ↦
+          empty_begins (get_or members k d).history (longest members)
+          (as_empty (get_or members k d).history (get_or members i d).history (longest members) none (is d)
+          (is_longest [] members k d below))
+      | inl there ↦
+          subst (IsPrefixOf (get_or members k d).history) (sym (is d))
+          (one_begins o members k i d agreed here there below within
+          (omega (arith, is_longest [] members k d below, ap length (is d))))
+    ]
+  ]
 ]

@@ -1,5 +1,5 @@
 -- The summary of an age, and what it rests on.
-use Rattle.std.specs.Prelude.{ℕ, ◌<◌, List, ◌++◌, length}
+use Rattle.std.specs.Prelude.{◌≡◌, ◌⊎◌, ℕ, List, [], ◌++◌, slice_get, Some}
 use Rattle.dr_entry.specs.declared.end.AgeEnd.{AgeEnd}
 use Rattle.dr_entry.specs.declared.end.MemberEnd.{MemberEnd}
 use Rattle.dr_history.specs.declared.opening.Opening.{Opening}
@@ -10,9 +10,9 @@ use Rattle.dr_summary.specs.Notes.{ends_text, faults_text, undelivered, undelive
 use Rattle.dr_summary.specs.Histories.{longest}
 use Rattle.dr_summary.specs.Table.{table_text}
 
--- these are the ends of members that agree: all of them took part in an age with this opening
+-- these are the ends of members that agree: each took part in an age with this opening, or has no history
 pub record HaveAgreed (o : Opening) (members : List MemberEnd) : Type 0 where
-  pub present : (i : ℕ) → i < length members → IsPresentIn o i
+  pub present : (i : ℕ) (e : MemberEnd) → slice_get members i ≡ Some e → IsPresentIn o i ⊎ (e.history ≡ [])
   pub agreed : EndsAgreed o members
 
 -- the lines below its table
