@@ -10,6 +10,7 @@ use Rattle.dr_io.specs.Sink.{Gains}
 use Rattle.dr_lived.specs.Lived.{RunsLive}
 use Rattle.dr_outcome.specs.Outcome.{HasDone, Plays, SaysOnly, outcome_text}
 use Rattle.dr_outcome.specs.declared.outcome.Outcome.{Outcome}
+use Rattle.dr_outcome.specs.Playing.{InFolder}
 use Rattle.dr_script.specs.declared.script.Script.{Script}
 use Rattle.dr_script.specs.Reading.{Reads, reading_of}
 use Rattle.dr_sharded.specs.Sharded.{RunsShards}
@@ -57,7 +58,7 @@ pub record Exactly (status due : ℕ) (earlier : List ℕ) (P : Type 0) : Type 0
 
 -- What was written for a script that was read is judged right as a report of that script, where the disks of
 -- its members tell.
-pub record WasJudgedRight (folder : Option (List ℕ)) (old new held holds : Option (List ℕ)) (before : YardState)
+pub record WasJudgedRight (folder : Option InFolder) (old new held holds : Option (List ℕ)) (before : YardState)
     : Type 0 where
   pub bytes : List ℕ
   pub read : WasRead old new bytes

@@ -7,10 +7,10 @@ use Rattle.dr_ages.specs.declared.mode.Mode.{Mode}
 use Rattle.dr_ages.specs.declared.mode.Mode.TheVariants.{Sim, Run}
 use Rattle.dr_checked.specs.Checked.{check_ends}
 use Rattle.dr_drilled.specs.Drilled.{drill_ends}
-use Rattle.dr_literals.specs.Literals.{key_word, number_word}
+use Rattle.dr_literals.specs.Literals.{key_word, mask_word, number_word}
 use Rattle.dr_lived.specs.Lived.{live_ends}
 use Rattle.dr_lived.specs.Words.{rounds_of}
-use Rattle.dr_outcome.specs.Playing.{play_ends}
+use Rattle.dr_outcome.specs.Playing.{InFolder, play_ends}
 use Rattle.dr_sharded.specs.Sharded.{shards_ends}
 use Rattle.dr_sharded.specs.Words.{sharding_of}
 use Rattle.dr_stored.specs.Stored.{store_ends}
@@ -62,13 +62,33 @@ with_no_more (Some asked) [] = Some asked
 with_no_more asked rest = None
 
 -- to play in a mode, over the logs in a folder if there is one
-abbrev pub played : Mode → Option (List ℕ) → Command
+abbrev pub played : Mode → Option InFolder → Command
 played mode folder = Play (record { mode = mode; folder = folder })
+
+-- the members whose logs are missing: those of a list, and nobody's where there is none
+abbrev pub missing_in : Option (List ℕ) → Option ℕ
+missing_in None = Some 0
+missing_in (Some list) = mask_word list
+
+-- the folder of this name, but for the logs of the members of a mask
+abbrev pub in_folder : List ℕ → ℕ → InFolder
+in_folder name missing = record { name = name; missing = missing }
+
+-- the folder of this name, but for the logs that the words behind it name as missing, and the words behind these
+abbrev pub folder_of : List ℕ → List (List ℕ) → Option (InFolder × List (List ℕ))
+folder_of name words =
+    option_and_then (λ found. option_map (λ missing. (in_folder name missing, found.1)) (missing_in found.0))
+    (option_of (codes "--missing") words)
+
+-- to play in a mode, by the words behind the name of a folder, if there is one
+abbrev pub play_in : Mode → Option (List ℕ) → List (List ℕ) → Option Command
+play_in mode None words = with_no_more (Some (played mode None)) words
+play_in mode (Some name) words =
+    option_and_then (λ found. with_no_more (Some (played mode (Some found.0))) found.1) (folder_of name words)
 
 abbrev pub play_of : Mode → List (List ℕ) → Option Command
 play_of mode words =
-    option_and_then (λ found. with_no_more (Some (played mode found.0)) found.1)
-    (option_of (codes "--logs") words)
+    option_and_then (λ found. play_in mode found.0 found.1) (option_of (codes "--logs") words)
 
 -- to ask for a key at a version, which is below 2^32
 abbrev pub asked_at : List ℕ → ℕ → Option Command

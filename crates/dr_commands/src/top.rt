@@ -40,7 +40,8 @@ pub struct Ended {
 /// sink. With the command `sim` members take their deeds one after the other, by the schedule of the script;
 /// with `run` all at once, each in a thread of its own, which calls the pace after each of its turns. With
 /// `--logs F` or `--logs=F` each member keeps its log on a disk of the yard, in the folder `F`, and the first
-/// age begins with what is there. Without it each keeps its log on a disk in memory, which is gone when the
+/// age begins with what is there. Behind it `--missing L` or `--missing=L` names the members whose logs are
+/// missing: they take no part. Without a folder each keeps its log on a disk in memory, which is gone when the
 /// run has ended. What the other commands do is told of each at [`Command`](crate::Command). The status says
 /// how that went: see the constants of `dr_intake`.
 pub fn derecho<R: Threads + Sync, S: Source, K: Sink, Y: Yard, P: Pace + Sync>(

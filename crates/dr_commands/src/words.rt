@@ -1,13 +1,14 @@
 ghost use Rattle.std.specs.Prelude.{◌≡◌, bytes_eq, map, option_map, string_bytes};
 ghost use Rattle.std.specs.List.{find};
-ghost use Rattle.dr_commands.specs.Words.{asked_at, asked_behind, behind, command_of, drill_of, live_of, option_of, own_word, play_of, shards_of, store_of, value_in, verb_by, verbs, with_no_more};
+ghost use Rattle.dr_commands.specs.Words.{asked_at, asked_behind, behind, command_of, drill_of, folder_of, live_of, missing_in, option_of, own_word, play_in, play_of, played, shards_of, store_of, value_in, verb_by, verbs, with_no_more};
 
 use dr_ages::Mode;
 use dr_entry::Message;
-use dr_literals::{key_word, number_word};
+use dr_literals::{key_word, mask_word, number_word};
 use dr_lived::{Rounds, rounds_of};
-use dr_outcome::Play;
+use dr_outcome::{Folder, Play};
 use dr_sharded::{Sharding, sharding_of};
+use dr_words::Mask;
 
 /// What a version has to be below.
 const VERSION_LIMIT: u64 = 1 << 32;
@@ -101,9 +102,47 @@ fn asked_behind(verb: Verb, words: &[String]) -> Option<Command<'_>>
 fn play_of(mode: Mode, words: &[String]) -> Option<Command<'_>>
     ensures { result ≡ play_of mode (map string_bytes words.now) }
 {
-    let (folder, rest) = option_of("--logs", words)?;
-    rest.is_empty()
-        .then_some(Command::Play(Play { mode, folder }))
+    let (name, rest) = option_of("--logs", words)?;
+    play_in(mode, name, rest)
+}
+
+/// What they ask for by the words behind the name of a folder, if there is one.
+fn play_in<'a>(mode: Mode, name: Option<&'a str>, words: &'a [String]) -> Option<Command<'a>>
+    ensures { result ≡ play_in mode (option_map (λ n. n.now) name.entry) (map string_bytes words.now) }
+{
+    let Some(name) = name else {
+        return with_no_more(Some(played(mode, None)), words);
+    };
+    let (folder, rest) = folder_of(name, words)?;
+    with_no_more(Some(played(mode, Some(folder))), rest)
+}
+
+/// To play in a mode, over the logs in a folder if there is one.
+fn played<'a>(mode: Mode, folder: Option<Folder<'a>>) -> Command<'a>
+    ensures { result ≡ played mode folder.entry }
+{
+    Command::Play(Play { mode, folder })
+}
+
+/// The folder of this name, but for the logs that the words behind it name as missing, and the words behind
+/// these.
+fn folder_of<'a>(name: &'a str, words: &'a [String]) -> Option<(Folder<'a>, &'a [String])>
+    ensures { option_map (λ found. (found.0, map string_bytes found.1.now)) result
+        ≡ folder_of name.now (map string_bytes words.now) }
+{
+    let (list, rest) = option_of("--missing", words)?;
+    let missing = missing_in(list)?;
+    Some((Folder { name, missing }, rest))
+}
+
+/// The members whose logs are missing: those of a list, and nobody's where there is none.
+fn missing_in(list: Option<&str>) -> Option<Mask>
+    ensures { result ≡ missing_in (option_map (λ l. l.now) list.entry) }
+{
+    match list {
+        Some(list) => mask_word(list),
+        None => Some(Mask::empty()),
+    }
 }
 
 /// What the words behind `store` ask for: a key in hexadecimal, and a version in decimal.

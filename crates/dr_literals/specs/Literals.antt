@@ -1,5 +1,9 @@
--- What words write: numbers in decimal, and keys in hexadecimal.
+-- What words write: numbers in decimal, keys in hexadecimal, and lists of members.
 use Rattle.std.specs.Prelude.{ℕ, ◌+◌, ◌*◌, ◌-◌, ◌^◌, ◌==◌, ◌&&◌, Bool, true, false, not, nat_le, nat_lt, if◌then◌else◌, List, [], ◌∷◌, length, Option, None, Some}
+use Rattle.std.specs.List.{slice_split}
+use Rattle.std.specs.Option.{option_and_then}
+use Rattle.dr_entry.specs.declared.limits.TheConstants.{MAX_MEMBERS}
+use Rattle.dr_words.specs.Masks.{with_member}
 
 -- whether a byte is a decimal digit
 abbrev pub is_digit : ℕ → Bool
@@ -44,3 +48,19 @@ hex_bytes (a ∷ b ∷ w) = hex_byte (hex_digit a) (hex_digit b) (hex_bytes w)
 -- the key that a word writes in hexadecimal: it has 1 to 62 bytes
 abbrev pub key_word : List ℕ → Option (List ℕ)
 key_word w = if nat_le 2 (length w) && nat_le (length w) 124 then hex_bytes w else None
+
+-- the number of a member that a word writes, where it is no lower than `least`
+abbrev pub member_word : ℕ → List ℕ → Option ℕ
+member_word least w =
+    option_and_then (λ n. if nat_le least n && nat_lt n MAX_MEMBERS then Some n else None) (number_word w)
+
+-- the mask with the members too that words write, in ascending order from `least` on
+abbrev pub with_words : ℕ → ℕ → List (List ℕ) → Option ℕ
+with_words mask least [] = Some mask
+with_words mask least (w ∷ words) =
+    option_and_then (λ n. with_words (with_member mask n) (n + 1) words) (member_word least w)
+
+-- the mask of the members that a word writes: the number of at least one, in ascending order, with commas
+-- between them
+abbrev pub mask_word : List ℕ → Option ℕ
+mask_word w = with_words 0 0 (slice_split (λ byte. byte == 44) w)

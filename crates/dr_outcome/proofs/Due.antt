@@ -8,6 +8,7 @@ use Rattle.dr_ages.specs.declared.stop.Stop.{Stop}
 use Rattle.dr_ages.specs.declared.stop.Stop.TheVariants.{OutOfMemory}
 use Rattle.dr_ages.specs.Ages.{AreAges}
 use Rattle.dr_ages.specs.Fit.{AreFit}
+use Rattle.dr_ages.specs.Found.{NoneMissing}
 use Rattle.dr_complete.specs.Time.{HasTime}
 use Rattle.dr_entry.specs.declared.end.AgeEnd.{AgeEnd}
 use Rattle.dr_intake.specs.Reading.{refusal_in}
@@ -18,22 +19,33 @@ use Rattle.dr_script.specs.Ranges.{HasRanges}
 use Rattle.dr_script.specs.Reading.{NotJson, Reading, Reads, TooLong, Wrong, reading_of}
 use Rattle.dr_text.specs.declared.last.Last.{Last}
 use Rattle.dr_text.specs.declared.last.Last.TheVariants as lasts
+use Rattle.dr_words.proofs.Bits.{has_zero}
 use Rattle.dr_yard.specs.Yards.{YardState, empty_yard}
 use Rattle.dr_outcome.specs.declared.last.Kind.TheVariants.{DiskFault, LogFull, NoMajority, Spent}
 use Rattle.dr_outcome.specs.declared.outcome.Body.TheVariants as bodies
 use Rattle.dr_outcome.specs.declared.outcome.Outcome.{Outcome}
 use Rattle.dr_outcome.specs.Last.{first_end, first_told, is_memory, last_by, last_of, refusal_of, some_end, some_so, stopped_by}
-use Rattle.dr_outcome.specs.Outcome.{HasDone, HasPlayed, HasRun, IsDue, IsRunInMemory, LeavesRoom, NoneFailed, OfScript, Plays, SaysOnly, TellsDisks, body_text, by_run, unrun}
-use Rattle.dr_outcome.specs.Playing.{Playing, ends_over, play_ends}
+use Rattle.dr_outcome.specs.Outcome.{HasAllLogs, HasDone, HasPlayed, HasRun, IsDue, IsRunInMemory, LeavesRoom, NoneFailed, OfScript, Plays, SaysOnly, TellsDisks, body_text, by_run, unrun}
+use Rattle.dr_outcome.specs.Playing.{InFolder, Playing, ends_over, play_ends}
 use Rattle.dr_outcome.proofs.Lasts.{end_so, refusal_status, told_so}
 use Rattle.dr_outcome.proofs.Runs.{IsWhole, calm_run, memory_lasts, none_spent, none_split, whole_in_memory, whole_lasts, whole_run}
 
+-- whose logs are missing: in memory nobody's
+abbrev missing_of : Option InFolder → ℕ
+missing_of (Some folder) = folder.missing
+missing_of None = 0
+
 -- the ages of a run, over whatever disks
-ages_of : (mode : Mode) (folder : Option (List ℕ)) (script : Script) (before after : YardState)
+ages_of : (mode : Mode) (folder : Option InFolder) (script : Script) (before after : YardState)
     (ages : List AgeEnd) (stop : Option Stop) → HasRun mode folder script before after ages stop
-    → (from : YardState) × (to : YardState) × AreAges script mode 0 from ages to
-ages_of mode (Some name) script before after ages stop run = (before, run.last, run.course)
+    → (from : YardState) × (to : YardState) × AreAges script (missing_of folder) mode 0 from ages to
+ages_of mode (Some folder) script before after ages stop run = (before, run.last, run.course)
 ages_of mode None script before after ages stop run = (empty_yard, run.1.run.last, run.1.run.course)
+
+all_there : (folder : Option InFolder) (script : Script) → HasAllLogs folder script
+    → NoneMissing script.members (missing_of folder)
+all_there (Some folder) script all = all
+all_there None script all = λ m below. has_zero m
 
 -- what holds anyway holds of each last line
 pub whenever : {P : Type 0} (last : Option Last) → P → IfSome last (λ line. P)
@@ -151,8 +163,8 @@ accepts ages stop (Some line) is = λ three.
 
 untimely_by : (play : Playing) (script : Script) (before after : YardState) (ages : List AgeEnd)
     (stop : Option Stop) → HasRun play.mode play.folder script before after ages stop → play.mode ≡ Sim
-    → last_of ages stop ≡ Some lasts.Unfinished → HasTime script → ⊥
-untimely_by play script before after ages stop run sim is time =
+    → HasAllLogs play.folder script → last_of ages stop ≡ Some lasts.Unfinished → HasTime script → ⊥
+untimely_by play script before after ages stop run sim all is time =
     let parts = unfinished_by (first_told DiskFault ages stop) (refusal_of stop) (first_told LogFull ages stop)
     (first_end Spent ages) (first_end NoMajority ages) (refusal_status stop)
     (ap status_of (line_behind ages stop lasts.Unfinished is).1) in
@@ -160,7 +172,8 @@ untimely_by play script before after ages stop run sim is time =
     let full : some_so LogFull ages stop ≡ false = sym (told_so LogFull ages stop) ∙ parts.1 in
     let turns : some_end Spent ages ≡ true = sym (end_so Spent ages) ∙ parts.2 in
     let course = ages_of play.mode play.folder script before after ages stop run in
-    true≢false (sym turns ∙ none_spent script play.mode 0 course.0 course.1 ages course.2 sim time
+    true≢false (sym turns ∙ none_spent script (missing_of play.folder) play.mode 0 course.0 course.1 ages course.2
+    (all_there play.folder script all) sim time
     (or_parts (some_end DiskFault ages) (is_some (stopped_by DiskFault stop)) disk).0
     (or_parts (some_end LogFull ages) (is_some (stopped_by LogFull stop)) full).0)
 
@@ -174,7 +187,8 @@ untrusting_by play script before after ages stop run is trusting =
     (first_end Spent ages) (first_end NoMajority ages) (refusal_status stop)
     (ap status_of (line_behind ages stop lasts.NoMajority is).1) in
     let course = ages_of play.mode play.folder script before after ages stop run in
-    true≢false (sym split ∙ none_split script play.mode 0 course.0 course.1 ages course.2 trusting)
+    true≢false (sym split ∙ none_split script (missing_of play.folder) play.mode 0 course.0 course.1 ages course.2
+    trusting)
 
 -- where there is a last line, memory was not wanting
 not_wanting : (ages : List AgeEnd) (stop : Option Stop) (line : Last) → last_of ages stop ≡ Some line
@@ -183,13 +197,13 @@ not_wanting ages stop line is wanting =
     true≢false (sym (ap is_memory wanting) ∙ (line_behind ages stop line is).0)
 
 -- a disk that failed is told
-tells_disks : (mode : Mode) (folder : Option (List ℕ)) (script : Script) (before after : YardState)
+tells_disks : (mode : Mode) (folder : Option InFolder) (script : Script) (before after : YardState)
     (ages : List AgeEnd) (stop : Option Stop) (last : Option Last)
     → HasRun mode folder script before after ages stop → last ≡ last_of ages stop → TellsDisks before after last
 tells_disks mode folder script before after ages stop None run is = tt
 tells_disks mode None script before after ages stop (Some line) run is =
     inl (λ m. ap (λ (yard : YardState). yard.faults m) run.0)
-tells_disks mode (Some name) script before after ages stop (Some line) run is =
+tells_disks mode (Some folder) script before after ages stop (Some line) run is =
     by (first_told DiskFault ages stop) refl
   where
     behind : (is_memory stop ≡ false) × (line_of ages stop ≡ line)
@@ -198,29 +212,29 @@ tells_disks mode (Some name) script before after ages stop (Some line) run is =
     by : (disk : Option ℕ) → first_told DiskFault ages stop ≡ disk
         → NoneFailed before after ⊎ (status_of line ≡ 6)
     by None none =
-        inl (calm_run script mode before after ages stop run (sym (told_so DiskFault ages stop) ∙ ap is_some none)
-        behind.0)
+        inl (calm_run script folder.missing mode before after ages stop run
+        (sym (told_so DiskFault ages stop) ∙ ap is_some none) behind.0)
     by (Some m) some =
         let named : line_of ages stop ≡ lasts.DiskFault m = ap (λ d. last_by d (refusal_of stop)
         (first_told LogFull ages stop) (first_end Spent ages) (first_end NoMajority ages)) some in
         inr (ap status_of (sym behind.1 ∙ named))
 
-stays_fit : (mode : Mode) (folder : Option (List ℕ)) (script : Script) (before after : YardState)
+stays_fit : (mode : Mode) (folder : Option InFolder) (script : Script) (before after : YardState)
     (ages : List AgeEnd) (stop : Option Stop) (last : Option Last)
-    → HasRun mode folder script before after ages stop → last ≡ last_of ages stop → AreFit script before
-    → IfSome last (λ line. AreFit script after)
-stays_fit mode folder script before after ages stop None run is fit = tt
-stays_fit mode (Some name) script before after ages stop (Some line) run is fit =
-    (run.fit fit).fit (not_wanting ages stop line (sym is))
-stays_fit mode None script before after ages stop (Some line) run is fit =
+    → HasRun mode folder script before after ages stop → last ≡ last_of ages stop
+    → HasAllLogs folder script → AreFit script before → IfSome last (λ line. AreFit script after)
+stays_fit mode folder script before after ages stop None run is all fit = tt
+stays_fit mode (Some name) script before after ages stop (Some line) run is all fit =
+    (run.fit all fit).fit (not_wanting ages stop line (sym is))
+stays_fit mode None script before after ages stop (Some line) run is all fit =
     subst (AreFit script) (sym run.0) fit
 
 -- a run that has room for all its ages
-whole_of : (mode : Mode) (folder : Option (List ℕ)) (script : Script) (before after : YardState)
+whole_of : (mode : Mode) (folder : Option InFolder) (script : Script) (before after : YardState)
     (ages : List AgeEnd) (stop : Option Stop) → HasRun mode folder script before after ages stop
     → LeavesRoom folder script before after → is_memory stop ≡ false → IsWhole script ages stop
-whole_of mode (Some name) script before after ages stop run room ample =
-    whole_run script mode before after ages stop run room.0 room.1 room.2 ample
+whole_of mode (Some folder) script before after ages stop run room ample =
+    whole_run script folder.missing mode before after ages stop run room.0 room.1 room.2 room.3 ample
 whole_of mode None script before after ages stop run room ample =
     whole_in_memory script mode ages stop run.1 ample
 
@@ -242,10 +256,10 @@ has_played play script before after o ranges run line = record {
   run = run;
   line = line;
   accepted = accepts o.ages o.stop o.last line;
-  untimely = λ sim is. untimely_by play script before after o.ages o.stop run sim (sym line ∙ is);
+  untimely = λ sim all is. untimely_by play script before after o.ages o.stop run sim all (sym line ∙ is);
   untrusting = λ is. untrusting_by play script before after o.ages o.stop run (sym line ∙ is);
   told = tells_disks play.mode play.folder script before after o.ages o.stop o.last run line;
-  fit = λ fit. stays_fit play.mode play.folder script before after o.ages o.stop o.last run line fit;
+  fit = λ all fit. stays_fit play.mode play.folder script before after o.ages o.stop o.last run line all fit;
   complete = λ room. all_ages play script before after o.ages o.stop o.last run line room;
 }
 
@@ -326,7 +340,7 @@ played_ends play script before after o played = (
   by_folder play.folder o.last played.run (sym played.line),
 )
   where
-    by_folder : (folder : Option (List ℕ)) (last : Option Last)
+    by_folder : (folder : Option InFolder) (last : Option Last)
         → HasRun play.mode folder script before after o.ages o.stop → last_of o.ages o.stop ≡ last
         → IfSome last (λ line. Contains (ends_over folder) (status_of line))
     by_folder None None run is = tt

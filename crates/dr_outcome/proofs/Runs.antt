@@ -12,7 +12,7 @@ use Rattle.dr_ages.specs.declared.stop.Stop.{Stop}
 use Rattle.dr_ages.specs.declared.stop.Stop.TheVariants as stops
 use Rattle.dr_ages.specs.Ages.{AreAges, opening_of}
 use Rattle.dr_ages.specs.Fit.{AreFit}
-use Rattle.dr_ages.specs.Found.{AreRoomy}
+use Rattle.dr_ages.specs.Found.{AreRoomy, NoneMissing}
 use Rattle.dr_ages.specs.Runs.{HasFinished, IsFreshRun, IsRoomyRun, IsRunOf}
 use Rattle.dr_ages.specs.Stops.{IsOutside, NamesFaults}
 use Rattle.dr_complete.specs.Time.{HasTime}
@@ -29,6 +29,7 @@ use Rattle.dr_program_laws.specs.Trusting.{NoneLeft, SuspectsNobody, is_left_out
 use Rattle.dr_script.specs.declared.script.Script.{Script}
 use Rattle.dr_age.specs.Logged.{IsNotFull, NoneFull, why_ended}
 use Rattle.dr_io.specs.Faults.{Rose}
+use Rattle.dr_words.proofs.Bits.{has_zero}
 use Rattle.dr_yard.specs.Yards.{YardState, empty_yard}
 use Rattle.dr_outcome.specs.declared.last.Kind.{Kind}
 use Rattle.dr_outcome.specs.declared.last.Kind.TheVariants.{DiskFault, LogFull, NoMajority, Spent}
@@ -43,20 +44,20 @@ abbrev some_of : Kind → List MemberEnd → Bool
 some_of kind members = list_any (λ (m : MemberEnd). is_of kind m.end) members
 
 -- every age has as many members as the script
-pub few_members : (script : Script) (mode : Mode) (nth : ℕ) (before after : YardState) (ages : List AgeEnd)
-    → script.members ≤ MAX_MEMBERS → AreAges script mode nth before ages after
+pub few_members : (script : Script) (missing : ℕ) (mode : Mode) (nth : ℕ) (before after : YardState) (ages : List AgeEnd)
+    → script.members ≤ MAX_MEMBERS → AreAges script missing mode nth before ages after
     → All (λ (age : AgeEnd). length age.members ≤ MAX_MEMBERS) ages
-few_members script mode nth before after [] few are = All-nil (λ (age : AgeEnd). length age.members ≤ MAX_MEMBERS)
-few_members script mode nth before after (age ∷ ages) few (between, is, rest) =
+few_members script missing mode nth before after [] few are = All-nil (λ (age : AgeEnd). length age.members ≤ MAX_MEMBERS)
+few_members script missing mode nth before after (age ∷ ages) few (between, is, rest) =
     All-cons (λ (age : AgeEnd). length age.members ≤ MAX_MEMBERS) age ages (omega (arith, is.roster, few))
-    (few_members script mode (nth + 1) between after ages few rest)
+    (few_members script missing mode (nth + 1) between after ages few rest)
 
 -- no count of faults falls
-later : (script : Script) (mode : Mode) (nth : ℕ) (before after : YardState) (ages : List AgeEnd)
-    → AreAges script mode nth before ages after → (m : ℕ) → before.faults m ≤ after.faults m
-later script mode nth before after [] are m = omega (arith, ap (λ (yard : YardState). yard.faults m) are)
-later script mode nth before after (age ∷ ages) (between, is, rest) m =
-    omega (arith, (is.passes m).later, later script mode (nth + 1) between after ages rest m)
+later : (script : Script) (missing : ℕ) (mode : Mode) (nth : ℕ) (before after : YardState) (ages : List AgeEnd)
+    → AreAges script missing mode nth before ages after → (m : ℕ) → before.faults m ≤ after.faults m
+later script missing mode nth before after [] are m = omega (arith, ap (λ (yard : YardState). yard.faults m) are)
+later script missing mode nth before after (age ∷ ages) (between, is, rest) m =
+    omega (arith, (is.passes m).later, later script missing mode (nth + 1) between after ages rest m)
 
 disk_fault_is : (e : End) → is_of DiskFault e ≡ true → e ≡ ends.DiskFault
 disk_fault_is ends.Done is = absurd (true≢false (sym is))
@@ -70,13 +71,13 @@ disk_fault_is (ends.Spent turns) is = absurd (true≢false (sym is))
 disk_fault_is ends.Absent is = absurd (true≢false (sym is))
 
 -- where no fault is counted no disk has ended a member
-none_failed : (script : Script) (mode : Mode) (nth : ℕ) (before after : YardState) (ages : List AgeEnd)
-    → AreAges script mode nth before ages after → ((m : ℕ) → after.faults m ≡ 0) → some_end DiskFault ages ≡ false
-none_failed script mode nth before after [] are calm = refl
-none_failed script mode nth before after (age ∷ ages) (between, is, rest) calm =
+none_failed : (script : Script) (missing : ℕ) (mode : Mode) (nth : ℕ) (before after : YardState) (ages : List AgeEnd)
+    → AreAges script missing mode nth before ages after → ((m : ℕ) → after.faults m ≡ 0) → some_end DiskFault ages ≡ false
+none_failed script missing mode nth before after [] are calm = refl
+none_failed script missing mode nth before after (age ∷ ages) (between, is, rest) calm =
     or_from (some_of DiskFault age.members) (some_end DiskFault ages)
     (list_any_none (λ (m : MemberEnd). is_of DiskFault m.end) age.members here)
-    (none_failed script mode (nth + 1) between after ages rest calm)
+    (none_failed script missing mode (nth + 1) between after ages rest calm)
   where
     here : All (λ (m : MemberEnd). is_of DiskFault m.end ≡ false) age.members
     here k d within =
@@ -85,7 +86,7 @@ none_failed script mode nth before after (age ∷ ages) (between, is, rest) calm
           | inl failed ↦
               let at = slice_get-get_or age.members k d within in
               let rose = is.failed k e at (disk_fault_is e.end failed) in
-              absurd (omega (arith, rose, later script mode (nth + 1) between after ages rest k, calm k))
+              absurd (omega (arith, rose, later script missing mode (nth + 1) between after ages rest k, calm k))
           | inr other ↦ other
         ]
 
@@ -115,20 +116,21 @@ none_spends o members complete = list_any_none (λ (m : MemberEnd). is_of Spent 
     ap (is_of Spent) (complete k (get_or members k d) (slice_get-get_or members k d within)).end)
 
 -- with time enough, and unless a log ends one, no member spends its turns
-pub none_spent : (script : Script) (mode : Mode) (nth : ℕ) (before after : YardState) (ages : List AgeEnd)
-    → AreAges script mode nth before ages after → mode ≡ Sim → HasTime script
+pub none_spent : (script : Script) (missing : ℕ) (mode : Mode) (nth : ℕ) (before after : YardState) (ages : List AgeEnd)
+    → AreAges script missing mode nth before ages after → NoneMissing script.members missing → mode ≡ Sim
+    → HasTime script
     → some_end DiskFault ages ≡ false
     → some_end LogFull ages ≡ false → some_end Spent ages ≡ false
-none_spent script mode nth before after [] are sim time failed full = refl
-none_spent script mode nth before after (age ∷ ages) (between, is, rest) sim time failed full =
+none_spent script missing mode nth before after [] are all sim time failed full = refl
+none_spent script missing mode nth before after (age ∷ ages) (between, is, rest) all sim time failed full =
     let fails = or_parts (some_of DiskFault age.members) (some_end DiskFault ages) failed in
     let fills = or_parts (some_of LogFull age.members) (some_end LogFull ages) full in
     or_from (some_of Spent age.members) (some_end Spent ages)
-    (none_spends (opening_of script age) age.members (is.complete sim time
+    (none_spends (opening_of script missing age) age.members (is.complete all sim time
     (λ k d within. unstopped (get_or age.members k d).end
     (none_of (λ (m : MemberEnd). is_of DiskFault m.end) age.members k d fails.0 within)
     (none_of (λ (m : MemberEnd). is_of LogFull m.end) age.members k d fills.0 within))))
-    (none_spent script mode (nth + 1) between after ages rest sim time fails.1 fills.1)
+    (none_spent script missing mode (nth + 1) between after ages rest all sim time fails.1 fills.1)
 
 unsplit : (e : End) → is_left_out e ≡ false → is_of NoMajority e ≡ false
 unsplit ends.Done stays = refl
@@ -146,13 +148,13 @@ none_splits : (members : List MemberEnd) → NoneLeft members → some_of NoMajo
 none_splits members stay = list_any_none (λ (m : MemberEnd). is_of NoMajority m.end) members
     (λ k d within. unsplit (get_or members k d).end (stay k d within))
 
-pub none_split : (script : Script) (mode : Mode) (nth : ℕ) (before after : YardState) (ages : List AgeEnd)
-    → AreAges script mode nth before ages after → SuspectsNobody script → some_end NoMajority ages ≡ false
-none_split script mode nth before after [] are trusting = refl
-none_split script mode nth before after (age ∷ ages) (between, is, rest) trusting =
+pub none_split : (script : Script) (missing : ℕ) (mode : Mode) (nth : ℕ) (before after : YardState) (ages : List AgeEnd)
+    → AreAges script missing mode nth before ages after → SuspectsNobody script → some_end NoMajority ages ≡ false
+none_split script missing mode nth before after [] are trusting = refl
+none_split script missing mode nth before after (age ∷ ages) (between, is, rest) trusting =
     or_from (some_of NoMajority age.members) (some_end NoMajority ages)
     (none_splits age.members (is.trusting trusting))
-    (none_split script mode (nth + 1) between after ages rest trusting)
+    (none_split script missing mode (nth + 1) between after ages rest trusting)
 
 unfull : (e : End) → IsNotFull e → is_of LogFull e ≡ false
 unfull ends.Done room = refl
@@ -168,16 +170,16 @@ unfull ends.Absent room = refl
 -- a run over empty disks
 fresh : (script : Script) (mode : Mode) (ages : List AgeEnd) (stop : Option Stop) → IsRunInMemory script mode ages stop
     → IsFreshRun ages stop
-fresh script mode ages stop in_memory = in_memory.run.fresh (λ m below. refl)
+fresh script mode ages stop in_memory = in_memory.run.fresh (λ m below. has_zero m) (λ m below. refl)
 
 pub in_memory : (script : Script) (mode : Mode) (ages : List AgeEnd) (stop : Option Stop) (told : ℕ → Option Told)
     (after : YardState) → ((m : ℕ) → told m ≡ Some (Now (at_rest []))) → ((m : ℕ) → after.faults m ≡ 0)
-    → IsRunOf script mode (record { told = told; faults = λ m. 0 }) after ages stop
+    → IsRunOf script 0 mode (record { told = told; faults = λ m. 0 }) after ages stop
     → IsRunInMemory script mode ages stop
 in_memory script mode ages stop told after empty calm run = record {
   after = after;
   calm = calm;
-  run = subst (λ (t : ℕ → Option Told). IsRunOf script mode (record { told = t; faults = λ m. 0 }) after ages stop)
+  run = subst (λ (t : ℕ → Option Told). IsRunOf script 0 mode (record { told = t; faults = λ m. 0 }) after ages stop)
       (fun_ext empty) run;
 }
 
@@ -186,7 +188,7 @@ pub memory_holds : (script : Script) (mode : Mode) (ages : List AgeEnd) (stop : 
     → IsRunInMemory script mode ages stop → is_memory stop ≡ false → some_so DiskFault ages stop ≡ false
 memory_holds script mode ages None in_memory ample =
     or_from (some_end DiskFault ages) false
-    (none_failed script mode 0 empty_yard in_memory.run.last ages in_memory.run.course
+    (none_failed script 0 mode 0 empty_yard in_memory.run.last ages in_memory.run.course
     (λ m. ap (λ (yard : YardState). yard.faults m) in_memory.run.finish.1 ∙ in_memory.calm m))
     refl
 memory_holds script mode ages (Some stops.OutOfMemory) in_memory ample = absurd (true≢false ample)
@@ -196,6 +198,8 @@ memory_holds script mode ages (Some (stops.LogFull member len)) in_memory ample 
     absurd (fresh script mode ages (Some (stops.LogFull member len)) in_memory).stopped
 memory_holds script mode ages (Some (stops.Damaged member at)) in_memory ample =
     absurd (fresh script mode ages (Some (stops.Damaged member at)) in_memory).stopped
+memory_holds script mode ages (Some (stops.NoQuorum view have need)) in_memory ample =
+    absurd (fresh script mode ages (Some (stops.NoQuorum view have need)) in_memory).stopped
 memory_holds script mode ages (Some (stops.Disagree a b place)) in_memory ample =
     absurd (fresh script mode ages (Some (stops.Disagree a b place)) in_memory).stopped
 memory_holds script mode ages (Some (stops.Foreign member place)) in_memory ample =
@@ -212,6 +216,8 @@ memory_accepts script mode ages (Some (stops.DiskFault member)) in_memory = refl
 memory_accepts script mode ages (Some (stops.LogFull member len)) in_memory = refl
 memory_accepts script mode ages (Some (stops.Damaged member at)) in_memory =
     absurd (fresh script mode ages (Some (stops.Damaged member at)) in_memory).stopped
+memory_accepts script mode ages (Some (stops.NoQuorum view have need)) in_memory =
+    absurd (fresh script mode ages (Some (stops.NoQuorum view have need)) in_memory).stopped
 memory_accepts script mode ages (Some (stops.Disagree a b place)) in_memory =
     absurd (fresh script mode ages (Some (stops.Disagree a b place)) in_memory).stopped
 memory_accepts script mode ages (Some (stops.Foreign member place)) in_memory =
@@ -226,6 +232,7 @@ unstopped_by_full (Some stops.OutOfMemory) ages fresh = refl
 unstopped_by_full (Some (stops.DiskFault member)) ages fresh = refl
 unstopped_by_full (Some (stops.LogFull member len)) ages fresh = absurd fresh.stopped
 unstopped_by_full (Some (stops.Damaged member at)) ages fresh = refl
+unstopped_by_full (Some (stops.NoQuorum view have need)) ages fresh = refl
 unstopped_by_full (Some (stops.Disagree a b place)) ages fresh = refl
 unstopped_by_full (Some (stops.Foreign member place)) ages fresh = refl
 unstopped_by_full (Some stops.AgesUsedUp) ages fresh = refl
@@ -247,14 +254,14 @@ rose_between : (a b c d : ℕ) → a ≤ b → Rose b c → c ≤ d → Rose a d
 rose_between a b c d low rose high = omega (arith, low, rose, high)
 
 -- where no count of faults rose no disk has ended a member
-none_rose : (script : Script) (mode : Mode) (nth : ℕ) (first : ℕ → ℕ) (before after : YardState)
-    (ages : List AgeEnd) → AreAges script mode nth before ages after → ((m : ℕ) → first m ≤ before.faults m)
+none_rose : (script : Script) (missing : ℕ) (mode : Mode) (nth : ℕ) (first : ℕ → ℕ) (before after : YardState)
+    (ages : List AgeEnd) → AreAges script missing mode nth before ages after → ((m : ℕ) → first m ≤ before.faults m)
     → ((m : ℕ) → m < script.members → Rose (first m) (after.faults m) → ⊥) → some_end DiskFault ages ≡ false
-none_rose script mode nth first before after [] are low calm = refl
-none_rose script mode nth first before after (age ∷ ages) (between, is, rest) low calm =
+none_rose script missing mode nth first before after [] are low calm = refl
+none_rose script missing mode nth first before after (age ∷ ages) (between, is, rest) low calm =
     or_from (some_of DiskFault age.members) (some_end DiskFault ages)
     (list_any_none (λ (m : MemberEnd). is_of DiskFault m.end) age.members here)
-    (none_rose script mode (nth + 1) first between after ages rest (λ m. omega (arith, low m, (is.passes m).later)) calm)
+    (none_rose script missing mode (nth + 1) first between after ages rest (λ m. omega (arith, low m, (is.passes m).later)) calm)
   where
     here : All (λ (m : MemberEnd). is_of DiskFault m.end ≡ false) age.members
     here k d within =
@@ -264,7 +271,7 @@ none_rose script mode nth first before after (age ∷ ages) (between, is, rest) 
               let rose = is.failed k e (slice_get-get_or age.members k d within) (disk_fault_is e.end failed) in
               absurd (calm k (omega (arith, within, is.roster)) (rose_between (first k) (before.faults k)
               (between.faults k) (after.faults k) (low k) rose
-              (later script mode (nth + 1) between after ages rest k)))
+              (later script missing mode (nth + 1) between after ages rest k)))
           | inr other ↦ other
         ]
 
@@ -280,13 +287,13 @@ none_at members m e none at =
     (none_of (λ (x : MemberEnd). is_of DiskFault x.end) members m e none within)
 
 -- where no disk has ended a member none has failed
-calm_ages : (script : Script) (mode : Mode) (nth : ℕ) (before after : YardState) (ages : List AgeEnd)
-    → AreAges script mode nth before ages after → some_end DiskFault ages ≡ false
+calm_ages : (script : Script) (missing : ℕ) (mode : Mode) (nth : ℕ) (before after : YardState) (ages : List AgeEnd)
+    → AreAges script missing mode nth before ages after → some_end DiskFault ages ≡ false
     → (m : ℕ) → after.faults m ≡ before.faults m
-calm_ages script mode nth before after [] are none m = ap (λ (yard : YardState). yard.faults m) (sym are)
-calm_ages script mode nth before after (age ∷ ages) (between, is, rest) none m =
+calm_ages script missing mode nth before after [] are none m = ap (λ (yard : YardState). yard.faults m) (sym are)
+calm_ages script missing mode nth before after (age ∷ ages) (between, is, rest) none m =
     let parts = or_parts (some_of DiskFault age.members) (some_end DiskFault ages) none in
-    calm_ages script mode (nth + 1) between after ages rest parts.1 m
+    calm_ages script missing mode (nth + 1) between after ages rest parts.1 m
     ∙ is.calm m (λ e at. not_failed e.end (none_at age.members m e parts.0 at))
 
 -- and where none has ended the run, unless memory was wanting
@@ -297,23 +304,24 @@ calm_stop stops.OutOfMemory last after names none ample = absurd (true≢false a
 calm_stop (stops.DiskFault m) last after names none ample = absurd (true≢false none)
 calm_stop (stops.LogFull m len) last after names none ample = names
 calm_stop (stops.Damaged m at) last after names none ample = names
+calm_stop (stops.NoQuorum view have need) last after names none ample = names
 calm_stop (stops.Disagree a b p) last after names none ample = names
 calm_stop (stops.Foreign m p) last after names none ample = names
 calm_stop stops.AgesUsedUp last after names none ample = names
 
-pub calm_run : (script : Script) (mode : Mode) (before after : YardState) (ages : List AgeEnd) (stop : Option Stop)
-    → IsRunOf script mode before after ages stop → some_so DiskFault ages stop ≡ false → is_memory stop ≡ false
+pub calm_run : (script : Script) (missing : ℕ) (mode : Mode) (before after : YardState) (ages : List AgeEnd) (stop : Option Stop)
+    → IsRunOf script missing mode before after ages stop → some_so DiskFault ages stop ≡ false → is_memory stop ≡ false
     → (m : ℕ) → after.faults m ≡ before.faults m
-calm_run script mode before after ages stop run none ample m =
-    by stop run.finish parts.1 ample m ∙ calm_ages script mode 0 before run.last ages run.course parts.0 m
+calm_run script missing mode before after ages stop run none ample m =
+    by stop run.finish parts.1 ample m ∙ calm_ages script missing mode 0 before run.last ages run.course parts.0 m
   where
     parts : (some_end DiskFault ages ≡ false) × (is_some (stopped_by DiskFault stop) ≡ false)
     parts = or_parts (some_end DiskFault ages) (is_some (stopped_by DiskFault stop)) none
 
-    by : (o : Option Stop) → HasFinished script run.last after ages o → is_some (stopped_by DiskFault o) ≡ false
+    by : (o : Option Stop) → HasFinished script missing run.last after run.chosen ages o → is_some (stopped_by DiskFault o) ≡ false
         → is_memory o ≡ false → (m : ℕ) → after.faults m ≡ run.last.faults m
     by None end calm ample m = ap (λ (yard : YardState). yard.faults m) (sym end.1)
-    by (Some s) end calm ample m = calm_stop s run.last after end.3 calm ample m
+    by (Some s) end calm ample m = calm_stop s run.last after end.4 calm ample m
 
 -- ---- runs that have all their ages
 
@@ -342,38 +350,40 @@ none_full ages roomy =
     (λ j e below. unfull (get_or (get_or ages k d).members j e).end (roomy k d within j e below)))
 
 -- fit disks that leave room, of which no call fails
-pub whole_run : (script : Script) (mode : Mode) (before after : YardState) (ages : List AgeEnd) (stop : Option Stop)
-    → IsRunOf script mode before after ages stop → AreFit script before → AreRoomy script before
+pub whole_run : (script : Script) (missing : ℕ) (mode : Mode) (before after : YardState) (ages : List AgeEnd) (stop : Option Stop)
+    → IsRunOf script missing mode before after ages stop → NoneMissing script.members missing
+    → AreFit script before → AreRoomy script before
     → ((m : ℕ) → m < script.members → Rose (before.faults m) (after.faults m) → ⊥) → is_memory stop ≡ false
     → IsWhole script ages stop
-whole_run script mode before after ages stop run fit roomy calm ample = by stop refl
+whole_run script missing mode before after ages stop run all fit roomy calm ample = by stop refl
   where
     r : IsRoomyRun ages stop
-    r = run.roomy fit roomy
+    r = run.roomy all fit roomy
 
     low : (m : ℕ) → before.faults m ≤ run.last.faults m
-    low m = later script mode 0 before run.last ages run.course m
+    low m = later script missing mode 0 before run.last ages run.course m
 
-    outside : (s : Stop) → stop ≡ Some s → HasFinished script run.last after ages (Some s) → IsOutside s → ⊥
+    outside : (s : Stop) → stop ≡ Some s → HasFinished script missing run.last after run.chosen ages (Some s) → IsOutside s → ⊥
     outside stops.OutOfMemory is end out = true≢false (sym (ap is_memory is) ∙ ample)
     outside (stops.DiskFault m) is end out =
         calm m end.1.below (rose_between (before.faults m) (run.last.faults m) (after.faults m) (after.faults m)
         (low m) end.1.rose (omega arith))
     outside (stops.LogFull m len) is end out = out
     outside (stops.Damaged m at) is end out = out
+    outside (stops.NoQuorum view have need) is end out = out
     outside (stops.Disagree a b p) is end out = out
     outside (stops.Foreign m p) is end out = out
     outside stops.AgesUsedUp is end out = out
 
     by : (o : Option Stop) → stop ≡ o → IsWhole script ages stop
     by None is =
-        let end = subst (HasFinished script run.last after ages) is run.finish in
+        let end = subst (HasFinished script missing run.last after run.chosen ages) is run.finish in
         whole_by script ages stop is end.0
-        (none_rose script mode 0 before.faults before run.last ages run.course (λ m. omega arith)
+        (none_rose script missing mode 0 before.faults before run.last ages run.course (λ m. omega arith)
         (λ m l rose. calm m l (subst (λ (y : YardState). Rose (before.faults m) (y.faults m)) end.1 rose)))
         (none_full ages r.roomy)
     by (Some s) is =
-        absurd (outside s is (subst (HasFinished script run.last after ages) is run.finish)
+        absurd (outside s is (subst (HasFinished script missing run.last after run.chosen ages) is run.finish)
         (subst (λ (o : Option Stop). IfSome o IsOutside) is r.stopped))
 
 -- empty disks in memory, none of which counts a fault
@@ -386,13 +396,14 @@ whole_in_memory script mode ages stop in_memory ample = record {
   full = memory_has_room script mode ages stop in_memory;
 }
   where
-    by : (o : Option Stop) → stop ≡ o → HasFinished script in_memory.run.last in_memory.after ages o
+    by : (o : Option Stop) → stop ≡ o → HasFinished script 0 in_memory.run.last in_memory.after in_memory.run.chosen ages o
         → IfSome o IsOutside → length ages ≡ script.ages
     by None is end out = end.0
     by (Some stops.OutOfMemory) is end out = absurd (true≢false (sym (ap is_memory is) ∙ ample))
     by (Some (stops.DiskFault m)) is end out = absurd (omega (arith, end.1.rose, in_memory.calm m))
     by (Some (stops.LogFull m len)) is end out = absurd out
     by (Some (stops.Damaged m at)) is end out = absurd out
+    by (Some (stops.NoQuorum view have need)) is end out = absurd out
     by (Some (stops.Disagree a b p)) is end out = absurd out
     by (Some (stops.Foreign m p)) is end out = absurd out
     by (Some stops.AgesUsedUp) is end out = absurd out

@@ -46,10 +46,11 @@ some_end kind ages =
 abbrev pub some_so : Kind → List AgeEnd → Option Stop → Bool
 some_so kind ages stop = some_end kind ages || is_some (stopped_by kind stop)
 
--- what is said where the logs were refused
+-- what is said where the logs were refused, or too few were there
 abbrev pub refusal_of : Option Stop → Option Last
 refusal_of (Some (stops.Damaged member at)) = Some (lasts.Damaged member at)
 refusal_of (Some (stops.Foreign member place)) = Some (lasts.Foreign member place)
+refusal_of (Some (stops.NoQuorum view have need)) = Some (lasts.NoQuorum view have need)
 refusal_of (Some (stops.Disagree a b place)) = Some (lasts.Disagree a b place)
 refusal_of (Some stops.AgesUsedUp) = Some lasts.AgesUsedUp
 refusal_of stop = None

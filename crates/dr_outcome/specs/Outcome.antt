@@ -5,7 +5,7 @@ use Rattle.dr_ages.specs.declared.mode.Mode.{Mode}
 use Rattle.dr_ages.specs.declared.mode.Mode.TheVariants.{Sim}
 use Rattle.dr_ages.specs.declared.stop.Stop.{Stop}
 use Rattle.dr_ages.specs.Fit.{AreFit}
-use Rattle.dr_ages.specs.Found.{AreRoomy}
+use Rattle.dr_ages.specs.Found.{AreRoomy, NoneMissing}
 use Rattle.dr_ages.specs.Runs.{IsRunOf}
 use Rattle.dr_complete.specs.Time.{HasTime}
 use Rattle.dr_entry.specs.declared.end.AgeEnd.{AgeEnd}
@@ -21,7 +21,7 @@ use Rattle.dr_text.specs.declared.last.Last.TheVariants as lasts
 use Rattle.dr_text.specs.Report.{age_text, last_text}
 use Rattle.dr_yard.specs.Yards.{YardState, empty_yard}
 use Rattle.dr_outcome.specs.Last.{last_of}
-use Rattle.dr_outcome.specs.Playing.{Playing}
+use Rattle.dr_outcome.specs.Playing.{InFolder, Playing}
 use Rattle.dr_outcome.specs.declared.outcome.Body.{Body}
 use Rattle.dr_outcome.specs.declared.outcome.Body.TheVariants as bodies
 use Rattle.dr_outcome.specs.declared.outcome.Outcome.{Outcome}
@@ -51,19 +51,26 @@ pub record SaysOnly (last : Option Last) (before after : YardState) (o : Outcome
 pub record IsRunInMemory (script : Script) (mode : Mode) (ages : List AgeEnd) (stop : Option Stop) : Type 0 where
   pub after : YardState
   pub calm : (m : ℕ) → after.faults m ≡ 0
-  pub run : IsRunOf script mode empty_yard after ages stop
+  pub run : IsRunOf script 0 mode empty_yard after ages stop
 
--- the ages of a run over the disks of the yard, where a folder is named, and else over disks in memory, and
--- then the yard is as it was
-abbrev pub HasRun : Mode → Option (List ℕ) → Script → YardState → YardState → List AgeEnd → Option Stop
+-- the ages of a run over the disks of the yard that are not missing, where a folder is named, and else over
+-- disks in memory, and then the yard is as it was
+abbrev pub HasRun : Mode → Option InFolder → Script → YardState → YardState → List AgeEnd → Option Stop
     → Type 0
-HasRun mode (Some folder) script before after ages stop = IsRunOf script mode before after ages stop
+HasRun mode (Some folder) script before after ages stop =
+    IsRunOf script folder.missing mode before after ages stop
 HasRun mode None script before after ages stop = (after ≡ before) × IsRunInMemory script mode ages stop
 
--- a run of the script has room for all its ages: over disks in memory, or over disks of the yard that are fit
--- and leave room, and of which no call failed
-abbrev pub LeavesRoom : Option (List ℕ) → Script → YardState → YardState → Type 0
-LeavesRoom (Some folder) script before after = AreFit script before × AreRoomy script before
+-- no log of a member of the script is missing: in memory none is
+abbrev pub HasAllLogs : Option InFolder → Script → Type 0
+HasAllLogs (Some folder) script = NoneMissing script.members folder.missing
+HasAllLogs None script = ⊤
+
+-- a run of the script has room for all its ages: over disks in memory, or over disks of the yard of which none
+-- is missing, which are fit and leave room, and of which no call failed
+abbrev pub LeavesRoom : Option InFolder → Script → YardState → YardState → Type 0
+LeavesRoom (Some folder) script before after = NoneMissing script.members folder.missing
+    × AreFit script before × AreRoomy script before
     × ((m : ℕ) → m < script.members → Rose (before.faults m) (after.faults m) → ⊥)
 LeavesRoom None script before after = ⊤
 
@@ -82,14 +89,17 @@ pub record HasPlayed (play : Playing) (script : Script) (before after : YardStat
   pub line : o.last ≡ last_of o.ages o.stop
   -- no script is refused
   pub accepted : IfSome o.last (λ line. status_of line ≢ 3)
-  -- a simulation that spends the turns of a member had too few of them; of threads nothing is said
-  pub untimely : play.mode ≡ Sim → o.last ≡ Some lasts.Unfinished → HasTime script → ⊥
+  -- a simulation that spends the turns of a member had too few of them, or a log was missing; of threads nothing is
+  -- said
+  pub untimely : play.mode ≡ Sim → HasAllLogs play.folder script → o.last ≡ Some lasts.Unfinished
+      → HasTime script → ⊥
   -- a member without a majority had a reason to suspect others
   pub untrusting : o.last ≡ Some lasts.NoMajority → SuspectsNobody script → ⊥
   -- a disk that failed is told
   pub told : TellsDisks before after o.last
-  -- unless memory was wanting fit disks stay fit, and a run that has room for all its ages has them
-  pub fit : AreFit script before → IfSome o.last (λ line. AreFit script after)
+  -- unless memory was wanting fit disks of which none is missing stay fit, and a run that has room for all its ages
+  -- has them
+  pub fit : HasAllLogs play.folder script → AreFit script before → IfSome o.last (λ line. AreFit script after)
   pub complete : LeavesRoom play.folder script before after
       → IfSome o.last (λ line. (length o.ages ≡ script.ages) × Contains (0 ∷ 8 ∷ 9 ∷ []) (status_of line))
 

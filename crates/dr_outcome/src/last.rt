@@ -93,13 +93,14 @@ fn stopped_by(kind: Kind, stop: Option<Stop>) -> Option<u8>
     }
 }
 
-/// What the last line says where the logs were refused.
+/// What the last line says where the logs were refused, or too few were there.
 fn refusal_of(stop: Option<Stop>) -> Option<Last>
     ensures { result ≡ refusal_of stop }
 {
     match stop {
         Some(Stop::Damaged { member, at }) => Some(Last::Damaged { member, at }),
         Some(Stop::Foreign { member, place }) => Some(Last::Foreign { member, place }),
+        Some(Stop::NoQuorum { view, have, need }) => Some(Last::NoQuorum { view, have, need }),
         Some(Stop::Disagree { a, b, place }) => Some(Last::Disagree { a, b, place }),
         Some(Stop::AgesUsedUp) => Some(Last::AgesUsedUp),
         _ => None,

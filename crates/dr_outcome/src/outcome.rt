@@ -6,24 +6,40 @@ ghost use Rattle.dr_outcome.specs.declared.outcome.Body.TheVariants.{Report};
 use dr_ages::{Mode, Stop};
 use dr_entry::{AgeEnd, Seq};
 use dr_text::{Last, LongText};
+use dr_words::Mask;
 use std::alloc::Global;
 use std::marker::Model;
+
+/// The folder of this name with the logs of a group, but for those of the missing members. The number of a member
+/// that is not in the roster names no log.
+#[derive(Debug, Drop)]
+pub struct Folder<'a> {
+    pub name: &'a str,
+    pub missing: Mask,
+}
+
+impl<'a> Model for Folder<'a> {
+    ghost use Rattle.dr_outcome.specs.Playing.{InFolder};
+
+    ghost Value = { InFolder };
+
+    ghost view = { λ f. record { name = f.name.now; missing = f.missing } };
+}
 
 /// How a script is played.
 #[derive(Debug, Drop)]
 pub struct Play<'a> {
     pub mode: Mode,
     /// The folder of the logs. Without one they are empty at first, and kept in memory.
-    pub folder: Option<&'a str>,
+    pub folder: Option<Folder<'a>>,
 }
 
 impl<'a> Model for Play<'a> {
-    ghost use Rattle.std.specs.Prelude.{option_map};
     ghost use Rattle.dr_outcome.specs.Playing.{Playing};
 
     ghost Value = { Playing };
 
-    ghost view = { λ p. record { mode = p.mode; folder = option_map (λ f. f.now) p.folder } };
+    ghost view = { λ p. record { mode = p.mode; folder = p.folder } };
 }
 
 /// What is said of the ages that ran, before the last line.

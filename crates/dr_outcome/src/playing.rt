@@ -56,7 +56,7 @@ pub fn play_script<R: Threads + Sync, Y: Yard, P: Pace + Sync>(
         (state_by Y.told Y.faults yard.new) result }
     ensures body { result.body ≡ Report }
 {
-    match play.folder {
+    match &play.folder {
         Some(folder) => run_over(rt, alloc, script, play.mode, folder, yard, pace),
         None => run_in_memory(rt, alloc, script, play.mode, pace),
     }

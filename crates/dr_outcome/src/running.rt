@@ -8,10 +8,11 @@ ghost use Rattle.dr_outcome.specs.Outcome.{IsRunInMemory};
 ghost use Rattle.dr_outcome.specs.declared.outcome.Body.TheVariants.{Report};
 
 use crate::last::last_of;
-use crate::outcome::{Body, Outcome, without_ages};
-use dr_ages::{AgesEnd, Mode, run_ages};
+use crate::outcome::{Body, Folder, Outcome, without_ages};
+use dr_ages::{AgesEnd, Mode, Part, run_ages};
 use dr_pace::Pace;
 use dr_script::Script;
+use dr_words::Mask;
 use dr_yard::{CalmYard, Yard};
 use std::alloc::Global;
 use std::thread::Threads;
@@ -30,8 +31,12 @@ pub fn run_in_memory<R: Threads + Sync, P: Pace + Sync>(
         × (result.last ≡ last_of result.ages result.stop)) }
     ensures body { result.body ≡ Report }
 {
+    let folder = Folder {
+        name: "",
+        missing: Mask::empty(),
+    };
     match CalmYard::new(alloc) {
-        Ok(mut yard) => run_over(rt, alloc, script, mode, "", &mut yard, pace),
+        Ok(mut yard) => run_over(rt, alloc, script, mode, &folder, &mut yard, pace),
         Err(_) => without_ages(alloc, None),
     }
 }
@@ -42,19 +47,22 @@ pub(crate) fn run_over<R: Threads + Sync, Y: Yard, P: Pace + Sync>(
     alloc: Global,
     script: &Script,
     mode: Mode,
-    folder: &str,
+    folder: &Folder<'_>,
     yard: &mut Y,
     pace: &P,
 ) -> Outcome
     requires ranges { HasRanges script.now }
     requires here { (m : ℕ) → m < MAX_MEMBERS → Y.is_lent yard.old m ≡ false }
     ensures here { (m : ℕ) → m < MAX_MEMBERS → Y.is_lent yard.new m ≡ false }
-    ensures run { IsRunOf script.now mode (state_by Y.told Y.faults yard.old)
+    ensures run { IsRunOf script.now folder.now.missing mode (state_by Y.told Y.faults yard.old)
         (state_by Y.told Y.faults yard.new) result.ages result.stop }
     ensures last { result.last ≡ last_of result.ages result.stop }
     ensures body { result.body ≡ Report }
 {
-    let AgesEnd { ages, stop } = run_ages(rt, alloc, script, mode, folder, yard, pace);
+    let part = Part {
+        missing: folder.missing,
+    };
+    let AgesEnd { ages, stop } = run_ages(rt, alloc, script, &part, mode, folder.name, yard, pace);
     let last = last_of(ages.as_slice(), stop);
     Outcome {
         ages,

@@ -1,14 +1,14 @@
-use Rattle.std.proofs.Common.{◌⊎◌, ◌∙◌, ap, inr, subst, sym, List, ℕ, None, Option, Bor, option_map}
+use Rattle.std.proofs.Common.{◌⊎◌, ◌∙◌, ap, inr, subst, sym, None, Option}
 use Rattle.dr_ages.specs.declared.mode.Mode.{Mode}
 use Rattle.dr_yard.specs.Yards.{state_by}
 use Rattle.dr_outcome.specs.Outcome.{HasPlayed, HasRun, SaysOnly}
-use Rattle.dr_outcome.specs.Playing.{Playing}
+use Rattle.dr_outcome.specs.Playing.{InFolder, Playing}
 use Rattle.dr_outcome.proofs.Due.{has_played, memory_played}
 use Rattle.dr_outcome.proofs.playing.play_script.Goals as goal
 
 -- how it is played, by what the code has of it
-abbrev playing : Mode → Option (Bor (List ℕ)) → Playing
-playing mode folder = record { mode = mode; folder = option_map (λ f. f.now) folder }
+abbrev playing : Mode → Option InFolder → Playing
+playing mode folder = record { mode = mode; folder = folder }
 
 pub returns-in-Some-clause-played : goal.returns-in-Some-clause-played
 returns-in-Some-clause-played g c =

@@ -8,6 +8,6 @@ use Rattle.dr_outcome.proofs.running.run_over.Goals as goal
 pub last_of-last-requires : goal.last_of-last-requires
 last_of-last-requires g c =
     subst (All (λ (age : AgeEnd). length age.members ≤ MAX_MEMBERS)) (sym c.as_slice.ensures)
-    (few_members c.args.script.now c.args.mode 0 (state_by g.Y.Yard.told g.Y.Yard.faults c.args.yard.now)
+    (few_members c.args.script.now c.folder.inside.missing c.args.mode 0 (state_by g.Y.Yard.told g.Y.Yard.faults c.args.yard.now)
     c.run_ages-ages.ensures.run.last c.run_ages-ages.result.ages c.requires.ranges.group.most_members
     c.run_ages-ages.ensures.run.course)
