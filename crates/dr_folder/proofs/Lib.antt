@@ -1,4 +1,5 @@
 mod Advising
 mod Fronts
+mod Refusing
 mod Saying
 mod Taking

@@ -1,12 +1,16 @@
 -- What is known of each file of a folder, by member, as one more is looked at, and of files of which one is put
 -- back.
-use Rattle.std.proofs.Common.{◌≡◌, ◌⊎◌, inl, inr, sym, ap, ◌∙◌, subst, arith, ℕ, ◌+◌, ◌<◌, List, [], ◌∷◌, ◌++◌, length, get_or, length-append}
-use Rattle.std.specs.Prelude.{Some, slice_get, slice_set}
-use Rattle.std.proofs.lemmas.List.{map-append, set-get_or, set-set}
-use Rattle.dr_entry.specs.declared.entry.Entry.{Entry}
-use Rattle.dr_gather.specs.Gathering.{entries_on}
+use Rattle.std.proofs.Common.{◌≡◌, ◌⊎◌, inl, inr, refl, sym, ap, ◌∙◌, subst, arith, ℕ, ◌+◌, ◌<◌, ◌≤◌, true, List, [], ◌∷◌, ◌++◌, length, get_or, length-append, Option, None, Some, is_some}
+use Rattle.std.specs.Prelude.{option_map, slice_get, slice_index_or, slice_set}
+use Rattle.std.proofs.lemmas.Bool.{cases_lt}
+use Rattle.std.proofs.lemmas.List.{get_or_append_left, get_or_push, map-append, set-get_or, set-set}
+use Rattle.std.proofs.lemmas.Option.{same_Some}
 use Rattle.dr_history_laws.proofs.Lists.{slice_get-push_cases}
 use Rattle.dr_log.specs.State.{LogState}
+use Rattle.dr_log_bytes.specs.Content.{OnLog}
+use Rattle.dr_opening.proofs.Lists.{within_places}
+use Rattle.dr_opening.specs.Lists.{contents_of}
+use Rattle.dr_opening.specs.Tries.{content_at}
 use Rattle.dr_folder.specs.declared.file.LogFile.{LogFile}
 use Rattle.dr_folder.specs.declared.survey.Survey.{Survey}
 use Rattle.dr_folder.specs.Foretold.{AreTakenFor, IsTakenFor, file_in}
@@ -35,22 +39,63 @@ surveys_more n files surveys survey are is = record {
   each = each_more (λ (m : ℕ) (s : Survey). IsSurvey (file_in files m) s) surveys survey n are.each are.count is;
 }
 
--- one more file is taken for a log
-pub taken_more : (n : ℕ) (files : List LogFile) (lists : List (List Entry)) (es : List Entry)
-    → AreTakenFor n files lists → IsTakenFor (file_in files n) es
-    → AreTakenFor (n + 1) files (lists ++ es ∷ [])
-taken_more n files lists es are is = record {
-  all = omega (arith, length-append lists (es ∷ []), are.all);
-  each = each_more (λ (m : ℕ) (l : List Entry). IsTakenFor (file_in files m) l) lists es n are.each are.all is;
-}
+-- what is in each place of a list, one of which was put behind it
+pushed_cases : {X : Type 0} (xs : List (Option X)) (y : Option X) (m n : ℕ) → length xs ≡ n → m < n + 1
+    → ((m < n) × (slice_index_or (xs ++ y ∷ []) m None ≡ slice_index_or xs m None))
+    ⊎ ((m ≡ n) × (slice_index_or (xs ++ y ∷ []) m None ≡ y))
+pushed_cases xs y m n long below = by (cases_lt m n)
+  where
+    by : (m < n) ⊎ (n ≤ m)
+        → ((m < n) × (slice_index_or (xs ++ y ∷ []) m None ≡ slice_index_or xs m None))
+        ⊎ ((m ≡ n) × (slice_index_or (xs ++ y ∷ []) m None ≡ y))
+    by (inl less) = inl (less, get_or_append_left xs (y ∷ []) None m (omega (arith, less, long)))
+    by (inr more) =
+        let same : n ≡ m = omega (arith, below, more) in
+        inr (sym same, get_or_push xs y None m (long ∙ same))
 
-pub log_taken : {D : Type 0} (n : ℕ) (files : List LogFile) (logs : List (LogState D)) (log : LogState D)
-    → AreTakenFor n files (entries_on logs) → IsTakenFor (file_in files n) log.content.entries
-    → AreTakenFor (n + 1) files (entries_on (logs ++ log ∷ []))
+-- one more file is taken for a log
+pub taken_more : (n : ℕ) (files : List LogFile) (contents : List (Option OnLog)) (c : OnLog)
+    → AreTakenFor n files contents → IsTakenFor (file_in files n) c
+    → AreTakenFor (n + 1) files (contents ++ Some c ∷ [])
+taken_more n files contents c are is = record {
+  all = omega (arith, length-append contents (Some c ∷ []), are.all);
+  there = λ m below. by_there m (pushed_cases contents (Some c) m n are.all below);
+  each = λ m d at. by_each m d at (pushed_cases contents (Some c) m n are.all (inside m d at));
+}
+  where
+    inside : (m : ℕ) (d : OnLog) → content_at (contents ++ Some c ∷ []) m ≡ Some d → m < n + 1
+    inside m d at =
+        omega (arith, within_places (contents ++ Some c ∷ []) m d at, length-append contents (Some c ∷ []), are.all)
+
+    by_there : (m : ℕ) → ((m < n) × (content_at (contents ++ Some c ∷ []) m ≡ content_at contents m))
+        ⊎ ((m ≡ n) × (content_at (contents ++ Some c ∷ []) m ≡ Some c))
+        → is_some (content_at (contents ++ Some c ∷ []) m) ≡ true
+    by_there m (inl old) = ap is_some old.1 ∙ are.there m old.0
+    by_there m (inr new) = ap is_some new.1
+
+    by_each : (m : ℕ) (d : OnLog) → content_at (contents ++ Some c ∷ []) m ≡ Some d
+        → ((m < n) × (content_at (contents ++ Some c ∷ []) m ≡ content_at contents m))
+        ⊎ ((m ≡ n) × (content_at (contents ++ Some c ∷ []) m ≡ Some c)) → IsTakenFor (file_in files m) d
+    by_each m d at (inl old) = are.each m d (sym old.1 ∙ at)
+    by_each m d at (inr new) =
+        subst (λ (k : ℕ). IsTakenFor (file_in files k) d) (sym new.0)
+        (subst (IsTakenFor (file_in files n)) (same_Some c d (sym new.1 ∙ at)) is)
+
+pub log_taken : {D : Type 0} (n : ℕ) (files : List LogFile) (logs : List (Option (LogState D)))
+    (log : LogState D) → AreTakenFor n files (contents_of logs) → IsTakenFor (file_in files n) log.content
+    → AreTakenFor (n + 1) files (contents_of (logs ++ Some log ∷ []))
 log_taken {D} n files logs log are is =
-    subst (λ (lists : List (List Entry)). AreTakenFor (n + 1) files lists)
-    (sym (map-append (λ (log : LogState D). log.content.entries) logs (log ∷ [])))
-    (taken_more n files (entries_on logs) log.content.entries are is)
+    subst (λ (contents : List (Option OnLog)). AreTakenFor (n + 1) files contents)
+    (sym (map-append (option_map (λ (log : LogState D). log.content)) logs (Some log ∷ [])))
+    (taken_more n files (contents_of logs) log.content are is)
+
+-- before the first
+pub none_taken : (files : List LogFile) → AreTakenFor 0 files []
+none_taken files = record {
+  all = refl;
+  there = λ m below. absurd (omega (arith, below));
+  each = λ m c at. absurd (cc at);
+}
 
 -- a file that was moved away is put back
 pub put_back : (files : List LogFile) (member : ℕ) (away file d : LogFile) → file ≡ get_or files member d

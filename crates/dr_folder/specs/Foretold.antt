@@ -1,11 +1,13 @@
 -- What the next run over the files of a folder begins with, or is refused by.
-use Rattle.std.specs.Prelude.{◌≡◌, ◌⊎◌, ℕ, ◌<◌, ◌^◌, List, [], length, get_or, slice_get, Some}
-use Rattle.dr_entry.specs.declared.entry.Entry.{Entry}
-use Rattle.dr_gather.specs.Gathering.{AreUsedUp, IsStartOf, judged_by}
-use Rattle.dr_history.specs.Restarting.{AreSound, IsFirstDisagreement, IsFirstForeign}
+use Rattle.std.specs.Prelude.{◌≡◌, ◌⊎◌, ℕ, ◌<◌, true, List, [], length, get_or, Option, None, Some, is_some, IsSomeAnd}
 use Rattle.dr_log_bytes.specs.Content.{OnLog}
 use Rattle.dr_log_bytes.specs.Grammar.{IsDamaged, StandFor}
+use Rattle.dr_opening.specs.Lists.{all_as_lists}
+use Rattle.dr_opening.specs.Tries.{IsChosenOf, content_at}
+use Rattle.dr_quorum.specs.Handing.{handed_by}
 use Rattle.dr_restart.specs.declared.start.Start.{Start}
+use Rattle.dr_restart.specs.Groups.{first_group_of}
+use Rattle.dr_restart.specs.Refusing.{IsRefusedFor, Refusal}
 use Rattle.dr_script.specs.declared.script.Script.{Script}
 use Rattle.dr_text.specs.declared.last.Last.{Last}
 use Rattle.dr_text.specs.declared.last.Last.TheVariants as lasts
@@ -16,15 +18,11 @@ use Rattle.dr_folder.specs.declared.file.LogFile.TheVariants.{Missing, Unread, B
 abbrev pub file_in : List LogFile → ℕ → LogFile
 file_in files m = get_or files m Missing
 
--- bytes are a log with these entries
-abbrev pub StandsIn : List ℕ → List Entry → Type 0
-StandsIn bytes es = (c : OnLog) × StandFor bytes c × (c.entries ≡ es)
-
--- a run takes a file for the log with these entries; no file is as good as one without bytes
-abbrev pub IsTakenFor : LogFile → List Entry → Type 0
-IsTakenFor Missing es = StandsIn [] es
-IsTakenFor (Unread why) es = ⊥
-IsTakenFor (Bytes bytes) es = StandsIn bytes es
+-- a run takes a file for a log with this on it; no file is as good as one without bytes
+abbrev pub IsTakenFor : LogFile → OnLog → Type 0
+IsTakenFor Missing c = StandFor [] c
+IsTakenFor (Unread why) c = ⊥
+IsTakenFor (Bytes bytes) c = StandFor bytes c
 
 -- the last line of a run that is refused for the bytes of the log of a member: they are damaged
 abbrev pub IsRefusedWith : List ℕ → ℕ → Last → Type 0
@@ -37,37 +35,43 @@ IsRefusedBy Missing member last = IsRefusedWith [] member last
 IsRefusedBy (Unread why) member last = last ≡ lasts.DiskFault member
 IsRefusedBy (Bytes bytes) member last = IsRefusedWith bytes member last
 
--- a run takes the files of the first n members for the logs with these entries
-pub record AreTakenFor (n : ℕ) (files : List LogFile) (lists : List (List Entry)) : Type 0 where
-  pub all : length lists ≡ n
-  pub each : (m : ℕ) (es : List Entry) → slice_get lists m ≡ Some es → IsTakenFor (file_in files m) es
+-- a run takes the files of the first n members for logs with this on them, none of which is missing
+pub record AreTakenFor (n : ℕ) (files : List LogFile) (contents : List (Option OnLog)) : Type 0 where
+  pub all : length contents ≡ n
+  pub there : (m : ℕ) → m < n → is_some (content_at contents m) ≡ true
+  pub each : (m : ℕ) (c : OnLog) → content_at contents m ≡ Some c → IsTakenFor (file_in files m) c
 
 -- a run stops at one of the first n files, and takes those of the members before it for logs
 pub record IsRefusedAt (n : ℕ) (files : List LogFile) (last : Last) : Type 0 where
   pub member : ℕ
   pub below : member < n
   pub stops : IsRefusedBy (file_in files member) member last
-  pub lists : List (List Entry)
-  pub before : AreTakenFor member files lists
+  pub contents : List (Option OnLog)
+  pub before : AreTakenFor member files contents
 
--- what a run starts with over these files: what the logs that it takes them for make it start with
+-- what a run starts with over these files: what is chosen of the logs that it takes them for
 pub record IsForetold (script : Script) (files : List LogFile) (start : Start) : Type 0 where
-  pub lists : List (List Entry)
-  pub taken : AreTakenFor script.members files lists
-  pub starts : IsStartOf script lists start
-  pub small : start.age < 2 ^ 16
+  pub contents : List (Option OnLog)
+  pub taken : AreTakenFor script.members files contents
+  pub starts : IsChosenOf (first_group_of script).opening contents start
 
--- the last line of a run that is refused for the logs that it has found: they are not those of the script's group,
--- or leave no age
-abbrev pub IsRefusedFor : Script → List (List Entry) → Last → Type 0
-IsRefusedFor script lists (lasts.Foreign member place) = IsFirstForeign (judged_by script) lists member place
-IsRefusedFor script lists (lasts.Disagree a b place) =
-    AreSound (judged_by script) lists × IsFirstDisagreement lists a b place
-IsRefusedFor script lists lasts.AgesUsedUp = AreUsedUp script lists
-IsRefusedFor script lists last = ⊥
+-- why the logs that a run has found make no start, by its last line: they are not those of the script's group, too
+-- few of a view are there, or they leave no age
+abbrev pub refused_by : Last → Option Refusal
+refused_by (lasts.Foreign member place) = Some (Refusal.Foreign member place)
+refused_by (lasts.NoQuorum view have need) = Some (Refusal.NoQuorum view have need)
+refused_by (lasts.Disagree a b place) = Some (Refusal.Disagree a b place)
+refused_by lasts.AgesUsedUp = Some Refusal.AgesUsedUp
+refused_by last = None
+
+-- a run over logs with this on them is refused for what they are, with this last line
+abbrev pub AreRefusedBy : Script → Last → List (Option OnLog) → Type 0
+AreRefusedBy script last contents =
+    IsSomeAnd (refused_by last) (IsRefusedFor (first_group_of script).opening (handed_by (all_as_lists contents)))
 
 -- the last line of a run that is refused over these files: it stops at one of them, or takes them for logs for which
 -- it is refused
 abbrev pub IsBarred : Script → List LogFile → Last → Type 0
 IsBarred script files last = IsRefusedAt script.members files last
-    ⊎ ((lists : List (List Entry)) × AreTakenFor script.members files lists × IsRefusedFor script lists last)
+    ⊎ ((contents : List (Option OnLog)) × AreTakenFor script.members files contents
+    × AreRefusedBy script last contents)

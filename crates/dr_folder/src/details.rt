@@ -29,9 +29,9 @@ pub(crate) fn details_of(alloc: Global, check: &FolderCheck) -> Result<String, A
 
 /// Appends from which log a start has its entries, if it has some.
 fn push_source(out: &mut String, start: &Start, surveys: &[Survey]) -> Result<(), AllocError> {
-    let count = start.entries.as_slice().len();
+    let entries = start.entries.as_slice();
     for (number, survey) in surveys.iter().enumerate() {
-        if count > 0 && entries_of(survey).len() == count {
+        if !entries.is_empty() && entries_of(survey) == entries {
             return writeln!(out, "  from member-{number}.log");
         }
     }

@@ -1,14 +1,21 @@
 //! What the next run over a folder of logs begins with, or is refused by.
 
-ghost use Rattle.std.specs.Prelude.{◌≡◌, ◌<◌, Some, IfOk, IsErrOf, length, slice_set};
+ghost use Rattle.std.specs.Prelude.{◌≡◌, ◌<◌, Some, IfOk, IfSome, IsErrOf, IsSomeAnd, length, slice_set};
+ghost use Rattle.dr_opening.specs.Lists.{contents_of};
+ghost use Rattle.dr_opening.specs.Tries.{IsChosenOf};
+ghost use Rattle.dr_restart.specs.Groups.{first_group_of};
 ghost use Rattle.dr_script.specs.Ranges.{HasGroupRanges};
 ghost use Rattle.dr_text.specs.declared.last.Last.{Last as LastOf};
 ghost use Rattle.dr_folder.specs.declared.file.LogFile.TheVariants.{Missing};
-ghost use Rattle.dr_folder.specs.Foretold.{IsBarred, IsForetold};
+ghost use Rattle.dr_quorum.specs.Telling.{reason_of};
+ghost use Rattle.dr_folder.specs.Foretold.{AreRefusedBy, IsBarred, IsForetold, refused_by};
 
 use crate::file::LogFile;
 use crate::mounting::mount_files;
-use dr_gather::{GatherFault, gather};
+use dr_disk::Disk;
+use dr_log::Log;
+use dr_opening::lists_of;
+use dr_quorum::{ChooseFault, choose};
 use dr_restart::Start;
 use dr_script::Script;
 use dr_text::Last;
@@ -31,12 +38,45 @@ pub(crate) fn foretell(
     ensures barred { (last : LastOf) → IsErrOf result (Some last) → IsBarred script.now files.now last }
 {
     let logs = mount_files(alloc, files, script.members)?;
-    match gather(alloc, script, logs.as_slice()) {
+    choose_of(alloc, script, logs.as_slice())
+}
+
+/// What is chosen of these logs.
+///
+/// # Errors
+///
+/// The last line of a run that is refused for what they are; none where memory was wanting.
+fn choose_of<D: Disk>(
+    alloc: Global,
+    script: &Script,
+    logs: &[Option<Log<D>>],
+) -> Result<Start, Option<Last>>
+    requires ranges { HasGroupRanges script.now }
+    requires all { length logs.now ≡ script.now.members }
+    ensures start { IfOk result (IsChosenOf (first_group_of script.now).opening (contents_of logs.now)) }
+    ensures refused { (last : LastOf) → IsErrOf result (Some last)
+        → AreRefusedBy script.now last (contents_of logs.now) }
+{
+    let Ok(lists) = lists_of(alloc, logs) else {
+        return Err(None);
+    };
+    match choose(alloc, script, lists.as_slice()) {
         Ok(start) => Ok(start),
-        Err(GatherFault::OutOfMemory) => Err(None),
-        Err(GatherFault::Foreign { member, place }) => Err(Some(Last::Foreign { member, place })),
-        Err(GatherFault::Disagree { a, b, place }) => Err(Some(Last::Disagree { a, b, place })),
-        Err(GatherFault::AgesUsedUp) => Err(Some(Last::AgesUsedUp)),
+        Err(fault) => Err(last_of(fault)),
+    }
+}
+
+/// The last line of a run that is refused for this; none where memory was wanting.
+fn last_of(fault: ChooseFault) -> Option<Last>
+    ensures { IfSome result (λ last.
+        IsSomeAnd (refused_by last) (λ why. reason_of fault ≡ Some why)) }
+{
+    match fault {
+        ChooseFault::OutOfMemory => None,
+        ChooseFault::Foreign { member, place } => Some(Last::Foreign { member, place }),
+        ChooseFault::NoQuorum { view, have, need } => Some(Last::NoQuorum { view, have, need }),
+        ChooseFault::Disagree { a, b, place } => Some(Last::Disagree { a, b, place }),
+        ChooseFault::AgesUsedUp => Some(Last::AgesUsedUp),
     }
 }
 

@@ -1,9 +1,10 @@
 //! Mounts copies of files, as a run mounts the files.
 
 ghost use Rattle.std.specs.Prelude.{◌≡◌, [], Some, IfOk, IsErrOf, length};
-ghost use Rattle.dr_gather.specs.Gathering.{entries_on};
+ghost use Rattle.dr_log_bytes.specs.Grammar.{StandFor};
+ghost use Rattle.dr_opening.specs.Lists.{contents_of};
 ghost use Rattle.dr_text.specs.declared.last.Last.{Last as LastOf};
-ghost use Rattle.dr_folder.specs.Foretold.{AreTakenFor, IsRefusedAt, IsRefusedBy, IsRefusedWith, IsTakenFor, StandsIn};
+ghost use Rattle.dr_folder.specs.Foretold.{AreTakenFor, IsRefusedAt, IsRefusedBy, IsRefusedWith, IsTakenFor};
 
 use crate::file::LogFile;
 use dr_disk::{CalmDisk, Disk};
@@ -23,16 +24,17 @@ pub(crate) fn mount_files(
     alloc: Global,
     files: &[LogFile],
     members: u8,
-) -> Result<Vec<Log<CalmDisk>>, Option<Last>>
+) -> Result<Vec<Option<Log<CalmDisk>>>, Option<Last>>
     requires { length files.now ≡ members }
-    ensures taken { IfOk result (λ logs. AreTakenFor members files.now (entries_on logs.items)) }
+    ensures taken { IfOk result (λ logs. AreTakenFor members files.now (contents_of logs.items)) }
+    ensures all { IfOk result (λ logs. length logs.items ≡ members) }
     ensures refused { (last : LastOf) → IsErrOf result (Some last) → IsRefusedAt members files.now last }
 {
     let mut logs = Vec::new(alloc);
     for member in 0..members {
         let m = usize::from(member);
         let log = mount_file(alloc, &files[m], member)?;
-        if logs.push(log).is_err() {
+        if logs.push(Some(log)).is_err() {
             return Err(None);
         }
     }
@@ -41,7 +43,7 @@ pub(crate) fn mount_files(
 
 /// The log in the file of a member. Where there is none a run makes an empty one.
 fn mount_file(alloc: Global, file: &LogFile, member: u8) -> Result<Log<CalmDisk>, Option<Last>>
-    ensures taken { IfOk result (λ log. IsTakenFor file.now log.content.entries) }
+    ensures taken { IfOk result (λ log. IsTakenFor file.now log.content) }
     ensures refused { (last : LastOf) → IsErrOf result (Some last) → IsRefusedBy file.now member last }
 {
     match file {
@@ -56,7 +58,7 @@ fn mount_file(alloc: Global, file: &LogFile, member: u8) -> Result<Log<CalmDisk>
 
 /// The log of a member on a disk that never fails.
 fn mount(alloc: Global, disk: CalmDisk, member: u8) -> Result<Log<CalmDisk>, Option<Last>>
-    ensures taken { IfOk result (λ log. StandsIn disk.state.content log.content.entries) }
+    ensures taken { IfOk result (λ log. StandFor disk.state.content log.content) }
     ensures refused { (last : LastOf) → IsErrOf result (Some last)
         → IsRefusedWith disk.state.content member last }
 {
