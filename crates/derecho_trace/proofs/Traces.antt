@@ -1,9 +1,10 @@
 -- What is told of a run, by what its watcher was told.
-use Rattle.std.proofs.Common.{◌≡◌, ℕ, ◌+◌, List, [], ◌∷◌, ◌++◌, Option, Some, None, length, slice_get, refl, sym, ap, subst, append-nil, append_assoc, ◌⊎◌, inl, inr}
+use Rattle.std.proofs.Common.{◌≡◌, ℕ, ◌+◌, List, [], ◌∷◌, ◌++◌, Option, Some, None, length, refl, sym, ap, subst, append-nil, append_assoc, ◌⊎◌, inl, inr}
 use Rattle.std.proofs.lemmas.Option.{none-some}
 use Rattle.dr_ages.specs.declared.mode.Mode.TheVariants.{Sim}
 use Rattle.dr_ages.specs.Watched.{AreWatched}
 use Rattle.dr_entry.specs.declared.end.AgeEnd.{AgeEnd}
+use Rattle.dr_program.specs.Presence.{present_at}
 use Rattle.dr_program.specs.Program.{Move, Program, step_of}
 use Rattle.dr_program.specs.Running.{Running}
 use Rattle.dr_restart.specs.declared.start.Start.{Start}
@@ -29,7 +30,7 @@ Opens old start new = Tells (age_line start.age (length start.entries)) old new
 abbrev pub Sees : Written → Running → List ℕ → Written → Type 0
 Sees old member table new = Tells (line_of member table) old new
 
-abbrev pub Closes : Written → List Running → List ℕ → Written → Type 0
+abbrev pub Closes : Written → List (Option Running) → List ℕ → Written → Type 0
 Closes old members table new = Tells [] old new
 
 -- nothing more is told where nothing changes
@@ -43,9 +44,9 @@ moves_told : (p : Program) (es : List Move) (old new : Written) → WasTold Sees
     → Tells (moves_text p es) old new
 moves_told p [] old new same = tells_same old new same
 moves_told p (e ∷ es) old new was =
-    let line : deed_line p.table (slice_get p.members e.member) ≡ line_of was.0 p.table =
+    let line : deed_line p.table (present_at p.members e.member) ≡ line_of was.0 p.table =
     ap (deed_line p.table) was.2 in
-    tells_both (deed_line p.table (slice_get p.members e.member)) (moves_text (step_of p e) es) old was.1 new
+    tells_both (deed_line p.table (present_at p.members e.member)) (moves_text (step_of p e) es) old was.1 new
     (subst (λ (l : List ℕ). Tells l old was.1) (sym line) was.3)
     (moves_told (step_of p e) es was.1 new was.4)
 
@@ -56,7 +57,7 @@ pub record HaveLines (script : Script) (nth : ℕ) (ages : List AgeEnd) (old new
   pub tells : Tells text old new
 
 pub lines_told : (script : Script) (nth : ℕ) (ages : List AgeEnd) (old new : Written)
-    → AreWatched Opens Sees Closes Sim script nth ages old new → HaveLines script nth ages old new
+    → AreWatched Opens Sees Closes Sim script 0 nth ages old new → HaveLines script nth ages old new
 lines_told script nth [] old new same = record {
   text = [];
   lines = refl;
@@ -88,7 +89,7 @@ OpensSome old start new = TellsSome old new
 abbrev pub SeesSome : Written → Running → List ℕ → Written → Type 0
 SeesSome old member table new = TellsSome old new
 
-abbrev pub ClosesSome : Written → List Running → List ℕ → Written → Type 0
+abbrev pub ClosesSome : Written → List (Option Running) → List ℕ → Written → Type 0
 ClosesSome old members table new = TellsSome old new
 
 some_both : (old now new : Written) → TellsSome old now → TellsSome now new → TellsSome old new
@@ -101,7 +102,7 @@ some_moves p (e ∷ es) old new was =
     some_both old was.1 new was.3 (some_moves (step_of p e) es was.1 new was.4)
 
 pub some_told : (script : Script) (nth : ℕ) (ages : List AgeEnd) (old new : Written)
-    → AreWatched OpensSome SeesSome ClosesSome Sim script nth ages old new → TellsSome old new
+    → AreWatched OpensSome SeesSome ClosesSome Sim script 0 nth ages old new → TellsSome old new
 some_told script nth [] old new same = ([], tells_same old new (sym same))
 some_told script nth (age ∷ ages) old new was =
     let seen = was.1 in
@@ -159,12 +160,12 @@ run_wrote form script ages stop last held holds fell falls status told run is te
 
 pub lines_wrote : (script : Script) (ages : List AgeEnd) (stop : Option Stop) (last : Option Last)
     (held holds : Option (List ℕ)) (fell falls status : ℕ) (old new : Written) → HasRun script ages stop last
-    → AreWatched Opens Sees Closes Sim script 0 ages old new → HasTold held fell [] old
+    → AreWatched Opens Sees Closes Sim script 0 0 ages old new → HasTold held fell [] old
     → Writes held holds fell falls status last new
     → WroteOne (IsTraced Lines script) held holds fell falls status
 lines_wrote script ages stop last held holds fell falls status old new (inl none) watched told writes =
     let same : new ≡ old =
-    subst (λ (l : List AgeEnd). AreWatched Opens Sees Closes Sim script 0 l old new) none.0 watched in
+    subst (λ (l : List AgeEnd). AreWatched Opens Sees Closes Sim script 0 0 l old new) none.0 watched in
     wanting_wrote Lines script last held holds fell falls status none.2
     (writes [] (subst (λ (w : Written). HasTold held fell [] w) (sym same) told))
 lines_wrote script ages stop last held holds fell falls status old new (inr ran) watched told writes =
@@ -174,12 +175,12 @@ lines_wrote script ages stop last held holds fell falls status old new (inr ran)
 
 pub chart_wrote : (script : Script) (ages : List AgeEnd) (stop : Option Stop) (last : Option Last)
     (held holds : Option (List ℕ)) (fell falls status : ℕ) (old new : Written) → HasRun script ages stop last
-    → AreWatched OpensSome SeesSome ClosesSome Sim script 0 ages old new → HasTold held fell [] old
+    → AreWatched OpensSome SeesSome ClosesSome Sim script 0 0 ages old new → HasTold held fell [] old
     → Writes held holds fell falls status last new
     → WroteOne (IsTraced Chart script) held holds fell falls status
 chart_wrote script ages stop last held holds fell falls status old new (inl none) watched told writes =
     let same : new ≡ old =
-    subst (λ (l : List AgeEnd). AreWatched OpensSome SeesSome ClosesSome Sim script 0 l old new) none.0
+    subst (λ (l : List AgeEnd). AreWatched OpensSome SeesSome ClosesSome Sim script 0 0 l old new) none.0
     watched in
     wanting_wrote Chart script last held holds fell falls status none.2
     (writes [] (subst (λ (w : Written). HasTold held fell [] w) (sym same) told))

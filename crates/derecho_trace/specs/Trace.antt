@@ -1,5 +1,5 @@
 -- What is told of a run, and what a call comes to.
-use Rattle.std.specs.Prelude.{◌≡◌, ◌⊎◌, ⊤, ℕ, true, MatchOption, ◌+◌, List, [], ◌∷◌, ◌++◌, length, slice_get, codes, Option, String}
+use Rattle.std.specs.Prelude.{◌≡◌, ◌⊎◌, ⊤, ℕ, true, MatchOption, ◌+◌, List, [], ◌∷◌, ◌++◌, length, codes, Option, String}
 use Rattle.std.specs.Option.{option_map_or}
 use Rattle.std.specs.declared.alloc.Global.{Global}
 use Rattle.dr_ages.specs.declared.mode.Mode.TheVariants.{Sim}
@@ -12,6 +12,7 @@ use Rattle.dr_intake.specs.Reading.{refusal_in}
 use Rattle.dr_intake.specs.Status.{WroteText, status_of}
 use Rattle.dr_outcome.specs.Last.{last_of}
 use Rattle.dr_outcome.specs.Outcome.{IsRunInMemory}
+use Rattle.dr_program.specs.Presence.{present_at}
 use Rattle.dr_program.specs.Program.{Move, Program, step_of}
 use Rattle.dr_program.specs.Running.{Running}
 use Rattle.dr_script.specs.declared.script.Script.{Script}
@@ -32,14 +33,14 @@ deed_line table r = option_map_or (λ (now : Running). line_of now table) r []
 -- the lines of these moves of a program, in their order
 abbrev pub moves_text : Program → List Move → List ℕ
 moves_text p [] = []
-moves_text p (e ∷ es) = deed_line p.table (slice_get p.members e.member) ++ moves_text (step_of p e) es
+moves_text p (e ∷ es) = deed_line p.table (present_at p.members e.member) ++ moves_text (step_of p e) es
 
 -- the lines of these ages, the first of which is number nth of the run: for each its own line, and those of
 -- the moves by which it ran
 abbrev pub AreLines : Script → ℕ → List AgeEnd → List ℕ → Type 0
 AreLines script nth [] text = text ≡ []
 AreLines script nth (age ∷ ages) text =
-    (is : IsSimulated script (start_of script age) nth age) × (rest : List ℕ)
+    (is : IsSimulated script (start_of script 0 age) nth age) × (rest : List ℕ)
     × AreLines script (nth + 1) ages rest
     × (text ≡ (age_line age.age (length age.start) ++ moves_text is.begun is.run.moves) ++ rest)
 

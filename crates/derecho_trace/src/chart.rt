@@ -74,7 +74,7 @@ impl<K: Sink> Watcher for Drawing<K> {
         self.tell(drawn);
     }
 
-    fn close(&mut self, members: &[Member], _table: &[u64]) {
+    fn close(&mut self, members: &[Option<Member>], _table: &[u64]) {
         let drawn = self.chart.close(members);
         self.tell(drawn);
     }

@@ -44,5 +44,5 @@ impl<K: Sink> Watcher for Lines<K> {
         self.output.tell_line(member, table);
     }
 
-    fn close(&mut self, _members: &[Member], _table: &[u64]) {}
+    fn close(&mut self, _members: &[Option<Member>], _table: &[u64]) {}
 }

@@ -69,7 +69,7 @@ impl Watcher for Picturing {
         }
     }
 
-    fn close(&mut self, members: &[Member], _table: &[u64]) {
+    fn close(&mut self, members: &[Option<Member>], _table: &[u64]) {
         if !self.is_wanting {
             self.is_wanting = self.picture.close(members).is_err();
         }

@@ -183,17 +183,19 @@ fn message_of(bytes: &[u8]) -> Message
 }
 
 /// The entries of all histories, and a number made of how all members ended, and of their logs.
-fn tally_of(age: &AgeEnd, logs: &[Log<CalmDisk>]) -> Tally {
+fn tally_of(age: &AgeEnd, logs: &[Option<Log<CalmDisk>>]) -> Tally {
     let mut tally = Tally {
         count: 0,
         checksum: 0,
     };
-    for (member, log) in age.members.as_slice().iter().zip(logs) {
+    for (member, place) in age.members.as_slice().iter().zip(logs) {
         let entries = member.history.as_slice();
         tally.count = tally.count.wrapping_add(entries.len() as u64);
         tally.checksum = mixed_member(tally.checksum, member);
-        for vote in log.votes() {
-            tally.checksum = mixed_vote(tally.checksum, vote);
+        if let Some(log) = place {
+            for vote in log.votes() {
+                tally.checksum = mixed_vote(tally.checksum, vote);
+            }
         }
     }
     tally

@@ -1,8 +1,8 @@
 -- A member of a sound program takes its next deed over the words of the table.
 use Rattle.std.proofs.Common.{◌≡◌, refl, sym, ap, ◌∙◌, subst, ℕ, ◌<◌, All, Contains, List, [], ◌∷◌, ◌++◌, length, get_or, slice_index}
-use Rattle.std.specs.Prelude.{◌-◌, None, Some, drop, slice_get, slice_index_or, slice_range, slice_set}
+use Rattle.std.specs.Prelude.{◌-◌, None, Option, Some, drop, slice_index_or, slice_range, slice_set}
 use Rattle.std.proofs.lemmas.List.Elements.{All-contains_itself, All-drop, All-push, All-take, All-weaker, Contains-append_left, Contains-append_right, Contains-push}
-use Rattle.std.proofs.lemmas.Option.{slice_get-get_or}
+use Rattle.std.proofs.lemmas.List.{get_or_default}
 use Rattle.dr_age.specs.Sound.{IsSound}
 use Rattle.dr_age.proofs.Deeds.{after_append, any_outcome, deed_tells, stored_append}
 use Rattle.dr_entry.specs.declared.record.Record.{Record}
@@ -11,6 +11,7 @@ use Rattle.dr_machine.specs.Group.{Group}
 use Rattle.dr_member.specs.Deeds.{table_size}
 use Rattle.dr_program.specs.declared.deed.Deed.TheVariants as deeds
 use Rattle.dr_program.specs.declared.outcome.Outcome.TheVariants.{Ok}
+use Rattle.dr_program.specs.Presence.{present_at, with_present}
 use Rattle.dr_program.specs.Program.{Program, after_deed, next_sight, ok, step_of}
 use Rattle.dr_program.specs.Reading.{step_due, step_of_member}
 use Rattle.dr_program.specs.Running.{Running, after_step, deed, deed_of, next_deed, next_step}
@@ -28,28 +29,27 @@ use Rattle.dr_refine.proofs.Deeds.{step_is}
 use Rattle.dr_words.specs.Layout.{words_of}
 
 -- these members, over these words
-abbrev pub over : List Running → List ℕ → Program
+abbrev pub over : List (Option Running) → List ℕ → Program
 over members words = record { members = members; table = words }
 
 -- the member that was read stands there
-pub there_is : (members : List Running) (m : ℕ) (d : Running) → m < length members
-    → slice_get members m ≡ Some (get_or members m d)
-there_is members m d within = slice_get-get_or members m d within
+pub there_is : (members : List (Option Running)) (m : ℕ) (d : Option Running) (r : Running) → m < length members
+    → get_or members m d ≡ Some r → present_at members m ≡ Some r
+there_is members m d r within read = get_or_default members m None d within ∙ read
 
 -- a word that the member names is one of the table's
-pub inside : (members : List Running) (words : List ℕ) (m index : ℕ) (d : Running) → m < length members
-    → ((g : Group) × IsSound g (over members words)) → index < table_size (get_or members m d)
+pub inside : (members : List (Option Running)) (words : List ℕ) (m index : ℕ) (r : Running)
+    → present_at members m ≡ Some r → ((g : Group) × IsSound g (over members words)) → index < table_size r
     → index < length words
-inside members words m index d within some below =
-    let r = get_or members m d in
-    let of = some.1.form.of m r (there_is members m d within) in
+inside members words m index r there some below =
+    let of = some.1.form.of m r there in
     let same : table_size r ≡ length words =
     (λ z. words_of (of.members z) (of.window z) (of.banks z)) ∙ sym some.1.form.table in
     subst (λ n. index < n) same below
 
 -- at a look it may see the word that stands there
 pub may_see : (g : Group) (p : Program) (m : ℕ) (r : Running) (index : ℕ) → IsSound g p
-    → slice_get p.members m ≡ Some r → next_deed r ≡ deeds.Look index
+    → present_at p.members m ≡ Some r → next_deed r ≡ deeds.Look index
     → MaySee r (step_of_member r) (slice_index p.table index)
 may_see g p m r index is there due =
     let t = deed_tells p.table r (deeds.Look index) due in
@@ -61,19 +61,19 @@ may_see g p m r index is there due =
 pub carried_sound : (g : Group) (p : Program) (net : List Packet) → IsCarried g p net → IsSound g p
 carried_sound g p net y = record { group = y.group; form = y.form; reached = (y.before, y.way) }
 
-pub sound_of : (members : List Running) (words : List ℕ) (net : List Packet)
+pub sound_of : (members : List (Option Running)) (words : List ℕ) (net : List Packet)
     → ((g : Group) × IsCarried g (over members words) net) → (g : Group) × IsSound g (over members words)
 sound_of members words net some = (some.0, carried_sound some.0 (over members words) net some.1)
 
 -- what holds of a program after a deed of a member holds of what it makes of itself and of the words
 moved_on : (P : Program → Type 0) (p : Program) (m : ℕ) (r x : Running) (cells : List ℕ)
-    → P (step_of p (ok m)) → slice_get p.members m ≡ Some r → r.replica.end ≡ None
+    → P (step_of p (ok m)) → present_at p.members m ≡ Some r → r.replica.end ≡ None
     → x ≡ after_deed (next_sight p.table r) Ok r (next_step r)
     → cells ≡ stored p.table r.replica (next_step r)
-    → P (record { members = slice_set p.members m x; table = cells })
+    → P (record { members = with_present p.members m x; table = cells })
 moved_on P p m r x cells kept there none member words =
     subst P (step_is p (ok m) r there none
-    ∙ sym (λ z. record { members = slice_set p.members m (member z); table = words z })) kept
+    ∙ sym (λ z. record { members = with_present p.members m (member z); table = words z })) kept
 
 -- it is sound
 pub sound_on : (g : Group) (p : Program) (m : ℕ) → IsSound g p → IsSound g (step_of p (ok m))
@@ -83,9 +83,9 @@ sound_on g p m is =
 
 -- so it is at each kind of deed
 pub looks : (P : Program → Type 0) (p : Program) (m : ℕ) (r x : Running) (index : ℕ)
-    → P (step_of p (ok m)) → slice_get p.members m ≡ Some r → next_deed r ≡ deeds.Look index
+    → P (step_of p (ok m)) → present_at p.members m ≡ Some r → next_deed r ≡ deeds.Look index
     → x ≡ after_step (slice_index p.table index) r
-    → P (record { members = slice_set p.members m x; table = p.table })
+    → P (record { members = with_present p.members m x; table = p.table })
 looks P p m r x index is there due member =
     let t = deed_tells p.table r (deeds.Look index) due in
     moved_on P p m r x p.table is there t.none
@@ -94,9 +94,9 @@ looks P p m r x index is there due member =
     (sym (ap (stored p.table r.replica) t.says.look))
 
 pub pushes : (P : Program → Type 0) (p : Program) (m : ℕ) (r x : Running) (index word : ℕ)
-    → P (step_of p (ok m)) → slice_get p.members m ≡ Some r → next_deed r ≡ deeds.Push index word
+    → P (step_of p (ok m)) → present_at p.members m ≡ Some r → next_deed r ≡ deeds.Push index word
     → ((seen : ℕ) → x ≡ after_step seen r)
-    → P (record { members = slice_set p.members m x; table = slice_set p.table index word })
+    → P (record { members = with_present p.members m x; table = slice_set p.table index word })
 pushes P p m r x index word is there due member =
     let t = deed_tells p.table r (deeds.Push index word) due in
     moved_on P p m r x (slice_set p.table index word) is there t.none
@@ -105,9 +105,9 @@ pushes P p m r x index word is there due member =
     (sym t.says.stores)
 
 pub acts : (P : Program → Type 0) (p : Program) (m : ℕ) (r x : Running) (index word : ℕ)
-    → P (step_of p (ok m)) → slice_get p.members m ≡ Some r → next_deed r ≡ deeds.Act index word
+    → P (step_of p (ok m)) → present_at p.members m ≡ Some r → next_deed r ≡ deeds.Act index word
     → ((seen : ℕ) → x ≡ after_step seen r)
-    → P (record { members = slice_set p.members m x; table = slice_set p.table index word })
+    → P (record { members = with_present p.members m x; table = slice_set p.table index word })
 acts P p m r x index word is there due member =
     let t = deed_tells p.table r (deeds.Act index word) due in
     moved_on P p m r x (slice_set p.table index word) is there t.none
@@ -116,9 +116,9 @@ acts P p m r x index word is there due member =
     (sym t.says.stores)
 
 pub appends : (P : Program → Type 0) (p : Program) (m : ℕ) (r x : Running) (due : Record)
-    → P (step_of p (ok m)) → slice_get p.members m ≡ Some r → next_deed r ≡ deeds.Append due
+    → P (step_of p (ok m)) → present_at p.members m ≡ Some r → next_deed r ≡ deeds.Append due
     → ((seen : ℕ) → x ≡ after_step seen r)
-    → P (record { members = slice_set p.members m x; table = p.table })
+    → P (record { members = with_present p.members m x; table = p.table })
 appends P p m r x due is there next member =
     let t = deed_tells p.table r (deeds.Append due) next in
     moved_on P p m r x p.table is there t.none
@@ -151,9 +151,9 @@ among_part net from to = All-take (Contains net) (to - from) (drop from net)
 
 -- a push whose word is on its way
 pub sends : (g : Group) (p : Program) (net : List Packet) (m : ℕ) (r x : Running) (index word : ℕ)
-    → IsCarried g p net → slice_get p.members m ≡ Some r → next_deed r ≡ deeds.Push index word
+    → IsCarried g p net → present_at p.members m ≡ Some r → next_deed r ≡ deeds.Push index word
     → ((seen : ℕ) → x ≡ after_step seen r)
-    → IsCarried g (record { members = slice_set p.members m x; table = p.table })
+    → IsCarried g (record { members = with_present p.members m x; table = p.table })
     (net ++ record { index = index; word = word } ∷ [])
 sends g p net m r x index word y there due member =
     let t = deed_tells p.table r (deeds.Push index word) due in
@@ -162,13 +162,13 @@ sends g p net m r x index word y there due member =
     let after = member (next_sight p.table r)
     ∙ sym (any_outcome (next_sight p.table r) Ok r (next_step r) t.says.other) in
     let packet : Packet = record { index = index; word = word } in
-    let q : Program = record { members = slice_set p.members m x; table = p.table } in
+    let q : Program = record { members = with_present p.members m x; table = p.table } in
     let sent = carried_pushes g p net m r is.0 is.1 y there (ap (step_due r) t.none ∙ ap Some is.2) in
     carried_among g q (packet ∷ net) (net ++ packet ∷ [])
     (subst (λ (q : Program). IsCarried g q (packet ∷ net))
     (λ z. record {
       members = (ap (λ (q : Program). q.members) same
-          ∙ ap (slice_set p.members m) (sym after)) z;
+          ∙ ap (with_present p.members m) (sym after)) z;
       table = p.table;
     })
     (subst (λ (packet : Packet). IsCarried g (record { members = (step_of p (ok m)).members; table = p.table })
@@ -176,15 +176,15 @@ sends g p net m r x index word y there due member =
     (behind net packet)
 
 -- a sound program begins with nothing on its way
-pub begins : (g : Group) (members : List Running) (words : List ℕ) → IsSound g (over members words)
+pub begins : (g : Group) (members : List (Option Running)) (words : List ℕ) → IsSound g (over members words)
     → IsCarried g (over members words) []
 begins g members words is = carried_begins g (over members words) is.group is.form is.reached
 
 -- a packet among these goes to a place of the table, where words of them have come before
 pub packet_place : (first words : List ℕ) (packets : List Packet) (n : ℕ) (d : Packet) → n < length packets
-    → ((g : Group) × (members : List Running) × (net : List Packet) × All (Contains net) packets
+    → ((g : Group) × (members : List (Option Running)) × (net : List Packet) × All (Contains net) packets
     × IsCarried g (over members first) net)
-    → ((g : Group) (members : List Running) (net : List Packet) → All (Contains net) packets
+    → ((g : Group) (members : List (Option Running)) (net : List Packet) → All (Contains net) packets
     → IsCarried g (over members first) net → IsCarried g (over members words) net)
     → (slice_index_or packets n d).index < length words
 packet_place first words packets n d within some on =

@@ -3,7 +3,7 @@ ghost use Rattle.std.specs.Prelude.{◌<◌, length};
 ghost use Rattle.dr_age.specs.Sound.{IsSound};
 ghost use Rattle.dr_machine.specs.Group.{Group};
 
-use crate::members::{opened, take_deed};
+use crate::members::{is_at_rest, opened, take_deed};
 use dr_member::Member;
 use dr_restart::{first_start, shape_of};
 use dr_script::read_script;
@@ -38,7 +38,7 @@ pub fn show_leader(rt: &impl Print, alloc: Global) -> anyhow::Result<()> {
 /// Prints the word of an index, in each turn that changes it.
 fn show_turns(
     rt: &impl Print,
-    members: &mut [Member],
+    members: &mut [Option<Member>],
     words: &mut [u64],
     index: usize,
 ) -> anyhow::Result<()>
@@ -56,8 +56,8 @@ fn show_turns(
     Ok(())
 }
 
-/// Each member that has not ended takes a whole turn, by number.
-fn lead_round(members: &mut [Member], words: &mut [u64])
+/// Each member that is there and has not ended takes a whole turn, by number.
+fn lead_round(members: &mut [Option<Member>], words: &mut [u64])
     requires sound { (g : Group) × IsSound g (record { members = members.old; table = words.old }) }
     ensures sound { (g : Group) → IsSound g (record { members = members.old; table = words.old })
         → IsSound g (record { members = members.new; table = words.new }) }
@@ -65,7 +65,7 @@ fn lead_round(members: &mut [Member], words: &mut [u64])
     for m in 0..members.len() {
         for _ in 0..DEEDS {
             take_deed(members, words, m);
-            if members[m].is_between_turns() || members[m].end().is_some() {
+            if is_at_rest(&members[m]) {
                 break;
             }
         }

@@ -1,7 +1,7 @@
 //! The members of a group, led deed by deed.
 ghost use Rattle.std.specs.Prelude.{◌<◌, IfOk, length};
 ghost use Rattle.dr_age.specs.Sound.{IsSound};
-ghost use Rattle.dr_machine.specs.Group.{AllPresent, Group, IsGroup};
+ghost use Rattle.dr_machine.specs.Group.{Group, IsGroup};
 ghost use Rattle.dr_restart.specs.Groups.{group_of};
 ghost use Rattle.dr_script.specs.Ranges.{HasRanges};
 
@@ -25,27 +25,29 @@ pub fn show_members(rt: &impl Print, alloc: Global) -> anyhow::Result<()> {
     let start = first_start(alloc, &script);
     let (mut members, mut words) = opened(alloc, &script, &start)?;
     lead(&mut members, &mut words);
-    for member in &members {
-        println!(rt;
-            "  member {}: {:?} in turn {}",
-            member.me(),
-            member.next(),
-            member.turns()
-        )?;
-        println!(rt; "    {:?}", member.history())?;
+    for place in &members {
+        if let Some(member) = place {
+            println!(rt;
+                "  member {}: {:?} in turn {}",
+                member.me(),
+                member.next(),
+                member.turns()
+            )?;
+            println!(rt; "    {:?}", member.history())?;
+        }
     }
     Ok(())
 }
 
-/// The members of a script's group as its age opens, and the words of its table.
+/// The members of a script's group as its age opens, in a place for each of the roster, and the words of its
+/// table.
 pub(crate) fn opened(
     alloc: Global,
     script: &Script,
     start: &Start,
-) -> Result<(Vec<Member>, Vec<u64>), AllocError>
+) -> Result<(Vec<Option<Member>>, Vec<u64>), AllocError>
     requires ranges { HasRanges script.now }
     requires group { IsGroup (group_of script.now start.now) }
-    requires present { AllPresent (group_of script.now start.now) }
     ensures { IfOk result (λ r. IsSound (group_of script.now start.now)
         (record { members = r.0.items; table = r.1.items })) }
 {
@@ -56,7 +58,7 @@ pub(crate) fn opened(
 }
 
 /// Leads the members of a group: each takes so many deeds, one at a time.
-fn lead(members: &mut [Member], words: &mut [u64])
+fn lead(members: &mut [Option<Member>], words: &mut [u64])
     requires sound { (g : Group) × IsSound g (record { members = members.old; table = words.old }) }
     ensures sound { (g : Group) → IsSound g (record { members = members.old; table = words.old })
         → IsSound g (record { members = members.new; table = words.new }) }
@@ -68,14 +70,16 @@ fn lead(members: &mut [Member], words: &mut [u64])
     }
 }
 
-/// The member `m` takes its next deed. Its words go by way of this list; what it appends is not kept.
-pub(crate) fn take_deed(members: &mut [Member], words: &mut [u64], m: usize)
+/// The member `m`, where it is there, takes its next deed. Its words go by way of this list; what it appends is not kept.
+pub(crate) fn take_deed(members: &mut [Option<Member>], words: &mut [u64], m: usize)
     requires within { m < length members.old }
     requires sound { (g : Group) × IsSound g (record { members = members.old; table = words.old }) }
     ensures sound { (g : Group) → IsSound g (record { members = members.old; table = words.old })
         → IsSound g (record { members = members.new; table = words.new }) }
 {
-    let member = &mut members[m];
+    let Some(member) = &mut members[m] else {
+        return;
+    };
     match member.next() {
         Deed::Look(index) => member.looked(words[index]),
         Deed::Push(index, word) => {
@@ -89,4 +93,12 @@ pub(crate) fn take_deed(members: &mut [Member], words: &mut [u64], m: usize)
         Deed::Append(_) => member.appended(),
         Deed::Rest(_) => {}
     }
+}
+
+/// Whether a member is at the end of a turn, or has ended, or isn't there.
+pub(crate) fn is_at_rest(place: &Option<Member>) -> bool {
+    let Some(member) = place else {
+        return true;
+    };
+    member.is_between_turns() || member.end().is_some()
 }

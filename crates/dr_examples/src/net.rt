@@ -1,12 +1,12 @@
 //! The members of a group on different machines: a word that one pushes to another is on its way for a while.
-ghost use Rattle.std.specs.Prelude.{◌<◌, All, Contains, List, length};
+ghost use Rattle.std.specs.Prelude.{◌<◌, All, Contains, List, Option, length};
 ghost use Rattle.dr_age.specs.Sound.{IsSound};
 ghost use Rattle.dr_machine.specs.Group.{Group};
 ghost use Rattle.dr_program.specs.declared.packet.Packet.{Packet as PacketOf};
 ghost use Rattle.dr_program.specs.Running.{Running};
 ghost use Rattle.dr_program_laws.specs.Carried.{IsCarried};
 
-use crate::members::opened;
+use crate::members::{is_at_rest, opened};
 use dr_member::{Deed, Member};
 use dr_program::Packet;
 use dr_restart::first_start;
@@ -41,20 +41,26 @@ pub fn show_net(rt: &impl Print, alloc: Global) -> anyhow::Result<()> {
     let (mut members, mut words) = opened(alloc, &script, &start)?;
     let sent = lead(alloc, &mut members, &mut words)?;
     println!(rt; "  {sent} words were sent")?;
-    for member in &members {
-        println!(rt;
-            "  member {}: {:?} in turn {}",
-            member.me(),
-            member.end(),
-            member.turns()
-        )?;
-        println!(rt; "    {:?}", member.history())?;
+    for place in &members {
+        if let Some(member) = place {
+            println!(rt;
+                "  member {}: {:?} in turn {}",
+                member.me(),
+                member.end(),
+                member.turns()
+            )?;
+            println!(rt; "    {:?}", member.history())?;
+        }
     }
     Ok(())
 }
 
 /// Leads the members of a group over a net, and tells how many words were sent.
-fn lead(alloc: Global, members: &mut [Member], words: &mut [u64]) -> Result<usize, AllocError>
+fn lead(
+    alloc: Global,
+    members: &mut [Option<Member>],
+    words: &mut [u64],
+) -> Result<usize, AllocError>
     requires sound { (g : Group) × IsSound g (record { members = members.old; table = words.old }) }
     ensures sound { (g : Group) → IsSound g (record { members = members.old; table = words.old })
         → IsSound g (record { members = members.new; table = words.new }) }
@@ -87,9 +93,9 @@ fn sent_in<'a>(net: &'a [Packet], marks: &[usize], turn: Option<usize>) -> &'a [
     }
 }
 
-/// The member `m` takes its turn, or comes to its end.
+/// The member `m`, where it is there, takes its turn, or comes to its end.
 fn take_turn(
-    members: &mut [Member],
+    members: &mut [Option<Member>],
     words: &mut [u64],
     net: &mut Vec<Packet>,
     m: usize,
@@ -103,16 +109,16 @@ fn take_turn(
 {
     for _ in 0..DEEDS {
         take_deed(members, words, net, m)?;
-        if members[m].is_between_turns() || members[m].end().is_some() {
+        if is_at_rest(&members[m]) {
             break;
         }
     }
     Ok(())
 }
 
-/// The member `m` takes its next deed, over its own copy. What it pushes is on its way then.
+/// The member `m`, where it is there, takes its next deed, over its own copy. What it pushes is on its way then.
 fn take_deed(
-    members: &mut [Member],
+    members: &mut [Option<Member>],
     words: &mut [u64],
     net: &mut Vec<Packet>,
     m: usize,
@@ -124,7 +130,9 @@ fn take_deed(
         → IsCarried g (record { members = members.old; table = words.old }) net.old.items
         → IsCarried g (record { members = members.new; table = words.new }) net.new.items }
 {
-    let member = &mut members[m];
+    let Some(member) = &mut members[m] else {
+        return Ok(());
+    };
     match member.next() {
         Deed::Look(index) => member.looked(words[index]),
         Deed::Push(index, word) => {
@@ -144,10 +152,10 @@ fn take_deed(
 /// The words of these packets come to their places, each where no greater one stands; over a lossy way one of
 /// four is lost. Whatever else is on its way stays so.
 fn arrive(words: &mut [u64], packets: &[Packet], lossy: bool)
-    requires carried { (g : Group) × (members : List Running) × (net : List PacketOf)
+    requires carried { (g : Group) × (members : List (Option Running)) × (net : List PacketOf)
         × All (Contains net) packets.now
         × IsCarried g (record { members = members; table = words.old }) net }
-    ensures carried { (g : Group) (members : List Running) (net : List PacketOf)
+    ensures carried { (g : Group) (members : List (Option Running)) (net : List PacketOf)
         → All (Contains net) packets.now
         → IsCarried g (record { members = members; table = words.old }) net
         → IsCarried g (record { members = members; table = words.new }) net }

@@ -1,12 +1,22 @@
--- What is mounted without a record and with one, damaged bytes are some, and a group has members.
-use Rattle.std.proofs.Common.{◌≡◌, ap, sym, subst, ◌∙◌, false, inl, inr, ℕ, ◌^◌, ◌<◌, ◌≤◌, arith, [], length, Option, None, Some, IfSome, ◌≢◌}
-use Rattle.std.proofs.Math.Pow.{pow_mono}
+-- What is mounted without a record and with one, damaged bytes are some, a group has members, and each that is
+-- there has a fresh log.
+use Rattle.std.proofs.Common.{◌≡◌, refl, ap, sym, subst, ◌∙◌, true, false, inl, inr, ℕ, ◌<◌, arith, List, [], ◌∷◌, ◌++◌, length, length-append, Option, None, Some, IfSome, ◌≢◌}
+use Rattle.std.proofs.lemmas.Bool.{cases_lt}
+use Rattle.std.proofs.lemmas.List.{get_or_append_left, get_or_push}
+use Rattle.dr_age.specs.Logged.{AreAmple, AreOpened}
 use Rattle.dr_disk.specs.Disk.{Told, content_of}
-use Rattle.dr_fresh.specs.Fresh.{HasNoRecord, IsEmpty}
+use Rattle.dr_entry.specs.declared.entry.Entry.TheVariants.{View}
+use Rattle.dr_fresh.specs.Fresh.{HasNoRecord, HaveLimit, IsEmpty, IsFresh, IsFreshAt}
+use Rattle.dr_history.specs.Members.{has}
 use Rattle.dr_log.specs.State.{LogState}
 use Rattle.dr_log_bytes.specs.Content.{OnLog, empty_of}
 use Rattle.dr_log_bytes.specs.Grammar.{IsDamaged, StandFor}
-use Rattle.dr_machine.specs.Group.{Group, IsGroup}
+use Rattle.dr_machine.specs.Group.{Group, IsGroup, roster}
+use Rattle.dr_program.specs.Presence.{present_at}
+use Rattle.dr_program.proofs.Present.{present_within}
+use Rattle.dr_restart.specs.Groups.{group_of}
+use Rattle.dr_restart.specs.declared.start.Start.{Start}
+use Rattle.dr_script.specs.declared.script.Script.{Script}
 
 -- a log without a record
 pub empty_log : {D : Type 0} (most : ℕ) (log : LogState D) → log.content ≡ empty_of log.content.newer
@@ -43,3 +53,68 @@ damaged_used (Some t) at damaged = λ none. omega (arith, damaged.0, ap length n
 -- a group has members in its first view
 pub some_members : (g : Group) → IsGroup g → 0 < g.opening.members
 some_members g group = group.sound.members.some
+
+-- ---- the logs of all
+
+-- at each place stands what is to
+abbrev pub AllFresh : {D : Type 0} → Start → ℕ → List (Option (LogState D)) → Type 0
+AllFresh start most logs = (m : ℕ) → m < length logs → IsFreshAt start most m (present_at logs m)
+
+pub none_fresh : {D : Type 0} (start : Start) (most : ℕ) (logs : List (Option (LogState D))) → logs ≡ []
+    → AllFresh start most logs
+none_fresh start most logs none m within = absurd (omega (arith, within, ap length none))
+
+-- one place more
+pub fresh_more : {D : Type 0} (start : Start) (most n : ℕ) (logs news : List (Option (LogState D)))
+    (o : Option (LogState D)) → length logs ≡ n → AllFresh start most logs → IsFreshAt start most n o
+    → news ≡ logs ++ o ∷ [] → AllFresh start most news
+fresh_more start most n logs news o long fresh is more m within = elim (cases_lt m n) [
+  | inl before ↦ subst (IsFreshAt start most m)
+      (sym (ap (λ l. present_at l m) more ∙ get_or_append_left logs (o ∷ []) None m (omega (arith, before, long))))
+      (fresh m (omega (arith, before, long)))
+  | inr past ↦
+      let here : n ≡ m = omega (arith, past, within, ap length more, length-append logs (o ∷ []), long) in
+      subst (IsFreshAt start most m)
+      (sym (ap (λ l. present_at l m) more ∙ get_or_push logs o None m (long ∙ here)))
+      (subst (λ k. IsFreshAt start most k o) here is)
+]
+
+-- who has a log is there, and its log is fresh
+fresh_there : {D : Type 0} (start : Start) (most m : ℕ) (logs : List (Option (LogState D))) (log : LogState D)
+    → AllFresh start most logs → present_at logs m ≡ Some log
+    → (has start.present m ≡ true) × IsFresh start most log
+fresh_there start most m logs log fresh there =
+    subst (IsFreshAt start most m) there (fresh m (present_within logs m log there))
+
+-- the logs of a group, as an age without entries of earlier ones begins
+pub fresh_opened : {D : Type 0} (script : Script) (start : Start) (most : ℕ)
+    (logs : List (Option (LogState D))) → start.entries ≡ [] → length logs ≡ roster (group_of script start)
+    → AllFresh start most logs → AreOpened (group_of script start) logs
+fresh_opened {D} script start most logs none long fresh = record {
+  all = long;
+  each = λ m log there.
+      let (present, is) = fresh_there start most m logs log fresh there in (
+        present,
+        record {
+          entries = is.entries ∙ ap (λ es. es ++ View start.age 0 start.members ∷ []) (sym none);
+          whole = is.whole;
+        },
+      );
+  there = λ m below here.
+      by m here (present_at logs m) refl (fresh m (omega (arith, below, long)));
+}
+  where
+    by : (m : ℕ) → has start.present m ≡ true → (o : Option (LogState D)) → present_at logs m ≡ o
+        → IsFreshAt start most m (present_at logs m) → (log : LogState D) × (present_at logs m ≡ Some log)
+    by m here None none is = absurd (subst (IsFreshAt start most m) none is here)
+    by m here (Some log) there is = (log, there)
+
+pub fresh_limit : {D : Type 0} (start : Start) (most : ℕ) (logs : List (Option (LogState D)))
+    → AllFresh start most logs → HaveLimit most logs
+fresh_limit start most logs fresh m log there = (fresh_there start most m logs log fresh there).1.limit
+
+pub fresh_ample : {D : Type 0} (script : Script) (start : Start) (logs : List (Option (LogState D)))
+    → start.entries ≡ [] → AllFresh start 2147483648 logs → AreAmple (group_of script start) logs
+fresh_ample script start logs none fresh m log there =
+    let is = (fresh_there start 2147483648 m logs log fresh there).1 in
+    record { limit = omega (arith, is.long, is.limit, ap length none, ap length is.entries) }

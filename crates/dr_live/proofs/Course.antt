@@ -5,29 +5,32 @@ use Rattle.std.proofs.Math.Path.{fun_ext}
 use Rattle.std.proofs.lemmas.List.Elements.{All-append, All-cons, All-head, All-nil, All-tail}
 use Rattle.std.proofs.lemmas.Option.{same_Some}
 use Rattle.dr_age.specs.Logged.{NoneFull}
-use Rattle.dr_ages.proofs.Chain.{tell_on}
 use Rattle.dr_ages.proofs.Fresh.{IsRoomyAt, fresh_first, fresh_start, roomy_ages, roomy_next, roomy_stop}
-use Rattle.dr_ages.proofs.Keeping.{behind, leave_logs, sound_age}
-use Rattle.dr_ages.specs.Ages.{AreAges, IsAgeOf, opening_of}
+use Rattle.dr_ages.proofs.Keeping.{IsBehind, behind, left_from, of_choice, over_behind}
+use Rattle.dr_ages.specs.Ages.{AreAges, IsAgeOf, opening_of, start_of}
+use Rattle.dr_ages.specs.Found.{NoneMissing}
 use Rattle.dr_ages.specs.Runs.{HasFinished, IsRunOf}
 use Rattle.dr_ages.specs.Stops.{HasStopped, IsOutside}
 use Rattle.dr_ages.specs.declared.mode.Mode.TheVariants.{Run}
 use Rattle.dr_ages.specs.declared.stop.Stop.{Stop}
-use Rattle.dr_ages.specs.declared.stop.Stop.TheVariants.{OutOfMemory, DiskFault, LogFull, Damaged, Disagree, Foreign, AgesUsedUp}
+use Rattle.dr_ages.specs.declared.stop.Stop.TheVariants.{OutOfMemory, DiskFault, LogFull, Damaged, Disagree, Foreign, NoQuorum, AgesUsedUp}
 use Rattle.dr_disk.specs.Calls.{at_rest}
 use Rattle.dr_disk.specs.Disk.{Now, Told}
 use Rattle.dr_disk.specs.Memory.{CalmState}
 use Rattle.dr_entry.specs.declared.end.AgeEnd.{AgeEnd}
-use Rattle.dr_gather.proofs.Following.{next_keeps}
+use Rattle.dr_entry.specs.declared.end.MemberEnd.{MemberEnd}
 use Rattle.dr_history.specs.Agreement.{accounts_of}
 use Rattle.dr_history.specs.Restarting.{Kept}
+use Rattle.dr_kept.proofs.Following.{next_keeps}
 use Rattle.dr_script.specs.declared.script.Script.{Script}
-use Rattle.dr_script.specs.Ranges.{HasGroupRanges, HasRanges}
+use Rattle.dr_script.specs.Ranges.{HasRanges}
 use Rattle.dr_senders.proofs.Growth.{grown_same}
 use Rattle.dr_senders.specs.Senders.{HaveGrown, Lists}
+use Rattle.dr_words.proofs.Bits.{has_zero}
 use Rattle.dr_yard.specs.Places.{place_told}
-use Rattle.dr_yard.specs.Yards.{AllTell, YardState, empty_yard}
+use Rattle.dr_yard.specs.Yards.{YardState, empty_yard}
 use Rattle.dr_live.specs.Live.{AreGrowing, AreLiveAges, AreReadyFor, AreUnderWay, AreUpTo, BeginsAnew, KeepEachOther, OpensAlways, calm_yard, plan_with}
+use Rattle.dr_live.proofs.Choosing.{chosen_before}
 use Rattle.dr_live.proofs.Growing.{growing_last, growing_more, growing_one, growing_tail, roomy_grown}
 
 -- the messages that were taken can be those of a script
@@ -49,6 +52,10 @@ range_at plan (l ∷ taken) zero lists fit at =
     subst (λ (x : Lists). HasRanges (plan_with plan x)) (same_Some l lists at) (range_head plan l taken fit)
 range_at plan (l ∷ taken) (suc i) lists fit at = range_at plan taken i lists (range_tail plan l taken fit) at
 
+-- no log is missing
+pub none_lacks : (n : ℕ) → NoneMissing n 0
+none_lacks n m below = has_zero m
+
 -- the logs of the disks have room, with the messages of the first of these lists
 abbrev pub HaveRoom : Script → List Lists → ℕ → YardState → Type 0
 HaveRoom plan taken k yard =
@@ -60,12 +67,13 @@ empty_rooms plan taken lists at = fresh_first (plan_with plan lists) empty_yard 
 
 -- and those behind one more age
 room_next : (plan : Script) (lists : Lists) (taken : List Lists) (k : ℕ) (before after : YardState)
-    (age : AgeEnd) → HasGroupRanges (plan_with plan lists) → AreGrowing (lists ∷ taken)
-    → HaveRoom plan (lists ∷ taken) k before → IsAgeOf (plan_with plan lists) Run 0 before after age
+    (age : AgeEnd) → HasRanges (plan_with plan lists) → AreGrowing (lists ∷ taken)
+    → HaveRoom plan (lists ∷ taken) k before → IsAgeOf (plan_with plan lists) 0 Run 0 before after age
     → HaveRoom plan taken (k + 1) after
 room_next plan lists taken k before after age ranges growing room is next at =
     roomy_grown plan lists next (k + 1) after (growing 0 lists next refl at)
-    (roomy_next (plan_with plan lists) Run 9 0 k 0 before after age ranges (room lists refl) is)
+    (roomy_next (plan_with plan lists) 0 Run 9 0 k 0 before after age ranges (none_lacks plan.members)
+    (room lists refl) is)
 
 -- no fault goes
 pub later_on : (plan : Script) (taken : List Lists) (ages : List AgeEnd) (start after : YardState)
@@ -91,7 +99,7 @@ as_many plan (lists ∷ taken) (age ∷ ages) start after are =
 pub record IsLiveAge (plan : Script) (k : ℕ) (lists : Lists) (last : YardState) (age : AgeEnd) : Type 0 where
   pub before : YardState
   pub after : YardState
-  pub is : IsAgeOf (plan_with plan lists) Run 0 before after age
+  pub is : IsAgeOf (plan_with plan lists) 0 Run 0 before after age
   pub roomy : IsRoomyAt (plan_with plan lists) 9 0 k before
   pub later : (m : ℕ) → after.faults m ≤ last.faults m
 
@@ -114,7 +122,7 @@ live_at plan (l ∷ taken) (a ∷ ages) start last k (suc i) lists age fit growi
     subst (λ (n : ℕ). IsLiveAge plan n lists last age) (omega arith)
     (live_at plan taken ages are.0 last (k + 1) i lists age (range_tail plan l taken fit)
     (growing_tail l taken growing)
-    (room_next plan l taken k start are.0 a (range_head plan l taken fit).group growing room are.1) are.2 at there)
+    (room_next plan l taken k start are.0 a (range_head plan l taken fit) growing room are.1) are.2 at there)
 
 -- of those of a live group
 pub age_at : (plan : Script) (taken : List Lists) (ages : List AgeEnd) (last : YardState) (i : ℕ)
@@ -140,7 +148,7 @@ room_on plan (l ∷ taken) (age ∷ ages) start last k lists fit growing room ar
     subst (λ (n : ℕ). IsRoomyAt (plan_with plan lists) 9 0 n last) (omega arith)
     (room_on plan taken ages are.0 last (k + 1) lists (range_tail plan l taken fit)
     (growing_tail l (taken ++ lists ∷ []) growing)
-    (room_next plan l (taken ++ lists ∷ []) k start are.0 age (range_head plan l taken fit).group growing room are.1)
+    (room_next plan l (taken ++ lists ∷ []) k start are.0 age (range_head plan l taken fit) growing room are.1)
     are.2)
 
 -- so it is opened, unless memory is wanting
@@ -154,31 +162,32 @@ opens_always plan lists ages yard ready ranges one few after run stop calm is =
     roomy = room_on plan ready.taken ages empty_yard yard 0 lists ready.way.ranges ready.growing
         (empty_rooms plan (ready.taken ++ lists ∷ [])) ready.way.course
 
-    outside : (s : Stop) → IsOutside s → HasStopped (plan_with plan lists) yard after s → s ≡ OutOfMemory
+    outside : (s : Stop) → IsOutside s → HasStopped (plan_with plan lists) 0 yard after s → s ≡ OutOfMemory
     outside OutOfMemory out stopped = refl
     outside (DiskFault m) out stopped = absurd (omega (arith, stopped.rose, calm m, ready.way.calm m))
     outside (LogFull m len) out stopped = absurd out
     outside (Damaged m at) out stopped = absurd out
     outside (Disagree a b p) out stopped = absurd out
     outside (Foreign m p) out stopped = absurd out
+    outside (NoQuorum view have need) out stopped = absurd out
     outside AgesUsedUp out stopped = absurd out
 
     by : (ran : List AgeEnd)
-        → AreAges (plan_with plan lists) Run 0 yard ran is.last
-        → HasFinished (plan_with plan lists) is.last after ran (Some stop) → stop ≡ OutOfMemory
+        → AreAges (plan_with plan lists) 0 Run 0 yard ran is.last
+        → HasFinished (plan_with plan lists) 0 is.last after is.chosen ran (Some stop) → stop ≡ OutOfMemory
     by [] are end =
-        let stopped = subst (λ (y : YardState). HasStopped (plan_with plan lists) y after stop) (sym are) end.1 in
+        let stopped = subst (λ (y : YardState). HasStopped (plan_with plan lists) 0 y after stop) (sym are) end.1 in
         outside stop
-        (roomy_stop (plan_with plan lists) 9 0 (0 + length ages) yard after stop ranges.group (omega arith)
-        (omega (arith, few)) (omega (arith, few)) roomy stopped) stopped
+        (roomy_stop (plan_with plan lists) 0 9 0 (0 + length ages) yard after stop ranges (none_lacks plan.members)
+        (omega arith) (omega (arith, few)) (omega (arith, few)) roomy stopped) stopped
     by (age ∷ more) are end = absurd (omega (arith, end.0, one))
 
 live_more : (plan : Script) (taken : List Lists) (ages : List AgeEnd) (start mid after : YardState)
     (lists : Lists) (age : AgeEnd) → AreLiveAges plan start taken ages mid
-    → IsAgeOf (plan_with plan lists) Run 0 mid after age
+    → IsAgeOf (plan_with plan lists) 0 Run 0 mid after age
     → AreLiveAges plan start (taken ++ lists ∷ []) (ages ++ age ∷ []) after
 live_more plan [] [] start mid after lists age are is =
-    (after, subst (λ (y : YardState). IsAgeOf (plan_with plan lists) Run 0 y after age) (sym are) is, refl)
+    (after, subst (λ (y : YardState). IsAgeOf (plan_with plan lists) 0 Run 0 y after age) (sym are) is, refl)
 live_more plan [] (a ∷ ages) start mid after lists age are is = absurd are
 live_more plan (l ∷ taken) [] start mid after lists age are is = absurd are
 live_more plan (l ∷ taken) (a ∷ ages) start mid after lists age are is =
@@ -186,7 +195,7 @@ live_more plan (l ∷ taken) (a ∷ ages) start mid after lists age are is =
 
 pub up_to_next : (plan : Script) (lists : Lists) (ages : List AgeEnd) (mid after : YardState) (age : AgeEnd)
     → AreReadyFor plan lists ages mid → HasRanges (plan_with plan lists)
-    → IsAgeOf (plan_with plan lists) Run 0 mid after age → ((m : ℕ) → after.faults m ≡ 0)
+    → IsAgeOf (plan_with plan lists) 0 Run 0 mid after age → ((m : ℕ) → after.faults m ≡ 0)
     → AreUpTo plan lists (ages ++ age ∷ []) after
 up_to_next plan lists ages mid after age ready ranges is calm = record {
   taken = ready.taken;
@@ -210,72 +219,89 @@ first_age plan (lists ∷ taken) [] last age way few at = absurd (cc)
 first_age plan (lists ∷ taken) (a ∷ ages) last age way few at =
     subst BeginsAnew (same_Some a age at) (record {
       number = omega (arith, number.0);
-      start = fresh_start (plan_with plan lists) Run 0 empty_yard (a ∷ []) way.course.0 a (λ m l. refl) one refl;
+      start = fresh_start (plan_with plan lists) 0 Run 0 empty_yard (a ∷ []) way.course.0 a (λ m l. refl) one refl;
     })
   where
-    one : AreAges (plan_with plan lists) Run 0 empty_yard (a ∷ []) way.course.0
+    one : AreAges (plan_with plan lists) 0 Run 0 empty_yard (a ∷ []) way.course.0
     one = (way.course.0, way.course.1, refl)
 
     number : (a.age ≡ 0 + 0 + 0) × NoneFull a.members
-    number = roomy_ages (plan_with plan lists) Run 9 0 0 0 empty_yard (a ∷ []) way.course.0 0 a
-        (range_head plan lists taken way.ranges).group (omega arith) (omega arith)
+    number = roomy_ages (plan_with plan lists) 0 Run 9 0 0 0 empty_yard (a ∷ []) way.course.0 0 a
+        (range_head plan lists taken way.ranges) (none_lacks plan.members) (omega arith) (omega arith)
         (empty_rooms plan (lists ∷ taken) lists refl) one refl
 
 -- ---- two beside one another
 
--- an age of these messages, and the one right behind it, of those
+-- an age of these messages, and the one right behind it, of those; the disks that the first leaves have room
 pub record AreLivePair (plan : Script) (old new : Lists) (a b : AgeEnd) : Type 0 where
   pub before : YardState
   pub mid : YardState
   pub after : YardState
-  pub first : IsAgeOf (plan_with plan old) Run 0 before mid a
-  pub second : IsAgeOf (plan_with plan new) Run 0 mid after b
-  pub tell : AllTell plan.members mid
+  pub first : IsAgeOf (plan_with plan old) 0 Run 0 before mid a
+  pub second : IsAgeOf (plan_with plan new) 0 Run 0 mid after b
+  pub number : ℕ
+  pub roomy : IsRoomyAt (plan_with plan old) 9 0 number mid
 
-pair_at : (plan : Script) (taken : List Lists) (ages : List AgeEnd) (start last : YardState) (i : ℕ)
-    (a b : AgeEnd) (old new : Lists) → AllTell plan.members start → AreLiveAges plan start taken ages last
-    → slice_get ages i ≡ Some a → slice_get ages (i + 1) ≡ Some b → slice_get taken i ≡ Some old
-    → slice_get taken (i + 1) ≡ Some new → AreLivePair plan old new a b
-pair_at plan [] ages start last i a b old new tell are at_a at_b at_old at_new = absurd (cc)
-pair_at plan (l ∷ taken) [] start last i a b old new tell are at_a at_b at_old at_new = absurd are
-pair_at plan (l ∷ []) (one ∷ ages) start last zero a b old new tell are at_a at_b at_old at_new = absurd (cc)
-pair_at plan (l ∷ m ∷ taken) (one ∷ []) start last zero a b old new tell are at_a at_b at_old at_new =
+pair_at : (plan : Script) (taken : List Lists) (ages : List AgeEnd) (start last : YardState) (k i : ℕ)
+    (a b : AgeEnd) (old new : Lists) → AreInRange plan taken → AreGrowing taken → HaveRoom plan taken k start
+    → AreLiveAges plan start taken ages last → slice_get ages i ≡ Some a → slice_get ages (i + 1) ≡ Some b
+    → slice_get taken i ≡ Some old → slice_get taken (i + 1) ≡ Some new → AreLivePair plan old new a b
+pair_at plan [] ages start last k i a b old new fit growing room are at_a at_b at_old at_new = absurd (cc)
+pair_at plan (l ∷ taken) [] start last k i a b old new fit growing room are at_a at_b at_old at_new = absurd are
+pair_at plan (l ∷ []) (one ∷ ages) start last k zero a b old new fit growing room are at_a at_b at_old at_new =
+    absurd (cc)
+pair_at plan (l ∷ m ∷ taken) (one ∷ []) start last k zero a b old new fit growing room are at_a at_b at_old at_new =
     absurd are.2
-pair_at plan (l ∷ m ∷ taken) (one ∷ two ∷ ages) start last zero a b old new tell are at_a at_b at_old at_new =
+pair_at plan (l ∷ m ∷ taken) (one ∷ two ∷ ages) start last k zero a b old new fit growing room are at_a at_b at_old at_new =
     record {
       before = start;
       mid = are.0;
       after = are.2.0;
-      first = subst (λ (x : Lists). IsAgeOf (plan_with plan x) Run 0 start are.0 a) (same_Some l old at_old)
-          (subst (IsAgeOf (plan_with plan l) Run 0 start are.0) (same_Some one a at_a) are.1);
-      second = subst (λ (x : Lists). IsAgeOf (plan_with plan x) Run 0 are.0 are.2.0 b) (same_Some m new at_new)
-          (subst (IsAgeOf (plan_with plan m) Run 0 are.0 are.2.0) (same_Some two b at_b) are.2.1);
-      tell = tell_on plan.members start are.0 are.1.passes tell;
+      first = subst (λ (x : Lists). IsAgeOf (plan_with plan x) 0 Run 0 start are.0 a) (same_Some l old at_old)
+          (subst (IsAgeOf (plan_with plan l) 0 Run 0 start are.0) (same_Some one a at_a) are.1);
+      second = subst (λ (x : Lists). IsAgeOf (plan_with plan x) 0 Run 0 are.0 are.2.0 b) (same_Some m new at_new)
+          (subst (IsAgeOf (plan_with plan m) 0 Run 0 are.0 are.2.0) (same_Some two b at_b) are.2.1);
+      number = k + 1;
+      roomy = subst (λ (x : Lists). IsRoomyAt (plan_with plan x) 9 0 (k + 1) are.0) (same_Some l old at_old)
+          (roomy_next (plan_with plan l) 0 Run 9 0 k 0 start are.0 one (range_head plan l (m ∷ taken) fit)
+          (none_lacks plan.members) (room l refl) are.1);
     }
-pair_at plan (l ∷ taken) (one ∷ ages) start last (suc i) a b old new tell are at_a at_b at_old at_new =
+pair_at plan (l ∷ taken) (one ∷ ages) start last k (suc i) a b old new fit growing room are at_a at_b at_old at_new =
     let e : suc (i + 1) ≡ suc i + 1 = omega arith in
-    pair_at plan taken ages are.0 last i a b old new (tell_on plan.members start are.0 are.1.passes tell) are.2 at_a
+    pair_at plan taken ages are.0 last (k + 1) i a b old new (range_tail plan l taken fit)
+    (growing_tail l taken growing)
+    (room_next plan l taken k start are.0 one (range_head plan l taken fit) growing room are.1) are.2 at_a
     (ap (λ (k : ℕ). slice_get (one ∷ ages) k) e ∙ at_b) at_old
     (ap (λ (k : ℕ). slice_get (l ∷ taken) k) e ∙ at_new)
 
-pair_keeps : (plan : Script) (old new : Lists) (a b : AgeEnd) → HasGroupRanges (plan_with plan old)
-    → HasGroupRanges (plan_with plan new) → AreLivePair plan old new a b
-    → Kept (opening_of (plan_with plan old) a) (accounts_of a.members) (opening_of (plan_with plan new) b)
+pair_keeps : (plan : Script) (old new : Lists) (a b : AgeEnd) → HasRanges (plan_with plan old)
+    → HasRanges (plan_with plan new) → AreLivePair plan old new a b
+    → Kept (opening_of (plan_with plan old) 0 a) (accounts_of a.members) (opening_of (plan_with plan new) 0 b)
 pair_keeps plan old new a b ranges more r =
-    let first = plan_with plan old in
-    let second = plan_with plan new in
-    let left = leave_logs first r.mid a r.second.lists r.second.contents
-    (behind first Run 0 r.before r.mid a ranges r.first r.tell r.second.lists r.second.contents r.second.found) in
-    next_keeps (opening_of first a) (opening_of second b) a.members r.second.lists
-    (ap (λ (n : ℕ). 2 ^ n - 1) (sym ranges.lists)) r.first.agreed left
-    (sound_age second 0 r.mid r.after b more r.second) r.second.starts.restart.longest
+    record { later = kept.later; delivered = kept.delivered; durable = kept.durable }
+  where
+    first : Script
+    first = plan_with plan old
+
+    left : IsBehind first 0 r.mid a r.second.contents
+    left = behind first 0 Run 0 r.before r.mid a ranges r.first r.roomy.tell r.second.contents r.second.found
+
+    kept : Kept (opening_of first 0 a) (accounts_of a.members) (opening_of first 0 b)
+    kept = subst (λ (ends : List MemberEnd). Kept (opening_of first 0 a) (accounts_of ends) (opening_of first 0 b))
+        (sym (ap (λ (x : AgeEnd). x.members) r.first.run.told))
+        (next_keeps first (start_of first 0 a) (start_of first 0 b) 0 r.first.contents r.second.contents
+        (over_behind left) ranges.group ranges.some_turn (of_choice first 0 Run 0 r.before r.mid a r.first)
+        (left_from first 0 r.mid a r.second.contents left)
+        (chosen_before plan old new r.mid r.second.contents (start_of first 0 b)
+        (more.group.lists ∙ sym ranges.group.lists) r.roomy.good r.second.found r.second.starts))
 
 pub keep_each_other : (plan : Script) (taken : List Lists) (ages : List AgeEnd) (last : YardState)
     → AreUnderWay plan taken ages last → KeepEachOther plan taken ages
 keep_each_other plan taken ages last way i a b old new at_a at_b at_old at_new =
-    pair_keeps plan old new a b (range_at plan taken i old way.ranges at_old).group
-    (range_at plan taken (i + 1) new way.ranges at_new).group
-    (pair_at plan taken ages empty_yard last i a b old new (λ m l. refl) way.course at_a at_b at_old at_new)
+    pair_keeps plan old new a b (range_at plan taken i old way.ranges at_old)
+    (range_at plan taken (i + 1) new way.ranges at_new)
+    (pair_at plan taken ages empty_yard last 0 i a b old new way.ranges way.growing (empty_rooms plan taken)
+    way.course at_a at_b at_old at_new)
 
 -- ---- before the first one
 
@@ -317,7 +343,7 @@ ready_next plan lists ages yard up = record {
 -- ---- the one age of a run
 
 pub one_age : (script : Script) (before after : YardState) (ages : List AgeEnd) (age : AgeEnd)
-    → IsRunOf script Run before after ages None → ages ≡ age ∷ [] → IsAgeOf script Run 0 before after age
+    → IsRunOf script 0 Run before after ages None → ages ≡ age ∷ [] → IsAgeOf script 0 Run 0 before after age
 one_age script before after ages age run is =
-    let one = subst (λ (l : List AgeEnd). AreAges script Run 0 before l run.last) is run.course in
-    subst (λ (y : YardState). IsAgeOf script Run 0 before y age) (one.2 ∙ run.finish.1) one.1
+    let one = subst (λ (l : List AgeEnd). AreAges script 0 Run 0 before l run.last) is run.course in
+    subst (λ (y : YardState). IsAgeOf script 0 Run 0 before y age) (one.2 ∙ run.finish.1) one.1

@@ -1,15 +1,16 @@
 -- What the members of a live group deliver, and how they end.
-use Rattle.std.proofs.Common.{◌≡◌, refl, sym, ap, ◌∙◌, subst, ℕ, ◌+◌, ◌<◌, ◌≤◌, ◌⊎◌, inl, inr, arith, true, false, List, [], ◌∷◌, ◌++◌, append-nil, get_or, length, length-append, map, Some, slice_get}
+use Rattle.std.proofs.Common.{◌≡◌, refl, sym, ap, ◌∙◌, subst, ℕ, ◌+◌, ◌-◌, ◌^◌, ◌<◌, ◌≤◌, ◌&&◌, ◌⊎◌, inl, inr, arith, not, true, false, List, [], ◌∷◌, ◌++◌, append-nil, get_or, length, length-append, map, Some, slice_get}
 use Rattle.std.specs.Prelude.{All, None, Option}
 use Rattle.std.specs.List.{enumerate_from}
 use Rattle.std.specs.Option.{option_map_or}
 use Rattle.std.proofs.lemmas.Bool.{cases_lt}
+use Rattle.std.proofs.lemmas.Bool.Decides.{nat_tests}
 use Rattle.std.proofs.lemmas.List.{get_or_past}
 use Rattle.std.proofs.lemmas.List.Elements.{All-nil}
 use Rattle.std.proofs.lemmas.Option.{get_or_from_slice_get, slice_get-get_or, slice_get_within}
 use Rattle.dr_age.specs.Logged.{IsNotFull, NoneFull, NoneStopped, why_ended}
 use Rattle.dr_ages.proofs.Fresh.{roomy_ages}
-use Rattle.dr_ages.specs.Ages.{AreAges, opening_of}
+use Rattle.dr_ages.specs.Ages.{AreAges, opening_of, taking_part}
 use Rattle.dr_ages.specs.declared.mode.Mode.TheVariants.{Run}
 use Rattle.dr_entry.specs.declared.end.AgeEnd.{AgeEnd}
 use Rattle.dr_entry.specs.declared.end.End.{End}
@@ -18,24 +19,27 @@ use Rattle.dr_entry.specs.declared.end.MemberEnd.{MemberEnd}
 use Rattle.dr_entry.specs.declared.entry.Entry.{Entry}
 use Rattle.dr_entry.specs.declared.entry.Entry.TheVariants.{Msg}
 use Rattle.dr_entry.specs.declared.limits.TheConstants.{MAX_MEMBERS}
-use Rattle.dr_gather.proofs.Following.{is_there}
 use Rattle.dr_history.specs.declared.opening.Opening.{Opening}
 use Rattle.dr_history.specs.History.{IsPrefixOf}
+use Rattle.dr_history.specs.Members.{has}
 use Rattle.dr_history.specs.Order.{messages_from, numbered_messages}
+use Rattle.dr_history.specs.Soundness.{IsPresentIn}
 use Rattle.dr_history_laws.proofs.Keeping.{prefix_shorter, prefix_then}
 use Rattle.dr_history_laws.proofs.Lists.{slice_get-seam, slice_get-some}
 use Rattle.dr_program.specs.declared.setup.CrashPoint.{CrashPoint}
-use Rattle.dr_program_laws.specs.Ended.{HasReason, IsLeftOut, IsWhole, is_log_end}
+use Rattle.dr_program_laws.specs.Ended.{HasEnded, HasReason, IsLeftOut, IsWhole, is_log_end}
 use Rattle.dr_program_laws.specs.Trusting.{NoneLeft}
 use Rattle.dr_restart.specs.Groups.{first_group_of}
-use Rattle.dr_restart.specs.Setups.{suspicion_in}
+use Rattle.dr_restart.specs.Setups.{crashes_of, suspicion_in}
 use Rattle.dr_script.specs.declared.script.Fault.{Fault}
 use Rattle.dr_script.specs.declared.script.Script.{Script}
-use Rattle.dr_script.specs.Ranges.{HasGroupRanges}
+use Rattle.dr_script.specs.Ranges.{HasGroupRanges, HasRanges}
 use Rattle.dr_senders.specs.Senders.{HaveGrown, Lists}
+use Rattle.dr_words.proofs.Bits.{has_ones, has_zero}
+use Rattle.dr_words.proofs.Masks.{has_mask_of}
 use Rattle.dr_yard.specs.Yards.{YardState, empty_yard}
 use Rattle.dr_live.specs.Live.{AreUnderWay, AreUpTo, DeliversAll, DeliversPushed, EndAsDone, IsLastOf, HasLived, IsLivePlan, plan_with, pushed_by}
-use Rattle.dr_live.proofs.Course.{IsLiveAge, age_at, as_many, first_age, keep_each_other, range_at}
+use Rattle.dr_live.proofs.Course.{IsLiveAge, age_at, as_many, first_age, keep_each_other, none_lacks, range_at}
 use Rattle.dr_live.proofs.Growing.{grown_to_last, numbered_grown}
 
 -- ---- ends
@@ -53,7 +57,7 @@ unstopped ends.Absent room safe = refl
 
 -- no log of a live group stops a member
 pub live_stored : (plan : Script) (k : ℕ) (lists : Lists) (last : YardState) (age : AgeEnd)
-    → HasGroupRanges (plan_with plan lists) → k < 16 → ((m : ℕ) → last.faults m ≡ 0)
+    → HasRanges (plan_with plan lists) → k < 16 → ((m : ℕ) → last.faults m ≡ 0)
     → IsLiveAge plan k lists last age → NoneStopped age.members
 live_stored plan k lists last age ranges few calm live m d within =
     let e = get_or age.members m d in
@@ -61,12 +65,12 @@ live_stored plan k lists last age ranges few calm live m d within =
     unstopped e.end (full.1 m d within)
     (λ broken. omega (arith, live.is.failed m e at broken, live.later m, calm m))
   where
-    one : AreAges (plan_with plan lists) Run 0 live.before (age ∷ []) live.after
+    one : AreAges (plan_with plan lists) 0 Run 0 live.before (age ∷ []) live.after
     one = (live.after, live.is, refl)
 
     full : (age.age ≡ 0 + k + 0) × NoneFull age.members
-    full = roomy_ages (plan_with plan lists) Run 9 0 k 0 live.before (age ∷ []) live.after 0 age ranges
-        (omega arith) (omega (arith, few)) live.roomy one refl
+    full = roomy_ages (plan_with plan lists) 0 Run 9 0 k 0 live.before (age ∷ []) live.after 0 age ranges
+        (none_lacks plan.members) (omega arith) (omega (arith, few)) live.roomy one refl
 
 pub live_trusting : (plan : Script) (k : ℕ) (lists : Lists) (last : YardState) (age : AgeEnd)
     → IsLivePlan plan → IsLiveAge plan k lists last age → NoneLeft age.members
@@ -78,25 +82,49 @@ live_trusting plan k lists last age is live = live.is.trusting (record {
 
 -- ---- what is delivered
 
+-- who is not missing takes part
+there_takes_part : (script : Script) (missing m : ℕ) → script.members ≤ 16 → m < script.members
+    → has missing m ≡ false → has (taking_part script missing) m ≡ true
+there_takes_part script missing m few below there =
+    grind (
+      arith,
+      nat_tests,
+      has_mask_of (λ k. has (2 ^ script.members - 1) k && not (has missing k)) m,
+      has_ones script.members m,
+      below,
+      few,
+      there,
+    )
+
+-- each member takes part
+takes_part : (plan : Script) (k : ℕ) (lists : Lists) (last : YardState) (age : AgeEnd) (m : ℕ) (e : MemberEnd)
+    → HasGroupRanges (plan_with plan lists) → IsLiveAge plan k lists last age → slice_get age.members m ≡ Some e
+    → IsPresentIn (opening_of (plan_with plan lists) 0 age) m
+takes_part plan k lists last age m e ranges live at =
+    there_takes_part (plan_with plan lists) 0 m ranges.most_members
+    (omega (arith, slice_get_within age.members m e at, live.is.roster)) (has_zero m)
+
 -- a history has first parts of the messages of the age
 numbered_in : (plan : Script) (k : ℕ) (lists : Lists) (last : YardState) (age : AgeEnd) (m : ℕ) (e : MemberEnd)
-    (s : ℕ) → IsLiveAge plan k lists last age → slice_get age.members m ≡ Some e
-    → IsPrefixOf (messages_from s e.history) (numbered_messages (opening_of (plan_with plan lists) age) s)
-numbered_in plan k lists last age m e s live at =
-    let o = opening_of (plan_with plan lists) age in
-    let there = is_there o plan.members m refl (omega (arith, slice_get_within age.members m e at, live.is.roster)) in
+    (s : ℕ) → HasGroupRanges (plan_with plan lists) → IsLiveAge plan k lists last age
+    → slice_get age.members m ≡ Some e
+    → IsPrefixOf (messages_from s e.history) (numbered_messages (opening_of (plan_with plan lists) 0 age) s)
+numbered_in plan k lists last age m e s ranges live at =
+    let o = opening_of (plan_with plan lists) 0 age in
+    let there = takes_part plan k lists last age m e ranges live at in
     subst (λ (end : Option MemberEnd).
     IsPrefixOf (messages_from s (option_map_or (λ (x : MemberEnd). x.history) end [])) (numbered_messages o s)) at
     ((live.is.agreed.agreed.ordered m there).numbered s)
 
 pub live_delivers : (plan : Script) (k : ℕ) (lists pushed : Lists) (last : YardState) (age : AgeEnd)
-    → HaveGrown lists pushed → IsLiveAge plan k lists last age → DeliversPushed plan pushed age.members
-live_delivers plan k lists pushed last age grown live m d within s =
+    → HasGroupRanges (plan_with plan lists) → HaveGrown lists pushed → IsLiveAge plan k lists last age
+    → DeliversPushed plan pushed age.members
+live_delivers plan k lists pushed last age ranges grown live m d within s =
     let e = get_or age.members m d in
-    prefix_then (messages_from s e.history) (numbered_messages (opening_of (plan_with plan lists) age) s)
+    prefix_then (messages_from s e.history) (numbered_messages (opening_of (plan_with plan lists) 0 age) s)
     (pushed_by plan pushed s)
-    (numbered_in plan k lists last age m e s live (slice_get-get_or age.members m d within))
-    (numbered_grown (opening_of (plan_with plan lists) age) (first_group_of (plan_with plan pushed)).opening s grown)
+    (numbered_in plan k lists last age m e s ranges live (slice_get-get_or age.members m d within))
+    (numbered_grown (opening_of (plan_with plan lists) 0 age) (first_group_of (plan_with plan pushed)).opening s grown)
 
 -- who is done has all messages of the members of its view
 done_whole : (o : Opening) (members : List MemberEnd) (number view limit m : ℕ) (points : List CrashPoint)
@@ -127,11 +155,11 @@ pub live_whole : (plan : Script) (k : ℕ) (lists : Lists) (last : YardState) (a
     → HasGroupRanges (plan_with plan lists) → IsLiveAge plan k lists last age → EndAsDone age.members
     → DeliversAll plan lists age.members
 live_whole plan k lists last age ranges live done m d within s =
-    both_ways (messages_from s e.history) (numbered_messages o s) (numbered_in plan k lists last age m e s live at)
+    both_ways (messages_from s e.history) (numbered_messages o s) (numbered_in plan k lists last age m e s ranges live at)
     (by (cases_lt s (length lists)))
   where
     o : Opening
-    o = opening_of (plan_with plan lists) age
+    o = opening_of (plan_with plan lists) 0 age
 
     e : MemberEnd
     e = get_or age.members m d
@@ -144,17 +172,21 @@ live_whole plan k lists last age ranges live done m d within s =
         subst (λ (y : MemberEnd). y.end ≡ ends.Done) (get_or_from_slice_get age.members i x x there)
         (done i x (slice_get_within age.members i x there))
 
+    ended_at : (i : ℕ) (x : MemberEnd) (there : slice_get age.members i ≡ Some x)
+        → HasEnded o age.members plan.turns i (crashes_of plan.faults 0 i) x
+    ended_at i x there = live.is.ended.each i x there (takes_part plan k lists last age i x ranges live there)
+
     whole_at : (i : ℕ) (x : MemberEnd) (there : slice_get age.members i ≡ Some x)
-        → IsWhole o age.members (live.is.ended i x there).number (live.is.ended i x there).members x
+        → IsWhole o age.members (ended_at i x there).number (ended_at i x there).members x
     whole_at i x there =
-        let ended = live.is.ended i x there in
+        let ended = ended_at i x there in
         done_whole o age.members ended.number ended.members plan.turns i _ x (end_at i x there) ended.reason
 
     by : (s < length lists) ⊎ (length lists ≤ s)
         → IsPrefixOf (numbered_messages o s) (messages_from s e.history)
     by (inl l) =
         let x = slice_get-some age.members s (omega (arith, l, ranges.lists, live.is.roster)) in
-        let own = (whole_at s x.0 x.1).whole s (live.is.ended s x.0 x.1).own in
+        let own = (whole_at s x.0 x.1).whole s (ended_at s x.0 x.1).own in
         let in_place = slice_get_within age.members s x.0 x.1 in
         let same = get_or_from_slice_get age.members s x.0 x.0 x.1 in
         subst (λ (l : List Entry). IsPrefixOf l (messages_from s e.history)) own
@@ -173,7 +205,7 @@ pub all_stored : (plan : Script) (taken : List Lists) (ages : List AgeEnd) (last
     → All (λ (age : AgeEnd). NoneStopped age.members) ages
 all_stored plan taken ages last way few i d l =
     let lists = slice_get-some taken i (omega (arith, l, as_many plan taken ages empty_yard last way.course)) in
-    live_stored plan (0 + i) lists.0 last (get_or ages i d) (range_at plan taken i lists.0 way.ranges lists.1).group
+    live_stored plan (0 + i) lists.0 last (get_or ages i d) (range_at plan taken i lists.0 way.ranges lists.1)
     (omega (arith, l, few)) way.calm
     (age_at plan taken ages last i lists.0 (get_or ages i d) way lists.1 (slice_get-get_or ages i d l))
 
@@ -190,6 +222,7 @@ pub all_deliver : (plan : Script) (taken : List Lists) (ages : List AgeEnd) (las
 all_deliver plan taken ages last pushed way ends i d l =
     let lists = slice_get-some taken i (omega (arith, l, as_many plan taken ages empty_yard last way.course)) in
     live_delivers plan (0 + i) lists.0 pushed last (get_or ages i d)
+    (range_at plan taken i lists.0 way.ranges lists.1).group
     (grown_to_last taken i lists.0 pushed way.growing lists.1 ends)
     (age_at plan taken ages last i lists.0 (get_or ages i d) way lists.1 (slice_get-get_or ages i d l))
 

@@ -24,6 +24,7 @@ use Rattle.dr_senders.proofs.Growth.{grown_at, grown_length, grown_same, grown_t
 use Rattle.dr_senders.specs.Senders.{HaveGrown, Lists}
 use Rattle.dr_yard.specs.Yards.{YardState}
 use Rattle.dr_live.specs.Live.{AreGrowing, IsLastOf, IsLivePlan, plan_with}
+use Rattle.dr_live.proofs.Choosing.{chosen_before, used_before}
 
 -- ---- growth
 
@@ -81,8 +82,8 @@ stands_grown o other es (Msg s index bytes) grown is = (
 good_grown : (plan : Script) (old new : Lists) (yard : YardState) → HaveGrown old new
     → IsGood (plan_with plan old) yard → IsGood (plan_with plan new) yard
 good_grown plan old new yard grown good = record {
-  accepted = λ lists contents found.
-      let are = good.accepted lists contents found in
+  accepted = λ contents found.
+      let are = good.accepted contents found in
       record {
         sound = λ m es at i e here.
             stands_grown (judged_by (plan_with plan old)) (judged_by (plan_with plan new)) (take i es) e grown
@@ -98,8 +99,14 @@ roomy_grown plan old new k yard grown roomy = record {
   tell = roomy.tell;
   good = good_grown plan old new yard grown roomy.good;
   few = roomy.few;
-  next = roomy.next;
+  next = λ contents start found chosen.
+      roomy.next contents start found (chosen_before plan old new yard contents start long roomy.good found chosen);
+  last = λ contents found used.
+      roomy.last contents found (used_before plan old new yard contents long roomy.good found used);
 }
+  where
+    long : length new ≡ length old
+    long = grown_length old new grown
 
 -- ---- what grows from age to age
 

@@ -1,3 +1,4 @@
+mod Choosing
 mod Course
 pub mod Delivering
 mod Growing

@@ -9,10 +9,11 @@ ghost use Rattle.dr_script.specs.Ranges.{HasRanges};
 ghost use Rattle.dr_senders.specs.Senders.{Lists};
 ghost use Rattle.dr_yard.specs.Places.{place_lent};
 
-use dr_ages::{AgesEnd, Mode, Stop, run_ages};
+use dr_ages::{AgesEnd, Mode, Part, Stop, run_ages};
 use dr_entry::{AgeEnd, Message, Seq};
 use dr_pace::Pace;
 use dr_script::Script;
+use dr_words::Mask;
 use dr_yard::CalmYard;
 use std::alloc::{AllocError, Global};
 use std::thread::Threads;
@@ -107,9 +108,12 @@ fn run_one<R: Threads + Sync, P: Pace + Sync>(
     requires opens { OpensAlways script.now (calm_yard yard.old) }
     ensures here { (m : ℕ) → m < MAX_MEMBERS → place_lent yard.new m ≡ false }
     ensures age { IfOk result
-        (IsAgeOf script.now modes.Run 0 (calm_yard yard.old) (calm_yard yard.new)) }
+        (IsAgeOf script.now 0 modes.Run 0 (calm_yard yard.old) (calm_yard yard.new)) }
 {
-    let AgesEnd { ages, stop } = run_ages(rt, alloc, script, Mode::Run, "", yard, pace);
+    let part = Part {
+        missing: Mask::empty(),
+    };
+    let AgesEnd { ages, stop } = run_ages(rt, alloc, script, &part, Mode::Run, "", yard, pace);
     match stop {
         None => Ok(only(ages)),
         Some(stop) => match stop {

@@ -137,12 +137,12 @@ impl Picture {
         )
     }
 
-    /// All members have ended.
+    /// All members have ended. There is none at the place of one that is absent.
     ///
     /// # Errors
     ///
     /// Want of memory alone.
-    pub fn close(&mut self, members: &[Member]) -> Result<(), AllocError>
+    pub fn close(&mut self, members: &[Option<Member>]) -> Result<(), AllocError>
         ensures keeps { OnOk result (Keeps self.old.sheet self.new.sheet) }
         ensures lanes { vec_len self.new.lanes ≡ vec_len self.old.lanes }
         ensures counts { vec_len self.new.drawn ≡ vec_len self.old.drawn }
@@ -190,10 +190,12 @@ fn count_drawn(drawn: &mut Vec<usize>, me: u8, history: &[Entry]) -> usize
 }
 
 /// The lines of what members wait for.
-fn waits_of(alloc: Global, members: &[Member]) -> Result<String, AllocError> {
+fn waits_of(alloc: Global, members: &[Option<Member>]) -> Result<String, AllocError> {
     let mut waits = String::new(alloc);
-    for member in members {
-        push_waits(&mut waits, member, members)?;
+    for place in members {
+        if let Some(member) = place {
+            push_waits(&mut waits, member, members)?;
+        }
     }
     Ok(waits)
 }

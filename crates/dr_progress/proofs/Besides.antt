@@ -107,8 +107,8 @@ BothOpen opens old start new =
     × (new.progress.ghost_name ≡ old.progress.ghost_name)
 
 -- and of its end
-abbrev pub BothClose : {W T K : Type 0} → (W → List Running → List ℕ → W → Type 0) → Beside W T K
-    → List Running → List ℕ → Beside W T K → Type 0
+abbrev pub BothClose : {W T K : Type 0} → (W → List (Option Running) → List ℕ → W → Type 0) → Beside W T K
+    → List (Option Running) → List ℕ → Beside W T K → Type 0
 BothClose closes old members table new =
     closes old.watcher.now members table new.watcher.now × (new.progress.now ≡ old.progress.now)
     × (new.watcher.ghost_name ≡ old.watcher.ghost_name)
@@ -128,10 +128,10 @@ beside_told sees p (e ∷ es) old new (r, next, there, seen, more) =
 
 -- and of all ages
 pub beside_watched : {W T K : Type 0} (opens : W → Start → W → Type 0)
-    (sees : W → Running → List ℕ → W → Type 0) (closes : W → List Running → List ℕ → W → Type 0)
+    (sees : W → Running → List ℕ → W → Type 0) (closes : W → List (Option Running) → List ℕ → W → Type 0)
     (script : Script) (nth : ℕ) (ages : List AgeEnd) (old new : Beside W T K)
-    → AreWatched (BothOpen opens) (BothSee sees) (BothClose closes) Sim script nth ages old new
-    → AreWatched opens sees closes Sim script nth ages old.watcher.now new.watcher.now × GoesOn old new
+    → AreWatched (BothOpen opens) (BothSee sees) (BothClose closes) Sim script 0 nth ages old new
+    → AreWatched opens sees closes Sim script 0 nth ages old.watcher.now new.watcher.now × GoesOn old new
 beside_watched opens sees closes script nth [] old new same =
     (ap (λ b. b.watcher.now) same, subst (GoesOn old) (sym same) (goes_on_at_rest old))
 beside_watched opens sees closes script nth (age ∷ ages) old new (next, seen, more) =

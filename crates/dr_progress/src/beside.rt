@@ -77,7 +77,7 @@ impl<W: Watcher, T: Timer, K: Sink> Watcher for Beside<'_, '_, W, T, K> {
         }
     }
 
-    fn close(&mut self, members: &[Member], table: &[u64]) {
+    fn close(&mut self, members: &[Option<Member>], table: &[u64]) {
         self.watcher.close(members, table);
     }
 }

@@ -29,7 +29,7 @@ pub fn watch_with_progress<R: Threads + Sync, W: Watcher, T: Timer, K: Sink>(
     ensures ran { ((result.ages ≡ []) × (result.stop ≡ None) × (result.last ≡ None))
         ⊎ (IsRunInMemory script.now Sim result.ages result.stop
         × (result.last ≡ last_of result.ages result.stop)) }
-    ensures watched { AreWatched W.opens W.sees W.closes Sim script.now 0 result.ages
+    ensures watched { AreWatched W.opens W.sees W.closes Sim script.now 0 0 result.ages
         watcher.old watcher.new }
     // Nothing is said but to a terminal, and not before two seconds have passed.
     ensures quiet { IsQuiet progress.old progress.new }

@@ -122,12 +122,13 @@ impl Chart {
         }
     }
 
-    /// All members have ended: those that aren't done tell what they waited for.
+    /// All members have ended: those that aren't done tell what they waited for. There is none at the place of one
+    /// that is absent.
     ///
     /// # Errors
     ///
     /// Want of memory alone.
-    pub fn close(&mut self, members: &[Member]) -> Result<(), AllocError> {
+    pub fn close(&mut self, members: &[Option<Member>]) -> Result<(), AllocError> {
         for row in self.rows.iter_mut() {
             row.waits = false;
         }
@@ -136,8 +137,10 @@ impl Chart {
         if !self.whole {
             self.tell_quiet(quiet)?;
         }
-        for member in members {
-            push_waits(&mut self.text, member, members)?;
+        for place in members {
+            if let Some(member) = place {
+                push_waits(&mut self.text, member, members)?;
+            }
         }
         Ok(())
     }

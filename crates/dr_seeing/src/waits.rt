@@ -17,7 +17,11 @@ use std::fmt::Write;
 /// # Errors
 ///
 /// Want of memory alone.
-pub fn push_waits(out: &mut String, member: &Member, members: &[Member]) -> Result<(), AllocError> {
+pub fn push_waits(
+    out: &mut String,
+    member: &Member,
+    members: &[Option<Member>],
+) -> Result<(), AllocError> {
     let Some(End::Spent { .. }) = member.end() else {
         return Ok(());
     };
@@ -67,6 +71,11 @@ pub fn push_waits(out: &mut String, member: &Member, members: &[Member]) -> Resu
     }
 }
 
+/// The member of a number, if it is there.
+fn member_at(members: &[Option<Member>], number: u8) -> Option<&Member> {
+    members.get(usize::from(number))?.as_ref()
+}
+
 /// Appends that a member waits for another one, and how that one has ended.
 fn push_awaited(out: &mut String, me: u8, number: u8, end: Option<End>) -> Result<(), AllocError> {
     write!(out, "member {me} waits for: member {number}")?;
@@ -74,9 +83,13 @@ fn push_awaited(out: &mut String, me: u8, number: u8, end: Option<End>) -> Resul
 }
 
 /// Appends that a member waits for the item of the next place to be put.
-fn push_put(out: &mut String, replica: &Replica, members: &[Member]) -> Result<(), AllocError> {
+fn push_put(
+    out: &mut String,
+    replica: &Replica,
+    members: &[Option<Member>],
+) -> Result<(), AllocError> {
     let sender = replica.next_sender();
-    let Some(other) = members.get(usize::from(sender)) else {
+    let Some(other) = member_at(members, sender) else {
         let me = replica.me();
         let place = replica.next_place();
         return writeln!(
@@ -142,12 +155,18 @@ struct Missing {
 }
 
 /// Appends a line for a member that is wedged, and what of the change of its view is missing.
-fn push_change(out: &mut String, replica: &Replica, members: &[Member]) -> Result<(), AllocError> {
+fn push_change(
+    out: &mut String,
+    replica: &Replica,
+    members: &[Option<Member>],
+) -> Result<(), AllocError> {
     push_suspecting(out, replica.me(), replica.suspects())?;
     let leader = replica.members().without(replica.suspects()).least();
-    for (number, other) in (0..16u8).zip(members.iter()) {
-        if is_with(replica, number) && !replica.suspects().has(number) {
-            push_step(out, replica, leader, number, other)?;
+    for number in 0..16u8 {
+        if let Some(other) = member_at(members, number) {
+            if is_with(replica, number) && !replica.suspects().has(number) {
+                push_step(out, replica, leader, number, other)?;
+            }
         }
     }
     Ok(())
@@ -277,16 +296,18 @@ fn push_members(out: &mut String, mask: u16) -> Result<(), AllocError> {
 fn push_missing(
     out: &mut String,
     replica: &Replica,
-    members: &[Member],
+    members: &[Option<Member>],
     missing: Missing,
 ) -> Result<(), AllocError> {
     let column = missing.kind.column();
     let _ = replica.me();
-    for (number, other) in (0..16u8).zip(members.iter()) {
-        if is_with(replica, number) {
-            let seen = replica.seen(number, column);
-            if seen <= missing.least {
-                push_wait(out, replica, number, other, missing, seen)?;
+    for number in 0..16u8 {
+        if let Some(other) = member_at(members, number) {
+            if is_with(replica, number) {
+                let seen = replica.seen(number, column);
+                if seen <= missing.least {
+                    push_wait(out, replica, number, other, missing, seen)?;
+                }
             }
         }
     }

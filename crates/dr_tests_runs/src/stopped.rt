@@ -24,15 +24,19 @@ const FIRST_CALL: u64 = 12;
 const TOO_LOW: u64 = 24;
 
 /// The age of the two members, of whom member 0 has this log.
-fn ended(alloc: Global, fails: &[u64], limit: u64) -> Result<(AgeEnd, [Log<MemoryDisk>; 2]), Fail> {
+fn ended(
+    alloc: Global,
+    fails: &[u64],
+    limit: u64,
+) -> Result<(AgeEnd, [Option<Log<MemoryDisk>>; 2]), Fail> {
     let script = read_script(alloc, TWO)?;
     if script.members != 2 {
         return Err("there are two members")?;
     }
     let start = first_start(alloc, &script);
     let mut logs = [
-        log_on(alloc, fails, limit, &start)?,
-        log_on(alloc, &[], LOG_LIMIT, &start)?,
+        Some(log_on(alloc, fails, limit, &start)?),
+        Some(log_on(alloc, &[], LOG_LIMIT, &start)?),
     ];
     let age = sim_age(alloc, &script, &start, 0, &mut logs)?;
     Ok((age, logs))
@@ -48,14 +52,14 @@ fn log_on(alloc: Global, fails: &[u64], limit: u64, start: &Start) -> Result<Log
 }
 
 /// Shows how an age came out in which member 0 could not append its first message: it ended so, and
-/// member 1 waited for it, with its own log whole.
-fn shows_stop(
+/// member 1 waited for it, with its own log whole. Answers the log of member 0.
+fn shows_stop<'l>(
     rt: &impl Abort,
     age: &AgeEnd,
     end: End,
-    logs: &[Log<MemoryDisk>],
-) -> Result<(), Fail> {
-    let ([zero, one], [zero_log, one_log]) = (age.members.as_slice(), logs) else {
+    logs: &'l [Option<Log<MemoryDisk>>],
+) -> Result<&'l Log<MemoryDisk>, Fail> {
+    let ([zero, one], [Some(zero_log), Some(one_log)]) = (age.members.as_slice(), logs) else {
         return Err("there are two members")?;
     };
     assert!(rt; zero.end == end && zero.history.as_slice().len() == 3);
@@ -63,22 +67,22 @@ fn shows_stop(
     assert!(rt; one.end == End::Spent { turns: 4 } && one.history.as_slice().len() == 2);
     assert!(rt; one.logged == 2 && one.durable == 1);
     assert!(rt; one_log.entries().len() == 2 && !one_log.failed());
-    Ok(())
+    Ok(zero_log)
 }
 
 #[test]
 fn a_member_ends_at_a_fault_of_its_disk(rt: HostRuntime) -> Result<(), Fail> {
     let (age, logs) = ended(rt.alloc(), &[FIRST_CALL], LOG_LIMIT)?;
-    shows_stop(&rt, &age, End::DiskFault, &logs)?;
-    assert!(rt; logs[0].failed());
+    let log = shows_stop(&rt, &age, End::DiskFault, &logs)?;
+    assert!(rt; log.failed());
     Ok(())
 }
 
 #[test]
 fn a_member_ends_at_its_full_log(rt: HostRuntime) -> Result<(), Fail> {
     let (age, logs) = ended(rt.alloc(), &[], TOO_LOW)?;
-    shows_stop(&rt, &age, End::LogFull { len: 16 }, &logs)?;
-    assert!(rt; !logs[0].failed() && logs[0].len() == 16);
+    let log = shows_stop(&rt, &age, End::LogFull { len: 16 }, &logs)?;
+    assert!(rt; !log.failed() && log.len() == 16);
     Ok(())
 }
 

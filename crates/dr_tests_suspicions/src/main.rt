@@ -11,7 +11,7 @@
 #![tactic(auto)]
 
 use anyhow::anyhow;
-use dr_ages::{AgesEnd, Mode, run_ages};
+use dr_ages::{AgesEnd, Mode, Part, run_ages};
 use dr_disk::MemoryDisk;
 use dr_entry::{AgeEnd, MemberEnd, SentItem, Seq, Vote};
 use dr_io::OutputSink;
@@ -19,6 +19,7 @@ use dr_log::Log;
 use dr_pace::SnoozePace;
 use dr_script::read_script;
 use dr_text::{Last, Report};
+use dr_words::Mask;
 use dr_yard::MemoryYard;
 use std::alloc::Global;
 use std::io::{BufRead, BufReader};
@@ -55,7 +56,19 @@ fn ended(
 ) -> anyhow::Result<(AgesEnd, Vec<MemoryDisk>)> {
     let script = read_script(alloc, script)?;
     let mut yard = MemoryYard::new(alloc, Vec::new(alloc), &[])?;
-    let end = run_ages(rt, alloc, &script, Mode::Sim, "", &mut yard, &SnoozePace);
+    let part = Part {
+        missing: Mask::empty(),
+    };
+    let end = run_ages(
+        rt,
+        alloc,
+        &script,
+        &part,
+        Mode::Sim,
+        "",
+        &mut yard,
+        &SnoozePace,
+    );
     let mut disks = yard.into_disks();
     disks.truncate(usize::from(script.members));
     Ok((end, disks))

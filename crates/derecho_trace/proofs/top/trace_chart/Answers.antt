@@ -12,7 +12,7 @@ returns g c = λ held fell told.
     c.end.result.sink) fell
     (g.K.Sink.faults c.end.result.sink) c.end.result.status c.args.drawing c.drawing.inside.output
     c.watch_in_memory-outcome.ensures.ran
-    (subst (λ (w : Written). AreWatched OpensSome SeesSome ClosesSome Sim c.args.script.now 0
+    (subst (λ (w : Written). AreWatched OpensSome SeesSome ClosesSome Sim c.args.script.now 0 0
     outcome.ages c.args.drawing w)
     (sym c.drawing.view_is) c.watch_in_memory-outcome.ensures.watched)
     told (c.end.ensures.wrote held fell)

@@ -12,6 +12,6 @@ returns g c = λ held fell told.
     c.end.result.sink) fell
     (g.K.Sink.faults c.end.result.sink) c.end.result.status c.args.lines c.lines.inside.output
     c.watch_in_memory-outcome.ensures.ran
-    (subst (λ (w : Written). AreWatched Opens Sees Closes Sim c.args.script.now 0 outcome.ages c.args.lines w)
+    (subst (λ (w : Written). AreWatched Opens Sees Closes Sim c.args.script.now 0 0 outcome.ages c.args.lines w)
     (sym c.lines.view_is) c.watch_in_memory-outcome.ensures.watched)
     told (c.end.ensures.wrote held fell)

@@ -1,4 +1,4 @@
-use Rattle.std.proofs.Common.{All, Contains, List}
+use Rattle.std.proofs.Common.{All, Contains, List, Option}
 use Rattle.dr_machine.specs.Group.{Group}
 use Rattle.dr_program.specs.declared.packet.Packet.{Packet}
 use Rattle.dr_program.specs.Running.{Running}
@@ -6,7 +6,7 @@ use Rattle.dr_program_laws.specs.Carried.{IsCarried}
 use Rattle.dr_examples.proofs.net.arrive.Given as goal
 
 abbrev pub invariant-loop-nth : goal.invariant-loop-nth
-invariant-loop-nth l = (g : Group) (members : List Running) (net : List Packet)
+invariant-loop-nth l = (g : Group) (members : List (Option Running)) (net : List Packet)
     → All (Contains net) l.fn.packets
     → IsCarried g (record { members = members; table = l.fn.words }) net
     → IsCarried g (record { members = members; table = l.words }) net

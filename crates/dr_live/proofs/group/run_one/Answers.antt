@@ -1,9 +1,10 @@
-use Rattle.std.proofs.Common.{◌≡◌, Option, refl, subst}
+use Rattle.std.proofs.Common.{◌≡◌, ℕ, Option, None, refl, subst}
 use Rattle.dr_ages.specs.Runs.{IsRunOf}
 use Rattle.dr_ages.specs.declared.mode.Mode.TheVariants.{Run}
 use Rattle.dr_ages.specs.declared.stop.Stop.{Stop}
 use Rattle.dr_ages.specs.declared.stop.Stop.TheVariants.{OutOfMemory}
 use Rattle.dr_live.specs.Live.{calm_yard}
+use Rattle.dr_live.proofs.Course.{one_age}
 use Rattle.dr_live.proofs.group.run_one.Goals as goal
 
 pub unreachable-requires : goal.unreachable-requires
@@ -11,7 +12,19 @@ unreachable-requires g c =
     let before = calm_yard c.args.yard.now in
     let after = calm_yard c.run_ages-ages.new.yard in
     let ages = c.run_ages-ages.result.ages in
-    let run = subst (λ (stop : Option Stop). IsRunOf c.args.script.now Run before after ages stop) c.in-Some.is
-    c.run_ages-ages.ensures.run in
+    let all = subst (λ (missing : ℕ). IsRunOf c.args.script.now missing Run before after ages c.run_ages-ages.result.stop)
+    c.empty.ensures.bits c.run_ages-ages.ensures.run in
+    let run = subst (λ (stop : Option Stop). IsRunOf c.args.script.now 0 Run before after ages stop) c.in-Some.is all in
     let is : c.in-Some.stop ≡ OutOfMemory = c.requires.opens after ages c.in-Some.stop (λ m. refl) run in
     absurd (c.in_default.not-OutOfMemory is)
+
+pub returns-in-None-clause-age : goal.returns-in-None-clause-age
+returns-in-None-clause-age g c =
+    let before = calm_yard c.args.yard.now in
+    let after = calm_yard c.run_ages-ages.new.yard in
+    let ages = c.run_ages-ages.result.ages in
+    let all = subst (λ (missing : ℕ). IsRunOf c.args.script.now missing Run before after ages c.run_ages-ages.result.stop)
+    c.empty.ensures.bits c.run_ages-ages.ensures.run in
+    let run : IsRunOf c.args.script.now 0 Run before after ages None =
+    subst (λ (stop : Option Stop). IsRunOf c.args.script.now 0 Run before after ages stop) c.in-None.is all in
+    one_age c.args.script.now before after ages c.only.result run c.only.ensures

@@ -10,7 +10,7 @@ returns-clause-watched g c =
     let both = beside_watched g.W.Watcher.opens g.W.Watcher.sees g.W.Watcher.closes c.args.script.now 0
     outcome.result.ages _ outcome.new.watcher outcome.ensures.watched in
     let places = both.1.1 in
-    subst (AreWatched g.W.Watcher.opens g.W.Watcher.sees g.W.Watcher.closes Sim c.args.script.now 0
+    subst (AreWatched g.W.Watcher.opens g.W.Watcher.sees g.W.Watcher.closes Sim c.args.script.now 0 0
     outcome.result.ages c.args.watcher.now) (sym (search rules)) both.0
 
 pub returns-clause-quiet : goal.returns-clause-quiet

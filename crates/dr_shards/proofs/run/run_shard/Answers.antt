@@ -1,6 +1,6 @@
-use Rattle.std.proofs.Common.{length, ap, refl, sym, subst, ◌∙◌}
-use Rattle.std.specs.Prelude.{All, IfOk}
-use Rattle.dr_age.specs.Logged.{IsAmple}
+use Rattle.std.proofs.Common.{refl, sym, subst}
+use Rattle.std.specs.Prelude.{IfOk}
+use Rattle.dr_age.specs.Logged.{AreAmple, AreOpened}
 use Rattle.dr_restart.specs.Groups.{group_of}
 use Rattle.dr_shards.proofs.Owning.{simulated_as, threaded_as}
 use Rattle.dr_shards.specs.Shards.{IsShardAge}
@@ -14,8 +14,8 @@ returns-in-Sim g c =
     subst (λ m. IfOk c.sim_age.result (IsShardAge m script)) (sym c.in-Sim.is)
     (simulated_as _ _ (λ disk. refl) script c.first_start-start.result first.start first.group
     c.requires.ranges.group.lists _ _
-    (ap length c.deref_mut.ensures.value ∙ made.opened.all) e.count
-    (subst (All (IsAmple group)) (sym c.deref_mut.ensures.value) made.ample)
+    (subst (AreOpened group) (sym c.deref_mut.ensures.value) made.opened) e.places
+    (subst (AreAmple group) (sym c.deref_mut.ensures.value) made.ample)
     c.sim_age.result e.run e.members e.agreed e.ended e.logged e.ample)
 
 pub returns-in-Ok : goal.returns-in-Ok
@@ -24,6 +24,5 @@ returns-in-Ok g c =
     let age = c.in-Ok.age in let made = c.in_ok-logs.ensures in
     subst (λ m. IsShardAge m script age) (sym c.in-Run.is)
     (threaded_as _ _ (λ disk. refl) script c.first_start-start.result first.start first.group
-    c.requires.ranges.group.lists _ _
-    made.opened.all e.count made.ample
+    c.requires.ranges.group.lists _ _ made.opened e.places made.ample
     age e.run e.members e.agreed e.ended e.logs e.ample)
