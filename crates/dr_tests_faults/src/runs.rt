@@ -6,9 +6,10 @@ ghost use Rattle.dr_yard.specs.Memory.{AreHere};
 use dr_ages::Mode;
 use dr_disk::MemoryDisk;
 use dr_intake::script_or_refusal;
-use dr_outcome::{Outcome, Play, play_script};
+use dr_outcome::{Folder, Outcome, Play, play_script};
 use dr_pace::SnoozePace;
 use dr_script::Script;
+use dr_words::Mask;
 use dr_yard::MemoryYard;
 use std::alloc::Global;
 use std::test::Fail;
@@ -52,7 +53,10 @@ pub(crate) fn run(
     let mut yard = MemoryYard::new(alloc, disks, lends)?;
     let play = Play {
         mode: Mode::Sim,
-        folder: Some("d"),
+        folder: Some(Folder {
+            name: "d",
+            missing: Mask::empty(),
+        }),
     };
     let outcome = play_script(rt, alloc, &script, &play, &mut yard, &SnoozePace);
     Ok(Ran {

@@ -170,7 +170,7 @@ fn faults_of_a_source_and_a_sink_are_told(rt: HostRuntime) -> Result<(), Fail> {
 fn faults_of_disks_are_told(rt: HostRuntime) -> Result<(), Fail> {
     let alloc = rt.alloc();
     let two_ages = plain_call(&["sim", "--logs", "d"], TWO_AGES);
-    let disks = vec![in alloc; MemoryDisk::new(alloc, &[12], None)?]?;
+    let disks = vec![in alloc; MemoryDisk::new(alloc, &[16], None)?]?;
     let mut yard = MemoryYard::new(alloc, disks, &[])?;
     ends(&rt, alloc, two_ages, &mut yard, (6, DISK_FAULT_TEXT))?;
     let mut yard = MemoryYard::new(alloc, Vec::new(alloc), &[2])?;
