@@ -4,9 +4,9 @@ ghost use Rattle.dr_restart.specs.Choosing.{EndsInAge, HasAge, IsAgeAfter, IsLas
 ghost use Rattle.dr_quorum.specs.Handing.{handed_by};
 ghost use Rattle.dr_quorum.specs.Knowing.{HasAgeVoteOf, HasViewOfAge, HasVoteOfAge, HaveNoView, IsGreatestAge, OfLog, OfSomeLog, age_of_view, later_age};
 
+use crate::borrowed::BorrowedLists;
 use dr_entry::{AgeVote, Entry, Vote};
 use dr_history::view_of;
-use dr_restart::LogLists;
 
 /// The greater one of two ages, or the only one.
 fn later(one: Option<u16>, other: Option<u16>) -> Option<u16>
@@ -69,18 +69,15 @@ fn latest_age_vote(votes: &[AgeVote]) -> Option<u16>
 }
 
 /// The greatest age that a log knows.
-fn latest_on(log: &LogLists) -> Option<u16>
+fn latest_on(log: &BorrowedLists) -> Option<u16>
     ensures { IsGreatestAge (HasAge log.now) result }
 {
-    let voted = later(
-        latest_vote(log.votes.as_slice()),
-        latest_age_vote(log.age_votes.as_slice()),
-    );
-    later(latest_view(log.entries.as_slice()), voted)
+    let voted = later(latest_vote(log.votes()), latest_age_vote(log.age_votes()));
+    later(latest_view(log.entries()), voted)
 }
 
 /// So it is of a log that may be missing.
-fn latest_there(list: &Option<LogLists>) -> Option<u16>
+fn latest_there(list: &Option<BorrowedLists>) -> Option<u16>
     ensures { IsGreatestAge (OfLog HasAge list.now) result }
 {
     match list {
@@ -90,7 +87,7 @@ fn latest_there(list: &Option<LogLists>) -> Option<u16>
 }
 
 /// The greatest age that a log knows which was handed in.
-fn latest_known(lists: &[Option<LogLists>]) -> Option<u16>
+fn latest_known(lists: &[Option<BorrowedLists>]) -> Option<u16>
     ensures { IsGreatestAge (OfSomeLog HasAge (handed_by lists.now)) result }
 {
     let mut best = None;
@@ -109,7 +106,7 @@ fn next_of(age: u16) -> Option<u16>
 }
 
 /// The age after all those that logs know, where there is one.
-pub(crate) fn age_after(lists: &[Option<LogLists>]) -> Option<u16>
+pub(crate) fn age_after(lists: &[Option<BorrowedLists>]) -> Option<u16>
     ensures some { IfSome result (IsAgeAfter (handed_by lists.now)) }
     ensures none { IfNone result (OfSomeLog HasAge (handed_by lists.now) 65535) }
 {
@@ -120,17 +117,17 @@ pub(crate) fn age_after(lists: &[Option<LogLists>]) -> Option<u16>
 }
 
 /// The age of the last View of a log.
-fn end_of(log: &LogLists) -> Option<u16>
+fn end_of(log: &BorrowedLists) -> Option<u16>
     ensures { IsGreatestAge (EndsInAge log.now) result }
 {
-    match view_of(log.entries.as_slice()) {
+    match view_of(log.entries()) {
         Some(view) => Some(view.age()),
         None => None,
     }
 }
 
 /// So it is of a log that may be missing.
-fn end_there(list: &Option<LogLists>) -> Option<u16>
+fn end_there(list: &Option<BorrowedLists>) -> Option<u16>
     ensures { IsGreatestAge (OfLog EndsInAge list.now) result }
 {
     match list {
@@ -140,7 +137,7 @@ fn end_there(list: &Option<LogLists>) -> Option<u16>
 }
 
 /// The greatest age of a last View.
-fn latest_end(lists: &[Option<LogLists>]) -> Option<u16>
+fn latest_end(lists: &[Option<BorrowedLists>]) -> Option<u16>
     ensures { IsGreatestAge (OfSomeLog EndsInAge (handed_by lists.now)) result }
 {
     let mut best = None;
@@ -151,7 +148,7 @@ fn latest_end(lists: &[Option<LogLists>]) -> Option<u16>
 }
 
 /// The greatest age of a last View, and none where no log has a View.
-pub(crate) fn last_age(lists: &[Option<LogLists>]) -> Option<u16>
+pub(crate) fn last_age(lists: &[Option<BorrowedLists>]) -> Option<u16>
     ensures some { IfSome result (IsLastAge (handed_by lists.now)) }
     ensures none { IfNone result (HaveNoView (handed_by lists.now)) }
 {

@@ -10,6 +10,7 @@ ghost use Rattle.dr_quorum.specs.Handing.{handed_by};
 ghost use Rattle.dr_quorum.specs.Telling.{IsRightlyTold, reason_of};
 
 use crate::ages::{age_after, last_age};
+use crate::borrowed::BorrowedLists;
 use crate::comparing::find_split;
 use crate::copies::copy_of;
 use crate::faults::ChooseFault;
@@ -17,7 +18,7 @@ use crate::handing::{check_logs, handed_among, roster_of};
 use crate::holders::longest_held;
 use crate::path::find_short_view;
 use dr_entry::Entry;
-use dr_restart::{LogLists, Start};
+use dr_restart::Start;
 use dr_script::Script;
 use std::alloc::Global;
 
@@ -28,7 +29,7 @@ use std::alloc::Global;
 /// The first two of these logs that differ, or the first view on the path of which too few logs are there.
 fn entries_of_age<'a>(
     script: &Script,
-    lists: &'a [Option<LogLists>],
+    lists: &[Option<BorrowedLists<'a>>],
     age: u16,
 ) -> Result<&'a [Entry], ChooseFault>
     requires ranges { HasGroupRanges script.now }
@@ -61,7 +62,7 @@ fn entries_of_age<'a>(
 /// So it is where the last age is still to be found. There are no entries where no log has a View.
 fn choose_entries<'a>(
     script: &Script,
-    lists: &'a [Option<LogLists>],
+    lists: &[Option<BorrowedLists<'a>>],
 ) -> Result<&'a [Entry], ChooseFault>
     requires ranges { HasGroupRanges script.now }
     requires all { length lists.now ≡ script.now.members }
@@ -85,7 +86,7 @@ fn choose_entries<'a>(
 fn start_with(
     alloc: Global,
     script: &Script,
-    lists: &[Option<LogLists>],
+    lists: &[Option<BorrowedLists>],
     age: u16,
     entries: &[Entry],
 ) -> Result<Start, ChooseFault>
@@ -110,7 +111,7 @@ fn start_with(
 fn choose_start(
     alloc: Global,
     script: &Script,
-    lists: &[Option<LogLists>],
+    lists: &[Option<BorrowedLists>],
 ) -> Result<Start, ChooseFault>
     requires ranges { HasGroupRanges script.now }
     requires all { length lists.now ≡ script.now.members }
@@ -138,7 +139,7 @@ fn choose_start(
 pub fn choose(
     alloc: Global,
     script: &Script,
-    lists: &[Option<LogLists>],
+    lists: &[Option<BorrowedLists>],
 ) -> Result<Start, ChooseFault>
     requires ranges { HasGroupRanges script.now }
     requires all { length lists.now ≡ script.now.members }

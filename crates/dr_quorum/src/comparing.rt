@@ -7,9 +7,9 @@ ghost use Rattle.dr_restart.specs.Refusing.{AreHoldersAlong, IsFirstSplit, IsHel
 ghost use Rattle.dr_quorum.specs.Comparing.{AreAlongBelow, IsFirstApart};
 ghost use Rattle.dr_quorum.specs.Handing.{handed_by};
 
+use crate::borrowed::BorrowedLists;
 use crate::holders::held;
 use dr_entry::Entry;
-use dr_restart::LogLists;
 
 /// Whether both are one entry.
 fn is_same(one: &Entry, other: &Entry) -> bool
@@ -34,7 +34,7 @@ pub fn first_difference(one: &[Entry], other: &[Entry]) -> Option<usize>
 
 /// Where what a member has, if it is a holder, differs from these entries.
 fn difference_with(
-    lists: &[Option<LogLists>],
+    lists: &[Option<BorrowedLists>],
     age: u16,
     member: usize,
     entries: &[Entry],
@@ -51,7 +51,7 @@ fn difference_with(
 }
 
 /// Whether what each holder has is along these entries, which are the longest of a holder.
-fn are_fronts(lists: &[Option<LogLists>], age: u16, longest: &[Entry]) -> bool
+fn are_fronts(lists: &[Option<BorrowedLists>], age: u16, longest: &[Entry]) -> bool
     requires { (f : List EntryOf) → AreOnHolder (handed_by lists.now) age f → length f ≤ length longest.now }
     ensures { IsTrue result → AreHoldersAlong (handed_by lists.now) age }
 {
@@ -65,7 +65,7 @@ fn are_fronts(lists: &[Option<LogLists>], age: u16, longest: &[Entry]) -> bool
 
 /// The first holder below a member that has an entry where these differ, and where.
 fn first_apart(
-    lists: &[Option<LogLists>],
+    lists: &[Option<BorrowedLists>],
     age: u16,
     member: usize,
     entries: &[Entry],
@@ -83,7 +83,7 @@ fn first_apart(
 }
 
 /// The first holder below a member, where this is one, that has an entry where they differ, and where.
-fn apart_from(lists: &[Option<LogLists>], age: u16, member: usize) -> Option<(usize, usize)>
+fn apart_from(lists: &[Option<BorrowedLists>], age: u16, member: usize) -> Option<(usize, usize)>
     ensures none { IfNone result ((es : List EntryOf) → IsHeldBy (handed_by lists.now) age member es
         → AreAlongBelow (handed_by lists.now) age member es) }
     ensures some { IfSome result (λ at. (es : List EntryOf) × IsHeldBy (handed_by lists.now) age member es
@@ -98,7 +98,7 @@ fn apart_from(lists: &[Option<LogLists>], age: u16, member: usize) -> Option<(us
 /// The first two holders that differ, by the greater of their numbers and then by the less, and where. One
 /// pass tells whether there are such; only where there may be the pairs are gone through.
 pub(crate) fn find_split(
-    lists: &[Option<LogLists>],
+    lists: &[Option<BorrowedLists>],
     age: u16,
     longest: &[Entry],
 ) -> Option<(usize, usize, usize)>

@@ -8,15 +8,15 @@ ghost use Rattle.dr_script.specs.Ranges.{HasGroupRanges};
 ghost use Rattle.dr_quorum.specs.Handing.{handed_by};
 ghost use Rattle.dr_quorum.specs.Telling.{IsRightlyTold};
 
+use crate::borrowed::BorrowedLists;
 use crate::faults::ChooseFault;
 use crate::reading::first_foreign;
 use dr_entry::MAX_MEMBERS;
-use dr_restart::LogLists;
 use dr_script::Script;
 use dr_words::Mask;
 
 /// The first log with an entry that may not stand, and where.
-fn find_foreign(script: &Script, lists: &[Option<LogLists>]) -> Option<(usize, usize)>
+fn find_foreign(script: &Script, lists: &[Option<BorrowedLists>]) -> Option<(usize, usize)>
     requires { HasGroupRanges script.now }
     ensures none { IfNone result (HaveNothingForeign (first_group_of script.now).opening (handed_by lists.now)) }
     ensures some { IfSome result (λ at.
@@ -25,7 +25,7 @@ fn find_foreign(script: &Script, lists: &[Option<LogLists>]) -> Option<(usize, u
 {
     for m in 0..lists.len() {
         if let Some(log) = &lists[m] {
-            if let Some(place) = first_foreign(script, log.entries.as_slice()) {
+            if let Some(place) = first_foreign(script, log.entries()) {
                 return Some((m, place));
             }
         }
@@ -34,7 +34,7 @@ fn find_foreign(script: &Script, lists: &[Option<LogLists>]) -> Option<(usize, u
 }
 
 /// The members of a mask whose logs were handed in.
-pub(crate) fn handed_among(lists: &[Option<LogLists>], members: Mask) -> Mask
+pub(crate) fn handed_among(lists: &[Option<BorrowedLists>], members: Mask) -> Mask
     ensures { result ≡ handed_of (handed_by lists.now) members }
 {
     let mut mask = Mask::empty();
@@ -48,7 +48,7 @@ pub(crate) fn handed_among(lists: &[Option<LogLists>], members: Mask) -> Mask
 }
 
 /// How many of these members have handed in their logs, and how many are needed, where they are too few.
-pub(crate) fn lacking(lists: &[Option<LogLists>], members: Mask) -> Option<(u8, u8)>
+pub(crate) fn lacking(lists: &[Option<BorrowedLists>], members: Mask) -> Option<(u8, u8)>
     ensures none { IfNone result (HasQuorum (handed_by lists.now) members) }
     ensures some { IfSome result (λ x. LacksQuorum (handed_by lists.now) members x.0 x.1) }
 {
@@ -74,7 +74,10 @@ pub(crate) fn roster_of(script: &Script) -> Mask
 /// # Errors
 ///
 /// The first entry that is foreign, or how many logs there are.
-pub(crate) fn check_logs(script: &Script, lists: &[Option<LogLists>]) -> Result<(), ChooseFault>
+pub(crate) fn check_logs(
+    script: &Script,
+    lists: &[Option<BorrowedLists>],
+) -> Result<(), ChooseFault>
     requires ranges { HasGroupRanges script.now }
     requires all { length lists.now ≡ script.now.members }
     ensures enough { IfOk result (λ _. AreEnough (first_group_of script.now).opening (handed_by lists.now)) }

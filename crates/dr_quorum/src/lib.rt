@@ -3,6 +3,7 @@
 #![tactic(auto)]
 
 mod ages;
+mod borrowed;
 mod choosing;
 mod comparing;
 mod copies;
@@ -15,6 +16,7 @@ mod path;
 mod reading;
 mod standing;
 
+pub use borrowed::BorrowedLists;
 pub use choosing::choose;
 pub use comparing::first_difference;
 pub use copies::copy_of;

@@ -11,9 +11,9 @@ ghost use Rattle.dr_script.specs.Ranges.{HasGroupRanges};
 ghost use Rattle.dr_quorum.specs.Ballots.{better};
 ghost use Rattle.dr_quorum.specs.Handing.{handed_by};
 
+use crate::borrowed::BorrowedLists;
 use crate::handing::lacking;
 use dr_entry::{Entry, MAX_MEMBERS, Vote};
-use dr_restart::LogLists;
 use dr_script::Script;
 use dr_words::Mask;
 
@@ -45,11 +45,11 @@ fn better(best: Option<Vote>, vote: &Vote) -> Option<Vote>
 }
 
 /// The votes on the log of a member, where it was handed in.
-fn votes_of(lists: &[Option<LogLists>], member: usize) -> &[Vote]
+fn votes_of<'a>(lists: &[Option<BorrowedLists<'a>>], member: usize) -> &'a [Vote]
     ensures { result.now ≡ option_map_or (λ log. log.votes) (handed_by lists.now member) [] }
 {
     match lists.get(member) {
-        Some(Some(log)) => log.votes.as_slice(),
+        Some(Some(log)) => log.votes(),
         _ => &[],
     }
 }
@@ -77,7 +77,7 @@ fn best_among(
 
 /// The first vote of the highest ballot that names the view after one of these members.
 fn best_vote(
-    lists: &[Option<LogLists>],
+    lists: &[Option<BorrowedLists>],
     roster: u8,
     age: u16,
     view: u8,
@@ -96,7 +96,7 @@ fn best_vote(
 
 /// The members of the view after one of these members, where a vote names it.
 fn next_view(
-    lists: &[Option<LogLists>],
+    lists: &[Option<BorrowedLists>],
     roster: u8,
     age: u16,
     view: u8,
@@ -113,7 +113,7 @@ fn next_view(
 /// The first view on the path from View 0 with these members of which too few have handed in their logs: its
 /// number, how many have, and how many are needed.
 fn find_lacking(
-    lists: &[Option<LogLists>],
+    lists: &[Option<BorrowedLists>],
     roster: u8,
     age: u16,
     first: Mask,
@@ -175,7 +175,7 @@ fn first_members(entries: &[Entry], age: u16) -> Option<u16>
 /// logs.
 pub(crate) fn find_short_view(
     script: &Script,
-    lists: &[Option<LogLists>],
+    lists: &[Option<BorrowedLists>],
     age: u16,
     entries: &[Entry],
 ) -> Option<(u8, u8, u8)>
