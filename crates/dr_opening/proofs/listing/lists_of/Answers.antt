@@ -6,8 +6,8 @@ use Rattle.dr_opening.proofs.listing.lists_of.Goals as goal
 pub loop-place-preserved : goal.loop-place-preserved
 loop-place-preserved g c =
     c.in_ok-push.ensures.items
-    ∙ ap (λ l. l ++ c.in_ok-list_at.field-0 ∷ []) c.loop-place.invariant
+    ∙ ap (λ l. l ++ c.list_at.result ∷ []) c.loop-place.invariant
     ∙ ap (λ o. take c.loop-place.place-index (all_as_lists (contents_of c.args.logs.now)) ++ o ∷ [])
-    c.in_ok-list_at.ensures
+    c.list_at.ensures
     ∙ sym (next_listed c.args.logs.now c.loop-place.place-index c.place-item.result c.loop-place-test.true
     c.place-item.is)
