@@ -17,7 +17,7 @@ use dr_quorum::choose;
 use dr_restart::Start;
 use dr_script::read_script;
 use printing::text_of;
-use reading::{lists_of, mask_of};
+use reading::{borrowed, lists_of, mask_of};
 use std::alloc::Global;
 use std::io::{BufRead, BufReader};
 
@@ -61,5 +61,6 @@ fn copied(alloc: Global, masks: &str) -> anyhow::Result<String> {
 fn chosen(alloc: Global, script: &str, logs: &[String], missing: &str) -> anyhow::Result<String> {
     let script = read_script(alloc, script.as_bytes())?;
     let lists = lists_of(alloc, script.members, logs, missing)?;
+    let lists = borrowed(alloc, lists.as_slice())?;
     text_of(alloc, choose(alloc, &script, lists.as_slice()))
 }

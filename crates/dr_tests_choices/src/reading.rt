@@ -1,8 +1,9 @@
 //! Reads logs.
-ghost use Rattle.std.specs.Prelude.{◌≡◌, IfOk, vec_len};
+ghost use Rattle.std.specs.Prelude.{◌≡◌, IfOk, length, vec_len};
 
 use anyhow::anyhow;
 use dr_entry::{AgeVote, Entry, MAX_MEMBERS, Message, Seq, Value, Vote};
+use dr_quorum::BorrowedLists;
 use dr_restart::LogLists;
 use std::alloc::Global;
 
@@ -20,6 +21,31 @@ pub(crate) fn lists_of(
         lists.push(list_of(alloc, m, logs, missing)?)?;
     }
     Ok(lists)
+}
+
+/// The logs as they are handed in.
+pub(crate) fn borrowed(
+    alloc: Global,
+    lists: &[Option<LogLists>],
+) -> anyhow::Result<Vec<Option<BorrowedLists<'_>>>>
+    ensures { IfOk result (λ borrowed. vec_len borrowed ≡ length lists.now) }
+{
+    let mut all = Vec::with_capacity(alloc, lists.len())?;
+    for list in lists {
+        all.push(borrowed_at(list))?;
+    }
+    Ok(all)
+}
+
+fn borrowed_at(list: &Option<LogLists>) -> Option<BorrowedLists<'_>> {
+    match list {
+        Some(log) => Some(BorrowedLists::new(
+            log.entries.as_slice(),
+            log.votes.as_slice(),
+            log.age_votes.as_slice(),
+        )),
+        None => None,
+    }
 }
 
 /// The log of a member, unless it is missing.
