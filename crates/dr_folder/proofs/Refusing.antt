@@ -1,15 +1,21 @@
--- By which last line logs are refused.
-use Rattle.std.proofs.Common.{◌≡◌, subst, List, Option, Some, None}
-use Rattle.std.specs.Prelude.{IfSome, IsSomeAnd}
+-- By which last line logs are refused, and what start is chosen of them.
+use Rattle.std.proofs.Common.{◌≡◌, ◌∙◌, sym, subst, List, length, Option, Some, None}
+use Rattle.std.specs.Prelude.{IfSome, IsSomeAnd, option_map}
+use Rattle.std.proofs.lemmas.List.{length-map}
+use Rattle.dr_log.specs.State.{LogState}
 use Rattle.dr_log_bytes.specs.Content.{OnLog}
-use Rattle.dr_opening.specs.Lists.{all_as_lists}
+use Rattle.dr_opening.specs.Lists.{all_as_lists, contents_of}
+use Rattle.dr_opening.specs.Tries.{IsChosenOf}
 use Rattle.dr_quorum.specs.declared.faults.ChooseFault.{ChooseFault}
 use Rattle.dr_quorum.specs.Handing.{handed_by}
 use Rattle.dr_quorum.specs.Telling.{IsRightlyTold, reason_of}
 use Rattle.dr_restart.specs.declared.lists.LogLists.{LogLists}
+use Rattle.dr_restart.specs.declared.start.Start.{Start}
+use Rattle.dr_restart.specs.Choosing.{IsChosenStart}
 use Rattle.dr_restart.specs.Groups.{first_group_of}
 use Rattle.dr_restart.specs.Refusing.{IsRefusedFor, Refusal}
 use Rattle.dr_script.specs.declared.script.Script.{Script}
+use Rattle.dr_script.specs.Ranges.{HasGroupRanges}
 use Rattle.dr_text.specs.declared.last.Last.{Last}
 use Rattle.dr_folder.specs.Foretold.{AreRefusedBy, refused_by}
 
@@ -32,3 +38,16 @@ fault_told script contents lists fault told last same line right is =
     is line)
     (subst (λ (ls : List (Option LogLists)). IsRightlyTold (first_group_of script).opening (handed_by ls) fault) same
     right)
+
+-- and the start, where one is
+pub chosen_told : {D : Type 0} (script : Script) (logs : List (Option (LogState D)))
+    (lists : List (Option LogLists)) (start : Start) → HasGroupRanges script → length logs ≡ script.members
+    → lists ≡ all_as_lists (contents_of logs)
+    → IsChosenStart (first_group_of script).opening (handed_by lists) start
+    → IsChosenOf (first_group_of script).opening (contents_of logs) start
+chosen_told {D} script logs lists start ranges all same chosen = record {
+  all = length-map logs (option_map (λ (log : LogState D). log.content)) ∙ (all ∙ sym ranges.lists);
+  chosen = subst
+      (λ (ls : List (Option LogLists)). IsChosenStart (first_group_of script).opening (handed_by ls) start) same
+      chosen;
+}

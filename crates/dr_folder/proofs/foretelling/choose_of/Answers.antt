@@ -1,7 +1,12 @@
-use Rattle.std.proofs.Common.{rules}
+use Rattle.std.proofs.Common.{◌∙◌, rules}
 use Rattle.dr_opening.specs.Lists.{contents_of}
-use Rattle.dr_folder.proofs.Refusing.{fault_told}
+use Rattle.dr_folder.proofs.Refusing.{chosen_told, fault_told}
 use Rattle.dr_folder.proofs.foretelling.choose_of.Goals as goal
+
+pub returns-in-Ok-choose-clause-start : goal.returns-in-Ok-choose-clause-start
+returns-in-Ok-choose-clause-start g c =
+    chosen_told c.args.script.now c.args.logs.now c.as_slice.result.now c.in-Ok-choose.start c.requires.ranges
+    c.requires.all (c.as_slice.ensures.value ∙ c.in-Ok.ensures) c.in-Ok-choose.ensures.start
 
 pub returns-clause-refused : goal.returns-clause-refused
 returns-clause-refused g c last is =
