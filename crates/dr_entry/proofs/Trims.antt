@@ -1,5 +1,5 @@
 -- The trims of a vote, read one after the other.
-use Rattle.std.proofs.Common.{◌≡◌, ℕ, suc, ◌+◌, ◌*◌, ◌-◌, ◌<◌, ◌≤◌, List, ◌∷◌, ◌++◌, length, set, map, replicate, Some, refl, sym, append_assoc, [], take, length-append, length-take, arith}
+use Rattle.std.proofs.Common.{◌≡◌, ℕ, suc, ◌+◌, ◌*◌, ◌-◌, ◌<◌, ◌≤◌, List, ◌∷◌, ◌++◌, length, set, map, replicate, None, Some, refl, sym, ap, ◌∙◌, zero, append_assoc, [], take, length-append, length-take, arith}
 use Rattle.std.specs.List.{range_with_len, flat_map}
 use Rattle.std.specs.Int.{w16, w32, to_be_bytes}
 use Rattle.std.proofs.lemmas.Bool.{lt-ltb, le-ltb}
@@ -8,7 +8,7 @@ use Rattle.std.proofs.lemmas.List.FromFn.{length-map-range_with_len, map-range_w
 use Rattle.dr_entry.specs.declared.reading.DecodeFault.TheVariants.{Short}
 use Rattle.dr_entry.specs.declared.record.Vote.{Vote}
 use Rattle.dr_entry.specs.Spelling.{vote_spelling}
-use Rattle.dr_entry.specs.Grammar.{Field, free, number_at, first_fault, trims_at}
+use Rattle.dr_entry.specs.Grammar.{Field, free, number_at, first_fault, trim_fields, trims_at}
 
 -- the fields of the trims from i on
 abbrev pub trims_left : ℕ → ℕ → List Field
@@ -46,6 +46,33 @@ first_fault-whole members i bytes lt whole = rw (left_more members i lt, le-ltb 
 pub first_fault-short : (members i : ℕ) (bytes : List ℕ) → i < members → length bytes
     < 8 + 4 * i + 4 → first_fault (trims_left members i) bytes ≡ Some (Short (8 + 4 * i))
 first_fault-short members i bytes lt short = rw (left_more members i lt, lt-ltb _ _ short) refl
+
+-- the fault of the trims, where the first so many are whole
+whole_before : (members i : ℕ) (bytes : List ℕ) → i ≤ members → 8 + 4 * i ≤ length bytes
+    → first_fault (trim_fields members) bytes ≡ first_fault (trims_left members i) bytes
+whole_before members zero bytes few whole =
+    let all : members ≡ members - 0 = omega arith in
+    ap (λ (n : ℕ). first_fault (map (λ s. free (8 + 4 * s) 4) (range_with_len 0 n)) bytes) all
+whole_before members (suc i) bytes few whole =
+    let next : i + 1 ≡ suc i = omega arith in
+    whole_before members i bytes (omega (arith, few)) (omega (arith, whole))
+    ∙ first_fault-whole members i bytes (omega (arith, few)) (omega (arith, whole))
+    ∙ ap (λ (n : ℕ). first_fault (trims_left members n) bytes) next
+
+-- there is none where all are whole
+pub none_cut_off : (members : ℕ) (bytes : List ℕ) → 8 + 4 * members ≤ length bytes
+    → first_fault (trim_fields members) bytes ≡ None
+none_cut_off members bytes whole =
+    let none : members - members ≡ 0 = omega arith in
+    whole_before members members bytes (omega arith) whole
+    ∙ ap (λ (n : ℕ). first_fault (map (λ s. free (8 + 4 * s) 4) (range_with_len members n)) bytes) none
+
+-- else the first that is not is Short
+pub one_cut_off : (members i : ℕ) (bytes : List ℕ) → 8 + 4 * i ≤ length bytes → length bytes < 8 + 4 * i + 4
+    → length bytes < 8 + 4 * members → first_fault (trim_fields members) bytes ≡ Some (Short (8 + 4 * i))
+one_cut_off members i bytes whole short cut =
+    let below : i < members = omega (arith, whole, cut) in
+    whole_before members i bytes (omega (arith, below)) whole ∙ first_fault-short members i bytes below short
 
 -- four bytes for each number
 pub counts_length : (counts : List ℕ) → length (flat_map (to_be_bytes w32) counts) ≡ 4 * length counts

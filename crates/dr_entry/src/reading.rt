@@ -1,4 +1,4 @@
-ghost use Rattle.std.specs.Prelude.{◌≡◌, ◌↔◌, ℕ, ◌+◌, ◌<◌, ◌≤◌, length, slice_index, MatchResult};
+ghost use Rattle.std.specs.Prelude.{◌≡◌, ◌↔◌, ℕ, ◌+◌, ◌*◌, ◌<◌, ◌≤◌, length, slice_index, MatchResult};
 ghost use Rattle.std.specs.Result.{result_err};
 ghost use Rattle.std.specs.Int.{w16, w32};
 ghost use Rattle.dr_entry.specs.declared.reading.DecodeFault.TheVariants.{Short};
@@ -119,15 +119,31 @@ fn vote_from(from: &[u8]) -> Result<(Record, usize), DecodeFault>
     Ok((Record::Vote(vote), 8 + 4 * usize::from(members)))
 }
 
+/// The trims of so many members. That all are whole is looked at once, so that they are read without a test.
 fn trims_from(from: &[u8], members: u8) -> Result<[u32; MAX_MEMBERS], DecodeFault>
-    requires { members ≤ MAX_MEMBERS }
+    requires members { members ≤ MAX_MEMBERS }
+    requires before { 8 ≤ length from.now }
     ensures { result ≡ unless (first_fault (trim_fields members) from.now) (trims_at members from.now) }
 {
+    if from.len() < 8 + 4 * usize::from(members) {
+        return Err(DecodeFault::Short {
+            at: first_cut_off(from),
+        });
+    }
     let mut trim = [0; MAX_MEMBERS];
     for s in 0..usize::from(members) {
-        trim[s] = u32_at(from, 8 + 4 * s)?;
+        trim[s] = whole_u32_at(from, 8 + 4 * s);
     }
     Ok(trim)
+}
+
+/// The place of the first trim that is not whole.
+fn first_cut_off(from: &[u8]) -> usize
+    requires { 8 ≤ length from.now }
+    ensures { (s : ℕ) × (result ≡ 8 + 4 * s) × (result ≤ length from.now)
+        × (length from.now < result + 4) }
+{
+    8 + (from.len() - 8) / 4 * 4
 }
 
 fn age_vote_from(from: &[u8]) -> Result<(Record, usize), DecodeFault>
@@ -181,5 +197,12 @@ fn u32_at(from: &[u8], at: usize) -> Result<u32, DecodeFault>
     if from.len() < at + 4 {
         return Err(DecodeFault::Short { at });
     }
-    Ok(u32::from_be_bytes([from[at], from[at + 1], from[at + 2], from[at + 3]]))
+    Ok(whole_u32_at(from, at))
+}
+
+fn whole_u32_at(from: &[u8], at: usize) -> u32
+    requires { at + 4 ≤ length from.now }
+    ensures { result ≡ number_at w32 at from.now }
+{
+    u32::from_be_bytes([from[at], from[at + 1], from[at + 2], from[at + 3]])
 }
