@@ -222,11 +222,15 @@ picked x p xs ys n j listed same counted left chosen = record {
     place : j ≡ choice_of (next_state x) (length (going p))
     place = chosen ∙ ap (choice_of (next_state x)) (counted ∙ ap length listed)
 
+-- the program has run by the seed, and the watcher was told of it
+abbrev pub HasRunTold : {W : Type 0} → (W → Running → List ℕ → W → Type 0) → W → W → ℕ → Program → Program → Type 0
+HasRunTold sees old new seed begun p = (run : HasRun (Seed seed) begun p) × WasTold sees begun run.moves old new
+
 -- once nobody is left, the run is one of the seed
 pub seeded : {W : Type 0} {sees : W → Running → List ℕ → W → Type 0} {old new : W} (seed : ℕ)
     (begun : Program) (x : ℕ) (p : Program) (xs : List ℕ)
     → HasChosen sees old new seed begun x p → xs ≡ going p → length xs ≡ 0
-    → (run : HasRun (Seed seed) begun p) × WasTold sees begun run.moves old new
+    → HasRunTold sees old new seed begun p
 seeded seed begun x p xs has listed none = (
   record {
     moves = has.chosen;

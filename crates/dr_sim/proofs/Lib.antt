@@ -3,6 +3,7 @@ mod Deeds
 mod Steps
 mod Outcomes
 mod Logs
+mod Places
 mod Rooms
 mod Tellings
 mod Turns

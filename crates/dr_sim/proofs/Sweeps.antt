@@ -28,6 +28,7 @@ use Rattle.dr_turn.specs.Work.{deeds_left}
 use Rattle.dr_age.specs.Sound.{IsSound}
 use Rattle.dr_age.proofs.Deeds.{at_look, at_push}
 use Rattle.dr_sim.specs.Deeds.{member_after, outcome_by, table_after}
+use Rattle.dr_sim.specs.Places.{HasServedAt, IsReadyAt}
 use Rattle.dr_sim.specs.Simulated.{WentWell}
 use Rattle.dr_sim.specs.Sound.{IsAmong, IsSomewhere, all_left, with_member, left_at}
 use Rattle.dr_sim.specs.Sweeps.{HasGoneOn}
@@ -283,16 +284,17 @@ swept_served told faults base log (suc n) words r cells q (due, rest) within ser
     (other_served told faults base log (next_sight words r) r other (at_sweep r due).none within served)
 
 -- so it is where looks and pushes have led it
-pub come_ready : {D : Type 0} (log : LogState D) (words : List ℕ) (r : Running) (cells : List ℕ)
-    (q : Running) → ((n : ℕ) × LeadsTo n words r cells q) → IsReady log r → IsReady log q
-come_ready log words r cells q (n, taken) ready = swept_ready log n words r cells q taken ready
+pub come_ready : {D : Type 0} (place : Option (LogState D)) (words : List ℕ) (r : Running) (cells : List ℕ)
+    (q : Running) → ((n : ℕ) × LeadsTo n words r cells q) → IsReadyAt place r → IsReadyAt place q
+come_ready place words r cells q (n, taken) (log, at, ready) =
+    (log, at, swept_ready log n words r cells q taken ready)
 
-pub come_served : {D : Type 0} (told : D → Option Told) (faults : D → ℕ) (base log : LogState D)
-    (words : List ℕ) (r : Running) (cells : List ℕ) (q : Running) → ((n : ℕ) × LeadsTo n words r cells q)
-    → r.replica.logged ≤ length r.replica.history
-    → HasServed told faults base log r → HasServed told faults base log q
-come_served told faults base log words r cells q (n, taken) within served =
-    swept_served told faults base log n words r cells q taken within served
+pub come_served : {D : Type 0} (told : D → Option Told) (faults : D → ℕ) (base : LogState D)
+    (place : Option (LogState D)) (words : List ℕ) (r : Running) (cells : List ℕ) (q : Running)
+    → ((n : ℕ) × LeadsTo n words r cells q) → r.replica.logged ≤ length r.replica.history
+    → HasServedAt told faults base place r → HasServedAt told faults base place q
+come_served told faults base place words r cells q (n, taken) within served = λ log at.
+    swept_served told faults base log n words r cells q taken within (served log at)
 
 -- a running member has logged no more than there is
 pub somewhere_logged : (r : Running) (words : List ℕ) → IsSomewhere r words

@@ -5,4 +5,5 @@ pub mod Inside
 pub mod Simulated
 pub mod Watched
 pub mod Rooms
+pub mod Places
 pub mod Repeated

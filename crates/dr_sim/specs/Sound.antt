@@ -11,6 +11,10 @@ use Rattle.dr_sim.specs.Simulated.{SomeFailed, WentWell}
 use Rattle.dr_turn.specs.Work.{deeds_left}
 use Rattle.dr_program.specs.Presence.{present_at, with_present}
 
+-- the program that has these members, over these words
+abbrev pub program_over : List (Option Running) → List ℕ → Program
+program_over members words = record { members = members; table = words }
+
 -- a member of a sound program, over the words of its table
 pub record IsAmong (g : Group) (p : Program) (m : ℕ) (r : Running) (cells : List ℕ) : Type 0 where
   pub sound : IsSound g p
@@ -23,7 +27,7 @@ IsSomewhere r table = (g : Group) × (p : Program) × (m : ℕ) × IsAmong g p m
 
 -- the program in which this is member m, and this the table
 abbrev pub with_member : Program → ℕ → Running → List ℕ → Program
-with_member p m r table = record { members = with_present p.members m r; table = table }
+with_member p m r words = program_over (with_present p.members m r) words
 
 -- more deeds than whoever stands at a place still does, and than the members of the program do
 abbrev pub left_at : Option Running → ℕ

@@ -7,7 +7,8 @@ ghost use Rattle.dr_member.specs.Deeds.{is_append, table_size};
 ghost use Rattle.dr_program.specs.Running.{next_deed};
 ghost use Rattle.dr_turn.specs.Work.{deeds_left};
 ghost use Rattle.dr_sim.specs.Deeds.{SeesWell, member_after, outcome_by, table_after};
-ghost use Rattle.dr_logged.specs.Served.{AppendsWell, HasServed, IsReady};
+ghost use Rattle.dr_logged.specs.Served.{AppendsWell};
+ghost use Rattle.dr_sim.specs.Places.{HasServedAt, IsReadyAt};
 ghost use Rattle.dr_sim.specs.Sound.{IsAmong, IsSomewhere, TookTurn, with_member};
 ghost use Rattle.dr_sim.specs.Sweeps.{HasGoneOn};
 ghost use Rattle.dr_sim.specs.Watched.{WasTold};
@@ -18,13 +19,14 @@ use dr_log::Log;
 use dr_logged::why_of;
 use dr_member::{Deed, Member};
 
-/// The member, which has not ended, takes its next deed, over the words of the table and its log. The watcher
-/// is told of it first. Answers whether the member has ended, which a look or a push leaves as it is.
+/// The member, which has not ended, takes its next deed, over the words of the table. The watcher is told of it
+/// first. Only an append asks what stands at the place of the member's log. Answers whether the member has
+/// ended, which a look or a push leaves as it is.
 #[inline(always)]
 pub fn take<D: Disk, W: Watcher>(
     member: &mut Member,
     table: &mut [u64],
-    log: &mut Log<D>,
+    place: &mut Option<Log<D>>,
     watcher: &mut W,
 ) -> bool
     requires going { member.old.replica.end ≡ None }
@@ -32,14 +34,14 @@ pub fn take<D: Disk, W: Watcher>(
     requires form { IsRunningMember member.old }
     requires sight { SeesWell table.old member.old }
     requires appends { AppendsWell member.old }
-    requires ready { IsReady log.old member.old }
+    requires ready { IsReadyAt place.old member.old }
     ensures member { member.new ≡ member_after table.old (outcome_by member.new.failed) member.old }
     ensures table { table.new ≡ table_after table.old member.old }
     ensures ended { result ≡ is_some member.new.replica.end }
     ensures falls { deeds_left member.new < deeds_left member.old }
-    ensures ready { IsReady log.new member.new }
-    ensures served { (base : LogState D) → HasServed D.told D.faults base log.old member.old
-        → HasServed D.told D.faults base log.new member.new }
+    ensures ready { IsReadyAt place.new member.new }
+    ensures served { (base : LogState D) → HasServedAt D.told D.faults base place.old member.old
+        → HasServedAt D.told D.faults base place.new member.new }
     ensures told { W.sees watcher.old member.old table.old watcher.new }
 {
     watcher.see(member, table);
@@ -60,30 +62,31 @@ pub fn take<D: Disk, W: Watcher>(
             member.end().is_some()
         }
         Deed::Append(_) => {
-            append(member, log);
+            append(member, place);
             member.end().is_some()
         }
         Deed::Rest(_) => true,
     }
 }
 
-/// The member, whose next deed is an append, does it. Out of line, and with a record of its own, it
+/// The member, whose next deed is an append, does it, to the log at this place. Out of line, and with a record of its own, it
 /// leaves the other deeds a small loop.
 #[inline(never)]
-fn append<D: Disk>(member: &mut Member, log: &mut Log<D>)
+fn append<D: Disk>(member: &mut Member, place: &mut Option<Log<D>>)
     requires due { is_append (next_deed member.old) ≡ true }
     requires going { member.old.replica.end ≡ None }
     requires form { IsRunningMember member.old }
     requires appends { AppendsWell member.old }
-    requires ready { IsReady log.old member.old }
+    requires ready { IsReadyAt place.old member.old }
     ensures member { (table : List ℕ) → member.new
         ≡ member_after table (outcome_by member.new.failed) member.old }
     ensures table { (table : List ℕ) → table ≡ table_after table member.old }
     ensures falls { deeds_left member.new < deeds_left member.old }
-    ensures ready { IsReady log.new member.new }
-    ensures served { (base : LogState D) → HasServed D.told D.faults base log.old member.old
-        → HasServed D.told D.faults base log.new member.new }
+    ensures ready { IsReadyAt place.new member.new }
+    ensures served { (base : LogState D) → HasServedAt D.told D.faults base place.old member.old
+        → HasServedAt D.told D.faults base place.new member.new }
 {
+    let Some(log) = place else { unreachable!() };
     if let Deed::Append(record) = member.due_deed() {
         match log.append(&record) {
             Ok(()) => member.appended(),
@@ -98,25 +101,25 @@ fn append<D: Disk>(member: &mut Member, log: &mut Log<D>)
 fn take_on<D: Disk, W: Watcher>(
     member: &mut Member,
     table: &mut Vec<u64>,
-    log: &mut Log<D>,
+    place: &mut Option<Log<D>>,
     watcher: &mut W,
 )
     requires somewhere { IsSomewhere member.old table.old.items }
     requires going { is_some member.old.replica.end ≡ false }
-    requires ready { IsReady log.old member.old }
+    requires ready { IsReadyAt place.old member.old }
     ensures goes { HasGoneOn W.sees watcher.old watcher.new table.old.items member.old
         table.new.items member.new }
     ensures falls { deeds_left member.new < deeds_left member.old }
-    ensures ready { IsReady log.new member.new }
-    ensures served { (base : LogState D) → HasServed D.told D.faults base log.old member.old
-        → HasServed D.told D.faults base log.new member.new }
+    ensures ready { IsReadyAt place.new member.new }
+    ensures served { (base : LogState D) → HasServedAt D.told D.faults base place.old member.old
+        → HasServedAt D.told D.faults base place.new member.new }
 {
     let noted = watcher.takes_note();
     match member.due_deed() {
         Deed::Look(_) if !noted => member.look_alone(table.as_slice()),
         Deed::Push(_, _) if !noted => member.push_alone(table.as_mut_slice()),
         _ => {
-            take(member, table.as_mut_slice(), log, watcher);
+            take(member, table.as_mut_slice(), place, watcher);
         }
     }
 }
@@ -126,21 +129,21 @@ fn take_on<D: Disk, W: Watcher>(
 pub fn take_turn<D: Disk, W: Watcher>(
     member: &mut Member,
     table: &mut Vec<u64>,
-    log: &mut Log<D>,
+    place: &mut Option<Log<D>>,
     watcher: &mut W,
 )
     requires somewhere { IsSomewhere member.old table.old.items }
     requires going { is_some member.old.replica.end ≡ false }
-    requires ready { IsReady log.old member.old }
+    requires ready { IsReadyAt place.old member.old }
     ensures turn { (g : Group) → (p : Program) → (m : ℕ) → IsAmong g p m member.old table.old.items
         → (took : TookTurn g p m (with_member p m member.new table.new.items))
         × WasTold W.sees p took.moves watcher.old watcher.new }
-    ensures ready { IsReady log.new member.new }
-    ensures served { (base : LogState D) → HasServed D.told D.faults base log.old member.old
-        → HasServed D.told D.faults base log.new member.new }
+    ensures ready { IsReadyAt place.new member.new }
+    ensures served { (base : LogState D) → HasServedAt D.told D.faults base place.old member.old
+        → HasServedAt D.told D.faults base place.new member.new }
 {
     loop {
-        take_on(member, table, log, watcher);
+        take_on(member, table, place, watcher);
         if member.is_between_turns() {
             return;
         }

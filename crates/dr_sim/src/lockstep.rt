@@ -85,9 +85,6 @@ impl Simulation {
             → HaveServed D.told D.faults bases logs.old self.old.members
             → HaveServed D.told D.faults bases logs.new self.new.members }
     {
-        let Some(log) = &mut logs[m] else {
-            unreachable!()
-        };
-        self.take_turn(m, log, watcher);
+        self.take_turn(m, &mut logs[m], watcher);
     }
 }

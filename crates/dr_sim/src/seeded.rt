@@ -1,4 +1,5 @@
-ghost use Rattle.std.specs.Prelude.{◌≡◌, ◌<◌, ◌≤◌, List, false, length, Option};
+ghost use Rattle.std.specs.Prelude.{◌≡◌, ◌+◌, ◌<◌, ◌≤◌, ℕ, List, false, length, Option};
+ghost use Rattle.std.specs.List.{remove};
 ghost use Rattle.dr_machine.specs.Group.{Group};
 ghost use Rattle.dr_program.specs.Program.{has_ended};
 ghost use Rattle.dr_program.specs.Schedule.{going};
@@ -7,96 +8,110 @@ ghost use Rattle.dr_log.specs.State.{LogState};
 ghost use Rattle.dr_logged.specs.Served.{AreReady, AtMember, HaveServed, HaveSamePlaces};
 ghost use Rattle.dr_sim.specs.Simulated.{HasRun};
 ghost use Rattle.dr_age.specs.Sound.{IsSound};
-ghost use Rattle.dr_sim.specs.Sound.{TookDeed};
+ghost use Rattle.dr_sim.specs.Sound.{TookDeed, program_over};
 ghost use Rattle.dr_sim.specs.Watched.{WasTold};
 ghost use Rattle.dr_program.specs.Presence.{present_at};
 
+use crate::deed::{has_ended, take};
 use crate::lcg::Lcg;
-use crate::simulation::Simulation;
 use crate::watcher::Watcher;
 use arrayvec::ArrayVec;
 use dr_disk::Disk;
 use dr_entry::MAX_MEMBERS;
 use dr_log::Log;
+use dr_member::Member;
 
-impl Simulation {
-    /// Runs the members to their ends, one deed at a time: each is of the member that the generator of
-    /// this seed chooses among those that have not ended. The watcher is told of it first.
-    #[inline(never)]
-    pub fn run_seeded<D: Disk, W: Watcher>(
-        &mut self,
-        seed: u64,
-        logs: &mut [Option<Log<D>>],
-        watcher: &mut W,
-    )
-        ghost group: { Group }
-        requires sound { IsSound group self.old }
-        requires ready { AreReady logs.old self.old.members }
-        ensures run { (run : HasRun (Seed seed) self.old self.new)
-            × WasTold W.sees self.old run.moves watcher.old watcher.new }
-        ensures sound { IsSound group self.new }
-        ensures ready { AreReady logs.new self.new.members }
-        ensures places { HaveSamePlaces logs.old logs.new }
-        ensures served { (bases : List (Option (LogState D)))
-            → HaveServed D.told D.faults bases logs.old self.old.members
-            → HaveServed D.told D.faults bases logs.new self.new.members }
-    {
-        let mut lcg = Lcg::new(seed);
-        let mut going = self.going();
-        'members: while !going.is_empty() {
-            // How many they are changes only as one ends, so it is asked once for all deeds until then.
-            let few = going.len() as u32;
-            'deeds: loop {
-                let at = lcg.choose_few(few) as usize;
-                let m = going[at];
-                if self.take_deed_of(m, logs, watcher) {
-                    going.remove(at);
-                    break;
-                }
+/// Runs these members over these words to their ends, one deed at a time: each is of the member that the
+/// generator of this seed chooses among those that have not ended. The watcher is told of it first. It takes
+/// both as slices, so that where they stand is read once for all deeds.
+#[inline(never)]
+pub fn run_by_seed<D: Disk, W: Watcher>(
+    members: &mut [Option<Member>],
+    table: &mut [u64],
+    seed: u64,
+    logs: &mut [Option<Log<D>>],
+    watcher: &mut W,
+)
+    ghost group: { Group }
+    requires sound { IsSound group (program_over members.old table.old) }
+    requires ready { AreReady logs.old members.old }
+    ensures run { (run : HasRun (Seed seed) (program_over members.old table.old)
+        (program_over members.new table.new))
+        × WasTold W.sees (program_over members.old table.old) run.moves watcher.old watcher.new }
+    ensures sound { IsSound group (program_over members.new table.new) }
+    ensures ready { AreReady logs.new members.new }
+    ensures places { HaveSamePlaces logs.old logs.new }
+    ensures served { (bases : List (Option (LogState D)))
+        → HaveServed D.told D.faults bases logs.old members.old
+        → HaveServed D.told D.faults bases logs.new members.new }
+{
+    let mut lcg = Lcg::new(seed);
+    let mut going = going(members);
+    'members: while !going.is_empty() {
+        // How many they are changes only as one ends, so it is asked once for all deeds until then.
+        let few = going.len() as u32;
+        'deeds: loop {
+            let at = lcg.choose_few(few) as usize;
+            let m = going[at];
+            if take_deed(members, table, m, logs, watcher) {
+                strike(&mut going, at);
+                break;
             }
         }
     }
+}
 
-    /// Member `m`, which has not ended, takes its next deed, with the log of its number. Answers whether it
-    /// has ended.
-    #[inline(always)]
-    fn take_deed_of<D: Disk, W: Watcher>(
-        &mut self,
-        m: usize,
-        logs: &mut [Option<Log<D>>],
-        watcher: &mut W,
-    ) -> bool
-        ghost group: { Group }
-        requires sound { IsSound group self.old }
-        requires going { has_ended (present_at self.old.members m) ≡ false }
-        requires within { m < length logs.old }
-        requires ready { AreReady logs.old self.old.members }
-        ensures took { TookDeed group self.old m self.new }
-        ensures ended { result ≡ has_ended (present_at self.new.members m) }
-        ensures ready { AreReady logs.new self.new.members }
-        ensures places { HaveSamePlaces logs.old logs.new }
-        ensures served { (bases : List (Option (LogState D)))
-            → HaveServed D.told D.faults bases logs.old self.old.members
-            → HaveServed D.told D.faults bases logs.new self.new.members }
-        ensures told { AtMember self.old m (λ r. W.sees watcher.old r self.old.table watcher.new) }
-    {
-        let Some(log) = &mut logs[m] else {
-            unreachable!()
-        };
-        self.take_deed(m, log, watcher)
-    }
+/// Member `m`, which has not ended, takes its next deed, with the log at its place. Answers whether it has
+/// ended.
+#[inline(always)]
+fn take_deed<D: Disk, W: Watcher>(
+    members: &mut [Option<Member>],
+    table: &mut [u64],
+    m: usize,
+    logs: &mut [Option<Log<D>>],
+    watcher: &mut W,
+) -> bool
+    ghost group: { Group }
+    requires sound { IsSound group (program_over members.old table.old) }
+    requires going { has_ended (present_at members.old m) ≡ false }
+    requires within { m < length members.old }
+    requires ready { AreReady logs.old members.old }
+    ensures took { TookDeed group (program_over members.old table.old) m (program_over members.new table.new) }
+    ensures ended { result ≡ has_ended (present_at members.new m) }
+    ensures ready { AreReady logs.new members.new }
+    ensures places { HaveSamePlaces logs.old logs.new }
+    ensures served { (bases : List (Option (LogState D)))
+        → HaveServed D.told D.faults bases logs.old members.old
+        → HaveServed D.told D.faults bases logs.new members.new }
+    ensures told { AtMember (program_over members.old table.old) m
+        (λ r. W.sees watcher.old r table.old watcher.new) }
+{
+    let Some(member) = &mut members[m] else {
+        unreachable!()
+    };
+    take(member, table, &mut logs[m], watcher)
+}
 
-    /// The numbers of the members that have not ended, ascending.
-    fn going(&self) -> ArrayVec<usize, MAX_MEMBERS>
-        requires { length self.now.members ≤ MAX_MEMBERS }
-        ensures { result.items ≡ going self.now }
-    {
-        let mut going = ArrayVec::new();
-        for m in 0..self.len() {
-            if !self.has_ended(m) {
-                going.push(m);
-            }
+/// The numbers of the members that have not ended, ascending.
+fn going(members: &[Option<Member>]) -> ArrayVec<usize, MAX_MEMBERS>
+    requires { length members.now ≤ MAX_MEMBERS }
+    ensures { (words : List ℕ) → result.items ≡ going (program_over members.now words) }
+{
+    let mut going = ArrayVec::new();
+    for m in 0..members.len() {
+        if !has_ended(&members[m]) {
+            going.push(m);
         }
-        going
     }
+    going
+}
+
+/// Strikes the number at this place off the list. Out of line, so that a deed need not keep more of the place.
+#[inline(never)]
+fn strike(going: &mut ArrayVec<usize, MAX_MEMBERS>, at: usize)
+    requires { at < length going.old.items }
+    ensures items { going.new.items ≡ remove going.old.items at }
+    ensures len { length going.new.items + 1 ≡ length going.old.items }
+{
+    going.remove(at);
 }

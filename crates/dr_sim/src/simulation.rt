@@ -1,4 +1,4 @@
-ghost use Rattle.std.specs.Prelude.{◌≡◌, ◌<◌, ◌↔◌, IfOk, OnOk, IsTrue, false, length};
+ghost use Rattle.std.specs.Prelude.{◌≡◌, ◌<◌, ◌↔◌, IfOk, OnOk, IsTrue, List, Option, false, is_some, length};
 ghost use Rattle.dr_machine.specs.Group.{Group, IsGroup};
 ghost use Rattle.dr_program.specs.Presence.{present_at};
 ghost use Rattle.dr_program.specs.Program.{AllEnded, Program, has_ended};
@@ -7,13 +7,17 @@ ghost use Rattle.dr_restart.specs.Setups.{IsBegun};
 ghost use Rattle.dr_script.specs.Ranges.{HasRanges};
 ghost use Rattle.dr_log.specs.State.{LogState};
 ghost use Rattle.dr_age.specs.Logged.{AreAsBefore, AreCalm};
-ghost use Rattle.dr_logged.specs.Served.{AreRoomy, AtMember, HasServed, HaveSamePlaces, IsReady};
+ghost use Rattle.dr_logged.specs.Served.{AreReady, AreRoomy, AtMember, HaveSamePlaces, HaveServed};
+ghost use Rattle.dr_script.specs.declared.script.Schedule.TheVariants.{Seed};
+ghost use Rattle.dr_sim.specs.Places.{HasServedAt, IsReadyAt};
+ghost use Rattle.dr_sim.specs.Simulated.{HasRun};
 ghost use Rattle.dr_age.specs.Sound.{IsSound};
 ghost use Rattle.dr_sim.specs.Rooms.{GotRoomAt, StaysAt};
-ghost use Rattle.dr_sim.specs.Sound.{AreOthers, TookDeed, TookTurn};
+ghost use Rattle.dr_sim.specs.Sound.{AreOthers, TookTurn};
 ghost use Rattle.dr_sim.specs.Watched.{WasTold};
 
-use crate::deed::{all_ended, has_ended, take, take_turn};
+use crate::deed::{all_ended, has_ended, take_turn};
+use crate::seeded::run_by_seed;
 use crate::watcher::Watcher;
 use dr_age::begun_members;
 use dr_disk::Disk;
@@ -122,51 +126,59 @@ impl Simulation {
         all_ended(&self.members)
     }
 
-    /// Member `m`, which has not ended, takes its next deed, with its log. The watcher is told of it first.
-    /// Answers whether the member has ended.
-    #[inline(always)]
-    pub fn take_deed<D: Disk, W: Watcher>(
+    /// Runs the members to their ends, one deed at a time: each is of the member that the generator of
+    /// this seed chooses among those that have not ended. The watcher is told of it first.
+    pub fn run_seeded<D: Disk, W: Watcher>(
         &mut self,
-        m: usize,
-        log: &mut Log<D>,
+        seed: u64,
+        logs: &mut [Option<Log<D>>],
         watcher: &mut W,
-    ) -> bool
+    )
         ghost group: { Group }
         requires sound { IsSound group self.old }
-        requires going { has_ended (present_at self.old.members m) ≡ false }
-        requires ready { AtMember self.old m (IsReady log.old) }
-        ensures took { TookDeed group self.old m self.new }
-        ensures ended { result ≡ has_ended (present_at self.new.members m) }
-        ensures others { AreOthers self.old m self.new }
-        ensures ready { AtMember self.new m (IsReady log.new) }
-        ensures served { (base : LogState D) → AtMember self.old m (HasServed D.told D.faults base log.old)
-            → AtMember self.new m (HasServed D.told D.faults base log.new) }
-        ensures told { AtMember self.old m (λ r. W.sees watcher.old r self.old.table watcher.new) }
+        requires ready { AreReady logs.old self.old.members }
+        ensures run { (run : HasRun (Seed seed) self.old self.new)
+            × WasTold W.sees self.old run.moves watcher.old watcher.new }
+        ensures sound { IsSound group self.new }
+        ensures ready { AreReady logs.new self.new.members }
+        ensures places { HaveSamePlaces logs.old logs.new }
+        ensures served { (bases : List (Option (LogState D)))
+            → HaveServed D.told D.faults bases logs.old self.old.members
+            → HaveServed D.told D.faults bases logs.new self.new.members }
     {
-        let Some(member) = &mut self.members[m] else {
-            unreachable!()
-        };
-        take(member, self.table.as_mut_slice(), log, watcher)
+        run_by_seed(
+            self.members.as_mut_slice(),
+            self.table.as_mut_slice(),
+            seed,
+            logs,
+            watcher,
+        );
     }
 
-    /// Member `m`, which has not ended, takes a whole turn, with its log: its deeds up to the first after
+    /// Member `m`, which has not ended, takes a whole turn, with the log at its place: its deeds up to the first after
     /// which it has ended or stands before a turn. A watcher that takes note of deeds is told of each first.
-    pub fn take_turn<D: Disk, W: Watcher>(&mut self, m: usize, log: &mut Log<D>, watcher: &mut W)
+    pub fn take_turn<D: Disk, W: Watcher>(
+        &mut self,
+        m: usize,
+        place: &mut Option<Log<D>>,
+        watcher: &mut W,
+    )
         ghost group: { Group }
         requires sound { IsSound group self.old }
         requires going { has_ended (present_at self.old.members m) ≡ false }
-        requires ready { AtMember self.old m (IsReady log.old) }
+        requires ready { AtMember self.old m (IsReadyAt place.old) }
         ensures took { (took : TookTurn group self.old m self.new)
             × WasTold W.sees self.old took.moves watcher.old watcher.new }
         ensures others { AreOthers self.old m self.new }
-        ensures ready { AtMember self.new m (IsReady log.new) }
-        ensures served { (base : LogState D) → AtMember self.old m (HasServed D.told D.faults base log.old)
-            → AtMember self.new m (HasServed D.told D.faults base log.new) }
+        ensures ready { AtMember self.new m (IsReadyAt place.new) }
+        ensures stays { is_some place.new ≡ is_some place.old }
+        ensures served { (base : LogState D) → AtMember self.old m (HasServedAt D.told D.faults base place.old)
+            → AtMember self.new m (HasServedAt D.told D.faults base place.new) }
     {
         let Some(member) = &mut self.members[m] else {
             unreachable!()
         };
-        take_turn(member, &mut self.table, log, watcher);
+        take_turn(member, &mut self.table, place, watcher);
     }
 }
 

@@ -1,7 +1,7 @@
 use Rattle.std.proofs.Common.{refl, sym, subst}
-use Rattle.dr_logged.specs.Served.{HasServed, IsReady}
-use Rattle.dr_logged.proofs.Serving.{other_ready, other_served}
+use Rattle.dr_sim.specs.Places.{HasServedAt, IsReadyAt}
 use Rattle.dr_age.proofs.Deeds.{at_act, at_look, at_push}
+use Rattle.dr_sim.proofs.Places.{ready_still, served_still}
 use Rattle.dr_sim.proofs.Deeds.{act_taken, stays_going, look_seen, push_taken}
 use Rattle.dr_sim.proofs.deed.take.Goals as goal
 
@@ -16,14 +16,14 @@ returns-in-Look-clause-ended g c =
 
 pub returns-in-Look-clause-ready : goal.returns-in-Look-clause-ready
 returns-in-Look-clause-ready g c =
-    subst (IsReady c.args.log.now) (sym c.looked.ensures.after)
-    (other_ready c.args.log.now _ c.args.member.now (at_look c.args.member.now _ (sym c.in-Look.ensures.deed))
+    subst (IsReadyAt c.args.place.now) (sym c.looked.ensures.after)
+    (ready_still c.args.place.now _ c.args.member.now (at_look c.args.member.now _ (sym c.in-Look.ensures.deed))
     c.requires.ready)
 
 pub returns-in-Look-clause-served : goal.returns-in-Look-clause-served
 returns-in-Look-clause-served g c = λ base served.
-    subst (HasServed g.D.Disk.told g.D.Disk.faults base c.args.log.now) (sym c.looked.ensures.after)
-    (other_served _ _ base c.args.log.now _ c.args.member.now
+    subst (HasServedAt g.D.Disk.told g.D.Disk.faults base c.args.place.now) (sym c.looked.ensures.after)
+    (served_still _ _ base c.args.place.now _ c.args.member.now
     (at_look c.args.member.now _ (sym c.in-Look.ensures.deed)) c.requires.going
     c.requires.form.replica.logged served)
 
@@ -39,14 +39,14 @@ returns-in-Push-clause-ended g c =
 
 pub returns-in-Push-clause-ready : goal.returns-in-Push-clause-ready
 returns-in-Push-clause-ready g c =
-    subst (IsReady c.args.log.now) (sym (c.pushed.ensures.after 0))
-    (other_ready c.args.log.now 0 c.args.member.now (at_push c.args.member.now _ _ (sym c.in-Push.ensures.deed))
+    subst (IsReadyAt c.args.place.now) (sym (c.pushed.ensures.after 0))
+    (ready_still c.args.place.now 0 c.args.member.now (at_push c.args.member.now _ _ (sym c.in-Push.ensures.deed))
     c.requires.ready)
 
 pub returns-in-Push-clause-served : goal.returns-in-Push-clause-served
 returns-in-Push-clause-served g c = λ base served.
-    subst (HasServed g.D.Disk.told g.D.Disk.faults base c.args.log.now) (sym (c.pushed.ensures.after 0))
-    (other_served _ _ base c.args.log.now 0 c.args.member.now
+    subst (HasServedAt g.D.Disk.told g.D.Disk.faults base c.args.place.now) (sym (c.pushed.ensures.after 0))
+    (served_still _ _ base c.args.place.now 0 c.args.member.now
     (at_push c.args.member.now _ _ (sym c.in-Push.ensures.deed)) c.requires.going
     c.requires.form.replica.logged served)
 
@@ -57,14 +57,14 @@ returns-in-Act-clause-member g c =
 
 pub returns-in-Act-clause-ready : goal.returns-in-Act-clause-ready
 returns-in-Act-clause-ready g c =
-    subst (IsReady c.args.log.now) (sym (c.acted.ensures.after 0))
-    (other_ready c.args.log.now 0 c.args.member.now (at_act c.args.member.now _ _ (sym c.in-Act.ensures.deed))
+    subst (IsReadyAt c.args.place.now) (sym (c.acted.ensures.after 0))
+    (ready_still c.args.place.now 0 c.args.member.now (at_act c.args.member.now _ _ (sym c.in-Act.ensures.deed))
     c.requires.ready)
 
 pub returns-in-Act-clause-served : goal.returns-in-Act-clause-served
 returns-in-Act-clause-served g c = λ base served.
-    subst (HasServed g.D.Disk.told g.D.Disk.faults base c.args.log.now) (sym (c.acted.ensures.after 0))
-    (other_served _ _ base c.args.log.now 0 c.args.member.now
+    subst (HasServedAt g.D.Disk.told g.D.Disk.faults base c.args.place.now) (sym (c.acted.ensures.after 0))
+    (served_still _ _ base c.args.place.now 0 c.args.member.now
     (at_act c.args.member.now _ _ (sym c.in-Act.ensures.deed)) c.requires.going
     c.requires.form.replica.logged served)
 

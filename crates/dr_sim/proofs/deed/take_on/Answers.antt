@@ -48,11 +48,11 @@ returns-in-Look-clause-goes g c = inr (
 
 pub returns-in-Look-clause-ready : goal.returns-in-Look-clause-ready
 returns-in-Look-clause-ready g c =
-    come_ready c.args.log.now _ _ _ _ c.look_alone.ensures.taken c.requires.ready
+    come_ready c.args.place.now _ _ _ _ c.look_alone.ensures.taken c.requires.ready
 
 pub returns-in-Look-clause-served : goal.returns-in-Look-clause-served
 returns-in-Look-clause-served g c = λ base served.
-    come_served g.D.Disk.told g.D.Disk.faults base c.args.log.now _ _ _ _ c.look_alone.ensures.taken
+    come_served g.D.Disk.told g.D.Disk.faults base c.args.place.now _ _ _ _ c.look_alone.ensures.taken
     (somewhere_logged c.args.member.now c.args.table.now.items c.requires.somewhere) served
 
 pub returns-in-Push-clause-goes : goal.returns-in-Push-clause-goes
@@ -71,9 +71,9 @@ returns-in-Push-clause-goes g c = inr (
 
 pub returns-in-Push-clause-ready : goal.returns-in-Push-clause-ready
 returns-in-Push-clause-ready g c =
-    come_ready c.args.log.now _ _ _ _ c.push_alone.ensures.taken c.requires.ready
+    come_ready c.args.place.now _ _ _ _ c.push_alone.ensures.taken c.requires.ready
 
 pub returns-in-Push-clause-served : goal.returns-in-Push-clause-served
 returns-in-Push-clause-served g c = λ base served.
-    come_served g.D.Disk.told g.D.Disk.faults base c.args.log.now _ _ _ _ c.push_alone.ensures.taken
+    come_served g.D.Disk.told g.D.Disk.faults base c.args.place.now _ _ _ _ c.push_alone.ensures.taken
     (somewhere_logged c.args.member.now c.args.table.now.items c.requires.somewhere) served

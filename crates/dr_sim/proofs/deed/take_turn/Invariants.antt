@@ -2,7 +2,7 @@ use Rattle.std.proofs.Common.{◌≡◌, ℕ, false, is_some}
 use Rattle.dr_machine.specs.Group.{Group}
 use Rattle.dr_program.specs.Program.{Program}
 use Rattle.dr_log.specs.State.{LogState}
-use Rattle.dr_logged.specs.Served.{HasServed, IsReady}
+use Rattle.dr_sim.specs.Places.{HasServedAt, IsReadyAt}
 use Rattle.dr_turn.specs.Work.{deeds_left}
 use Rattle.dr_sim.specs.Sound.{IsAmong, with_member}
 use Rattle.dr_sim.proofs.Turns.{IsUnderWay}
@@ -13,9 +13,9 @@ invariant-loop g l = record {
   way : (h : Group) (p : Program) (m : ℕ) → IsAmong h p m l.fn.member l.fn.table.items
       → IsUnderWay g.W.Watcher.sees l.fn.watcher l.watcher h p m (with_member p m l.member l.table.items);
   going : is_some l.member.replica.end ≡ false;
-  ready : IsReady l.log l.member;
-  served : (base : LogState g.row.D.Denot) → HasServed g.D.Disk.told g.D.Disk.faults base l.fn.log l.fn.member
-      → HasServed g.D.Disk.told g.D.Disk.faults base l.log l.member;
+  ready : IsReadyAt l.place l.member;
+  served : (base : LogState g.row.D.Denot) → HasServedAt g.D.Disk.told g.D.Disk.faults base l.fn.place l.fn.member
+      → HasServedAt g.D.Disk.told g.D.Disk.faults base l.place l.member;
 }
 
 abbrev pub decreases-loop : goal.decreases-loop

@@ -1,109 +1,68 @@
-use Rattle.std.proofs.Common.{rules, sym, ap, ◌∙◌, ◌==◌, arith}
-use Rattle.std.specs.List.{remove}
-use Rattle.dr_sim.proofs.Logs.{places_both, places_same}
-use Rattle.dr_sim.proofs.Choices.{chosen_again, going_on, count_none, nothing_chosen, one_has_ended, picked, seeded, count_some}
-use Rattle.dr_sim.proofs.Steps.{going_within}
+use Rattle.std.proofs.Common.{rules, ◌≡◌, sym, ap, ◌∙◌, subst, ℕ, List}
+use Rattle.std.specs.Prelude.{Option}
+use Rattle.std.specs.Vec.{with_items}
+use Rattle.std.proofs.lemmas.List.{with_items_is}
+use Rattle.dr_age.specs.Sound.{IsSound}
+use Rattle.dr_logged.specs.Served.{AreReady, HaveServed}
+use Rattle.dr_program.specs.Program.{Program}
+use Rattle.dr_program.specs.Running.{Running}
+use Rattle.dr_sim.specs.Sound.{program_over}
+use Rattle.dr_sim.proofs.Choices.{HasRunTold}
 use Rattle.dr_sim.proofs.simulation.Simulation.run_seeded.Goals as goal
 
-pub members-init : goal.members-init
-members-init g c = record {
-  sound = c.requires.1.1.1.0;
-  going = c.going-going.ensures;
-  chosen = nothing_chosen g.W.Watcher.sees c.args.watcher.now c.args.seed c.new-lcg.result c.args.self.now
-      c.new-lcg.ensures;
-  ready = c.requires.1.1.1.1;
-  places = places_same c.args.logs.now;
-  served = λ bases served. served;
-}
-
-pub deeds-init : goal.deeds-init
-deeds-init g c = record {
-  sound = c.members.invariant.sound;
-  going = c.members.invariant.going;
-  few = c.len-few.ensures.value;
-  some = count_some c.len-few.result (ap (λ n. n == 0) c.len-few.ensures.value
-      ∙ sym c.is_empty.ensures ∙ c.members-test.true);
-  chosen = c.members.invariant.chosen;
-  ready = c.members.invariant.ready;
-  places = c.members.invariant.places;
-  served = c.members.invariant.served;
-}
-
-pub take_deed_of-requires-send-D : goal.take_deed_of-requires-send-D
-take_deed_of-requires-send-D g c = λ ks within.
-    let pick = picked c.deeds.lcg c.deeds.self c.deeds.going.items c.deref.result.now c.len-few.result
-    c.choose_few-at.result c.deeds.invariant.going c.deref.ensures.0 c.deeds.invariant.few
-    c.deeds.invariant.some c.choose_few-at.ensures.choice in (
+pub run_by_seed-requires-send-D : goal.run_by_seed-requires-send-D
+run_by_seed-requires-send-D g c = λ ks within.
+    let members = c.as_mut_slice.ensures.value in
+    let both = (λ z. program_over (members z) (c.as_mut_slice-2.ensures.value z)) ∙ c.self.view_is in (
       within.0,
       (
         within.1,
         (
           search rules,
           (
-            c.deeds.invariant.sound,
-            (
-              pick.goes,
-              (
-                omega (
-                  arith,
-                  c.deeds.invariant.ready.all,
-                  going_within c.deeds.self.members _ pick.goes,
-                ),
-                c.deeds.invariant.ready,
-              ),
-            ),
+            subst (IsSound g.group) (sym both) c.requires.1.1.1.0,
+            subst (AreReady c.args.logs.now) (sym (members ∙ ap (λ (v : Program). v.members) c.self.view_is))
+                c.requires.1.1.1.1,
           ),
         ),
       ),
     )
 
-pub members-preserved : goal.members-preserved
-members-preserved g c =
-    let pick = picked c.deeds.lcg c.deeds.self c.deeds.going.items c.deref.result.now c.len-few.result
-    c.choose_few-at.result c.deeds.invariant.going c.deref.ensures.0 c.deeds.invariant.few
-    c.deeds.invariant.some c.choose_few-at.ensures.choice in
-    let took = c.take_deed_of.ensures.took in
-    let all = took.sound.form.all ∙ sym c.deeds.invariant.sound.form.all in record {
-      sound = took.sound;
-      going = c.remove.ensures.items ∙ ap (λ xs. remove xs c.choose_few-at.result) c.deeds.invariant.going
-          ∙ sym (one_has_ended c.deeds.self c.take_deed_of.new.self _ c.choose_few-at.result took.outcome
-          took.step all pick.within pick.place
-          (sym c.take_deed_of.ensures.ended ∙ c.if-take_deed_of.true));
-      chosen = chosen_again c.take_deed_of.new.watcher c.args.seed c.args.self.now c.deeds.lcg
-          c.choose_few-at.new.self c.deeds.self c.take_deed_of.new.self _ took.outcome
-          c.deeds.invariant.chosen pick.choice
-          c.choose_few-at.ensures.state took.step took.well pick.goes c.take_deed_of.ensures.told;
-      ready = c.take_deed_of.ensures.ready;
-      places = places_both c.args.logs.now c.deeds.logs c.take_deed_of.new.logs c.deeds.invariant.places
-          c.take_deed_of.ensures.places;
-      served = λ bases served. c.take_deed_of.ensures.served bases (c.deeds.invariant.served bases served);
-    }
-
-pub deeds-preserved : goal.deeds-preserved
-deeds-preserved g c =
-    let pick = picked c.deeds.lcg c.deeds.self c.deeds.going.items c.deref.result.now c.len-few.result
-    c.choose_few-at.result c.deeds.invariant.going c.deref.ensures.0 c.deeds.invariant.few
-    c.deeds.invariant.some c.choose_few-at.ensures.choice in
-    let took = c.take_deed_of.ensures.took in
-    let all = took.sound.form.all ∙ sym c.deeds.invariant.sound.form.all in record {
-      sound = took.sound;
-      going = c.deeds.invariant.going
-          ∙ sym (going_on c.deeds.self c.take_deed_of.new.self _ took.outcome took.step all pick.goes
-          (sym c.take_deed_of.ensures.ended ∙ c.if-take_deed_of.false));
-      few = c.deeds.invariant.few;
-      some = c.deeds.invariant.some;
-      chosen = chosen_again c.take_deed_of.new.watcher c.args.seed c.args.self.now c.deeds.lcg
-          c.choose_few-at.new.self c.deeds.self c.take_deed_of.new.self _ took.outcome
-          c.deeds.invariant.chosen pick.choice
-          c.choose_few-at.ensures.state took.step took.well pick.goes c.take_deed_of.ensures.told;
-      ready = c.take_deed_of.ensures.ready;
-      places = places_both c.args.logs.now c.deeds.logs c.take_deed_of.new.logs c.deeds.invariant.places
-          c.take_deed_of.ensures.places;
-      served = λ bases served. c.take_deed_of.ensures.served bases (c.deeds.invariant.served bases served);
-    }
-
 pub returns-clause-run : goal.returns-clause-run
 returns-clause-run g c =
-    seeded c.args.seed c.args.self.now c.members.lcg c.members.self c.members.going.items
-    c.members.invariant.chosen c.members.invariant.going
-    (count_none _ (sym c.is_empty.ensures ∙ c.members-test.false))
+    let before : program_over c.as_mut_slice.result.now c.as_mut_slice-2.result.now ≡ c.args.self.now =
+    (λ z. program_over (c.as_mut_slice.ensures.value z) (c.as_mut_slice-2.ensures.value z)) ∙ c.self.view_is in
+    let members = with_items_is c.self.inside.members c.run_by_seed.new.members
+    (c.run_by_seed.auto.members ∙ c.as_mut_slice.ensures.len) in
+    let table = with_items_is c.self.inside.table c.run_by_seed.new.table
+    (c.run_by_seed.auto.table ∙ c.as_mut_slice-2.ensures.len) in
+    subst (λ (v : Program). HasRunTold g.W.Watcher.sees c.args.watcher.now c.run_by_seed.new.watcher c.args.seed v
+    (program_over (with_items c.self.inside.members c.run_by_seed.new.members).items
+    (with_items c.self.inside.table c.run_by_seed.new.table).items)) before
+    (subst (HasRunTold g.W.Watcher.sees c.args.watcher.now c.run_by_seed.new.watcher c.args.seed
+    (program_over c.as_mut_slice.result.now c.as_mut_slice-2.result.now))
+    (sym (λ z. program_over (members z) (table z))) c.run_by_seed.ensures.run)
+
+pub returns-clause-sound : goal.returns-clause-sound
+returns-clause-sound g c =
+    let members = with_items_is c.self.inside.members c.run_by_seed.new.members
+    (c.run_by_seed.auto.members ∙ c.as_mut_slice.ensures.len) in
+    let table = with_items_is c.self.inside.table c.run_by_seed.new.table
+    (c.run_by_seed.auto.table ∙ c.as_mut_slice-2.ensures.len) in
+    subst (IsSound g.group) (sym (λ z. program_over (members z) (table z))) c.run_by_seed.ensures.sound
+
+pub returns-clause-ready : goal.returns-clause-ready
+returns-clause-ready g c =
+    subst (AreReady c.run_by_seed.new.logs)
+    (sym (with_items_is c.self.inside.members c.run_by_seed.new.members
+    (c.run_by_seed.auto.members ∙ c.as_mut_slice.ensures.len)))
+    c.run_by_seed.ensures.ready
+
+pub returns-clause-served : goal.returns-clause-served
+returns-clause-served g c = λ bases served.
+    subst (HaveServed g.D.Disk.told g.D.Disk.faults bases c.run_by_seed.new.logs)
+    (sym (with_items_is c.self.inside.members c.run_by_seed.new.members
+    (c.run_by_seed.auto.members ∙ c.as_mut_slice.ensures.len)))
+    (c.run_by_seed.ensures.served bases
+    (subst (HaveServed g.D.Disk.told g.D.Disk.faults bases c.args.logs.now)
+    (sym (c.as_mut_slice.ensures.value ∙ ap (λ (v : Program). v.members) c.self.view_is)) served))

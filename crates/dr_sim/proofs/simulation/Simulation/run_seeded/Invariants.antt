@@ -1,44 +1,4 @@
-use Rattle.std.proofs.Common.{◌≡◌, ◌<◌, List, length}
-use Rattle.dr_log.specs.State.{LogState}
-use Rattle.dr_logged.specs.Served.{AreReady, HaveSamePlaces, HaveServed}
-use Rattle.dr_program.specs.Schedule.{going}
-use Rattle.dr_age.specs.Sound.{IsSound}
-use Rattle.dr_sim.specs.Sound.{all_left}
-use Rattle.dr_sim.proofs.Choices.{HasChosen}
 use Rattle.dr_sim.proofs.simulation.Simulation.run_seeded.Given as goal
-use Rattle.std.specs.Prelude.{Option}
 
-abbrev pub ghost-take_deed_of : goal.ghost-take_deed_of
-ghost-take_deed_of g a = g.group
-
-abbrev pub invariant-members : goal.invariant-members
-invariant-members g l = record {
-  sound : IsSound g.group l.self;
-  going : l.going.items ≡ going l.self;
-  chosen : HasChosen g.W.Watcher.sees l.fn.watcher l.watcher l.seed l.fn.self l.lcg l.self;
-  ready : AreReady l.logs l.self.members;
-  places : HaveSamePlaces l.fn.logs l.logs;
-  served : (bases : List (Option (LogState g.row.D.Denot)))
-      → HaveServed g.D.Disk.told g.D.Disk.faults bases l.fn.logs l.fn.self.members
-      → HaveServed g.D.Disk.told g.D.Disk.faults bases l.logs l.self.members;
-}
-
-abbrev pub decreases-members : goal.decreases-members
-decreases-members g l = length l.going.items
-
-abbrev pub invariant-deeds : goal.invariant-deeds
-invariant-deeds g l = record {
-  sound : IsSound g.group l.self;
-  going : l.going.items ≡ going l.self;
-  few : l.few ≡ length l.going.items;
-  some : 0 < l.few;
-  chosen : HasChosen g.W.Watcher.sees l.fn.watcher l.watcher l.seed l.fn.self l.lcg l.self;
-  ready : AreReady l.logs l.self.members;
-  places : HaveSamePlaces l.fn.logs l.logs;
-  served : (bases : List (Option (LogState g.row.D.Denot)))
-      → HaveServed g.D.Disk.told g.D.Disk.faults bases l.fn.logs l.fn.self.members
-      → HaveServed g.D.Disk.told g.D.Disk.faults bases l.logs l.self.members;
-}
-
-abbrev pub decreases-deeds : goal.decreases-deeds
-decreases-deeds g l = all_left l.self
+abbrev pub ghost-run_by_seed : goal.ghost-run_by_seed
+ghost-run_by_seed g a = g.group

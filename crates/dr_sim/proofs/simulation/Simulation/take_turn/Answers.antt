@@ -1,8 +1,9 @@
 use Rattle.std.proofs.Common.{refl, sym, ap, ◌∙◌, subst, List}
-use Rattle.dr_logged.specs.Served.{HasServed, IsReady}
+use Rattle.dr_sim.specs.Places.{HasServedAt, IsReadyAt}
 use Rattle.dr_program.specs.Program.{Program, has_ended}
 use Rattle.dr_program.proofs.Present.{present_kept}
 use Rattle.dr_program.specs.Running.{Running}
+use Rattle.dr_sim.proofs.Places.{same_place}
 use Rattle.dr_sim.proofs.Turns.{HasTurn}
 use Rattle.dr_sim.proofs.Steps.{among_read, at_set, going_there, goes_there}
 use Rattle.dr_sim.proofs.simulation.Simulation.take_turn.Goals as goal
@@ -48,7 +49,7 @@ returns-clause-took g c =
 
 pub returns-clause-ready : goal.returns-clause-ready
 returns-clause-ready g c = λ r there.
-    at_set (IsReady c.take_turn.new.log) c.self.inside.members.items c.args.m c.take_turn.new.member r
+    at_set (IsReadyAt c.take_turn.new.place) c.self.inside.members.items c.args.m c.take_turn.new.member r
     (going_there c.self.inside.members.items c.self.inside.table.items c.args.self.now c.args.m c.self.view_is
     c.requires.1.1.1.1.0) c.take_turn.ensures.ready there
 
@@ -57,7 +58,7 @@ returns-clause-served g c = λ base served r there.
     let among = among_read g.group c.self.inside.members.items c.self.inside.table.items
     c.self.inside.table.items c.args.self.now c.args.m c.index_mut.result.now c.in-Some.member c.self.view_is
     c.requires.1.1.1.0 c.requires.1.1.1.1.0 c.index_mut.ensures.value c.in-Some.is refl in
-    at_set (HasServed g.D.Disk.told g.D.Disk.faults base c.take_turn.new.log) c.self.inside.members.items
+    at_set (HasServedAt g.D.Disk.told g.D.Disk.faults base c.take_turn.new.place) c.self.inside.members.items
     c.args.m c.take_turn.new.member r
     (going_there c.self.inside.members.items c.self.inside.table.items c.args.self.now c.args.m c.self.view_is
     c.requires.1.1.1.1.0)
@@ -67,3 +68,11 @@ pub returns-clause-others : goal.returns-clause-others
 returns-clause-others g c = λ i other.
     present_kept c.self.inside.members.items c.args.m i c.take_turn.new.member other
     ∙ ap (λ (v : Program). present_at v.members i) c.self.view_is
+
+pub returns-clause-stays : goal.returns-clause-stays
+returns-clause-stays g c =
+    let among = among_read g.group c.self.inside.members.items c.self.inside.table.items
+    c.self.inside.table.items c.args.self.now c.args.m c.index_mut.result.now c.in-Some.member c.self.view_is
+    c.requires.1.1.1.0 c.requires.1.1.1.1.0 c.index_mut.ensures.value c.in-Some.is refl in
+    same_place c.args.place.now c.take_turn.new.place c.in-Some.member c.take_turn.new.member
+    (c.requires.1.1.1.1.1 c.in-Some.member among.there) c.take_turn.ensures.ready
