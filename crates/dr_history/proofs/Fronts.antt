@@ -1,5 +1,5 @@
 -- The front of counts as the first place that holds no item.
-use Rattle.std.proofs.Common.{◌≡◌, ℕ, zero, suc, ◌+◌, ◌*◌, ◌/◌, ◌%◌, ◌<◌, ◌≤◌, Bool, true, false, not, max, cond, ◌==◌, List, [], ◌∷◌, length, fold, slice_index, nat_lt, refl, sym, ap, subst, arith, le_refl, mod-lt}
+use Rattle.std.proofs.Common.{◌≡◌, ℕ, zero, suc, ◌+◌, ◌*◌, ◌/◌, ◌%◌, ◌<◌, ◌≤◌, Bool, true, false, not, max, cond, ◌==◌, List, [], ◌∷◌, length, fold, slice_index, nat_lt, refl, sym, subst, arith, le_refl, mod-lt}
 use Rattle.std.proofs.Math.Nat.{mul-div_cancel_left}
 use Rattle.dr_history.specs.Places.{is_held, IsFront, first, front_of}
 use Rattle.dr_history.proofs.FrontLemmas.{IsFront-least, IsFront-monotone, IsFront-only}

@@ -1,6 +1,7 @@
 pub mod Following
 pub mod FrontLemmas
 pub mod Fronts
+pub mod Letters
 pub mod ListLemmas
 pub mod LoopLemmas
 pub mod MemberLemmas

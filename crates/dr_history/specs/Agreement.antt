@@ -1,5 +1,5 @@
 -- What it is for the members of an age to agree.
-use Rattle.std.specs.Prelude.{◌≡◌, ℕ, ◌≤◌, ◌⊎◌, List, [], length, take, All, Contains, slice_get, Some, IsSomeAnd}
+use Rattle.std.specs.Prelude.{◌≡◌, ℕ, ◌≤◌, ◌⊎◌, List, [], length, take, All, Contains, slice_get, Some}
 use Rattle.std.specs.Option.{option_map_or}
 use Rattle.dr_entry.specs.declared.entry.Entry.{Entry}
 use Rattle.dr_entry.specs.declared.entry.Entry.TheVariants.{View}
@@ -7,8 +7,9 @@ use Rattle.dr_entry.specs.declared.end.SentItem.{SentItem}
 use Rattle.dr_entry.specs.declared.end.MemberEnd.{MemberEnd}
 use Rattle.dr_history.specs.declared.opening.Opening.{Opening}
 use Rattle.dr_history.specs.History.{IsPrefixOf, Sent, sent_of, view_of}
+use Rattle.dr_history.specs.Members.{members_of}
 use Rattle.dr_history.specs.Order.{InOrder}
-use Rattle.dr_history.specs.Soundness.{IsPresentIn}
+use Rattle.dr_history.specs.Soundness.{IsNobodyLate, IsPresentIn}
 
 -- what a member has done in an age
 pub record Account : Type 0 where
@@ -36,11 +37,18 @@ SamePast g h = (i j age number m n : ℕ) → slice_get g i ≡ Some (View age n
     ≡ Some (View age number n)
     → (m ≡ n) × (take i g ≡ take j h)
 
--- the member i is in the view that its history is in, and what it knows to be durable stands on the log of
--- each member of it
-abbrev pub KnowsDurable : Accounts → ℕ → Type 0
-KnowsDurable accounts i = IsSomeAnd (view_of (accounts i).history)
-    (λ v. Contains v.members i × All (λ j. (accounts i).durable ≤ length (accounts j).log) v.members)
+-- what a member knows to be durable stands on its own log, and on the log of each member of some view of the
+-- age that its history holds. Where nobody is late, that is the view that the history is in, and the member
+-- is in it
+pub record KnowsDurable (o : Opening) (accounts : Accounts) (i : ℕ) : Type 0 where
+  pub own : (accounts i).durable ≤ length (accounts i).log
+  pub number : ℕ
+  pub members : ℕ
+  pub view : Contains (accounts i).history (View o.age number members)
+  pub logged : All (λ j. (accounts i).durable ≤ length (accounts j).log) (members_of members)
+  pub last : IsNobodyLate o
+      → (view_of (accounts i).history ≡ Some (record { age = o.age; number = number; members = members_of members }))
+      × Contains (members_of members) i
 
 -- the members of an age agree
 pub record Agreed (o : Opening) (accounts : Accounts) : Type 0 where
@@ -55,8 +63,8 @@ pub record Agreed (o : Opening) (accounts : Accounts) : Type 0 where
       → SamePast (accounts i).history (accounts j).history
   -- the entries of each log are the first ones of its member's history
   pub logged : (i : ℕ) → IsPresentIn o i → IsPrefixOf (accounts i).log (accounts i).history
-  -- what a member knows to be durable stands on the logs of all members of its view
-  pub durable : (i : ℕ) → IsPresentIn o i → KnowsDurable accounts i
+  -- and what a member knows to be durable stands on logs
+  pub durable : (i : ℕ) → IsPresentIn o i → KnowsDurable o accounts i
 
 -- what the members of an age that has ended have done: each has as many entries on its log as it tells, its
 -- first ones

@@ -32,6 +32,23 @@ view_after v (Msg s i b ∷ es) = view_after v es
 abbrev pub view_of : List Entry → Option GroupView
 view_of h = view_after None h
 
+-- an entry before others, where there are some
+abbrev pub before_some : Entry → List Entry → List Entry
+before_some e [] = []
+before_some e (x ∷ xs) = e ∷ x ∷ xs
+
+-- the entries up to and with the last View among them
+unfoldable pub up_to_view : List Entry → List Entry
+up_to_view [] = []
+up_to_view (View a n m ∷ es) = View a n m ∷ up_to_view es
+up_to_view (Msg s i b ∷ es) = before_some (Msg s i b) (up_to_view es)
+
+-- the number and the mask of the last View among the entries, and what is given where there is none
+unfoldable pub last_view : ℕ × ℕ → List Entry → ℕ × ℕ
+last_view v [] = v
+last_view v (View a n m ∷ es) = last_view (n, m) es
+last_view v (Msg s i b ∷ es) = last_view v es
+
 -- what each member put in each view of the age, by its number and the view's
 abbrev pub Sent : Type 0
 Sent = ℕ → ℕ → List SentItem

@@ -1,11 +1,11 @@
 -- What an age may start with.
-use Rattle.std.specs.Prelude.{◌≡◌, ◌≢◌, ℕ, ◌+◌, ◌-◌, ◌^◌, ◌<◌, ◌⊎◌, true, List, length, take, Contains, slice_get, Option, Some, IsSomeAnd}
+use Rattle.std.specs.Prelude.{◌≡◌, ℕ, ◌-◌, ◌^◌, ◌<◌, ◌⊎◌, true, List, length, take, Contains, slice_get, Option, Some, IsSomeAnd}
 use Rattle.dr_entry.specs.declared.entry.Entry.{Entry}
 use Rattle.dr_entry.specs.declared.entry.Entry.TheVariants.{View, Msg}
 use Rattle.dr_history.specs.declared.opening.Opening.{Opening}
-use Rattle.dr_history.specs.Members.{has, members_of}
+use Rattle.dr_history.specs.Members.{has}
 use Rattle.dr_history.specs.History.{GroupView, view_of, messages_of}
-use Rattle.dr_history.specs.Order.{messages_from}
+use Rattle.dr_history.specs.Order.{AreOfRoster, ContinuesAge, messages_from}
 
 -- the member is there in this age
 abbrev pub IsPresentIn : Opening → ℕ → Type 0
@@ -15,10 +15,9 @@ IsPresentIn o m = has o.present m ≡ true
 abbrev pub whole_roster : Opening → ℕ
 whole_roster o = 2 ^ length o.messages - 1
 
--- a mask of some members of a roster of so many
-pub record AreOfRoster (n members : ℕ) : Type 0 where
-  pub some : 0 < members
-  pub within : (m : ℕ) → has members m ≡ true → m < n
+-- nobody is late: all that are there are of the first view
+abbrev pub IsNobodyLate : Opening → Type 0
+IsNobodyLate o = o.members ≡ o.present
 
 -- an age is above that of the last view, if there is one
 abbrev pub IsLaterAge : Option GroupView → ℕ → Type 0
@@ -28,13 +27,6 @@ IsLaterAge last age = (v : GroupView) → last ≡ Some v → v.age < age
 pub record Opens (last : Option GroupView) (age number : ℕ) : Type 0 where
   pub later : IsLaterAge last age
   pub first : number ≡ 0
-
--- a View that goes on in the age of the last view: with the next number, and other members
-pub record ContinuesAge (v : GroupView) (age number members : ℕ) : Type 0 where
-  pub same_age : age ≡ v.age
-  pub next_number : number ≡ v.number + 1
-  pub other : members_of members ≢ v.members
-  pub numbers : (number < 2 ^ 8) × (members < 2 ^ 16)
 
 -- an entry may stand behind these entries: a View of some members of the roster opens an age or goes on in that
 -- of the last view, and a message is the next of its sender, a member of the last view, with the script's

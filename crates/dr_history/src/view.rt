@@ -1,4 +1,4 @@
-ghost use Rattle.std.specs.Prelude.{◌≡◌, ◌≢◌, [], ◌*◌, ◌<◌, ◌≤◌, ◌↔◌, length, All, Contains, IsTrue};
+ghost use Rattle.std.specs.Prelude.{◌≡◌, ◌≤◌, ◌↔◌, length, IsTrue};
 ghost use Rattle.dr_history.specs.History.{view_of};
 
 use crate::members::members_of;
@@ -24,7 +24,7 @@ impl Model for GroupView {
 
 impl GroupView {
     ghost use Rattle.dr_history.specs.Members.{members_of};
-    ghost use Rattle.dr_history.specs.Order.{IsSucceededBy, MayFollow};
+    ghost use Rattle.dr_history.specs.Order.{ContinuesAge};
 
     /// The view with this age and number and the members of this mask.
     pub fn new(age: u16, number: u8, members: u16) -> GroupView
@@ -68,54 +68,15 @@ impl GroupView {
             && self.members.as_slice() == other.members.as_slice()
     }
 
-    /// Whether a View of this age and number, with the members of this mask, may follow the view.
+    /// Whether a View of this age and number, with the members of this mask, goes on in the view's age.
     pub fn may_be_followed_by(&self, age: u16, number: u8, members: u16) -> bool
-        ensures { IsTrue result ↔ MayFollow self.now age number members }
+        ensures { IsTrue result ↔ ContinuesAge self.now age number members }
     {
         if age != self.age || u16::from(number) != u16::from(self.number) + 1 {
             return false;
         }
-        is_proper_part(members_of(members).as_slice(), self.members.as_slice())
+        members_of(members).as_slice() != self.members.as_slice()
     }
-
-    /// Whether the view may be succeeded by a View of this age and number, with the members of this
-    /// mask.
-    pub fn may_be_succeeded_by(&self, age: u16, number: u8, members: u16) -> bool
-        ensures { IsTrue result ↔ IsSucceededBy self.now age number members }
-    {
-        self.may_be_followed_by(age, number, members)
-            && is_majority(members_of(members).as_slice(), self.members.as_slice())
-    }
-}
-
-/// Whether each of the members is one of the others.
-fn are_members(members: &[u8], of: &[u8]) -> bool
-    ensures { IsTrue result ↔ All (λ s. Contains of.now s) members.now }
-{
-    for member in members {
-        if !of.contains(member) {
-            return false;
-        }
-    }
-    true
-}
-
-/// Whether the members are some of the others, but fewer.
-fn is_proper_part(members: &[u8], of: &[u8]) -> bool
-    ensures { IsTrue result ↔ ((members.now ≢ []) × All (λ s. Contains of.now s) members.now
-        × (length members.now < length of.now)) }
-{
-    if members.is_empty() || of.len() <= members.len() {
-        return false;
-    }
-    are_members(members, of)
-}
-
-/// Whether the members are more than half as many as the others.
-fn is_majority(members: &[u8], of: &[u8]) -> bool
-    ensures { IsTrue result ↔ (length of.now < 2 * length members.now) }
-{
-    of.len() / 2 < members.len()
 }
 
 /// The view that a history is in: that of its last View.

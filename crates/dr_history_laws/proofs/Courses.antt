@@ -1,16 +1,21 @@
 -- Histories that have come to places of the views of an age: they are in order, of two of them one is a
 -- prefix of the other, and they stay when more is sent.
-use Rattle.std.proofs.Common.{◌≡◌, refl, ap, sym, ◌∙◌, ◌⊎◌, inl, inr, subst, ℕ, zero, suc, ◌+◌, ◌-◌, ◌<◌, ◌≤◌, arith, List, [], ◌∷◌, ◌++◌, length, Some, append-nil, append_assoc, length-append}
+use Rattle.std.proofs.Common.{◌≡◌, refl, ap, sym, ◌∙◌, ◌⊎◌, inl, inr, subst, ℕ, zero, suc, ◌+◌, ◌-◌, ◌<◌, ◌≤◌, arith, List, [], ◌∷◌, ◌++◌, length, Contains, Some, false, append-nil, append_assoc, length-append}
+use Rattle.std.proofs.lemmas.List.Elements.{All-contains, Contains-append_cases}
+use Rattle.dr_entry.specs.declared.entry.Entry.{Entry}
 use Rattle.dr_entry.specs.declared.entry.Entry.TheVariants.{View}
 use Rattle.dr_history.specs.declared.opening.Opening.{Opening}
+use Rattle.dr_history.specs.Members.{has}
 use Rattle.dr_history.specs.Places.{front_of}
 use Rattle.dr_history.specs.History.{IsPrefixOf, Sent, merge, view_of}
-use Rattle.dr_history.specs.Order.{InOrder, IsSucceededBy, first_entries}
+use Rattle.dr_history.specs.Order.{IsSucceededBy, InOrder, IsNewIn, MayJoin, first_entries}
 use Rattle.dr_history.specs.Agreement.{SamePast}
 use Rattle.dr_history.specs.Soundness.{Sound}
+use Rattle.dr_history.proofs.Letters.{IsMessage}
 use Rattle.dr_history_laws.specs.Laid.{EndsWithView, HeldBelow, SentMore, laid}
 use Rattle.dr_history_laws.specs.Courses.{ViewEnds, ViewHasEnded, IsUncut, MayCome, MayReach, counts_taken, course, head_of, members_in, view_in}
 use Rattle.dr_history_laws.proofs.Cutting.{InOrder-next_view, merge-prefix, merge-steady}
+use Rattle.dr_history_laws.proofs.Heads.{head_views, merged_messages}
 use Rattle.dr_history_laws.proofs.LaidLemmas.{laid-none, laid-prefix}
 use Rattle.dr_history_laws.proofs.LooseOrder.{InLooseOrder-from}
 use Rattle.dr_history_laws.proofs.Openings.{InOrder-first, first-ends}
@@ -29,13 +34,13 @@ head-first o sent endings = refl
 -- and that of a later one goes on behind the view before
 pub head-next : (o : Opening) (sent : Sent) (endings : ViewEnds) (v : ℕ) → head_of o sent endings (v + 1)
     ≡ (head_of o sent endings v ++ merge o sent (view_in o endings v) (counts_taken o endings v))
-    ++ View o.age (v + 1) (endings v).remaining ∷ []
+    ++ View o.age (v + 1) (endings v).next ∷ []
 unfolding head_of
 head-next o sent endings v =
     let next : v + 1 ≡ suc v = omega arith in
     ap (head_of o sent endings) next
     ∙ ap (λ n. (head_of o sent endings v ++ merge o sent (view_in o endings v) (counts_taken o endings v))
-    ++ View o.age n (endings v).remaining ∷ []) (sym next)
+    ++ View o.age n (endings v).next ∷ []) (sym next)
 
 -- the members of a view
 pub members-first : (o : Opening) (endings : ViewEnds) → members_in o endings 0 ≡ o.members
@@ -43,7 +48,7 @@ unfolding members_in
 members-first o endings = refl
 
 pub members-next : (o : Opening) (endings : ViewEnds) (v : ℕ) → members_in o endings (v + 1)
-    ≡ (endings v).remaining
+    ≡ (endings v).next
 unfolding members_in
 members-next o endings v = let next : v + 1 ≡ suc v = omega arith in ap (members_in o endings) next
 
@@ -54,7 +59,7 @@ unfolding head_of members_in
 head-ends o sent endings zero = first-ends o
 head-ends o sent endings (suc v) = record {
   before = head_of o sent endings v ++ merge o sent (view_in o endings v) (counts_taken o endings v);
-  mask = (endings v).remaining;
+  mask = (endings v).next;
   ends = refl;
   members = refl;
 }
@@ -75,6 +80,39 @@ may_come-less o sent endings v may = record {
   goes = λ u l. may.goes u (omega (arith, l));
 }
 
+-- where a view has ended, the group goes on behind its merge with the next View
+goes-on : (o : Opening) (sent : Sent) (endings : ViewEnds) (v : ℕ) → Sound o → ViewHasEnded o sent endings v
+    → IsSucceededBy o (head_of o sent endings v ++ merge o sent (view_in o endings v) (counts_taken o endings v))
+    (view_in o endings v) o.age (v + 1) (endings v).next
+goes-on o sent endings v sound ended = record {
+  follows = ended.follows;
+  roster = ended.roster;
+  majority = ended.majority;
+  newcomers = λ s there. by s (ended.newcomers s there);
+}
+  where
+    merged : List Entry
+    merged = merge o sent (view_in o endings v) (counts_taken o endings v)
+
+    in_none : (s number members : ℕ) → IsNewIn o (members_in o endings) v s
+        → Contains (head_of o sent endings v) (View o.age number members)
+        ⊎ Contains merged (View o.age number members) → has members s ≡ false
+    in_none s number members new (inl c) =
+        let r = head_views o sent endings v number members sound c in
+        subst (λ mask. has mask s ≡ false) r.1 (new.absent number r.0)
+    in_none s number members new (inr c) = absurd (All-contains IsMessage merged (View o.age number members)
+        (merged_messages o sent (view_in o endings v) (counts_taken o endings v)) c)
+
+    by : (s : ℕ) → Contains (view_in o endings v).members s ⊎ IsNewIn o (members_in o endings) v s
+        → Contains (view_in o endings v).members s
+        ⊎ MayJoin o (head_of o sent endings v ++ merge o sent (view_in o endings v) (counts_taken o endings v)) s
+    by s (inl there) = inl there
+    by s (inr new) = inr (
+      new.late,
+      λ number members c. in_none s number members new (Contains-append_cases (head_of o sent endings v)
+          merged (View o.age number members) c),
+    )
+
 -- heads are in order
 pub InOrder-head : (o : Opening) (sent : Sent) (endings : ViewEnds) (v : ℕ) → Sound o
     → MayCome o sent endings v → InOrder o sent (head_of o sent endings v)
@@ -83,11 +121,13 @@ InOrder-head o sent endings zero sound may = InOrder-first o sent sound
 InOrder-head o sent endings (suc v) sound may =
     let next : v + 1 ≡ suc v = omega arith in
     InOrder-next_view o sent (head_of o sent endings v) (view_in o endings v) (endings v).taken o.age
-    (suc v) (endings v).remaining
+    (suc v) (endings v).next
     (InOrder-head o sent endings v sound (may_come-less o sent endings v may))
     (head-ends o sent endings v) (may.goes v (omega arith))
-    (subst (λ n. IsSucceededBy (view_in o endings v) o.age n (endings v).remaining) next
-    (may.ended v (omega arith)).succeeded)
+    (subst (λ n. IsSucceededBy o
+    (head_of o sent endings v ++ merge o sent (view_in o endings v) (counts_taken o endings v))
+    (view_in o endings v) o.age n (endings v).next) next
+    (goes-on o sent endings v sound (may.ended v (omega arith))))
 
 -- and so is what has come to a place
 pub InOrder-course : (o : Opening) (sent : Sent) (endings : ViewEnds) (v p : ℕ) → Sound o
@@ -119,7 +159,7 @@ unfolding head_of
 prefix-next o sent endings v p kept = prefix-trans (course o sent endings v p)
     (head_of o sent endings v ++ merge o sent (view_in o endings v) (counts_taken o endings v)) _
     (merge-prefix o sent (head_of o sent endings v) (view_in o endings v) (endings v).taken p kept)
-    (View o.age (suc v) (endings v).remaining ∷ [], refl)
+    (View o.age (suc v) (endings v).next ∷ [], refl)
 
 -- and so of every later one
 prefix-head : (o : Opening) (sent : Sent) (endings : ViewEnds) (v p d : ℕ)
@@ -216,7 +256,10 @@ course-steady o sent now endings v p more ended held =
 pub ended-steady : (o : Opening) (sent now : Sent) (endings : ViewEnds) (v : ℕ) → SentMore sent now
     → ViewHasEnded o sent endings v → ViewHasEnded o now endings v
 ended-steady o sent now endings v more ended = record {
-  succeeded = ended.succeeded;
+  follows = ended.follows;
+  roster = ended.roster;
+  majority = ended.majority;
+  newcomers = ended.newcomers;
   given = λ s member. longer (sent s v) (now s v) (ended.given s member) (more s v);
 }
   where

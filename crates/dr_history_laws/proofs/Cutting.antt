@@ -10,7 +10,7 @@ use Rattle.dr_entry.specs.declared.end.SentItem.TheVariants.{Index}
 use Rattle.dr_history.specs.declared.opening.Opening.{Opening}
 use Rattle.dr_history.specs.Places.{is_held, held_places, front_of}
 use Rattle.dr_history.specs.History.{IsPrefixOf, GroupView, Sent, messages_in, entry_of, item_at, merge}
-use Rattle.dr_history.specs.Order.{InOrder, IsSucceededBy, messages_from}
+use Rattle.dr_history.specs.Order.{IsSucceededBy, InOrder, messages_from}
 use Rattle.dr_history_laws.specs.Laid.{laid, entry_at, EndsWithView, GoesOn, SentMore, SentMoreIn}
 use Rattle.dr_history_laws.proofs.Lists.{Contains-slice_get, slice_get-some, slice_get-take, slice_get-prefix, take-prefix}
 use Rattle.dr_history_laws.proofs.LooseOrder.{InLooseOrder, InLooseOrder-from}
@@ -132,14 +132,15 @@ cut_merge o sent v taken =
 pub InOrder-next_view : (o : Opening) (sent : Sent) (before : List Entry) (v : GroupView)
     (taken : ℕ → ℕ) (age number mask : ℕ)
     → InOrder o sent before → EndsWithView before v → GoesOn o sent before v
-    → IsSucceededBy v age number mask
+    → IsSucceededBy o (before ++ merge o sent v (map taken v.members)) v age number mask
     → InOrder o sent ((before ++ merge o sent v (map taken v.members)) ++ View age number mask ∷ [])
 InOrder-next_view o sent before v taken age number mask order ends goes succeeded =
     subst (λ es. InOrder o sent ((before ++ es) ++ View age number mask ∷ []))
     (sym (cut_merge o sent v taken))
     (InOrder-steady o less sent ((before ++ laid o less v top) ++ View age number mask ∷ [])
     (cut_prefix sent v taken)
-    (InOrder-View o less (before ++ laid o less v top) v age number mask r.ordered r.view succeeded))
+    (InOrder-View o less (before ++ laid o less v top) v age number mask r.ordered r.view
+    (subst (λ es. IsSucceededBy o (before ++ es) v age number mask) (cut_merge o sent v taken) succeeded)))
   where
     less : Sent
     less = cut sent v taken

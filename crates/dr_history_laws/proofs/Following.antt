@@ -2,14 +2,14 @@
 -- what is sent in a view is nothing to the history before it.
 use Rattle.std.proofs.Common.{◌≡◌, ◌≢◌, refl, ap, sym, ◌∙◌, ◌⊎◌, inl, inr, subst, ℕ, ◌<◌, ◌≤◌, arith, List, [], ◌∷◌, ◌++◌, length, take, Option, None, Some, slice_get, is_some, IsSome, IsSomeAnd, append_assoc, length-append}
 use Rattle.std.proofs.lemmas.Bool.{cases_lt}
-use Rattle.std.proofs.lemmas.List.{take_at}
+use Rattle.std.proofs.lemmas.List.{take-append-le, take_at}
 use Rattle.std.proofs.lemmas.Option.{same_Some, slice_get_within}
 use Rattle.dr_entry.specs.declared.entry.Entry.{Entry}
 use Rattle.dr_entry.specs.declared.entry.Entry.TheVariants.{View, Msg}
 use Rattle.dr_history.specs.declared.opening.Opening.{Opening}
 use Rattle.dr_history.specs.Members.{members_of}
 use Rattle.dr_history.specs.History.{IsPrefixOf, GroupView, Sent, view_of, place_of_entry, place_at}
-use Rattle.dr_history.specs.Order.{InOrder, IsSucceededBy, numbered_messages}
+use Rattle.dr_history.specs.Order.{IsSucceededBy, InOrder, numbered_messages}
 use Rattle.dr_history.proofs.ViewLemmas.{view_of-View}
 use Rattle.dr_history.proofs.NumberedLemmas.{messages_from-View}
 use Rattle.dr_history_laws.specs.Laid.{EndsWithView}
@@ -34,8 +34,8 @@ place_at-old sent h a n m i p at =
 -- with the View the history is in loose order
 loose_View : (o : Opening) (sent : Sent) (h : List Entry) (v : GroupView) (a n m : ℕ)
     → InLooseOrder o sent h → view_of h ≡ Some v
-    → IsSucceededBy v a n m → InLooseOrder o sent (h ++ View a n m ∷ [])
-loose_View o sent h v a n m order view succeeded = record {
+    → IsSucceededBy o h v a n m → InLooseOrder o sent (h ++ View a n m ∷ [])
+loose_View o sent h v a n m order view follows = record {
   begins = (
     order.begins.0 ++ View a n m ∷ [],
     sym (append_assoc _ order.begins.0 (View a n m ∷ []))
@@ -55,21 +55,23 @@ loose_View o sent h v a n m order view succeeded = record {
     views : (i age number members : ℕ) → length o.start < i
         → ((i < length h) × (slice_get h i ≡ Some (View age number members)))
         ⊎ ((i ≡ length h) × (View a n m ≡ View age number members))
-        → IsSomeAnd (view_of (take i (h ++ View a n m ∷ []))) (λ u. IsSucceededBy u age number members)
+        → IsSomeAnd (view_of (take i (h ++ View a n m ∷ [])))
+        (λ u. IsSucceededBy o (take i (h ++ View a n m ∷ [])) u age number members)
     views i age number members after (inl old) =
-        subst (λ (z : Option GroupView). IsSomeAnd z (λ u. IsSucceededBy u age number members))
-        (sym (view_of-left h (View a n m ∷ []) i (omega (arith, old.0))))
+        subst (λ (es : List Entry). IsSomeAnd (view_of es) (λ u. IsSucceededBy o es u age number members))
+        (sym (take-append-le i h (View a n m ∷ []) (omega (arith, old.0))))
         (order.views i age number members after old.1)
     views i age number members after (inr new) =
         let same = new.1 in
         let same_age : a ≡ age = cc in
         let same_number : n ≡ number = cc in
         let same_members : m ≡ members = cc in
-        let here : view_of (take i (h ++ View a n m ∷ [])) ≡ Some v =
-        ap (λ k. view_of (take k (h ++ View a n m ∷ []))) new.0
-        ∙ (ap view_of (take_at h (View a n m ∷ []) (length h) refl) ∙ view) in
-        subst (λ (z : Option GroupView). IsSomeAnd z (λ u. IsSucceededBy u age number members)) (sym here)
-        (rw (← same_age, ← same_number, ← same_members) succeeded)
+        let here : take i (h ++ View a n m ∷ []) ≡ h = ap (λ k. take k (h ++ View a n m ∷ [])) new.0
+        ∙ take_at h (View a n m ∷ []) (length h) refl in
+        subst (λ (es : List Entry). IsSomeAnd (view_of es) (λ u. IsSucceededBy o es u age number members))
+        (sym here)
+        (subst (λ (z : Option GroupView). IsSomeAnd z (λ u. IsSucceededBy o h u age number members)) (sym view)
+        (rw (← same_age, ← same_number, ← same_members) follows))
 
     placed : (i s index : ℕ) (b : List ℕ) → length o.start < i
         → ((i < length h) × (slice_get h i ≡ Some (Msg s index b)))
@@ -91,7 +93,7 @@ loose_View o sent h v a n m order view succeeded = record {
 -- and in order, since nothing was delivered in the new view
 pub InOrder-View : (o : Opening) (sent : Sent) (h : List Entry) (v : GroupView) (a n m : ℕ)
     → InLooseOrder o sent h → view_of h ≡ Some v
-    → IsSucceededBy v a n m → InOrder o sent (h ++ View a n m ∷ [])
+    → IsSucceededBy o h v a n m → InOrder o sent (h ++ View a n m ∷ [])
 InOrder-View o sent h v a n m order view succeeded = InOrder-from o sent (h ++ View a n m ∷ []) now whole
   where
     now : InLooseOrder o sent (h ++ View a n m ∷ [])

@@ -1,15 +1,14 @@
 -- An age that starts with the longest of the logs that the members of another leave.
-use Rattle.std.proofs.Common.{◌≡◌, refl, ap, sym, ◌∙◌, ◌⊎◌, inl, inr, subst, ℕ, ◌+◌, ◌-◌, ◌<◌, ◌≤◌, arith, List, [], ◌∷◌, ◌++◌, length, take, drop, Some, slice_get, Option, None, append_assoc, length-append, take_at, length-take}
+use Rattle.std.proofs.Common.{◌≡◌, refl, ap, sym, ◌∙◌, ◌⊎◌, inl, inr, subst, ℕ, ◌+◌, ◌-◌, ◌<◌, ◌≤◌, arith, List, [], ◌∷◌, ◌++◌, length, take, drop, Some, slice_get, append_assoc, length-append, take_at, length-take}
 use Rattle.std.proofs.lemmas.List.{take-append-drop, take_all}
 use Rattle.std.proofs.lemmas.Option.{slice_get_within}
-use Rattle.std.specs.Prelude.{All, Contains, IsSomeAnd}
 use Rattle.dr_entry.specs.declared.entry.Entry.{Entry}
 use Rattle.dr_entry.specs.declared.entry.Entry.TheVariants.{View}
 use Rattle.dr_history.specs.declared.opening.Opening.{Opening}
 use Rattle.dr_history.specs.Members.{members_of}
 use Rattle.dr_history.specs.History.{IsPrefixOf, GroupView, view_of}
 use Rattle.dr_history.specs.Order.{first_entries}
-use Rattle.dr_history.specs.Agreement.{Account, Accounts, Agreed, KnowsDurable}
+use Rattle.dr_history.specs.Agreement.{Account, Accounts, Agreed}
 use Rattle.dr_history.specs.Soundness.{IsPresentIn, Sound}
 use Rattle.dr_history.specs.Restarting.{AreLeftBy, IsLeftBy, IsLongest, Kept}
 use Rattle.dr_history.proofs.ViewLemmas.{view_of-View}
@@ -47,18 +46,6 @@ left_long : (a : Account) (log : List Entry) → IsLeftBy a log → length a.log
 left_long a log (inl is) = omega (arith, ap length is)
 left_long a log (inr more) = omega (arith, ap length more.1, length-append a.log (more.0 ∷ []))
 
--- who knows so much to be durable has so much on its own log
-pub durable_logged : (accounts : Accounts) (i : ℕ) → KnowsDurable accounts i
-    → (accounts i).durable ≤ length (accounts i).log
-durable_logged accounts i knows = by (view_of (accounts i).history) knows
-  where
-    by : (o : Option GroupView) → IsSomeAnd o
-        (λ v. Contains v.members i × All (λ j. (accounts i).durable ≤ length (accounts j).log) v.members)
-        → (accounts i).durable ≤ length (accounts i).log
-    by None h = absurd h
-    by (Some v) h = subst (λ j. (accounts i).durable ≤ length (accounts j).log) h.0.2
-        (h.1 h.0.0 i h.0.1)
-
 -- what a member knows to be durable is the front of a longest log
 durable_kept : (o : Opening) (accounts : Accounts) (lists : List (List Entry)) (start : List Entry)
     (i : ℕ) → Agreed o accounts → AreLeftBy o accounts lists → IsLongest lists start → IsPresentIn o i
@@ -88,7 +75,7 @@ durable_kept o accounts lists start i agreed left longest present =
     long = omega (
       arith,
       length-take d h,
-      durable_logged accounts i (agreed.durable i present),
+      (agreed.durable i present).own,
       left_long (accounts i) mine.0 (left.each i mine.0 mine.1).1,
       longest.longest i mine.0 mine.1,
     )

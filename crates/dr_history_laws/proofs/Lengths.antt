@@ -1,6 +1,6 @@
 -- Entries that may stand are few, and so is a sound start: each age has at most 256 views, and each member no
 -- more messages than by the script.
-use Rattle.std.proofs.Common.{◌≡◌, ◌≢◌, refl, ap, sym, ◌∙◌, ◌⊎◌, inl, inr, subst, ℕ, zero, suc, ◌+◌, ◌*◌, ◌-◌, ◌^◌, ◌==◌, ◌<◌, ◌≤◌, arith, Bool, true, false, ne_eqb, List, [], ◌∷◌, ◌++◌, length, take, filter, append-nil, Contains, Option, None, Some, IsSomeAnd, length-append}
+use Rattle.std.proofs.Common.{◌≡◌, refl, ap, sym, ◌∙◌, ◌⊎◌, inl, inr, subst, ℕ, zero, suc, ◌+◌, ◌*◌, ◌-◌, ◌^◌, ◌==◌, ◌<◌, ◌≤◌, arith, Bool, true, false, ne_eqb, List, [], ◌∷◌, ◌++◌, length, take, filter, append-nil, Contains, Option, None, Some, IsSomeAnd, length-append}
 use Rattle.std.proofs.Math.Nat.{suc-mul}
 use Rattle.std.proofs.lemmas.List.{take_all}
 use Rattle.std.proofs.lemmas.List.Elements.{filter-append}
@@ -10,9 +10,9 @@ use Rattle.dr_entry.specs.declared.entry.Entry.TheVariants.{View, Msg}
 use Rattle.dr_history.specs.declared.opening.Opening.{Opening}
 use Rattle.dr_history.specs.Members.{members_of}
 use Rattle.dr_history.specs.History.{GroupView, view_after, view_of, messages_of}
-use Rattle.dr_history.specs.Order.{messages_from}
+use Rattle.dr_history.specs.Order.{ContinuesAge, messages_from}
 use Rattle.dr_history.specs.Restarting.{AllStand, next_age}
-use Rattle.dr_history.specs.Soundness.{ContinuesAge, IsLaterAge, Sound, MayStand}
+use Rattle.dr_history.specs.Soundness.{IsLaterAge, Sound, MayStand}
 use Rattle.dr_history.proofs.NumberedLemmas.{messages_from-View, messages_from-Msg, messages_from-other, length-numbered_messages}
 use Rattle.dr_history.proofs.ViewLemmas.{view_of-View, view_of-Msg}
 use Rattle.dr_history_laws.proofs.Lists.{slice_get-some, take-next}

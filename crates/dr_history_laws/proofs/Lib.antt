@@ -3,6 +3,7 @@ pub mod Courses
 pub mod Cutting
 pub mod Differing
 pub mod Following
+pub mod Heads
 pub mod Indices
 pub mod LaidLemmas
 pub mod Lengths

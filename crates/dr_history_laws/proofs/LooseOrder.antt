@@ -6,7 +6,7 @@ use Rattle.dr_entry.specs.declared.entry.Entry.{Entry}
 use Rattle.dr_entry.specs.declared.entry.Entry.TheVariants.{View, Msg}
 use Rattle.dr_history.specs.declared.opening.Opening.{Opening}
 use Rattle.dr_history.specs.History.{IsPrefixOf, GroupView, Sent, view_of, item_at, place_at}
-use Rattle.dr_history.specs.Order.{InOrder, IsSucceededBy, first_entries, IsDelivered, messages_from, numbered_messages}
+use Rattle.dr_history.specs.Order.{IsSucceededBy, InOrder, first_entries, IsDelivered, messages_from, numbered_messages}
 use Rattle.dr_history_laws.proofs.Lists.{slice_get-left}
 
 -- an entry with a place is one of the history
@@ -33,7 +33,7 @@ pub record InLooseOrder (o : Opening) (sent : Sent) (h : List Entry) : Type 0 wh
   pub begins : IsPrefixOf (first_entries o) h
   pub views : (i age number members : ℕ) → length o.start < i → slice_get h i
       ≡ Some (View age number members)
-      → IsSomeAnd (view_of (take i h)) (λ v. IsSucceededBy v age number members)
+      → IsSomeAnd (view_of (take i h)) (λ v. IsSucceededBy o (take i h) v age number members)
   pub placed : (i s index : ℕ) (b : List ℕ) → length o.start < i → slice_get h i
       ≡ Some (Msg s index b)
       → IsSome (place_at sent h i)

@@ -1,7 +1,7 @@
 -- A history whose last view may have gaps stays in order when a next message of this view is put behind it.
-use Rattle.std.proofs.Common.{◌≡◌, refl, ap, sym, ◌∙◌, ◌⊎◌, inl, inr, subst, ℕ, ◌+◌, ◌==◌, ◌<◌, arith, Bool, true, false, List, [], ◌∷◌, ◌++◌, length, take, drop, Option, Some, slice_get, is_some, IsSome, IsSomeAnd, append_assoc, take-append-drop, length-append}
+use Rattle.std.proofs.Common.{◌≡◌, refl, ap, sym, ◌∙◌, ◌⊎◌, inl, inr, subst, ℕ, ◌+◌, ◌==◌, ◌<◌, arith, Bool, true, false, List, [], ◌∷◌, ◌++◌, length, take, drop, Some, slice_get, is_some, IsSome, IsSomeAnd, append_assoc, take-append-drop, length-append}
 use Rattle.std.proofs.lemmas.Bool.{eqb-true}
-use Rattle.std.proofs.lemmas.List.{take_at}
+use Rattle.std.proofs.lemmas.List.{take-append-le, take_at}
 use Rattle.std.proofs.lemmas.Option.{same_Some}
 use Rattle.dr_entry.specs.declared.entry.Entry.{Entry}
 use Rattle.dr_entry.specs.declared.entry.Entry.TheVariants.{View, Msg}
@@ -59,15 +59,16 @@ views_pushed : (o : Opening) (sent : Sent) (h : List Entry) (s i : ℕ) (b : Lis
     → length o.start < j
     → slice_get (h ++ Msg s i b ∷ []) j ≡ Some (View age number members)
     → IsSomeAnd (view_of (take j (h ++ Msg s i b ∷ [])))
-    (λ v. IsSucceededBy v age number members)
+    (λ v. IsSucceededBy o (take j (h ++ Msg s i b ∷ [])) v age number members)
 views_pushed o sent h s i b j age number members order after at =
     by (slice_get-push_cases h (Msg s i b) (View age number members) j at)
   where
     by : ((j < length h) × (slice_get h j ≡ Some (View age number members)))
         ⊎ ((j ≡ length h) × (Msg s i b ≡ View age number members))
-        → IsSomeAnd (view_of (take j (h ++ Msg s i b ∷ []))) (λ v. IsSucceededBy v age number members)
-    by (inl r) = subst (λ (z : Option GroupView). IsSomeAnd z (λ v. IsSucceededBy v age number members))
-        (sym (view_of-left h (Msg s i b ∷ []) j (omega (arith, r.0))))
+        → IsSomeAnd (view_of (take j (h ++ Msg s i b ∷ [])))
+        (λ v. IsSucceededBy o (take j (h ++ Msg s i b ∷ [])) v age number members)
+    by (inl r) = subst (λ (es : List Entry). IsSomeAnd (view_of es) (λ v. IsSucceededBy o es v age number members))
+        (sym (take-append-le j h (Msg s i b ∷ []) (omega (arith, r.0))))
         (order.views j age number members after r.1)
     by (inr r) = let same = r.1 in absurd (cc)
 

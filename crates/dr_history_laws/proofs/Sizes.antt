@@ -80,7 +80,7 @@ sized-head o sent endings zero n may members = omega arith
 sized-head o sent endings (suc v) n may members =
     sized-View n v (first_entries o)
     (head_of o sent endings v ++ merge o sent (view_in o endings v) (counts_taken o endings v)) o.age (suc v)
-    (endings v).remaining
+    (endings v).next
     (sized-merge o sent (head_of o sent endings v) (view_in o endings v) (endings v).taken n v
     (first_entries o) (may.goes v (omega arith)) (λ s. members v s (omega arith))
     (sized-head o sent endings v n (may_come-less o sent endings v may)

@@ -1,26 +1,20 @@
 -- Each entry of a history in order may stand behind those before it, where the age starts soundly. So a later
 -- age may find a part of such a history on a log.
-use Rattle.std.proofs.Common.{◌≡◌, ◌≢◌, true, zero, suc, ◌*◌, ◌/◌, ◌≤◌, length-append, refl, ap, sym, ◌∙◌, ◌⊎◌, inl, inr, subst, ℕ, ◌+◌, ◌-◌, ◌^◌, ◌==◌, ◌<◌, arith, nat_lt, List, [], ◌∷◌, ◌++◌, length, take, drop, get_or, Contains, Option, None, Some, slice_get, is_some, slice_index_or, option_and_then, IsSome, IsSomeAnd, append_assoc, take-append-drop, take_at}
+use Rattle.std.proofs.Common.{◌≡◌, refl, ap, sym, ◌∙◌, ◌⊎◌, inl, inr, subst, ℕ, ◌+◌, ◌==◌, ◌<◌, arith, nat_lt, List, [], ◌∷◌, ◌++◌, length, take, drop, get_or, Contains, Option, None, Some, slice_get, is_some, slice_index_or, option_and_then, IsSome, IsSomeAnd, append_assoc, take-append-drop, take_at}
 use Rattle.std.specs.List.{position, position_or_len}
-use Rattle.std.proofs.lemmas.Bool.{cases_lt, eqb-true}
-use Rattle.std.proofs.lemmas.List.{take_all}
-use Rattle.std.proofs.lemmas.List.Elements.{All-contains}
-use Rattle.std.proofs.lemmas.Nat.Bits.{bit_at_above}
+use Rattle.std.proofs.lemmas.Bool.{eqb-true}
 use Rattle.std.proofs.lemmas.List.Sums.{passes_at_first}
 use Rattle.std.proofs.lemmas.Option.{none-some, same_Some, cond_some, slice_get_within, slice_get-get_or, get_or_from_slice_get}
 use Rattle.dr_entry.specs.declared.entry.Entry.{Entry}
 use Rattle.dr_entry.specs.declared.entry.Entry.TheVariants.{View, Msg}
 use Rattle.dr_history.specs.declared.opening.Opening.{Opening}
 use Rattle.dr_history.specs.History.{IsPrefixOf, GroupView, Sent, view_of, messages_of, place_in, place_of_entry}
-use Rattle.dr_history.specs.Members.{has, members_below, members_of}
-use Rattle.dr_history.specs.Order.{InOrder, IsSucceededBy, MayFollow, first_entries, messages_from, numbered_messages}
+use Rattle.dr_history.specs.Order.{AreOfRoster, ContinuesAge, InOrder, IsSucceededBy, messages_from, numbered_messages}
 use Rattle.dr_history.specs.Restarting.{AllStand}
-use Rattle.dr_history.specs.Soundness.{ContinuesAge, Sound, MayStand}
+use Rattle.dr_history.specs.Soundness.{MayStand, Opens, Sound}
 use Rattle.dr_history.proofs.NumberedLemmas.{messages_from-append, messages_from-Msg, length-numbered_messages, get_or-numbered_messages}
 use Rattle.dr_history.proofs.SentLemmas.{place_in-no_member}
-use Rattle.dr_history.proofs.ViewLemmas.{view_of-Msg, view_of-View}
-use Rattle.dr_history_laws.proofs.Lists.{slice_get-seam, slice_get-some, slice_get-prefix, take-next, take-prefix, value_of, IsSomeAnd-at}
-use Rattle.dr_history_laws.proofs.Members.{has-member, member-has, members_of-few}
+use Rattle.dr_history_laws.proofs.Lists.{slice_get-seam, slice_get-some, slice_get-prefix, take-next, take-prefix, value_of}
 
 -- ---- a message
 
@@ -83,145 +77,6 @@ next-message o h i s k b numbered at =
           ∙ (slice_get-get_or (messages_of o s) n [] within ∙ ap Some bytes),
     )
 
--- ---- the views of a history
-
--- a mask that has members is above 0
-above-none : (mask : ℕ) → members_of mask ≢ [] → 0 < mask
-unfolding members_of members_below
-above-none zero some = absurd (some refl)
-above-none (suc mask) some = omega arith
-
--- of a mask of 16 bits each member is in the list
-in-list : (mask s : ℕ) → mask < 2 ^ 16 → has mask s ≡ true → Contains (members_of mask) s
-in-list mask s small h = has-member mask s h (by (cases_lt s 16))
-  where
-    by : (s < 16) ⊎ (16 ≤ s) → s < 16
-    by (inl l) = l
-    by (inr l) = absurd (grind (arith, h, bit_at_above mask 16 s small l))
-
--- and each in the list is in the mask
-of-list : (mask s : ℕ) → Contains (members_of mask) s → has mask s ≡ true
-of-list mask s c = member-has mask c.0 s (slice_get-get_or (members_of mask) c.0 s c.1 ∙ ap Some c.2)
-
--- a view of an age with its number among those of the age, and its members of the roster
-record IsFewInRoster (o : Opening) (v : GroupView) : Type 0 where
-  few : v.number + length v.members ≤ 16
-  roster : (s : ℕ) → Contains v.members s → s < length o.messages
-
--- behind the start a history in order is in such a view
-view-few : (o : Opening) (sent : Sent) (h : List Entry) (d : ℕ) → Sound o → InOrder o sent h
-    → length o.start + 1 + d ≤ length h
-    → (v : GroupView) × (view_of (take (length o.start + 1 + d) h) ≡ Some v) × IsFewInRoster o v
-view-few o sent h zero sound order l = (
-  record { age = o.age; number = 0; members = members_of o.members },
-  ap view_of first ∙ view_of-View o.start o.age 0 o.members,
-  record {
-    few = omega (arith, members_of-few o.members);
-    roster = λ s c. sound.members.within s (of-list o.members s c);
-  },
-)
-  where
-    first : take (length o.start + 1 + 0) h ≡ first_entries o
-    first = ap (λ n. take n h) (same (length o.start) (length (first_entries o))
-        (length-append o.start (View o.age 0 o.members ∷ [])))
-        ∙ ap (take (length (first_entries o))) (sym order.begins.1)
-        ∙ take_at (first_entries o) order.begins.0 (length (first_entries o)) refl
-      where
-        same : (n m : ℕ) → m ≡ n + 1 → n + 1 + 0 ≡ m
-        same n m e = omega (arith, e)
-view-few o sent h (suc d) sound order l =
-    next (view-few o sent h d sound order (omega (arith, l)))
-    (slice_get-some h (length o.start + 1 + d) (omega (arith, l)))
-  where
-    n : ℕ
-    n = length o.start + 1 + d
-
-    place : length o.start + 1 + suc d ≡ length o.start + 1 + d + 1
-    place = omega arith
-
-    follow : (v : GroupView) (a k m : ℕ) → IsFewInRoster o v → MayFollow v a k m
-        → IsFewInRoster o (record { age = a; number = k; members = members_of m })
-    follow v a k m old f = record {
-      few = omega (arith, old.few, f.next_number, f.fewer);
-      roster = λ s c. old.roster s (All-contains (λ x. Contains v.members x) (members_of m) s f.part c);
-    }
-
-    next : (v : GroupView) × (view_of (take (length o.start + 1 + d) h) ≡ Some v) × IsFewInRoster o v
-        → (e : Entry) × (slice_get h (length o.start + 1 + d) ≡ Some e)
-        → (v : GroupView) × (view_of (take (length o.start + 1 + suc d) h) ≡ Some v) × IsFewInRoster o v
-    next r (View a k m, at) = (
-      record { age = a; number = k; members = members_of m },
-      ap (λ j. view_of (take j h)) place
-          ∙ (ap view_of (take-next h n (View a k m) at) ∙ view_of-View (take n h) a k m),
-      follow r.0 a k m r.2 (IsSomeAnd-at (view_of (take n h)) (λ v. IsSucceededBy v a k m) r.0 r.1
-          (order.views n a k m (omega arith) at)).follows,
-    )
-    next r (Msg s j b, at) = (
-      r.0,
-      ap (λ j. view_of (take j h)) place
-          ∙ (ap view_of (take-next h n (Msg s j b) at) ∙ (view_of-Msg (take n h) s j b ∙ r.1)),
-      r.2,
-    )
-
--- so the last view of a history in order has a number among those of an age
-pub last-few : (o : Opening) (sent : Sent) (h : List Entry) (v : GroupView) → Sound o → InOrder o sent h
-    → view_of h ≡ Some v → v.number + length v.members ≤ 16
-last-few o sent h v sound order is = subst (λ (u : GroupView). u.number + length u.members ≤ 16)
-    (same_Some r.0 v (sym r.1 ∙ (ap view_of all ∙ is))) r.2.few
-  where
-    within : length o.start + 1 ≤ length h
-    within = omega (
-      arith,
-      ap length order.begins.1,
-      length-append (first_entries o) order.begins.0,
-      length-append o.start (View o.age 0 o.members ∷ []),
-    )
-
-    place : length o.start + 1 + (length h - (length o.start + 1)) ≡ length h
-    place = omega (arith, within)
-
-    r : (u : GroupView) × (view_of (take (length o.start + 1 + (length h - (length o.start + 1))) h) ≡ Some u)
-        × IsFewInRoster o u
-    r = view-few o sent h (length h - (length o.start + 1)) sound order (omega (arith, place))
-
-    all : take (length o.start + 1 + (length h - (length o.start + 1))) h ≡ h
-    all = ap (λ j. take j h) place ∙ take_all (length h) h (omega arith)
-
--- so each View behind it may stand
-view-stands : (o : Opening) (sent : Sent) (h : List Entry) (i a k m : ℕ) → Sound o → InOrder o sent h
-    → length o.start < i → slice_get h i ≡ Some (View a k m) → MayStand o (take i h) (View a k m)
-view-stands o sent h i a k m sound order after at = (
-  record {
-    some = above-none m f.some;
-    within = λ s h. r.2.roster s (All-contains (λ x. Contains r.0.members x) (members_of m) s f.part
-        (in-list m s f.numbers h));
-  },
-  inr (subst (λ z. IsSomeAnd z (λ v. ContinuesAge v a k m)) (sym here) (record {
-    same_age = f.same_age;
-    next_number = f.next_number;
-    other = λ e. omega (arith, f.fewer, ap length e);
-    numbers = (omega (arith, r.2.few, f.next_number, f.fewer), f.numbers);
-  })),
-)
-  where
-    d : ℕ
-    d = i - (length o.start + 1)
-
-    place : length o.start + 1 + (i - (length o.start + 1)) ≡ i
-    place = omega (arith, after)
-
-    r : (v : GroupView) × (view_of (take (length o.start + 1 + (i - (length o.start + 1))) h) ≡ Some v)
-        × IsFewInRoster o v
-    r = view-few o sent h (i - (length o.start + 1)) sound order
-        (omega (arith, place, slice_get_within h i (View a k m) at))
-
-    here : view_of (take i h) ≡ Some r.0
-    here = ap (λ j. view_of (take j h)) (sym place) ∙ r.1
-
-    f : MayFollow r.0 a k m
-    f = (IsSomeAnd-at (view_of (take i h)) (λ v. IsSucceededBy v a k m) r.0 here
-        (order.views i a k m after at)).follows
-
 -- ---- histories
 
 -- each entry of a history in order may stand: those of the start, View 0, and those behind it
@@ -239,7 +94,12 @@ history-stands o sent h sound order i e at = by (apart i (length o.start))
     starts = (first ∷ order.begins.0, sym (append_assoc o.start (first ∷ []) order.begins.0) ∙ order.begins.1)
 
     behind : (x : Entry) → slice_get h i ≡ Some x → length o.start < i → MayStand o (take i h) x
-    behind (View a n m) is more = view-stands o sent h i a n m sound order more is
+    behind (View a n m) is more = by (view_of (take i h)) (order.views i a n m more is)
+      where
+        by : (z : Option GroupView) → IsSomeAnd z (λ v. IsSucceededBy o (take i h) v a n m)
+            → AreOfRoster (length o.messages) m × (Opens z a n ⊎ IsSomeAnd z (λ v. ContinuesAge v a n m))
+        by None goes = absurd goes
+        by (Some v) goes = (goes.roster, inr goes.follows)
     behind (Msg s k b) is more = (
       place-member sent (view_of (take i h)) s k b
           (ap (λ z. is_some (option_and_then (place_of_entry sent (view_of (take i h))) z)) (sym is)

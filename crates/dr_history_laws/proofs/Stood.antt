@@ -12,7 +12,8 @@ use Rattle.dr_history.specs.declared.opening.Opening.{Opening}
 use Rattle.dr_history.specs.History.{GroupView, view_of}
 use Rattle.dr_history.specs.Members.{has, members_below, members_of}
 use Rattle.dr_history.specs.Restarting.{AllStand}
-use Rattle.dr_history.specs.Soundness.{AreOfRoster, ContinuesAge, MayStand}
+use Rattle.dr_history.specs.Soundness.{MayStand}
+use Rattle.dr_history.specs.Order.{AreOfRoster, ContinuesAge}
 use Rattle.dr_history.proofs.Following.{view_of-nil}
 use Rattle.dr_history.proofs.ViewLemmas.{view_of-View, view_of-Msg}
 use Rattle.dr_history_laws.proofs.Lists.{slice_get-some, take-next}

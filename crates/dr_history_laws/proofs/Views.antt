@@ -6,10 +6,10 @@ use Rattle.dr_entry.specs.declared.entry.Entry.TheVariants.{View, Msg}
 use Rattle.dr_history.specs.declared.opening.Opening.{Opening}
 use Rattle.dr_history.specs.Members.{members_of}
 use Rattle.dr_history.specs.History.{IsPrefixOf, GroupView, Sent, view_of}
-use Rattle.dr_history.specs.Order.{InOrder, IsSucceededBy, MayFollow}
+use Rattle.dr_history.specs.Order.{ContinuesAge, InOrder, IsSucceededBy}
 use Rattle.dr_history.specs.Agreement.{SamePast}
 use Rattle.dr_history.specs.Restarting.{AllStand}
-use Rattle.dr_history.specs.Soundness.{ContinuesAge, Sound, MayStand}
+use Rattle.dr_history.specs.Soundness.{Sound, MayStand}
 use Rattle.dr_history.proofs.ViewLemmas.{view_of-View, view_of-Msg}
 use Rattle.dr_history_laws.proofs.Lists.{slice_get-some, slice_get-prefix, take-next, take-prefix, IsSomeAnd-at}
 use Rattle.dr_history_laws.proofs.LooseOrder.{InLooseOrder}
@@ -121,7 +121,7 @@ number_after o sent h i (suc d) u order l within e =
         → (x : Entry) × (slice_get h (i + d) ≡ Some x)
         → (w : GroupView) × (view_of (take (i + suc d) h) ≡ Some w) × (u.number ≤ w.number)
     next r (View a n m, at) =
-        let succeeded = IsSomeAnd-at (view_of (take (i + d) h)) (λ v. IsSucceededBy v a n m) r.0 r.1
+        let succeeded = IsSomeAnd-at (view_of (take (i + d) h)) (λ v. IsSucceededBy o (take (i + d) h) v a n m) r.0 r.1
         (order.views (i + d) a n m (omega arith) at) in (
           record { age = a; number = n; members = members_of m },
           ap (λ j. view_of (take j h)) place
@@ -146,7 +146,7 @@ number-before o sent h i j a n m u order l less at e =
     let r = number_after o sent h i (j - i) u order l
     (omega (arith, place, slice_get_within h j (View a n m) at)) e in
     let view : view_of (take j h) ≡ Some r.0 = ap (λ k. view_of (take k h)) (sym place) ∙ r.1 in
-    let succeeded = IsSomeAnd-at (view_of (take j h)) (λ v. IsSucceededBy v a n m) r.0 view
+    let succeeded = IsSomeAnd-at (view_of (take j h)) (λ v. IsSucceededBy o (take j h) v a n m) r.0 view
     (order.views j a n m (omega (arith, l, less)) at) in
     omega (arith, r.2, succeeded.follows.next_number)
 

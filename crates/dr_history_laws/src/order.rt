@@ -38,7 +38,7 @@ pub fn view_laws()
     ensures order { (o : Opening) (sent : Sent) (before : List Entry) (v : GroupView)
         → (taken : ℕ → ℕ) (age number mask : ℕ)
         → InOrder o sent before → EndsWithView before v → GoesOn o sent before v
-        → IsSucceededBy v age number mask
+        → IsSucceededBy o (before ++ merge o sent v (map taken v.members)) v age number mask
         → InOrder o sent
         ((before ++ merge o sent v (map taken v.members)) ++ View age number mask ∷ []) }
     ensures prefix { (o : Opening) (sent : Sent) (before : List Entry) (v : GroupView)
@@ -92,8 +92,8 @@ pub fn rest_law()
 {}
 
 /// Where an age starts soundly, what every history of it begins with is in order, whatever is sent.
-/// It ends with View 0, whose members are all of the roster. And the start is short: an age has at most
-/// 16 views, and a member at most 4096 messages.
+/// It ends with View 0, whose members are all of the roster where nobody is late. And the start is short: an age
+/// has at most 256 views, and a member at most 4096 messages.
 pub fn opening_laws()
     ensures order { (o : Opening) (sent : Sent) → Sound o → InOrder o sent (first_entries o) }
     ensures view { (o : Opening) → EndsWithView (first_entries o) (first_view o) }

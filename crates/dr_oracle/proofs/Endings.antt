@@ -1,5 +1,5 @@
 -- Members of a mask, and what the ends of an age tell of their logs.
-use Rattle.std.proofs.Common.{◌≡◌, ℕ, ◌^◌, ◌<◌, ◌≤◌, ◌⊎◌, inl, inr, Bool, true, Decides, All, List, [], drop, take, Option, None, Some, slice_get, length, arith, take-append-drop}
+use Rattle.std.proofs.Common.{◌≡◌, ℕ, ◌^◌, ◌<◌, ◌≤◌, ◌==◌, ◌⊎◌, inl, inr, Bool, true, false, ap, Decides, All, List, [], drop, take, Option, None, Some, slice_get, length, arith, take-append-drop}
 use Rattle.std.specs.Option.{option_map_or}
 use Rattle.std.proofs.lemmas.Nat.Bits.{bit_at_above}
 use Rattle.dr_entry.specs.declared.end.MemberEnd.{MemberEnd}
@@ -19,6 +19,10 @@ below_sixteen mask x n small all there = by (cases x)
     by : (x < 16) ⊎ (16 ≤ x) → x < n
     by (inl less) = omega (arith, less, all)
     by (inr more) = absurd (grind (arith, bit_at_above mask 16 x small more, there))
+
+-- and whoever is not below it is not in the mask
+pub none_above : (mask x : ℕ) → mask < 2 ^ 16 → 16 ≤ x → has mask x ≡ false
+none_above mask x small more = ap (λ n. n == 1) (bit_at_above mask 16 x small more)
 
 -- a log that holds the first entries of a history
 log_is_front : (end : Option MemberEnd)

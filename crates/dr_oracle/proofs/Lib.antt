@@ -1,3 +1,4 @@
+mod Durable
 mod Endings
 mod Lists
 mod Numbers

@@ -47,18 +47,19 @@ begins_decides start first h b at decides = (
 )
 
 -- the test of a View against the view before it decides whether it may succeed that
-pub follows_decides : (h : List Entry) (i a n m : ℕ) (v : GroupView) (b : Bool)
+pub follows_decides : (o : Opening) (h : List Entry) (i a n m : ℕ) (v : GroupView) (b : Bool)
     → slice_get h i ≡ Some (View a n m)
-    → view_of (take i h) ≡ Some v → Decides b (IsSucceededBy v a n m) → Decides b (Follows h i)
-follows_decides h i a n m v b at before decides = (
+    → view_of (take i h) ≡ Some v → Decides b (IsSucceededBy o (take i h) v a n m)
+    → Decides b (Follows o h i)
+follows_decides o h i a n m v b at before decides = (
   λ t age number members there. forward t age number members
       (same_Some (View a n m) (View age number members) (sym at ∙ there)),
-  λ f. decides.1 (subst (λ (o : Option GroupView). IsSomeAnd o (λ w. IsSucceededBy w a n m)) before
+  λ f. decides.1 (subst (λ (z : Option GroupView). IsSomeAnd z (λ w. IsSucceededBy o (take i h) w a n m)) before
       (f a n m at)),
 )
   where
     forward : b ≡ true → (age number members : ℕ) → View a n m ≡ View age number members
-        → IsSomeAnd (view_of (take i h)) (λ w. IsSucceededBy w age number members)
+        → IsSomeAnd (view_of (take i h)) (λ w. IsSucceededBy o (take i h) w age number members)
     forward t age number members same =
         let same_age : a ≡ age = cc in
         let same_number : n ≡ number = cc in
@@ -66,12 +67,12 @@ follows_decides h i a n m v b at before decides = (
         rw before (rw (← same_age, ← same_number, ← same_members) (decides.0 t))
 
 -- a View before which there is no view succeeds none
-pub follows_none : (h : List Entry) (i a n m : ℕ) → slice_get h i ≡ Some (View a n m)
-    → view_of (take i h) ≡ None → Decides false (Follows h i)
-follows_none h i a n m at before = (
+pub follows_none : (o : Opening) (h : List Entry) (i a n m : ℕ) → slice_get h i ≡ Some (View a n m)
+    → view_of (take i h) ≡ None → Decides false (Follows o h i)
+follows_none o h i a n m at before = (
   λ t. absurd (cc),
   λ f. absurd
-      (subst (λ (o : Option GroupView). IsSomeAnd o (λ w. IsSucceededBy w a n m)) before (f a n m at)),
+      (subst (λ (z : Option GroupView). IsSomeAnd z (λ w. IsSucceededBy o (take i h) w a n m)) before (f a n m at)),
 )
 
 -- an entry with a place is one of the history
@@ -86,7 +87,7 @@ place_at-within sent h i p at = by (slice_get h i) refl
 -- the parts of an order that its views and places are in, behind the first `start + 1` entries
 abbrev pub FrontParts : Opening → Sent → List Entry → ℕ → Type 0
 FrontParts o sent h start =
-    (IsPrefixOf (first_entries o) h × ViewsFollow h start) × (AllPlaced sent h start × PlacesRise sent h start)
+    (IsPrefixOf (first_entries o) h × ViewsFollow o h start) × (AllPlaced sent h start × PlacesRise sent h start)
 
 -- all parts of it
 abbrev pub Parts : Opening → Sent → List Entry → ℕ → Type 0

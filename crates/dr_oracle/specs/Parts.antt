@@ -7,16 +7,16 @@ use Rattle.dr_history.specs.History.{IsPrefixOf, GroupView, Sent, view_of, item_
 use Rattle.dr_history.specs.Order.{IsDelivered, IsSucceededBy, messages_from, numbered_messages}
 
 -- that the View at i is one by which the view before it may be succeeded
-abbrev pub Follows : List Entry → ℕ → Type 0
-Follows h i =
+abbrev pub Follows : Opening → List Entry → ℕ → Type 0
+Follows o h i =
     (age number members : ℕ) → slice_get h i ≡ Some (View age number members)
-    → IsSomeAnd (view_of (take i h)) (λ v. IsSucceededBy v age number members)
+    → IsSomeAnd (view_of (take i h)) (λ v. IsSucceededBy o (take i h) v age number members)
 
 -- each View behind the first `start + 1` entries is one by which the view before it may be succeeded
-abbrev pub ViewsFollow : List Entry → ℕ → Type 0
-ViewsFollow h start =
+abbrev pub ViewsFollow : Opening → List Entry → ℕ → Type 0
+ViewsFollow o h start =
     (i age number members : ℕ) → start < i → slice_get h i ≡ Some (View age number members)
-    → IsSomeAnd (view_of (take i h)) (λ v. IsSucceededBy v age number members)
+    → IsSomeAnd (view_of (take i h)) (λ v. IsSucceededBy o (take i h) v age number members)
 
 -- each message behind them was sent in the view in which it was delivered, by a member of it
 abbrev pub AllPlaced : Sent → List Entry → ℕ → Type 0

@@ -4,12 +4,12 @@ ghost use Rattle.dr_entry.specs.declared.entry.Entry.{Entry};
 ghost use Rattle.dr_entry.specs.declared.entry.Entry.TheVariants.{View};
 ghost use Rattle.dr_history.specs.Members.{has};
 ghost use Rattle.dr_history.specs.Agreement.{SamePast, KnowsDurable, EndsAgreed, accounts_of};
-ghost use Rattle.dr_oracle.specs.Agreeing.{AreConsistent, AgreesWithAll};
+ghost use Rattle.dr_oracle.specs.Agreeing.{AreConsistent, AgreesWithAll, HoldsLoggedView, IsInLoggedView, IsLoggedView};
 
 use crate::prefix::same_entries;
 use crate::{in_order, is_prefix};
 use dr_entry::{Entry, MAX_MEMBERS, MemberEnd};
-use dr_history::{Opening, has, view_of};
+use dr_history::{Opening, has, members_of, view_of};
 
 /// Whether entry `i` of one history and entry `j` of another, where they are Views of the same age
 /// and number, have the same members and the same entries before them.
@@ -113,16 +113,68 @@ fn all_have_logged(ends: &[MemberEnd], members: &[u8], durable: u64) -> bool
     true
 }
 
-/// Whether a member is in the view that its history is in, and what it knows to be durable stands on
-/// the log of each member of this view.
-fn knows_durable(ends: &[MemberEnd], member: u8) -> bool
-    ensures { IsTrue result ↔ KnowsDurable (accounts_of ends.now) member }
+/// Whether an entry is a View of this age each of whose members has so many entries on its log.
+fn is_logged_view(ends: &[MemberEnd], age: u16, entry: &Entry, durable: u64) -> bool
+    ensures { IsTrue result ↔ IsLoggedView (accounts_of ends.now) age durable entry.now }
 {
-    let Some(view) = view_of(history_of(ends, member)) else {
+    match entry {
+        Entry::View {
+            age: of,
+            members,
+            ..
+        } => *of == age && all_have_logged(ends, members_of(*members).as_slice(), durable),
+        Entry::Msg { .. } => false,
+    }
+}
+
+/// Whether a history holds such a View.
+fn has_logged_view(ends: &[MemberEnd], age: u16, history: &[Entry], durable: u64) -> bool
+    ensures { IsTrue result ↔ HoldsLoggedView (accounts_of ends.now) age durable history.now }
+{
+    for entry in history {
+        if is_logged_view(ends, age, entry, durable) {
+            return true;
+        }
+    }
+    false
+}
+
+/// Whether a history is in a view of this age that the member is in, and each member of it has so many entries
+/// on its log.
+fn is_in_logged_view(
+    ends: &[MemberEnd],
+    age: u16,
+    history: &[Entry],
+    member: u8,
+    durable: u64,
+) -> bool
+    ensures { IsTrue result ↔ IsInLoggedView (accounts_of ends.now) age durable history.now member }
+{
+    match view_of(history) {
+        Some(view) => {
+            view.age() == age
+                && view.members().contains(&member)
+                && all_have_logged(ends, view.members(), durable)
+        }
+        None => false,
+    }
+}
+
+/// Whether what a member knows to be durable stands on its own log, and on the log of each member of some view
+/// of the age in its history; where nobody is late, of the view that it is in.
+fn knows_durable(opening: &Opening, ends: &[MemberEnd], member: u8) -> bool
+    ensures { IsTrue result ↔ KnowsDurable opening.now (accounts_of ends.now) member }
+{
+    let durable = durable_of(ends, member);
+    let history = history_of(ends, member);
+    if logged_by(ends, member) < durable {
         return false;
-    };
-    view.members().contains(&member)
-        && all_have_logged(ends, view.members(), durable_of(ends, member))
+    }
+    if opening.members == opening.present {
+        is_in_logged_view(ends, opening.age, history, member, durable)
+    } else {
+        has_logged_view(ends, opening.age, history, durable)
+    }
 }
 
 /// Whether a member isn't there, or its history may stand beside this one.
@@ -155,7 +207,7 @@ fn agrees(opening: &Opening, ends: &[MemberEnd], member: u8) -> bool
     if !in_order(opening, ends, history) {
         return false;
     }
-    is_consistent_with_all(opening.present, ends, history) && knows_durable(ends, member)
+    is_consistent_with_all(opening.present, ends, history) && knows_durable(opening, ends, member)
 }
 
 /// Whether a member isn't there, or agrees with all that are.

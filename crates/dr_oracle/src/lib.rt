@@ -10,6 +10,7 @@ mod order;
 mod places;
 mod prefix;
 mod sent;
+mod succession;
 
 pub use agreement::agreed;
 pub use delivery::{item_at, merge, place_at};

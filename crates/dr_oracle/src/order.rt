@@ -5,11 +5,12 @@ ghost use Rattle.dr_history.specs.Order.{InOrder, IsDelivered, first_entries, me
 ghost use Rattle.dr_oracle.specs.Parts.{AllNumbered, AllPlaced, Follows, LastViewWhole, PlacesRise, ViewsFollow};
 
 use crate::sent::messages_of;
+use crate::succession::may_be_succeeded_by;
 use crate::{is_prefix, item_at, place_at};
 use dr_entry::{Entry, MemberEnd, Message, SentItem};
 use dr_history::{GroupView, Opening, view_of};
 
-/// Whether a history begins with the start, followed by View 0 of all members.
+/// Whether a history begins with the start, followed by View 0 of the members with which the age opens.
 fn begins(opening: &Opening, history: &[Entry]) -> bool
     ensures { IsTrue result ↔ IsPrefixOf (first_entries opening.now) history.now }
 {
@@ -27,8 +28,8 @@ fn begins(opening: &Opening, history: &[Entry]) -> bool
 
 /// Whether entry `i` may stand in a history after its first entries: the view before a View may be
 /// succeeded by it.
-fn view_follows(history: &[Entry], i: usize) -> bool
-    ensures { IsTrue result ↔ Follows history.now i }
+fn view_follows(opening: &Opening, history: &[Entry], i: usize) -> bool
+    ensures { IsTrue result ↔ Follows opening.now history.now i }
 {
     let Some(
         Entry::View {
@@ -41,18 +42,20 @@ fn view_follows(history: &[Entry], i: usize) -> bool
         return true;
     };
     match view_of(&history[..i]) {
-        Some(view) => view.may_be_succeeded_by(*age, *number, *members),
+        Some(view) => {
+            may_be_succeeded_by(opening, &history[..i], &view, *age, *number, *members)
+        }
         None => false,
     }
 }
 
 /// Whether each View behind the first `start + 1` entries is one by which the view before it may be
 /// succeeded.
-fn views_follow(history: &[Entry], start: usize) -> bool
-    ensures { IsTrue result ↔ ViewsFollow history.now start }
+fn views_follow(opening: &Opening, history: &[Entry], start: usize) -> bool
+    ensures { IsTrue result ↔ ViewsFollow opening.now history.now start }
 {
     for i in 0..history.len() {
-        if start < i && !view_follows(history, i) {
+        if start < i && !view_follows(opening, history, i) {
             return false;
         }
     }
@@ -237,9 +240,9 @@ fn last_view_is_whole(ends: &[MemberEnd], history: &[Entry], start: usize) -> bo
 /// be succeeded.
 fn views_are_in_order(opening: &Opening, history: &[Entry], start: usize) -> bool
     ensures { IsTrue result
-        ↔ (IsPrefixOf (first_entries opening.now) history.now × ViewsFollow history.now start) }
+        ↔ (IsPrefixOf (first_entries opening.now) history.now × ViewsFollow opening.now history.now start) }
 {
-    begins(opening, history) && views_follow(history, start)
+    begins(opening, history) && views_follow(opening, history, start)
 }
 
 /// Whether each message behind the first `start + 1` entries has a place, and within a view these rise.

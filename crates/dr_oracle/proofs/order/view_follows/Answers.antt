@@ -13,7 +13,7 @@ returns-in-Some c =
     grind (arith, common_steps, gets) in
     let before : view_of (take c.args.i c.args.history.now)
     ≡ Some c.in-Some.view = grind (arith, common_steps) in
-    follows_decides c.args.history.now c.args.i c.in-Some-View.age c.in-Some-View.number
+    follows_decides c.args.opening.now c.args.history.now c.args.i c.in-Some-View.age c.in-Some-View.number
     c.in-Some-View.members c.in-Some.view c.may_be_succeeded_by.result at before
     c.may_be_succeeded_by.ensures
 
@@ -23,5 +23,5 @@ returns-in-None c =
     ≡ Some (View c.in-Some-View.age c.in-Some-View.number c.in-Some-View.members) =
     grind (arith, common_steps, gets) in
     let before : view_of (take c.args.i c.args.history.now) ≡ None = grind (arith, common_steps) in
-    follows_none c.args.history.now c.args.i c.in-Some-View.age c.in-Some-View.number c.in-Some-View.members
+    follows_none c.args.opening.now c.args.history.now c.args.i c.in-Some-View.age c.in-Some-View.number c.in-Some-View.members
     at before

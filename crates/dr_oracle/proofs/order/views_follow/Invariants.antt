@@ -8,4 +8,4 @@ abbrev pub invariant-loop-i : goal.invariant-loop-i
 invariant-loop-i l =
     (i : ℕ) → i < l.i → l.start < i → (age number members : ℕ)
     → slice_get l.history i ≡ Some (View age number members)
-    → IsSomeAnd (view_of (take i l.history)) (λ v. IsSucceededBy v age number members)
+    → IsSomeAnd (view_of (take i l.history)) (λ v. IsSucceededBy l.opening (take i l.history) v age number members)

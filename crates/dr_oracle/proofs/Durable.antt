@@ -1,0 +1,122 @@
+-- What a member knows to be durable, by the view that it is in and by a view that its history holds.
+use Rattle.std.proofs.Common.{◌≡◌, ◌⊎◌, inl, inr, sym, ap, ◌∙◌, subst, ℕ, suc, ◌≤◌, Bool, Decides, All, Contains, List, [], ◌∷◌, length, Option, None, Some, arith}
+use Rattle.std.proofs.lemmas.Option.{none-some, same_Some}
+use Rattle.dr_entry.specs.declared.entry.Entry.{Entry}
+use Rattle.dr_entry.specs.declared.entry.Entry.TheVariants.{View, Msg}
+use Rattle.dr_history.specs.declared.opening.Opening.{Opening}
+use Rattle.dr_history.specs.Agreement.{Accounts, KnowsDurable}
+use Rattle.dr_history.specs.History.{GroupView, view_after, view_of}
+use Rattle.dr_history.specs.Members.{members_of}
+use Rattle.dr_history.specs.Soundness.{IsNobodyLate}
+use Rattle.dr_oracle.specs.Agreeing.{HoldsLoggedView, IsInLoggedView}
+
+-- a view is that of a View among the entries
+record IsAmong (es : List Entry) (v : GroupView) : Type 0 where
+  mask : ℕ
+  view : Contains es (View v.age v.number mask)
+  members : members_of mask ≡ v.members
+
+-- and of one entry more
+later : (e : Entry) (es : List Entry) (v : GroupView) → IsAmong es v → IsAmong (e ∷ es) v
+later e es v a = record {
+  mask = a.mask;
+  view = (suc a.view.0, omega (arith, a.view.1), a.view.2);
+  members = a.members;
+}
+
+-- the view after some entries was there before, or is among them
+among : (u : Option GroupView) (es : List Entry) (v : GroupView) → view_after u es ≡ Some v
+    → (u ≡ Some v) ⊎ IsAmong es v
+unfolding view_after
+among u [] v is = inl is
+among u (View a n m ∷ es) v is =
+    by (among (Some (record { age = a; number = n; members = members_of m })) es v is)
+  where
+    by : (Some (record { age = a; number = n; members = members_of m }) ≡ Some v) ⊎ IsAmong es v
+        → (u ≡ Some v) ⊎ IsAmong (View a n m ∷ es) v
+    by (inl e) =
+        let same : record { age = a; number = n; members = members_of m } ≡ v = same_Some _ v e in
+        inr (record {
+          mask = m;
+          view = (0, omega arith, ap (λ (w : GroupView). View w.age w.number m) same);
+          members = ap (λ (w : GroupView). w.members) same;
+        })
+    by (inr found) = inr (later (View a n m) es v found)
+among u (Msg s k b ∷ es) v is = by (among u es v is)
+  where
+    by : (u ≡ Some v) ⊎ IsAmong es v → (u ≡ Some v) ⊎ IsAmong (Msg s k b ∷ es) v
+    by (inl e) = inl e
+    by (inr found) = inr (later (Msg s k b) es v found)
+
+-- so the view that a history is in is among its entries
+last_among : (h : List Entry) (v : GroupView) → view_of h ≡ Some v → IsAmong h v
+last_among h v is = by (among None h v is)
+  where
+    by : (None ≡ Some v) ⊎ IsAmong h v → IsAmong h v
+    by (inl e) = absurd (none-some v e)
+    by (inr found) = found
+
+-- whether a history is in a logged view of the age with the member is decided by its last view
+pub last_decides : (accounts : Accounts) (age durable i : ℕ) (h : List Entry) (v : GroupView) (b : Bool)
+    → view_of h ≡ Some v → v.age ≡ age → Contains v.members i
+    → Decides b (All (λ j. durable ≤ length (accounts j).log) v.members)
+    → Decides b (IsInLoggedView accounts age durable h i)
+last_decides accounts age durable i h v b is same there decides = (
+  λ t. let found = last_among h v is in (
+    v.number,
+    found.mask,
+    is ∙ ap Some (view found.mask found.members),
+    subst (λ (xs : List ℕ). Contains xs i) (sym found.members) there,
+    subst (λ (xs : List ℕ). All (λ j. durable ≤ length (accounts j).log) xs) (sym found.members)
+        (decides.0 t),
+  ),
+  λ p. decides.1 (subst (λ (w : GroupView). All (λ j. durable ≤ length (accounts j).log) w.members)
+      (sym (same_Some _ _ (sym is ∙ p.2))) p.4),
+)
+  where
+    view : (mask : ℕ) → members_of mask ≡ v.members
+        → v ≡ record { age = age; number = v.number; members = members_of mask }
+    view mask e =
+        ap (λ (n : ℕ). record { age = n; number = v.number; members = v.members }) same
+        ∙ ap (λ (xs : List ℕ). record { age = age; number = v.number; members = xs }) (sym e)
+
+-- where nobody is late, a member is to be in a logged view
+pub prompt_decides : (o : Opening) (accounts : Accounts) (i : ℕ) (b : Bool) → IsNobodyLate o
+    → (accounts i).durable ≤ length (accounts i).log
+    → Decides b (IsInLoggedView accounts o.age (accounts i).durable (accounts i).history i)
+    → Decides b (KnowsDurable o accounts i)
+prompt_decides o accounts i b prompt own decides = (
+  λ t. let p = decides.0 t in
+      let v : GroupView = record { age = o.age; number = p.0; members = members_of p.1 } in
+      let found = last_among (accounts i).history v p.2 in record {
+        own = own;
+        number = p.0;
+        members = found.mask;
+        view = found.view;
+        logged = subst (λ (xs : List ℕ). All (λ j. (accounts i).durable ≤ length (accounts j).log) xs)
+            (sym found.members) p.4;
+        last = λ _. (
+          p.2 ∙ ap (λ (xs : List ℕ). Some (record { age = o.age; number = p.0; members = xs }))
+              (sym found.members),
+          subst (λ (xs : List ℕ). Contains xs i) (sym found.members) p.3,
+        );
+      },
+  λ k. decides.1 (k.number, k.members, (k.last prompt).0, (k.last prompt).1, k.logged),
+)
+
+-- where somebody is late, its history is to hold one
+pub late_decides : (o : Opening) (accounts : Accounts) (i : ℕ) (b : Bool) → (IsNobodyLate o → ⊥)
+    → (accounts i).durable ≤ length (accounts i).log
+    → Decides b (HoldsLoggedView accounts o.age (accounts i).durable (accounts i).history)
+    → Decides b (KnowsDurable o accounts i)
+late_decides o accounts i b late own decides = (
+  λ t. let p = decides.0 t in record {
+    own = own;
+    number = p.0;
+    members = p.1;
+    view = p.2;
+    logged = p.3;
+    last = λ prompt. absurd (late prompt);
+  },
+  λ k. decides.1 (k.number, k.members, k.view, k.logged),
+)
