@@ -8,7 +8,7 @@ use Rattle.dr_machine.proofs.Events.{Standing, standing, standing_after}
 use Rattle.dr_machine.specs.Acts.{CanTake, effect_of}
 use Rattle.dr_machine.specs.declared.step.Step.{Step}
 use Rattle.dr_machine.specs.Group.{Group}
-use Rattle.dr_machine.specs.Guards.{IsDue, IsFault}
+use Rattle.dr_machine.specs.Guards.{IsDue, IsFault, IsInView}
 use Rattle.dr_machine.specs.World.{World}
 use Rattle.dr_machine.specs.Writes.{at}
 
@@ -19,9 +19,9 @@ pub record IsStill (w : World) (x : Standing) (k : ℕ) : Type 0 where
   pub suspects : x.suspected k ≡ w.suspects k
   pub committed : x.committed k ≡ w.committed k
 
--- it had ended so before, or ends so now, where that is due or by a fault
+-- it had ended so before, or ends so now, where that is due to it in its view or by a fault
 abbrev pub EndsSo : World → ℕ → End → Type 0
-EndsSo w k end = (w.end k ≡ Some end) ⊎ (IsDue w k end ⊎ IsFault end)
+EndsSo w k end = (w.end k ≡ Some end) ⊎ ((IsInView w k × IsDue w k end) ⊎ IsFault end)
 
 -- who has ended so after a step stood before it as it does then, and had ended so or ends so now
 pub ended_so : (g : Group) (w : World) (m : ℕ) (s : Step) (k : ℕ) (end : End) → CanTake g w m s
@@ -30,6 +30,15 @@ pub ended_so : (g : Group) (w : World) (m : ℕ) (s : Step) (k : ℕ) (end : End
 ended_so g w m s k end can = standing_after g w m s
     (λ x. x.end k ≡ Some end → IsStill w x k × EndsSo w k end) can (record {
       goes_on = λ can e. let d = apart can.may.alive.running e in (
+        record {
+          view = grind (arith, d);
+          members = grind (arith, d);
+          suspects = grind (arith, d);
+          committed = grind (arith, d);
+        },
+        inl e,
+      );
+      joins = λ can e. let d = apart can.may.alive.running e in (
         record {
           view = grind (arith, d);
           members = grind (arith, d);
@@ -59,10 +68,10 @@ ended_so g w m s k end can = standing_after g w m s
     written : (f : ℕ → Option End) (now : End) → k ≡ m → at f m (Some now) k ≡ Some now
     written f now same = grind (arith, same)
 
-    by : (now : End) → IsDue w m now ⊎ IsFault now → (k ≡ m) ⊎ (k ≢ m)
+    by : (now : End) → (IsInView w m × IsDue w m now) ⊎ IsFault now → (k ≡ m) ⊎ (k ≢ m)
         → at w.end m (Some now) k ≡ Some end → EndsSo w k end
     by now why (inl same) e =
         let is : now ≡ end = same_Some now end (sym (written w.end now same) ∙ e) in
-        inr (subst (λ x. IsDue w k x ⊎ IsFault x) is
-        (subst (λ i. IsDue w i now ⊎ IsFault now) (sym same) why))
+        inr (subst (λ x. (IsInView w k × IsDue w k x) ⊎ IsFault x) is
+        (subst (λ i. (IsInView w i × IsDue w i now) ⊎ IsFault now) (sym same) why))
     by now why (inr d) e = inl (grind (arith, d, e))

@@ -1,14 +1,14 @@
 -- The event that a step of a member is: of that member, and that step of it. And which few steps change how
 -- the members stand, what they have put and delivered, and who shows done.
-use Rattle.std.proofs.Common.{◌≡◌, ◌∙◌, ◌⊎◌, ap, refl, inl, inr, ℕ, ◌+◌, arith, List, [], ◌∷◌, ◌++◌}
-use Rattle.std.specs.Prelude.{Option}
+use Rattle.std.proofs.Common.{◌≡◌, ◌∙◌, ◌⊎◌, ap, refl, subst, sym, inl, inr, ℕ, ◌+◌, arith, List, [], ◌∷◌, ◌++◌}
+use Rattle.std.specs.Prelude.{Option, unwrap_or}
 use Rattle.dr_entry.specs.declared.end.End.{End}
 use Rattle.dr_entry.specs.declared.end.SentItem.{SentItem}
 use Rattle.dr_entry.specs.declared.end.SentItem.TheVariants as sent_items
 use Rattle.dr_entry.specs.declared.entry.Entry.{Entry}
 use Rattle.dr_entry.specs.declared.entry.Item.{Item}
 use Rattle.dr_entry.specs.declared.record.Value.{Value}
-use Rattle.dr_history.specs.History.{Sent}
+use Rattle.dr_history.specs.History.{Sent, last_view}
 use Rattle.dr_words.proofs.Rewrites.{accepted_rest, wedged_rest}
 use Rattle.dr_ring.specs.Pieces.{pieces}
 use Rattle.dr_ring.specs.Slots.{slot_column}
@@ -18,11 +18,11 @@ use Rattle.dr_machine.specs.Acts.{CanDo, CanTake, does, effect_of}
 use Rattle.dr_machine.specs.declared.event.Act.{Act}
 use Rattle.dr_machine.specs.declared.event.Act.TheVariants as acts
 use Rattle.dr_machine.specs.declared.step.Step.{Step}
-use Rattle.dr_machine.specs.declared.step.Step.TheVariants.{Do}
-use Rattle.dr_machine.specs.Effects.{accepts, commits, delivers, ends, finishes, gains, marks, next_item, one_more, puts, reports, row_with, stamped, stamped_in, suspects}
+use Rattle.dr_machine.specs.declared.step.Step.TheVariants.{Do, Join, Welcome}
+use Rattle.dr_machine.specs.Effects.{accepts, commits, delivers, ends, finishes, gains, joins, marks, next_item, one_more, puts, reports, row_with, stamped, stamped_in, suspects, welcomes}
 use Rattle.dr_machine.specs.Events.{event_of, member_of, step_of}
 use Rattle.dr_machine.specs.Group.{Group, roster}
-use Rattle.dr_machine.specs.Guards.{CanCommit, CanDeliver, CanFinish, CanMark, CanNull, CanReport, CanSend, CanSuspect, IsDue, IsFault, IsRunning, next_index}
+use Rattle.dr_machine.specs.Guards.{CanCommit, CanDeliver, CanFinish, CanJoin, CanMark, CanNull, CanReport, CanSend, CanSuspect, CanWelcome, IsDue, IsFault, IsInView, IsRunning, next_index}
 use Rattle.dr_machine.specs.World.{World, items_received}
 use Rattle.dr_machine.specs.Writes.{at, at₂}
 
@@ -59,12 +59,14 @@ standing w = record {
 }
 
 -- what P has to hold of, to hold of how they stand after any step of m: after those by which it goes on in
--- the next view, commits, suspects another or ends, and of how they stand before, since no other changes that
+-- the next view, joins, commits, suspects another or ends, and of how they stand before, since no other changes that
 pub record StandingCases (g : Group) (w : World) (m : ℕ) (P : Standing → Type 0) : Type 0 where
   pub goes_on : CanFinish g w m → P (standing (finishes g w m))
   pub chooses : CanCommit g w m → P (standing (commits w m))
   pub wedges : (j : ℕ) → CanSuspect g w m j → P (standing (suspects g w m j))
-  pub stops : (end : End) → IsRunning g w m → IsDue w m end ⊎ IsFault end → P (standing (ends w m end))
+  pub joins : CanJoin g w m → P (standing (joins w m))
+  pub stops : (end : End) → IsRunning g w m → (IsInView w m × IsDue w m end) ⊎ IsFault end
+      → P (standing (ends w m end))
   pub stays : P (standing w)
 
 pub standing_after : (g : Group) (w : World) (m : ℕ) (s : Step) (P : Standing → Type 0) → CanTake g w m s
@@ -72,9 +74,10 @@ pub standing_after : (g : Group) (w : World) (m : ℕ) (s : Step) (P : Standing 
 standing_after g w m (Do acts.Finish) P can cases = cases.goes_on can
 standing_after g w m (Do acts.Commit) P can cases = cases.chooses can
 standing_after g w m (Do (acts.Suspect j)) P can cases = cases.wedges j can
-standing_after g w m (Do (acts.Halt end)) P can cases = cases.stops end can.may.alive (inl can.due)
+standing_after g w m (Do (acts.Halt end)) P can cases = cases.stops end can.may.alive (inl (can.may.inside, can.due))
 standing_after g w m (Do (acts.Crash end)) P can cases = cases.stops end can.alive (inr can.fault)
 standing_after g w m (Do a) P can cases = cases.stays
+standing_after g w m Join P can cases = cases.joins can
 standing_after g w m s P can cases = cases.stays
 
 -- ---- what the members have put and delivered
@@ -105,7 +108,7 @@ IsNextItem g w m (sent_items.Index i) = CanSend g w m × (i ≡ next_index w m)
 IsNextItem g w m sent_items.Null = CanNull g w m
 
 -- what P has to hold of, to hold of that after any step of m: after those by which it puts an item, delivers
--- a place, knows more to be durable or goes on in the next view, and of what is so before
+-- a place, knows more to be durable, goes on in the next view or joins, and of what is so before
 pub record ProgressCases (g : Group) (w : World) (m : ℕ) (P : Progress → Type 0) : Type 0 where
   pub puts_item : (name : SentItem) → IsNextItem g w m name
       → P (record (progress w) {
@@ -114,6 +117,7 @@ pub record ProgressCases (g : Group) (w : World) (m : ℕ) (P : Progress → Typ
   pub delivers_place : CanDeliver g w m → P (progress (delivers w m))
   pub knows_more : CanReport g w m → P (progress (reports w m))
   pub goes_on : CanFinish g w m → P (progress (finishes g w m))
+  pub joins : CanJoin g w m → P (progress (joins w m))
   pub stays : P (progress w)
 
 pub progress_after : (g : Group) (w : World) (m : ℕ) (s : Step) (P : Progress → Type 0) → CanTake g w m s
@@ -125,7 +129,47 @@ progress_after g w m (Do acts.Deliver) P can cases = cases.delivers_place can
 progress_after g w m (Do acts.Report) P can cases = cases.knows_more can
 progress_after g w m (Do acts.Finish) P can cases = cases.goes_on can
 progress_after g w m (Do a) P can cases = cases.stays
+progress_after g w m Join P can cases = cases.joins can
 progress_after g w m s P can cases = cases.stays
+
+-- ---- letters
+
+-- no act gives one
+act_letters : (g : Group) (w : World) (m : ℕ) (a : Act) → (does g w m a).letter ≡ w.letter
+act_letters g w m acts.Beat = refl
+act_letters g w m a = refl
+
+-- what P has to hold of, to hold of the letters after any step of m: after a welcome, and of those before
+pub letters_after : (g : Group) (w : World) (m : ℕ) (s : Step) (P : (ℕ → Option (List Entry)) → Type 0)
+    → CanTake g w m s → ((j : ℕ) → CanWelcome g w m j → P (welcomes w m j).letter) → P w.letter
+    → P (effect_of g w m s).letter
+letters_after g w m (Welcome j) P can given same = given j can
+letters_after g w m (Do a) P can given same = subst P (sym (act_letters g w m a)) same
+letters_after g w m s P can given same = same
+
+-- the letters so far, and who has given them, in which view
+pub record Letters : Type 0 where
+  pub view : ℕ → ℕ
+  pub given : ℕ → ℕ
+  pub letter : ℕ → Option (List Entry)
+
+abbrev pub letters : World → Letters
+letters w = record { view = w.past.view; given = w.given; letter = w.letter }
+
+-- what P has to hold of, to hold of that after any step of m
+pub record LetterCases (g : Group) (w : World) (m : ℕ) (P : Letters → Type 0) : Type 0 where
+  pub gives : (j : ℕ) → CanWelcome g w m j → P (letters (welcomes w m j))
+  pub goes_on : CanFinish g w m → P (letters (finishes g w m))
+  pub joins : CanJoin g w m → P (letters (joins w m))
+  pub stays : P (letters w)
+
+pub given_after : (g : Group) (w : World) (m : ℕ) (s : Step) (P : Letters → Type 0) → CanTake g w m s
+    → LetterCases g w m P → P (letters (effect_of g w m s))
+given_after g w m (Do acts.Finish) P can cases = cases.goes_on can
+given_after g w m (Do a) P can cases = cases.stays
+given_after g w m (Welcome j) P can cases = cases.gives j can
+given_after g w m Join P can cases = cases.joins can
+given_after g w m s P can cases = cases.stays
 
 -- ---- who shows done
 
@@ -189,4 +233,6 @@ marks_or_leaves g w m (Do a) can = by (does_mark g w m a can)
         ⊎ AreDoneAs w (effect_of g w m (Do a))
     by (inl t) = inl (t.0, ap (λ u. stamped_in u m (w.past.view m)) t.1)
     by (inr same) = inr (stamped_done w (does g w m a) m (w.past.view m) same)
+marks_or_leaves g w m Join can =
+    inr (row_same w.past.own m (last_view (0, 0) (unwrap_or (w.letter m) [])).0 _ refl)
 marks_or_leaves g w m s can = inr (λ k v. refl)

@@ -8,8 +8,8 @@ use Rattle.dr_machine.specs.declared.event.Event.{Event}
 use Rattle.dr_machine.specs.Events.{member_of, step_of}
 use Rattle.dr_machine.specs.Group.{Group}
 use Rattle.dr_machine.specs.World.{World}
-use Rattle.dr_machine.specs.Guards.{CanBeat, CanLook, CanPush, CanSend, CanNull, CanReceive, CanDeliver, CanAppend, CanPublish, CanReport, CanMark, CanSuspect, CanLogVote, CanPropose, CanAccept, CanCommit, CanHalt, CanCrash, CanFinish}
-use Rattle.dr_machine.specs.Effects.{beats, looks, pushes, sends, nulls, receives, delivers, appends, publishes, reports, marks, suspects, logs_vote, accepts, commits, ends, stamped_in, finishes}
+use Rattle.dr_machine.specs.Guards.{CanBeat, CanLook, CanPush, CanSend, CanNull, CanReceive, CanDeliver, CanAppend, CanPublish, CanReport, CanMark, CanSuspect, CanLogVote, CanPropose, CanAccept, CanCommit, CanHalt, CanCrash, CanFinish, CanJoin, CanWelcome}
+use Rattle.dr_machine.specs.Effects.{beats, looks, pushes, sends, nulls, receives, delivers, appends, publishes, reports, marks, suspects, logs_vote, accepts, commits, ends, stamped_in, finishes, joins, welcomes}
 
 -- the act may come
 abbrev pub CanDo : Group → World → ℕ → Act → Type 0
@@ -36,6 +36,8 @@ CanTake g w m (steps.Look i c) = CanLook g w m i c
 CanTake g w m (steps.Push j c) = CanPush g w m j c
 CanTake g w m steps.Append = CanAppend g w m
 CanTake g w m (steps.LogVote v) = CanLogVote g w m v
+CanTake g w m (steps.Welcome j) = CanWelcome g w m j
+CanTake g w m steps.Join = CanJoin g w m
 
 -- the event may come
 abbrev pub Guard : Group → World → Event → Type 0
@@ -66,6 +68,8 @@ effect_of g w m (steps.Look i c) = looks w m i c
 effect_of g w m (steps.Push j c) = pushes w m j c
 effect_of g w m steps.Append = appends w m
 effect_of g w m (steps.LogVote v) = logs_vote g w m v
+effect_of g w m (steps.Welcome j) = welcomes w m j
+effect_of g w m steps.Join = joins w m
 
 -- what the event makes of the world
 abbrev pub effect : Group → World → Event → World

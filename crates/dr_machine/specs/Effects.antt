@@ -11,13 +11,13 @@ use Rattle.dr_entry.specs.declared.end.SentItem.TheVariants as sent_items
 use Rattle.dr_entry.specs.declared.end.SentItem.TheVariants.{Index}
 use Rattle.dr_entry.specs.declared.record.Vote.{Vote}
 use Rattle.dr_history.specs.Places.{front_of, rest_places}
-use Rattle.dr_history.specs.History.{messages_of}
+use Rattle.dr_history.specs.History.{last_view, messages_of, up_to_view}
 use Rattle.dr_history.specs.Order.{messages_from}
 use Rattle.dr_ring.specs.Pieces.{pieces}
 use Rattle.dr_ring.specs.Slots.{slot_column, item_in}
 use Rattle.dr_words.specs.declared.column.TheConstants.{BEAT_COLUMN, RECEIVED_COLUMN, LOGGED_COLUMN, DONE_COLUMN}
 use Rattle.dr_words.specs.Columns.{recv_column}
-use Rattle.dr_words.specs.Masks.{least_of, with_member, without}
+use Rattle.dr_words.specs.Masks.{least_of, next_members, with_member, without}
 use Rattle.dr_words.specs.Packing.{ring_word, recv_word}
 use Rattle.dr_words.specs.Rewrites.{accepted_word, wedged_word}
 use Rattle.dr_machine.specs.Writes.{at, at₂, at₃, at₄}
@@ -156,8 +156,8 @@ reports w m = record w {
 abbrev pub marks : World → ℕ → World
 marks w m = with_own w m DONE_COLUMN 1
 
--- m suspects j: it receives and sends no more in its view, and promises to accept what the least member that
--- it doesn't suspect proposes
+-- m suspects or wishes for j: it receives and sends no more in its view, and promises to accept what the least
+-- member that it doesn't suspect proposes
 abbrev pub suspects : Group → World → ℕ → ℕ → World
 suspects g w m j =
     let v = w.past.view m in
@@ -209,39 +209,57 @@ abbrev pub counts_by : World → ℕ → Value → List ℕ
 counts_by w m value = map (λ s. slice_index value.trim s) (view_members w m)
 
 -- the history of m as it ends its view with a value: the rest of the merge is delivered, place by place, and
--- behind it stands the View of those that remain
+-- behind it stands the View of the members that come of this one
 abbrev pub finished_history : Group → World → ℕ → Value → List Entry
 finished_history g w m value =
     fold (with_place w m) (w.past.history m) (rest_places (counts_by w m value) (w.next m))
-    ++ View g.opening.age (w.past.view m + 1) (without (w.members m) value.leavers) ∷ []
+    ++ View g.opening.age (w.past.view m + 1) (next_members (w.members m) value.leavers) ∷ []
 
--- m ends its view with a value, and goes on in the next one, where all is as at the beginning of a view: it
+-- m goes on in a view of these members with this history, and all is as at the beginning of a view: it
 -- suspects nobody, has accepted and committed nothing, and has no items and no words of others. Its own
 -- words, counts and sent items of that view are none yet, as it has never written there. It puts its
 -- messages from the first one on that its history lacks
+abbrev pub enters : World → ℕ → ℕ → ℕ → List Entry → World
+enters w m v members history = record w {
+  past = record w.past {
+    view = at w.past.view m v;
+    own = at₃ w.past.own m v LOGGED_COLUMN (length (w.past.log m));
+    history = at w.past.history m history;
+  };
+  members = at w.members m members;
+  came_from = at w.came_from m (w.members m);
+  given = at w.given m 0;
+  suspects = at w.suspects m 0;
+  promise = at w.promise m 0;
+  tag = at w.tag m 0;
+  value = at w.value m no_value;
+  committed = at w.committed m None;
+  item = at w.item m (λ s k. Null);
+  next = at w.next m 0;
+  base = at w.base m (length (messages_from m history));
+  seen = at w.seen m (λ i c. 0);
+}
+
+-- m ends its view with a value, and goes on in the next one
 abbrev pub finishes_by : Group → World → ℕ → Value → World
-finishes_by g w m value =
-    let v = w.past.view m + 1 in
-    let history = finished_history g w m value in record w {
-      past = record w.past {
-        view = at w.past.view m v;
-        own = at₃ w.past.own m v LOGGED_COLUMN (length (w.past.log m));
-        history = at w.past.history m history;
-      };
-      members = at w.members m (without (w.members m) value.leavers);
-      suspects = at w.suspects m 0;
-      promise = at w.promise m 0;
-      tag = at w.tag m 0;
-      value = at w.value m no_value;
-      committed = at w.committed m None;
-      item = at w.item m (λ s k. Null);
-      next = at w.next m 0;
-      base = at w.base m (length (messages_from m history));
-      seen = at w.seen m (λ i c. 0);
-    }
+finishes_by g w m value = enters w m (w.past.view m + 1) (next_members (w.members m) value.leavers)
+    (finished_history g w m value)
 
 abbrev pub finishes : Group → World → ℕ → World
 finishes g w m = finishes_by g w m (committed_value w m)
+
+-- the letter for j is the history of m up to the View that m is in, and m has given it
+abbrev pub welcomes : World → ℕ → ℕ → World
+welcomes w m j = record w {
+  given = at w.given m (with_member (w.given m) j);
+  letter = at w.letter j (Some (up_to_view (w.past.history m)));
+}
+
+-- m goes on from its letter, in the view of the letter's last View
+abbrev pub joins : World → ℕ → World
+joins w m =
+    let letter = unwrap_or (w.letter m) [] in
+    let view = last_view (0, 0) letter in enters w m view.0 view.1 letter
 
 abbrev pub ends : World → ℕ → End → World
 ends w m end = record w { end = at w.end m (Some end) }

@@ -4,7 +4,7 @@ use Rattle.dr_machine.specs.declared.event.Act.TheVariants as acts
 use Rattle.dr_machine.specs.declared.step.Step.{Step}
 use Rattle.dr_machine.specs.declared.step.Step.TheVariants as steps
 use Rattle.dr_machine.specs.declared.event.Event.{Event}
-use Rattle.dr_machine.specs.declared.event.Event.TheVariants.{Beat, Look, Push, Send, Null, Receive, Deliver, Append, Publish, Report, Mark, Suspect, LogVote, Propose, Accept, Commit, Halt, Crash, Finish}
+use Rattle.dr_machine.specs.declared.event.Event.TheVariants.{Beat, Look, Push, Send, Null, Receive, Deliver, Append, Publish, Report, Mark, Suspect, LogVote, Propose, Accept, Commit, Halt, Crash, Finish, Welcome, Join}
 
 -- the member that an event is of
 abbrev pub member_of : Event → ℕ
@@ -27,6 +27,8 @@ member_of (Commit m) = m
 member_of (Finish m) = m
 member_of (Halt m end) = m
 member_of (Crash m end) = m
+member_of (Welcome m j) = m
+member_of (Join m) = m
 
 -- what it is of that member
 abbrev pub step_of : Event → Step
@@ -49,6 +51,8 @@ step_of (Commit m) = steps.Do acts.Commit
 step_of (Finish m) = steps.Do acts.Finish
 step_of (Halt m end) = steps.Do (acts.Halt end)
 step_of (Crash m end) = steps.Do (acts.Crash end)
+step_of (Welcome m j) = steps.Welcome j
+step_of (Join m) = steps.Join
 
 -- the event that a step of a member is
 abbrev pub event_of : ℕ → Step → Event
@@ -71,3 +75,5 @@ event_of m (steps.Look i c) = Look m i c
 event_of m (steps.Push j c) = Push m j c
 event_of m steps.Append = Append m
 event_of m (steps.LogVote v) = LogVote m v
+event_of m (steps.Welcome j) = Welcome m j
+event_of m steps.Join = Join m

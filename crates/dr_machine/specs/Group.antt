@@ -1,10 +1,12 @@
 -- A group in one age: how the age opens, and the window of its rings.
-use Rattle.std.specs.Prelude.{◌≡◌, ℕ, ◌^◌, ◌<◌, ◌≤◌, List, length, slice_get, slice_index, Some}
+use Rattle.std.specs.Prelude.{◌≡◌, ℕ, ◌+◌, ◌^◌, ◌<◌, ◌≤◌, List, length, slice_get, slice_index, Some}
 use Rattle.dr_entry.specs.declared.limits.TheConstants.{MAX_MEMBERS, MAX_MESSAGES, MAX_MESSAGE_LENGTH}
 use Rattle.dr_history.specs.declared.opening.Opening.{Opening}
 use Rattle.dr_history.specs.History.{messages_of}
+use Rattle.dr_history.specs.Members.{members_of}
 use Rattle.dr_history.specs.Soundness.{IsPresentIn, Sound, whole_roster}
 use Rattle.dr_words.specs.Columns.{columns_of}
+use Rattle.dr_words.specs.Masks.{without}
 
 -- what is fixed for an age: its opening, with the script's messages by member of the roster, and the slots
 -- of a ring
@@ -24,9 +26,13 @@ IsPresent g m = IsPresentIn g.opening m
 abbrev pub AllPresent : Group → Type 0
 AllPresent g = g.opening.present ≡ whole_roster g.opening
 
+-- the members that are late in this age: they are there, and not in its first view
+abbrev pub late_members : Group → ℕ
+late_members g = without g.opening.present g.opening.members
+
 -- the number of banks of the table: one for each view that an age can have
 abbrev pub banks : Group → ℕ
-banks g = roster g
+banks g = roster g + length (members_of (late_members g))
 
 -- the number of columns of a row
 abbrev pub columns : Group → ℕ
@@ -45,5 +51,3 @@ pub record IsGroup (g : Group) : Type 0 where
       → (k : ℕ) → slice_index bytes k < 256
   pub age : g.opening.age < 2 ^ 16
   pub sound : Sound g.opening
-  -- so far nobody joins later: who is there is in the first view
-  pub joined : g.opening.present ≡ g.opening.members

@@ -1,13 +1,14 @@
 -- When each event may come.
-use Rattle.std.specs.Prelude.{◌≡◌, ◌≢◌, ⊤, ℕ, ◌+◌, ◌-◌, ◌<◌, ◌≤◌, ◌⊎◌, true, false, length, None, Some, slice_index}
+use Rattle.std.specs.Prelude.{◌≡◌, ◌≢◌, ⊤, ℕ, ◌+◌, ◌-◌, ◌<◌, ◌≤◌, ◌⊎◌, true, false, List, length, None, Some, slice_index}
 use Rattle.dr_entry.specs.declared.limits.TheConstants.{MAX_MEMBERS}
 use Rattle.dr_entry.specs.declared.end.End.{End}
+use Rattle.dr_entry.specs.declared.entry.Entry.{Entry}
 use Rattle.dr_entry.specs.declared.end.End.TheVariants.{Done, Crashed, Suspected, Excluded, NoMajority, DiskFault, LogFull, Spent, Absent}
 use Rattle.dr_entry.specs.declared.record.Value.{Value}
 use Rattle.dr_entry.specs.declared.record.Vote.{Vote}
 use Rattle.dr_history.specs.Members.{has}
 use Rattle.dr_history.specs.History.{messages_of, messages_in}
-use Rattle.dr_history.specs.Order.{messages_from}
+use Rattle.dr_history.specs.Order.{MayJoin, messages_from}
 use Rattle.dr_ring.specs.Slots.{slot_column, IsReady}
 use Rattle.dr_words.specs.declared.column.TheConstants.{SUSPECTED_COLUMN, RECEIVED_COLUMN, LOGGED_COLUMN, DONE_COLUMN}
 use Rattle.dr_words.specs.Accepts.{Shows, promise_of}
@@ -23,23 +24,33 @@ pub record IsRunning (g : Group) (w : World) (m : ℕ) : Type 0 where
   pub present : IsPresent g m
   pub running : w.end m ≡ None
 
--- it may take an event of its own choice: no vote waits to be acted on
+-- m is in the view that it has: a late member is so once it has joined
+abbrev pub IsInView : World → ℕ → Type 0
+IsInView w m = has (w.members m) m ≡ true
+
+-- it may begin a turn: no vote waits to be acted on
+pub record MayTurn (g : Group) (w : World) (m : ℕ) : Type 0 where
+  pub alive : IsRunning g w m
+  pub idle : w.pending m ≡ None
+
+-- it may take an event of its own choice: it is in its view besides
 pub record MayChoose (g : Group) (w : World) (m : ℕ) : Type 0 where
   pub alive : IsRunning g w m
   pub idle : w.pending m ≡ None
+  pub inside : IsInView w m
 
 -- i is another member of m's view
 pub record IsOther (w : World) (m i : ℕ) : Type 0 where
   pub member : has (w.members m) i ≡ true
   pub other : i ≢ m
 
--- m suspects nobody; who suspects somebody is wedged
+-- m suspects nobody and wishes for nobody; who does is wedged
 abbrev pub IsUnwedged : World → ℕ → Type 0
 IsUnwedged w m = w.suspects m ≡ 0
 
 -- beginning a turn needs nothing more
 abbrev pub CanBeat : Group → World → ℕ → Type 0
-CanBeat g w m = MayChoose g w m
+CanBeat g w m = MayTurn g w m
 
 pub record CanLook (g : Group) (w : World) (m i c : ℕ) : Type 0 where
   pub may : MayChoose g w m
@@ -124,9 +135,14 @@ pub record CanMark (g : Group) (w : World) (m : ℕ) : Type 0 where
   pub whole : HoldsAll g w m
   pub durable : w.past.durable m ≡ length (w.past.history m)
 
+-- m may suspect another member of its view, and may wish for a late member that is in no View of its history
+abbrev pub IsNamable : Group → World → ℕ → ℕ → Type 0
+IsNamable g w m j = IsOther w m j ⊎ MayJoin g.opening (w.past.history m) j
+
 pub record CanSuspect (g : Group) (w : World) (m j : ℕ) : Type 0 where
   pub may : MayChoose g w m
-  pub other : IsOther w m j
+  pub namable : IsNamable g w m j
+  pub apart : j ≢ m
   pub unsuspected : has (w.suspects m) j ≡ false
 
 -- m may end its view with the value that it has committed, by which it stays, and go on in the next one. The
@@ -138,6 +154,23 @@ pub record CanFinish (g : Group) (w : World) (m : ℕ) : Type 0 where
   pub stays : has value.leavers m ≡ false
   pub bank : w.past.view m + 1 < banks g
   pub items : (s : ℕ) → has (w.members m) s ≡ true → slice_index value.trim s ≤ items_received w m s
+
+-- m came into its view with j, which was not in the one before, and is the least of those that were: it may
+-- give j the letter, once
+pub record CanWelcome (g : Group) (w : World) (m j : ℕ) : Type 0 where
+  pub may : MayChoose g w m
+  pub newcomer : has (w.members m) j ≡ true
+  pub new : has (w.came_from m) j ≡ false
+  pub welcomer : has (w.came_from m) m ≡ true
+  pub least : (i : ℕ) → has (w.came_from m) i ≡ true → has (w.members m) i ≡ true → m ≤ i
+  pub none : has (w.given m) j ≡ false
+
+-- m has a letter, and has not joined yet
+pub record CanJoin (g : Group) (w : World) (m : ℕ) : Type 0 where
+  pub may : MayTurn g w m
+  pub letter : List Entry
+  pub given : w.letter m ≡ Some letter
+  pub outside : has (w.members m) m ≡ false
 
 -- the members of m's view that it doesn't suspect, itself among them, as a mask
 abbrev pub unsuspected_of : World → ℕ → ℕ
@@ -168,6 +201,7 @@ pub record CanLogVote (g : Group) (w : World) (m : ℕ) (v : Value) : Type 0 whe
 -- m has logged a vote of its own ballot, and not yet acted on it
 pub record CanPropose (g : Group) (w : World) (m : ℕ) : Type 0 where
   pub alive : IsRunning g w m
+  pub inside : IsInView w m
   pub vote : Vote
   pub waits : w.pending m ≡ Some vote
   pub own : vote.ballot ≡ m
@@ -175,6 +209,7 @@ pub record CanPropose (g : Group) (w : World) (m : ℕ) : Type 0 where
 -- m has logged a vote of another member's ballot, and not yet acted on it
 pub record CanAccept (g : Group) (w : World) (m : ℕ) : Type 0 where
   pub alive : IsRunning g w m
+  pub inside : IsInView w m
   pub vote : Vote
   pub waits : w.pending m ≡ Some vote
   pub other : vote.ballot ≢ m

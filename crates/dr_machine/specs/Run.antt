@@ -7,9 +7,9 @@ use Rattle.dr_ring.specs.Slots.{slot_column}
 use Rattle.dr_words.specs.Grown.{HasGrown}
 use Rattle.dr_words.specs.Packing.{ring_tag}
 use Rattle.dr_machine.specs.declared.event.Event.{Event}
-use Rattle.dr_machine.specs.Group.{Group, IsPresent, roster}
+use Rattle.dr_machine.specs.Group.{Group, roster}
 use Rattle.dr_machine.specs.World.{Past, Table, World, opening_world, items_received}
-use Rattle.dr_machine.specs.Guards.{IsOther}
+use Rattle.dr_machine.specs.Guards.{IsInView, IsOther}
 use Rattle.dr_machine.specs.Acts.{Guard, effect}
 
 -- what happens at an event: its effect where it may come, and else nothing
@@ -81,7 +81,7 @@ WorldAgreed g w = Agreed g.opening (accounts_in w)
 -- no later item stands in the slot of the item of s that m waits for, neither in m's copy nor in what it
 -- has seen
 abbrev pub NoLaterItem : Group → World → Type 0
-NoLaterItem g w = (m s part : ℕ) → IsPresent g m → IsOther w m s → part < PIECES
+NoLaterItem g w = (m s part : ℕ) → IsInView w m → IsOther w m s → part < PIECES
     → (let column = slot_column (roster g) g.window (items_received w m s) + part in
     (ring_tag (w.table (w.past.view m) m s column) ≤ items_received w m s + 1)
     × (ring_tag (w.seen m s column) ≤ items_received w m s + 1))

@@ -1,6 +1,6 @@
 -- The world: all members of a group in their age, and the words of the table that they share.
 -- Members, rows and copies go by the members' numbers, and what belongs to a view also by the view's number.
-use Rattle.std.specs.Prelude.{ℕ, ◌==◌, ◌&&◌, ◌%◌, ◌/◌, nat_lt, if◌then◌else◌, List, [], length, replicate, slice_index, Option, None}
+use Rattle.std.specs.Prelude.{ℕ, ◌==◌, ◌&&◌, ◌%◌, ◌/◌, if◌then◌else◌, List, [], length, replicate, slice_index, Option, None}
 use Rattle.dr_entry.specs.declared.limits.TheConstants.{MAX_MEMBERS}
 use Rattle.dr_entry.specs.declared.entry.Entry.{Entry}
 use Rattle.dr_entry.specs.declared.entry.Item.{Item}
@@ -8,11 +8,11 @@ use Rattle.dr_entry.specs.declared.entry.Item.TheVariants.{Null}
 use Rattle.dr_entry.specs.declared.end.End.{End}
 use Rattle.dr_entry.specs.declared.record.Value.{Value}
 use Rattle.dr_entry.specs.declared.record.Vote.{Vote}
-use Rattle.dr_history.specs.Members.{members_of}
+use Rattle.dr_history.specs.Members.{has, members_of}
 use Rattle.dr_history.specs.History.{Sent}
 use Rattle.dr_history.specs.Order.{first_entries, messages_from}
 use Rattle.dr_words.specs.declared.column.TheConstants.{LOGGED_COLUMN}
-use Rattle.dr_machine.specs.Group.{Group, roster}
+use Rattle.dr_machine.specs.Group.{Group}
 
 -- what only grows
 pub record Past : Type 0 where
@@ -41,9 +41,9 @@ Table = ℕ → ℕ → ℕ → ℕ → ℕ
 -- the world, of which the rest belongs to each member's present view, but for turns, ends and the table
 pub record World : Type 0 where
   pub past : Past
-  -- the members of a member's view, as a mask
+  -- the members of a member's view, as a mask: it is one of them, but for a late member that hasn't joined
   pub members : ℕ → ℕ
-  -- whom it suspects, as a mask; their rows are frozen for it
+  -- whom it suspects and whom it wishes for, as a mask; rows of suspects are frozen for it
   pub suspects : ℕ → ℕ
   -- its promise, the tag and the value that it has accepted, and the value that it has committed
   pub promise : ℕ → ℕ
@@ -66,6 +66,12 @@ pub record World : Type 0 where
   -- the table: the word of a bank, a copy, a row and a column. The bank is a view's number, and a member
   -- reads its own copy
   pub table : Table
+  -- the members of the view that it came from
+  pub came_from : ℕ → ℕ
+  -- those to which it has given a letter in its view, as a mask
+  pub given : ℕ → ℕ
+  -- the letter for a late member: the history with which it comes into its first view
+  pub letter : ℕ → Option (List Entry)
 
 -- no value
 abbrev pub no_value : Value
@@ -76,13 +82,13 @@ abbrev pub no_vote : Vote
 no_vote = record { age = 0; view = 0; ballot = 0; members = 0; value = no_value }
 
 -- the world as the age opens: every history is the start and View 0, logged and durable, and nothing has
--- been put or seen
+-- been put or seen. A late member has View 0 as well, of which it is none
 abbrev pub opening_world : Group → World
 opening_world g =
     let first = first_entries g.opening in record {
       past = record {
         view = λ m. 0;
-        own = λ m v c. if nat_lt m (roster g) && (v == 0 && c == LOGGED_COLUMN) then length first else 0;
+        own = λ m v c. if has g.opening.members m && (v == 0 && c == LOGGED_COLUMN) then length first else 0;
         count = λ m v s. 0;
         sent = λ m v. [];
         history = λ m. first;
@@ -105,6 +111,9 @@ opening_world g =
       turns = λ m. 0;
       end = λ m. None;
       table = λ v j i c. 0;
+      came_from = λ m. 0;
+      given = λ m. 0;
+      letter = λ m. None;
     }
 
 -- what member m has now: its own word of a column, and the count of a sender's items

@@ -23,7 +23,7 @@ pub enum Act {
     Report,
     /// Its done word says that it holds everything, durably.
     Mark,
-    /// It suspects another member of its view, and is wedged from then on.
+    /// It suspects another member of its view, or wishes for a late one, and is wedged from then on.
     Suspect { other: u8 },
     /// It proposes the value of the vote that it has logged, of its own ballot.
     Propose,
@@ -39,8 +39,8 @@ pub enum Act {
     Crash { end: End },
 }
 
-/// One atomic step of one member `m`: an act of its own, a look at a word, a push of one, or an
-/// append to its log, of an entry or of a vote.
+/// One atomic step of one member `m`: an act of its own, a look at a word, a push of one, an
+/// append to its log, of an entry or of a vote, or a letter that it gives or takes.
 #[derive(Clone, Copy, Debug, PartialEq, Eq)]
 pub enum Event {
     /// It begins a turn.
@@ -65,7 +65,7 @@ pub enum Event {
     Report { m: u8 },
     /// Its done word says that it holds everything, durably.
     Mark { m: u8 },
-    /// It suspects member `j`, and is wedged from then on.
+    /// It suspects member `j` of its view, or wishes for it where it is late, and is wedged from then on.
     Suspect { m: u8, j: u8 },
     /// Its vote for this value goes on its log.
     LogVote { m: u8, value: Value },
@@ -81,6 +81,10 @@ pub enum Event {
     Halt { m: u8, end: End },
     /// It ends by a fault, or with its turns spent.
     Crash { m: u8, end: End },
+    /// It gives member `j`, which is late, the letter with which `j` comes into the view.
+    Welcome { m: u8, j: u8 },
+    /// It comes into the view of its letter.
+    Join { m: u8 },
 }
 
 impl Event {
@@ -107,7 +111,9 @@ impl Event {
             | Event::Commit { m }
             | Event::Finish { m }
             | Event::Halt { m, .. }
-            | Event::Crash { m, .. } => m,
+            | Event::Crash { m, .. }
+            | Event::Welcome { m, .. }
+            | Event::Join { m } => m,
         }
     }
 
@@ -135,6 +141,8 @@ impl Event {
             Event::Finish { .. } => Step::Do(Act::Finish),
             Event::Halt { end, .. } => Step::Do(Act::Halt { end }),
             Event::Crash { end, .. } => Step::Do(Act::Crash { end }),
+            Event::Welcome { j, .. } => Step::Welcome { late: j },
+            Event::Join { .. } => Step::Join,
         }
     }
 }

@@ -14,4 +14,8 @@ pub enum Step {
     Append,
     /// A vote for this value goes on the log.
     LogVote { value: Value },
+    /// The letter for a late member, with which it comes into the view.
+    Welcome { late: u8 },
+    /// It comes into the view of its letter.
+    Join,
 }

@@ -1,2 +1,3 @@
 mod Finds
+mod Naming
 mod Unsuspected

@@ -1,3 +1,4 @@
 pub mod Answers
 pub mod Suspicion
 pub mod Waits
+pub mod Wishes

@@ -1,4 +1,4 @@
-//! Whom a member suspects, and how long it waits for news of others.
+//! Whom a member suspects or wishes for, and how long it waits for news of others.
 //!
 //! No call of this crate takes memory.
 #![tactic(auto)]
@@ -6,6 +6,8 @@
 mod others;
 mod patience;
 mod suspects;
+mod wish;
 
 pub use patience::Patience;
 pub use suspects::Suspects;
+pub use wish::may_wish;

@@ -1,4 +1,4 @@
-ghost use Rattle.std.specs.Prelude.{◌≡◌, ℕ, ◌<◌, ◌==◌, ◌&&◌, not};
+ghost use Rattle.std.specs.Prelude.{◌≡◌, ℕ, ◌<◌, ◌==◌, ◌&&◌, ◌||◌, not};
 ghost use Rattle.dr_entry.specs.declared.limits.TheConstants.{MAX_MEMBERS};
 ghost use Rattle.dr_history.specs.Members.{has};
 
@@ -17,4 +17,11 @@ pub(crate) fn common(one: Mask, other: Mask) -> Mask
     ensures { (i : ℕ) → has result i ≡ (has one i && has other i) }
 {
     one.without(one.without(other))
+}
+
+/// The mask of the members that are in one of them.
+pub(crate) fn either(one: Mask, other: Mask) -> Mask
+    ensures { (i : ℕ) → has result i ≡ (has one i || has other i) }
+{
+    one.next(other.without(one))
 }

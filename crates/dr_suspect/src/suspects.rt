@@ -4,17 +4,20 @@ ghost use Rattle.dr_words.specs.declared.column.TheConstants.{SUSPECTED_COLUMN};
 ghost use Rattle.dr_words.specs.Masks.{IsPartOf, with_member, without};
 ghost use Rattle.dr_rows.specs.Words.{seen};
 ghost use Rattle.dr_suspect.specs.Answers.{AreOfGroup, IsLeastOrNone, least_where};
-ghost use Rattle.dr_suspect.specs.Suspicion.{IsNextSpread, IsSuspicion, is_unsuspected, names, names_me, spread_of, spreads, trusting, unsuspected_of};
+ghost use Rattle.dr_suspect.specs.Wishes.{may_wish};
+ghost use Rattle.dr_suspect.specs.Suspicion.{IsNextSpread, IsSuspicion, is_unsuspected, names_me, spread_of, spreads, trusting, unsuspected_of};
 
-use crate::others::{common, others};
-use dr_entry::MAX_MEMBERS;
+use crate::others::{common, either, others};
+use crate::wish::wishable;
+use dr_entry::{Entry, MAX_MEMBERS};
 use dr_rows::Rows;
 use dr_words::{Mask, SUSPECTED_COLUMN};
 use std::marker::Model;
 
-/// Whom one member of a view suspects of having stopped. It never suspects itself.
+/// Whom one member suspects of having stopped, and whom it wishes for: a late member that isn't in the view.
 ///
-/// A suspicion may be wrong, and is never taken back: who is suspected is left behind, stopped or not.
+/// It never suspects itself. A suspicion may be wrong, and is never taken back: who is suspected is left behind,
+/// stopped or not.
 #[derive(Debug, Drop)]
 pub struct Suspects {
     me: u8,
@@ -33,10 +36,9 @@ impl Model for Suspects {
 }
 
 impl Suspects {
-    /// Member `me` of the view with these members suspects nobody.
+    /// Member `me`, which has the view with these members, suspects nobody.
     pub fn new(me: u8, members: Mask) -> Suspects
         requires number { me < MAX_MEMBERS }
-        requires member { has members me ≡ true }
         ensures value { result ≡ trusting me members }
         ensures nobody { (i : ℕ) → has result.suspects i ≡ false }
         ensures form { IsSuspicion result }
@@ -48,7 +50,7 @@ impl Suspects {
         }
     }
 
-    /// The members that it suspects.
+    /// The members that it suspects or wishes for.
     #[inline]
     pub fn mask(&self) -> Mask
         ensures value { result ≡ self.now.suspects }
@@ -64,15 +66,14 @@ impl Suspects {
         ensures each { (i : ℕ) → has result i ≡ is_unsuspected self.now i }
         ensures list { members_of result ≡ unsuspected_of self.now }
         ensures part { IsPartOf result self.now.members }
-        ensures me { has result self.now.me ≡ true }
+        ensures me { has self.now.members self.now.me ≡ true → has result self.now.me ≡ true }
     {
         self.members.without(self.suspects)
     }
 
-    /// Suspects another member of the view.
+    /// Suspects another member of the view, or wishes for one that isn't in it.
     pub fn add(&mut self, other: u8)
         requires number { other < MAX_MEMBERS }
-        requires member { has self.old.members other ≡ true }
         requires other { other ≢ self.old.me }
         ensures rest { self.new ≡ record self.old { suspects = self.new.suspects } }
         ensures suspects { self.new.suspects ≡ with_member self.old.suspects other }
@@ -99,21 +100,27 @@ impl Suspects {
         None
     }
 
-    /// The member to suspect next. The least unsuspected row that names an unsuspected other member
-    /// says it, and of those that it names it is the least.
+    /// The member to suspect or to wish for next. The least unsuspected row that names another member of which
+    /// that may be says it, and of those that it names it is the least.
     ///
-    /// So a suspicion is taken over from any unsuspected member, and never from a suspected one.
-    pub fn next_spread(&self, rows: &Rows) -> Option<u8>
+    /// So a suspicion is taken over from any unsuspected member, and never from a suspected one. A wish is taken
+    /// over for a late member that is in no View of this age in the history.
+    pub fn next_spread(&self, rows: &Rows, late: Mask, history: &[Entry], age: u16) -> Option<u8>
         requires { AreOfGroup self.now.members rows.now }
-        ensures value { result ≡ spread_of self.now rows.now }
+        ensures value { result ≡ spread_of self.now (may_wish history.now age late) rows.now }
         ensures next { MatchOption result
-            ((row member : ℕ) → spreads self.now rows.now row member ≡ false)
-            (IsNextSpread self.now rows.now) }
+            ((row member : ℕ) → spreads self.now (may_wish history.now age late) rows.now row member ≡ false)
+            (IsNextSpread self.now (may_wish history.now age late) rows.now) }
     {
         let unsuspected = self.unsuspected();
+        let inside = self.unnamed(self.members);
+        let outside = self.unnamed(late.without(self.members));
         for row in 0..MAX_MEMBERS as u8 {
             if unsuspected.has(row) {
-                if let Some(member) = self.newly_named(rows, row).least() {
+                let named = self.named_in(rows, row);
+                // The history is gone through for a wish alone that is new here.
+                let wished = wishable(history, age, common(named, outside));
+                if let Some(member) = either(common(named, inside), wished).least() {
                     return Some(member);
                 }
             }
@@ -140,17 +147,12 @@ impl Suspects {
         self.unsuspected().is_majority_of(self.members)
     }
 
-    // The members that a row names and that it does not suspect, without itself.
-    fn newly_named(&self, rows: &Rows, row: u8) -> Mask
-        requires row { row < rows.now.members }
-        requires rows { AreOfGroup self.now.members rows.now }
+    // The others among these members that it doesn't suspect or wish for so far.
+    fn unnamed(&self, members: Mask) -> Mask
         ensures { (i : ℕ) → has result i
-            ≡ (names rows.now row i && (is_unsuspected self.now i && not (i == self.now.me))) }
+            ≡ (has members i && (not (i == self.now.me) && not (has self.now.suspects i))) }
     {
-        common(
-            self.named_in(rows, row),
-            others(self.unsuspected(), self.me),
-        )
+        others(members.without(self.suspects), self.me)
     }
 
     // The members that the suspected word of a row names.

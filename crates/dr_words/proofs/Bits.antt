@@ -1,7 +1,8 @@
 -- The members of masks that bit operations make.
-use Rattle.std.proofs.Common.{◌≡◌, ◌≢◌, ℕ, ◌-◌, ◌*◌, ◌/◌, ◌%◌, ◌^◌, ◌<◌, ◌≤◌, ◌==◌, ◌&&◌, ◌||◌, not, nat_lt, false, ap, ◌∙◌, ◌⊎◌, inl, inr, w16, bit_and, bit_or, arith}
+use Rattle.std.proofs.Common.{◌≡◌, ◌≢◌, ℕ, ◌-◌, ◌*◌, ◌/◌, ◌%◌, ◌^◌, ◌<◌, ◌≤◌, ◌==◌, ◌&&◌, ◌||◌, not, nat_lt, false, ap, ◌∙◌, ◌⊎◌, inl, inr, w16, Bool, refl, if◌then◌else◌, bit_and, bit_or, bit_xor, arith}
+use Rattle.std.specs.Int.{bit_at}
 use Rattle.std.proofs.lemmas.Bool.{cases_eq, cases_lt}
-use Rattle.std.proofs.lemmas.Nat.Bits.{bit_at-lt, bit_at-zero, bit_at_and, bit_at_not, bit_at_above, bit_at_ones, bit_at_ones_above, bit_at_set_same, bit_at_set_other, ones_shr}
+use Rattle.std.proofs.lemmas.Nat.Bits.{bit_at-lt, bit_at-zero, bit_at_and, bit_at_not, bit_at_above, bit_at_ones, bit_at_ones_above, bit_at_xor, bit_at_set_same, bit_at_set_other, ones_shr}
 use Rattle.dr_history.specs.Members.{has}
 
 -- nobody is in the mask 0
@@ -32,6 +33,14 @@ has_with m k l i = by (cases_eq i k)
     by : (i ≡ k) ⊎ (i ≢ k) → has (bit_or m (1 * 2 ^ k % 2 ^ 16)) i ≡ (i == k || has m i)
     by (inl e) = grind (arith, bit_at_set_same w16 m k l)
     by (inr d) = grind (arith, bit_at_set_other w16 m k l i d)
+
+-- the bits of another mask turned
+pub has_xor : (m o i : ℕ) → has (bit_xor m o) i ≡ (if has o i then not (has m i) else has m i)
+has_xor m o i = by (bit_at m i == 1) (bit_at o i == 1) refl refl
+  where
+    by : (a b : Bool) → (bit_at m i == 1) ≡ a → (bit_at o i == 1) ≡ b
+        → has (bit_xor m o) i ≡ (if has o i then not (has m i) else has m i)
+    by a b x y = grind (arith, bit_at_xor m o i, bit_at-lt m i, bit_at-lt o i)
 
 -- the bits of another mask taken away
 pub has_without : (m o : ℕ) → m < 2 ^ 16 → o < 2 ^ 16 → (i : ℕ)

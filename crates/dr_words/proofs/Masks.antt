@@ -1,14 +1,14 @@
 -- Masks of the members that pass a test.
-use Rattle.std.proofs.Common.{◌≡◌, ◌≢◌, ℕ, zero, suc, ◌+◌, ◌-◌, ◌*◌, ◌/◌, ◌%◌, ◌^◌, ◌<◌, ◌≤◌, ◌==◌, ◌&&◌, ◌||◌, not, nat_lt, Bool, true, false, sym, ap, ◌∙◌, ◌⊎◌, inl, inr, if◌then◌else◌, w16, bit_and, bit_or, arith, List, [], ◌∷◌, slice_get, slice_index, Some}
+use Rattle.std.proofs.Common.{◌≡◌, ◌≢◌, ℕ, zero, suc, ◌+◌, ◌-◌, ◌*◌, ◌/◌, ◌%◌, ◌^◌, ◌<◌, ◌≤◌, ◌==◌, ◌&&◌, ◌||◌, not, nat_lt, Bool, true, false, refl, sym, ap, ◌∙◌, ◌⊎◌, inl, inr, if◌then◌else◌, w16, bit_and, bit_or, bit_xor, arith, List, [], ◌∷◌, slice_get, slice_index, Some}
 use Rattle.std.specs.Int.{bit_at, trailing_zeros}
 use Rattle.std.proofs.lemmas.Bool.{cases_eq, cases_lt}
-use Rattle.std.proofs.lemmas.Nat.{and_le_l, or_lt, mod_below, pow_pos}
+use Rattle.std.proofs.lemmas.Nat.{and_le_l, or_lt, mod_below, pow_pos, xor_of_16}
 use Rattle.std.proofs.lemmas.Nat.Bits.{bit_at-lt, bit_at_above, bit_at_cat_low, bit_at_cat_high, same_from_bits}
 use Rattle.dr_history.specs.Members.{has, members_of}
-use Rattle.dr_words.proofs.Bits.{has_zero, has_with, has_without}
+use Rattle.dr_words.proofs.Bits.{has_zero, has_with, has_without, has_xor}
 use Rattle.dr_words.proofs.Order.{IsPartOf-le}
 use Rattle.dr_words.proofs.Ranks.{first_member, least_member}
-use Rattle.dr_words.specs.Masks.{IsInRoster, IsLeastOf, IsPartOf, least_of, mask_below, mask_of, with_member, without}
+use Rattle.dr_words.specs.Masks.{IsInRoster, IsLeastOf, IsPartOf, least_of, mask_below, mask_of, next_members, with_member, without}
 
 -- a bit more, 2 ^ n or 0, on top of a number below 2 ^ n
 double : (n : ℕ) → 2 ^ suc n ≡ 2 ^ n + 2 ^ n
@@ -80,6 +80,17 @@ same_masks a b same = same_from_bits a b (λ i. grind (arith, same i, bit_at-lt 
 pub has_above : (mask i : ℕ) → mask < 2 ^ 16 → 16 ≤ i → has mask i ≡ false
 has_above mask i small above = grind (arith, bit_at_above mask 16 i small above)
 
+-- who is in a mask of so many bits has a number below it
+pub has_within : (mask n i : ℕ) → mask < 2 ^ n → has mask i ≡ true → i < n
+has_within mask n i small there = by (cases_lt i n)
+  where
+    by : (i < n) ⊎ (n ≤ i) → i < n
+    by (inl l) = l
+    by (inr above) = absurd (cc (there, none))
+      where
+        none : has mask i ≡ false
+        none = grind (arith, bit_at_above mask n i small above)
+
 -- a mask of 16 bits whose members are those that pass a test is the one of the test
 pub is_mask_of : (test : ℕ → Bool) (mask : ℕ) → mask < 2 ^ 16
     → ((i : ℕ) → i < 16 → has mask i ≡ test i) → mask ≡ mask_of test
@@ -135,6 +146,45 @@ has_without_mask mask other i small = has_mask_of (λ i. has mask i && not (has 
 
 pub without_small : (mask other : ℕ) → without mask other < 2 ^ 16
 without_small mask other = mask_of_small (λ i. has mask i && not (has other i))
+
+-- the members that come of a view by a mask of names
+pub has_next_members : (members names i : ℕ) → i < 16
+    → has (next_members members names) i ≡ (if has names i then not (has members i) else has members i)
+has_next_members members names i l =
+    has_mask_of (λ i. if has names i then not (has members i) else has members i) i ∙ grind (arith, l)
+
+pub next_members_within : (members names i : ℕ) → has (next_members members names) i ≡ true → i < 16
+next_members_within members names i h =
+    grind (arith, has_mask_of (λ i. if has names i then not (has members i) else has members i) i, h)
+
+pub next_members_small : (members names : ℕ) → next_members members names < 2 ^ 16
+next_members_small members names =
+    mask_of_small (λ i. if has names i then not (has members i) else has members i)
+
+pub xor_is_next : (members names : ℕ) → members < 2 ^ 16 → names < 2 ^ 16
+    → bit_xor members names ≡ next_members members names
+xor_is_next members names small small_names =
+    is_mask_of (λ i. if has names i then not (has members i) else has members i) (bit_xor members names)
+    (xor_of_16 members names small small_names) (λ i l. has_xor members names i)
+
+-- where only members are named, the others stay
+pub next_members-without : (members names : ℕ) → IsPartOf names members
+    → next_members members names ≡ without members names
+next_members-without members names part = same_masks (next_members members names) (without members names)
+    (λ i. by i (cases_lt i 16))
+  where
+    by : (i : ℕ) → (i < 16) ⊎ (16 ≤ i)
+        → has (next_members members names) i ≡ has (without members names) i
+    by i (inl l) = has_next_members members names i l
+        ∙ cases (has names i) refl
+        ∙ sym (has_mask_of (λ i. has members i && not (has names i)) i ∙ grind (arith, l))
+      where
+        cases : (b : Bool) → has names i ≡ b
+            → (if has names i then not (has members i) else has members i) ≡ (has members i && not (has names i))
+        cases true e = grind (arith, e, part i e)
+        cases false e = grind (arith, e)
+    by i (inr g) = has_above (next_members members names) i (next_members_small members names) g
+        ∙ sym (has_above (without members names) i (mask_of_small (λ i. has members i && not (has names i))) g)
 
 pub and_is_without : (mask other : ℕ) → mask < 2 ^ 16 → other < 2 ^ 16
     → bit_and mask (65535 - other) ≡ without mask other
@@ -192,10 +242,10 @@ least_of_part part whole n small within there =
 pub record IsSuspecting (n members suspects me other : ℕ) : Type 0 where
   pub few : n ≤ 16
   pub roster : IsInRoster n members
-  pub part : IsPartOf suspects members
+  pub named : IsInRoster n suspects
   pub present : has members me ≡ true
   pub trusted : has suspects me ≡ false
-  pub member : has members other ≡ true
+  pub within : other < n
   pub apart : other ≢ me
 
 -- its masks have 16 bits
@@ -205,28 +255,28 @@ view_small {members = members} s =
 
 suspects_small : {n members suspects me other : ℕ} → IsSuspecting n members suspects me other
     → suspects < 2 ^ 16
-suspects_small {members = members} {suspects = suspects} s =
-    omega (arith, view_small s, IsPartOf-le suspects members s.part)
+suspects_small {suspects = suspects} s =
+    in_roster_small 16 suspects (λ i there. omega (arith, s.few, s.named i there))
 
 -- whom it suspects then: this one too
 pub more_has : {n members suspects me other : ℕ} → IsSuspecting n members suspects me other
     → (i : ℕ) → has (with_member suspects other) i ≡ (i == other || has suspects i)
 more_has {suspects = suspects} {other = other} s i =
-    has_with_member suspects other i (suspects_small s) (omega (arith, s.few, s.roster other s.member))
+    has_with_member suspects other i (suspects_small s) (omega (arith, s.few, s.within))
 
 -- all whom it suspected
 pub more_grows : {n members suspects me other : ℕ} → IsSuspecting n members suspects me other
     → IsPartOf suspects (with_member suspects other)
 more_grows s i there = more_has s i ∙ grind (arith, there)
 
--- members of the view alone
-pub more_part : {n members suspects me other : ℕ} → IsSuspecting n members suspects me other
-    → IsPartOf (with_member suspects other) members
-more_part {members = members} {other = other} s i there = by (cases_eq i other)
+-- members of the roster alone
+pub more_named : {n members suspects me other : ℕ} → IsSuspecting n members suspects me other
+    → IsInRoster n (with_member suspects other)
+more_named {n = n} {other = other} s i there = by (cases_eq i other)
   where
-    by : (i ≡ other) ⊎ (i ≢ other) → has members i ≡ true
-    by (inl same) = rw same s.member
-    by (inr apart) = s.part i (grind (arith, more_has s i, there, apart))
+    by : (i ≡ other) ⊎ (i ≢ other) → i < n
+    by (inl same) = rw same s.within
+    by (inr apart) = s.named i (grind (arith, more_has s i, there, apart))
 
 -- not itself
 pub more_trusted : {n members suspects me other : ℕ} → IsSuspecting n members suspects me other

@@ -19,6 +19,11 @@ with_member mask n = mask_of (λ i. i == n || has mask i)
 abbrev pub without : ℕ → ℕ → ℕ
 without mask other = mask_of (λ i. has mask i && not (has other i))
 
+-- the members that come of a view by a mask of names: those of the view that it doesn't name, and those that
+-- it names and the view lacks
+abbrev pub next_members : ℕ → ℕ → ℕ
+next_members members names = mask_of (λ i. if has names i then not (has members i) else has members i)
+
 -- the member of a mask with the lowest number, and 0 of nobody
 unfoldable pub least_of : ℕ → ℕ
 least_of mask = slice_index (members_of mask) 0

@@ -1,6 +1,6 @@
-ghost use Rattle.std.specs.Prelude.{◌≡◌, ℕ, ◌+◌, ◌-◌, ◌/◌, ◌%◌, count_ones, ◌*◌, ◌^◌, ◌<◌, ◌≤◌, ◌==◌, ◌&&◌, ◌||◌, ◌↔◌, not, nat_lt, true, false, length, slice_get, IsTrue, MatchOption};
+ghost use Rattle.std.specs.Prelude.{◌≡◌, ℕ, ◌+◌, ◌-◌, ◌/◌, ◌%◌, count_ones, ◌*◌, ◌^◌, ◌<◌, ◌≤◌, ◌==◌, ◌&&◌, ◌||◌, ◌↔◌, if◌then◌else◌, not, nat_lt, true, false, length, slice_get, IsTrue, MatchOption};
 ghost use Rattle.dr_history.specs.Members.{has, members_below, members_of};
-ghost use Rattle.dr_words.specs.Masks.{IsPartOf, IsLeastOf, IsMajorityOf, with_member, without};
+ghost use Rattle.dr_words.specs.Masks.{IsPartOf, IsLeastOf, IsMajorityOf, next_members, with_member, without};
 
 use dr_entry::MAX_MEMBERS;
 use std::marker::Model;
@@ -85,6 +85,16 @@ impl Mask {
         ensures value { result ≡ without self.now other }
     {
         Mask(self.0 & !other.0)
+    }
+
+    /// The members that come of these by a mask of names: those that it doesn't name, and those that it names
+    /// and these lack.
+    #[inline]
+    pub const fn next(&self, names: Mask) -> Mask
+        ensures members { (i : ℕ) → has result i ≡ (if has names i then not (has self.now i) else has self.now i) }
+        ensures value { result ≡ next_members self.now names }
+    {
+        Mask(self.0 ^ names.0)
     }
 
     /// The number of members in the mask.
